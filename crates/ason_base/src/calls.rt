@@ -1,0 +1,217 @@
+//! Calls and legs as tables show them.
+
+ghost use Rattle.std.specs.Prelude.{◌≡◌, [], ◌∷◌, ◌++◌, IfOk, OnErr, OnOk};
+
+use crate::codes::ErrCode;
+use crate::ids::{CallNo, LinkId, Lsp, NodeId, OutOfMemory};
+use crate::labels::Label;
+use std::alloc::Global;
+use std::marker::Model;
+
+/// What an LSP is for.
+#[derive(Clone, Copy, Debug, PartialEq, Eq, Drop)]
+pub enum Role {
+    Work,
+    Back,
+}
+
+/// How far one LSP has come at one node.
+#[derive(Clone, Copy, Debug, PartialEq, Eq, Drop)]
+pub enum Phase {
+    /// A Path passed.
+    Asked,
+    /// The label is reserved and not connected; backups alone.
+    Held,
+    /// The activation passed; it isn't connected.
+    Armed,
+    /// Cross-connected.
+    Live,
+    /// Torn, until the next node has let go.
+    Closing,
+    /// The same, for a backup that was Armed or Live.
+    Falling,
+}
+
+/// What becomes of a call (ITU-T G.8080, call control).
+#[derive(Clone, Copy, Debug, PartialEq, Eq, Drop)]
+pub enum CallState {
+    /// The working LSP is asked for.
+    Asking,
+    /// The working LSP stands, without a backup.
+    Bare,
+    /// The backup is asked for.
+    Pairing,
+    /// The backup is reserved.
+    Guarded,
+    /// The backup is being switched.
+    Turning,
+    /// The backup carries the call.
+    Turned,
+    /// The backup can't carry the call, though the working LSP failed.
+    Stuck,
+    /// The call was refused.
+    Blocked,
+}
+
+/// Why a call is blocked, bare or stuck.
+#[derive(Clone, Copy, Debug, PartialEq, Eq, Drop)]
+pub enum Cause {
+    Unset,
+    /// No route leads to the egress.
+    NoRoute,
+    /// No backup route is disjoint from the working one.
+    NoBackup,
+    /// No LSP number is left at the ingress.
+    Spent,
+    /// The ingress has as many legs as it keeps.
+    Full,
+    /// The backup failed too.
+    BackDown,
+    /// What a PathErr said.
+    Code(ErrCode),
+}
+
+/// One call, as a table shows it.
+#[derive(Clone, Copy, Debug, PartialEq, Eq, Drop)]
+pub struct CallRow {
+    pub call: CallNo,
+    pub ingress: NodeId,
+    pub egress: NodeId,
+    pub state: CallState,
+    pub work: Option<Lsp>,
+    pub back: Option<Lsp>,
+    pub cause: Cause,
+}
+
+/// One leg, as a table shows it. `back_in` and `back_out` are the labels of the backward direction.
+#[derive(Clone, Copy, Debug, PartialEq, Eq, Drop)]
+pub struct LegRow {
+    pub lsp: Lsp,
+    pub node: NodeId,
+    pub role: Role,
+    pub phase: Phase,
+    pub in_link: Option<LinkId>,
+    pub in_label: Option<Label>,
+    pub out_link: Option<LinkId>,
+    pub out_label: Option<Label>,
+    pub back_in: Option<Label>,
+    pub back_out: Option<Label>,
+}
+
+/// A list of calls.
+#[derive(Debug, Drop)]
+pub struct CallRows {
+    rows: Vec<CallRow>,
+}
+
+impl Model for CallRows {
+    ghost use Rattle.std.specs.Prelude.{List};
+    ghost use Rattle.ason_base.specs.declared.calls.CallRow.{CallRow};
+
+    ghost Value = { List CallRow };
+
+    ghost view = { λ s. s.rows.items };
+}
+
+impl CallRows {
+    /// No call.
+    pub fn new(alloc: Global) -> CallRows
+        ensures { result ≡ [] }
+    {
+        CallRows {
+            rows: Vec::new(alloc),
+        }
+    }
+
+    /// Adds a call at the end.
+    pub fn push(&mut self, item: CallRow) -> Result<(), OutOfMemory>
+        ensures ok { OnOk result (self.new ≡ self.old ++ item ∷ []) }
+        ensures err { OnErr result (self.new ≡ self.old) }
+    {
+        self.rows.push(item)?;
+        Ok(())
+    }
+
+    pub fn items(&self) -> &[CallRow]
+        ensures { result.now ≡ self.now }
+    {
+        &self.rows
+    }
+
+    /// The same calls again.
+    pub fn copy(&self, alloc: Global) -> Result<CallRows, OutOfMemory>
+        ensures { IfOk result (λ r. r ≡ self.now) }
+    {
+        let rows = Vec::from_slice(alloc, &self.rows)?;
+        Ok(CallRows { rows })
+    }
+}
+
+/// A list of legs.
+#[derive(Debug, Drop)]
+pub struct LegRows {
+    rows: Vec<LegRow>,
+}
+
+impl Model for LegRows {
+    ghost use Rattle.std.specs.Prelude.{List};
+    ghost use Rattle.ason_base.specs.declared.calls.LegRow.{LegRow};
+
+    ghost Value = { List LegRow };
+
+    ghost view = { λ s. s.rows.items };
+}
+
+impl LegRows {
+    /// No leg.
+    pub fn new(alloc: Global) -> LegRows
+        ensures { result ≡ [] }
+    {
+        LegRows {
+            rows: Vec::new(alloc),
+        }
+    }
+
+    /// Adds a leg at the end.
+    pub fn push(&mut self, item: LegRow) -> Result<(), OutOfMemory>
+        ensures ok { OnOk result (self.new ≡ self.old ++ item ∷ []) }
+        ensures err { OnErr result (self.new ≡ self.old) }
+    {
+        match self.rows.push(item) {
+            Ok(()) => Ok(()),
+            Err(_) => Err(OutOfMemory),
+        }
+    }
+
+    pub fn items(&self) -> &[LegRow]
+        ensures { result.now ≡ self.now }
+    {
+        &self.rows
+    }
+
+    /// The same legs again.
+    pub fn copy(&self, alloc: Global) -> Result<LegRows, OutOfMemory>
+        ensures { IfOk result (λ r. r ≡ self.now) }
+    {
+        let rows = Vec::from_slice(alloc, &self.rows)?;
+        Ok(LegRows { rows })
+    }
+}
+
+/// The calls and legs of one node, or of a network.
+#[derive(Debug, Drop)]
+pub struct TableRows {
+    pub calls: CallRows,
+    pub legs: LegRows,
+}
+
+impl TableRows {
+    /// The same rows again.
+    pub fn copy(&self, alloc: Global) -> Result<TableRows, OutOfMemory>
+        ensures { IfOk result (λ r. r ≡ self.now) }
+    {
+        let calls = self.calls.copy(alloc)?;
+        let legs = self.legs.copy(alloc)?;
+        Ok(TableRows { calls, legs })
+    }
+}

@@ -1,0 +1,225 @@
+//! What operators and fibres tell the controllers, and what is logged of it.
+
+ghost use Rattle.std.specs.Prelude.{◌≡◌, IfOk};
+
+use crate::ids::{CallNo, Fibre, LinkId, NodeId, OutOfMemory};
+use crate::lists::Bytes;
+use crate::steps::Steps;
+use std::alloc::Global;
+
+/// What fails or is repaired as one.
+#[derive(Clone, Copy, Debug, PartialEq, Eq, Drop)]
+pub enum Group {
+    Srlg(u32),
+    Link(LinkId),
+}
+
+/// What an operator asks for.
+#[derive(Debug, Drop)]
+pub enum Command {
+    /// A call, over the routes that are given, one-way or (`both`) two-way.
+    Setup {
+        call: CallNo,
+        from: NodeId,
+        to: NodeId,
+        protected: bool,
+        both: bool,
+        via: Option<Steps>,
+        backup: Option<Steps>,
+    },
+    /// Gives the call up.
+    Release { call: CallNo, from: NodeId },
+    /// Asks for a backup of a bare call.
+    Protect { call: CallNo, from: NodeId },
+    /// Switches the backup of a stuck call again.
+    Retry { call: CallNo, from: NodeId },
+    /// Takes the call back to its working LSP.
+    Revert { call: CallNo, from: NodeId },
+    /// A group fails.
+    Fail { group: Group },
+    /// A group is repaired.
+    Repair { group: Group },
+}
+
+fn copy_route(alloc: Global, route: &Option<Steps>) -> Result<Option<Steps>, OutOfMemory>
+    ensures { IfOk result (λ r. r ≡ route.now) }
+{
+    match route {
+        None => Ok(None),
+        Some(steps) => {
+            let steps = steps.copy(alloc)?;
+            Ok(Some(steps))
+        }
+    }
+}
+
+impl Command {
+    /// The same command again.
+    pub fn copy(&self, alloc: Global) -> Result<Command, OutOfMemory>
+        ensures { IfOk result (λ r. r ≡ self.now) }
+    {
+        match self {
+            Command::Setup {
+                call,
+                from,
+                to,
+                protected,
+                both,
+                via,
+                backup,
+            } => {
+                let via = copy_route(alloc, via)?;
+                let backup = copy_route(alloc, backup)?;
+                Ok(Command::Setup {
+                    call: *call,
+                    from: *from,
+                    to: *to,
+                    protected: *protected,
+                    both: *both,
+                    via,
+                    backup,
+                })
+            }
+            Command::Release { call, from } => Ok(Command::Release {
+                call: *call,
+                from: *from,
+            }),
+            Command::Protect { call, from } => Ok(Command::Protect {
+                call: *call,
+                from: *from,
+            }),
+            Command::Retry { call, from } => Ok(Command::Retry {
+                call: *call,
+                from: *from,
+            }),
+            Command::Revert { call, from } => Ok(Command::Revert {
+                call: *call,
+                from: *from,
+            }),
+            Command::Fail { group } => Ok(Command::Fail { group: *group }),
+            Command::Repair { group } => Ok(Command::Repair { group: *group }),
+        }
+    }
+}
+
+/// What stands on a node's desk.
+#[derive(Debug, Drop)]
+pub enum DeskItem {
+    Order(Command),
+    /// A fibre that comes in here went down.
+    Alarm(Fibre),
+    /// It is up again.
+    Clear(Fibre),
+}
+
+impl DeskItem {
+    /// The same item again.
+    pub fn copy(&self, alloc: Global) -> Result<DeskItem, OutOfMemory>
+        ensures { IfOk result (λ r. r ≡ self.now) }
+    {
+        match self {
+            DeskItem::Order(command) => {
+                let command = command.copy(alloc)?;
+                Ok(DeskItem::Order(command))
+            }
+            DeskItem::Alarm(fibre) => Ok(DeskItem::Alarm(*fibre)),
+            DeskItem::Clear(fibre) => Ok(DeskItem::Clear(*fibre)),
+        }
+    }
+}
+
+/// What happens in a network of controllers.
+#[derive(Debug, Drop)]
+pub enum Event {
+    /// The frame of this number on the channel from `from` reaches `to`.
+    Deliver {
+        to: NodeId,
+        from: NodeId,
+        number: u64,
+    },
+    /// Bytes that spell nothing reach `to`.
+    Noise {
+        to: NodeId,
+        from: NodeId,
+        bytes: Bytes,
+    },
+    Tick {
+        node: NodeId,
+    },
+    /// The first item of the node's desk is handled.
+    Desk {
+        node: NodeId,
+    },
+    /// A command is given.
+    Post {
+        command: Command,
+    },
+}
+
+impl Event {
+    /// The same event again.
+    pub fn copy(&self, alloc: Global) -> Result<Event, OutOfMemory>
+        ensures { IfOk result (λ r. r ≡ self.now) }
+    {
+        match self {
+            Event::Deliver { to, from, number } => Ok(Event::Deliver {
+                to: *to,
+                from: *from,
+                number: *number,
+            }),
+            Event::Noise { to, from, bytes } => {
+                let bytes = bytes.copy(alloc)?;
+                Ok(Event::Noise {
+                    to: *to,
+                    from: *from,
+                    bytes,
+                })
+            }
+            Event::Tick { node } => Ok(Event::Tick { node: *node }),
+            Event::Desk { node } => Ok(Event::Desk { node: *node }),
+            Event::Post { command } => {
+                let command = command.copy(alloc)?;
+                Ok(Event::Post { command })
+            }
+        }
+    }
+}
+
+/// One line of a log: an event with its logical time, at a node, or a post.
+#[derive(Debug, Drop)]
+pub struct Entry {
+    pub stamp: u64,
+    pub node: Option<NodeId>,
+    pub event: Event,
+}
+
+impl Entry {
+    /// The same entry again.
+    pub fn copy(&self, alloc: Global) -> Result<Entry, OutOfMemory>
+        ensures { IfOk result (λ r. r ≡ self.now) }
+    {
+        let event = self.event.copy(alloc)?;
+        Ok(Entry {
+            stamp: self.stamp,
+            node: self.node,
+            event,
+        })
+    }
+}
+
+/// What is done to one frame of a channel.
+#[derive(Clone, Copy, Debug, PartialEq, Eq, Drop)]
+pub enum DisturbKind {
+    Lose,
+    Repeat,
+    Hold,
+}
+
+/// The k-th frame from now on the channel is lost, repeated or held back.
+#[derive(Clone, Copy, Debug, PartialEq, Eq, Drop)]
+pub struct Disturb {
+    pub kind: DisturbKind,
+    pub from: NodeId,
+    pub to: NodeId,
+    pub k: u64,
+}

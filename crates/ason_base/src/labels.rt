@@ -1,0 +1,125 @@
+//! Labels, and sets of labels (RFC 3471, section 3).
+
+ghost use Rattle.std.specs.Prelude.{◌≡◌, ◌≤◌, SomeIff};
+ghost use Rattle.ason_base.specs.Labels.{has, least, meet, up_to, with_label, without};
+
+use std::marker::Model;
+
+/// A wavelength of a fibre: 1 to 80.
+#[derive(Clone, Copy, Debug, PartialEq, Eq, PartialOrd, Ord, Drop)]
+pub struct Label(u8);
+
+impl Model for Label {
+    ghost use Rattle.std.specs.Prelude.{ℕ, ◌≤◌};
+
+    ghost Value = { ℕ };
+
+    ghost view = { λ l. l.0 };
+
+    ghost invariant = { λ l. (1 ≤ l.0) × (l.0 ≤ 80) };
+
+    ghost inverse = { λ n. record { 0 = n } };
+}
+
+impl Label {
+    /// The label of this number: none exactly outside 1 to 80.
+    pub fn new(n: u8) -> Option<Label>
+        ensures { SomeIff result ((1 ≤ n) × (n ≤ 80)) n }
+    {
+        if (1..=80).contains(&n) {
+            Some(Label(n))
+        } else {
+            None
+        }
+    }
+
+    /// The label's number.
+    pub fn number(&self) -> u8
+        ensures same { result ≡ self.now }
+        ensures low { 1 ≤ result }
+        ensures high { result ≤ 80 }
+    {
+        self.0
+    }
+}
+
+/// A set of labels. Contracts see it as the rising list of its members.
+#[derive(Debug, Drop)]
+pub struct LabelSet {
+    // Bit n stands for label n.
+    mask: u128,
+}
+
+impl Model for LabelSet {
+    ghost use Rattle.std.specs.Prelude.{List, ℕ};
+    ghost use Rattle.ason_base.specs.Labels.{members};
+
+    ghost Value = { List ℕ };
+
+    ghost view = { λ s. members s.mask };
+}
+
+impl LabelSet {
+    /// The labels from 1 to n; none for 0.
+    pub fn upto(n: u8) -> LabelSet
+        requires { n ≤ 80 }
+        ensures { result ≡ up_to n }
+    {
+        LabelSet {
+            mask: (2u128 << n) - 2,
+        }
+    }
+
+    /// Whether the label is in the set.
+    pub fn has(&self, l: Label) -> bool
+        ensures { result ≡ has self.now l }
+    {
+        (self.mask >> l.number()) & 1 == 1
+    }
+
+    /// The labels of both sets.
+    pub fn meet(&self, o: &LabelSet) -> LabelSet
+        ensures { result ≡ meet self.now o.now }
+    {
+        LabelSet {
+            mask: self.mask & o.mask,
+        }
+    }
+
+    /// The least label: none exactly where the set is empty.
+    pub fn least(&self) -> Option<Label>
+        ensures { result ≡ least self.now }
+    {
+        for n in 1..81u8 {
+            if (self.mask >> n) & 1 == 1 {
+                return Label::new(n);
+            }
+        }
+        None
+    }
+
+    /// The set and this label.
+    pub fn with(&self, l: Label) -> LabelSet
+        ensures { result ≡ with_label self.now l }
+    {
+        LabelSet {
+            mask: self.mask | (1u128 << l.number()),
+        }
+    }
+
+    /// The set but this label.
+    pub fn without(&self, l: Label) -> LabelSet
+        ensures { result ≡ without self.now l }
+    {
+        LabelSet {
+            mask: self.mask & !(1u128 << l.number()),
+        }
+    }
+
+    /// The same set again.
+    pub fn copy(&self) -> LabelSet
+        ensures { result ≡ self.now }
+    {
+        LabelSet { mask: self.mask }
+    }
+}

@@ -1,0 +1,24 @@
+//! Shared types of the optical controllers: numbers, labels, routes, messages, calls, commands and the topology.
+#![tactic(auto)]
+
+pub mod calls;
+pub mod codes;
+pub mod commands;
+pub mod ids;
+pub mod labels;
+pub mod lists;
+pub mod messages;
+pub mod network;
+pub mod risks;
+pub mod steps;
+
+pub use calls::{CallRow, CallRows, CallState, Cause, LegRow, LegRows, Phase, Role, TableRows};
+pub use codes::ErrCode;
+pub use commands::{Command, DeskItem, Disturb, DisturbKind, Entry, Event, Group};
+pub use ids::{CallNo, Fibre, LinkId, Lsp, NodeId, OutOfMemory};
+pub use labels::{Label, LabelSet};
+pub use lists::{Bytes, Numbers, Srlgs};
+pub use messages::{DecodeError, Ids, Msg, MsgId, Packet, PathRole};
+pub use network::{LinkSpec, NodeSpec, TeRow, TopologyFault};
+pub use risks::{Risk, RiskSet};
+pub use steps::{Step, Steps};

@@ -1,0 +1,253 @@
+//! Messages of RSVP-TE (RFC 2205, RFC 3473, RFC 4872) as nodes understand them, and the packets that carry them.
+
+ghost use Rattle.std.specs.Prelude.{◌≡◌, [], ◌∷◌, ◌++◌, IfOk, OnErr, OnOk};
+
+use crate::codes::ErrCode;
+use crate::ids::{LinkId, Lsp, NodeId, OutOfMemory};
+use crate::labels::{Label, LabelSet};
+use crate::steps::Steps;
+use std::alloc::Global;
+use std::marker::Model;
+
+/// What the LSP of a Path is for (PROTECTION, RFC 4872, section 14).
+#[derive(Debug, Drop)]
+pub enum PathRole {
+    /// A working LSP; `guard` tells whether a backup is to stand beside it.
+    Work { guard: bool },
+    /// A backup of the ingress's LSP `work`, whose route is `primary`. It is switched where `active`.
+    Back {
+        active: bool,
+        work: u16,
+        primary: Steps,
+    },
+}
+
+impl PathRole {
+    /// The same role again.
+    pub fn copy(&self, alloc: Global) -> Result<PathRole, OutOfMemory>
+        ensures { IfOk result (λ r. r ≡ self.now) }
+    {
+        match self {
+            PathRole::Work { guard } => Ok(PathRole::Work { guard: *guard }),
+            PathRole::Back {
+                active,
+                work,
+                primary,
+            } => {
+                let primary = primary.copy(alloc)?;
+                Ok(PathRole::Back {
+                    active: *active,
+                    work: *work,
+                    primary,
+                })
+            }
+        }
+    }
+}
+
+/// A message of RSVP-TE.
+#[derive(Debug, Drop)]
+pub enum Msg {
+    /// Asks for an LSP, with the labels that the sender's side allows (RFC 3473, section 2).
+    Path {
+        lsp: Lsp,
+        egress: NodeId,
+        link: LinkId,
+        route: Steps,
+        set: LabelSet,
+        upstream: Option<Label>,
+        role: PathRole,
+    },
+    /// Answers a Path with the label that its sender is to use.
+    Resv {
+        lsp: Lsp,
+        egress: NodeId,
+        link: LinkId,
+        label: Label,
+    },
+    /// Takes an LSP down, towards the egress.
+    PathTear {
+        lsp: Lsp,
+        egress: NodeId,
+        link: LinkId,
+    },
+    /// Tells the ingress's side that node `at` found an error. `removed` is Path_State_Removed (RFC 3473, section 4.4).
+    PathErr {
+        lsp: Lsp,
+        egress: NodeId,
+        at: NodeId,
+        removed: bool,
+        code: ErrCode,
+    },
+    /// Tells the ingress's side of a fibre of `link` into node `at` (RFC 3473, section 4.3).
+    Notify {
+        lsp: Lsp,
+        egress: NodeId,
+        at: NodeId,
+        link: LinkId,
+        code: ErrCode,
+    },
+}
+
+impl Msg {
+    /// The same message again.
+    pub fn copy(&self, alloc: Global) -> Result<Msg, OutOfMemory>
+        ensures { IfOk result (λ m. m ≡ self.now) }
+    {
+        match self {
+            Msg::Path {
+                lsp,
+                egress,
+                link,
+                route,
+                set,
+                upstream,
+                role,
+            } => {
+                let route = route.copy(alloc)?;
+                let role = role.copy(alloc)?;
+                Ok(Msg::Path {
+                    lsp: *lsp,
+                    egress: *egress,
+                    link: *link,
+                    route,
+                    set: set.copy(),
+                    upstream: *upstream,
+                    role,
+                })
+            }
+            Msg::Resv {
+                lsp,
+                egress,
+                link,
+                label,
+            } => Ok(Msg::Resv {
+                lsp: *lsp,
+                egress: *egress,
+                link: *link,
+                label: *label,
+            }),
+            Msg::PathTear { lsp, egress, link } => Ok(Msg::PathTear {
+                lsp: *lsp,
+                egress: *egress,
+                link: *link,
+            }),
+            Msg::PathErr {
+                lsp,
+                egress,
+                at,
+                removed,
+                code,
+            } => Ok(Msg::PathErr {
+                lsp: *lsp,
+                egress: *egress,
+                at: *at,
+                removed: *removed,
+                code: *code,
+            }),
+            Msg::Notify {
+                lsp,
+                egress,
+                at,
+                link,
+                code,
+            } => Ok(Msg::Notify {
+                lsp: *lsp,
+                egress: *egress,
+                at: *at,
+                link: *link,
+                code: *code,
+            }),
+        }
+    }
+}
+
+/// A message's number on a hop, in the sender's epoch (RFC 2961, section 4.2).
+#[derive(Clone, Copy, Debug, PartialEq, Eq, Drop)]
+pub struct MsgId {
+    pub epoch: u32,
+    pub number: u32,
+}
+
+/// A list of message numbers.
+#[derive(Debug, Drop)]
+pub struct Ids {
+    ids: Vec<MsgId>,
+}
+
+impl Model for Ids {
+    ghost use Rattle.std.specs.Prelude.{List};
+    ghost use Rattle.ason_base.specs.declared.messages.MsgId.{MsgId};
+
+    ghost Value = { List MsgId };
+
+    ghost view = { λ s. s.ids.items };
+}
+
+impl Ids {
+    /// No number.
+    pub fn new(alloc: Global) -> Ids
+        ensures { result ≡ [] }
+    {
+        Ids {
+            ids: Vec::new(alloc),
+        }
+    }
+
+    /// Adds a number at the end.
+    pub fn push(&mut self, item: MsgId) -> Result<(), OutOfMemory>
+        ensures ok { OnOk result (self.new ≡ self.old ++ item ∷ []) }
+        ensures err { OnErr result (self.new ≡ self.old) }
+    {
+        self.ids.push(item)?;
+        Ok(())
+    }
+
+    pub fn items(&self) -> &[MsgId]
+        ensures { result.now ≡ self.now }
+    {
+        &self.ids
+    }
+
+    /// The same numbers again.
+    pub fn copy(&self, alloc: Global) -> Result<Ids, OutOfMemory>
+        ensures { IfOk result (λ r. r ≡ self.now) }
+    {
+        let ids = Vec::from_slice(alloc, &self.ids)?;
+        Ok(Ids { ids })
+    }
+}
+
+/// What one frame carries: a message with its number, or none, and acknowledgements (RFC 2961, section 4).
+#[derive(Debug, Drop)]
+pub struct Packet {
+    pub id: Option<MsgId>,
+    pub acks: Ids,
+    pub body: Option<Msg>,
+}
+
+impl Packet {
+    /// The same packet again.
+    pub fn copy(&self, alloc: Global) -> Result<Packet, OutOfMemory>
+        ensures { IfOk result (λ p. p ≡ self.now) }
+    {
+        let acks = self.acks.copy(alloc)?;
+        let body = match &self.body {
+            None => None,
+            Some(msg) => Some(msg.copy(alloc)?),
+        };
+        Ok(Packet {
+            id: self.id,
+            acks,
+            body,
+        })
+    }
+}
+
+/// Why bytes give no value.
+#[derive(Clone, Copy, Debug, PartialEq, Eq, Drop)]
+pub enum DecodeError {
+    /// The bytes spell nothing.
+    NotMessage,
+    OutOfMemory,
+}
