@@ -177,10 +177,8 @@ impl LegRows {
         ensures ok { OnOk result (self.new ≡ self.old ++ item ∷ []) }
         ensures err { OnErr result (self.new ≡ self.old) }
     {
-        match self.rows.push(item) {
-            Ok(()) => Ok(()),
-            Err(_) => Err(OutOfMemory),
-        }
+        self.rows.extend_from_slice(&[item])?;
+        Ok(())
     }
 
     pub fn items(&self) -> &[LegRow]
