@@ -1,3 +1,5 @@
 pub mod Codes
 pub mod Labels
+pub mod Lsps
+pub mod Network
 pub mod Risks

@@ -28,20 +28,36 @@ pub enum Command {
         backup: Option<Steps>,
     },
     /// Gives the call up.
-    Release { call: CallNo, from: NodeId },
+    Release {
+        call: CallNo,
+        from: NodeId,
+    },
     /// Asks for a backup of a bare call.
-    Protect { call: CallNo, from: NodeId },
+    Protect {
+        call: CallNo,
+        from: NodeId,
+    },
     /// Switches the backup of a stuck call again.
-    Retry { call: CallNo, from: NodeId },
+    Retry {
+        call: CallNo,
+        from: NodeId,
+    },
     /// Takes the call back to its working LSP.
-    Revert { call: CallNo, from: NodeId },
+    Revert {
+        call: CallNo,
+        from: NodeId,
+    },
     /// A group fails.
-    Fail { group: Group },
+    Fail {
+        group: Group,
+    },
     /// A group is repaired.
-    Repair { group: Group },
+    Repair {
+        group: Group,
+    },
 }
 
-fn copy_route(alloc: Global, route: &Option<Steps>) -> Result<Option<Steps>, OutOfMemory>
+pub(crate) fn copy_route(alloc: Global, route: &Option<Steps>) -> Result<Option<Steps>, OutOfMemory>
     ensures { IfOk result (λ r. r ≡ route.now) }
 {
     match route {

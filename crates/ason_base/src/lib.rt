@@ -11,6 +11,7 @@ pub mod messages;
 pub mod network;
 pub mod risks;
 pub mod steps;
+pub mod tables;
 
 pub use calls::{CallRow, CallRows, CallState, Cause, LegRow, LegRows, Phase, Role, TableRows};
 pub use codes::ErrCode;
@@ -19,6 +20,7 @@ pub use ids::{CallNo, Fibre, LinkId, Lsp, NodeId, OutOfMemory};
 pub use labels::{Label, LabelSet};
 pub use lists::{Bytes, Numbers, Srlgs};
 pub use messages::{DecodeError, Ids, Msg, MsgId, Packet, PathRole};
-pub use network::{LinkSpec, NodeSpec, TeRow, TopologyFault};
+pub use network::{LinkSpec, NodeSpec, TeRow, Topology, TopologyFault};
 pub use risks::{Risk, RiskSet};
 pub use steps::{Step, Steps};
+pub use tables::{CallRec, Fibres, Leg, Out, Outs};

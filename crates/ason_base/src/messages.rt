@@ -13,7 +13,9 @@ use std::marker::Model;
 #[derive(Debug, Drop)]
 pub enum PathRole {
     /// A working LSP; `guard` tells whether a backup is to stand beside it.
-    Work { guard: bool },
+    Work {
+        guard: bool,
+    },
     /// A backup of the ingress's LSP `work`, whose route is `primary`. It is switched where `active`.
     Back {
         active: bool,

@@ -1,0 +1,222 @@
+//! What a node keeps of LSPs and calls, and what it sends.
+
+ghost use Rattle.std.specs.Prelude.{◌≡◌, [], ◌∷◌, ◌++◌, All, IfOk, IsTrue, OnErr, OnOk};
+ghost use Rattle.ason_base.specs.Lsps.{is_other_fibre};
+
+use crate::calls::{CallState, Cause, Phase, Role};
+use crate::commands::copy_route;
+use crate::ids::{CallNo, Fibre, Lsp, NodeId, OutOfMemory};
+use crate::labels::{Label, LabelSet};
+use crate::messages::{Msg, PathRole};
+use crate::risks::RiskSet;
+use crate::steps::Steps;
+use std::alloc::Global;
+use std::marker::Model;
+
+/// A list of distinct fibres.
+#[derive(Debug, Drop)]
+pub struct Fibres {
+    fibres: Vec<Fibre>,
+}
+
+impl Model for Fibres {
+    ghost use Rattle.std.specs.Prelude.{List};
+    ghost use Rattle.ason_base.specs.declared.ids.Fibre.{Fibre};
+
+    ghost Value = { List Fibre };
+
+    ghost view = { λ s. s.fibres.items };
+}
+
+impl Fibres {
+    /// No fibre.
+    pub fn new(alloc: Global) -> Fibres
+        ensures { result ≡ [] }
+    {
+        Fibres {
+            fibres: Vec::new(alloc),
+        }
+    }
+
+    /// Adds a fibre that isn't there at the end.
+    pub fn push(&mut self, item: Fibre) -> Result<(), OutOfMemory>
+        requires { All (λ f. IsTrue (is_other_fibre f item)) self.old }
+        ensures ok { OnOk result (self.new ≡ self.old ++ item ∷ []) }
+        ensures err { OnErr result (self.new ≡ self.old) }
+    {
+        self.fibres.push(item)?;
+        Ok(())
+    }
+
+    pub fn items(&self) -> &[Fibre]
+        ensures { result.now ≡ self.now }
+    {
+        &self.fibres
+    }
+
+    /// The same fibres again.
+    pub fn copy(&self, alloc: Global) -> Result<Fibres, OutOfMemory>
+        ensures { IfOk result (λ r. r ≡ self.now) }
+    {
+        let fibres = Vec::from_slice(alloc, &self.fibres)?;
+        Ok(Fibres { fibres })
+    }
+}
+
+/// One LSP at one node.
+#[derive(Debug, Drop)]
+pub struct Leg {
+    pub lsp: Lsp,
+    pub egress: NodeId,
+    pub role: Role,
+    /// The node before this one; none at the ingress.
+    pub prev: Option<NodeId>,
+    /// The node after this one; none at the egress.
+    pub next: Option<NodeId>,
+    pub in_fibre: Option<Fibre>,
+    pub out_fibre: Option<Fibre>,
+    /// The labels that the side of the ingress allows and that were usable here.
+    pub offered: LabelSet,
+    /// The labels that were sent on.
+    pub sent: LabelSet,
+    /// The steps after this node's own.
+    pub route: Steps,
+    pub path_role: PathRole,
+    /// The risks of the primary route, of a backup.
+    pub risks: RiskSet,
+    pub phase: Phase,
+    pub in_label: Option<Label>,
+    pub out_label: Option<Label>,
+    /// The labels of the backward direction.
+    pub back_in: Option<Label>,
+    pub back_out: Option<Label>,
+}
+
+impl Leg {
+    /// The same leg again.
+    pub fn copy(&self, alloc: Global) -> Result<Leg, OutOfMemory>
+        ensures { IfOk result (λ r. r ≡ self.now) }
+    {
+        let route = self.route.copy(alloc)?;
+        let path_role = self.path_role.copy(alloc)?;
+        let risks = self.risks.copy(alloc)?;
+        Ok(Leg {
+            lsp: self.lsp,
+            egress: self.egress,
+            role: self.role,
+            prev: self.prev,
+            next: self.next,
+            in_fibre: self.in_fibre,
+            out_fibre: self.out_fibre,
+            offered: self.offered.copy(),
+            sent: self.sent.copy(),
+            route,
+            path_role,
+            risks,
+            phase: self.phase,
+            in_label: self.in_label,
+            out_label: self.out_label,
+            back_in: self.back_in,
+            back_out: self.back_out,
+        })
+    }
+}
+
+/// A call at its ingress (ITU-T G.8080, call controller).
+#[derive(Debug, Drop)]
+pub struct CallRec {
+    pub call: CallNo,
+    pub egress: NodeId,
+    pub protected: bool,
+    /// The backup route that was given.
+    pub backup: Option<Steps>,
+    pub state: CallState,
+    pub work: Option<Lsp>,
+    pub back: Option<Lsp>,
+    /// The fibres of the working LSP that were reported down.
+    pub work_reports: Fibres,
+    /// The fibres of the backup LSP that were reported down.
+    pub back_reports: Fibres,
+    pub cause: Cause,
+    /// The ticks that the call has waited to be restored.
+    pub ticks: u32,
+}
+
+impl CallRec {
+    /// The same call again.
+    pub fn copy(&self, alloc: Global) -> Result<CallRec, OutOfMemory>
+        ensures { IfOk result (λ r. r ≡ self.now) }
+    {
+        let backup = copy_route(alloc, &self.backup)?;
+        let work_reports = self.work_reports.copy(alloc)?;
+        let back_reports = self.back_reports.copy(alloc)?;
+        Ok(CallRec {
+            call: self.call,
+            egress: self.egress,
+            protected: self.protected,
+            backup,
+            state: self.state,
+            work: self.work,
+            back: self.back,
+            work_reports,
+            back_reports,
+            cause: self.cause,
+            ticks: self.ticks,
+        })
+    }
+}
+
+/// A message, and the neighbour that it goes to.
+#[derive(Debug, Drop)]
+pub struct Out {
+    pub to: NodeId,
+    pub msg: Msg,
+}
+
+/// The messages of a step, in order.
+#[derive(Debug, Drop)]
+pub struct Outs {
+    outs: Vec<Out>,
+}
+
+impl Model for Outs {
+    ghost use Rattle.std.specs.Prelude.{List};
+    ghost use Rattle.ason_base.specs.declared.tables.Out.{Out};
+
+    ghost Value = { List Out };
+
+    ghost view = { λ s. s.outs.items };
+}
+
+impl Outs {
+    /// No message.
+    pub fn new(alloc: Global) -> Outs
+        ensures { result ≡ [] }
+    {
+        Outs {
+            outs: Vec::new(alloc),
+        }
+    }
+
+    /// Adds a message at the end.
+    pub fn push(&mut self, item: Out) -> Result<(), OutOfMemory>
+        ensures ok { OnOk result (self.new ≡ self.old ++ item ∷ []) }
+        ensures err { OnErr result (self.new ≡ self.old) }
+    {
+        self.outs.push(item)?;
+        Ok(())
+    }
+
+    pub fn items(&self) -> &[Out]
+        ensures { result.now ≡ self.now }
+    {
+        &self.outs
+    }
+
+    /// The messages, to be sent one by one.
+    pub fn into_vec(self) -> Vec<Out>
+        ensures { result.items ≡ self }
+    {
+        self.outs
+    }
+}
