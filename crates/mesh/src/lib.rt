@@ -1,0 +1,15 @@
+//! The mesh machine: what controllers keep of LSPs and calls, the messages between them, and what each event does.
+#![tactic(auto)]
+
+pub mod arrivals;
+pub mod changes;
+pub mod events;
+pub mod legs;
+pub mod neighbours;
+pub mod sites;
+
+pub use arrivals::Arrival;
+pub use changes::{CallChange, Change, LegChange, NextNumbers};
+pub use events::{MeshEvent, StepFault};
+pub use neighbours::Neighbour;
+pub use sites::Site;
