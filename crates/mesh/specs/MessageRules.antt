@@ -123,12 +123,15 @@ along p a link r offered (hop ∷ route) =
 abbrev pub offered_labels : Place → List Leg → LinkSpec → List ℕ → List ℕ
 offered_labels p legs link set = meet set (usable p legs (fibre_in link p.id))
 
+-- a node that keeps all the legs that it can refuses any more
+abbrev pub with_room : Place → List Leg → Arrival → List Step → List ℕ → PathRole → LinkSpec → Answer
+with_room p legs a route set r link = if nat_le 4096 (length legs) then refusal p a full_code else along p a link r (offered_labels p legs link set) route
+
+-- the link leads from the sender to this node, and the ingress is another node
 abbrev pub new_path : Place → List Leg → Arrival → List Step → List ℕ → PathRole → Option LinkSpec → Answer
 new_path p legs a route set r None = nothing
 new_path p legs a route set r (Some link) =
-    if not (leads (Some link) a.from p.id) || a.lsp.ingress.0 == p.id.0
-    then nothing
-    else (if nat_le 4096 (length legs) then refusal p a full_code else along p a link r (offered_labels p legs link set) route)
+    if leads (Some link) a.from p.id && not (a.lsp.ingress.0 == p.id.0) then with_room p legs a route set r link else nothing
 
 -- Backups aren't reserved: a Path of a backup changes nothing. Nor does a Path of an LSP that has a leg here.
 abbrev pub on_path : Place → List Leg → Arrival → List Step → List ℕ → PathRole → Option Leg → Answer

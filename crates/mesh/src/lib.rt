@@ -2,10 +2,13 @@
 #![tactic(auto)]
 
 pub mod arrivals;
+pub mod calls;
 pub mod changes;
 pub mod events;
 pub mod legs;
+pub mod message_rules;
 pub mod neighbours;
+pub mod path_rule;
 pub mod sites;
 
 pub use arrivals::Arrival;
