@@ -1,2 +1,3 @@
 pub mod FreeLabels
+pub mod Places
 pub mod SiteLemmas

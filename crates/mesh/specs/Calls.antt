@@ -1,5 +1,5 @@
 -- The calls of one ingress, in order of number.
-use Rattle.std.specs.Prelude.{◌==◌, ◌&&◌, nat_lt, Bool, true, false, not, List, [], ◌∷◌, find, filter, Option, Some, None, if◌then◌else◌}
+use Rattle.std.specs.Prelude.{◌==◌, ◌&&◌, nat_lt, nat_le, Bool, true, false, not, List, [], ◌∷◌, find, filter, Option, Some, None, if◌then◌else◌}
 use Rattle.ason_base.specs.declared.ids.CallNo.{CallNo}
 use Rattle.ason_base.specs.declared.ids.Lsp.{Lsp}
 use Rattle.ason_base.specs.declared.calls.CallState.{CallState}
@@ -21,7 +21,15 @@ call_of l calls = find (λ c. is_lsp c.work l) calls
 abbrev pub without_call : CallNo → List CallRec → List CallRec
 without_call n calls = filter (λ c. not (c.call.0 == n.0)) calls
 
--- with this call, in place of the one of its number or before the first of a greater number
+-- a call of this number, or of a greater one
+abbrev pub call_stands_at : CallNo → CallRec → Bool
+call_stands_at n d = nat_le n.0 d.call.0
+
+abbrev pub has_number : Option CallRec → CallNo → Bool
+has_number None n = false
+has_number (Some c) n = c.call.0 == n.0
+
+-- with this call, in place of the one of its number or before the greater ones
 abbrev pub with_call : CallRec → List CallRec → List CallRec
 with_call c [] = c ∷ []
 with_call c (d ∷ calls) =

@@ -26,7 +26,15 @@ find_leg l legs = find (λ g. same_lsp g.lsp l) legs
 abbrev pub without_leg : Lsp → List Leg → List Leg
 without_leg l legs = filter (λ g. not (same_lsp g.lsp l)) legs
 
--- with this leg, in place of the one of its LSP or before the first of a later LSP
+-- a leg of this LSP, or of a later one
+abbrev pub stands_at : Lsp → Leg → Bool
+stands_at l h = same_lsp h.lsp l || lsp_before l h.lsp
+
+abbrev pub has_lsp : Option Leg → Lsp → Bool
+has_lsp None l = false
+has_lsp (Some g) l = same_lsp g.lsp l
+
+-- with this leg, in place of the one of its LSP or before the later ones
 abbrev pub with_leg : Leg → List Leg → List Leg
 with_leg g [] = g ∷ []
 with_leg g (h ∷ legs) =

@@ -2,6 +2,7 @@
 #![tactic(auto)]
 
 pub mod arrivals;
+pub mod call_rules;
 pub mod calls;
 pub mod changes;
 pub mod events;
@@ -10,9 +11,11 @@ pub mod message_rules;
 pub mod neighbours;
 pub mod path_rule;
 pub mod sites;
+pub mod tables;
 
 pub use arrivals::Arrival;
 pub use changes::{CallChange, Change, LegChange, NextNumbers};
 pub use events::{MeshEvent, StepFault};
 pub use neighbours::Neighbour;
 pub use sites::Site;
+pub use tables::Tables;
