@@ -1,5 +1,5 @@
 -- Risks in their order, SRLGs before links, each by number; the risks of links and of routes.
-use Rattle.std.specs.Prelude.{◌≡◌, ◌==◌, ℕ, Bool, true, false, not, nat_lt, IsTrue, List, [], ◌∷◌, ◌++◌, map, Option}
+use Rattle.std.specs.Prelude.{◌≡◌, ◌==◌, Bool, true, false, not, nat_lt, IsTrue, List, [], ◌∷◌, ◌++◌, map, Option}
 use Rattle.std.specs.List.{AllPairs, Contains, find, list_any}
 use Rattle.ason_base.specs.declared.ids.LinkId.{LinkId}
 use Rattle.ason_base.specs.declared.network.TeRow.{TeRow}
