@@ -42,7 +42,8 @@ impl Failures {
 
     /// Counts a fault.
     fn fail(&mut self) -> Failed
-        ensures { self.new ≡ record self.old { faults = counted self.old.faults } }
+        ensures counts { self.new ≡ record self.old { faults = counted self.old.faults } }
+        ensures rises { self.old.faults ≤ self.new.faults }
     {
         self.faults = self.faults.saturating_add(1);
         Failed
@@ -63,10 +64,10 @@ impl Model for MemSource {
     ghost Value = { SourceState };
 
     ghost view = { λ s. record {
-        left = s.rest;
-        failing = s.failures.listed.items;
-        calls = s.failures.calls;
-        faults = s.failures.faults;
+      left = s.rest;
+      failing = s.failures.listed.items;
+      calls = s.failures.calls;
+      faults = s.failures.faults;
     } };
 }
 
@@ -136,12 +137,12 @@ impl Model for MemSink {
     ghost Value = { SinkState };
 
     ghost view = { λ s. record {
-        written = s.bytes.items;
-        room = s.room;
-        most = s.most;
-        failing = s.failures.listed.items;
-        calls = s.failures.calls;
-        faults = s.failures.faults;
+      written = s.bytes.items;
+      room = s.room;
+      most = s.most;
+      failing = s.failures.listed.items;
+      calls = s.failures.calls;
+      faults = s.failures.faults;
     } };
 
     ghost invariant = { λ s. (vec_len s.bytes + s.room ≤ vec_capacity s.bytes) × (1 ≤ s.most) };
@@ -196,9 +197,9 @@ impl Sink for MemSink {
             ⊎ (self.old.room < min (length piece.now) self.old.most)) }
         ensures count { IfOk result (λ n. n ≡ min (length piece.now) self.old.most) }
         ensures after { IfOk result (λ n. self.new ≡ record self.old {
-            written = self.old.written ++ take n piece.now;
-            room = self.old.room - n;
-            calls = counted self.old.calls
+          written = self.old.written ++ take n piece.now;
+          room = self.old.room - n;
+          calls = counted self.old.calls;
         }) }
         ensures after_fault { OnErr result (self.new ≡ record self.old { calls = counted self.old.calls; faults = counted self.old.faults }) }
     {
