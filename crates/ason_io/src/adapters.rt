@@ -1,9 +1,9 @@
 //! Adapters of std's readers and writers. They are trusted: what a file, a terminal or a pipe gave or took is
 //! known only as far as std tells it.
 
-ghost use Rattle.std.specs.Prelude.{◌≡◌, ◌≤◌};
-ghost use Rattle.std.specs.Io.KnownBytes.{Consumes, IsAtEnd};
-ghost use Rattle.ason_io.specs.Faults.{counted};
+ghost use Rattle.std.specs.Prelude.{◌≡◌, ◌≤◌, ◌<◌, [], IfOk, IsErr, OnErr, OnOk, length, take};
+ghost use Rattle.std.specs.Io.KnownBytes.{Consumes, IsAtEnd, ReadConsumes, WriteAppends};
+ghost use Rattle.ason_io.specs.Faults.{Rose, counted};
 ghost use Rattle.ason_io.specs.Reading.{consumes_both, consumes_none};
 
 use crate::sink::Sink;
@@ -41,7 +41,19 @@ impl<I: Read> Source for StdSource<I> {
     ghost goes_on = { λ s t u xs ys first then.
         consumes_both (I.remaining s.reader) (I.remaining t.reader) (I.remaining u.reader) xs ys first then };
 
-    fn read(&mut self, buf: &mut [u8]) -> Result<usize, Failed> {
+    fn read(&mut self, buf: &mut [u8]) -> Result<usize, Failed>
+        ensures fits { IfOk result (λ n. n ≤ length buf.old) }
+        ensures bytes { ReadConsumes (I.remaining self.old.reader) (I.remaining self.new.reader) result buf.new }
+        ensures hands { IfOk result (λ n. Consumes (I.remaining self.old.reader) (I.remaining self.new.reader) (take n buf.new)) }
+        ensures end { IfOk result (λ n. n ≡ 0 → 0 < length buf.old → IsAtEnd (I.remaining self.new.reader)) }
+        ensures kept { OnErr result (Consumes (I.remaining self.old.reader) (I.remaining self.new.reader) []) }
+        ensures failed { IsErr result → Rose self.old.faults self.new.faults }
+        ensures rises { self.old.faults ≤ self.new.faults }
+
+        // Each error is counted, and nothing else.
+        ensures counts { OnErr result (self.new.faults ≡ counted self.old.faults) }
+        ensures counts_no_more { OnOk result (self.new.faults ≡ self.old.faults) }
+    {
         match self.reader.read(buf) {
             Ok(n) => Ok(n),
             Err(_) => {
@@ -75,7 +87,17 @@ impl<O: Write> Sink for StdSink<O> {
 
     ghost faults = { λ s. s.faults };
 
-    fn write(&mut self, piece: &[u8]) -> Result<usize, Failed> {
+    fn write(&mut self, piece: &[u8]) -> Result<usize, Failed>
+        ensures fits { IfOk result (λ n. n ≤ length piece.now) }
+        ensures bytes { WriteAppends (O.contents self.old.writer) (O.contents self.new.writer) result piece.now }
+        ensures some { IfOk result (λ n. n ≡ 0 → piece.now ≡ []) }
+        ensures failed { IsErr result → Rose self.old.faults self.new.faults }
+        ensures rises { self.old.faults ≤ self.new.faults }
+
+        // Each error is counted, and nothing else.
+        ensures counts { OnErr result (self.new.faults ≡ counted self.old.faults) }
+        ensures counts_no_more { OnOk result (self.new.faults ≡ self.old.faults) }
+    {
         match self.writer.write(piece) {
             Ok(n) if n > 0 || piece.is_empty() => Ok(n),
             _ => {
