@@ -1,5 +1,5 @@
 -- What was read from a source.
-use Rattle.std.specs.Prelude.{◌≡◌, ◌++◌, ℕ, List, [], ◌∷◌, Option, Some, None, IfSome, length, refl}
+use Rattle.std.specs.Prelude.{◌≡◌, ◌++◌, ℕ, List, [], Option, Some, None, IfSome, length, refl}
 use Rattle.std.specs.Io.KnownBytes.{Consumes}
 use Rattle.std.proofs.Common.{◌∙◌, ap, sym, append_assoc}
 
