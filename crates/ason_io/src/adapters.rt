@@ -1,5 +1,5 @@
-//! Adapters of std's readers and writers. They are trusted: what a file, a terminal or a pipe gave or took is
-//! known only as far as std tells it.
+//! Adapters of std's readers and writers. What a file, a terminal or a pipe gave or took is told only as far as
+//! std tells it.
 
 ghost use Rattle.std.specs.Prelude.{◌≡◌, ◌≤◌, ◌<◌, [], IfOk, IsErr, OnErr, OnOk, length, take};
 ghost use Rattle.std.specs.Io.KnownBytes.{Consumes, IsAtEnd, ReadConsumes, WriteAppends};
@@ -10,7 +10,8 @@ use crate::sink::Sink;
 use crate::source::{Failed, Source};
 use std::io::{Read, Write};
 
-/// A reader of std. Each error of it is a fault and is counted, up to 2^64 - 1.
+/// A reader of std. Each error of it is a fault and is counted, up to 2^64 - 1. Where std doesn't know the bytes to
+/// come, nothing is told of them, nor of what was handed out.
 #[derive(Drop)]
 pub struct StdSource<I: Read> {
     reader: I,
