@@ -6,4 +6,5 @@ pub mod Events
 pub mod Legs
 pub mod Machine
 pub mod MessageRules
+pub mod Rows
 pub mod Sites
