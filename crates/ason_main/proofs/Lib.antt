@@ -1,0 +1,6 @@
+pub mod Finding
+pub mod LaneMail
+pub mod Repeats
+pub mod Results
+pub mod RoundSteps
+pub mod SeatLemmas
