@@ -4,3 +4,4 @@ pub mod Repeats
 pub mod Results
 pub mod RoundSteps
 pub mod SeatLemmas
+pub mod Settling

@@ -1,10 +1,11 @@
 //! The messages on their way, one list an ordered pair of nodes.
 
-ghost use Rattle.std.specs.Prelude.{◌≡◌, ◌+◌, ◌<◌, ◌==◌, ◌&&◌, ◌++◌, ◌∷◌, ℕ, [], MatchOption, OnOk, Some, drop, find, length, position, slice_get, slice_set, if◌then◌else◌};
+ghost use Rattle.std.specs.Prelude.{◌≡◌, ◌+◌, ◌<◌, ◌==◌, ◌&&◌, ◌++◌, ◌∷◌, ℕ, [], MatchOption, OnOk, Some, drop, find, length, not, position, slice_get, slice_set, if◌then◌else◌};
 ghost use Rattle.std.specs.Option.{option_copied};
 ghost use Rattle.mesh.specs.Machine.{sent_to};
 ghost use Rattle.ason_main.specs.declared.runner.lanes.Lane.{Lane};
-ghost use Rattle.ason_main.specs.Kept.{is_lane, mail_at};
+ghost use Rattle.mesh.specs.Events.{has_first};
+ghost use Rattle.ason_main.specs.Kept.{is_lane, lane_mail, mail_at};
 
 use ason_base::{Msg, NodeId, Out, OutOfMemory, Outs};
 use std::alloc::Global;
@@ -52,6 +53,12 @@ impl Mail {
         ensures { result ≡ length self.now }
     {
         self.msgs.len()
+    }
+
+    pub fn is_empty(&self) -> bool
+        ensures { result ≡ not (has_first self.now) }
+    {
+        self.msgs.is_empty()
     }
 }
 
@@ -157,8 +164,19 @@ pub fn mail_len(lanes: &[Lane], from: NodeId, to: NodeId) -> usize
     }
 }
 
-fn find_lane(lanes: &[Lane], from: NodeId, to: NodeId) -> Option<&Lane>
+/// The lane between two nodes.
+pub fn find_lane(lanes: &[Lane], from: NodeId, to: NodeId) -> Option<&Lane>
     ensures { option_copied result ≡ find (is_lane from.0 to.0) lanes.now }
 {
     lanes.iter().find(|lane| lane.from == from && lane.to == to)
+}
+
+/// Whether the lane is empty or isn't there.
+pub fn is_empty_lane(lane: Option<&Lane>) -> bool
+    ensures { result ≡ not (has_first (lane_mail (option_copied lane.entry))) }
+{
+    match lane {
+        None => true,
+        Some(lane) => lane.mail.is_empty(),
+    }
 }

@@ -1,14 +1,15 @@
 //! Rounds: each node in order ticks, handles its desk and takes its mail.
 
-ghost use Rattle.std.specs.Prelude.{◌≡◌, List, OnOk};
+ghost use Rattle.std.specs.Prelude.{◌≡◌, List, [], OnOk, fold};
+ghost use Rattle.std.specs.List.{list_all};
 ghost use Rattle.ason_base.specs.declared.ids.CallNo.{CallNo};
 ghost use Rattle.mesh.specs.declared.events.MeshEvent.{MeshEvent};
 ghost use Rattle.mesh.specs.Events.{step};
 ghost use Rattle.ason_main.specs.Kept.{AreSeated, HasSeat, KeepsSeats, mesh_with};
-ghost use Rattle.ason_main.specs.Rounds.{desk_done, is_between, is_neighbour, mail_done, repeated, round, turn};
+ghost use Rattle.ason_main.specs.Rounds.{desk_done, has_no_item, has_no_mail, is_between, is_neighbour, is_quiet, mail_done, neighbours, round, settled, turn};
 
-use crate::runner::lanes::{Lane, mail_len, take_first};
-use crate::runner::seats::{Seat, desk_len, give, take_item};
+use crate::runner::lanes::{Lane, find_lane, is_empty_lane, mail_len, take_first};
+use crate::runner::seats::{Seat, desk_len, find_seat, give, is_empty_desk, take_item};
 use ason_base::{LinkSpec, NodeId, NodeSpec, OutOfMemory, Topology};
 use node_core::Input;
 use std::alloc::Global;
@@ -117,4 +118,113 @@ pub(crate) fn is_neighbour(t: &Topology, n: NodeId, m: &NodeSpec) -> bool
     ensures { result ≡ is_neighbour t.now n m.now }
 {
     t.links().iter().any(|link| is_between(n, m.id, link))
+}
+
+// All messages from all neighbours are taken, in order of the neighbour's number.
+fn take_all_mail(
+    alloc: Global,
+    t: &Topology,
+    seats: &mut Vec<Seat>,
+    lanes: &mut Vec<Lane>,
+    n: NodeId,
+) -> Result<(), OutOfMemory>
+    requires { HasSeat t.now seats.old.items n }
+    ensures mesh { OnOk result ((posted : List CallNo) → mesh_with seats.new.items lanes.new.items posted ≡ fold (mail_done t.now n) (mesh_with seats.old.items lanes.old.items posted) (neighbours t.now n)) }
+    ensures seated { OnOk result (KeepsSeats seats.old.items seats.new.items) }
+{
+    for from in t.nodes() {
+        if is_neighbour(t, n, from) {
+            take_mail(alloc, t, seats, lanes, n, from)?;
+        }
+    }
+    Ok(())
+}
+
+// One node's turn.
+fn turn(
+    alloc: Global,
+    t: &Topology,
+    seats: &mut Vec<Seat>,
+    lanes: &mut Vec<Lane>,
+    n: &NodeSpec,
+) -> Result<(), OutOfMemory>
+    requires { HasSeat t.now seats.old.items n.now.id }
+    ensures mesh { OnOk result ((posted : List CallNo) → mesh_with seats.new.items lanes.new.items posted ≡ turn t.now (mesh_with seats.old.items lanes.old.items posted) n.now) }
+    ensures seated { OnOk result (KeepsSeats seats.old.items seats.new.items) }
+{
+    tick(alloc, t, seats, lanes, n.id)?;
+    handle_desk(alloc, t, seats, lanes, n.id)?;
+    take_all_mail(alloc, t, seats, lanes, n.id)
+}
+
+/// One round: each node has its turn, in order of number.
+pub fn round(
+    alloc: Global,
+    t: &Topology,
+    seats: &mut Vec<Seat>,
+    lanes: &mut Vec<Lane>,
+) -> Result<(), OutOfMemory>
+    requires { AreSeated t.now seats.old.items }
+    ensures mesh { OnOk result ((posted : List CallNo) → mesh_with seats.new.items lanes.new.items posted ≡ round t.now (mesh_with seats.old.items lanes.old.items posted)) }
+    ensures seated { OnOk result (KeepsSeats seats.old.items seats.new.items) }
+{
+    for n in t.nodes() {
+        turn(alloc, t, seats, lanes, n)?;
+    }
+    Ok(())
+}
+
+fn has_no_item(seats: &[Seat], n: &NodeSpec) -> bool
+    ensures { result ≡ has_no_item (mesh_with seats.now [] []) n.now }
+{
+    is_empty_desk(find_seat(seats, n.id))
+}
+
+fn has_no_mail(t: &Topology, lanes: &[Lane], n: &NodeSpec) -> bool
+    ensures { result ≡ has_no_mail t.now (mesh_with [] lanes.now []) n.now }
+{
+    t.nodes()
+        .iter()
+        .filter(|from| is_neighbour(t, n.id, from))
+        .all(|from| is_empty_lane(find_lane(lanes, from.id, n.id)))
+}
+
+fn has_no_items(t: &Topology, seats: &[Seat]) -> bool
+    ensures { result ≡ list_all (has_no_item (mesh_with seats.now [] [])) t.now.nodes }
+{
+    t.nodes().iter().all(|n| has_no_item(seats, n))
+}
+
+fn has_no_mails(t: &Topology, lanes: &[Lane]) -> bool
+    ensures { result ≡ list_all (has_no_mail t.now (mesh_with [] lanes.now [])) t.now.nodes }
+{
+    t.nodes().iter().all(|n| has_no_mail(t, lanes, n))
+}
+
+/// Whether every desk and every list of messages is empty.
+pub fn is_quiet(t: &Topology, seats: &[Seat], lanes: &[Lane]) -> bool
+    ensures { result ≡ is_quiet t.now (mesh_with seats.now lanes.now []) }
+{
+    has_no_items(t, seats) && has_no_mails(t, lanes)
+}
+
+/// Makes rounds until all is quiet, at most so many.
+pub fn settle(
+    alloc: Global,
+    t: &Topology,
+    seats: &mut Vec<Seat>,
+    lanes: &mut Vec<Lane>,
+    rounds: u32,
+) -> Result<(), OutOfMemory>
+    requires { AreSeated t.now seats.old.items }
+    ensures mesh { OnOk result ((posted : List CallNo) → mesh_with seats.new.items lanes.new.items posted ≡ settled t.now rounds (mesh_with seats.old.items lanes.old.items posted)) }
+    ensures seated { OnOk result (KeepsSeats seats.old.items seats.new.items) }
+{
+    for _made in 0..rounds {
+        if is_quiet(t, seats, lanes) {
+            return Ok(());
+        }
+        round(alloc, t, seats, lanes)?;
+    }
+    Ok(())
 }

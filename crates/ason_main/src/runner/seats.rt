@@ -1,7 +1,8 @@
 //! The nodes and their desks.
 
-ghost use Rattle.std.specs.Prelude.{◌≡◌, ◌<◌, ◌==◌, ◌++◌, ◌∷◌, ℕ, List, [], IfOk, MatchOption, OnOk, Some, drop, length, position, slice_get, slice_set, if◌then◌else◌};
+ghost use Rattle.std.specs.Prelude.{◌≡◌, ◌<◌, ◌==◌, ◌++◌, ◌∷◌, ℕ, List, [], IfOk, MatchOption, OnOk, Some, drop, length, not, position, slice_get, slice_set, if◌then◌else◌};
 ghost use Rattle.std.specs.Option.{option_copied, option_map};
+ghost use Rattle.mesh.specs.Events.{has_first};
 ghost use Rattle.mesh.specs.Machine.{sent_to};
 ghost use Rattle.node_core.specs.Nodes.{answer_to};
 ghost use Rattle.ason_main.specs.declared.runner.seats.Seat.{Seat};
@@ -56,6 +57,12 @@ impl Desk {
         ensures { result ≡ length self.now }
     {
         self.items.len()
+    }
+
+    pub fn is_empty(&self) -> bool
+        ensures { result ≡ not (has_first self.now) }
+    {
+        self.items.is_empty()
     }
 }
 
@@ -151,8 +158,19 @@ pub fn desk_len(seats: &[Seat], n: NodeId) -> usize
     }
 }
 
-fn find_seat(seats: &[Seat], n: NodeId) -> Option<&Seat>
+/// The seat of a node.
+pub fn find_seat(seats: &[Seat], n: NodeId) -> Option<&Seat>
     ensures { option_copied result ≡ seat_at seats.now n.0 }
 {
     seats.iter().find(|seat| seat.node.id() == n)
+}
+
+/// Whether the seat's desk is empty, or there is none.
+pub fn is_empty_desk(seat: Option<&Seat>) -> bool
+    ensures { result ≡ not (has_first (seat_desk (option_copied seat.entry))) }
+{
+    match seat {
+        None => true,
+        Some(seat) => seat.desk.is_empty(),
+    }
 }
