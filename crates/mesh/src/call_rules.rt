@@ -15,8 +15,8 @@ use crate::path_rule::{MOST_LEGS, fibre_out, other_end};
 use crate::sites::Site;
 use crate::tables::Tables;
 use ason_base::{
-    CallNo, CallRec, CallState, Cause, Command, DeskItem, Fibres, LabelSet, Leg, LinkSpec, Lsp, Msg, NodeId, Out, OutOfMemory, Outs,
-    PathRole, Phase, RiskSet, Role, Steps,
+    CallNo, CallRec, CallState, Cause, Command, DeskItem, Fibres, LabelSet, Leg, LinkSpec, Lsp,
+    Msg, NodeId, Out, OutOfMemory, Outs, PathRole, Phase, RiskSet, Role, Steps,
 };
 use std::alloc::Global;
 use std::marker::Model;
@@ -137,7 +137,10 @@ fn begin(
     requires lsp { tables.now.lsp ≤ 65535 }
     ensures { IfOk result (λ c. c ≡ begins site.now tables.now request.now out.now route) }
 {
-    let NextNumbers { tunnel, lsp: number } = tables.numbers();
+    let NextNumbers {
+        tunnel,
+        lsp: number,
+    } = tables.numbers();
     let lsp = Lsp {
         ingress: site.id(),
         tunnel: tunnel as u16,
@@ -339,7 +342,16 @@ pub fn on_order(
                 egress: *to,
                 backup,
             };
-            set_up(alloc, site, tables, &request, *from, *protected, *both, via.as_ref())
+            set_up(
+                alloc,
+                site,
+                tables,
+                &request,
+                *from,
+                *protected,
+                *both,
+                via.as_ref(),
+            )
         }
         Command::Release { call, from } => release(alloc, site, tables, *call, *from),
         Command::Protect { .. }

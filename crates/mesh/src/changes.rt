@@ -78,7 +78,12 @@ impl Change {
     }
 
     /// The leg stands, and one message is sent.
-    pub(crate) fn stands(alloc: Global, leg: Leg, to: NodeId, msg: Msg) -> Result<Change, OutOfMemory>
+    pub(crate) fn stands(
+        alloc: Global,
+        leg: Leg,
+        to: NodeId,
+        msg: Msg,
+    ) -> Result<Change, OutOfMemory>
         ensures { IfOk result (λ c. c ≡ stands leg (to_node to msg ∷ [])) }
     {
         let mut change = Change::sends(alloc, to, msg)?;
@@ -131,7 +136,12 @@ impl Change {
     }
 
     /// The leg of this LSP goes, and one message is sent.
-    pub(crate) fn goes_with(alloc: Global, lsp: Lsp, to: NodeId, msg: Msg) -> Result<Change, OutOfMemory>
+    pub(crate) fn goes_with(
+        alloc: Global,
+        lsp: Lsp,
+        to: NodeId,
+        msg: Msg,
+    ) -> Result<Change, OutOfMemory>
         ensures { IfOk result (λ c. c ≡ record { legs = LegChange.Goes lsp ∷ []; calls = []; numbers = None; sent = to_node to msg ∷ [] }) }
     {
         let mut change = Change::sends(alloc, to, msg)?;

@@ -10,12 +10,16 @@ ghost use Rattle.mesh.specs.MessageRules.{answered, call_falls, call_stands, err
 use crate::arrivals::Arrival;
 use crate::calls::{bare, blocked, call_of, is_asking};
 use crate::changes::{CallChange, Change, LegChange};
-use crate::legs::{closed, connected, find_leg, following, is_asked, is_closing, is_node, is_over, is_work, previous, usable};
+use crate::legs::{
+    closed, connected, find_leg, following, is_asked, is_closing, is_node, is_over, is_work,
+    previous, usable,
+};
 use crate::neighbours::Neighbour;
 use crate::path_rule::on_path;
 use crate::sites::Site;
-use ason_base::codes;
-use ason_base::{CallRec, Cause, ErrCode, Label, LabelSet, Leg, Lsp, Msg, NodeId, OutOfMemory};
+use ason_base::{
+    CallRec, Cause, ErrCode, Label, LabelSet, Leg, Lsp, Msg, NodeId, OutOfMemory, codes,
+};
 use std::alloc::Global;
 
 // Resv
@@ -146,7 +150,11 @@ pub fn on_resv(
 
 // PathErr
 
-fn call_falls(alloc: Global, code: ErrCode, call: Option<&CallRec>) -> Result<Vec<CallChange>, OutOfMemory>
+fn call_falls(
+    alloc: Global,
+    code: ErrCode,
+    call: Option<&CallRec>,
+) -> Result<Vec<CallChange>, OutOfMemory>
     ensures { IfOk result (λ v. v.items ≡ call_falls code (option_copied call.entry)) }
 {
     let mut changes = Vec::new(alloc);
@@ -243,7 +251,12 @@ fn tear_on(alloc: Global, leg: &Leg, to: NodeId, reply: Msg) -> Result<Change, O
 }
 
 /// What a PathTear does: it is answered and goes on, and the leg waits for the next node's answer.
-pub fn on_tear(alloc: Global, site: &Site, legs: &[Leg], arrival: Arrival) -> Result<Change, OutOfMemory>
+pub fn on_tear(
+    alloc: Global,
+    site: &Site,
+    legs: &[Leg],
+    arrival: Arrival,
+) -> Result<Change, OutOfMemory>
     ensures { IfOk result (λ c. c ≡ on_tear site.now arrival (find_leg arrival.lsp legs.now)) }
 {
     match find_leg(legs, arrival.lsp) {
@@ -318,7 +331,10 @@ pub fn on_message(
             on_tear(alloc, site, legs, arrival)
         }
         Msg::PathErr {
-            lsp, removed, code, ..
+            lsp,
+            removed,
+            code,
+            ..
         } => on_path_err(alloc, legs, calls, from, msg, *lsp, *removed, *code),
         Msg::Notify { .. } => Ok(Change::nothing(alloc)),
     }

@@ -13,7 +13,8 @@ use crate::legs::{find_leg, usable};
 use crate::sites::Site;
 use ason_base::codes::{FULL, ROUTE, SET};
 use ason_base::{
-    ErrCode, Fibre, Label, LabelSet, Leg, LinkSpec, Msg, NodeId, OutOfMemory, PathRole, Phase, RiskSet, Role, Step, Steps,
+    ErrCode, Fibre, Label, LabelSet, Leg, LinkSpec, Msg, NodeId, OutOfMemory, PathRole, Phase,
+    RiskSet, Role, Step, Steps,
 };
 use std::alloc::Global;
 
@@ -50,7 +51,12 @@ fn leads(link: &LinkSpec, u: NodeId, n: NodeId) -> bool
     (link.low == u && link.high == n) || (link.low == n && link.high == u)
 }
 
-fn refuse(alloc: Global, site: &Site, arrival: Arrival, code: ErrCode) -> Result<Change, OutOfMemory>
+fn refuse(
+    alloc: Global,
+    site: &Site,
+    arrival: Arrival,
+    code: ErrCode,
+) -> Result<Change, OutOfMemory>
     ensures { IfOk result (λ c. c ≡ refusal site.now arrival code) }
 {
     let msg = Msg::PathErr {

@@ -36,7 +36,7 @@ fn converts(node: Option<&NodeSpec>) -> bool
     }
 }
 
-fn touches(n: NodeId, link: &LinkSpec) -> bool
+pub(crate) fn touches(n: NodeId, link: &LinkSpec) -> bool
     ensures { result ≡ touches n link.now }
 {
     link.low == n || link.high == n
