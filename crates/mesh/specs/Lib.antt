@@ -7,4 +7,5 @@ pub mod Kept
 pub mod Legs
 pub mod Machine
 pub mod MessageRules
+pub mod Rows
 pub mod Sites

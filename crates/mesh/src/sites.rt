@@ -42,6 +42,17 @@ pub(crate) fn touches(n: NodeId, link: &LinkSpec) -> bool
     link.low == n || link.high == n
 }
 
+fn copy_links(alloc: Global, links: &[LinkSpec]) -> Result<Vec<LinkSpec>, OutOfMemory>
+    ensures { IfOk result (λ v. v.items ≡ links.now) }
+{
+    let mut copies = Vec::with_capacity(alloc, links.len())?;
+    for link in links {
+        let copy = link.copy(alloc)?;
+        copies.push(copy)?;
+    }
+    Ok(copies)
+}
+
 // The links that this node is an end of.
 #[tactic(auto, using(std::proofs::lemmas::List::Elements::filter_more))]
 fn copy_own(alloc: Global, links: &[LinkSpec], n: NodeId) -> Result<Vec<LinkSpec>, OutOfMemory>
@@ -65,6 +76,18 @@ impl Site {
         let convert = converts(t.node(id));
         let own = copy_own(alloc, t.links(), id)?;
         Ok(Site { id, convert, own })
+    }
+
+    /// The same view again.
+    pub fn copy(&self, alloc: Global) -> Result<Site, OutOfMemory>
+        ensures { IfOk result (λ s. s ≡ self.now) }
+    {
+        let own = copy_links(alloc, &self.own)?;
+        Ok(Site {
+            id: self.id,
+            convert: self.convert,
+            own,
+        })
     }
 
     /// The node's number.

@@ -39,6 +39,19 @@ impl Tables {
         }
     }
 
+    /// The same tables again.
+    pub fn copy(&self, alloc: Global) -> Result<Tables, OutOfMemory>
+        ensures { IfOk result (λ t. t ≡ self.now) }
+    {
+        let legs = copy_legs(alloc, &self.legs)?;
+        let calls = copy_calls(alloc, &self.calls)?;
+        Ok(Tables {
+            legs,
+            calls,
+            numbers: self.numbers,
+        })
+    }
+
     /// The legs, in order of LSP.
     pub fn legs(&self) -> &[Leg]
         ensures { result.now ≡ self.now.legs }
@@ -82,6 +95,28 @@ impl Tables {
         }
         Ok(sent)
     }
+}
+
+fn copy_legs(alloc: Global, legs: &[Leg]) -> Result<Vec<Leg>, OutOfMemory>
+    ensures { IfOk result (λ v. v.items ≡ legs.now) }
+{
+    let mut copies = Vec::with_capacity(alloc, legs.len())?;
+    for leg in legs {
+        let copy = leg.copy(alloc)?;
+        copies.push(copy)?;
+    }
+    Ok(copies)
+}
+
+fn copy_calls(alloc: Global, calls: &[CallRec]) -> Result<Vec<CallRec>, OutOfMemory>
+    ensures { IfOk result (λ v. v.items ≡ calls.now) }
+{
+    let mut copies = Vec::with_capacity(alloc, calls.len())?;
+    for call in calls {
+        let copy = call.copy(alloc)?;
+        copies.push(copy)?;
+    }
+    Ok(copies)
 }
 
 // Puts the item at its place. There is room for it.
