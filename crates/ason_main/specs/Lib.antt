@@ -1,0 +1,4 @@
+pub mod PlanScript
+pub mod PlanTables
+pub mod PlanTexts
+pub mod Plans

@@ -1,0 +1,6 @@
+//! The program `ason`.
+#![tactic(auto)]
+
+mod plan;
+
+fn main() {}
