@@ -1,3 +1,4 @@
+pub mod PlanCalls
 pub mod PlanScript
 pub mod PlanTables
 pub mod PlanTexts

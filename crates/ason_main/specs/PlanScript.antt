@@ -14,6 +14,7 @@ use Rattle.ason_main.specs.declared.plan.faults.PlanKind.TheVariants as kinds
 use Rattle.ason_main.specs.declared.plan.lines.Line.{Line}
 use Rattle.ason_main.specs.declared.plan.lines.Line.TheVariants.{Post, Settle, Show}
 use Rattle.ason_main.specs.PlanTexts.{same_text, is_name, has_name, place_of, node_named, words_of, word_at, is_number, are_numbers, number_up_to, are_link_ids, link_ids}
+use Rattle.ason_main.specs.PlanCalls.{Calls, ingress_of, no_node, with_call}
 use Rattle.ason_main.specs.PlanTables.{first_of, fault_at}
 
 -- Forms of a line, by its words
@@ -76,22 +77,6 @@ is_wait ws = begins ws (codes "wait") 2 && is_number (word_at ws 1)
 abbrev pub is_unbuilt : List (List ℕ) → Bool
 is_unbuilt ws = is_other_setup ws || (is_other_command ws || (is_group_line ws || (is_channel_line ws || is_wait ws)))
 
--- The calls of the lines before, each with its ingress, in order of number
-
-pub record Calls : Type 0 where
-  pub names : List (List ℕ)
-  pub ingresses : List NodeId
-
-abbrev pub no_calls : Calls
-no_calls = record { names = []; ingresses = [] }
-
-abbrev pub no_node : NodeId
-no_node = record { 0 = 0 }
-
-abbrev pub ingress_at : List NodeId → Option ℕ → NodeId
-ingress_at ingresses None = no_node
-ingress_at ingresses (Some k) = unwrap_or (slice_get ingresses k) no_node
-
 -- Routes
 
 -- where a link leads from a node; the same node where it doesn't lead from there
@@ -147,10 +132,14 @@ abbrev pub call_of : Calls → List (List ℕ) → ℕ
 call_of calls ws = unwrap_or (place_of calls.names (word_at ws 1)) 0
 
 abbrev pub release_of : Calls → List (List ℕ) → Command
-release_of calls ws = Release (record { 0 = call_of calls ws }) (ingress_at calls.ingresses (place_of calls.names (word_at ws 1)))
+release_of calls ws = Release (record { 0 = call_of calls ws }) (ingress_of calls (word_at ws 1))
+
+-- the rounds of a settle; 0 where there are more than 1,000
+abbrev pub rounds_of : List (List ℕ) → ℕ
+rounds_of ws = unwrap_or (number_up_to 1000 (word_at ws 1)) 0
 
 abbrev pub is_settle_within : List (List ℕ) → Bool
-is_settle_within ws = nat_le 1 (digits_value 10 (word_at ws 1)) && nat_le (digits_value 10 (word_at ws 1)) 1000
+is_settle_within ws = nat_le 1 (rounds_of ws)
 
 -- Lines
 
@@ -167,15 +156,13 @@ abbrev pub line_of : Network → List (List ℕ) → Calls → List (List ℕ) �
 line_of t names calls ws =
     if is_given_setup ws then Post (setup_of t names calls ws)
     else if is_release ws then Post (release_of calls ws)
-    else if is_settle ws then Settle (digits_value 10 (word_at ws 1))
+    else if is_settle ws then Settle (rounds_of ws)
     else Show
 
 -- the calls after a line
 abbrev pub calls_after : Network → List (List ℕ) → Calls → List (List ℕ) → Calls
 calls_after t names calls ws =
-    if is_given_setup ws
-    then record { names = calls.names ++ word_at ws 1 ∷ []; ingresses = calls.ingresses ++ from_node t names ws ∷ [] }
-    else calls
+    if is_given_setup ws then with_call calls (word_at ws 1) (from_node t names ws) else calls
 
 -- the first fault of lines, of which the first is line n
 abbrev pub script_fault : Network → List (List ℕ) → ℕ → Calls → List (List ℕ) → Option PlanFault

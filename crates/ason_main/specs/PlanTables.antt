@@ -34,10 +34,13 @@ listed no_items = []
 listed (item d ds) = d ∷ listed ds
 
 -- the elements of an array; none of anything else
+abbrev pub elements_of : Data → List Data
+elements_of (array ds) = listed ds
+elements_of d = []
+
 abbrev pub elements : Option Data → List Data
-elements (Some (array ds)) = listed ds
-elements (Some d) = []
 elements None = []
+elements (Some d) = elements_of d
 
 abbrev pub elements_at : List ℕ → Data → List Data
 elements_at key d = elements (get key d)
@@ -82,11 +85,14 @@ abbrev pub integer_in : ℕ → ℕ → ℤ → Option ℕ
 integer_in low high (pos n) = if nat_le low n && nat_le n high then Some n else None
 integer_in low high (negsuc n) = None
 
+abbrev pub number_of : ℕ → ℕ → Data → Option ℕ
+number_of low high (integer z) = integer_in low high z
+number_of low high d = None
+
 -- an integer from low to high
 abbrev pub number_in : ℕ → ℕ → Option Data → Option ℕ
-number_in low high (Some (integer z)) = integer_in low high z
-number_in low high (Some d) = None
 number_in low high None = None
+number_in low high (Some d) = number_of low high d
 
 abbrev pub number_at : List ℕ → ℕ → ℕ → Data → Option ℕ
 number_at key low high d = number_in low high (get key d)
@@ -94,19 +100,22 @@ number_at key low high d = number_in low high (get key d)
 -- the same, with a default where nothing stands
 abbrev pub number_or : ℕ → ℕ → ℕ → Option Data → Option ℕ
 number_or default low high None = Some default
-number_or default low high (Some d) = number_in low high (Some d)
+number_or default low high (Some d) = number_of low high d
+
+abbrev pub flag_of : Data → Bool
+flag_of (boolean b) = b
+flag_of d = false
 
 abbrev pub flag_in : Option Data → Bool
-flag_in (Some (boolean b)) = b
-flag_in (Some d) = false
 flag_in None = false
+flag_in (Some d) = flag_of d
 
 abbrev pub lacks : List ℕ → Data → Bool
 lacks key d = is_none (get key d)
 
 -- Keys
 
-abbrev pub is_key : Shape → List ℕ → Bool
+unfoldable pub is_key : Shape → List ℕ → Bool
 is_key OfTop k = same_text k (codes "wait") || (same_text k (codes "script") || (same_text k (codes "node") || same_text k (codes "link")))
 is_key OfNode k = same_text k (codes "name") || (same_text k (codes "id") || same_text k (codes "convert"))
 is_key OfLink k =
@@ -136,15 +145,19 @@ has_top_counts d =
     && (nat_le (length (elements_at (codes "node") d)) 64
     && (nat_le (length (elements_at (codes "link") d)) 256 && nat_le (length (elements_at (codes "script") d)) 10000))
 
+abbrev pub top_value_kind : Data → Option PlanKind
+top_value_kind d =
+    if not (has_top_counts d) then Some kinds.Count
+    else if is_none (number_or 0 0 10000 (get (codes "wait") d)) then Some kinds.Range
+    else if not (lacks (codes "wait") d) then Some kinds.Unbuilt
+    else None
+
 abbrev pub top_kind : Data → Option PlanKind
 top_kind d =
     if has_strange OfTop d then Some kinds.Key
     else if lacks (codes "node") d then Some kinds.Missing
     else if not (has_top_kinds d) then Some kinds.Kind
-    else if not (has_top_counts d) then Some kinds.Count
-    else if is_none (number_or 0 0 10000 (get (codes "wait") d)) then Some kinds.Range
-    else if not (lacks (codes "wait") d) then Some kinds.Unbuilt
-    else None
+    else top_value_kind d
 
 -- Nodes
 
@@ -168,18 +181,22 @@ abbrev pub has_node_kinds : Data → Bool
 has_node_kinds d =
     passes is_text (get (codes "name") d) && (passes is_integer (get (codes "id") d) && passes is_boolean (get (codes "convert") d))
 
+abbrev pub node_value_kind : ℕ → List (List ℕ) → Data → Option PlanKind
+node_value_kind last names d =
+    if not (is_name (name_of d)) then Some kinds.Name
+    else if is_none (id_in d) then Some kinds.Range
+    else if not (nat_lt last (id_number d)) then Some kinds.Order
+    else if has_name names (name_of d) then Some kinds.Twice
+    else if not (converts d) then Some kinds.Unbuilt
+    else None
+
 -- the first fault of a node after nodes of which the last has this id and which have these names
 abbrev pub node_kind : ℕ → List (List ℕ) → Data → Option PlanKind
 node_kind last names d =
     if has_strange OfNode d then Some kinds.Key
     else if lacks (codes "name") d || lacks (codes "id") d then Some kinds.Missing
     else if not (has_node_kinds d) then Some kinds.Kind
-    else if not (is_name (name_of d)) then Some kinds.Name
-    else if is_none (id_in d) then Some kinds.Range
-    else if not (nat_lt last (id_number d)) then Some kinds.Order
-    else if has_name names (name_of d) then Some kinds.Twice
-    else if not (converts d) then Some kinds.Unbuilt
-    else None
+    else node_value_kind last names d
 
 -- the first fault of nodes, of which the first is node n
 abbrev pub nodes_fault : ℕ → ℕ → List (List ℕ) → List Data → Option PlanFault
@@ -194,11 +211,8 @@ end_ids (Some a) (Some b) = if nat_lt a.0 b.0 then Some (a, b) else if nat_lt b.
 end_ids (Some a) None = None
 end_ids None b = None
 
-abbrev pub end_names : Data → List (List ℕ)
-end_names d = map text_of (elements_at (codes "ends") d)
-
 abbrev pub end_name : Data → ℕ → List ℕ
-end_name d k = unwrap_or (slice_get (end_names d) k) []
+end_name d k = text_in (slice_get (elements_at (codes "ends") d) k)
 
 -- the two ends of a link, the lesser first: none where one is unknown or they are the same
 abbrev pub ends_of : List (List ℕ) → List NodeSpec → Data → Option (NodeId × NodeId)
@@ -211,7 +225,7 @@ abbrev pub metric_in : Data → Option ℕ
 metric_in d = number_or 1 1 65535 (get (codes "metric") d)
 
 abbrev pub srlg_in : Data → Option ℕ
-srlg_in d = number_in 0 4294967295 (Some d)
+srlg_in d = number_of 0 4294967295 d
 
 abbrev pub srlgs_of : Data → List ℕ
 srlgs_of d = map (λ s. unwrap_or (srlg_in s) 0) (elements_at (codes "srlg") d)
@@ -226,41 +240,46 @@ has_link_kinds d =
 abbrev pub has_link_counts : Data → Bool
 has_link_counts d = length (elements_at (codes "ends") d) == 2 && nat_le (length (elements_at (codes "srlg") d)) 16
 
+abbrev pub are_srlgs_within : Data → Bool
+are_srlgs_within d = list_all (λ s. is_some (srlg_in s)) (elements_at (codes "srlg") d)
+
 abbrev pub is_link_within : Data → Bool
-is_link_within d =
-    is_some (id_in d) && (is_some (labels_in d) && (is_some (metric_in d) && list_all (λ s. is_some (srlg_in s)) (elements_at (codes "srlg") d)))
+is_link_within d = is_some (id_in d) && (is_some (labels_in d) && (is_some (metric_in d) && are_srlgs_within d))
 
-abbrev pub low_end : Option (NodeId × NodeId) → NodeId
-low_end None = record { 0 = 0 }
-low_end (Some p) = p.0
-
-abbrev pub high_end : Option (NodeId × NodeId) → NodeId
-high_end None = record { 0 = 0 }
-high_end (Some p) = p.1
+-- no node has this id
+abbrev pub no_ends : NodeId × NodeId
+no_ends = (record { 0 = 0 }, record { 0 = 0 })
 
 abbrev pub link_of : List (List ℕ) → List NodeSpec → Data → LinkSpec
 link_of names nodes d = record {
   id = record { 0 = id_number d };
-  low = low_end (ends_of names nodes d);
-  high = high_end (ends_of names nodes d);
+  low = (unwrap_or (ends_of names nodes d) no_ends).0;
+  high = (unwrap_or (ends_of names nodes d) no_ends).1;
   labels = unwrap_or (labels_in d) 0;
   metric = unwrap_or (metric_in d) 0;
   srlgs = srlgs_of d;
 }
 
--- the first fault of a link after links of which the last has this id
-abbrev pub link_kind : List (List ℕ) → List NodeSpec → ℕ → Data → Option PlanKind
-link_kind names nodes last d =
-    if has_strange OfLink d then Some kinds.Key
-    else if lacks (codes "id") d || (lacks (codes "ends") d || lacks (codes "labels") d) then Some kinds.Missing
-    else if not (has_link_kinds d) then Some kinds.Kind
-    else if not (has_link_counts d) then Some kinds.Count
-    else if not (is_link_within d) then Some kinds.Range
+abbrev pub link_value_kind : List (List ℕ) → List NodeSpec → ℕ → Data → Option PlanKind
+link_value_kind names nodes last d =
+    if not (is_link_within d) then Some kinds.Range
     else if not (nat_lt last (id_number d)) then Some kinds.Order
     else if is_none (ends_of names nodes d) then Some kinds.Ends
     else if not (is_distinct (srlgs_of d)) then Some kinds.Twice
     else if not (lacks (codes "srlg") d) then Some kinds.Unbuilt
     else None
+
+abbrev pub lacks_link_key : Data → Bool
+lacks_link_key d = lacks (codes "id") d || (lacks (codes "ends") d || lacks (codes "labels") d)
+
+-- the first fault of a link after links of which the last has this id
+abbrev pub link_kind : List (List ℕ) → List NodeSpec → ℕ → Data → Option PlanKind
+link_kind names nodes last d =
+    if has_strange OfLink d then Some kinds.Key
+    else if lacks_link_key d then Some kinds.Missing
+    else if not (has_link_kinds d) then Some kinds.Kind
+    else if not (has_link_counts d) then Some kinds.Count
+    else link_value_kind names nodes last d
 
 -- the first fault of links, of which the first is link n
 abbrev pub links_fault : List (List ℕ) → List NodeSpec → ℕ → ℕ → List Data → Option PlanFault

@@ -15,13 +15,20 @@ same_text a b = pointwise nat_eq a b
 -- Names
 
 -- an ASCII letter, an ASCII digit, `_` or `-`
-abbrev pub is_name_byte : ℕ → Bool
+unfoldable pub is_name_byte : ℕ → Bool
 is_name_byte b = is_ascii_alphanumeric b || (b == 95 || b == 45)
+
+abbrev pub are_name_bytes : List ℕ → Bool
+are_name_bytes bs = list_all is_name_byte bs
+
+-- at most 15 such characters
+abbrev pub is_name_rest : List ℕ → Bool
+is_name_rest bs = nat_le (length bs) 15 && are_name_bytes bs
 
 -- 1 to 16 characters, the first an ASCII letter, the others ASCII letters, digits, `_` or `-`
 abbrev pub is_name : List ℕ → Bool
 is_name [] = false
-is_name (b ∷ bs) = is_ascii_alphabetic b && (nat_le (length bs) 15 && list_all is_name_byte bs)
+is_name (b ∷ bs) = is_ascii_alphabetic b && is_name_rest bs
 
 abbrev pub has_name : List (List ℕ) → List ℕ → Bool
 has_name names name = list_any (λ n. same_text n name) names
@@ -58,25 +65,32 @@ word_at words k = unwrap_or (slice_get words k) []
 
 -- Numbers
 
+abbrev pub are_digits : List ℕ → Bool
+are_digits bs = list_all is_ascii_digit bs
+
 -- decimal digits without a leading zero
 abbrev pub is_number : List ℕ → Bool
 is_number [] = false
-is_number (b ∷ bs) = is_ascii_digit b && (list_all is_ascii_digit bs && (not (b == 48) || is_empty bs))
+is_number (b ∷ bs) = is_ascii_digit b && (are_digits bs && (not (b == 48) || is_empty bs))
 
--- the number that the digits write, where it is at most this
+-- the number that the word writes, where it is one and is at most this
 abbrev pub number_up_to : ℕ → List ℕ → Option ℕ
-number_up_to most word = if nat_le (digits_value 10 word) most then Some (digits_value 10 word) else None
+number_up_to most word = if is_number word && nat_le (digits_value 10 word) most then Some (digits_value 10 word) else None
 
 -- the parts of a word between its commas
 abbrev pub parts_of : List ℕ → List (List ℕ)
 parts_of word = slice_split (λ b. b == 44) word
 
+-- numbers with commas between them
 abbrev pub are_numbers : List ℕ → Bool
 are_numbers word = list_all is_number (parts_of word)
 
--- the numbers between commas, where each is a link id within reach
+abbrev pub link_id : List ℕ → Option ℕ
+link_id part = number_up_to 4294967295 part
+
+-- each number is a link id within reach
 abbrev pub are_link_ids : List ℕ → Bool
-are_link_ids word = list_all (λ p. is_some (number_up_to 4294967295 p)) (parts_of word)
+are_link_ids word = list_all (λ p. is_some (link_id p)) (parts_of word)
 
 abbrev pub link_ids : List ℕ → List ℕ
-link_ids word = map (λ p. digits_value 10 p) (parts_of word)
+link_ids word = map (λ p. unwrap_or (link_id p) 0) (parts_of word)

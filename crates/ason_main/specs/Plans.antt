@@ -15,7 +15,8 @@ use Rattle.ason_main.specs.declared.plan.lines.Line.{Line}
 use Rattle.ason_main.specs.declared.plan.lines.Line.TheVariants.{Post, Settle, Show}
 use Rattle.ason_main.specs.declared.plan.Plan.{Plan}
 use Rattle.ason_main.specs.PlanTables.{first_of, fault_at, elements_at, text_of, top_kind, name_of, node_of, nodes_fault, link_of, links_fault}
-use Rattle.ason_main.specs.PlanScript.{no_calls, script_fault, lines_of, calls_of}
+use Rattle.ason_main.specs.PlanCalls.{no_calls}
+use Rattle.ason_main.specs.PlanScript.{script_fault, lines_of, calls_of}
 
 -- The parts of a plan's table
 

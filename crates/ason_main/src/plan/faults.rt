@@ -1,6 +1,7 @@
 //! Why bytes are no plan.
 
 ghost use Rattle.std.specs.Prelude.{◌≡◌};
+ghost use Rattle.ason_main.specs.declared.plan.faults.PlanError.{PlanError};
 
 use ason_base::OutOfMemory;
 use std::alloc::{AllocError, AllocFailed};
@@ -82,8 +83,6 @@ pub enum PlanError {
 }
 
 impl From<OutOfMemory> for PlanError {
-    ghost use Rattle.ason_main.specs.declared.plan.faults.PlanError.{PlanError};
-
     ghost from_gives = { λ _ error. error ≡ PlanError.OutOfMemory };
 
     fn from(_: OutOfMemory) -> PlanError {
@@ -92,8 +91,6 @@ impl From<OutOfMemory> for PlanError {
 }
 
 impl From<AllocError> for PlanError {
-    ghost use Rattle.ason_main.specs.declared.plan.faults.PlanError.{PlanError};
-
     ghost from_gives = { λ _ error. error ≡ PlanError.OutOfMemory };
 
     fn from(_: AllocError) -> PlanError {
@@ -102,11 +99,16 @@ impl From<AllocError> for PlanError {
 }
 
 impl<T: Drop> From<AllocFailed<T>> for PlanError {
-    ghost use Rattle.ason_main.specs.declared.plan.faults.PlanError.{PlanError};
-
     ghost from_gives = { λ _ error. error ≡ PlanError.OutOfMemory };
 
     fn from(_: AllocFailed<T>) -> PlanError {
         PlanError::OutOfMemory
     }
+}
+
+/// The error that tells this fault.
+pub fn fault(entry: PlanEntry, kind: PlanKind) -> PlanError
+    ensures { result ≡ PlanError.Fault (record { entry = entry; kind = kind }) }
+{
+    PlanError::Fault(PlanFault { entry, kind })
 }

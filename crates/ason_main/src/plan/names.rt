@@ -1,6 +1,8 @@
 //! Names of nodes and calls.
 
-ghost use Rattle.std.specs.Prelude.{◌≡◌, [], ◌∷◌, ◌++◌, IfOk, OnErr, OnOk};
+ghost use Rattle.std.specs.Prelude.{◌≡◌, [], ◌∷◌, ◌++◌, IfOk, IsTrue, OnErr, OnOk};
+
+ghost use Rattle.ason_main.specs.PlanTexts.{has_name, is_name, place_of, same_text};
 
 use ason_base::OutOfMemory;
 use std::alloc::Global;
@@ -21,10 +23,14 @@ impl Model for Name {
 }
 
 impl Name {
-    /// The name of this text.
-    pub fn new(alloc: Global, text: &str) -> Result<Name, OutOfMemory>
+    /// The name of this text: 1 to 16 characters, the first an ASCII letter, the others ASCII letters, digits, `_` or `-`.
+    pub fn new(alloc: Global, text: &[u8]) -> Result<Name, OutOfMemory>
+        requires { IsTrue (is_name text.now) }
         ensures { IfOk result (λ n. n ≡ text.now) }
     {
+        let Ok(text) = std::str::from_utf8(text) else {
+            unreachable!();
+        };
         let text = String::from_str(alloc, text)?;
         Ok(Name { text })
     }
@@ -33,6 +39,12 @@ impl Name {
         ensures { result.now ≡ self.now }
     {
         self.text.as_str()
+    }
+
+    fn is(&self, text: &[u8]) -> bool
+        ensures { result ≡ same_text self.now text.now }
+    {
+        self.text.as_str().as_bytes() == text
     }
 }
 
@@ -73,5 +85,19 @@ impl Names {
         ensures { result.now ≡ self.now }
     {
         &self.names
+    }
+
+    /// The place of a name, from 0: none exactly where it isn't there.
+    pub fn place(&self, name: &[u8]) -> Option<usize>
+        ensures { result ≡ place_of self.now name.now }
+    {
+        self.names.iter().position(|n| n.is(name))
+    }
+
+    /// Whether a name is there.
+    pub fn has(&self, name: &[u8]) -> bool
+        ensures { result ≡ has_name self.now name.now }
+    {
+        self.names.iter().any(|n| n.is(name))
     }
 }
