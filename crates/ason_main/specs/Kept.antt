@@ -7,7 +7,10 @@ use Rattle.node_core.specs.Nodes.{answer_to, stepped}
 use Rattle.mesh.specs.Changes.{Answer, nothing}
 use Rattle.mesh.specs.Sites.{Place, site_of}
 use Rattle.ason_base.specs.declared.ids.CallNo.{CallNo}
+use Rattle.ason_base.specs.declared.commands.Command.{Command}
+use Rattle.ason_base.specs.declared.commands.Command.TheVariants.{Setup, Release, Protect, Retry, Revert, Fail, Repair}
 use Rattle.ason_base.specs.declared.commands.DeskItem.{DeskItem}
+use Rattle.ason_base.specs.declared.network.NodeSpec.{NodeSpec}
 use Rattle.ason_base.specs.declared.messages.Msg.{Msg}
 use Rattle.ason_main.specs.declared.runner.lanes.Lane.{Lane}
 use Rattle.ason_main.specs.declared.runner.seats.Seat.{Seat}
@@ -86,3 +89,27 @@ KeepsSeats old new = (m : ℕ) → seat_place (seat_at new m) ≡ seat_place (se
 
 abbrev pub mesh_with : List Seat → List Lane → List CallNo → Mesh
 mesh_with seats lanes posted = mesh_of (record { seats = seats; lanes = lanes; posted = posted })
+
+-- a node's seat at the start
+abbrev pub new_seat : Network → NodeSpec → Seat
+new_seat t n = record { node = record { place = site_of t n.id; state = new_node }; desk = [] }
+
+-- the node to whose desk a command goes
+abbrev pub ingress : Command → Option NodeId
+ingress (Setup n from to protected both via backup) = Some from
+ingress (Release n from) = Some from
+ingress (Protect n from) = Some from
+ingress (Retry n from) = Some from
+ingress (Revert n from) = Some from
+ingress (Fail g) = None
+ingress (Repair g) = None
+
+-- the call numbers of all setups after a post
+abbrev pub calls_after : List CallNo → Command → List CallNo
+calls_after before (Setup n from to protected both via backup) = before ++ n ∷ []
+calls_after before (Release n from) = before
+calls_after before (Protect n from) = before
+calls_after before (Retry n from) = before
+calls_after before (Revert n from) = before
+calls_after before (Fail g) = before
+calls_after before (Repair g) = before

@@ -4,4 +4,7 @@ pub mod PlanScript
 pub mod PlanTables
 pub mod PlanTexts
 pub mod Plans
+pub mod Outputs
 pub mod Rounds
+pub mod Runs
+pub mod TableText

@@ -3,5 +3,7 @@
 
 mod plan;
 mod runner;
+mod table;
+mod table_rows;
 
 fn main() {}

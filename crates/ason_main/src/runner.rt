@@ -4,3 +4,5 @@ pub mod lanes;
 pub mod seats;
 
 pub mod rounds;
+
+pub mod script;
