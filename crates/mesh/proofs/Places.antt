@@ -1,6 +1,6 @@
 -- Where a leg or a call stands in its list.
-use Rattle.std.proofs.Common.{◌≡◌, ◌<◌, ◌≤◌, ◌+◌, ℕ, zero, suc, Bool, true, false, cond, not, nat_eq, nat_lt, List, [], ◌∷◌, ◌++◌, length, set, refl, sym, ap, ◌∙◌, arith}
-use Rattle.std.specs.Prelude.{◌||◌, nat_le, Option, Some, None, insert, position, slice_get}
+use Rattle.std.proofs.Common.{◌≡◌, ◌≤◌, ◌+◌, ℕ, suc, Bool, true, false, cond, not, nat_eq, nat_lt, List, [], ◌∷◌, length, set, refl, sym, ◌∙◌, arith}
+use Rattle.std.specs.Prelude.{◌||◌, nat_le, Some, None, insert, position, slice_get}
 use Rattle.std.specs.List.{position_or_len}
 use Rattle.ason_base.specs.Lsps.{same_lsp, lsp_before}
 use Rattle.ason_base.specs.declared.tables.Leg.{Leg}

@@ -1,6 +1,6 @@
 -- Nodes of routes, and the links that a node knows.
 use Rattle.std.proofs.Common.{◌≡◌, ◌<◌, ◌≤◌, ◌+◌, ◌-◌, ℕ, suc, Bool, true, false, cond, not, nat_eq, List, [], ◌∷◌, ◌++◌, length, get_or, take, drop, refl, sym, ap, ◌∙◌, arith, length-drop, take_all}
-use Rattle.std.specs.Prelude.{◌&&◌, ◌||◌, filter, find, map, Option, Some, None}
+use Rattle.std.specs.Prelude.{◌&&◌, ◌||◌, filter, find, map}
 use Rattle.std.specs.List.{list_any}
 use Rattle.std.proofs.lemmas.List.{drop-map}
 use Rattle.std.proofs.lemmas.List.Folds.{list_any-append}

@@ -1,6 +1,6 @@
 -- The tables of each node, in the list of seats.
 use Rattle.std.proofs.Common.{◌≡◌, ◌<◌, ◌+◌, ℕ, zero, suc, Bool, true, false, cond, not, nat_eq, List, [], ◌∷◌, ◌++◌, length, get_or, set, refl, sym, ap, ◌∙◌, arith}
-use Rattle.std.specs.Prelude.{find, position, Option, Some, None, Result, Ok, Err, OnOk}
+use Rattle.std.specs.Prelude.{position, Some, None, Result, Ok, Err, OnOk}
 use Rattle.std.specs.List.{position_or_len}
 use Rattle.std.proofs.lemmas.List.Quantifiers.{position-Some}
 use Rattle.ason_base.specs.declared.ids.NodeId.{NodeId}

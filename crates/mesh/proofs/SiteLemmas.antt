@@ -1,12 +1,12 @@
 -- A topology's links are narrow, and so are those of one node.
-use Rattle.std.proofs.Common.{◌≡◌, ◌<◌, ℕ, Bool, true, false, cond, List, [], ◌∷◌, length, get_or, refl, sym, ap, ◌∙◌, arith}
+use Rattle.std.proofs.Common.{◌≡◌, Bool, true, false, cond, List, [], ◌∷◌, get_or, refl}
 use Rattle.std.specs.Prelude.{◌&&◌, nat_le, filter, slice_get, Some}
-use Rattle.std.specs.List.{list_all, AllPass}
+use Rattle.std.specs.List.{list_all}
 use Rattle.std.proofs.lemmas.List.Sums.{AllPass-from_list_all, list_all-from_AllPass}
 use Rattle.std.proofs.lemmas.Option.{slice_get-get_or}
 use Rattle.ason_base.specs.declared.network.LinkSpec.{LinkSpec}
 use Rattle.ason_base.specs.declared.network.NodeSpec.{NodeSpec}
-use Rattle.ason_base.specs.Network.{Network, IsTopology, is_after, is_link, is_link_here, is_link_at}
+use Rattle.ason_base.specs.Network.{Network, IsTopology, is_after, is_link, is_link_here}
 use Rattle.mesh.specs.Sites.{AllNarrow}
 
 pub and_first : (a b : Bool) → (a && b) ≡ true → a ≡ true

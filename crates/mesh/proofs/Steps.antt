@@ -1,6 +1,6 @@
 -- What the lists stand for after a rule's answer, and without or with one thing more.
 use Rattle.std.proofs.Common.{◌≡◌, ◌<◌, ℕ, Bool, true, false, cond, nat_eq, List, [], ◌∷◌, ◌++◌, length, get_or, drop, refl, sym, ap, ◌∙◌, arith, append-nil}
-use Rattle.std.specs.Prelude.{◌&&◌, filter, map, remove, position, Option, Some, None}
+use Rattle.std.specs.Prelude.{◌&&◌, filter, map, remove, position, Some}
 use Rattle.std.proofs.lemmas.List.{map-append}
 use Rattle.std.proofs.lemmas.List.Elements.{filter-append}
 use Rattle.std.proofs.lemmas.List.Edits.{remove-append_left}
@@ -19,7 +19,7 @@ use Rattle.mesh.specs.Changes.{Answer}
 use Rattle.mesh.specs.Sites.{site_of}
 use Rattle.mesh.specs.CallRules.{on_item, on_tick}
 use Rattle.mesh.specs.MessageRules.{on_message}
-use Rattle.mesh.specs.Machine.{Mesh, changed, commit, sent_to, without_first, without_item, with_item}
+use Rattle.mesh.specs.Machine.{changed, commit, sent_to, without_first, without_item, with_item}
 use Rattle.mesh.specs.Events.{on_first, on_first_item, step}
 use Rattle.mesh.specs.Kept.{Kept, desk_of, is_between, is_waiting, mail_of, mesh_of, seated, sent_by, tables_at}
 use Rattle.mesh.proofs.Firsts.{filter-other, first_of}

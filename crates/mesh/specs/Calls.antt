@@ -1,5 +1,5 @@
 -- The calls of one ingress, in order of number.
-use Rattle.std.specs.Prelude.{◌==◌, ◌&&◌, nat_lt, nat_le, Bool, true, false, not, List, [], ◌∷◌, find, filter, Option, Some, None, if◌then◌else◌}
+use Rattle.std.specs.Prelude.{◌==◌, nat_lt, nat_le, Bool, true, false, not, List, [], ◌∷◌, find, filter, Option, Some, None, if◌then◌else◌}
 use Rattle.ason_base.specs.declared.ids.CallNo.{CallNo}
 use Rattle.ason_base.specs.declared.ids.Lsp.{Lsp}
 use Rattle.ason_base.specs.declared.calls.CallState.{CallState}

@@ -1,11 +1,10 @@
 -- Which events are enabled, what each does, and runs of them.
-use Rattle.std.specs.Prelude.{◌≡◌, ℕ, ◌==◌, ◌&&◌, Bool, true, false, not, List, [], ◌∷◌, Option, Some, None, IsTrue, if◌then◌else◌}
+use Rattle.std.specs.Prelude.{◌==◌, ◌&&◌, Bool, true, false, not, List, [], ◌∷◌, Option, Some, None, IsTrue, if◌then◌else◌}
 use Rattle.std.specs.List.{list_any}
 use Rattle.ason_base.specs.declared.ids.NodeId.{NodeId}
 use Rattle.ason_base.specs.declared.ids.LinkId.{LinkId}
 use Rattle.ason_base.specs.declared.ids.Lsp.{Lsp}
 use Rattle.ason_base.specs.declared.steps.Step.{Step}
-use Rattle.ason_base.specs.declared.network.LinkSpec.{LinkSpec}
 use Rattle.ason_base.specs.declared.commands.Command.{Command}
 use Rattle.ason_base.specs.declared.commands.Command.TheVariants.{Setup, Release, Protect, Retry, Revert, Fail, Repair}
 use Rattle.ason_base.specs.declared.commands.DeskItem.{DeskItem}
@@ -22,7 +21,7 @@ use Rattle.mesh.specs.Sites.{Place, site_of, touches, other_end, own_link}
 use Rattle.mesh.specs.MessageRules.{on_message}
 use Rattle.mesh.specs.CallRules.{NodeState, is_link_there, on_item, on_tick}
 use Rattle.mesh.specs.Commands.{is_valid, is_again}
-use Rattle.mesh.specs.Machine.{Mesh, start, commit, without_first, without_item, with_item, with_posted}
+use Rattle.mesh.specs.Machine.{Mesh, commit, without_first, without_item, with_item, with_posted}
 
 -- What is enabled
 

@@ -70,7 +70,7 @@ mesh_of k = record {
   posted = k.posted;
 }
 
--- what an event answers that changes nothing: it isn't enabled, or else memory was refused
+-- why an event changed nothing: memory was refused where it is enabled, and else it isn't enabled
 abbrev pub fault_if : Bool → StepFault
 fault_if true = OutOfMemory
 fault_if false = NotEnabled

@@ -1,10 +1,9 @@
 -- What each message does at a node: the rules of Path, Resv, PathErr and PathTear (RFC 3473, RFC 4872).
 -- p is the node, legs and calls are what it keeps, a tells the LSP and where the message came from.
-use Rattle.std.specs.Prelude.{ℕ, ◌==◌, ◌&&◌, ◌||◌, nat_le, Bool, true, false, not, List, [], ◌∷◌, length, filter, Option, Some, None, if◌then◌else◌}
+use Rattle.std.specs.Prelude.{ℕ, ◌==◌, ◌&&◌, ◌||◌, nat_le, Bool, true, false, not, List, [], ◌∷◌, length, Option, Some, None, if◌then◌else◌}
 use Rattle.ason_base.specs.Codes.{full_code, route_code, set_code, label_code, torn_code}
 use Rattle.ason_base.specs.Labels.{up_to, has, meet, least}
 use Rattle.ason_base.specs.declared.ids.NodeId.{NodeId}
-use Rattle.ason_base.specs.declared.ids.LinkId.{LinkId}
 use Rattle.ason_base.specs.declared.codes.ErrCode.{ErrCode}
 use Rattle.ason_base.specs.declared.steps.Step.{Step}
 use Rattle.ason_base.specs.declared.network.LinkSpec.{LinkSpec}
@@ -12,10 +11,8 @@ use Rattle.ason_base.specs.declared.messages.PathRole.{PathRole}
 use Rattle.ason_base.specs.declared.messages.PathRole.TheVariants.{Work, Back}
 use Rattle.ason_base.specs.declared.messages.Msg.{Msg}
 use Rattle.ason_base.specs.declared.messages.Msg.TheVariants.{Path, Resv, PathTear, PathErr, Notify}
-use Rattle.ason_base.specs.declared.calls.Phase.{Phase}
-use Rattle.ason_base.specs.declared.calls.Phase.TheVariants.{Asked, Live, Closing, Falling}
+use Rattle.ason_base.specs.declared.calls.Phase.TheVariants.{Asked, Live}
 use Rattle.ason_base.specs.declared.calls.Role.TheVariants as role
-use Rattle.ason_base.specs.declared.calls.Cause.{Cause}
 use Rattle.ason_base.specs.declared.calls.Cause.TheVariants.{Code}
 use Rattle.ason_base.specs.declared.tables.CallRec.{CallRec}
 use Rattle.ason_base.specs.declared.tables.Leg.{Leg}
@@ -26,7 +23,7 @@ use Rattle.mesh.specs.declared.changes.CallChange.TheVariants as call
 use Rattle.mesh.specs.declared.changes.LegChange.TheVariants as leg
 use Rattle.mesh.specs.declared.neighbours.Neighbour.{Neighbour}
 use Rattle.mesh.specs.Changes.{Answer, nothing}
-use Rattle.mesh.specs.Sites.{Place, own_link, labels_of, leads, other_end, fibre_in, fibre_out}
+use Rattle.mesh.specs.Sites.{Place, own_link, leads, other_end, fibre_in, fibre_out}
 use Rattle.mesh.specs.Legs.{find_leg, is_asked, is_closing, is_work, closed, connected, previous, following, is_node, is_over, usable}
 use Rattle.mesh.specs.Calls.{call_of, is_asking, blocked, bare}
 

@@ -1,4 +1,4 @@
-use Rattle.std.proofs.Common.{◌≡◌, sym, ◌∙◌, true, false}
+use Rattle.std.proofs.Common.{sym, ◌∙◌}
 use Rattle.mesh.proofs.Routes.{ends_again, comes_again, still_apart}
 use Rattle.mesh.proofs.commands.is_apart.Goals as goal
 use Rattle.mesh.proofs.commands.is_apart.Goals.{then-eq-via-then-eq, then-eq-via-else-eq+then-visits}

@@ -1,5 +1,5 @@
 use Rattle.std.proofs.Common.{◌≡◌, sym, ◌∙◌, ap}
-use Rattle.std.specs.Prelude.{position, Some, None}
+use Rattle.std.specs.Prelude.{position, None}
 use Rattle.mesh.specs.Kept.{fault_if, is_between}
 use Rattle.mesh.proofs.Firsts.{has_none, has_some}
 use Rattle.mesh.proofs.state.take.Goals as goal

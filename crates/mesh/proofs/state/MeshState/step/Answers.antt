@@ -1,4 +1,3 @@
-use Rattle.std.proofs.Common.{◌≡◌, ◌∙◌, ap, refl, sym}
 use Rattle.mesh.proofs.SeatPlaces.{on_ok}
 use Rattle.mesh.proofs.state.MeshState.step.Goals as goal
 
