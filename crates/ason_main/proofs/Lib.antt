@@ -1,10 +1,13 @@
 pub mod Elements
 pub mod Finding
 pub mod LaneMail
+pub mod LegOrder
+pub mod NewSeats
 pub mod Numbers
 pub mod Repeats
 pub mod Results
 pub mod RoundSteps
+pub mod RunsOfRounds
 pub mod SeatLemmas
 pub mod Settling
 pub mod Texts

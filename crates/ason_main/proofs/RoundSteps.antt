@@ -27,7 +27,7 @@ same_number m n h = grind arith
 self_test : (n : ℕ) → nat_eq n n ≡ true
 self_test n = grind arith
 
-some_site : (t : Network) (seats : List Seat) (n : NodeId) → HasSeat t seats n → (s : Seat) × (seat_at seats n.0 ≡ Some s) × (s.node.place ≡ site_of t n)
+pub some_site : (t : Network) (seats : List Seat) (n : NodeId) → HasSeat t seats n → (s : Seat) × (seat_at seats n.0 ≡ Some s) × (s.node.place ≡ site_of t n)
 some_site t seats n has = go (seat_at seats n.0) refl has
   where
     go : (o : Option Seat) → seat_at seats n.0 ≡ o → seat_place o ≡ Some (site_of t n) → (s : Seat) × (seat_at seats n.0 ≡ Some s) × (s.node.place ≡ site_of t n)

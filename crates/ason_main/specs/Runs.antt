@@ -1,4 +1,4 @@
--- What a run of the mesh machine reaches.
+-- Where the runs of the mesh lead.
 use Rattle.std.specs.Prelude.{◌≡◌, List}
 use Rattle.ason_base.specs.Network.{Network}
 use Rattle.mesh.specs.declared.events.MeshEvent.{MeshEvent}

@@ -38,9 +38,21 @@ pub fn write_unsettled(
     ensures ok { OnOk result (out.new.items ≡ out.old.items ++ unsettled_text desk hop flood) }
     ensures err { OnErr result (out.new.items ≡ out.old.items) }
 {
-    let text = format!(in alloc; "unsettled desk {desk} hop {hop} flood {flood}\n")?;
+    let text = unsettled_text(alloc, desk, hop, flood)?;
     out.extend_from_slice(text.as_bytes())?;
     Ok(())
+}
+
+fn unsettled_text(
+    alloc: Global,
+    desk: usize,
+    hop: usize,
+    flood: usize,
+) -> Result<String, OutOfMemory>
+    ensures { IfOk result (λ text. string_bytes text ≡ unsettled_text desk hop flood) }
+{
+    let text = format!(in alloc; "unsettled desk {desk} hop {hop} flood {flood}\n")?;
+    Ok(text)
 }
 
 fn table_text(alloc: Global, plan: &Plan, rows: &TableRows) -> Result<String, OutOfMemory>
@@ -108,19 +120,19 @@ fn push_lsps(text: &mut String, plan: &Plan, row: &CallRow) -> Result<(), OutOfM
 fn push_leg(text: &mut String, plan: &Plan, row: &LegRow) -> Result<(), OutOfMemory>
     ensures { OnOk result (string_bytes text.new ≡ string_bytes text.old ++ leg_text plan.now row.now) }
 {
-    text.push_str("leg ")?;
-    push_lsp(text, plan, row.lsp)?;
-    push_standing(text, plan, row)?;
+    push_place(text, plan, row)?;
     push_labels(text, row)?;
     push_back(text, row)?;
     text.push_str("\n")?;
     Ok(())
 }
 
-// The node, the role and the phase, with a space on either side.
-fn push_standing(text: &mut String, plan: &Plan, row: &LegRow) -> Result<(), OutOfMemory>
-    ensures { OnOk result (string_bytes text.new ≡ string_bytes text.old ++ codes " " ++ node_name plan.now row.now.node ++ codes " " ++ role_word row.now.role ++ codes " " ++ phase_word row.now.phase ++ codes " ") }
+// The LSP, the node, the role and the phase, with a space after them.
+fn push_place(text: &mut String, plan: &Plan, row: &LegRow) -> Result<(), OutOfMemory>
+    ensures { OnOk result (string_bytes text.new ≡ string_bytes text.old ++ codes "leg " ++ lsp_text plan.now row.now.lsp ++ codes " " ++ node_name plan.now row.now.node ++ codes " " ++ role_word row.now.role ++ codes " " ++ phase_word row.now.phase ++ codes " ") }
 {
+    text.push_str("leg ")?;
+    push_lsp(text, plan, row.lsp)?;
     let node = node_name(plan, row.node);
     let role = role_word(row.role);
     let phase = phase_word(row.phase);
@@ -313,5 +325,155 @@ fn name_at(names: &[Name], place: usize) -> &str
     match names.get(place) {
         None => "",
         Some(name) => name.as_str(),
+    }
+}
+
+#[cfg(test)]
+mod tests {
+    use super::{write_table, write_unsettled};
+    use crate::plan::{Lines, Name, Names, Plan};
+    use ason_base::codes::LABEL;
+    use ason_base::{
+        CallNo, CallRow, CallRows, CallState, Cause, Label, LegRow, LegRows, LinkId, Lsp, NodeId,
+        NodeSpec, OutOfMemory, Phase, Role, TableRows, Topology,
+    };
+    use std::alloc::Global;
+    use std::test::Fail;
+
+    const A: NodeId = NodeId(1);
+
+    const B: NodeId = NodeId(2);
+
+    const WORK: Lsp = Lsp {
+        ingress: A,
+        tunnel: 1,
+        lsp: 1,
+    };
+
+    fn names(alloc: Global, texts: &[&str]) -> Result<Names, OutOfMemory> {
+        let mut names = Names::new(alloc);
+        for text in texts {
+            names.push(Name::new(alloc, text)?)?;
+        }
+        Ok(names)
+    }
+
+    // The nodes a and b and the call c1.
+    fn plan(alloc: Global) -> Result<Plan, Fail> {
+        let nodes = [
+            NodeSpec {
+                id: A,
+                convert: false,
+            },
+            NodeSpec {
+                id: B,
+                convert: false,
+            },
+        ];
+        let topology = Topology::new(alloc, 0, &nodes, &[])
+            .ok()
+            .ok_or("two nodes")?;
+        Ok(Plan {
+            topology,
+            node_names: names(alloc, &["a", "b"])?,
+            call_names: names(alloc, &["c1"])?,
+            lines: Lines::new(alloc),
+        })
+    }
+
+    fn rows(alloc: Global, calls: &[CallRow], legs: &[LegRow]) -> Result<TableRows, OutOfMemory> {
+        let mut rows = TableRows {
+            calls: CallRows::new(alloc),
+            legs: LegRows::new(alloc),
+        };
+        for call in calls {
+            rows.calls.push(*call)?;
+        }
+        for leg in legs {
+            rows.legs.push(*leg)?;
+        }
+        Ok(rows)
+    }
+
+    fn call(state: CallState, work: Option<Lsp>, cause: Cause) -> CallRow {
+        CallRow {
+            call: CallNo(0),
+            ingress: A,
+            egress: B,
+            state,
+            work,
+            back: None,
+            cause,
+        }
+    }
+
+    // The leg at the ingress, over link 1.
+    fn first_leg(phase: Phase) -> LegRow {
+        LegRow {
+            lsp: WORK,
+            node: A,
+            role: Role::Work,
+            phase,
+            in_link: None,
+            in_label: None,
+            out_link: Some(LinkId(1)),
+            out_label: Label::new(1),
+            back_in: None,
+            back_out: None,
+        }
+    }
+
+    // The leg at the egress, over link 1.
+    fn last_leg(phase: Phase) -> LegRow {
+        LegRow {
+            node: B,
+            in_link: Some(LinkId(1)),
+            in_label: Label::new(1),
+            out_link: None,
+            out_label: None,
+            ..first_leg(phase)
+        }
+    }
+
+    fn table(alloc: Global, calls: &[CallRow], legs: &[LegRow]) -> Result<Vec<u8>, Fail> {
+        let mut out = Vec::new(alloc);
+        write_table(alloc, &mut out, &plan(alloc)?, &rows(alloc, calls, legs)?)?;
+        Ok(out)
+    }
+
+    #[test]
+    fn writes_tables(rt: HostRuntime) -> Result<(), Fail> {
+        let bare = call(CallState::Bare, Some(WORK), Cause::Unset);
+        let live = [first_leg(Phase::Live), last_leg(Phase::Live)];
+        let blocked = call(CallState::Blocked, None, Cause::Code(LABEL));
+        let text = table(rt.alloc(), &[bare], &live)?;
+        assert_eq!(rt;
+            text.as_slice(),
+            b"calls 1 legs 2\ncall c1 a b bare a.1.1 - -\nleg a.1.1 a work live - 1/1\nleg a.1.1 b work live 1/1 -\n".as_slice()
+        );
+        let text = table(rt.alloc(), &[], &[])?;
+        assert_eq!(rt; text.as_slice(), b"calls 0 legs 0\n".as_slice());
+        let text = table(rt.alloc(), &[blocked], &[])?;
+        assert_eq!(rt;
+            text.as_slice(),
+            b"calls 1 legs 0\ncall c1 a b blocked - - label\n".as_slice()
+        );
+        let text = table(rt.alloc(), &[], &[first_leg(Phase::Closing)])?;
+        assert_eq!(rt;
+            text.as_slice(),
+            b"calls 0 legs 1\nleg a.1.1 a work closing - 1/1\n".as_slice()
+        );
+        Ok(())
+    }
+
+    #[test]
+    fn writes_what_is_unsettled(rt: HostRuntime) -> Result<(), Fail> {
+        let mut out = Vec::new(rt.alloc());
+        write_unsettled(rt.alloc(), &mut out, 1, 0, 20)?;
+        assert_eq!(rt;
+            out.as_slice(),
+            b"unsettled desk 1 hop 0 flood 20\n".as_slice()
+        );
+        Ok(())
     }
 }
