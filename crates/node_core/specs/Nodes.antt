@@ -1,6 +1,4 @@
 -- One node: what it knows of itself, and what it keeps.
-use Rattle.std.specs.Prelude.{◌≡◌, ℕ}
-use Rattle.ason_base.specs.declared.tables.Out.{Out}
 use Rattle.node_core.specs.declared.inputs.Input.{Input}
 use Rattle.node_core.specs.declared.inputs.Input.TheVariants.{Message, Desk, Tick, Learn}
 use Rattle.mesh.specs.Changes.{Answer, nothing}
