@@ -31,7 +31,7 @@ known_node t n h = go t.nodes h
     go (m ∷ nodes) e = pick (nat_eq m.id.0 n.0) (go nodes) e
       where
         pick : (b : Bool) → (is_node_id nodes n ≡ true → IsSome (find (λ m. nat_eq m.id.0 n.0) nodes)) → (b || is_node_id nodes n) ≡ true → IsSome (cond b (Some m) (find (λ m. nat_eq m.id.0 n.0) nodes))
-        pick true others k = tt
+        pick true others k = refl
         pick false others k = others k
 
 self_test : (n : ℕ) → nat_eq n n ≡ true

@@ -1,9 +1,12 @@
 -- What the program prints of a first plan's run.
-use Rattle.std.specs.Prelude.{◌≡◌, ℕ, List, [], ◌∷◌, ◌++◌, if◌then◌else◌}
+use Rattle.std.specs.Prelude.{◌≡◌, ℕ, true, List, [], ◌∷◌, ◌++◌, Option, Some, None, slice_get, if◌then◌else◌}
 use Rattle.std.specs.List.Sorted.{IsNonDecreasingBy, IsPermutation, IsSortedBy}
 use Rattle.ason_base.specs.declared.calls.TableRows.{TableRows}
 use Rattle.ason_base.specs.Network.{Network}
+use Rattle.ason_base.specs.declared.ids.CallNo.{CallNo}
+use Rattle.mesh.specs.Commands.{is_valid}
 use Rattle.mesh.specs.Machine.{Mesh, start}
+use Rattle.ason_main.specs.Kept.{calls_after}
 use Rattle.mesh.specs.Events.{posted}
 use Rattle.mesh.specs.Rows.{all_call_rows, all_leg_rows}
 use Rattle.ason_main.specs.declared.plan.Plan.{Plan}
@@ -24,22 +27,36 @@ pub record IsTable (t : Network) (s : Mesh) (rows : TableRows) : Type 0 where
 abbrev pub unsettled_line : Network → Mesh → List ℕ
 unsettled_line t s = if is_quiet t s then [] else unsettled_text (items_waiting t s) (mail_waiting t s) 0
 
--- the commands of the lines are posted, one after the other
-abbrev pub all_posted : Mesh → List Line → Mesh
-all_posted s [] = s
-all_posted s (Post c ∷ lines) = all_posted (posted s c) lines
-all_posted s (Settle r ∷ lines) = all_posted s lines
-all_posted s (Show ∷ lines) = all_posted s lines
+-- the command of a line is posted, if it is one
+abbrev pub line_posted : Mesh → Option Line → Mesh
+line_posted s None = s
+line_posted s (Some (Post c)) = posted s c
+line_posted s (Some (Settle r)) = s
+line_posted s (Some Show) = s
 
 -- the state that the run has settled in before the script, and after it
 abbrev pub first_state : Plan → Mesh
 first_state p = settled p.topology 1000 start
 
 abbrev pub last_state : Plan → Mesh
-last_state p = settled p.topology 1000 (all_posted (first_state p) p.lines)
+last_state p = settled p.topology 1000 (line_posted (first_state p) (slice_get p.lines 0))
 
 -- what is printed: what is unsettled before and after the script, and the table of the last state
 abbrev pub IsOutput : Plan → List ℕ → Type 0
 IsOutput p text =
     (rows : TableRows) × IsTable p.topology (last_state p) rows
     × (text ≡ unsettled_line p.topology (first_state p) ++ (unsettled_line p.topology (last_state p) ++ table_text p rows))
+
+-- the command of the line, if it posts one, is valid
+abbrev pub IsPostable : Network → Option Line → Type 0
+IsPostable t None = Unit {0}
+IsPostable t (Some (Post c)) = is_valid t c ≡ true
+IsPostable t (Some (Settle r)) = Unit {0}
+IsPostable t (Some Show) = Unit {0}
+
+-- the call numbers of all setups after it
+abbrev pub calls_after_line : List CallNo → Option Line → List CallNo
+calls_after_line before None = before
+calls_after_line before (Some (Post c)) = calls_after before c
+calls_after_line before (Some (Settle r)) = before
+calls_after_line before (Some Show) = before

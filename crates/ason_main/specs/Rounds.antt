@@ -68,5 +68,8 @@ settled t (suc r) s = if is_quiet t s then s else settled t r (round t s)
 abbrev pub items_waiting : Network → Mesh → ℕ
 items_waiting t s = sum_by (λ n. length (s.desks n.id.0)) t.nodes
 
+abbrev pub mail_waiting_at : Network → Mesh → NodeId → ℕ
+mail_waiting_at t s n = sum_by (λ u. length (s.mail u.id.0 n.0)) (neighbours t n)
+
 abbrev pub mail_waiting : Network → Mesh → ℕ
-mail_waiting t s = sum_by (λ n. sum_by (λ u. length (s.mail u.id.0 n.id.0)) (neighbours t n.id)) t.nodes
+mail_waiting t s = sum_by (λ n. mail_waiting_at t s n.id) t.nodes

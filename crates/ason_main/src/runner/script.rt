@@ -1,20 +1,23 @@
 //! Runs a first plan: the network settles, the script's command is posted, and the network settles again.
 
-ghost use Rattle.std.specs.Prelude.{◌≡◌, ◌++◌, List, [], IfOk, IsTrue, OnOk, map};
+ghost use Rattle.std.specs.Prelude.{◌≡◌, ◌+◌, ◌++◌, List, [], IfOk, IsTrue, OnOk, map};
+ghost use Rattle.std.specs.Option.{option_copied};
 ghost use Rattle.ason_base.specs.declared.ids.CallNo.{CallNo};
 ghost use Rattle.mesh.specs.Commands.{is_valid};
 ghost use Rattle.mesh.specs.Events.{posted};
 ghost use Rattle.mesh.specs.Machine.{start};
+ghost use Rattle.mesh.specs.Rows.{all_call_rows, all_leg_rows, call_rows, leg_rows};
 ghost use Rattle.ason_base.specs.Network.{is_node_id};
 ghost use Rattle.ason_main.specs.declared.runner.lanes.Lane.{Lane};
-ghost use Rattle.ason_main.specs.Kept.{AreSeated, KeepsSeats, calls_after, ingress, mesh_with, new_seat};
-ghost use Rattle.ason_main.specs.Outputs.{IsOutput, all_posted, unsettled_line};
+ghost use Rattle.ason_main.specs.Kept.{AreSeated, HasSeat, KeepsSeats, calls_after, ingress, mesh_with, new_seat, seat_at, seat_state};
+ghost use Rattle.ason_main.specs.Rounds.{items_waiting, mail_waiting, mail_waiting_at};
+ghost use Rattle.ason_main.specs.Outputs.{IsOutput, IsPostable, calls_after_line, line_posted, unsettled_line};
 
 use crate::plan::{Line, Plan};
-use crate::runner::lanes::Lane;
-use crate::runner::rounds::{is_quiet, settle};
-use crate::runner::seats::{Desk, Seat, put_item};
-use ason_base::{Command, DeskItem, NodeId, NodeSpec, OutOfMemory, Topology};
+use crate::runner::lanes::{Lane, mail_len};
+use crate::runner::rounds::{is_neighbour, is_quiet, settle};
+use crate::runner::seats::{Desk, Seat, desk_len, find_seat, put_item};
+use ason_base::{CallRow, Command, DeskItem, LegRow, NodeId, NodeSpec, OutOfMemory, Topology};
 use node_core::Node;
 use std::alloc::Global;
 
@@ -75,4 +78,120 @@ fn post(
     };
     let command = command.copy(alloc)?;
     put_item(seats, from, DeskItem::Order(command))
+}
+
+// Posts the command of the line, if it is one.
+fn post_line(
+    alloc: Global,
+    t: &Topology,
+    seats: &mut Vec<Seat>,
+    line: Option<&Line>,
+) -> Result<(), OutOfMemory>
+    requires seated { AreSeated t.now seats.old.items }
+    requires valid { IsPostable t.now (option_copied line) }
+    ensures mesh { OnOk result ((lanes : List Lane) (before : List CallNo) → mesh_with seats.new.items lanes (calls_after_line before (option_copied line.entry)) ≡ line_posted (mesh_with seats.old.items lanes before) (option_copied line.entry)) }
+    ensures seated { OnOk result (KeepsSeats seats.old.items seats.new.items) }
+{
+    match line {
+        Some(Line::Post(command)) => post(alloc, t, seats, command),
+        _ => Ok(()),
+    }
+}
+
+fn add(a: usize, b: usize) -> Result<usize, OutOfMemory>
+    ensures { IfOk result (λ n. n ≡ a + b) }
+{
+    a.checked_add(b).ok_or(OutOfMemory)
+}
+
+// The items on all desks.
+#[tactic(auto, using(std::proofs::lemmas::List::Sums::sum_by_more))]
+fn items_waiting(t: &Topology, seats: &[Seat]) -> Result<usize, OutOfMemory>
+    ensures { IfOk result (λ n. n ≡ items_waiting t.now (mesh_with seats.now [] [])) }
+{
+    let mut total = 0;
+    for n in t.nodes() {
+        total = add(total, desk_len(seats, n.id))?;
+    }
+    Ok(total)
+}
+
+// The messages on their way to one node.
+fn mail_waiting_at(t: &Topology, lanes: &[Lane], n: NodeId) -> Result<usize, OutOfMemory>
+    ensures { IfOk result (λ k. k ≡ mail_waiting_at t.now (mesh_with [] lanes.now []) n) }
+{
+    let mut total = 0;
+    for from in t.nodes() {
+        if is_neighbour(t, n, from) {
+            total = add(total, mail_len(lanes, from.id, n))?;
+        }
+    }
+    Ok(total)
+}
+
+// The messages on their way to all nodes.
+#[tactic(auto, using(std::proofs::lemmas::List::Sums::sum_by_more))]
+fn mail_waiting(t: &Topology, lanes: &[Lane]) -> Result<usize, OutOfMemory>
+    ensures { IfOk result (λ k. k ≡ mail_waiting t.now (mesh_with [] lanes.now [])) }
+{
+    let mut total = 0;
+    for n in t.nodes() {
+        total = add(total, mail_waiting_at(t, lanes, n.id)?)?;
+    }
+    Ok(total)
+}
+
+// The lists of rows so far.
+#[derive(Drop)]
+struct Gathered {
+    calls: Vec<CallRow>,
+    legs: Vec<LegRow>,
+}
+
+fn gather_node(
+    alloc: Global,
+    gathered: &mut Gathered,
+    node: &Node,
+) -> Result<(), OutOfMemory>
+    ensures calls { OnOk result (gathered.new.calls.items ≡ gathered.old.calls.items ++ call_rows node.now.place.id node.now.state) }
+    ensures legs { OnOk result (gathered.new.legs.items ≡ gathered.old.legs.items ++ leg_rows node.now.place.id node.now.state) }
+{
+    let rows = node.rows(alloc)?;
+    gathered.calls.extend_from_slice(rows.calls.items())?;
+    gathered.legs.extend_from_slice(rows.legs.items())?;
+    Ok(())
+}
+
+fn gather_seat(
+    alloc: Global,
+    t: &Topology,
+    gathered: &mut Gathered,
+    seats: &[Seat],
+    n: &NodeSpec,
+) -> Result<(), OutOfMemory>
+    requires { HasSeat t.now seats.now n.now.id }
+    ensures calls { OnOk result (gathered.new.calls.items ≡ gathered.old.calls.items ++ call_rows n.now.id (seat_state (seat_at seats.now n.now.id.0))) }
+    ensures legs { OnOk result (gathered.new.legs.items ≡ gathered.old.legs.items ++ leg_rows n.now.id (seat_state (seat_at seats.now n.now.id.0))) }
+{
+    let _ = t;
+    match find_seat(seats, n.id) {
+        None => Ok(()),
+        Some(seat) => gather_node(alloc, gathered, &seat.node),
+    }
+}
+
+// The rows of all nodes, as they stand.
+fn gather(alloc: Global, t: &Topology, seats: &[Seat]) -> Result<Gathered, OutOfMemory>
+    requires { AreSeated t.now seats.now }
+    ensures calls { IfOk result (λ g. g.calls.items ≡ all_call_rows t.now (mesh_with seats.now [] [])) }
+    ensures legs { IfOk result (λ g. g.legs.items ≡ all_leg_rows t.now (mesh_with seats.now [] [])) }
+{
+    let mut gathered = Gathered {
+        calls: Vec::new(alloc),
+        legs: Vec::new(alloc),
+    };
+    for n in t.nodes() {
+        gather_seat(alloc, t, &mut gathered, seats, n)?;
+    }
+    Ok(gathered)
 }
