@@ -81,8 +81,10 @@ pub fn read_error(body: &[u8]) -> Option<ErrorSpec>
     if body.len() < 8 {
         return None;
     }
-    let link = if_index(&body[8..])?;
-    Some(spec_of(body, link))
+    match if_index(&body[8..]) {
+        Some(link) => Some(spec_of(body, link)),
+        None => None,
+    }
 }
 
 /// Appends the ERROR_SPEC object with an interface: an IF_INDEX where the error has a link, and no TLV where it has none.

@@ -5,7 +5,7 @@ ghost use Rattle.wire_buf.specs.Objects.{object};
 ghost use Rattle.rsvp_objects.specs.declared.hop.HopObject.{HopObject};
 ghost use Rattle.rsvp_objects.specs.Bodies.{IsHop, hop_bytes};
 
-use crate::tlv::{if_index, put_if_index};
+use crate::tlv::{one_if_index, put_if_index};
 use ason_base::{LinkId, NodeId, OutOfMemory};
 use byteorder::{BigEndian, ByteOrder};
 use wire_buf::{put_header, put_u32};
@@ -25,11 +25,13 @@ pub fn read_hop(body: &[u8]) -> Option<HopObject>
     if body.len() < 8 {
         return None;
     }
-    let link = if_index(&body[8..])??;
-    Some(HopObject {
-        sender: NodeId(BigEndian::read_u32(body)),
-        link,
-    })
+    match one_if_index(&body[8..]) {
+        Some(link) => Some(HopObject {
+            sender: NodeId(BigEndian::read_u32(body)),
+            link,
+        }),
+        None => None,
+    }
 }
 
 /// Appends the RSVP_HOP object. The sender is its address and that of its IF_INDEX.

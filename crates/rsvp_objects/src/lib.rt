@@ -5,6 +5,7 @@ pub mod error;
 pub mod hop;
 pub mod id;
 pub mod label;
+pub mod label_set;
 pub mod request;
 pub mod route;
 pub mod sender;

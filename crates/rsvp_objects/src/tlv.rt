@@ -1,8 +1,9 @@
 //! TLVs of an interface (RFC 3471, section 9.1).
 
-ghost use Rattle.std.specs.Prelude.{◌≡◌, ◌≤◌, ◌+◌, ◌++◌, drop, length, Option, Some, IfSome, IsSome, vec_len, vec_capacity};
+ghost use Rattle.std.specs.Prelude.{◌≡◌, ◌≤◌, ◌+◌, ◌++◌, [], ◌∷◌, drop, length, Option, Some, IfSome, IsSome, vec_len, vec_capacity};
 ghost use Rattle.std.specs.Option.{option_to_list};
 ghost use Rattle.ason_base.specs.declared.ids.LinkId.{LinkId};
+ghost use Rattle.wire_buf.specs.Objects.{number_at};
 ghost use Rattle.rsvp_objects.specs.Tlvs.{BeginsTlv, HasIfIndexes, TypeValue, if_index_bytes, padded, room};
 ghost use Rattle.rsvp_objects.specs.Seen.{seen};
 
@@ -39,6 +40,13 @@ fn next_tlv<'a>(cursor: &mut Cursor<'a>) -> Option<Tlv<'a>>
     Some(Tlv { kind, value })
 }
 
+fn link_of(value: &[u8]) -> LinkId
+    requires { length value.now ≡ 8 }
+    ensures { result.0 ≡ number_at 4 4 value.now }
+{
+    LinkId(BigEndian::read_u32(&value[4..]))
+}
+
 /// The interface id of the IF_INDEX among the TLVs, if there is one. None exactly where the bytes aren't TLVs, an IF_INDEX
 /// isn't of eight bytes, or there are two.
 pub(crate) fn if_index(tlvs: &[u8]) -> Option<Option<LinkId>>
@@ -48,16 +56,32 @@ pub(crate) fn if_index(tlvs: &[u8]) -> Option<Option<LinkId>>
     let mut cursor = Cursor::new(tlvs);
     let mut found = None;
     'tlvs: while !cursor.is_empty() {
-        let tlv = next_tlv(&mut cursor)?;
+        let Some(tlv) = next_tlv(&mut cursor) else {
+            return None;
+        };
         if tlv.kind != IF_INDEX {
             continue;
         }
-        if found.is_some() || tlv.value.len() != 8 {
+        if tlv.value.len() != 8 {
             return None;
         }
-        found = Some(LinkId(BigEndian::read_u32(&tlv.value[4..])));
+        match found {
+            None => found = Some(link_of(tlv.value)),
+            Some(_) => return None,
+        }
     }
     Some(found)
+}
+
+/// The interface id of the one IF_INDEX among the TLVs. None exactly where there isn't one, as `if_index` counts.
+pub(crate) fn one_if_index(tlvs: &[u8]) -> Option<LinkId>
+    ensures found { IfSome result (λ link. HasIfIndexes tlvs.now (link ∷ [])) }
+    ensures only { (link : LinkId) → HasIfIndexes tlvs.now (link ∷ []) → result ≡ Some link }
+{
+    match if_index(tlvs) {
+        Some(link) => link,
+        None => None,
+    }
 }
 
 /// Appends an IF_INDEX in the room that is reserved.
