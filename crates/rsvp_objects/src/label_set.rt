@@ -1,10 +1,10 @@
 //! LABEL_SET (RFC 3473, section 2.6; RFC 3471, section 3.5).
 
-ghost use Rattle.std.specs.Prelude.{◌≡◌, ◌≤◌, ◌<◌, ◌+◌, ◌*◌, ◌++◌, [], ◌∷◌, ℕ, List, length, Some, IfSome, OnErr, OnOk, vec_len, vec_capacity};
+ghost use Rattle.std.specs.Prelude.{◌≡◌, ◌≤◌, ◌<◌, ◌+◌, ◌*◌, ◌++◌, [], ◌∷◌, ℕ, List, length, Some, IfSome, SomeIff, OnErr, OnOk, vec_len, vec_capacity};
 ghost use Rattle.ason_base.specs.Labels.{has};
 ghost use Rattle.wire_buf.specs.Objects.{object};
 ghost use Rattle.rsvp_objects.specs.declared.label_set.LabelSetObject.{LabelSetObject};
-ghost use Rattle.rsvp_objects.specs.LabelSets.{IsLabelSet, among, between, label_set_bytes, labels_bytes, numbers, or_zero};
+ghost use Rattle.rsvp_objects.specs.LabelSets.{HasLabels, IsLabelSet, action_of, among, between, is_between, label_set_bytes, labels_bytes, listed, numbers, or_zero, ranged};
 
 use ason_base::{Label, LabelSet, OutOfMemory};
 use byteorder::{BigEndian, ByteOrder};
@@ -33,7 +33,7 @@ fn with_number(set: LabelSet, n: u32) -> LabelSet
     }
 }
 
-fn listed(labels: &[u8]) -> LabelSet
+fn labels_among(labels: &[u8]) -> LabelSet
     ensures { result ≡ among (numbers labels.now) }
 {
     let mut cursor = Cursor::new(labels);
@@ -44,43 +44,62 @@ fn listed(labels: &[u8]) -> LabelSet
     set
 }
 
-fn ranged(low: u32, high: u32) -> LabelSet
+fn labels_between(low: u32, high: u32) -> LabelSet
     ensures { result ≡ between low high }
 {
     let mut set = LabelSet::upto(0);
     'labels: for n in 1..81u32 {
-        if low <= n && (high == 0 || n <= high) {
+        if is_inside(low, high, n) {
             set = with_number(set, n);
         }
     }
     set
 }
 
-/// What a LABEL_SET's body includes or excludes. None exactly where the body is none: its action isn't 0 to 3, it has no
-/// label, its end is no label's, or it is a range of other than two.
-pub fn read_label_set(body: &[u8]) -> Option<LabelSetObject>
-    ensures found { IfSome result (IsLabelSet body.now) }
-    ensures only { (o : LabelSetObject) → IsLabelSet body.now o → result ≡ Some o }
+fn is_inside(low: u32, high: u32, n: u32) -> bool
+    ensures { result ≡ is_between low high n }
+{
+    (low == 0 || low <= n) && (high == 0 || n <= high)
+}
+
+// What a body with the labels of a list includes or excludes.
+fn read_list(body: &[u8], include: bool) -> Option<LabelSetObject>
+    ensures { SomeIff result (HasLabels body.now) (listed include body.now) }
 {
     if body.len() < 8 || body.len() % 4 != 0 {
         return None;
     }
-    let (include, range) = match body[0] {
-        0 => (true, false),
-        1 => (false, false),
-        2 => (true, true),
-        3 => (false, true),
-        _ => return None,
-    };
-    if !range {
-        let labels = listed(&body[4..]);
-        return Some(LabelSetObject { include, labels });
-    }
+    let (_, labels) = body.split_at(4);
+    let labels = labels_among(labels);
+    Some(LabelSetObject { include, labels })
+}
+
+// What a body with the two ends of a range includes or excludes.
+fn read_range(body: &[u8], include: bool) -> Option<LabelSetObject>
+    ensures { SomeIff result (length body.now ≡ 12) (ranged include body.now) }
+{
     if body.len() != 12 {
         return None;
     }
-    let labels = ranged(BigEndian::read_u32(&body[4..]), BigEndian::read_u32(&body[8..]));
+    let low = BigEndian::read_u32(&body[4..]);
+    let high = BigEndian::read_u32(&body[8..]);
+    let labels = labels_between(low, high);
     Some(LabelSetObject { include, labels })
+}
+
+/// What a LABEL_SET's body includes or excludes. None exactly where the body is none: its action isn't 0 to 3, it has no
+/// label, a label isn't whole, or a range hasn't exactly two.
+pub fn read_label_set(body: &[u8]) -> Option<LabelSetObject>
+    ensures found { IfSome result (IsLabelSet body.now) }
+    ensures only { (o : LabelSetObject) → IsLabelSet body.now o → result ≡ Some o }
+{
+    match body {
+        [0, ..] => read_list(body, true),
+        [1, ..] => read_list(body, false),
+        [2, ..] => read_range(body, true),
+        [3, ..] => read_range(body, false),
+        _ => None,
+    }
 }
 
 fn holds(set: &LabelSet, n: u8) -> bool
@@ -95,7 +114,8 @@ fn holds(set: &LabelSet, n: u8) -> bool
 }
 
 fn count(set: &LabelSet) -> usize
-    ensures { result ≡ length (among set.now) }
+    ensures value { result ≡ length (among set.now) }
+    ensures small { result ≤ 80 }
 {
     let mut count = 0;
     'labels: for n in 1..81u8 {
@@ -130,6 +150,12 @@ fn put_or_zero(out: &mut Vec<u8>, set: &LabelSet, count: usize)
     }
 }
 
+fn action(include: bool) -> u8
+    ensures { result ≡ action_of include }
+{
+    if include { 0 } else { 1 }
+}
+
 /// Appends the LABEL_SET object, with action 0 or 1 and the labels rising. A set without labels is written as the one label
 /// 0, which names none.
 pub fn write_label_set(out: &mut Vec<u8>, x: &LabelSetObject) -> Result<(), OutOfMemory>
@@ -141,7 +167,7 @@ pub fn write_label_set(out: &mut Vec<u8>, x: &LabelSetObject) -> Result<(), OutO
     let len = 8 + 4 * count.max(1);
     out.reserve(len)?;
     put_header(out, len as u16, 36, 1);
-    put_u8(out, if x.include { 0 } else { 1 });
+    put_u8(out, action(x.include));
     put_u24(out, GENERALIZED);
     put_or_zero(out, &x.labels, count);
     Ok(())
