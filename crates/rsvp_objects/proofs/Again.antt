@@ -1,7 +1,7 @@
 -- What was written is read again.
-use Rattle.std.proofs.Common.{◌≡◌, ◌++◌, ℕ, ◌<◌, ◌^◌, ◌≤◌, [], ◌∷◌, None, Some, Option, refl, sym, arith}
+use Rattle.std.proofs.Common.{◌++◌, ◌<◌, ◌^◌, [], ◌∷◌, None, Some, Option, refl, sym, arith}
 use Rattle.byteorder.specs.Endian.{big_bytes}
-use Rattle.wire_buf.proofs.Numbers.{again_1, again_2, again_3, again_4}
+use Rattle.wire_buf.proofs.Numbers.{again_1, again_2, again_4}
 use Rattle.std.specs.Option.{option_to_list, IfSome}
 use Rattle.ason_base.specs.declared.ids.LinkId.{LinkId}
 use Rattle.ason_base.specs.declared.ids.NodeId.{NodeId}

@@ -1,12 +1,11 @@
 -- Sets of labels out of lists of numbers.
-use Rattle.std.proofs.Common.{◌≡◌, ℕ, zero, suc, ◌+◌, ◌-◌, ◌*◌, ◌%◌, ◌<◌, ◌≤◌, ◌^◌, ◌&&◌, ◌||◌, not, List, [], ◌∷◌, ◌++◌, length, drop, filter, Bool, true, false, cond, eqb, ltb, refl, ap, sym, subst, ◌∙◌, arith, append_assoc, All, length-append, zero-add, suc-add, max, inl, inr}
-use Rattle.std.specs.List.{list_any, flat_map}
+use Rattle.std.proofs.Common.{◌≡◌, ℕ, zero, suc, ◌+◌, ◌-◌, ◌*◌, ◌<◌, ◌≤◌, ◌^◌, ◌&&◌, ◌||◌, List, [], ◌∷◌, ◌++◌, length, drop, filter, Bool, true, false, cond, eqb, ltb, refl, ap, sym, ◌∙◌, arith, append_assoc, All, length-append, zero-add, suc-add, max, inl, inr}
 use Rattle.std.proofs.lemmas.List.{append-nil}
 use Rattle.std.proofs.lemmas.List.Elements.{filter-append, All-filter, All-nil, All-cons, All-head, All-tail}
 use Rattle.std.proofs.lemmas.List.Concat.{flat_map-cons, flat_map-append}
-use Rattle.std.proofs.lemmas.Bool.{eqb-true, eqb-false}
+use Rattle.std.proofs.lemmas.Bool.{eqb-true}
 use Rattle.ason_base.specs.Labels.{has, up_to, with_label, numbers_from}
-use Rattle.ason_base.proofs.MaskMembers.{has-filter, filter-agree, has-bound, has-numbers}
+use Rattle.ason_base.proofs.MaskMembers.{has-filter, filter-agree, has-bound}
 use Rattle.byteorder.specs.Endian.{big_number, big_bytes}
 use Rattle.wire_buf.specs.Objects.{header, object}
 use Rattle.wire_buf.proofs.Numbers.{again_4}
@@ -98,8 +97,8 @@ pub numbers_go_on : (bytes left after set more : List ℕ) (n : ℕ) → 4 ≤ l
 numbers_go_on bytes left after set more n long is_n is_after adds so_far = record {
   front = so_far.front ++ n ∷ [];
   whole =
-    so_far.whole ∙ ap (λ (l : List ℕ). so_far.front ++ l) (number_first left long ∙ ap (λ (k : ℕ). k ∷ numbers (drop 4 left)) (sym is_n) ∙ ap (λ (l : List ℕ). n ∷ numbers l) (sym is_after))
-    ∙ sym (append_assoc so_far.front (n ∷ []) (numbers after));
+      so_far.whole ∙ ap (λ (l : List ℕ). so_far.front ++ l) (number_first left long ∙ ap (λ (k : ℕ). k ∷ numbers (drop 4 left)) (sym is_n) ∙ ap (λ (l : List ℕ). n ∷ numbers l) (sym is_after))
+      ∙ sym (append_assoc so_far.front (n ∷ []) (numbers after));
   is = adds so_far.front so_far.is;
 }
 
@@ -142,8 +141,8 @@ pub range_takes : (low high n : ℕ) (s more : List ℕ) → s ≡ between_below
 range_takes low high n s more e inside adds =
     adds s (e ∙ is_among_itself (λ l. is_between low high l && ltb l n) ∙ ap among (sym e))
     ∙ filter-agree (has (s ++ n ∷ [])) (λ l. is_between low high l && ltb l (n + 1)) (up_to 80) (λ l h.
-        has_more s n l ∙ ap (λ (b : Bool). b || eqb n l) (ap (λ (t : List ℕ). has t l) e ∙ has-filter (λ l. is_between low high l && ltb l n) (up_to 80) l ∙ ap (λ (b : Bool). b && (is_between low high l && ltb l n)) h)
-        ∙ one_above (is_between low high l) l n (λ same. ap (is_between low high) (sym same) ∙ inside))
+    has_more s n l ∙ ap (λ (b : Bool). b || eqb n l) (ap (λ (t : List ℕ). has t l) e ∙ has-filter (λ l. is_between low high l && ltb l n) (up_to 80) l ∙ ap (λ (b : Bool). b && (is_between low high l && ltb l n)) h)
+    ∙ one_above (is_between low high l) l n (λ same. ap (is_between low high) (sym same) ∙ inside))
 
 pub range_skips : (low high n : ℕ) (s : List ℕ) → s ≡ between_below low high n → is_between low high n ≡ false → s ≡ between_below low high (n + 1)
 range_skips low high n s e outside = e ∙ filter-agree (λ l. is_between low high l && ltb l n) (λ l. is_between low high l && ltb l (n + 1)) (up_to 80) (λ l h.
@@ -189,7 +188,7 @@ pub below_few : (s : List ℕ) (n : ℕ) → n ≤ 81 → length (labels_below s
 below_few s n h =
     let whole : n - 1 + (80 - (n - 1)) ≡ 80 = omega arith in
     let apart : among s ≡ labels_below s n ++ filter (has s) (numbers_from (1 + (n - 1)) (80 - (n - 1))) =
-        ap (λ (m : ℕ). filter (has s) (up_to m)) (sym whole) ∙ ap (filter (has s)) (numbers_apart (n - 1) (80 - (n - 1)) 1) ∙ filter-append (has s) (up_to (n - 1)) (numbers_from (1 + (n - 1)) (80 - (n - 1))) in
+    ap (λ (m : ℕ). filter (has s) (up_to m)) (sym whole) ∙ ap (filter (has s)) (numbers_apart (n - 1) (80 - (n - 1)) 1) ∙ filter-append (has s) (up_to (n - 1)) (numbers_from (1 + (n - 1)) (80 - (n - 1))) in
     omega (arith, ap length apart, length-append (labels_below s n) (filter (has s) (numbers_from (1 + (n - 1)) (80 - (n - 1)))))
 
 pub none_below : (s : List ℕ) → labels_below s 1 ≡ []

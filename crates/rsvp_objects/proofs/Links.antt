@@ -1,8 +1,7 @@
 -- Bodies with TLVs behind their first eight bytes.
-use Rattle.std.proofs.Common.{◌≡◌, ℕ, ◌-◌, ◌≤◌, List, [], ◌∷◌, length, take, drop, Option, None, Some, ap, sym, subst, ◌∙◌, arith, length-drop}
+use Rattle.std.proofs.Common.{◌≡◌, ℕ, ◌-◌, List, length, take, drop, Option, None, Some, ap, sym, subst, ◌∙◌, arith, length-drop}
 use Rattle.std.proofs.lemmas.List.{take_all}
 use Rattle.ason_base.specs.declared.ids.LinkId.{LinkId}
-use Rattle.ason_base.specs.declared.ids.NodeId.{NodeId}
 use Rattle.wire_buf.specs.Objects.{number_at}
 use Rattle.rsvp_objects.specs.declared.error.ErrorSpec.{ErrorSpec}
 use Rattle.rsvp_objects.specs.declared.hop.HopObject.{HopObject}

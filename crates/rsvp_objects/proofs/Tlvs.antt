@@ -1,12 +1,11 @@
 -- Reading TLVs one after the other.
-use Rattle.std.proofs.Common.{◌≡◌, ℕ, zero, suc, ◌+◌, ◌-◌, ◌*◌, ◌/◌, ◌<◌, ◌≤◌, List, [], ◌∷◌, ◌++◌, length, take, drop, refl, ap, sym, subst, ◌∙◌, arith, append_assoc, length-drop, Bool, true, false, eqb, cond, Option, None, Some}
+use Rattle.std.proofs.Common.{◌≡◌, ℕ, ◌+◌, ◌-◌, ◌<◌, ◌≤◌, List, [], ◌∷◌, ◌++◌, length, take, drop, refl, ap, sym, subst, ◌∙◌, arith, length-drop, true, false, eqb, cond, Option, None, Some}
 use Rattle.std.proofs.lemmas.List.{append-nil, nil_from_length, length-take, drop-drop}
 use Rattle.std.proofs.lemmas.Bool.{eqb-true}
 use Rattle.std.specs.Option.{option_to_list}
 use Rattle.std.specs.List.{AllByRecursion}
 use Rattle.ason_base.specs.declared.ids.LinkId.{LinkId}
 use Rattle.byteorder.specs.Endian.{big_number}
-use Rattle.wire_buf.specs.Objects.{number_at}
 use Rattle.rsvp_objects.specs.Tlvs.{TypeValue, padded, room, BeginsTlv, AreTlvs, IsIfIndexSized, link_in, links_in, HasIfIndexes}
 
 -- the links that one TLV adds
@@ -58,18 +57,18 @@ pub skips : (bytes left after : List ℕ) (found : Option LinkId) (t : TypeValue
 skips bytes left after found t is other e so_far = subst (λ (l : List ℕ). ReadTlvs bytes l found) (sym e) (record {
   found = λ others has. so_far.found others (subst (λ (l : List LinkId). HasIfIndexes left (l ++ others)) (adds-none t other) (folds left t others is (λ k. absurd (other k)) has));
   only = λ links has.
-    let o = so_far.only links has in
-    let u = unfolds left t o.0 is o.2 in
-    (u.1.0, o.1 ∙ ap (λ (l : List LinkId). option_to_list found ++ l) (u.1.1 ∙ ap (λ (l : List LinkId). l ++ u.1.0) (adds-none t other)), u.1.2);
+      let o = so_far.only links has in
+      let u = unfolds left t o.0 is o.2 in
+      (u.1.0, o.1 ∙ ap (λ (l : List LinkId). option_to_list found ++ l) (u.1.1 ∙ ap (λ (l : List LinkId). l ++ u.1.0) (adds-none t other)), u.1.2);
 })
 
 pub takes : (bytes left after : List ℕ) (t : TypeValue) (link : LinkId) → BeginsTlv left t → t.kind ≡ 3 → length t.value ≡ 8 → link ≡ link_in t → after ≡ behind t left → ReadTlvs bytes left None → ReadTlvs bytes after (Some link)
 takes bytes left after t link is kind sized e1 e2 so_far = subst (λ (l : List ℕ). ReadTlvs bytes l (Some link)) (sym e2) (subst (λ (k : LinkId). ReadTlvs bytes (behind t left) (Some k)) (sym e1) (record {
   found = λ others has. so_far.found (link_in t ∷ others) (subst (λ (l : List LinkId). HasIfIndexes left (l ++ others)) (adds-one t kind) (folds left t others is (λ k. sized) has));
   only = λ links has.
-    let o = so_far.only links has in
-    let u = unfolds left t o.0 is o.2 in
-    (u.1.0, o.1 ∙ u.1.1 ∙ ap (λ (l : List LinkId). l ++ u.1.0) (adds-one t kind), u.1.2);
+      let o = so_far.only links has in
+      let u = unfolds left t o.0 is o.2 in
+      (u.1.0, o.1 ∙ u.1.1 ∙ ap (λ (l : List LinkId). l ++ u.1.0) (adds-one t kind), u.1.2);
 }))
 
 -- no TLV begins what is left
@@ -89,9 +88,9 @@ second bytes left found t is kind so_far link has =
     let o = so_far.only (option_to_list link) has in
     let u = unfolds left t o.0 is o.2 in
     too_many link (link_in t) u.1.0 (o.1 ∙ ap (λ (l : List LinkId). found ∷ l) (u.1.1 ∙ ap (λ (l : List LinkId). l ++ u.1.0) (adds-one t kind))) where
-  too_many : (link : Option LinkId) (b : LinkId) (others : List LinkId) → option_to_list link ≡ found ∷ b ∷ others → ⊥
-  too_many None b others e = absurd (omega (arith, ap length e))
-  too_many (Some l) b others e = absurd (omega (arith, ap length e))
+      too_many : (link : Option LinkId) (b : LinkId) (others : List LinkId) → option_to_list link ≡ found ∷ b ∷ others → ⊥
+      too_many None b others e = absurd (omega (arith, ap length e))
+      too_many (Some l) b others e = absurd (omega (arith, ap length e))
 
 none_left : (links : List LinkId) (others : List LinkId) (ts : List TypeValue) → AreTlvs [] ts → others ≡ links_in ts → links ++ others ≡ links
 none_left links others [] are e = ap (λ (l : List LinkId). links ++ l) e ∙ append-nil links
@@ -100,16 +99,17 @@ none_left links others (t ∷ ts) are e = absurd (omega (arith, are.0.2))
 pub ends : (bytes left : List ℕ) (found : Option LinkId) → length left ≡ 0 → ReadTlvs bytes left found
     → HasIfIndexes bytes (option_to_list found) × ((link : Option LinkId) → HasIfIndexes bytes (option_to_list link) → found ≡ link)
 ends bytes left found none so_far =
-    let empty : left ≡ [] = nil_from_length left none in
-    (subst (HasIfIndexes bytes) (append-nil (option_to_list found)) (so_far.found [] ([], empty, tt, refl)),
-     λ link has.
-       let o = so_far.only (option_to_list link) has in
-       same_option found link (sym (o.1 ∙ none_left (option_to_list found) o.0 o.2.0 (subst (λ (l : List ℕ). AreTlvs l o.2.0) empty o.2.1) o.2.3))) where
-  same_option : (a b : Option LinkId) → option_to_list a ≡ option_to_list b → a ≡ b
-  same_option None None e = refl
-  same_option None (Some y) e = absurd (omega (arith, ap length e))
-  same_option (Some x) None e = absurd (omega (arith, ap length e))
-  same_option (Some x) (Some y) e = cc
+    let empty : left ≡ [] = nil_from_length left none in (
+      subst (HasIfIndexes bytes) (append-nil (option_to_list found)) (so_far.found [] ([], empty, tt, refl)),
+      λ link has.
+          let o = so_far.only (option_to_list link) has in
+          same_option found link (sym (o.1 ∙ none_left (option_to_list found) o.0 o.2.0 (subst (λ (l : List ℕ). AreTlvs l o.2.0) empty o.2.1) o.2.3)),
+    ) where
+      same_option : (a b : Option LinkId) → option_to_list a ≡ option_to_list b → a ≡ b
+      same_option None None e = refl
+      same_option None (Some y) e = absurd (omega (arith, ap length e))
+      same_option (Some x) None e = absurd (omega (arith, ap length e))
+      same_option (Some x) (Some y) e = cc
 
 -- the fields of a TLV, read one after the other
 pub tlv_is_read : (bytes after1 after2 after3 after4 value : List ℕ) (kind len pad : ℕ) → kind ≡ big_number 2 bytes → after1 ≡ drop 2 bytes → len ≡ big_number 2 after1 → after2 ≡ drop 2 after1

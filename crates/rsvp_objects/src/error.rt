@@ -11,6 +11,7 @@ use byteorder::{BigEndian, ByteOrder};
 use wire_buf::{put_header, put_u8, put_u16, put_u32};
 
 const IPV4: u8 = 1;
+
 const IF_ID: u8 = 3;
 
 /// An error: the node that found it, flags, its code, and the link that it is about, if any.
@@ -124,5 +125,4 @@ pub fn write_error_ipv4(out: &mut Vec<u8>, x: &ErrorSpec) -> Result<(), OutOfMem
 pub fn errors_come_back()
     ensures if_id { (e : ErrorSpec) → HasWidths e → IsError (error_bytes e) e }
     ensures ipv4 { (e : ErrorSpec) → HasWidths e → e.link ≡ None → IsErrorIpv4 (spec_bytes e) e }
-{
-}
+{}

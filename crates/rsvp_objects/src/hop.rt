@@ -51,5 +51,4 @@ pub fn write_hop(out: &mut Vec<u8>, x: &HopObject) -> Result<(), OutOfMemory>
 /// Law: what is written of a hop is read as that hop again.
 pub fn hops_come_back()
     ensures { (h : HopObject) → h.sender.0 < 2 ^ 32 → h.link.0 < 2 ^ 32 → IsHop (hop_bytes h) h }
-{
-}
+{}

@@ -10,6 +10,7 @@ use byteorder::{BigEndian, ByteOrder};
 use wire_buf::{put_header, put_u8, put_u24, put_u32};
 
 const MESSAGE_ID: u8 = 23;
+
 const MESSAGE_ID_ACK: u8 = 24;
 
 /// The flag of a MESSAGE_ID that asks for an acknowledgement.
@@ -81,5 +82,4 @@ pub fn write_ack(out: &mut Vec<u8>, x: &MsgId) -> Result<(), OutOfMemory>
 /// Law: what is written of a number, with any flags, is read as that number again.
 pub fn ids_come_back()
     ensures { (flags : ℕ) (m : MsgId) → m.epoch < 2 ^ 24 → m.number < 2 ^ 32 → IsMsgId (msg_id_bytes flags m) m }
-{
-}
+{}

@@ -9,6 +9,7 @@ use byteorder::{BigEndian, ByteOrder};
 use wire_buf::{put_header, put_u32};
 
 const LABEL: u8 = 16;
+
 const UPSTREAM_LABEL: u8 = 35;
 
 fn label_of(body: &[u8]) -> Option<Label>
@@ -73,5 +74,4 @@ pub fn write_upstream(out: &mut Vec<u8>, x: &Label) -> Result<(), OutOfMemory>
 /// Law: what is written of a label is read as that label again.
 pub fn labels_come_back()
     ensures { (l : ℕ) → 1 ≤ l → l ≤ 80 → IsLabel (label_bytes l) l }
-{
-}
+{}

@@ -176,5 +176,4 @@ pub fn write_label_set(out: &mut Vec<u8>, x: &LabelSetObject) -> Result<(), OutO
 /// Law: what is written of a set of labels of 1 to 80, rising, is read as that set again.
 pub fn label_sets_come_back()
     ensures { (o : LabelSetObject) → o.labels ≡ among o.labels → IsLabelSet (label_set_bytes o) o }
-{
-}
+{}

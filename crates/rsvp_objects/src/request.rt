@@ -44,5 +44,4 @@ pub fn write_request(out: &mut Vec<u8>, _x: &LabelRequest) -> Result<(), OutOfMe
 /// Law: what is written of a request is read as a request again.
 pub fn requests_come_back()
     ensures { IsRequest request_bytes }
-{
-}
+{}

@@ -10,6 +10,7 @@ use byteorder::{BigEndian, ByteOrder};
 use wire_buf::{put_header, put_u16, put_u32};
 
 const FILTER_SPEC: u8 = 10;
+
 const SENDER_TEMPLATE: u8 = 11;
 
 /// The sender of an LSP: its ingress, and the LSP's number there.
@@ -82,5 +83,4 @@ pub fn write_sender(out: &mut Vec<u8>, x: &SenderRef) -> Result<(), OutOfMemory>
 /// Law: what is written of a sender is read as that sender again.
 pub fn senders_come_back()
     ensures { (s : SenderRef) → s.sender.0 < 2 ^ 32 → s.lsp < 2 ^ 16 → IsSenderRef (sender_bytes s) s }
-{
-}
+{}

@@ -50,5 +50,4 @@ pub fn write_association(out: &mut Vec<u8>, x: &Association) -> Result<(), OutOf
 /// Law: what is written of an association is read as that association again.
 pub fn associations_come_back()
     ensures { (a : Association) → a.kind < 2 ^ 16 → a.id < 2 ^ 16 → a.source < 2 ^ 32 → IsAssociation (association_bytes a) a }
-{
-}
+{}

@@ -91,5 +91,4 @@ pub fn write_protection(out: &mut Vec<u8>, x: &Protection) -> Result<(), OutOfMe
 /// Law: what is written of a protection is read as that protection again.
 pub fn protections_come_back()
     ensures { (p : Protection) → IsProtection (protection_bytes p) p }
-{
-}
+{}

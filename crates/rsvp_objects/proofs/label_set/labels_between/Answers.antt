@@ -1,4 +1,4 @@
-use Rattle.std.proofs.Common.{◌∙◌, sym, arith}
+use Rattle.std.proofs.Common.{◌∙◌, sym}
 use Rattle.rsvp_objects.proofs.Labels.{range_begins, range_takes, range_skips, range_ends}
 use Rattle.rsvp_objects.proofs.label_set.labels_between.Goals as goal
 use Rattle.rsvp_objects.proofs.label_set.labels_between.Goals.{then-is_inside, else-is_inside}

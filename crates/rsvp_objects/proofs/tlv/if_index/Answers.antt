@@ -1,4 +1,4 @@
-use Rattle.std.proofs.Common.{◌≡◌, arith}
+use Rattle.std.proofs.Common.{◌≡◌}
 use Rattle.wire_buf.proofs.Steps.{is_empty, not_empty}
 use Rattle.rsvp_objects.proofs.Tlvs.{skips, takes, breaks, wrong_size, second, ends}
 use Rattle.rsvp_objects.proofs.tlv.if_index.Goals as goal
