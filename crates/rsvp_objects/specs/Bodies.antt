@@ -22,14 +22,14 @@ IsSession body s = (length body ≡ 12) × (s ≡ record { endpoint = node_at 0 
 abbrev pub session_bytes : Session → List ℕ
 session_bytes s = big_bytes 4 s.endpoint.0 ++ big_bytes 2 0 ++ big_bytes 2 s.tunnel ++ big_bytes 4 s.extended
 
--- FILTER_SPEC and SENDER_TEMPLATE, LSP tunnel (RFC 3209, sections 4.6.2.1 and 4.6.3.1): sender, two bytes, LSP id
+-- SENDER_TEMPLATE and FILTER_SPEC, LSP tunnel (RFC 3209, sections 4.6.2.1 and 4.6.3.1): sender, two bytes, LSP id
 abbrev pub IsSenderRef : List ℕ → SenderRef → Type 0
 IsSenderRef body s = (length body ≡ 8) × (s ≡ record { sender = node_at 0 body; lsp = number_at 6 2 body })
 
 abbrev pub sender_bytes : SenderRef → List ℕ
 sender_bytes s = big_bytes 4 s.sender.0 ++ big_bytes 2 0 ++ big_bytes 2 s.lsp
 
--- LABEL and UPSTREAM_LABEL, generalized (RFC 3473, sections 2.3 and 3.1): the label, one of 1 to 80
+-- LABEL and UPSTREAM_LABEL, generalized (RFC 3473, sections 2.3 and 3): the label, one of 1 to 80
 abbrev pub IsLabel : List ℕ → ℕ → Type 0
 IsLabel body l = (length body ≡ 4) × (1 ≤ l) × (l ≤ 80) × (l ≡ number_at 0 4 body)
 

@@ -1,4 +1,4 @@
-//! LABEL and UPSTREAM_LABEL, generalized (RFC 3473, sections 2.3 and 3.1).
+//! LABEL and UPSTREAM_LABEL, generalized (RFC 3473, sections 2.3 and 3).
 
 ghost use Rattle.std.specs.Prelude.{◌≡◌, ◌≤◌, ◌<◌, ◌+◌, ◌++◌, ℕ, Some, IfSome, OnErr, OnOk, vec_len, vec_capacity};
 ghost use Rattle.wire_buf.specs.Objects.{object};

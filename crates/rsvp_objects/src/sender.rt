@@ -1,4 +1,4 @@
-//! FILTER_SPEC and SENDER_TEMPLATE of an LSP tunnel (RFC 3209, sections 4.6.2.1 and 4.6.3.1).
+//! SENDER_TEMPLATE and FILTER_SPEC of an LSP tunnel (RFC 3209, sections 4.6.2.1 and 4.6.3.1).
 
 ghost use Rattle.std.specs.Prelude.{◌≡◌, ◌<◌, ◌+◌, ◌^◌, ◌++◌, Some, IfSome, OnErr, OnOk, vec_len, vec_capacity};
 ghost use Rattle.wire_buf.specs.Objects.{object};
