@@ -1,0 +1,4 @@
+pub mod Again
+pub mod Labels
+pub mod Links
+pub mod Tlvs

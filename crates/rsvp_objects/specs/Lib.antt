@@ -1,0 +1,4 @@
+pub mod Bodies
+pub mod LabelSets
+pub mod Seen
+pub mod Tlvs

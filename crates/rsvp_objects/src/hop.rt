@@ -1,0 +1,54 @@
+//! RSVP_HOP with an interface (RFC 3473, section 8.1.1).
+
+ghost use Rattle.std.specs.Prelude.{◌≡◌, ◌<◌, ◌+◌, ◌^◌, ◌++◌, Some, IfSome, OnErr, OnOk, vec_len, vec_capacity};
+ghost use Rattle.wire_buf.specs.Objects.{object};
+ghost use Rattle.rsvp_objects.specs.declared.hop.HopObject.{HopObject};
+ghost use Rattle.rsvp_objects.specs.Bodies.{IsHop, hop_bytes};
+
+use crate::tlv::{one_if_index, put_if_index};
+use ason_base::{LinkId, NodeId, OutOfMemory};
+use byteorder::{BigEndian, ByteOrder};
+use wire_buf::{put_header, put_u32};
+
+/// The sender of a message, and the link that it sends over.
+#[derive(Clone, Copy, Debug, PartialEq, Eq, Drop)]
+pub struct HopObject {
+    pub sender: NodeId,
+    pub link: LinkId,
+}
+
+/// The hop of an RSVP_HOP's body. None exactly where the body is none, as where it has no IF_INDEX or two.
+pub fn read_hop(body: &[u8]) -> Option<HopObject>
+    ensures found { IfSome result (IsHop body.now) }
+    ensures only { (h : HopObject) → IsHop body.now h → result ≡ Some h }
+{
+    if body.len() < 8 {
+        return None;
+    }
+    match one_if_index(&body[8..]) {
+        Some(link) => Some(HopObject {
+            sender: NodeId(BigEndian::read_u32(body)),
+            link,
+        }),
+        None => None,
+    }
+}
+
+/// Appends the RSVP_HOP object. The sender is its address and that of its IF_INDEX.
+pub fn write_hop(out: &mut Vec<u8>, x: &HopObject) -> Result<(), OutOfMemory>
+    ensures ok { OnOk result (out.new.items ≡ out.old.items ++ object 3 3 (hop_bytes x.now)) }
+    ensures err { OnErr result (out.new.items ≡ out.old.items) }
+    ensures full { OnErr result (vec_capacity out.old < vec_len out.old + 24) }
+{
+    out.reserve(24)?;
+    put_header(out, 24, 3, 3);
+    put_u32(out, x.sender.0);
+    put_u32(out, 0);
+    put_if_index(out, x.sender, x.link);
+    Ok(())
+}
+
+/// Law: what is written of a hop is read as that hop again.
+pub fn hops_come_back()
+    ensures { (h : HopObject) → h.sender.0 < 2 ^ 32 → h.link.0 < 2 ^ 32 → IsHop (hop_bytes h) h }
+{}

@@ -1,0 +1,85 @@
+//! MESSAGE_ID and MESSAGE_ID_ACK (RFC 2961, sections 4.2 and 4.3).
+
+ghost use Rattle.std.specs.Prelude.{◌≡◌, ◌<◌, ◌+◌, ◌^◌, ◌++◌, ℕ, Some, IfSome, OnErr, OnOk, vec_len, vec_capacity};
+ghost use Rattle.ason_base.specs.declared.messages.MsgId.{MsgId};
+ghost use Rattle.wire_buf.specs.Objects.{object};
+ghost use Rattle.rsvp_objects.specs.Bodies.{IsMsgId, msg_id_bytes};
+
+use ason_base::{MsgId, OutOfMemory};
+use byteorder::{BigEndian, ByteOrder};
+use wire_buf::{put_header, put_u8, put_u24, put_u32};
+
+const MESSAGE_ID: u8 = 23;
+
+const MESSAGE_ID_ACK: u8 = 24;
+
+/// The flag of a MESSAGE_ID that asks for an acknowledgement.
+const ACK_DESIRED: u8 = 1;
+
+fn id_of(body: &[u8]) -> Option<MsgId>
+    ensures found { IfSome result (IsMsgId body.now) }
+    ensures only { (m : MsgId) → IsMsgId body.now m → result ≡ Some m }
+{
+    if body.len() != 8 {
+        return None;
+    }
+    Some(MsgId {
+        epoch: BigEndian::read_u24(&body[1..]),
+        number: BigEndian::read_u32(&body[4..]),
+    })
+}
+
+fn write_as(out: &mut Vec<u8>, class: u8, flags: u8, x: &MsgId) -> Result<(), OutOfMemory>
+    requires { x.now.epoch < 2 ^ 24 }
+    ensures ok { OnOk result (out.new.items ≡ out.old.items ++ object class 1 (msg_id_bytes flags x.now)) }
+    ensures err { OnErr result (out.new.items ≡ out.old.items) }
+    ensures full { OnErr result (vec_capacity out.old < vec_len out.old + 12) }
+{
+    out.reserve(12)?;
+    put_header(out, 12, class, 1);
+    put_u8(out, flags);
+    put_u24(out, x.epoch);
+    put_u32(out, x.number);
+    Ok(())
+}
+
+/// The number of a MESSAGE_ID's body. None exactly where the body is none.
+pub fn read_id(body: &[u8]) -> Option<MsgId>
+    ensures found { IfSome result (IsMsgId body.now) }
+    ensures only { (m : MsgId) → IsMsgId body.now m → result ≡ Some m }
+{
+    id_of(body)
+}
+
+/// Appends the MESSAGE_ID object, which asks for an acknowledgement.
+pub fn write_id(out: &mut Vec<u8>, x: &MsgId) -> Result<(), OutOfMemory>
+    requires { x.now.epoch < 2 ^ 24 }
+    ensures ok { OnOk result (out.new.items ≡ out.old.items ++ object 23 1 (msg_id_bytes 1 x.now)) }
+    ensures err { OnErr result (out.new.items ≡ out.old.items) }
+    ensures full { OnErr result (vec_capacity out.old < vec_len out.old + 12) }
+{
+    write_as(out, MESSAGE_ID, ACK_DESIRED, x)
+}
+
+/// The number of a MESSAGE_ID_ACK's body. None exactly where the body is none.
+pub fn read_ack(body: &[u8]) -> Option<MsgId>
+    ensures found { IfSome result (IsMsgId body.now) }
+    ensures only { (m : MsgId) → IsMsgId body.now m → result ≡ Some m }
+{
+    id_of(body)
+}
+
+/// Appends the MESSAGE_ID_ACK object.
+pub fn write_ack(out: &mut Vec<u8>, x: &MsgId) -> Result<(), OutOfMemory>
+    requires { x.now.epoch < 2 ^ 24 }
+    ensures ok { OnOk result (out.new.items ≡ out.old.items ++ object 24 1 (msg_id_bytes 0 x.now)) }
+    ensures err { OnErr result (out.new.items ≡ out.old.items) }
+    ensures full { OnErr result (vec_capacity out.old < vec_len out.old + 12) }
+{
+    write_as(out, MESSAGE_ID_ACK, 0, x)
+}
+
+/// Law: what is written of a number, with any flags, is read as that number again.
+pub fn ids_come_back()
+    ensures { (flags : ℕ) (m : MsgId) → m.epoch < 2 ^ 24 → m.number < 2 ^ 32 → IsMsgId (msg_id_bytes flags m) m }
+{}

@@ -1,0 +1,77 @@
+//! LABEL and UPSTREAM_LABEL, generalized (RFC 3473, sections 2.3 and 3).
+
+ghost use Rattle.std.specs.Prelude.{◌≡◌, ◌≤◌, ◌<◌, ◌+◌, ◌++◌, ℕ, Some, IfSome, OnErr, OnOk, vec_len, vec_capacity};
+ghost use Rattle.wire_buf.specs.Objects.{object};
+ghost use Rattle.rsvp_objects.specs.Bodies.{IsLabel, label_bytes};
+
+use ason_base::{Label, OutOfMemory};
+use byteorder::{BigEndian, ByteOrder};
+use wire_buf::{put_header, put_u32};
+
+const LABEL: u8 = 16;
+
+const UPSTREAM_LABEL: u8 = 35;
+
+fn label_of(body: &[u8]) -> Option<Label>
+    ensures found { IfSome result (IsLabel body.now) }
+    ensures only { (l : ℕ) → IsLabel body.now l → result ≡ Some l }
+{
+    if body.len() != 4 {
+        return None;
+    }
+    let number = BigEndian::read_u32(body);
+    if number > 80 {
+        return None;
+    }
+    Label::new(number as u8)
+}
+
+fn write_as(out: &mut Vec<u8>, class: u8, x: &Label) -> Result<(), OutOfMemory>
+    ensures ok { OnOk result (out.new.items ≡ out.old.items ++ object class 2 (label_bytes x.now)) }
+    ensures err { OnErr result (out.new.items ≡ out.old.items) }
+    ensures full { OnErr result (vec_capacity out.old < vec_len out.old + 8) }
+{
+    out.reserve(8)?;
+    put_header(out, 8, class, 2);
+    put_u32(out, u32::from(x.number()));
+    Ok(())
+}
+
+/// The label of a LABEL's body. None exactly where the body is none, as where the label isn't 1 to 80.
+pub fn read_label(body: &[u8]) -> Option<Label>
+    ensures found { IfSome result (IsLabel body.now) }
+    ensures only { (l : ℕ) → IsLabel body.now l → result ≡ Some l }
+{
+    label_of(body)
+}
+
+/// Appends the LABEL object.
+pub fn write_label(out: &mut Vec<u8>, x: &Label) -> Result<(), OutOfMemory>
+    ensures ok { OnOk result (out.new.items ≡ out.old.items ++ object 16 2 (label_bytes x.now)) }
+    ensures err { OnErr result (out.new.items ≡ out.old.items) }
+    ensures full { OnErr result (vec_capacity out.old < vec_len out.old + 8) }
+{
+    write_as(out, LABEL, x)
+}
+
+/// The label of an UPSTREAM_LABEL's body. None exactly where the body is none, as where the label isn't 1 to 80.
+pub fn read_upstream(body: &[u8]) -> Option<Label>
+    ensures found { IfSome result (IsLabel body.now) }
+    ensures only { (l : ℕ) → IsLabel body.now l → result ≡ Some l }
+{
+    label_of(body)
+}
+
+/// Appends the UPSTREAM_LABEL object.
+pub fn write_upstream(out: &mut Vec<u8>, x: &Label) -> Result<(), OutOfMemory>
+    ensures ok { OnOk result (out.new.items ≡ out.old.items ++ object 35 2 (label_bytes x.now)) }
+    ensures err { OnErr result (out.new.items ≡ out.old.items) }
+    ensures full { OnErr result (vec_capacity out.old < vec_len out.old + 8) }
+{
+    write_as(out, UPSTREAM_LABEL, x)
+}
+
+/// Law: what is written of a label is read as that label again.
+pub fn labels_come_back()
+    ensures { (l : ℕ) → 1 ≤ l → l ≤ 80 → IsLabel (label_bytes l) l }
+{}

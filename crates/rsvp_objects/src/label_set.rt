@@ -1,0 +1,179 @@
+//! LABEL_SET (RFC 3473, section 2.6; RFC 3471, section 3.5).
+
+ghost use Rattle.std.specs.Prelude.{◌≡◌, ◌≤◌, ◌<◌, ◌+◌, ◌*◌, ◌++◌, [], ◌∷◌, ℕ, List, length, Some, IfSome, SomeIff, OnErr, OnOk, vec_len, vec_capacity};
+ghost use Rattle.ason_base.specs.Labels.{has};
+ghost use Rattle.wire_buf.specs.Objects.{object};
+ghost use Rattle.rsvp_objects.specs.declared.label_set.LabelSetObject.{LabelSetObject};
+ghost use Rattle.rsvp_objects.specs.LabelSets.{HasLabels, IsLabelSet, action_of, among, between, is_between, label_set_bytes, labels_bytes, listed, numbers, or_zero, ranged};
+
+use ason_base::{Label, LabelSet, OutOfMemory};
+use byteorder::{BigEndian, ByteOrder};
+use wire_buf::{Cursor, put_header, put_u8, put_u24, put_u32};
+
+/// The label type of a generalized label.
+const GENERALIZED: u32 = 2;
+
+/// The labels that a Path includes or excludes.
+#[derive(Debug, Drop)]
+pub struct LabelSetObject {
+    pub include: bool,
+    pub labels: LabelSet,
+}
+
+// The set, and the label of this number, if it is one.
+fn with_number(set: LabelSet, n: u32) -> LabelSet
+    ensures { (front : List ℕ) → set ≡ among front → result ≡ among (front ++ n ∷ []) }
+{
+    if n > 80 {
+        return set;
+    }
+    match Label::new(n as u8) {
+        Some(label) => set.with(label),
+        None => set,
+    }
+}
+
+fn labels_among(labels: &[u8]) -> LabelSet
+    ensures { result ≡ among (numbers labels.now) }
+{
+    let mut cursor = Cursor::new(labels);
+    let mut set = LabelSet::upto(0);
+    'labels: while let Some(n) = cursor.u32() {
+        set = with_number(set, n);
+    }
+    set
+}
+
+fn labels_between(low: u32, high: u32) -> LabelSet
+    ensures { result ≡ between low high }
+{
+    let mut set = LabelSet::upto(0);
+    'labels: for n in 1..81u32 {
+        if is_inside(low, high, n) {
+            set = with_number(set, n);
+        }
+    }
+    set
+}
+
+fn is_inside(low: u32, high: u32, n: u32) -> bool
+    ensures { result ≡ is_between low high n }
+{
+    (low == 0 || low <= n) && (high == 0 || n <= high)
+}
+
+// What a body with the labels of a list includes or excludes.
+fn read_list(body: &[u8], include: bool) -> Option<LabelSetObject>
+    ensures { SomeIff result (HasLabels body.now) (listed include body.now) }
+{
+    if body.len() < 8 || body.len() % 4 != 0 {
+        return None;
+    }
+    let (_, labels) = body.split_at(4);
+    let labels = labels_among(labels);
+    Some(LabelSetObject { include, labels })
+}
+
+// What a body with the two ends of a range includes or excludes.
+fn read_range(body: &[u8], include: bool) -> Option<LabelSetObject>
+    ensures { SomeIff result (length body.now ≡ 12) (ranged include body.now) }
+{
+    if body.len() != 12 {
+        return None;
+    }
+    let low = BigEndian::read_u32(&body[4..]);
+    let high = BigEndian::read_u32(&body[8..]);
+    let labels = labels_between(low, high);
+    Some(LabelSetObject { include, labels })
+}
+
+/// What a LABEL_SET's body includes or excludes. None exactly where the body is none: its action isn't 0 to 3, it has no
+/// label, a label isn't whole, or a range hasn't exactly two.
+pub fn read_label_set(body: &[u8]) -> Option<LabelSetObject>
+    ensures found { IfSome result (IsLabelSet body.now) }
+    ensures only { (o : LabelSetObject) → IsLabelSet body.now o → result ≡ Some o }
+{
+    match body {
+        [0, ..] => read_list(body, true),
+        [1, ..] => read_list(body, false),
+        [2, ..] => read_range(body, true),
+        [3, ..] => read_range(body, false),
+        _ => None,
+    }
+}
+
+fn holds(set: &LabelSet, n: u8) -> bool
+    requires some { 1 ≤ n }
+    requires few { n ≤ 80 }
+    ensures { result ≡ has set.now n }
+{
+    match Label::new(n) {
+        Some(label) => set.has(label),
+        None => false,
+    }
+}
+
+fn count(set: &LabelSet) -> usize
+    ensures value { result ≡ length (among set.now) }
+    ensures small { result ≤ 80 }
+{
+    let mut count = 0;
+    'labels: for n in 1..81u8 {
+        if holds(set, n) {
+            count += 1;
+        }
+    }
+    count
+}
+
+fn put_labels(out: &mut Vec<u8>, set: &LabelSet)
+    requires { vec_len out.old + 4 * length (among set.now) ≤ vec_capacity out.old }
+    ensures { out.new.items ≡ out.old.items ++ labels_bytes (among set.now) }
+{
+    'labels: for n in 1..81u8 {
+        if holds(set, n) {
+            put_u32(out, u32::from(n));
+        }
+    }
+}
+
+// Appends the labels, or a 0 where there is none.
+fn put_or_zero(out: &mut Vec<u8>, set: &LabelSet, count: usize)
+    requires count { count ≡ length (among set.now) }
+    requires room { vec_len out.old + 4 * length (or_zero (among set.now)) ≤ vec_capacity out.old }
+    ensures { out.new.items ≡ out.old.items ++ labels_bytes (or_zero (among set.now)) }
+{
+    if count == 0 {
+        put_u32(out, 0);
+    } else {
+        put_labels(out, set);
+    }
+}
+
+fn action(include: bool) -> u8
+    ensures { result ≡ action_of include }
+{
+    if include { 0 } else { 1 }
+}
+
+/// Appends the LABEL_SET object, with action 0 or 1 and the labels rising. A set without labels is written as the one label
+/// 0, which names none.
+pub fn write_label_set(out: &mut Vec<u8>, x: &LabelSetObject) -> Result<(), OutOfMemory>
+    ensures ok { OnOk result (out.new.items ≡ out.old.items ++ object 36 1 (label_set_bytes x.now)) }
+    ensures err { OnErr result (out.new.items ≡ out.old.items) }
+    ensures full { OnErr result (vec_capacity out.old < vec_len out.old + (8 + 4 * length (or_zero (among x.now.labels)))) }
+{
+    let count = count(&x.labels);
+    let len = 8 + 4 * count.max(1);
+    out.reserve(len)?;
+    put_header(out, len as u16, 36, 1);
+    put_u8(out, action(x.include));
+    put_u24(out, GENERALIZED);
+    put_or_zero(out, &x.labels, count);
+    Ok(())
+}
+
+/// Law: what is written of a set of labels of 1 to 80, rising, is read as that set again.
+pub fn label_sets_come_back()
+    ensures { (o : LabelSetObject) → o.labels ≡ among o.labels → IsLabelSet (label_set_bytes o) o }
+{}

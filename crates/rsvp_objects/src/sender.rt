@@ -1,0 +1,86 @@
+//! SENDER_TEMPLATE and FILTER_SPEC of an LSP tunnel (RFC 3209, sections 4.6.2.1 and 4.6.3.1).
+
+ghost use Rattle.std.specs.Prelude.{◌≡◌, ◌<◌, ◌+◌, ◌^◌, ◌++◌, Some, IfSome, OnErr, OnOk, vec_len, vec_capacity};
+ghost use Rattle.wire_buf.specs.Objects.{object};
+ghost use Rattle.rsvp_objects.specs.declared.sender.SenderRef.{SenderRef};
+ghost use Rattle.rsvp_objects.specs.Bodies.{IsSenderRef, sender_bytes};
+
+use ason_base::{NodeId, OutOfMemory};
+use byteorder::{BigEndian, ByteOrder};
+use wire_buf::{put_header, put_u16, put_u32};
+
+const FILTER_SPEC: u8 = 10;
+
+const SENDER_TEMPLATE: u8 = 11;
+
+/// The sender of an LSP: its ingress, and the LSP's number there.
+#[derive(Clone, Copy, Debug, PartialEq, Eq, Drop)]
+pub struct SenderRef {
+    pub sender: NodeId,
+    pub lsp: u16,
+}
+
+fn sender_of(body: &[u8]) -> Option<SenderRef>
+    ensures found { IfSome result (IsSenderRef body.now) }
+    ensures only { (s : SenderRef) → IsSenderRef body.now s → result ≡ Some s }
+{
+    if body.len() != 8 {
+        return None;
+    }
+    Some(SenderRef {
+        sender: NodeId(BigEndian::read_u32(body)),
+        lsp: BigEndian::read_u16(&body[6..]),
+    })
+}
+
+fn write_as(out: &mut Vec<u8>, class: u8, x: &SenderRef) -> Result<(), OutOfMemory>
+    ensures ok { OnOk result (out.new.items ≡ out.old.items ++ object class 7 (sender_bytes x.now)) }
+    ensures err { OnErr result (out.new.items ≡ out.old.items) }
+    ensures full { OnErr result (vec_capacity out.old < vec_len out.old + 12) }
+{
+    out.reserve(12)?;
+    put_header(out, 12, class, 7);
+    put_u32(out, x.sender.0);
+    put_u16(out, 0);
+    put_u16(out, x.lsp);
+    Ok(())
+}
+
+/// The sender of a FILTER_SPEC's body. None exactly where the body is none.
+pub fn read_filter(body: &[u8]) -> Option<SenderRef>
+    ensures found { IfSome result (IsSenderRef body.now) }
+    ensures only { (s : SenderRef) → IsSenderRef body.now s → result ≡ Some s }
+{
+    sender_of(body)
+}
+
+/// Appends the FILTER_SPEC object.
+pub fn write_filter(out: &mut Vec<u8>, x: &SenderRef) -> Result<(), OutOfMemory>
+    ensures ok { OnOk result (out.new.items ≡ out.old.items ++ object 10 7 (sender_bytes x.now)) }
+    ensures err { OnErr result (out.new.items ≡ out.old.items) }
+    ensures full { OnErr result (vec_capacity out.old < vec_len out.old + 12) }
+{
+    write_as(out, FILTER_SPEC, x)
+}
+
+/// The sender of a SENDER_TEMPLATE's body. None exactly where the body is none.
+pub fn read_sender(body: &[u8]) -> Option<SenderRef>
+    ensures found { IfSome result (IsSenderRef body.now) }
+    ensures only { (s : SenderRef) → IsSenderRef body.now s → result ≡ Some s }
+{
+    sender_of(body)
+}
+
+/// Appends the SENDER_TEMPLATE object.
+pub fn write_sender(out: &mut Vec<u8>, x: &SenderRef) -> Result<(), OutOfMemory>
+    ensures ok { OnOk result (out.new.items ≡ out.old.items ++ object 11 7 (sender_bytes x.now)) }
+    ensures err { OnErr result (out.new.items ≡ out.old.items) }
+    ensures full { OnErr result (vec_capacity out.old < vec_len out.old + 12) }
+{
+    write_as(out, SENDER_TEMPLATE, x)
+}
+
+/// Law: what is written of a sender is read as that sender again.
+pub fn senders_come_back()
+    ensures { (s : SenderRef) → s.sender.0 < 2 ^ 32 → s.lsp < 2 ^ 16 → IsSenderRef (sender_bytes s) s }
+{}

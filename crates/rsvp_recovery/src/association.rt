@@ -1,0 +1,53 @@
+//! ASSOCIATION (RFC 4872, section 16.1).
+
+ghost use Rattle.std.specs.Prelude.{◌≡◌, ◌<◌, ◌+◌, ◌^◌, ◌++◌, Some, IfSome, OnErr, OnOk, vec_len, vec_capacity};
+ghost use Rattle.wire_buf.specs.Objects.{object};
+ghost use Rattle.rsvp_recovery.specs.declared.association.Association.{Association};
+ghost use Rattle.rsvp_recovery.specs.Bodies.{IsAssociation, association_bytes};
+
+use ason_base::OutOfMemory;
+use byteorder::{BigEndian, ByteOrder};
+use wire_buf::{put_header, put_u16, put_u32};
+
+/// What ties LSPs together: the type of association, its id, and the source that gave the id. In recovery (type 1) the id is
+/// the number of the LSP that is protected.
+#[derive(Clone, Copy, Debug, PartialEq, Eq, Drop)]
+pub struct Association {
+    pub kind: u16,
+    pub id: u16,
+    pub source: u32,
+}
+
+/// The association of an ASSOCIATION's body. None exactly where the body is none.
+pub fn read_association(body: &[u8]) -> Option<Association>
+    ensures found { IfSome result (IsAssociation body.now) }
+    ensures only { (a : Association) → IsAssociation body.now a → result ≡ Some a }
+{
+    if body.len() != 8 {
+        return None;
+    }
+    Some(Association {
+        kind: BigEndian::read_u16(body),
+        id: BigEndian::read_u16(&body[2..]),
+        source: BigEndian::read_u32(&body[4..]),
+    })
+}
+
+/// Appends the ASSOCIATION object.
+pub fn write_association(out: &mut Vec<u8>, x: &Association) -> Result<(), OutOfMemory>
+    ensures ok { OnOk result (out.new.items ≡ out.old.items ++ object 199 1 (association_bytes x.now)) }
+    ensures err { OnErr result (out.new.items ≡ out.old.items) }
+    ensures full { OnErr result (vec_capacity out.old < vec_len out.old + 12) }
+{
+    out.reserve(12)?;
+    put_header(out, 12, 199, 1);
+    put_u16(out, x.kind);
+    put_u16(out, x.id);
+    put_u32(out, x.source);
+    Ok(())
+}
+
+/// Law: what is written of an association is read as that association again.
+pub fn associations_come_back()
+    ensures { (a : Association) → a.kind < 2 ^ 16 → a.id < 2 ^ 16 → a.source < 2 ^ 32 → IsAssociation (association_bytes a) a }
+{}
