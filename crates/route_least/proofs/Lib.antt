@@ -1,2 +1,5 @@
+pub mod ArcList
 pub mod Lowered
+pub mod NodeOrder
+pub mod NodeSet
 pub mod Tables
