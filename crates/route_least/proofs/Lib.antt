@@ -1,5 +1,10 @@
 pub mod ArcList
+pub mod BestArc
+pub mod Following
+pub mod GraphLaws
+pub mod Listing
 pub mod Lowered
 pub mod NodeOrder
 pub mod NodeSet
 pub mod Tables
+pub mod WalkLaws

@@ -1,2 +1,4 @@
 pub mod Costs
 pub mod Graph
+pub mod Routes
+pub mod Trace

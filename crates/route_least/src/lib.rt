@@ -5,6 +5,9 @@ pub mod lists;
 
 mod arcs;
 mod costs;
+mod graph;
 mod nodes;
+mod potentials;
+mod trace;
 
-pub use lists::{LinkIds, NodeIds, Potentials};
+pub use lists::{Banned, LinkIds, NodeIds, Potentials};

@@ -129,3 +129,12 @@ impl Potentials {
         &self.entries
     }
 }
+
+/// What a walk must keep off.
+#[derive(Debug, Drop)]
+pub struct Banned {
+    /// Links that it must not use.
+    pub links: LinkIds,
+    /// Nodes that it must not visit after its start.
+    pub nodes: NodeIds,
+}
