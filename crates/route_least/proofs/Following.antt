@@ -1,5 +1,5 @@
 -- Where the costs to the end lead on.
-use Rattle.std.proofs.Common.{◌≡◌, ◌≢◌, ◌⊎◌, inl, inr, ℕ, ◌+◌, ◌<◌, ◌≤◌, List, [], ◌∷◌, ◌++◌, All, Option, Some, None, MatchOption, length, map, get_or, slice_get, refl, sym, ◌∙◌, ap, subst, arith}
+use Rattle.std.proofs.Common.{◌≡◌, ◌≢◌, ℕ, ◌+◌, ◌<◌, ◌≤◌, List, [], ◌∷◌, ◌++◌, Option, Some, length, map, get_or, refl, sym, ◌∙◌, ap, subst, arith}
 use Rattle.std.specs.List.{Contains}
 use Rattle.std.proofs.lemmas.List.{get_or-map, length-map}
 use Rattle.std.proofs.lemmas.List.Elements.{All-contains}
@@ -8,7 +8,7 @@ use Rattle.ason_base.specs.declared.steps.Step.{Step}
 use Rattle.route_least.specs.declared.arcs.Arc.{Arc}
 use Rattle.route_least.specs.Costs.{cost_at, height, turned, AreLeast, IsSettled, IsWithin, Reach}
 use Rattle.route_least.specs.Costs.Reach.{Start, Onward}
-use Rattle.route_least.specs.Trace.{Follows, IsBest, IsTight, IsTrace}
+use Rattle.route_least.specs.Trace.{Follows, IsTight, IsTrace}
 use Rattle.route_least.proofs.Listing.{some_same}
 
 -- a turned arc of the list is an arc of it, turned
@@ -19,10 +19,11 @@ turned_known arcs arc known =
     (known.0, within, ap turned same)
 
 pub known_turned : (arcs : List Arc) (arc : Arc) → Contains arcs arc → Contains (map turned arcs) (turned arc)
-known_turned arcs arc known =
-    ( known.0
-    , subst (λ n. known.0 < n) (sym (length-map arcs turned)) known.1
-    , get_or-map turned arcs known.0 arc (turned arc) known.1 ∙ ap turned known.2 )
+known_turned arcs arc known = (
+  known.0,
+  subst (λ n. known.0 < n) (sym (length-map arcs turned)) known.1,
+  get_or-map turned arcs known.0 arc (turned arc) known.1 ∙ ap turned known.2,
+)
 
 -- from a place that isn't the end, an arc is tight
 tight_on : (arcs : List Arc) (end : ℕ) (costs : List (Option ℕ)) → AreLeast (map turned arcs) end costs → (place cost : ℕ) → Reach (map turned arcs) end place cost → cost_at costs place ≡ Some cost → place ≢ end → (arc : Arc) × Contains arcs arc × IsTight costs place arc
@@ -31,15 +32,16 @@ tight_on arcs end costs are _ _ (Onward back cost known way) has other =
     let before = are.least back.tail cost way in
     let after = All-contains (IsSettled costs) (map turned arcs) back are.settled known before.0 before.1 in
     let same : after.0 ≡ cost + back.metric = some_same (sym after.1 ∙ has) in
-    let exact : cost ≡ before.0 = (let a : after.0 ≤ before.0 + back.metric = after.2 in let b : before.0 ≤ cost = before.2 in omega arith) in
-    ( turned back
-    , turned_known arcs back known
-    , record {
+    let exact : cost ≡ before.0 = (let a : after.0 ≤ before.0 + back.metric = after.2 in let b : before.0 ≤ cost = before.2 in omega arith) in (
+      turned back,
+      turned_known arcs back known,
+      record {
         tail = refl;
         cost = before.0;
         head = before.1;
         fall = has ∙ ap (λ c. Some (c + back.metric)) exact;
-      } )
+      },
+    )
 
 pub tight_there : (arcs : List Arc) (end : ℕ) (costs : List (Option ℕ)) → AreLeast (map turned arcs) end costs → (place cost : ℕ) → cost_at costs place ≡ Some cost → place ≢ end → (arc : Arc) × Contains arcs arc × IsTight costs place arc
 tight_there arcs end costs are place cost has other = tight_on arcs end costs are place cost (are.attained place cost has) has other

@@ -1,7 +1,7 @@
 -- What a graph of rows has.
-use Rattle.std.proofs.Common.{◌≡◌, ◌⊎◌, inl, inr, ℕ, ◌<◌, ◌≤◌, List, All, Some, length, get_or, slice_get, refl, sym, subst}
+use Rattle.std.proofs.Common.{inl, inr, ◌≤◌, List, All, length, get_or, refl, sym, subst}
 use Rattle.std.specs.List.{Contains}
-use Rattle.std.proofs.lemmas.List.Elements.{All-contains, All-get_or, Contains-get_or}
+use Rattle.std.proofs.lemmas.List.Elements.{All-contains, Contains-get_or}
 use Rattle.std.proofs.lemmas.Option.{slice_get_within}
 use Rattle.ason_base.specs.Walks.{HaveMetrics}
 use Rattle.ason_base.specs.declared.ids.LinkId.{LinkId}

@@ -1,5 +1,5 @@
 -- The set of the nodes of rows, as rows are added.
-use Rattle.std.proofs.Common.{◌≡◌, ◌⊎◌, ◌↔◌, inl, inr, ℕ, ◌+◌, ◌<◌, ◌≤◌, Bool, true, false, cond, List, [], ◌∷◌, ◌++◌, All, length, get_or, take, refl, sym, ◌∙◌, ap, subst, arith}
+use Rattle.std.proofs.Common.{◌≡◌, ◌⊎◌, ◌↔◌, inl, inr, ℕ, ◌+◌, ◌<◌, ◌≤◌, Bool, true, false, cond, List, [], ◌∷◌, ◌++◌, length, get_or, take, refl, sym, ◌∙◌, ap, subst, arith}
 use Rattle.std.specs.BTreeMap.{is_at}
 use Rattle.std.specs.BTreeSet.{BTreeSet, contains, Updates}
 use Rattle.std.specs.List.{Contains}
@@ -25,14 +25,16 @@ in_head x xs = Contains-append_left (x ∷ []) xs x (Contains-push [] x)
 
 among : (rows : List TeRow) (from to n : NodeId) (few : HaveFewEnds rows) → IsNode rows from to n → Contains (from ∷ (to ∷ few.0)) n
 among rows from to n few node =
-    elim node
-      [ inl e ↦ subst (λ m. Contains (from ∷ (to ∷ few.0)) m) (sym e) (in_head from (to ∷ few.0))
+    elim node [
+      | inl e ↦ subst (λ m. Contains (from ∷ (to ∷ few.0)) m) (sym e) (in_head from (to ∷ few.0))
       | inr more ↦ in_tail from n (to ∷ few.0)
-          (elim more
-            [ inl e ↦ subst (λ m. Contains (to ∷ few.0) m) (sym e) (in_head to few.0)
+          (elim more [
+            | inl e ↦ subst (λ m. Contains (to ∷ few.0) m) (sym e) (in_head to few.0)
             | inr end ↦ in_tail to n few.0
                 (let ends = All-contains (λ row. Contains few.0 row.low × Contains few.0 row.high) rows end.0 few.2 end.1 in
-                elim end.2 [ inl low ↦ subst (λ m. Contains few.0 m) low ends.0 | inr high ↦ subst (λ m. Contains few.0 m) high ends.1 ]) ]) ]
+                elim end.2 [ inl low ↦ subst (λ m. Contains few.0 m) low ends.0 | inr high ↦ subst (λ m. Contains few.0 m) high ends.1 ])
+          ])
+    ]
 
 -- the set has just those nodes
 abbrev pub HasJust : BTreeSet NodeId → (NodeId → Type 0) → Type 0
@@ -64,9 +66,9 @@ pub first_nodes : (empty one two : BTreeSet NodeId) (from to : NodeId) → empty
 first_nodes empty one two from to none first second =
     let nothing : HasJust empty (λ n. ⊥) = λ n. ((λ h. absurd (let e : contains ghosts.cmp empty n ≡ false = rw none in cc (e, h))), (λ h. absurd h)) in
     changed two (λ n. (⊥ ⊎ (n ≡ from)) ⊎ (n ≡ to)) (IsNode [] from to)
-      (λ n h. elim h [ inl before ↦ elim before [ inl nothing ↦ absurd nothing | inr e ↦ inl e ] | inr e ↦ inr (inl e) ])
-      (λ n h. elim h [ inl e ↦ inl (inr e) | inr more ↦ elim more [ inl e ↦ inr e | inr end ↦ absurd (no_end n end) ] ])
-      (inserted one two to (λ n. ⊥ ⊎ (n ≡ from)) second (inserted empty one from (λ n. ⊥) first nothing))
+    (λ n h. elim h [ inl before ↦ elim before [ inl nothing ↦ absurd nothing | inr e ↦ inl e ] | inr e ↦ inr (inl e) ])
+    (λ n h. elim h [ inl e ↦ inl (inr e) | inr more ↦ elim more [ inl e ↦ inr e | inr end ↦ absurd (no_end n end) ] ])
+    (inserted one two to (λ n. ⊥ ⊎ (n ≡ from)) second (inserted empty one from (λ n. ⊥) first nothing))
 
 end_more : (rows : List TeRow) (row : TeRow) (n : NodeId) → IsEnd rows n → IsEnd (rows ++ row ∷ []) n
 end_more rows row n end = (end.0, Contains-append_left rows (row ∷ []) end.0 end.1, end.2)
@@ -76,24 +78,31 @@ pub next_nodes : (rows : List TeRow) (i : ℕ) (row : TeRow) (old one two : BTre
 next_nodes rows i row old one two from to within same first second just =
     let t : take (i + 1) rows ≡ take i rows ++ row ∷ [] = take_more rows i row within ∙ ap (λ x. take i rows ++ x ∷ []) (sym same) in
     subst (λ done. HasJust two (IsNode done from to)) (sym t)
-      (changed two (λ n. (IsNode (take i rows) from to n ⊎ (n ≡ row.low)) ⊎ (n ≡ row.high)) (IsNode (take i rows ++ row ∷ []) from to)
-        (λ n h. elim h
-          [ inl before ↦ elim before
-            [ inl node ↦ elim node
-              [ inl e ↦ inl e
-              | inr more ↦ elim more [ inl e ↦ inr (inl e) | inr end ↦ inr (inr (end_more (take i rows) row n end)) ] ]
-            | inr e ↦ inr (inr (row, Contains-push (take i rows) row, inl (sym e))) ]
-          | inr e ↦ inr (inr (row, Contains-push (take i rows) row, inr (sym e))) ])
-        (λ n h. elim h
-          [ inl e ↦ inl (inl (inl e))
-          | inr more ↦ elim more
-            [ inl e ↦ inl (inl (inr (inl e)))
-            | inr end ↦ elim (Contains-push_cases (take i rows) row end.0 end.1)
-              [ inl before ↦ inl (inl (inr (inr (end.0, before, end.2))))
-              | inr last ↦ elim end.2
-                [ inl low ↦ inl (inr (sym low ∙ ap (λ r. r.low) (sym last)))
-                | inr high ↦ inr (sym high ∙ ap (λ r. r.high) (sym last)) ] ] ] ])
-        (inserted one two row.high (λ n. IsNode (take i rows) from to n ⊎ (n ≡ row.low)) second (inserted old one row.low (IsNode (take i rows) from to) first just)))
+    (changed two (λ n. (IsNode (take i rows) from to n ⊎ (n ≡ row.low)) ⊎ (n ≡ row.high)) (IsNode (take i rows ++ row ∷ []) from to)
+    (λ n h. elim h [
+      | inl before ↦ elim before [
+        | inl node ↦ elim node [
+          | inl e ↦ inl e
+          | inr more ↦ elim more [ inl e ↦ inr (inl e) | inr end ↦ inr (inr (end_more (take i rows) row n end)) ]
+        ]
+        | inr e ↦ inr (inr (row, Contains-push (take i rows) row, inl (sym e)))
+      ]
+      | inr e ↦ inr (inr (row, Contains-push (take i rows) row, inr (sym e)))
+    ])
+    (λ n h. elim h [
+      | inl e ↦ inl (inl (inl e))
+      | inr more ↦ elim more [
+        | inl e ↦ inl (inl (inr (inl e)))
+        | inr end ↦ elim (Contains-push_cases (take i rows) row end.0 end.1) [
+          | inl before ↦ inl (inl (inr (inr (end.0, before, end.2))))
+          | inr last ↦ elim end.2 [
+            | inl low ↦ inl (inr (sym low ∙ ap (λ r. r.low) (sym last)))
+            | inr high ↦ inr (sym high ∙ ap (λ r. r.high) (sym last))
+          ]
+        ]
+      ]
+    ])
+    (inserted one two row.high (λ n. IsNode (take i rows) from to n ⊎ (n ≡ row.low)) second (inserted old one row.low (IsNode (take i rows) from to) first just)))
 
 pub all_nodes : (rows : List TeRow) (set : BTreeSet NodeId) (from to : NodeId) → HasJust set (IsNode rows from to) → IsNodeSet rows from to set.keys
 all_nodes rows set from to just n =

@@ -1,7 +1,6 @@
 -- Walks over rows and the arcs of their graph.
-use Rattle.std.proofs.Common.{◌≡◌, ◌⊎◌, inl, inr, ℕ, ◌+◌, ◌<◌, ◌≤◌, List, [], ◌∷◌, ◌++◌, All, Option, Some, None, length, map, get_or, slice_get, refl, sym, ◌∙◌, ap, subst, arith}
-use Rattle.std.specs.List.{AllPairs, Contains}
-use Rattle.ason_base.specs.Walks.{Hop, IsWalk, Joins}
+use Rattle.std.proofs.Common.{◌≡◌, ℕ, ◌+◌, List, [], ◌∷◌, ◌++◌, Some, map, slice_get, refl, sym, ◌∙◌, ap, subst, arith}
+use Rattle.ason_base.specs.Walks.{Hop, IsWalk}
 use Rattle.ason_base.specs.declared.ids.LinkId.{LinkId}
 use Rattle.ason_base.specs.declared.ids.NodeId.{NodeId}
 use Rattle.ason_base.specs.declared.network.TeRow.{TeRow}
@@ -9,7 +8,7 @@ use Rattle.ason_base.specs.declared.steps.Step.{Step}
 use Rattle.route_least.specs.declared.arcs.Arc.{Arc}
 use Rattle.route_least.specs.Costs.{turned, Reach}
 use Rattle.route_least.specs.Costs.Reach.{Start, Onward}
-use Rattle.route_least.specs.Graph.{AreArcs, AreRising, IsArc, IsOpen}
+use Rattle.route_least.specs.Graph.{AreArcs, AreRising, IsOpen}
 use Rattle.route_least.proofs.Following.{known_turned}
 use Rattle.route_least.proofs.Listing.{some_same}
 use Rattle.route_least.proofs.NodeOrder.{same-place}
@@ -25,14 +24,15 @@ module _ (rows : List TeRow) (BannedLink : LinkId → Type 0) (BannedNode : Node
   -- one hop more at the end of a walk
   pub walk_push : (a b n : NodeId) (steps : List Step) (cost : ℕ) (s : Step) (row : TeRow) → IsWalk rows BannedLink BannedNode a b steps cost → Hop rows BannedLink BannedNode b s row n → IsWalk rows BannedLink BannedNode a n (steps ++ s ∷ []) (cost + row.metric)
   walk_push a b n [] cost s row walk hop =
-      ( row, n, 0, subst (λ x. Hop rows BannedLink BannedNode x s row n) (sym walk.0) hop, (refl, refl), (let e : cost ≡ 0 = walk.1 in omega arith) )
-  walk_push a b n (first ∷ steps) cost s row walk hop =
-      ( walk.0
-      , walk.1
-      , walk.2 + row.metric
-      , walk.3
-      , walk_push walk.1 b n steps walk.2 s row walk.4 hop
-      , (let e : cost ≡ walk.0.metric + walk.2 = walk.5 in omega arith) )
+      (row, n, 0, subst (λ x. Hop rows BannedLink BannedNode x s row n) (sym walk.0) hop, (refl, refl), (let e : cost ≡ 0 = walk.1 in omega arith))
+  walk_push a b n (first ∷ steps) cost s row walk hop = (
+    walk.0,
+    walk.1,
+    walk.2 + row.metric,
+    walk.3,
+    walk_push walk.1 b n steps walk.2 s row walk.4 hop,
+    (let e : cost ≡ walk.0.metric + walk.2 = walk.5 in omega arith),
+  )
 
 module _ (rows : List TeRow) (BannedLink : LinkId → Type 0) (BannedNode : NodeId → Type 0) (nodes : List NodeId) (arcs : List Arc) (rising : AreRising nodes) (are : AreArcs rows BannedLink BannedNode nodes arcs) where
   -- along a walk arcs lead on, from wherever they lead to its start
@@ -60,9 +60,10 @@ module _ (rows : List TeRow) (BannedLink : LinkId → Type 0) (BannedNode : Node
       let s : Step = record { node = has.1; link = arc.link } in
       let hop = hop_over rows BannedLink BannedNode has.1 has.2 s has.0 refl has.4.link has.3 in
       let all = walk_push rows BannedLink BannedNode from has.1 has.2 before.0 cost s has.0 before.1 hop in
-      let end : has.2 ≡ n = some_same (sym has.4.head ∙ stands) in
-      ( before.0 ++ s ∷ []
-      , subst (λ m. IsWalk rows BannedLink BannedNode from n (before.0 ++ s ∷ []) (cost + m)) (sym has.4.metric) (subst (λ x. IsWalk rows BannedLink BannedNode from x (before.0 ++ s ∷ []) (cost + has.0.metric)) end all) )
+      let end : has.2 ≡ n = some_same (sym has.4.head ∙ stands) in (
+        before.0 ++ s ∷ [],
+        subst (λ m. IsWalk rows BannedLink BannedNode from n (before.0 ++ s ∷ []) (cost + m)) (sym has.4.metric) (subst (λ x. IsWalk rows BannedLink BannedNode from x (before.0 ++ s ∷ []) (cost + has.0.metric)) end all),
+      )
 
   -- back along a walk to the end, turned arcs lead from the end
   pub reach_back : (end : ℕ) (to a : NodeId) (steps : List Step) (cost place : ℕ) → slice_get nodes end ≡ Some to → IsWalk rows BannedLink BannedNode a to steps cost → slice_get nodes place ≡ Some a → Reach (map turned arcs) end place cost

@@ -1,3 +1,4 @@
+pub mod Answers
 pub mod Costs
 pub mod Graph
 pub mod Routes

@@ -23,7 +23,13 @@ pub(crate) struct Arc {
 }
 
 /// The arcs of the rows whose link isn't banned, each to a node that isn't banned.
-pub(crate) fn arcs_of(alloc: Global, rows: &[TeRow], nodes: &[NodeId], links: &[LinkId], banned: &[NodeId]) -> Result<Vec<Arc>, OutOfMemory>
+pub(crate) fn arcs_of(
+    alloc: Global,
+    rows: &[TeRow],
+    nodes: &[NodeId],
+    links: &[LinkId],
+    banned: &[NodeId],
+) -> Result<Vec<Arc>, OutOfMemory>
     requires rising { AreRising nodes.now }
     requires there { All (λ row. Contains nodes.now row.low × Contains nodes.now row.high) rows.now }
     ensures { IfOk result (λ arcs. AreArcs rows.now (Contains links.now) (Contains banned.now) nodes.now arcs.items) }
@@ -45,7 +51,12 @@ fn link_set(alloc: Global, links: &[LinkId]) -> Result<BTreeSet<LinkId>, OutOfMe
     Ok(set)
 }
 
-fn push_both(arcs: &mut Vec<Arc>, row: &TeRow, nodes: &[NodeId], banned: &[NodeId]) -> Result<(), OutOfMemory>
+fn push_both(
+    arcs: &mut Vec<Arc>,
+    row: &TeRow,
+    nodes: &[NodeId],
+    banned: &[NodeId],
+) -> Result<(), OutOfMemory>
     requires rising { AreRising nodes.now }
     requires low { Contains nodes.now row.now.low }
     requires high { Contains nodes.now row.now.high }
@@ -56,7 +67,14 @@ fn push_both(arcs: &mut Vec<Arc>, row: &TeRow, nodes: &[NodeId], banned: &[NodeI
     Ok(())
 }
 
-fn push_arc(arcs: &mut Vec<Arc>, row: &TeRow, nodes: &[NodeId], banned: &[NodeId], tail: NodeId, head: NodeId) -> Result<(), OutOfMemory>
+fn push_arc(
+    arcs: &mut Vec<Arc>,
+    row: &TeRow,
+    nodes: &[NodeId],
+    banned: &[NodeId],
+    tail: NodeId,
+    head: NodeId,
+) -> Result<(), OutOfMemory>
     requires rising { AreRising nodes.now }
     requires tail { Contains nodes.now tail }
     requires head { Contains nodes.now head }

@@ -22,13 +22,25 @@ pub(crate) struct Graph {
 }
 
 /// The graph of the rows without what is banned.
-pub(crate) fn graph_of(alloc: Global, rows: &[TeRow], from: NodeId, to: NodeId, banned: &Banned) -> Result<Graph, OutOfMemory>
+pub(crate) fn graph_of(
+    alloc: Global,
+    rows: &[TeRow],
+    from: NodeId,
+    to: NodeId,
+    banned: &Banned,
+) -> Result<Graph, OutOfMemory>
     requires ends { HaveFewEnds rows.now }
     requires metrics { HaveMetrics rows.now }
     ensures { IfOk result (λ graph. IsGraph rows.now (Contains banned.now.links) (Contains banned.now.nodes) from to graph) }
 {
     let nodes = nodes_of(alloc, rows, from, to)?;
-    let arcs = arcs_of(alloc, rows, &nodes, banned.links.items(), banned.nodes.items())?;
+    let arcs = arcs_of(
+        alloc,
+        rows,
+        &nodes,
+        banned.links.items(),
+        banned.nodes.items(),
+    )?;
     let from = place(&nodes, from);
     let to = place(&nodes, to);
     Ok(Graph {

@@ -11,7 +11,12 @@ use std::alloc::Global;
 use std::collections::BTreeSet;
 
 /// The two nodes and the ends of the rows, rising.
-pub(crate) fn nodes_of(alloc: Global, rows: &[TeRow], from: NodeId, to: NodeId) -> Result<Vec<NodeId>, OutOfMemory>
+pub(crate) fn nodes_of(
+    alloc: Global,
+    rows: &[TeRow],
+    from: NodeId,
+    to: NodeId,
+) -> Result<Vec<NodeId>, OutOfMemory>
     requires { HaveFewEnds rows.now }
     ensures nodes { IfOk result (λ nodes. AreNodes rows.now from to nodes.items) }
     ensures few { IfOk result (λ nodes. length nodes.items ≤ 66) }
@@ -29,7 +34,12 @@ fn listed(alloc: Global, set: &BTreeSet<NodeId>) -> Result<Vec<NodeId>, OutOfMem
     Ok(nodes)
 }
 
-fn node_set(alloc: Global, rows: &[TeRow], from: NodeId, to: NodeId) -> Result<BTreeSet<NodeId>, OutOfMemory>
+fn node_set(
+    alloc: Global,
+    rows: &[TeRow],
+    from: NodeId,
+    to: NodeId,
+) -> Result<BTreeSet<NodeId>, OutOfMemory>
     ensures { IfOk result (λ set. AreNodes rows.now from to set.keys) }
 {
     let mut set = BTreeSet::new(alloc);

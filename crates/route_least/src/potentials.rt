@@ -9,7 +9,11 @@ use ason_base::ids::{NodeId, OutOfMemory};
 use std::alloc::Global;
 
 /// The nodes that have a cost, each with its cost.
-pub(crate) fn potentials_of(alloc: Global, nodes: &[NodeId], costs: &[Option<u32>]) -> Result<Potentials, OutOfMemory>
+pub(crate) fn potentials_of(
+    alloc: Global,
+    nodes: &[NodeId],
+    costs: &[Option<u32>],
+) -> Result<Potentials, OutOfMemory>
     requires nodes { AreRising nodes.now }
     requires costs { length costs.now ≡ length nodes.now }
     ensures { IfOk result (λ entries. AreEntries nodes.now costs.now entries) }

@@ -12,7 +12,14 @@ use ason_base::steps::{Step, Steps};
 use std::alloc::Global;
 
 /// The steps from place to place, each over the least link on which the costs to the end fall just by the metric.
-pub(crate) fn follow(alloc: Global, nodes: &[NodeId], arcs: &[Arc], costs: &[Option<u32>], from: usize, to: usize) -> Result<Steps, OutOfMemory>
+pub(crate) fn follow(
+    alloc: Global,
+    nodes: &[NodeId],
+    arcs: &[Arc],
+    costs: &[Option<u32>],
+    from: usize,
+    to: usize,
+) -> Result<Steps, OutOfMemory>
     requires arcs { All (IsWithin (length nodes.now)) arcs.now }
     requires costs { length costs.now ≡ length nodes.now }
     requires least { AreLeast (map turned arcs.now) to costs.now }

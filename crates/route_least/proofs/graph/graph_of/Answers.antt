@@ -24,9 +24,9 @@ returns c =
     let links = c.args.banned.now.links in
     let banned = c.args.banned.now.nodes in
     let made : AreArcs rows (Contains links) (Contains banned) nodes arcs =
-      subst (λ ns. AreArcs rows (Contains links) (Contains banned) ns arcs) c.deref.ensures.value
-        (subst (λ ls. AreArcs rows (Contains ls) (Contains banned) c.deref.result.now arcs) c.items.ensures
-          (subst (λ bs. AreArcs rows (Contains c.items.result.now) (Contains bs) c.deref.result.now arcs) c.items-2.ensures c.in_ok-arcs.ensures))
+    subst (λ ns. AreArcs rows (Contains links) (Contains banned) ns arcs) c.deref.ensures.value
+    (subst (λ ls. AreArcs rows (Contains ls) (Contains banned) c.deref.result.now arcs) c.items.ensures
+    (subst (λ bs. AreArcs rows (Contains c.items.result.now) (Contains bs) c.deref.result.now arcs) c.items-2.ensures c.in_ok-arcs.ensures))
     in
     record {
       nodes = c.in_ok-nodes.ensures.nodes;

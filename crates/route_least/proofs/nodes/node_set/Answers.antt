@@ -1,4 +1,4 @@
-use Rattle.std.proofs.Common.{subst, take, take_all}
+use Rattle.std.proofs.Common.{subst, take_all}
 use Rattle.route_least.proofs.NodeOrder.{rising-sorted}
 use Rattle.route_least.proofs.NodeSet.{HasJust, IsNode, first_nodes, next_nodes, all_nodes}
 use Rattle.route_least.proofs.nodes.node_set.Goals as goal

@@ -11,9 +11,10 @@ loop-place-preserved c =
     let nodes = c.args.nodes.now in
     let costs = c.args.costs.now in
     let k = c.loop-place.place in
-    elim c.match-costs-place.branch
-      [ in-Some+in_ok-push w ↦ subst (AreFirst nodes costs (k + 1)) (sym (w.potentials-is ∙ w.in_ok-push.ensures.ok)) (first_push nodes costs k c.loop-place.potentials (record { 0 = 0 }) w.in-Some.cost c.requires.nodes c.loop-place-test.true w.in-Some.is c.loop-place.invariant)
-      | in_default w ↦ subst (AreFirst nodes costs (k + 1)) (sym w.potentials-is) (first_skip nodes costs k c.loop-place.potentials w.in_default.not-Some c.loop-place.invariant) ]
+    elim c.match-costs-place.branch [
+      | in-Some+in_ok-push w ↦ subst (AreFirst nodes costs (k + 1)) (sym (w.potentials-is ∙ w.in_ok-push.ensures.ok)) (first_push nodes costs k c.loop-place.potentials (record { 0 = 0 }) w.in-Some.cost c.requires.nodes c.loop-place-test.true w.in-Some.is c.loop-place.invariant)
+      | in_default w ↦ subst (AreFirst nodes costs (k + 1)) (sym w.potentials-is) (first_skip nodes costs k c.loop-place.potentials w.in_default.not-Some c.loop-place.invariant)
+    ]
 
 pub returns : goal.returns
 returns c = all_first c.args.nodes.now c.args.costs.now c.loop-place.place c.loop-place.potentials c.loop-place-test.false c.loop-place.invariant
