@@ -1,0 +1,4 @@
+pub mod BanLists
+pub mod Found
+pub mod RiskSearch
+pub mod WalkBans
