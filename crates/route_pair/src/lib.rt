@@ -9,6 +9,8 @@ ghost use Rattle.route_pair.specs.Pairs.{AreBans, IsBackupFault, IsBackupFound, 
 
 pub mod answers;
 mod bans;
+#[cfg(test)]
+mod tests;
 
 pub use answers::{BackupFault, Pair, PairFault};
 use ason_base::ids::NodeId;
