@@ -10,6 +10,8 @@ ghost use Rattle.route_pair.specs.Pairs.{AreBans, IsBackupFault, IsBackupFound, 
 pub mod answers;
 mod bans;
 #[cfg(test)]
+mod fixtures;
+#[cfg(test)]
 mod tests;
 
 pub use answers::{BackupFault, Pair, PairFault};

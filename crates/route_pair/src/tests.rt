@@ -1,8 +1,6 @@
 //! Least routes and pairs over worked graphs.
 
-ghost use Rattle.std.specs.Prelude.{IsTrue};
-ghost use Rattle.ason_base.specs.Walks.{HaveDistinctLinks, HaveFewEnds, HaveMetrics};
-
+use crate::fixtures::{has_few_ends, has_metrics, has_rising_links};
 use crate::{BackupFault, PairFault, backup_for, pair};
 use ason_base::ids::{LinkId, NodeId, OutOfMemory};
 use ason_base::lists::Srlgs;
@@ -60,29 +58,6 @@ fn rows_of(alloc: Global, edges: &[Edge]) -> Result<Vec<TeRow>, OutOfMemory> {
         })?;
     }
     Ok(rows)
-}
-
-fn has_few_ends(rows: &[TeRow]) -> bool
-    ensures { IsTrue result → HaveFewEnds rows.now }
-{
-    rows.len() <= 32
-}
-
-fn has_metrics(rows: &[TeRow]) -> bool
-    ensures { IsTrue result → HaveMetrics rows.now }
-{
-    rows.iter().all(|row| (1..=65535).contains(&row.metric))
-}
-
-fn has_rising_links(rows: &[TeRow]) -> bool
-    ensures { IsTrue result → HaveDistinctLinks rows.now }
-{
-    for place in 1..rows.len() {
-        if rows[place].link <= rows[place - 1].link {
-            return false;
-        }
-    }
-    true
 }
 
 fn links(alloc: Global, route: &Steps) -> Result<Vec<u32>, OutOfMemory> {
