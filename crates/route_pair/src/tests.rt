@@ -1,12 +1,12 @@
 //! Least routes and pairs over worked graphs.
 
-use crate::fixtures::{has_few_ends, has_metrics, has_rising_links};
-use crate::{BackupFault, PairFault, backup_for, pair};
+use crate::fixtures::{backup_over, least_over, pair_over};
+use crate::{BackupFault, PairFault};
 use ason_base::ids::{LinkId, NodeId, OutOfMemory};
 use ason_base::lists::Srlgs;
 use ason_base::network::TeRow;
 use ason_base::steps::{Step, Steps};
-use route_least::{Banned, Found, LinkIds, NodeIds, Potentials, RouteFault, least};
+use route_least::{Banned, Found, LinkIds, NodeIds, Potentials, RouteFault};
 use std::alloc::Global;
 use std::process::Abort;
 use std::test::Fail;
@@ -206,11 +206,8 @@ fn banned_of(alloc: Global, case: &Case) -> Result<Banned, OutOfMemory> {
 fn answer_is(rt: &impl Abort, alloc: Global, case: &Case) -> Result<(), Fail> {
     let rows = rows_of(alloc, case.edges)?;
     let banned = banned_of(alloc, case)?;
-    assert!(rt; has_few_ends(&rows));
-    assert!(rt; has_metrics(&rows));
-    assert!(rt; has_rising_links(&rows));
-    match least(alloc, &rows, NodeId(case.from), NodeId(case.to), &banned) {
-        Ok(found) => {
+    match least_over(alloc, &rows, NodeId(case.from), NodeId(case.to), &banned) {
+        Some(Ok(found)) => {
             assert_eq!(rt;
                 Some((links(alloc, &found.route)?.as_slice(), found.cost)),
                 case.route
@@ -220,11 +217,11 @@ fn answer_is(rt: &impl Abort, alloc: Global, case: &Case) -> Result<(), Fail> {
                 case.potentials
             );
         }
-        Err(RouteFault::NoRoute(potential)) => {
+        Some(Err(RouteFault::NoRoute(potential))) => {
             assert_eq!(rt; case.route, None);
             assert_eq!(rt; entries(alloc, &potential)?.as_slice(), case.potentials);
         }
-        Err(RouteFault::OutOfMemory) => assert!(rt; false),
+        Some(Err(RouteFault::OutOfMemory)) | None => assert!(rt; false),
     }
     Ok(())
 }
@@ -313,25 +310,22 @@ fn found_is(
 
 fn pair_is(rt: &impl Abort, alloc: Global, case: &PairCase) -> Result<(), Fail> {
     let rows = rows_of(alloc, case.edges)?;
-    assert!(rt; has_few_ends(&rows));
-    assert!(rt; has_metrics(&rows));
-    assert!(rt; has_rising_links(&rows));
-    let potentials = match pair(alloc, &rows, NodeId(case.from), NodeId(case.to)) {
-        Ok(found) => {
+    let potentials = match pair_over(alloc, &rows, NodeId(case.from), NodeId(case.to)) {
+        Some(Ok(found)) => {
             found_is(rt, alloc, &found.primary, case.primary)?;
             found_is(rt, alloc, &found.backup, case.backup)?;
             entries(alloc, &found.primary.potential)?
         }
-        Err(PairFault::NoBackup(primary)) => {
+        Some(Err(PairFault::NoBackup(primary))) => {
             found_is(rt, alloc, &primary, case.primary)?;
             assert_eq!(rt; None, case.backup);
             entries(alloc, &primary.potential)?
         }
-        Err(PairFault::NoPrimary(potential)) => {
+        Some(Err(PairFault::NoPrimary(potential))) => {
             assert_eq!(rt; None, case.primary);
             entries(alloc, &potential)?
         }
-        Err(PairFault::OutOfMemory) => Vec::new(alloc),
+        Some(Err(PairFault::OutOfMemory)) | None => Vec::new(alloc),
     };
     assert_eq!(rt; potentials.as_slice(), case.potentials);
     Ok(())
@@ -358,10 +352,9 @@ fn a_link_without_a_row_has_no_backup(rt: HostRuntime) -> Result<(), Fail> {
         node: NodeId(2),
         link: LinkId(7),
     })?;
-    assert!(rt; has_few_ends(&rows));
-    assert!(rt; has_metrics(&rows));
-    assert!(rt; has_rising_links(&rows));
-    let fault = backup_for(alloc, &rows, &route, NodeId(1), NodeId(3)).err();
+    let fault = backup_over(alloc, &rows, &route, NodeId(1), NodeId(3)).and_then(
+        |answer| answer.err(),
+    );
     assert_eq!(rt; fault, Some(BackupFault::Unknown(LinkId(7))));
     Ok(())
 }
