@@ -1,0 +1,12 @@
+pub mod ArcList
+pub mod BestArc
+pub mod Following
+pub mod GraphLaws
+pub mod LeastLaws
+pub mod Listing
+pub mod Lowered
+pub mod NodeOrder
+pub mod NodeSet
+pub mod RouteLaws
+pub mod Tables
+pub mod WalkLaws

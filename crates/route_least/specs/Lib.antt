@@ -1,0 +1,5 @@
+pub mod Answers
+pub mod Costs
+pub mod Graph
+pub mod Routes
+pub mod Trace

@@ -1,0 +1,140 @@
+//! Lists that routing takes and gives: links, nodes and potentials.
+
+ghost use Rattle.std.specs.Prelude.{◌≡◌, ◌<◌, [], ◌∷◌, ◌++◌, All, OnErr, OnOk};
+
+use ason_base::ids::{LinkId, NodeId, OutOfMemory};
+use std::alloc::Global;
+use std::marker::Model;
+
+/// A list of links.
+#[derive(Debug, Drop)]
+pub struct LinkIds {
+    links: Vec<LinkId>,
+}
+
+impl Model for LinkIds {
+    ghost use Rattle.std.specs.Prelude.{List};
+    ghost use Rattle.ason_base.specs.declared.ids.LinkId.{LinkId};
+
+    ghost Value = { List LinkId };
+
+    ghost view = { λ s. s.links.items };
+}
+
+impl LinkIds {
+    /// No link.
+    pub fn new(alloc: Global) -> LinkIds
+        ensures { result ≡ [] }
+    {
+        LinkIds {
+            links: Vec::new(alloc),
+        }
+    }
+
+    /// Adds a link at the end.
+    pub fn push(&mut self, item: LinkId) -> Result<(), OutOfMemory>
+        ensures ok { OnOk result (self.new ≡ self.old ++ item ∷ []) }
+        ensures err { OnErr result (self.new ≡ self.old) }
+    {
+        self.links.push(item)?;
+        Ok(())
+    }
+
+    pub fn items(&self) -> &[LinkId]
+        ensures { result.now ≡ self.now }
+    {
+        &self.links
+    }
+}
+
+/// A list of nodes.
+#[derive(Debug, Drop)]
+pub struct NodeIds {
+    nodes: Vec<NodeId>,
+}
+
+impl Model for NodeIds {
+    ghost use Rattle.std.specs.Prelude.{List};
+    ghost use Rattle.ason_base.specs.declared.ids.NodeId.{NodeId};
+
+    ghost Value = { List NodeId };
+
+    ghost view = { λ s. s.nodes.items };
+}
+
+impl NodeIds {
+    /// No node.
+    pub fn new(alloc: Global) -> NodeIds
+        ensures { result ≡ [] }
+    {
+        NodeIds {
+            nodes: Vec::new(alloc),
+        }
+    }
+
+    /// Adds a node at the end.
+    pub fn push(&mut self, item: NodeId) -> Result<(), OutOfMemory>
+        ensures ok { OnOk result (self.new ≡ self.old ++ item ∷ []) }
+        ensures err { OnErr result (self.new ≡ self.old) }
+    {
+        self.nodes.push(item)?;
+        Ok(())
+    }
+
+    pub fn items(&self) -> &[NodeId]
+        ensures { result.now ≡ self.now }
+    {
+        &self.nodes
+    }
+}
+
+/// Nodes with the least cost of a walk that leads there from the start, rising by node. Nodes to which no walk leads aren't there.
+#[derive(Debug, Drop)]
+pub struct Potentials {
+    entries: Vec<(NodeId, u32)>,
+}
+
+impl Model for Potentials {
+    ghost use Rattle.std.specs.Prelude.{List, ℕ};
+    ghost use Rattle.ason_base.specs.declared.ids.NodeId.{NodeId};
+
+    ghost Value = { List (NodeId × ℕ) };
+
+    ghost view = { λ s. s.entries.items };
+}
+
+impl Potentials {
+    /// No node.
+    pub fn new(alloc: Global) -> Potentials
+        ensures { result ≡ [] }
+    {
+        Potentials {
+            entries: Vec::new(alloc),
+        }
+    }
+
+    /// Adds a node above all that are there, with its potential.
+    pub fn push(&mut self, item: (NodeId, u32)) -> Result<(), OutOfMemory>
+        requires { All (λ entry. entry.0.0 < item.0.0) self.old }
+        ensures ok { OnOk result (self.new ≡ self.old ++ item ∷ []) }
+        ensures err { OnErr result (self.new ≡ self.old) }
+    {
+        self.entries.push(item)?;
+        Ok(())
+    }
+
+    pub fn items(&self) -> &[(NodeId, u32)]
+        ensures { result.now ≡ self.now }
+    {
+        &self.entries
+    }
+}
+
+/// What a walk must keep off.
+#[derive(Debug, Drop)]
+pub struct Banned {
+    /// Links that it must not use.
+    pub links: LinkIds,
+    /// Nodes that it must not visit after its start.
+    pub nodes: NodeIds,
+}

@@ -1,0 +1,5 @@
+pub mod BanLists
+pub mod Found
+pub mod RiskSearch
+pub mod TestRows
+pub mod WalkBans

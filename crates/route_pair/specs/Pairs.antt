@@ -1,0 +1,60 @@
+-- What a pair of routes, and each refusal, says.
+use Rattle.std.specs.Prelude.{◌≡◌, ◌↔◌, ℕ, List, None, Some}
+use Rattle.std.specs.List.{Contains}
+use Rattle.ason_base.specs.Risks.{risks_of, unknown_link}
+use Rattle.ason_base.specs.Walks.{ArePotentials, Certify, IsBackup, IsInner, IsLeast, IsWalk, NoLink, NoNode, SharesRisk}
+use Rattle.ason_base.specs.declared.ids.LinkId.{LinkId}
+use Rattle.ason_base.specs.declared.ids.NodeId.{NodeId}
+use Rattle.ason_base.specs.declared.network.TeRow.{TeRow}
+use Rattle.ason_base.specs.declared.risks.Risk.{Risk}
+use Rattle.ason_base.specs.declared.steps.Step.{Step}
+use Rattle.route_least.specs.Answers.{JoinsNone}
+use Rattle.route_least.specs.declared.Found.{Found}
+use Rattle.route_least.specs.declared.RouteFault.{RouteFault}
+use Rattle.route_least.specs.declared.RouteFault.TheVariants.{NoRoute, OutOfMemory}
+use Rattle.route_least.specs.declared.lists.Banned.{Banned}
+use Rattle.route_pair.specs.declared.answers.BackupFault.{BackupFault}
+use Rattle.route_pair.specs.declared.answers.BackupFault.TheVariants.{Unknown, NoBackup, OutOfMemory as BackupOutOfMemory}
+use Rattle.route_pair.specs.declared.answers.PairFault.{PairFault}
+use Rattle.route_pair.specs.declared.answers.PairFault.TheVariants.{NoPrimary, NoBackup as NoPair, OutOfMemory as PairOutOfMemory}
+
+-- the least route of all, its cost and the potentials, which certify it
+pub record IsPrimary (rows : List TeRow) (from to : NodeId) (found : Found) : Type 0 where
+  pub route : IsLeast (IsWalk rows NoLink NoNode from to) found.route found.cost
+  pub potential : ArePotentials (IsWalk rows NoLink NoNode from) found.potential
+  pub certificate : Certify rows NoLink NoNode from found.potential
+  pub end : Contains found.potential (to, found.cost)
+
+-- the least route that is risk-disjoint from the primary one and shares no inner node with it; its potentials are of walks that use no
+-- link with a risk of the primary route and visit no inner node of it
+pub record IsBackupFound (rows : List TeRow) (primary : List Step) (from to : NodeId) (found : Found) : Type 0 where
+  pub route : IsLeast (IsBackup rows primary from to) found.route found.cost
+  pub potential : ArePotentials (IsWalk rows (SharesRisk rows primary) (IsInner from to primary) from) found.potential
+  pub certificate : Certify rows (SharesRisk rows primary) (IsInner from to primary) from found.potential
+  pub end : Contains found.potential (to, found.cost)
+
+abbrev pub HasNoBackup : List TeRow → List Step → NodeId → NodeId → Type 0
+HasNoBackup rows primary from to = (route : List Step) (cost : ℕ) → ¬ IsBackup rows primary from to route cost
+
+abbrev pub IsFault : List TeRow → NodeId → NodeId → RouteFault → Type 0
+IsFault rows from to (NoRoute potential) = JoinsNone rows NoLink NoNode from to potential
+IsFault rows from to OutOfMemory = Unit {0}
+
+abbrev pub IsPairFault : List TeRow → NodeId → NodeId → PairFault → Type 0
+IsPairFault rows from to (NoPrimary potential) = JoinsNone rows NoLink NoNode from to potential
+IsPairFault rows from to (NoPair primary) = IsPrimary rows from to primary × HasNoBackup rows primary.route from to
+IsPairFault rows from to PairOutOfMemory = Unit {0}
+
+abbrev pub IsBackupFault : List TeRow → List Step → NodeId → NodeId → BackupFault → Type 0
+IsBackupFault rows primary from to (Unknown link) = unknown_link rows primary ≡ Some link
+IsBackupFault rows primary from to NoBackup = (unknown_link rows primary ≡ None) × HasNoBackup rows primary from to
+IsBackupFault rows primary from to BackupOutOfMemory = Unit {0}
+
+-- the link's row has one of the risks
+abbrev pub MeetsRisk : List TeRow → List Risk → LinkId → Type 0
+MeetsRisk rows risks l = (row : TeRow) × Contains rows row × (row.link ≡ l) × ((r : Risk) × Contains (risks_of row) r × Contains risks r)
+
+-- just the links with a risk of the primary route, and its inner nodes
+pub record AreBans (rows : List TeRow) (primary : List Step) (from to : NodeId) (banned : Banned) : Type 0 where
+  pub links : (l : LinkId) → Contains banned.links l ↔ SharesRisk rows primary l
+  pub nodes : (n : NodeId) → Contains banned.nodes n ↔ IsInner from to primary n

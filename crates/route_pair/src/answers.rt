@@ -1,0 +1,43 @@
+//! Pairs of routes, and why there is none.
+
+ghost use Rattle.std.specs.Prelude.{◌≡◌};
+
+use ason_base::ids::{LinkId, OutOfMemory};
+use route_least::{Found, Potentials};
+
+/// A primary route and its backup.
+#[derive(Debug, Drop)]
+pub struct Pair {
+    pub primary: Found,
+    pub backup: Found,
+}
+
+/// Why there is no pair.
+#[derive(Debug, Drop)]
+pub enum PairFault {
+    /// No walk joins the two nodes.
+    NoPrimary(Potentials),
+    /// No route is risk-disjoint from this least route and shares no inner node with it.
+    NoBackup(Found),
+    OutOfMemory,
+}
+
+/// Why a route has no backup.
+#[derive(Clone, Copy, Debug, PartialEq, Eq, Drop)]
+pub enum BackupFault {
+    /// The first link of the route that has no row.
+    Unknown(LinkId),
+    /// No route is risk-disjoint from it and shares no inner node with it.
+    NoBackup,
+    OutOfMemory,
+}
+
+impl From<OutOfMemory> for BackupFault {
+    ghost use Rattle.route_pair.specs.declared.answers.BackupFault.{BackupFault};
+
+    ghost from_gives = { λ _ fault. fault ≡ BackupFault.OutOfMemory };
+
+    fn from(_: OutOfMemory) -> BackupFault {
+        BackupFault::OutOfMemory
+    }
+}
