@@ -10,4 +10,5 @@ pub mod RoundSteps
 pub mod RunsOfRounds
 pub mod SeatLemmas
 pub mod Settling
+pub mod TextParts
 pub mod Texts

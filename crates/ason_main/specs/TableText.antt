@@ -142,12 +142,19 @@ call_text p c =
     ++ codes " " ++ state_word c.state ++ codes " " ++ lsp_or_dash p c.work ++ codes " " ++ lsp_or_dash p c.back
     ++ codes " " ++ cause_text c.cause ++ codes "\n"
 
+-- `leg LSP NODE ROLE PHASE`, and a space
+abbrev pub leg_place : Plan → LegRow → List ℕ
+leg_place p g =
+    codes "leg " ++ lsp_text p g.lsp ++ codes " " ++ node_name p g.node ++ codes " " ++ role_word g.role
+    ++ codes " " ++ phase_word g.phase ++ codes " "
+
+-- `IN OUT`
+abbrev pub leg_labels : LegRow → List ℕ
+leg_labels g = label_text g.in_link g.in_label ++ codes " " ++ label_text g.out_link g.out_label
+
 -- `leg LSP NODE ROLE PHASE IN OUT`, and the backward labels
 abbrev pub leg_text : Plan → LegRow → List ℕ
-leg_text p g =
-    codes "leg " ++ lsp_text p g.lsp ++ codes " " ++ node_name p g.node ++ codes " " ++ role_word g.role
-    ++ codes " " ++ phase_word g.phase ++ codes " " ++ label_text g.in_link g.in_label
-    ++ codes " " ++ label_text g.out_link g.out_label ++ back_text g ++ codes "\n"
+leg_text p g = leg_place p g ++ leg_labels g ++ back_text g ++ codes "\n"
 
 -- a line of both counts, then a line a call, then a line a leg
 abbrev pub table_text : Plan → TableRows → List ℕ

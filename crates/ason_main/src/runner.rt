@@ -6,3 +6,5 @@ pub mod seats;
 pub mod rounds;
 
 pub mod script;
+
+pub mod first;

@@ -2,7 +2,7 @@
 
 ghost use Rattle.std.specs.Prelude.{◌≡◌, ◌==◌, ◌++◌, IfOk, OnErr, OnOk, codes, option_map, position, string_bytes};
 ghost use Rattle.std.specs.List.{flat_map};
-ghost use Rattle.ason_main.specs.TableText.{back_label_text, back_text, call_name, call_text, cause_text, code_name, head_text, label_or_dash, label_text, leg_text, lsp_or_dash, lsp_text, name_at, named_or_decimal, node_name, phase_word, role_word, state_word, table_text, unsettled_text};
+ghost use Rattle.ason_main.specs.TableText.{back_label_text, back_text, call_name, call_text, cause_text, code_name, head_text, label_or_dash, label_text, leg_labels, leg_place, leg_text, lsp_or_dash, lsp_text, name_at, named_or_decimal, node_name, phase_word, role_word, state_word, table_text, unsettled_text};
 
 use crate::plan::{Name, Plan};
 use ason_base::codes::{BUSY, DOWN, FULL, LABEL, PRIMARY, ROUTE, SET, TORN};
@@ -129,10 +129,18 @@ fn push_leg(text: &mut String, plan: &Plan, row: &LegRow) -> Result<(), OutOfMem
 
 // The LSP, the node, the role and the phase, with a space after them.
 fn push_place(text: &mut String, plan: &Plan, row: &LegRow) -> Result<(), OutOfMemory>
-    ensures { OnOk result (string_bytes text.new ≡ string_bytes text.old ++ codes "leg " ++ lsp_text plan.now row.now.lsp ++ codes " " ++ node_name plan.now row.now.node ++ codes " " ++ role_word row.now.role ++ codes " " ++ phase_word row.now.phase ++ codes " ") }
+    ensures { OnOk result (string_bytes text.new ≡ string_bytes text.old ++ leg_place plan.now row.now) }
 {
     text.push_str("leg ")?;
     push_lsp(text, plan, row.lsp)?;
+    push_standing(text, plan, row)?;
+    Ok(())
+}
+
+// The node, the role and the phase, with a space on either side.
+fn push_standing(text: &mut String, plan: &Plan, row: &LegRow) -> Result<(), OutOfMemory>
+    ensures { OnOk result (string_bytes text.new ≡ string_bytes text.old ++ (codes " " ++ node_name plan.now row.now.node ++ codes " " ++ role_word row.now.role ++ codes " " ++ phase_word row.now.phase ++ codes " ")) }
+{
     let node = node_name(plan, row.node);
     let role = role_word(row.role);
     let phase = phase_word(row.phase);
@@ -142,7 +150,7 @@ fn push_place(text: &mut String, plan: &Plan, row: &LegRow) -> Result<(), OutOfM
 
 // What comes in and what goes out, with a space between them.
 fn push_labels(text: &mut String, row: &LegRow) -> Result<(), OutOfMemory>
-    ensures { OnOk result (string_bytes text.new ≡ string_bytes text.old ++ label_text row.now.in_link row.now.in_label ++ codes " " ++ label_text row.now.out_link row.now.out_label) }
+    ensures { OnOk result (string_bytes text.new ≡ string_bytes text.old ++ leg_labels row.now) }
 {
     push_label(text, row.in_link, row.in_label)?;
     text.push_str(" ")?;

@@ -60,3 +60,54 @@ fn leg_rows(alloc: Global, legs: &[LegRow]) -> Result<LegRows, OutOfMemory>
     }
     Ok(rows)
 }
+
+#[cfg(test)]
+mod tests {
+    use super::sort_rows;
+    use ason_base::{CallNo, CallRow, CallState, Cause, LegRow, Lsp, NodeId, Phase, Role};
+    use std::test::Fail;
+
+    fn call(number: u16) -> CallRow {
+        CallRow {
+            call: CallNo(number),
+            ingress: NodeId(1),
+            egress: NodeId(2),
+            state: CallState::Asking,
+            work: None,
+            back: None,
+            cause: Cause::Unset,
+        }
+    }
+
+    fn leg(lsp: u16, node: u32) -> LegRow {
+        LegRow {
+            lsp: Lsp {
+                ingress: NodeId(1),
+                tunnel: 1,
+                lsp,
+            },
+            node: NodeId(node),
+            role: Role::Work,
+            phase: Phase::Asked,
+            in_link: None,
+            in_label: None,
+            out_link: None,
+            out_label: None,
+            back_in: None,
+            back_out: None,
+        }
+    }
+
+    #[test]
+    fn sorts_rows(rt: HostRuntime) -> Result<(), Fail> {
+        let calls = vec![in rt.alloc(); call(1), call(0)]?;
+        let legs = vec![in rt.alloc(); leg(2, 1), leg(1, 3), leg(1, 1)]?;
+        let rows = sort_rows(rt.alloc(), calls, legs)?;
+        assert_eq!(rt; rows.calls.items(), [call(0), call(1)].as_slice());
+        assert_eq!(rt;
+            rows.legs.items(),
+            [leg(1, 1), leg(1, 3), leg(2, 1)].as_slice()
+        );
+        Ok(())
+    }
+}

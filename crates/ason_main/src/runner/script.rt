@@ -36,7 +36,7 @@ fn new_seat(alloc: Global, t: &Topology, n: &NodeSpec) -> Result<Seat, OutOfMemo
 }
 
 // A seat for each node, with nothing on its desk.
-fn new_seats(alloc: Global, t: &Topology) -> Result<Vec<Seat>, OutOfMemory>
+pub(crate) fn new_seats(alloc: Global, t: &Topology) -> Result<Vec<Seat>, OutOfMemory>
     ensures { IfOk result (λ v. v.items ≡ map (new_seat t.now) t.now.nodes) }
 {
     let mut seats = Vec::with_capacity(alloc, t.nodes().len())?;
@@ -81,7 +81,7 @@ fn post(
 }
 
 // Posts the command of the line, if it is one.
-fn post_line(
+pub(crate) fn post_line(
     alloc: Global,
     t: &Topology,
     seats: &mut Vec<Seat>,
@@ -106,7 +106,7 @@ fn add(a: usize, b: usize) -> Result<usize, OutOfMemory>
 
 // The items on all desks.
 #[tactic(auto, using(std::proofs::lemmas::List::Sums::sum_by_more))]
-fn items_waiting(t: &Topology, seats: &[Seat]) -> Result<usize, OutOfMemory>
+pub(crate) fn items_waiting(t: &Topology, seats: &[Seat]) -> Result<usize, OutOfMemory>
     ensures { IfOk result (λ n. n ≡ items_waiting t.now (mesh_with seats.now [] [])) }
 {
     let mut total = 0;
@@ -131,7 +131,7 @@ fn mail_waiting_at(t: &Topology, lanes: &[Lane], n: NodeId) -> Result<usize, Out
 
 // The messages on their way to all nodes.
 #[tactic(auto, using(std::proofs::lemmas::List::Sums::sum_by_more))]
-fn mail_waiting(t: &Topology, lanes: &[Lane]) -> Result<usize, OutOfMemory>
+pub(crate) fn mail_waiting(t: &Topology, lanes: &[Lane]) -> Result<usize, OutOfMemory>
     ensures { IfOk result (λ k. k ≡ mail_waiting t.now (mesh_with [] lanes.now [])) }
 {
     let mut total = 0;
@@ -143,9 +143,9 @@ fn mail_waiting(t: &Topology, lanes: &[Lane]) -> Result<usize, OutOfMemory>
 
 // The lists of rows so far.
 #[derive(Drop)]
-struct Gathered {
-    calls: Vec<CallRow>,
-    legs: Vec<LegRow>,
+pub(crate) struct Gathered {
+    pub(crate) calls: Vec<CallRow>,
+    pub(crate) legs: Vec<LegRow>,
 }
 
 fn gather_node(
@@ -181,7 +181,7 @@ fn gather_seat(
 }
 
 // The rows of all nodes, as they stand.
-fn gather(alloc: Global, t: &Topology, seats: &[Seat]) -> Result<Gathered, OutOfMemory>
+pub(crate) fn gather(alloc: Global, t: &Topology, seats: &[Seat]) -> Result<Gathered, OutOfMemory>
     requires { AreSeated t.now seats.now }
     ensures calls { IfOk result (λ g. g.calls.items ≡ all_call_rows t.now (mesh_with seats.now [] [])) }
     ensures legs { IfOk result (λ g. g.legs.items ≡ all_leg_rows t.now (mesh_with seats.now [] [])) }
