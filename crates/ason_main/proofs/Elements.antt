@@ -1,5 +1,6 @@
 -- Elements and keys of TOML values beside what they stand for.
-use Rattle.std.proofs.Common.{◌≡◌, ℕ, zero, suc, ◌+◌, ◌<◌, List, [], ◌∷◌, ◌++◌, length, drop, get_or, slice_get, option_map, arith, Option, append_assoc, Bool, true, false, ◌&&◌, ◌||◌, not, map, string_bytes, refl, ap, ◌∙◌}
+use Rattle.std.proofs.Common.{◌≡◌, ℕ, ◌+◌, ◌<◌, List, [], ◌∷◌, ◌++◌, length, drop, get_or, append_assoc, Bool, true, false, ◌&&◌, ◌||◌, not, map, string_bytes, refl, sym, ap, ◌∙◌}
+use Rattle.std.proofs.lemmas.List.{drop-map, drop_more}
 use Rattle.std.specs.List.{list_all}
 use Rattle.std.specs.declared.alloc.Global.{Global}
 use Rattle.std.specs.Prelude.{String}
@@ -13,10 +14,6 @@ pub listed-view : (vs : List Value) → listed (items_view vs) ≡ map (λ v. vi
 listed-view [] = refl
 listed-view (v ∷ vs) = ap (λ ds. view v ∷ ds) (listed-view vs)
 
-pub all-views : (test : Data → Bool) (vs : List Value) → list_all (λ v. test (view v)) vs ≡ list_all test (map (λ v. view v) vs)
-all-views test [] = refl
-all-views test (v ∷ vs) = ap (λ b. test (view v) && b) (all-views test vs)
-
 step : (a b : Bool) → (a && not b) ≡ not (not a || b)
 step true b = refl
 step false b = refl
@@ -29,26 +26,28 @@ pub not-not : (b : Bool) → not (not b) ≡ b
 not-not true = refl
 not-not false = refl
 
-pub length-views : (vs : List Value) → length (map (λ v. view v) vs) ≡ length vs
-length-views [] = refl
-length-views (v ∷ vs) = ap (λ n. suc n) (length-views vs)
-
 -- what is left from a place on, where there is an element
 pub views-from : (vs : List Value) (i : ℕ) (d : Value) → i < length vs → drop i (map (λ v. view v) vs) ≡ view (get_or vs i d) ∷ drop (i + 1) (map (λ v. view v) vs)
-views-from [] i d h = absurd (omega arith)
-views-from (v ∷ vs) zero d h = refl
-views-from (v ∷ vs) (suc i) d h = views-from vs i d (omega arith)
+views-from vs i d h =
+    drop-map (λ v. view v) i vs
+    ∙ (ap (λ xs. map (λ v. view v) xs) (drop_more vs i d h) ∙ ap (λ ds. view (get_or vs i d) ∷ ds) (sym (drop-map (λ v. view v) (i + 1) vs)))
 
 -- nothing is left at the end
 pub views-end : (vs : List Value) → drop (length vs) (map (λ v. view v) vs) ≡ []
 views-end [] = refl
 views-end (v ∷ vs) = views-end vs
 
-pub get-views : (vs : List Value) (k : ℕ) → slice_get (map (λ v. view v) vs) k ≡ option_map (λ v. view v) (slice_get vs k)
-get-views [] k = refl
-get-views (v ∷ vs) zero = refl
-get-views (v ∷ vs) (suc k) = get-views vs k
-
 -- one more element is done
 pub one_more : {A B : Type 0} (f : A → B) (done all : List B) (x : A) (left : List A) → done ++ map f (x ∷ left) ≡ all → (done ++ f x ∷ []) ++ map f left ≡ all
 one_more f done all x left h = rw append_assoc h
+
+-- the same, where the element is known by its place
+pub views_here : (vs : List Value) (i : ℕ) (v : Value) → i < length vs → v ≡ get_or vs i v → drop i (map (λ v. view v) vs) ≡ view v ∷ drop (i + 1) (map (λ v. view v) vs)
+views_here vs i v below here = views-from vs i v below ∙ ap (λ x. view x ∷ drop (i + 1) (map (λ v. view v) vs)) (sym here)
+
+pub one_more_at :
+    {B : Type 0} (f : Data → B) (vs : List Value) (i : ℕ) (v : Value) (done more all : List B) (x : B) → i < length vs → v ≡ get_or vs i v
+    → x ≡ f (view v) → more ≡ done ++ x ∷ [] → done ++ map f (drop i (map (λ v. view v) vs)) ≡ all → more ++ map f (drop (i + 1) (map (λ v. view v) vs)) ≡ all
+one_more_at f vs i v done more all x below here value grown h =
+    let before : done ++ map f (view v ∷ drop (i + 1) (map (λ v. view v) vs)) ≡ all = rw (views_here vs i v below here) at h in
+    rw (grown, value) (one_more f done all (view v) (drop (i + 1) (map (λ v. view v) vs)) before)

@@ -1,9 +1,11 @@
+pub mod Agree
 pub mod Elements
 pub mod Finding
 pub mod LaneMail
 pub mod LegOrder
 pub mod NewSeats
 pub mod Numbers
+pub mod Reading
 pub mod Repeats
 pub mod Results
 pub mod RoundSteps

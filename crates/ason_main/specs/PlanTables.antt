@@ -1,13 +1,13 @@
 -- The tables of a plan: the top, its nodes and its links, each with its first fault and what it says.
-use Rattle.std.specs.Prelude.{ℕ, suc, ◌+◌, ◌++◌, ◌==◌, ◌&&◌, ◌||◌, nat_lt, nat_le, ℤ, pos, negsuc, Bool, true, false, not, List, [], ◌∷◌, length, map, codes, Option, Some, None, slice_get, unwrap_or, is_some, is_none, if◌then◌else◌}
+use Rattle.std.specs.Prelude.{ℕ, ◌+◌, ◌++◌, ◌==◌, ◌&&◌, ◌||◌, nat_lt, nat_le, ℤ, pos, negsuc, Bool, true, false, not, List, [], ◌∷◌, length, map, codes, Option, Some, None, slice_get, unwrap_or, is_some, is_none, if◌then◌else◌}
 use Rattle.std.specs.List.{list_all}
 use Rattle.ason_base.specs.Network.{is_distinct}
 use Rattle.ason_base.specs.declared.ids.NodeId.{NodeId}
 use Rattle.ason_base.specs.declared.network.NodeSpec.{NodeSpec}
 use Rattle.ason_base.specs.declared.network.LinkSpec.{LinkSpec}
-use Rattle.toml.specs.Data.{Data, string, integer, float, boolean, datetime, array, table, Items, no_items, item, Members, no_members, member, get, as_str, as_integer, as_bool, as_table}
+use Rattle.toml.specs.Data.{Data, integer, boolean, array, table, Items, no_items, item, Members, no_members, member, get, as_str, as_integer, as_bool, as_table}
 use Rattle.ason_main.specs.declared.plan.faults.PlanEntry.{PlanEntry}
-use Rattle.ason_main.specs.declared.plan.faults.PlanEntry.TheVariants.{Toml, Top, Node, Link, Script}
+use Rattle.ason_main.specs.declared.plan.faults.PlanEntry.TheVariants.{Node, Link}
 use Rattle.ason_main.specs.declared.plan.faults.PlanFault.{PlanFault}
 use Rattle.ason_main.specs.declared.plan.faults.PlanKind.{PlanKind}
 use Rattle.ason_main.specs.declared.plan.faults.PlanKind.TheVariants as kinds

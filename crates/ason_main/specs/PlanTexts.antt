@@ -1,7 +1,6 @@
 -- Names, words and numbers in the texts of a plan.
-use Rattle.std.specs.Prelude.{ℕ, ◌==◌, ◌&&◌, ◌||◌, ◌^◌, nat_eq, nat_lt, nat_le, Bool, true, false, not, List, [], ◌∷◌, length, filter, map, Option, Some, None, slice_get, unwrap_or, position, is_some, if◌then◌else◌}
+use Rattle.std.specs.Prelude.{ℕ, ◌==◌, ◌&&◌, ◌||◌, nat_eq, nat_le, Bool, true, false, not, List, [], ◌∷◌, length, filter, map, Option, Some, None, slice_get, unwrap_or, position, is_some, if◌then◌else◌}
 use Rattle.std.specs.List.{list_all, list_any, slice_split}
-use Rattle.std.specs.Option.{option_and_then}
 use Rattle.std.specs.Char.{is_ascii_alphabetic, is_ascii_alphanumeric, is_ascii_digit}
 use Rattle.std.specs.Str.Parse.{digits_value}
 use Rattle.ason_base.specs.declared.ids.NodeId.{NodeId}

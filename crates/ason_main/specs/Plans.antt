@@ -1,9 +1,10 @@
 -- What plan bytes spell, or their first fault.
-use Rattle.std.specs.Prelude.{◌≡◌, ◌⊎◌, ℕ, Bool, true, false, not, List, [], ◌∷◌, map, codes, Option, Some, None, Result, Ok, Err}
+use Rattle.std.specs.Prelude.{◌≡◌, ◌⊎◌, ℕ, Bool, true, false, List, [], ◌∷◌, map, codes, Option, Some, None, Result, Ok, Err}
 use Rattle.std.specs.Str.{IsUtf8}
-use Rattle.toml.specs.Data.{Data, Members, table, get}
+use Rattle.toml.specs.Data.{Data, Members, table}
 use Rattle.toml.specs.Parse.{parse_document}
 use Rattle.ason_base.specs.Network.{Network}
+use Rattle.ason_base.specs.declared.network.LinkSpec.{LinkSpec}
 use Rattle.ason_base.specs.declared.network.NodeSpec.{NodeSpec}
 use Rattle.ason_base.specs.declared.commands.Command.TheVariants.{Setup}
 use Rattle.ason_main.specs.declared.plan.faults.PlanEntry.TheVariants.{Toml, Top}
@@ -12,7 +13,7 @@ use Rattle.ason_main.specs.declared.plan.faults.PlanError.TheVariants.{Fault, Ou
 use Rattle.ason_main.specs.declared.plan.faults.PlanFault.{PlanFault}
 use Rattle.ason_main.specs.declared.plan.faults.PlanKind.TheVariants.{Syntax}
 use Rattle.ason_main.specs.declared.plan.lines.Line.{Line}
-use Rattle.ason_main.specs.declared.plan.lines.Line.TheVariants.{Post, Settle, Show}
+use Rattle.ason_main.specs.declared.plan.lines.Line.TheVariants.{Post}
 use Rattle.ason_main.specs.declared.plan.Plan.{Plan}
 use Rattle.ason_main.specs.PlanTables.{first_of, fault_at, elements_at, text_of, top_kind, name_of, node_of, nodes_fault, link_of, links_fault}
 use Rattle.ason_main.specs.PlanCalls.{no_calls}
@@ -26,28 +27,42 @@ names_in d = map name_of (elements_at (codes "node") d)
 abbrev pub nodes_in : Data → List NodeSpec
 nodes_in d = map node_of (elements_at (codes "node") d)
 
+abbrev pub links_in : Data → List LinkSpec
+links_in d = map (link_of (names_in d) (nodes_in d)) (elements_at (codes "link") d)
+
 abbrev pub network_in : Data → Network
-network_in d = record { wait = 0; nodes = nodes_in d; links = map (link_of (names_in d) (nodes_in d)) (elements_at (codes "link") d) }
+network_in d = record { wait = 0; nodes = nodes_in d; links = links_in d }
 
 abbrev pub script_in : Data → List (List ℕ)
 script_in d = map text_of (elements_at (codes "script") d)
 
--- the first fault: the top, then the nodes, the links and the script lines, each in order
+abbrev pub call_names_in : Data → List (List ℕ)
+call_names_in d = (calls_of (network_in d) (names_in d) no_calls (script_in d)).names
+
+abbrev pub lines_in : Data → List Line
+lines_in d = lines_of (network_in d) (names_in d) no_calls (script_in d)
+
+-- Its first fault
+
+abbrev pub top_fault_in : Data → Option PlanFault
+top_fault_in d = fault_at Top (top_kind d)
+
+abbrev pub nodes_fault_in : Data → Option PlanFault
+nodes_fault_in d = nodes_fault 1 0 [] (elements_at (codes "node") d)
+
+abbrev pub links_fault_in : Data → Option PlanFault
+links_fault_in d = links_fault (names_in d) (nodes_in d) 1 0 (elements_at (codes "link") d)
+
+abbrev pub script_fault_in : Data → Option PlanFault
+script_fault_in d = script_fault (network_in d) (names_in d) 1 no_calls (script_in d)
+
+-- the top, then the nodes, the links and the script lines, each in order
 abbrev pub fault_in : Data → Option PlanFault
-fault_in d =
-    first_of (fault_at Top (top_kind d))
-    (first_of (nodes_fault 1 0 [] (elements_at (codes "node") d))
-    (first_of (links_fault (names_in d) (nodes_in d) 1 0 (elements_at (codes "link") d))
-    (script_fault (network_in d) (names_in d) 1 no_calls (script_in d))))
+fault_in d = first_of (top_fault_in d) (first_of (nodes_fault_in d) (first_of (links_fault_in d) (script_fault_in d)))
 
 -- what a table without fault says
 abbrev pub plan_in : Data → Plan
-plan_in d = record {
-  topology = network_in d;
-  node_names = names_in d;
-  call_names = (calls_of (network_in d) (names_in d) no_calls (script_in d)).names;
-  lines = lines_of (network_in d) (names_in d) no_calls (script_in d);
-}
+plan_in d = record { topology = network_in d; node_names = names_in d; call_names = call_names_in d; lines = lines_in d }
 
 abbrev pub unless_fault : Option PlanFault → Plan → Result Plan PlanFault
 unless_fault None p = Ok p

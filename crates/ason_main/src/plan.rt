@@ -1,8 +1,15 @@
 //! Plans: the network, the script of lines to be run over it, and the first fault of what is no plan.
 
-ghost use Rattle.ason_main.specs.Plans.{Answers, FirstAnswers};
+ghost use Rattle.std.specs.Prelude.{◌≡◌, ◌≤◌, codes, length, IfErr, IfOk, OnOk, Ok, Err, Some, None};
+ghost use Rattle.toml.specs.View.{view};
+ghost use Rattle.ason_main.specs.Plans.{Answers, FirstAnswers, call_names_in, is_first_script, lines_in, links_fault_in, links_in, names_in, network_in, nodes_fault_in, nodes_in, plan_of, script_fault_in};
+ghost use Rattle.ason_main.specs.PlanTables.{elements_at};
+ghost use Rattle.ason_main.specs.declared.plan.faults.PlanError.{PlanError};
+ghost use Rattle.ason_main.specs.declared.plan.faults.PlanFault.{PlanFault};
 
+mod calls;
 mod faults;
+mod forms;
 mod lines;
 mod links;
 mod names;
@@ -12,12 +19,18 @@ mod top;
 mod values;
 mod words;
 
+use ason_base::{Command, LinkSpec, NodeSpec, OutOfMemory, Topology};
+use faults::fault;
 pub use faults::{PlanEntry, PlanError, PlanFault, PlanKind};
 pub use lines::{Line, Lines};
+use links::read_links;
 pub use names::{Name, Names};
-
-use ason_base::Topology;
+use nodes::{Nodes, read_nodes};
+use script::{Script, read_script};
 use std::alloc::Global;
+use toml::Value;
+use top::top_kind;
+use values::elements;
 
 /// A plan: the network, the names of its nodes and calls, each in order of number, and the script's lines.
 #[derive(Debug, Drop)]
@@ -28,16 +41,102 @@ pub struct Plan {
     pub lines: Lines,
 }
 
+// The topology of the nodes and links that were read.
+fn topology(alloc: Global, nodes: &[NodeSpec], links: &[LinkSpec]) -> Result<Topology, OutOfMemory>
+    ensures { IfOk result (λ t. t ≡ record { wait = 0; nodes = nodes.now; links = links.now }) }
+{
+    match Topology::new(alloc, 0, nodes, links) {
+        Ok(topology) => Ok(topology),
+        Err(_) => Err(OutOfMemory),
+    }
+}
+
+fn plan_nodes(alloc: Global, value: &Value) -> Result<Nodes, PlanError>
+    requires { length (elements_at (codes "node") (view value.now)) ≤ 64 }
+    ensures names { IfOk result (λ r. r.names ≡ names_in (view value.now)) }
+    ensures nodes { IfOk result (λ r. r.nodes.items ≡ nodes_in (view value.now)) }
+    ensures sound { OnOk result (nodes_fault_in (view value.now) ≡ None) }
+    ensures fault { IfErr result (λ e. (f : PlanFault) → e ≡ PlanError.Fault f → nodes_fault_in (view value.now) ≡ Some f) }
+{
+    read_nodes(alloc, elements(value, "node"))
+}
+
+fn plan_links(alloc: Global, value: &Value, nodes: &Nodes) -> Result<Vec<LinkSpec>, PlanError>
+    requires few { length (elements_at (codes "link") (view value.now)) ≤ 256 }
+    requires names { nodes.now.names ≡ names_in (view value.now) }
+    requires nodes { nodes.now.nodes.items ≡ nodes_in (view value.now) }
+    ensures links { IfOk result (λ r. r.items ≡ links_in (view value.now)) }
+    ensures sound { OnOk result (links_fault_in (view value.now) ≡ None) }
+    ensures fault { IfErr result (λ e. (f : PlanFault) → e ≡ PlanError.Fault f → links_fault_in (view value.now) ≡ Some f) }
+{
+    read_links(alloc, &nodes.names, &nodes.nodes, elements(value, "link"))
+}
+
+fn plan_script(
+    alloc: Global,
+    value: &Value,
+    t: &Topology,
+    names: &Names,
+) -> Result<Script, PlanError>
+    requires few { length (elements_at (codes "script") (view value.now)) ≤ 10000 }
+    requires names { names.now ≡ names_in (view value.now) }
+    requires network { t.now ≡ network_in (view value.now) }
+    ensures calls { IfOk result (λ s. s.call_names ≡ call_names_in (view value.now)) }
+    ensures lines { IfOk result (λ s. s.lines ≡ lines_in (view value.now)) }
+    ensures sound { OnOk result (script_fault_in (view value.now) ≡ None) }
+    ensures fault { IfErr result (λ e. (f : PlanFault) → e ≡ PlanError.Fault f → script_fault_in (view value.now) ≡ Some f) }
+{
+    read_script(alloc, t, names, elements(value, "script"))
+}
+
+fn read_table(alloc: Global, value: &Value) -> Result<Plan, PlanError>
+    ensures plan { IfOk result (λ p. plan_of (view value.now) ≡ Ok p) }
+    ensures fault { IfErr result (λ e. (f : PlanFault) → e ≡ PlanError.Fault f → plan_of (view value.now) ≡ Err f) }
+{
+    if let Some(kind) = top_kind(value) {
+        return Err(fault(PlanEntry::Top, kind));
+    }
+    let nodes = plan_nodes(alloc, value)?;
+    let links = plan_links(alloc, value, &nodes)?;
+    let topology = topology(alloc, &nodes.nodes, &links)?;
+    let script = plan_script(alloc, value, &topology, &nodes.names)?;
+    Ok(Plan {
+        topology,
+        node_names: nodes.names,
+        call_names: script.call_names,
+        lines: script.lines,
+    })
+}
+
 /// Reads a plan from TOML. A fault is the first: the text, the top table, then the nodes, the links and the script's lines, each in order.
 pub fn read_plan(alloc: Global, bytes: &[u8]) -> Result<Plan, PlanError>
     ensures { Answers bytes.now result }
 {
-    Err(PlanError::OutOfMemory)
+    match toml::table_from_slice(alloc, bytes) {
+        Ok(table) => read_table(alloc, &Value::Table(table)),
+        Err(e) if e.is_memory() => Err(PlanError::OutOfMemory),
+        Err(_) => Err(fault(PlanEntry::Toml, PlanKind::Syntax)),
+    }
+}
+
+fn is_first_script(lines: &[Line]) -> bool
+    ensures { result ≡ is_first_script lines.now }
+{
+    match lines {
+        [] => true,
+        [Line::Post(Command::Setup { .. })] => true,
+        _ => false,
+    }
 }
 
 /// Reads a plan whose script is empty or one setup. A fault comes exactly where the bytes are no such plan.
 pub fn read_first_plan(alloc: Global, bytes: &[u8]) -> Result<Plan, PlanError>
     ensures { FirstAnswers bytes.now result }
 {
-    Err(PlanError::OutOfMemory)
+    let plan = read_plan(alloc, bytes)?;
+    if is_first_script(plan.lines.items()) {
+        Ok(plan)
+    } else {
+        Err(fault(PlanEntry::Script(1), PlanKind::Unbuilt))
+    }
 }

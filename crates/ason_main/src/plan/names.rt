@@ -1,7 +1,6 @@
 //! Names of nodes and calls.
 
-ghost use Rattle.std.specs.Prelude.{◌≡◌, [], ◌∷◌, ◌++◌, IfOk, IsTrue, OnErr, OnOk};
-
+ghost use Rattle.std.specs.Prelude.{◌≡◌, ◌<◌, [], ◌∷◌, ◌++◌, length, IfOk, IfSome, IsTrue, OnErr, OnOk};
 ghost use Rattle.ason_main.specs.PlanTexts.{has_name, is_name, place_of, same_text};
 
 use ason_base::OutOfMemory;
@@ -89,7 +88,8 @@ impl Names {
 
     /// The place of a name, from 0: none exactly where it isn't there.
     pub fn place(&self, name: &[u8]) -> Option<usize>
-        ensures { result ≡ place_of self.now name.now }
+        ensures place { result ≡ place_of self.now name.now }
+        ensures within { IfSome result (λ k. k < length self.now) }
     {
         self.names.iter().position(|n| n.is(name))
     }

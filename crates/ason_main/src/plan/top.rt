@@ -1,11 +1,13 @@
 //! The top table of a plan.
 
-ghost use Rattle.std.specs.Prelude.{◌≡◌};
+ghost use Rattle.std.specs.Prelude.{◌≡◌, IfNone, IsTrue};
 ghost use Rattle.toml.specs.View.{view};
 ghost use Rattle.ason_main.specs.PlanTables.{has_top_counts, has_top_kinds, top_kind, top_value_kind};
 
 use super::faults::PlanKind;
-use super::values::{Shape, are_tables_at, are_texts_at, count, has_strange, is_integer_at, lacks, number_or};
+use super::values::{
+    Shape, are_tables_at, are_texts_at, count, has_strange, is_integer_at, lacks, number_or,
+};
 use toml::Value;
 
 fn has_kinds(value: &Value) -> bool
@@ -25,7 +27,8 @@ fn has_counts(value: &Value) -> bool
 }
 
 fn value_kind(value: &Value) -> Option<PlanKind>
-    ensures { result ≡ top_value_kind (view value.now) }
+    ensures first { result ≡ top_value_kind (view value.now) }
+    ensures counts { IfNone result (IsTrue (has_top_counts (view value.now))) }
 {
     if !has_counts(value) {
         return Some(PlanKind::Count);
@@ -41,7 +44,8 @@ fn value_kind(value: &Value) -> Option<PlanKind>
 
 /// The first fault of the top table itself.
 pub fn top_kind(value: &Value) -> Option<PlanKind>
-    ensures { result ≡ top_kind (view value.now) }
+    ensures first { result ≡ top_kind (view value.now) }
+    ensures counts { IfNone result (IsTrue (has_top_counts (view value.now))) }
 {
     if has_strange(Shape::OfTop, value) {
         return Some(PlanKind::Key);

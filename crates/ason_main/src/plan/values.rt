@@ -243,7 +243,11 @@ fn is_key(shape: Shape, key: &str) -> bool
     match shape {
         Shape::OfTop => key == "wait" || key == "script" || key == "node" || key == "link",
         Shape::OfNode => key == "name" || key == "id" || key == "convert",
-        Shape::OfLink => key == "id" || key == "ends" || key == "labels" || key == "metric" || key == "srlg",
+        Shape::OfLink => key == "id"
+            || key == "ends"
+            || key == "labels"
+            || key == "metric"
+            || key == "srlg",
     }
 }
 

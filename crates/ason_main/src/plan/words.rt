@@ -46,9 +46,7 @@ pub fn count_words(line: &[u8]) -> usize
 fn nth_word(line: &[u8], k: usize) -> Option<&[u8]>
     ensures { option_map (λ w. w.now) result ≡ slice_get (words_of line.now) k }
 {
-    line.split(|b| *b == b' ')
-        .filter(|w| !w.is_empty())
-        .nth(k)
+    line.split(|b| *b == b' ').filter(|w| !w.is_empty()).nth(k)
 }
 
 /// The word at a place, from 0; empty where there is none.
@@ -73,7 +71,9 @@ pub fn is_number(word: &[u8]) -> bool
 {
     match word {
         [] => false,
-        [first, others @ ..] => first.is_ascii_digit() && are_digits(others) && (*first != b'0' || others.is_empty()),
+        [first, others @ ..] => first.is_ascii_digit()
+            && are_digits(others)
+            && (*first != b'0' || others.is_empty()),
     }
 }
 
@@ -120,7 +120,8 @@ pub fn are_numbers(word: &[u8]) -> bool
 pub fn are_link_ids(word: &[u8]) -> bool
     ensures { result ≡ are_link_ids word.now }
 {
-    word.split(|b| *b == b',').all(|part| link_id(part).is_some())
+    word.split(|b| *b == b',')
+        .all(|part| link_id(part).is_some())
 }
 
 fn collect_ids(alloc: Global, word: &[u8]) -> Result<Vec<u32>, AllocError>

@@ -1,4 +1,3 @@
-use Rattle.std.proofs.Common.{◌≡◌}
 use Rattle.ason_main.proofs.Numbers.{digits_of_number, not_parsed}
 use Rattle.ason_main.proofs.Texts.{utf8_digits}
 use Rattle.ason_main.proofs.plan.words.digits.Goals as goal

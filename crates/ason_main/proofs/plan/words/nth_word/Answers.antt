@@ -1,6 +1,5 @@
 use Rattle.std.proofs.Common.{◌==◌, not, rules, tests}
 use Rattle.std.proofs.lemmas.Iterator.Consumers.{YieldsList-at, nth_from_yields_List, YieldsList-from_filter}
-use Rattle.std.proofs.lemmas.Iterator.{YieldsList}
 use Rattle.std.proofs.lemmas.Iterator.Splits.{YieldsList-from_slice_split}
 use Rattle.ason_main.specs.PlanTexts.{is_empty}
 use Rattle.ason_main.proofs.plan.words.nth_word.Goals as goal
