@@ -1,5 +1,5 @@
 -- The loop that ages each message in its place.
-use Rattle.std.proofs.Common.{◌≡◌, ◌≢◌, ℕ, ◌+◌, ◌<◌, ◌==◌, zero, suc, true, List, [], ◌∷◌, ◌++◌, length, get_or, set, take, drop, map, refl, ap, sym, arith, add-one}
+use Rattle.std.proofs.Common.{◌≡◌, ℕ, ◌+◌, ◌<◌, ◌==◌, zero, suc, true, List, [], ◌∷◌, ◌++◌, length, get_or, set, take, drop, map, refl, ap, sym, arith, add-one}
 use Rattle.ason_base.specs.declared.messages.MsgId.{MsgId}
 use Rattle.hop_reliable.specs.declared.unacked.Unacked.{Unacked}
 use Rattle.hop_reliable.specs.Ages.{older_age}

@@ -1,5 +1,5 @@
 -- What lasts from one end of a hop, the sender, to the other, the receiver.
-use Rattle.std.proofs.Common.{◌≡◌, ℕ, ◌+◌, ◌≤◌, ◌⊎◌, inl, inr, true, Some, List, [], ◌∷◌, ◌++◌, length, take}
+use Rattle.std.proofs.Common.{◌≡◌, ℕ, ◌+◌, ◌≤◌, ◌⊎◌, true, Some, List, [], ◌∷◌, length, take}
 use Rattle.std.specs.List.{AllByRecursion, slice_get, list_any}
 use Rattle.ason_base.specs.declared.messages.Msg.{Msg}
 use Rattle.ason_base.specs.declared.messages.MsgId.{MsgId}

@@ -5,3 +5,4 @@ pub mod Sending
 pub mod Taking
 pub mod Schedule
 pub mod Intervals
+pub mod Order

@@ -1,11 +1,11 @@
 -- Every schedule.
-use Rattle.std.proofs.Common.{◌≡◌, ℕ, ◌+◌, ◌<◌, ◌≤◌, ◌⊎◌, inl, inr, zero, suc, Option, Some, None, List, [], ◌∷◌, ◌++◌, length, take, drop, refl, ap, sym, ◌∙◌, subst, arith, take-append-drop}
+use Rattle.std.proofs.Common.{◌≡◌, ℕ, ◌+◌, ◌<◌, ◌≤◌, inl, inr, suc, Option, Some, None, List, [], ◌∷◌, ◌++◌, length, take, drop, refl, ap, ◌∙◌, subst, arith, take-append-drop}
 use Rattle.std.proofs.Math.Seq.{take-length}
 use Rattle.std.specs.List.{slice_get, Any}
 use Rattle.ason_base.specs.declared.messages.Msg.{Msg}
 use Rattle.ason_base.specs.declared.messages.Packet.{Packet}
 use Rattle.hop_reliable.specs.declared.unacked.Unacked.{Unacked}
-use Rattle.hop_reliable.specs.Schedules.{HopEnd, HopPair, idle, start, Happening, Side, West, East, Sends, Ticks, Takes, sends, ticks, takes, happens, after, IsInOrder, IsKept, IsSettled, HandedUpInOrder, NothingIsLost, SettledIsDelivered}
+use Rattle.hop_reliable.specs.Schedules.{HopEnd, HopPair, idle, start, Happening, West, East, Sends, Ticks, Takes, takes, happens, after, IsInOrder, IsKept, IsSettled, HandedUpInOrder, NothingIsLost, SettledIsDelivered}
 use Rattle.hop_reliable.proofs.Members.{each-get, get_there, length-take_within}
 use Rattle.hop_reliable.proofs.Flow.{IsOwn, AcksUpTo, Has, Flow}
 use Rattle.hop_reliable.proofs.Sending.{flow-sends_from, flow-sends_to, flow-ticks_from, flow-ticks_to}

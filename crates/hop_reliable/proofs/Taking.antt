@@ -1,7 +1,7 @@
 -- Taking a frame that the other end made keeps what lasts between the two ends.
-use Rattle.std.proofs.Common.{◌≡◌, ℕ, ◌+◌, ◌<◌, ◌≤◌, ◌⊎◌, inl, inr, Bool, true, false, cond, not, ◌&&◌, ◌||◌, nat_lt, nat_le, nat_eq, Option, Some, None, List, [], ◌∷◌, ◌++◌, length, take, refl, ap, sym, ◌∙◌, subst, arith, add-one}
+use Rattle.std.proofs.Common.{◌≡◌, ℕ, ◌+◌, ◌<◌, ◌≤◌, inl, inr, true, false, cond, not, Option, Some, None, List, [], ◌∷◌, ◌++◌, length, refl, ◌∙◌, subst, arith, add-one}
 use Rattle.std.proofs.lemmas.List.{append-nil}
-use Rattle.std.specs.List.{AllByRecursion, slice_get, list_any, filter}
+use Rattle.std.specs.List.{AllByRecursion, slice_get, list_any}
 use Rattle.ason_base.specs.declared.messages.Msg.{Msg}
 use Rattle.ason_base.specs.declared.messages.MsgId.{MsgId}
 use Rattle.ason_base.specs.declared.messages.Packet.{Packet}
@@ -10,7 +10,7 @@ use Rattle.hop_reliable.specs.declared.heard.Heard.TheVariants.{Acked, Unnumbere
 use Rattle.hop_reliable.specs.declared.unacked.Unacked.{Unacked}
 use Rattle.hop_reliable.specs.Hop.{is_ack_of, is_acked, still_unacked, heard_number, heard_as, handed_up_after, handed_up_of, ack_of, answers_to}
 use Rattle.hop_reliable.specs.Schedules.{HopEnd, takes}
-use Rattle.hop_reliable.proofs.Members.{each-append, each-more, each-get, get_within, take_next}
+use Rattle.hop_reliable.proofs.Members.{each-append, each-more, get_within, take_next}
 use Rattle.hop_reliable.proofs.Flow.{IsNumbered, IsOwn, AcksUpTo, Waits, Has, Flow}
 
 -- The end that takes a frame, as the sender: it takes off what the frame acknowledges.

@@ -1,8 +1,7 @@
 -- Two ends of a hop over a channel that loses, repeats and reorders, and what holds under every schedule.
-use Rattle.std.specs.Prelude.{◌≡◌, ℕ, ◌+◌, ◌≤◌, Option, Some, None, List, [], ◌∷◌, ◌++◌, length, slice_get, Any}
+use Rattle.std.specs.Prelude.{◌<◌, AllPairs, ◌≡◌, ℕ, ◌+◌, ◌≤◌, Option, Some, None, List, [], ◌∷◌, ◌++◌, length, slice_get, Any}
 use Rattle.ason_base.specs.declared.messages.Msg.{Msg}
 use Rattle.ason_base.specs.declared.messages.Packet.{Packet}
-use Rattle.hop_reliable.specs.declared.unacked.Unacked.{Unacked}
 use Rattle.hop_reliable.specs.Hop.{HopState, fresh, numbered, sent_message, ticked, resent, heard_as, received, handed_up_of, answers_to}
 
 pub data Side : Type 0 where
@@ -88,3 +87,10 @@ NothingIsLost = (schedule : List Happening) → BothWays IsKept (after start sch
 
 abbrev pub SettledIsDelivered : Type 0
 SettledIsDelivered = (schedule : List Happening) → BothWays IsSettled (after start schedule)
+
+-- the unacknowledged messages stand in order of number, so what a tick sends again does too
+abbrev pub IsRising : HopEnd → Type 0
+IsRising e = AllPairs (λ v w. v.number < w.number) e.hop.unacked
+
+abbrev pub UnackedRise : Type 0
+UnackedRise = (schedule : List Happening) → IsRising (after start schedule).west × IsRising (after start schedule).east

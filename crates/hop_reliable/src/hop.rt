@@ -108,3 +108,74 @@ impl Hop {
         self.sent
     }
 }
+
+#[cfg(test)]
+mod tests {
+    use super::*;
+    use ason_base::{Ids, LinkId, Lsp, MsgId, NodeId};
+    use std::test::Fail;
+
+    fn tear(tunnel: u16) -> Msg {
+        Msg::PathTear {
+            lsp: Lsp {
+                ingress: NodeId(1),
+                tunnel,
+                lsp: 1,
+            },
+            egress: NodeId(3),
+            link: LinkId(2),
+        }
+    }
+
+    #[test]
+    fn hands_up_each_message_once_and_in_order(rt: HostRuntime) -> Result<(), Fail> {
+        let mut sender = Hop::new(rt.alloc());
+        let first = sender.send(rt.alloc(), tear(1))?;
+        let second = sender.send(rt.alloc(), tear(2))?;
+        let third = sender.send(rt.alloc(), tear(3))?;
+        let mut receiver = Hop::new(rt.alloc());
+        for (packet, heard) in [
+            (&first, Heard::Next),
+            (&first, Heard::Repeat),
+            (&third, Heard::Ahead),
+            (&second, Heard::Next),
+            (&third, Heard::Next),
+        ] {
+            assert_eq!(rt; receiver.receive(packet), heard, "{packet:?}");
+        }
+        Ok(())
+    }
+
+    #[test]
+    fn sends_again_until_it_is_acknowledged(rt: HostRuntime) -> Result<(), Fail> {
+        let mut hop = Hop::new(rt.alloc());
+        let first = hop.send(rt.alloc(), tear(1))?;
+        let mut same = hop.copy(rt.alloc())?;
+        for tick in 1..=130u32 {
+            let due = same.tick(rt.alloc())?.len();
+            let want = usize::from([1, 3, 7, 67, 127].contains(&tick));
+            assert_eq!(rt; due, want, "at tick {tick}");
+        }
+        let mut acks = Ids::new(rt.alloc());
+        acks.push(MsgId {
+            epoch: 1,
+            number: 1,
+        })?;
+        let ack = Packet {
+            id: None,
+            acks,
+            body: None,
+        };
+        assert_eq!(rt; (same.sent(), same.pending()), (1, 1));
+        assert_eq!(rt; same.receive(&ack), Heard::Acked);
+        assert_eq!(rt; (same.sent(), same.pending()), (1, 0));
+        assert_eq!(rt;
+            first.id,
+            Some(MsgId {
+                epoch: 1,
+                number: 1
+            })
+        );
+        Ok(())
+    }
+}
