@@ -1,0 +1,34 @@
+//! The Internet checksum (RFC 1071).
+
+ghost use Rattle.std.specs.Prelude.{◌≡◌};
+ghost use Rattle.wire_buf.specs.Checksum.{checksum_of, ones_add};
+
+use crate::cursor::Cursor;
+
+// Addition in one's complement: the carry out of the top is added at the bottom.
+fn ones_sum(a: u16, b: u16) -> u16
+    ensures { result ≡ ones_add a b }
+{
+    let sum = u32::from(a) + u32::from(b);
+    if sum > 0xFFFF {
+        (sum - 0xFFFF) as u16
+    } else {
+        sum as u16
+    }
+}
+
+/// The one's complement of the one's complement sum of the 16-bit words. An odd last byte is the high byte of a word
+/// whose low byte is 0 (RFC 1071, sections 1 and 4.1).
+pub fn internet_checksum(bytes: &[u8]) -> u16
+    ensures { result ≡ checksum_of bytes.now }
+{
+    let mut cursor = Cursor::new(bytes);
+    let mut sum = 0;
+    'words: while let Some(word) = cursor.u16() {
+        sum = ones_sum(sum, word);
+    }
+    if let Some(last) = cursor.u8() {
+        sum = ones_sum(sum, u16::from(last) << 8);
+    }
+    !sum
+}
