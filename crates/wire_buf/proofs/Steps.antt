@@ -1,10 +1,12 @@
 -- Reading steps one after the other.
-use Rattle.std.proofs.Common.{◌≡◌, ℕ, zero, suc, ◌+◌, ◌-◌, ◌*◌, ◌<◌, ◌≤◌, List, [], ◌∷◌, ◌++◌, length, take, drop, refl, ap, sym, subst, ◌∙◌, arith, append_assoc, length-drop, length-append, Bool, true, false, eqb}
-use Rattle.std.proofs.lemmas.List.{append-nil, nil_from_length, length-take}
-use Rattle.std.specs.List.{flat_map}
+use Rattle.std.proofs.Common.{◌≡◌, ℕ, ◌+◌, ◌*◌, ◌<◌, ◌≤◌, List, [], ◌∷◌, ◌++◌, length, take, drop, refl, ap, sym, subst, ◌∙◌, arith, append_assoc, length-drop, length-append, Bool, true, false, eqb}
+use Rattle.std.proofs.lemmas.List.{append-nil, nil_from_length, length-take, take_at, drop_at}
+use Rattle.std.proofs.lemmas.List.Elements.{All-head, All-tail}
+use Rattle.std.specs.List.{All}
 use Rattle.std.proofs.lemmas.List.Concat.{flat_map-cons}
 use Rattle.ason_base.specs.declared.steps.Step.{Step}
-use Rattle.wire_buf.specs.Routes.{AreSteps, IsRoute, IsStep, step_bytes, route_bytes}
+use Rattle.wire_buf.specs.Routes.{AreSteps, HasIds, IsRoute, IsStep, step_bytes, route_bytes}
+use Rattle.wire_buf.proofs.Numbers.{again_4}
 use Rattle.wire_buf.specs.Objects.{header, object}
 
 pub same_step : (bytes : List ℕ) (a b : Step) → IsStep bytes a → IsStep bytes b → a ≡ b
@@ -75,3 +77,17 @@ pub route_written : (old reserved headed new : List ℕ) (items steps : List Ste
 route_written old reserved headed new items steps len class ctype same is_len e1 e2 e3 =
     let total : len ≡ 4 + length (route_bytes items) = omega (arith, route_bytes-length items) in
     rw (e3, e2, e1, total, same) (append_assoc old (header (4 + length (route_bytes steps)) class ctype) (route_bytes steps))
+
+step_again : (s : Step) → HasIds s → IsStep (step_bytes s) s
+step_again s ids = (refl, refl, refl, λ i. record { node = record { 0 = sym (again_4 s.node.0 ids.0) i }; link = record { 0 = sym (again_4 s.link.0 ids.1) i } })
+
+are_again : (steps : List Step) → All HasIds steps → AreSteps (route_bytes steps) steps
+are_again [] ids = refl
+are_again (s ∷ ss) ids =
+    let head = step_again s (All-head HasIds s ss ids) in
+    let tail = are_again ss (All-tail HasIds s ss ids) in
+    subst (λ (l : List ℕ). AreSteps l (s ∷ ss)) (sym (flat_map-cons step_bytes s ss))
+    (subst (λ (l : List ℕ). IsStep l s) (sym (take_at (step_bytes s) (route_bytes ss) 12 refl)) head, subst (λ (l : List ℕ). AreSteps l ss) (sym (drop_at (step_bytes s) (route_bytes ss) 12 refl)) tail)
+
+pub route_again : (steps : List Step) → 1 ≤ length steps → length steps ≤ 64 → All HasIds steps → IsRoute (route_bytes steps) steps
+route_again steps some few ids = (some, few, are_again steps ids)

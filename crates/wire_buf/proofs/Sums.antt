@@ -1,8 +1,10 @@
 -- The one's complement sum, word by word.
-use Rattle.std.proofs.Common.{◌≡◌, ℕ, zero, suc, ◌+◌, ◌-◌, ◌*◌, ◌%◌, ◌<◌, ◌≤◌, List, [], ◌∷◌, length, drop, refl, ap, sym, ◌∙◌, arith, cond, ltb, Bool, true, false}
-use Rattle.std.specs.Prelude.{sum}
+use Rattle.std.proofs.Common.{◌≡◌, ℕ, zero, suc, ◌+◌, ◌-◌, ◌*◌, ◌%◌, ◌<◌, ◌≤◌, List, [], ◌∷◌, length, drop, refl, ap, ◌∙◌, arith, cond, ltb, true, false}
+use Rattle.std.specs.Prelude.{sum, All}
 use Rattle.std.proofs.lemmas.Bool.{ltb-true, ltb-false}
 use Rattle.std.proofs.lemmas.List.Sums.{sum_by-cons}
+use Rattle.std.specs.List.{fold}
+use Rattle.std.proofs.lemmas.List.Elements.{All-head, All-tail}
 use Rattle.byteorder.specs.Endian.{big_number}
 use Rattle.wire_buf.specs.Checksum.{words, ones_of, ones_add}
 
@@ -54,3 +56,13 @@ pub ends_odd : (bytes left : List ℕ) (so_far last new : ℕ) → length left �
 ends_odd bytes left so_far last new one is_last fits is_new sums =
     let e : sums.total + last * 256 ≡ sum (words bytes) = omega (arith, sums.whole, words_last left one) in
     is_new ∙ ap (λ (n : ℕ). ones_add n (last * 256)) sums.is ∙ ones_more sums.total (last * 256) (omega arith) ∙ ap ones_of e
+
+add_all : (n : ℕ) (ws : List ℕ) → All (λ w. w < 65536) ws → fold ones_add (ones_of n) ws ≡ ones_of (n + sum ws)
+add_all n [] fit = ap ones_of (omega arith)
+add_all n (w ∷ ws) fit =
+    let others = add_all (n + w) ws (All-tail (λ w. w < 65536) w ws fit) in
+    let total : n + w + sum ws ≡ n + sum (w ∷ ws) = omega (arith, sum_by-cons (λ x. x) w ws) in
+    ap (λ (m : ℕ). fold ones_add m ws) (ones_more n w (All-head (λ w. w < 65536) w ws fit)) ∙ others ∙ ap ones_of total
+
+pub all_at_once : (ws : List ℕ) → All (λ w. w < 65536) ws → fold ones_add 0 ws ≡ ones_of (sum ws)
+all_at_once ws fit = let e : 0 + sum ws ≡ sum ws = omega arith in add_all 0 ws fit ∙ ap ones_of e

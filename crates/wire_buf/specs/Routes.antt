@@ -1,5 +1,5 @@
 -- Routes as subobjects for unnumbered interfaces (RFC 3209, section 4.3; RFC 3477, section 4).
-use Rattle.std.specs.Prelude.{◌≡◌, ◌≤◌, ℕ, ◌+◌, ◌*◌, List, [], ◌∷◌, ◌++◌, length, take, drop}
+use Rattle.std.specs.Prelude.{◌≡◌, ◌≤◌, ◌<◌, ◌^◌, ℕ, List, [], ◌∷◌, ◌++◌, length, take, drop}
 use Rattle.std.specs.List.{flat_map}
 use Rattle.byteorder.specs.Endian.{big_bytes}
 use Rattle.ason_base.specs.declared.steps.Step.{Step}
@@ -20,6 +20,10 @@ AreSteps bytes (s ∷ ss) = IsStep (take 12 bytes) s × AreSteps (drop 12 bytes)
 -- a route has 1 to 64 steps
 abbrev pub IsRoute : List ℕ → List Step → Type 0
 IsRoute body steps = (1 ≤ length steps) × (length steps ≤ 64) × AreSteps body steps
+
+-- both ids have 32 bits
+abbrev pub HasIds : Step → Type 0
+HasIds s = (s.node.0 < 2 ^ 32) × (s.link.0 < 2 ^ 32)
 
 -- the written form of a step
 abbrev pub step_bytes : Step → List ℕ

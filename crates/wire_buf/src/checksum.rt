@@ -1,7 +1,7 @@
 //! The Internet checksum (RFC 1071).
 
-ghost use Rattle.std.specs.Prelude.{◌≡◌};
-ghost use Rattle.wire_buf.specs.Checksum.{checksum_of, ones_add};
+ghost use Rattle.std.specs.Prelude.{◌≡◌, ◌<◌, List, ℕ, All, fold, sum};
+ghost use Rattle.wire_buf.specs.Checksum.{checksum_of, ones_add, ones_of};
 
 use crate::cursor::Cursor;
 
@@ -16,6 +16,11 @@ fn ones_sum(a: u16, b: u16) -> u16
         sum as u16
     }
 }
+
+/// Law: words that are added one by one in one's complement have the sum that all of them have at once.
+pub fn carries_may_wait()
+    ensures { (words : List ℕ) → All (λ w. w < 65536) words → fold ones_add 0 words ≡ ones_of (sum words) }
+{}
 
 /// The one's complement of the one's complement sum of the 16-bit words. An odd last byte is the high byte of a word
 /// whose low byte is 0 (RFC 1071, sections 1 and 4.1).

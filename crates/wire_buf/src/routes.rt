@@ -1,9 +1,9 @@
 //! Routes: strict lists of unnumbered interfaces (RFC 3209, section 4.3; RFC 3477, section 4).
 
-ghost use Rattle.std.specs.Prelude.{◌≡◌, ◌≤◌, ◌<◌, ◌+◌, ◌*◌, ◌++◌, [], ◌∷◌, List, take, drop, length, Some, IfSome, IfOk, IsErrOf, OnErr, OnOk, vec_len, vec_capacity};
+ghost use Rattle.std.specs.Prelude.{◌≡◌, ◌≤◌, ◌<◌, ◌+◌, ◌*◌, ◌++◌, [], ◌∷◌, List, take, drop, length, Some, All, IfSome, IfOk, IsErrOf, OnErr, OnOk, vec_len, vec_capacity};
 ghost use Rattle.ason_base.specs.declared.steps.Step.{Step};
 ghost use Rattle.wire_buf.specs.Objects.{object};
-ghost use Rattle.wire_buf.specs.Routes.{AreSteps, IsRoute, IsStep, route_bytes, step_bytes};
+ghost use Rattle.wire_buf.specs.Routes.{AreSteps, HasIds, IsRoute, IsStep, route_bytes, step_bytes};
 
 use crate::cursor::Cursor;
 use crate::objects::put_header;
@@ -65,6 +65,11 @@ pub fn read_steps(alloc: Global, body: &[u8]) -> Result<Steps, DecodeError>
     Ok(steps)
 }
 
+/// Law: what is written of a route is read as that route again.
+pub fn routes_come_back()
+    ensures { (steps : List Step) → 1 ≤ length steps → length steps ≤ 64 → All HasIds steps → IsRoute (route_bytes steps) steps }
+{}
+
 fn put_step(out: &mut Vec<u8>, step: &Step)
     requires { vec_len out.old + 12 ≤ vec_capacity out.old }
     ensures items { out.new.items ≡ out.old.items ++ step_bytes step.now }
@@ -88,7 +93,12 @@ fn put_steps(out: &mut Vec<u8>, steps: &[Step])
 }
 
 /// Appends the object of this class whose body is the route.
-pub fn write_steps(out: &mut Vec<u8>, class: u8, ctype: u8, steps: &Steps) -> Result<(), OutOfMemory>
+pub fn write_steps(
+    out: &mut Vec<u8>,
+    class: u8,
+    ctype: u8,
+    steps: &Steps,
+) -> Result<(), OutOfMemory>
     requires { length steps.now ≤ 64 }
     ensures ok { OnOk result (out.new.items ≡ out.old.items ++ object class ctype (route_bytes steps.now)) }
     ensures err { OnErr result (out.new.items ≡ out.old.items) }

@@ -1,4 +1,4 @@
-use Rattle.std.proofs.Common.{ℕ, length}
+use Rattle.std.proofs.Common.{length}
 use Rattle.wire_buf.proofs.Sums.{SumsTo}
 use Rattle.wire_buf.proofs.checksum.internet_checksum.Given as goal
 

@@ -1,4 +1,4 @@
-use Rattle.std.proofs.Common.{length, ◌<◌, ◌≤◌}
+use Rattle.std.proofs.Common.{length}
 use Rattle.wire_buf.proofs.Steps.{ReadSteps}
 use Rattle.wire_buf.proofs.routes.read_steps.Given as goal
 
