@@ -1,0 +1,68 @@
+-- The one's complement sum, word by word.
+use Rattle.std.proofs.Common.{◌≡◌, ℕ, zero, suc, ◌+◌, ◌-◌, ◌*◌, ◌%◌, ◌<◌, ◌≤◌, List, [], ◌∷◌, length, drop, refl, ap, ◌∙◌, arith, cond, ltb, true, false}
+use Rattle.std.specs.Prelude.{sum, All}
+use Rattle.std.proofs.lemmas.Bool.{ltb-true, ltb-false}
+use Rattle.std.proofs.lemmas.List.Sums.{sum_by-cons}
+use Rattle.std.specs.List.{fold}
+use Rattle.std.proofs.lemmas.List.Elements.{All-head, All-tail}
+use Rattle.byteorder.specs.Endian.{big_number}
+use Rattle.wire_buf.specs.Checksum.{words, ones_of, ones_add}
+
+-- what was added up so far, and what is still to come
+pub record SumsTo (bytes left : List ℕ) (so_far : ℕ) : Type 0 where
+  pub total : ℕ
+  pub is : so_far ≡ ones_of total
+  pub whole : total + sum (words left) ≡ sum (words bytes)
+
+read_two : (a b : ℕ) (left : List ℕ) → big_number 2 (a ∷ b ∷ left) ≡ a * 256 + b
+read_two a b left = omega arith
+
+words_front : (left : List ℕ) → 2 ≤ length left → sum (words left) ≡ big_number 2 left + sum (words (drop 2 left))
+words_front [] h = absurd (omega arith)
+words_front (a ∷ []) h = absurd (omega arith)
+words_front (a ∷ b ∷ left) h = rw (read_two a b left) (sum_by-cons (λ x. x) (a * 256 + b) (words left))
+
+words_last : (left : List ℕ) → length left ≡ 1 → sum (words left) ≡ big_number 1 left * 256
+words_last [] h = absurd (omega arith)
+words_last (a ∷ []) h = omega arith
+words_last (a ∷ b ∷ left) h = absurd (omega arith)
+
+words_none : (left : List ℕ) → length left ≡ 0 → sum (words left) ≡ 0
+words_none [] h = refl
+words_none (a ∷ left) h = absurd (omega arith)
+
+first_word : (w : ℕ) → w < 65536 → 0 + w ≡ ones_of (0 + w)
+first_word zero h = refl
+first_word (suc w) h = let shape : 0 + suc w ≡ suc w = omega arith in rw shape (omega arith)
+
+-- a word more
+pub ones_more : (n w : ℕ) → w < 65536 → ones_add (ones_of n) w ≡ ones_of (n + w)
+ones_more zero w h = elim (ltb 65535 (0 + w)) as (λ b. ltb 65535 (0 + w) ≡ b → cond b (0 + w - 65535) (0 + w) ≡ ones_of (0 + w)) [ true ↦ λ t. let big = ltb-true _ _ t in absurd (omega arith) | false ↦ λ t. let small = ltb-false _ _ t in first_word w h ] refl
+ones_more (suc n) w h =
+    let shape : suc n + w ≡ suc (n + w) = omega arith in
+    rw shape (elim (ltb 65535 (n % 65535 + 1 + w)) as (λ b. ltb 65535 (n % 65535 + 1 + w) ≡ b → cond b (n % 65535 + 1 + w - 65535) (n % 65535 + 1 + w) ≡ (n + w) % 65535 + 1) [ true ↦ λ t. let big = ltb-true _ _ t in omega arith | false ↦ λ t. let small = ltb-false _ _ t in omega arith ] refl)
+
+pub adds_word : (bytes left after : List ℕ) (so_far word new : ℕ) → 2 ≤ length left → word ≡ big_number 2 left → word < 65536 → after ≡ drop 2 left → new ≡ ones_add so_far word → SumsTo bytes left so_far → SumsTo bytes after new
+adds_word bytes left after so_far word new long is_word fits is_after is_new sums = record {
+  total = sums.total + word;
+  is = is_new ∙ ap (λ (n : ℕ). ones_add n word) sums.is ∙ ones_more sums.total word fits;
+  whole = rw is_after (let front = words_front left long in omega (arith, sums.whole));
+}
+
+pub ends_even : (bytes left : List ℕ) (so_far : ℕ) → length left ≡ 0 → SumsTo bytes left so_far → so_far ≡ ones_of (sum (words bytes))
+ends_even bytes left so_far none sums = let e : sums.total ≡ sum (words bytes) = omega (arith, sums.whole, words_none left none) in sums.is ∙ ap ones_of e
+
+pub ends_odd : (bytes left : List ℕ) (so_far last new : ℕ) → length left ≡ 1 → last ≡ big_number 1 left → last < 256 → new ≡ ones_add so_far (last * 256) → SumsTo bytes left so_far → new ≡ ones_of (sum (words bytes))
+ends_odd bytes left so_far last new one is_last fits is_new sums =
+    let e : sums.total + last * 256 ≡ sum (words bytes) = omega (arith, sums.whole, words_last left one) in
+    is_new ∙ ap (λ (n : ℕ). ones_add n (last * 256)) sums.is ∙ ones_more sums.total (last * 256) (omega arith) ∙ ap ones_of e
+
+add_all : (n : ℕ) (ws : List ℕ) → All (λ w. w < 65536) ws → fold ones_add (ones_of n) ws ≡ ones_of (n + sum ws)
+add_all n [] fit = ap ones_of (omega arith)
+add_all n (w ∷ ws) fit =
+    let others = add_all (n + w) ws (All-tail (λ w. w < 65536) w ws fit) in
+    let total : n + w + sum ws ≡ n + sum (w ∷ ws) = omega (arith, sum_by-cons (λ x. x) w ws) in
+    ap (λ (m : ℕ). fold ones_add m ws) (ones_more n w (All-head (λ w. w < 65536) w ws fit)) ∙ others ∙ ap ones_of total
+
+pub all_at_once : (ws : List ℕ) → All (λ w. w < 65536) ws → fold ones_add 0 ws ≡ ones_of (sum ws)
+all_at_once ws fit = let e : 0 + sum ws ≡ sum ws = omega arith in add_all 0 ws fit ∙ ap ones_of e

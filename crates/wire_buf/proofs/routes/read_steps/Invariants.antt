@@ -1,0 +1,9 @@
+use Rattle.std.proofs.Common.{length}
+use Rattle.wire_buf.proofs.Steps.{ReadSteps}
+use Rattle.wire_buf.proofs.routes.read_steps.Given as goal
+
+abbrev pub invariant-steps : goal.invariant-steps
+invariant-steps l = ReadSteps l.body l.cursor l.steps
+
+abbrev pub decreases-steps : goal.decreases-steps
+decreases-steps l = length l.cursor

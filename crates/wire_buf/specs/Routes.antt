@@ -1,0 +1,34 @@
+-- Routes as subobjects for unnumbered interfaces (RFC 3209, section 4.3; RFC 3477, section 4).
+use Rattle.std.specs.Prelude.{◌≡◌, ◌≤◌, ◌<◌, ◌^◌, ℕ, List, [], ◌∷◌, ◌++◌, length, take, drop}
+use Rattle.std.specs.List.{flat_map}
+use Rattle.byteorder.specs.Endian.{big_bytes}
+use Rattle.ason_base.specs.declared.steps.Step.{Step}
+use Rattle.wire_buf.specs.Objects.{number_at}
+
+-- A strict step: the L bit is 0 and the type 4 in the first byte, the length is 12. Then two bytes that nothing reads, the
+-- router id and the interface id.
+abbrev pub IsStep : List ℕ → Step → Type 0
+IsStep bytes s =
+    (length bytes ≡ 12) × (number_at 0 1 bytes ≡ 4) × (number_at 1 1 bytes ≡ 12)
+    × (s ≡ record { node = record { 0 = number_at 4 4 bytes }; link = record { 0 = number_at 8 4 bytes } })
+
+-- steps one after the other, to the end
+abbrev pub AreSteps : List ℕ → List Step → Type 0
+AreSteps bytes [] = bytes ≡ []
+AreSteps bytes (s ∷ ss) = IsStep (take 12 bytes) s × AreSteps (drop 12 bytes) ss
+
+-- a route has 1 to 64 steps
+abbrev pub IsRoute : List ℕ → List Step → Type 0
+IsRoute body steps = (1 ≤ length steps) × (length steps ≤ 64) × AreSteps body steps
+
+-- both ids have 32 bits
+abbrev pub HasIds : Step → Type 0
+HasIds s = (s.node.0 < 2 ^ 32) × (s.link.0 < 2 ^ 32)
+
+-- the written form of a step
+abbrev pub step_bytes : Step → List ℕ
+step_bytes s = big_bytes 1 4 ++ big_bytes 1 12 ++ big_bytes 2 0 ++ big_bytes 4 s.node.0 ++ big_bytes 4 s.link.0
+
+-- the written form of a route
+abbrev pub route_bytes : List Step → List ℕ
+route_bytes steps = flat_map step_bytes steps

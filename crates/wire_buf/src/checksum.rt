@@ -1,0 +1,39 @@
+//! The Internet checksum (RFC 1071).
+
+ghost use Rattle.std.specs.Prelude.{◌≡◌, ◌<◌, List, ℕ, All, fold, sum};
+ghost use Rattle.wire_buf.specs.Checksum.{checksum_of, ones_add, ones_of};
+
+use crate::cursor::Cursor;
+
+// Addition in one's complement: the carry out of the top is added at the bottom.
+fn ones_sum(a: u16, b: u16) -> u16
+    ensures { result ≡ ones_add a b }
+{
+    let sum = u32::from(a) + u32::from(b);
+    if sum > 0xFFFF {
+        (sum - 0xFFFF) as u16
+    } else {
+        sum as u16
+    }
+}
+
+/// Law: words that are added one by one in one's complement have the sum that all of them have at once.
+pub fn carries_may_wait()
+    ensures { (words : List ℕ) → All (λ w. w < 65536) words → fold ones_add 0 words ≡ ones_of (sum words) }
+{}
+
+/// The one's complement of the one's complement sum of the 16-bit words. An odd last byte is the high byte of a word
+/// whose low byte is 0 (RFC 1071, sections 1 and 4.1).
+pub fn internet_checksum(bytes: &[u8]) -> u16
+    ensures { result ≡ checksum_of bytes.now }
+{
+    let mut cursor = Cursor::new(bytes);
+    let mut sum = 0;
+    'words: while let Some(word) = cursor.u16() {
+        sum = ones_sum(sum, word);
+    }
+    if let Some(last) = cursor.u8() {
+        sum = ones_sum(sum, u16::from(last) << 8);
+    }
+    !sum
+}

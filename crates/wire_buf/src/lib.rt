@@ -1,0 +1,17 @@
+//! Fields of messages in network byte order, the Internet checksum, and what several crates of objects share.
+#![tactic(auto)]
+
+pub mod checksum;
+pub mod cursor;
+pub mod objects;
+pub mod pushes;
+pub mod routes;
+
+pub use checksum::internet_checksum;
+pub use cursor::Cursor;
+pub use objects::put_header;
+pub use pushes::{push_u8, push_u16, push_u24, push_u32, put_u8, put_u16, put_u24, put_u32};
+pub use routes::{read_steps, write_steps};
+
+#[cfg(test)]
+mod tests;
