@@ -1,0 +1,8 @@
+//! Rows of links as Link TLVs (RFC 3630, RFC 4203).
+#![tactic(auto)]
+
+pub mod laws;
+pub mod reading;
+pub mod srlgs;
+pub mod sub_tlvs;
+pub mod writing;
