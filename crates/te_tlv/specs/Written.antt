@@ -7,7 +7,7 @@ use Rattle.ason_base.specs.declared.ids.NodeId.{NodeId}
 use Rattle.ason_base.specs.declared.network.TeRow.{TeRow}
 use Rattle.te_tlv.specs.SubTlvs.{SubTlv, padded}
 
-abbrev pub sub_tlv : ℕ → List ℕ → List ℕ
+unfoldable pub sub_tlv : ℕ → List ℕ → List ℕ
 sub_tlv kind value = big_bytes 2 kind ++ big_bytes 2 (length value) ++ value ++ replicate (padded (length value) - length value) 0
 
 -- the end that isn't the origin

@@ -6,3 +6,6 @@ pub mod reading;
 pub mod srlgs;
 pub mod sub_tlvs;
 pub mod writing;
+
+pub use reading::read_row;
+pub use writing::write_row;

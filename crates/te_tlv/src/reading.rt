@@ -13,13 +13,13 @@ use byteorder::{BigEndian, ByteOrder};
 use std::alloc::Global;
 
 /// The types of the sub-TLVs that each row has, and the link type of a point-to-point link (RFC 3630, section 2.5; RFC 4203, section 1.1).
-const LINK_TYPE: u16 = 1;
+pub(crate) const LINK_TYPE: u16 = 1;
 
-const LINK_ID: u16 = 2;
+pub(crate) const LINK_ID: u16 = 2;
 
-const METRIC: u16 = 5;
+pub(crate) const METRIC: u16 = 5;
 
-const IDENTIFIERS: u16 = 11;
+pub(crate) const IDENTIFIERS: u16 = 11;
 
 const POINT_TO_POINT: u8 = 1;
 

@@ -12,7 +12,7 @@ use std::alloc::Global;
 use wire_buf::Cursor;
 
 /// The type of the sub-TLV of SRLGs.
-const SRLG: u16 = 16;
+pub(crate) const SRLG: u16 = 16;
 
 /// The numbers of four bytes each, in order.
 fn numbers(alloc: Global, value: &[u8]) -> Result<Vec<u32>, OutOfMemory>

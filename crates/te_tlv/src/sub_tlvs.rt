@@ -8,7 +8,7 @@ ghost use Rattle.te_tlv.specs.SubTlvs.{SubTlv, AreSubTlvs, BeginsWith, IsLinkTlv
 use wire_buf::Cursor;
 
 /// The type of a Link TLV.
-const LINK: u16 = 2;
+pub(crate) const LINK: u16 = 2;
 
 /// The sub-TLVs of a Link TLV, as one text. None where the bytes are no Link TLV.
 pub(crate) fn link_body(bytes: &[u8]) -> Option<&[u8]>
