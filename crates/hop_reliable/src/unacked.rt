@@ -2,9 +2,9 @@
 
 ghost use Rattle.std.specs.Prelude.{◌≡◌, ◌∷◌, ◌++◌, IfOk, map};
 ghost use Rattle.std.specs.List.{list_any};
-ghost use Rattle.hop_reliable.specs.Ages.{older_age, is_due};
 ghost use Rattle.hop_reliable.specs.Hop.{again, is_ack_of, numbered, older, still_unacked};
 
+use crate::ages::{is_due, older_age};
 use crate::heard::EPOCH;
 use ason_base::{Ids, Msg, MsgId, OutOfMemory, Packet};
 use std::alloc::Global;
@@ -29,20 +29,6 @@ impl Unacked {
             msg,
         })
     }
-}
-
-/// The age after one more tick.
-fn older_age(age: u8) -> u8
-    ensures { result ≡ older_age age }
-{
-    if age < 67 { age + 1 } else { 8 }
-}
-
-/// Whether a message goes again at this age.
-fn is_due(age: u8) -> bool
-    ensures { result ≡ is_due age }
-{
-    matches!(age, 1 | 3 | 7 | 67)
 }
 
 /// The message with its number, and no acknowledgement.

@@ -9,3 +9,6 @@ pub mod writing;
 
 pub use reading::read_row;
 pub use writing::write_row;
+
+#[cfg(test)]
+mod tests;
