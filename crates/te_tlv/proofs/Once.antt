@@ -1,5 +1,5 @@
 -- Bytes spell one row at most.
-use Rattle.std.proofs.Common.{◌≡◌, ℕ, ◌+◌, Option, Some, None, List, [], ◌∷◌, drop, min, max, refl, ap, sym, subst, ◌∙◌, IfNone}
+use Rattle.std.proofs.Common.{◌≡◌, ℕ, Option, Some, None, List, [], ◌∷◌, drop, min, max, refl, ap, sym, subst, ◌∙◌, IfNone}
 use Rattle.byteorder.specs.Endian.{big_number}
 use Rattle.ason_base.specs.declared.ids.NodeId.{NodeId}
 use Rattle.ason_base.specs.declared.network.TeRow.{TeRow}

@@ -1,5 +1,5 @@
 -- What is written of a row spells that row.
-use Rattle.std.proofs.Common.{◌≡◌, ◌≢◌, ◌≤◌, ◌<◌, ◌⊎◌, inl, inr, ◌↔◌, ℕ, ◌+◌, ◌-◌, ◌*◌, ◌/◌, ◌%◌, ◌^◌, ◌==◌, Bool, true, false, cond, List, [], ◌∷◌, ◌++◌, length, take, drop, min, max, refl, ap, sym, subst, ◌∙◌, arith, length-append, append_assoc, replicate, All, Contains}
+use Rattle.std.proofs.Common.{◌≡◌, ◌≢◌, ◌≤◌, ◌<◌, ◌⊎◌, inl, inr, ℕ, ◌+◌, ◌-◌, ◌*◌, ◌/◌, ◌%◌, ◌^◌, ◌==◌, false, List, [], ◌∷◌, ◌++◌, length, take, min, max, refl, ap, sym, subst, ◌∙◌, arith, length-append, append_assoc, replicate, All, Contains}
 use Rattle.std.proofs.Math.Seq.{take-append_seam}
 use Rattle.std.proofs.lemmas.List.{append-nil, drop_at}
 use Rattle.std.proofs.lemmas.List.Elements.{All-head, All-tail}
@@ -9,8 +9,8 @@ use Rattle.byteorder.specs.Endian.{big_bytes, big_number}
 use Rattle.byteorder.specs.Numbers.{big_number-reads_back}
 use Rattle.ason_base.specs.declared.ids.NodeId.{NodeId}
 use Rattle.ason_base.specs.declared.network.TeRow.{TeRow}
-use Rattle.te_tlv.specs.SubTlvs.{SubTlv, AreSubTlvs, BeginsWith, IsLinkTlv, padded, size_of, values_of}
-use Rattle.te_tlv.specs.Rows.{AreSrlgs, HasFields, HasSrlgs, numbers_of, row_between, SpellsRow}
+use Rattle.te_tlv.specs.SubTlvs.{SubTlv, AreSubTlvs, BeginsWith, IsLinkTlv, padded, values_of}
+use Rattle.te_tlv.specs.Rows.{AreSrlgs, HasFields, HasSrlgs, numbers_of, SpellsRow}
 use Rattle.te_tlv.specs.Written.{IsWritable, HasNumbers, sub_tlv, srlgs_tlv, peer_of, link_body, link_tlv}
 use Rattle.te_tlv.proofs.Lengths.{length-sub_tlv, length-numbers, length-body, srlgs-most}
 

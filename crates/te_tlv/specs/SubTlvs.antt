@@ -1,5 +1,5 @@
 -- TLVs of traffic engineering (RFC 3630, section 2.3.2), as texts that go to the end of the bytes.
-use Rattle.std.specs.Prelude.{◌≡◌, ◌≤◌, ℕ, ◌+◌, ◌-◌, ◌*◌, ◌/◌, ◌==◌, List, [], ◌∷◌, length, take, drop, map, filter}
+use Rattle.std.specs.Prelude.{◌≡◌, ◌≤◌, ℕ, ◌+◌, ◌*◌, ◌/◌, ◌==◌, List, [], ◌∷◌, length, take, drop, map, filter}
 use Rattle.wire_buf.specs.Objects.{number_at}
 
 -- a sub-TLV: its type and its value

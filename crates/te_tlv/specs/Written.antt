@@ -1,11 +1,11 @@
 -- The written form of a row: the sub-TLVs in order of type, that of SRLGs only where there are any, padding zero.
-use Rattle.std.specs.Prelude.{◌≡◌, ◌<◌, ◌≤◌, ◌⊎◌, ℕ, ◌+◌, ◌-◌, ◌^◌, ◌==◌, if◌then◌else◌, List, [], ◌∷◌, ◌++◌, length, replicate, All}
+use Rattle.std.specs.Prelude.{◌≡◌, ◌<◌, ◌≤◌, ◌⊎◌, ℕ, ◌-◌, ◌^◌, ◌==◌, if◌then◌else◌, List, [], ◌∷◌, ◌++◌, length, replicate, All}
 use Rattle.std.specs.List.{flat_map}
 use Rattle.std.specs.List.Sorted.{IsStrictlyIncreasing}
 use Rattle.byteorder.specs.Endian.{big_bytes}
 use Rattle.ason_base.specs.declared.ids.NodeId.{NodeId}
 use Rattle.ason_base.specs.declared.network.TeRow.{TeRow}
-use Rattle.te_tlv.specs.SubTlvs.{SubTlv, padded}
+use Rattle.te_tlv.specs.SubTlvs.{padded}
 
 unfoldable pub sub_tlv : ℕ → List ℕ → List ℕ
 sub_tlv kind value = big_bytes 2 kind ++ big_bytes 2 (length value) ++ value ++ replicate (padded (length value) - length value) 0

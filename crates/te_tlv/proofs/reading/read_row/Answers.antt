@@ -1,5 +1,3 @@
-use Rattle.std.proofs.Common.{subst}
-use Rattle.te_tlv.specs.SubTlvs.{AreSubTlvs}
 use Rattle.te_tlv.proofs.Once.{read_is_spelled}
 use Rattle.te_tlv.proofs.reading.read_row.Goals as goal
 

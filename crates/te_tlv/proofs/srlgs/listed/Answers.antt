@@ -1,4 +1,4 @@
-use Rattle.std.proofs.Common.{sym, subst, All, refl}
+use Rattle.std.proofs.Common.{refl}
 use Rattle.te_tlv.proofs.Rising.{all_below}
 use Rattle.te_tlv.proofs.srlgs.listed.Goals as goal
 

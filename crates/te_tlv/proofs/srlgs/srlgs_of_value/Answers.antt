@@ -1,4 +1,4 @@
-use Rattle.std.proofs.Common.{arith, length, ◌∙◌}
+use Rattle.std.proofs.Common.{arith, ◌∙◌}
 use Rattle.te_tlv.proofs.Rising.{srlgs_are, too_many}
 use Rattle.te_tlv.proofs.srlgs.srlgs_of_value.Goals as goal
 
