@@ -1,0 +1,5 @@
+pub mod Envelopes
+pub mod InPlace
+pub mod Counting
+pub mod Known
+pub mod DueLaws
