@@ -3,3 +3,4 @@ pub mod InPlace
 pub mod Counting
 pub mod Known
 pub mod DueLaws
+pub mod DifferentEnds

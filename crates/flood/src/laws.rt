@@ -3,6 +3,7 @@
 ghost use Rattle.std.specs.Prelude.{◌≡◌};
 ghost use Rattle.flood.specs.declared.messages.FloodMsg.{FloodMsg};
 ghost use Rattle.flood.specs.Calls.{AcknowledgedIsOff, DueUntilAcknowledged, GoesToTheOthers, KnownStays, KnownWasBrought, NoneAfterwards};
+ghost use Rattle.flood.specs.Ends.{EndsAreListed, EndsStandOnce};
 ghost use Rattle.flood.specs.Messages.{CanBeWritten, FitsEnvelope, SpellsFlood, flood_bytes};
 
 /// What is written of a flood message spells that message.
@@ -20,4 +21,10 @@ pub fn every_list_of_calls()
     ensures until { DueUntilAcknowledged }
     ensures off { AcknowledgedIsOff }
     ensures never_again { NoneAfterwards }
+{}
+
+/// The different ends of rows are just the nodes that are an end of one of them, each once.
+pub fn different_ends()
+    ensures listed { EndsAreListed }
+    ensures once { EndsStandOnce }
 {}
