@@ -1,12 +1,11 @@
 -- Counts of what is due.
-use Rattle.std.proofs.Common.{◌≡◌, ℕ, ◌+◌, ◌*◌, ◌^◌, ◌<◌, ◌≤◌, ◌==◌, ◌&&◌, nat_lt, nat_le, Bool, true, false, cond, not, Option, Some, None, zero, suc, List, [], ◌∷◌, ◌++◌, length, get_or, map, filter, refl, sym, subst, ap, ◌∙◌, arith, All, sum_by, length-append, add-one}
+use Rattle.std.proofs.Common.{◌≡◌, ℕ, ◌+◌, ◌*◌, ◌^◌, ◌<◌, ◌≤◌, ◌==◌, ◌&&◌, nat_lt, nat_le, Bool, true, false, cond, not, Option, zero, suc, List, [], ◌∷◌, ◌++◌, length, get_or, map, filter, refl, sym, subst, ap, ◌∙◌, arith, All, sum_by, length-append, add-one}
 use Rattle.std.proofs.lemmas.List.{length-map}
 use Rattle.std.proofs.lemmas.List.Sums.{sum_by-cons}
 use Rattle.std.proofs.lemmas.List.Elements.{All-head, All-map, All-tail}
 use Rattle.std.specs.List.Sorted.{IsStrictlyIncreasing}
 use Rattle.ason_base.specs.declared.ids.NodeId.{NodeId}
 use Rattle.ason_base.specs.declared.network.TeRow.{TeRow}
-use Rattle.flood.specs.declared.due.Due.{Due}
 use Rattle.flood.specs.State.{NeighbourState, FloodState, fresh, queued, queued_unless, is_from, acked, acked_by, older, older_neighbour, IsCounted, has_room, ends_of, with_ends}
 
 -- What holds of each element holds of each as it is changed.

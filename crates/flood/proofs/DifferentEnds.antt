@@ -3,7 +3,7 @@ use Rattle.std.proofs.Common.{◌≡◌, ℕ, ◌==◌, ◌||◌, Bool, true, fa
 use Rattle.std.specs.List.{list_any}
 use Rattle.std.proofs.lemmas.List.Folds.{list_any-append}
 use Rattle.ason_base.specs.declared.network.TeRow.{TeRow}
-use Rattle.flood.specs.State.{ends_of, is_end, with_end, with_ends}
+use Rattle.flood.specs.State.{is_end, with_end, with_ends}
 use Rattle.flood.specs.Ends.{EndsAreListed, EndsStandOnce, IsApart}
 
 has : ℕ → List ℕ → Bool

@@ -1,5 +1,5 @@
 -- What is due to a neighbour.
-use Rattle.std.proofs.Common.{◌≡◌, ◌≢◌, ◌≤◌, ◌<◌, ℕ, ◌+◌, ◌⊎◌, inl, inr, ◌==◌, Bool, true, false, cond, not, Option, Some, None, List, [], ◌∷◌, ◌++◌, map, filter, refl, sym, ap, subst, ◌∙◌, arith}
+use Rattle.std.proofs.Common.{◌≡◌, ◌≢◌, ◌≤◌, ℕ, ◌+◌, inl, inr, ◌==◌, Bool, true, false, cond, not, Option, Some, None, List, [], ◌∷◌, ◌++◌, map, filter, refl, sym, ap, subst, ◌∙◌, arith}
 use Rattle.std.specs.List.{slice_get}
 use Rattle.std.specs.Option.{option_map}
 use Rattle.std.proofs.lemmas.Option.{slice_get-map}
@@ -7,7 +7,7 @@ use Rattle.ason_base.specs.declared.ids.NodeId.{NodeId}
 use Rattle.ason_base.specs.declared.network.TeRow.{TeRow}
 use Rattle.flood.specs.declared.due.Due.{Due}
 use Rattle.flood.specs.declared.messages.FloodMsg.TheVariants.{Row, Ack}
-use Rattle.flood.specs.State.{NeighbourState, FloodState, is_new, is_from, queued, queued_unless, with_row, acked, acked_by, older, older_neighbour, received}
+use Rattle.flood.specs.State.{NeighbourState, FloodState, is_new, is_from, queued, queued_unless, with_row, acked, acked_by, older, older_neighbour}
 use Rattle.flood.specs.Calls.{Call, Declares, Receives, Ticks, called, after, IsDue, Acknowledges, NoneAcknowledges, DueUntilAcknowledged, NoneAfterwards, AcknowledgedIsOff, GoesToTheOthers}
 
 same_number : (a b : ℕ) → (a == b) ≡ true → a ≡ b

@@ -1,12 +1,11 @@
 -- What is known.
-use Rattle.std.proofs.Common.{◌≡◌, ℕ, ◌⊎◌, inl, inr, Bool, true, false, cond, Some, List, [], ◌∷◌, ◌++◌, refl, sym, ap, ◌∙◌, append_assoc}
+use Rattle.std.proofs.Common.{◌≡◌, ℕ, ◌⊎◌, inl, inr, true, false, cond, Some, List, [], ◌∷◌, ◌++◌, refl, sym, ap, ◌∙◌, append_assoc}
 use Rattle.std.proofs.lemmas.List.{append-nil}
 use Rattle.std.specs.List.{slice_get}
-use Rattle.ason_base.specs.declared.ids.NodeId.{NodeId}
 use Rattle.ason_base.specs.declared.network.TeRow.{TeRow}
 use Rattle.flood.specs.declared.messages.FloodMsg.TheVariants.{Row, Ack}
-use Rattle.flood.specs.State.{FloodState, is_new, received, with_row}
-use Rattle.flood.specs.Calls.{Call, Declares, Receives, Ticks, called, after, Brings, SomeBrings, KnownStays, KnownWasBrought}
+use Rattle.flood.specs.State.{FloodState, is_new, with_row}
+use Rattle.flood.specs.Calls.{Call, Declares, Receives, Ticks, called, Brings, KnownStays, KnownWasBrought}
 use Rattle.hop_reliable.proofs.Members.{get-append_cases}
 
 known_once : (s : FloodState) (c : Call) → (more : List TeRow) × (s.rows ++ more ≡ (called s c).rows)

@@ -1,5 +1,5 @@
 -- What the different ends of rows are.
-use Rattle.std.specs.Prelude.{◌≡◌, ℕ, Bool, false, ◌==◌, List, [], ◌∷◌}
+use Rattle.std.specs.Prelude.{◌≡◌, ℕ, false, ◌==◌, List, [], ◌∷◌}
 use Rattle.std.specs.List.{list_any}
 use Rattle.ason_base.specs.declared.network.TeRow.{TeRow}
 use Rattle.flood.specs.State.{ends_of, is_end}

@@ -1,4 +1,4 @@
-use Rattle.std.proofs.Common.{◌≡◌, ◌++◌, [], map, take, drop}
+use Rattle.std.proofs.Common.{◌≡◌, take}
 use Rattle.flood.proofs.due.copies.Given as goal
 
 abbrev pub invariant-loop-d : goal.invariant-loop-d

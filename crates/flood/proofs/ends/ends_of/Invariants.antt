@@ -1,4 +1,4 @@
-use Rattle.std.proofs.Common.{◌≡◌, ◌++◌, [], map, take, drop}
+use Rattle.std.proofs.Common.{◌≡◌, take}
 use Rattle.flood.specs.State.{ends_of}
 use Rattle.flood.proofs.ends.ends_of.Given as goal
 

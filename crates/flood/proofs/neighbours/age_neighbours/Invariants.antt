@@ -1,4 +1,4 @@
-use Rattle.std.proofs.Common.{◌≡◌, ◌++◌, [], map, take, drop}
+use Rattle.std.proofs.Common.{◌≡◌, ◌++◌, map, take, drop}
 use Rattle.flood.specs.State.{older_neighbour}
 use Rattle.flood.proofs.neighbours.age_neighbours.Given as goal
 

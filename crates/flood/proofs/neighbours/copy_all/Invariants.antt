@@ -1,4 +1,4 @@
-use Rattle.std.proofs.Common.{◌≡◌, ◌++◌, [], map, take, drop}
+use Rattle.std.proofs.Common.{◌≡◌, take}
 use Rattle.flood.proofs.neighbours.copy_all.Given as goal
 
 abbrev pub invariant-loop-n : goal.invariant-loop-n

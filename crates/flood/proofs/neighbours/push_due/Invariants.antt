@@ -1,4 +1,4 @@
-use Rattle.std.proofs.Common.{◌≡◌, ◌++◌, [], map, take, drop}
+use Rattle.std.proofs.Common.{◌≡◌, ◌++◌, take}
 use Rattle.flood.specs.State.{due_to}
 use Rattle.flood.proofs.neighbours.push_due.Given as goal
 

@@ -1,4 +1,4 @@
-use Rattle.std.proofs.Common.{◌≡◌, ◌++◌, [], map, take, drop}
+use Rattle.std.proofs.Common.{◌≡◌, ◌++◌, take}
 use Rattle.flood.specs.State.{first_sendings}
 use Rattle.flood.proofs.neighbours.push_first_sendings.Given as goal
 

@@ -1,4 +1,4 @@
-use Rattle.std.proofs.Common.{◌≡◌, ◌++◌, [], map, take, drop}
+use Rattle.std.proofs.Common.{◌≡◌, map, take}
 use Rattle.flood.specs.State.{queued_unless}
 use Rattle.flood.proofs.neighbours.queued_all.Given as goal
 

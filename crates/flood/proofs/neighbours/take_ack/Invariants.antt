@@ -1,4 +1,4 @@
-use Rattle.std.proofs.Common.{◌≡◌, ◌++◌, [], map, take, drop}
+use Rattle.std.proofs.Common.{◌≡◌, ◌++◌, map, take, drop}
 use Rattle.flood.specs.State.{acked_by}
 use Rattle.flood.proofs.neighbours.take_ack.Given as goal
 
