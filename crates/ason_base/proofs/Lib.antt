@@ -1,1 +1,3 @@
 pub mod MaskMembers
+pub mod RiskOrder
+pub mod RiskUnion

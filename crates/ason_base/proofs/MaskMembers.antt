@@ -2,7 +2,7 @@
 use Rattle.std.proofs.Common.{◌≡◌, ◌≢◌, ◌≤◌, ◌<◌, ◌+◌, ◌-◌, ◌*◌, ◌%◌, ◌^◌, ℕ, zero, suc, Bool, true, false, cond, not, nat_eq, List, [], ◌∷◌, refl, sym, ap, ◌∙◌, arith, bit_and, bit_or, min, add-one}
 use Rattle.std.specs.Prelude.{◌&&◌, ◌||◌, filter, slice_get, Some, None}
 use Rattle.std.specs.Int.{bit_at, w128}
-use Rattle.std.proofs.lemmas.Nat.Bits.{bit_at_and, bit_at-lt, bit_at_mask_inside, bit_at_mask_above, bit_at_clear_same, bit_at_clear_other, bit_at_set_same, bit_at_set_other}
+use Rattle.std.proofs.lemmas.Nat.Bits.{bit_at_and, bit_at-lt, bit_at-zero, bit_at_mask_inside, bit_at_mask_above, bit_at_clear_same, bit_at_clear_other, bit_at_set_same, bit_at_set_other}
 use Rattle.std.proofs.lemmas.Nat.{pow_pos}
 use Rattle.std.proofs.Math.Pow.{pow-lt}
 use Rattle.std.proofs.Math.Nat.{pow-suc, mod-eq_of_lt}
@@ -110,6 +110,14 @@ nothing-passes p zero first fail = refl
 nothing-passes p (suc n) first fail = rw (fail first (omega arith) (omega arith)) (nothing-passes p n (first + 1) (λ k a b. fail k (omega arith) (omega arith)))
 
 -- Masks
+
+pub members-zero : members 0 ≡ []
+unfolding members
+members-zero = filter-none (is_marked 0) (up_to 80) (λ k. rw (bit_at-zero k) refl)
+  where
+    filter-none : (p : ℕ → Bool) (xs : List ℕ) → ((k : ℕ) → p k ≡ false) → filter p xs ≡ []
+    filter-none p [] fail = refl
+    filter-none p (x ∷ xs) fail = rw (fail x) (filter-none p xs fail)
 
 pub has-members : (mask l : ℕ) → 1 ≤ l → l ≤ 80 → has (members mask) l ≡ is_marked mask l
 unfolding members

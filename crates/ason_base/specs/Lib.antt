@@ -3,3 +3,4 @@ pub mod Labels
 pub mod Lsps
 pub mod Network
 pub mod Risks
+pub mod Walks

@@ -1,6 +1,6 @@
 //! Labels, and sets of labels (RFC 3471, section 3).
 
-ghost use Rattle.std.specs.Prelude.{◌≡◌, ◌≤◌, SomeIff};
+ghost use Rattle.std.specs.Prelude.{◌≡◌, ◌≤◌, [], SomeIff};
 ghost use Rattle.ason_base.specs.Labels.{has, least, meet, up_to, with_label, without};
 
 use std::marker::Model;
@@ -60,6 +60,13 @@ impl Model for LabelSet {
 }
 
 impl LabelSet {
+    /// No label.
+    pub fn empty() -> LabelSet
+        ensures { result ≡ [] }
+    {
+        LabelSet { mask: 0 }
+    }
+
     /// The labels from 1 to n; none for 0.
     pub fn upto(n: u8) -> LabelSet
         requires { n ≤ 80 }

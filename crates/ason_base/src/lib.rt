@@ -21,6 +21,6 @@ pub use labels::{Label, LabelSet};
 pub use lists::{Bytes, Numbers, Srlgs};
 pub use messages::{DecodeError, Ids, Msg, MsgId, Packet, PathRole};
 pub use network::{LinkSpec, NodeSpec, TeRow, Topology, TopologyFault};
-pub use risks::{Risk, RiskSet};
+pub use risks::{Risk, RiskFault, RiskSet};
 pub use steps::{Step, Steps};
 pub use tables::{CallRec, Fibres, Leg, Out, Outs};

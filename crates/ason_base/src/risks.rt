@@ -1,10 +1,17 @@
 //! What may fail: shared risk link groups and links.
 
-ghost use Rattle.std.specs.Prelude.{◌≡◌, [], ◌∷◌, ◌++◌, All, IfOk, OnErr, OnOk, IsTrue};
-ghost use Rattle.ason_base.specs.Risks.{is_below};
+ghost use Rattle.std.specs.Prelude.{◌≡◌, [], ◌∷◌, ◌++◌, ◌↔◌, None, Some, All, IfErr, IfOk, OnErr, OnOk, IsTrue};
+ghost use Rattle.std.specs.List.{Contains};
+ghost use Rattle.ason_base.specs.Risks.{is_below, AreDisjoint, AreRising, HasRisk, has_row, risks_of, unknown_link};
+ghost use Rattle.ason_base.specs.declared.ids.LinkId.{LinkId};
+ghost use Rattle.ason_base.specs.declared.risks.Risk.{Risk};
+ghost use Rattle.ason_base.specs.declared.steps.Step.{Step};
 
 use crate::ids::{LinkId, OutOfMemory};
+use crate::network::TeRow;
+use crate::steps::Steps;
 use std::alloc::Global;
+use std::cmp::Ordering;
 use std::marker::Model;
 
 /// One thing that may fail under a link: an SRLG, or the link itself. SRLGs stand before links.
@@ -23,10 +30,31 @@ pub struct RiskSet {
 impl Model for RiskSet {
     ghost use Rattle.std.specs.Prelude.{List};
     ghost use Rattle.ason_base.specs.declared.risks.Risk.{Risk};
+    ghost use Rattle.ason_base.specs.Risks.{AreRising};
 
     ghost Value = { List Risk };
 
     ghost view = { λ s. s.risks.items };
+
+    ghost invariant = { λ s. AreRising s.risks.items };
+}
+
+/// Why a route has no set of risks.
+#[derive(Clone, Copy, Debug, PartialEq, Eq, Drop)]
+pub enum RiskFault {
+    /// The first link of the route that has no row.
+    Unknown(LinkId),
+    OutOfMemory,
+}
+
+impl From<OutOfMemory> for RiskFault {
+    ghost use Rattle.ason_base.specs.declared.risks.RiskFault.{RiskFault};
+
+    ghost from_gives = { λ _ fault. fault ≡ RiskFault.OutOfMemory };
+
+    fn from(_: OutOfMemory) -> RiskFault {
+        RiskFault::OutOfMemory
+    }
 }
 
 impl RiskSet {
@@ -50,7 +78,8 @@ impl RiskSet {
     }
 
     pub fn items(&self) -> &[Risk]
-        ensures { result.now ≡ self.now }
+        ensures same { result.now ≡ self.now }
+        ensures rising { AreRising self.now }
     {
         &self.risks
     }
@@ -62,4 +91,101 @@ impl RiskSet {
         let risks = Vec::from_slice(alloc, &self.risks)?;
         Ok(RiskSet { risks })
     }
+
+    /// The risks of a route: of each of its links the declared SRLGs and the link itself.
+    pub fn of(alloc: Global, rows: &[TeRow], route: &Steps) -> Result<RiskSet, RiskFault>
+        ensures risks { IfOk result (λ set. (r : Risk) → Contains set r ↔ HasRisk rows.now route.now r) }
+        ensures rising { IfOk result (λ set. AreRising set) }
+        ensures known { OnOk result (unknown_link rows.now route.now ≡ None) }
+        ensures unknown { IfErr result (λ fault. (l : LinkId) → fault ≡ RiskFault.Unknown l → unknown_link rows.now route.now ≡ Some l) }
+    {
+        if let Some(link) = first_unknown(rows, route) {
+            return Err(RiskFault::Unknown(link));
+        }
+        let mut risks = gather(alloc, rows, route)?;
+        order(&mut risks)?;
+        Ok(RiskSet { risks })
+    }
+
+    /// Whether no risk is in both sets.
+    pub fn disjoint(&self, other: &RiskSet) -> bool
+        ensures { IsTrue result ↔ AreDisjoint self.now other.now }
+    {
+        are_disjoint(&self.risks, &other.risks)
+    }
+}
+
+fn is_known(rows: &[TeRow], link: LinkId) -> bool
+    ensures { result ≡ has_row rows.now link }
+{
+    rows.iter().any(|row| row.link == link)
+}
+
+// The first link of the route that has no row.
+fn first_unknown(rows: &[TeRow], route: &Steps) -> Option<LinkId>
+    ensures { result ≡ unknown_link rows.now route.now }
+{
+    route
+        .items()
+        .iter()
+        .map(|step| step.link)
+        .find(|link| !is_known(rows, *link))
+}
+
+// The risks of the route's links, in any order and any number of times.
+fn gather(alloc: Global, rows: &[TeRow], route: &Steps) -> Result<Vec<Risk>, OutOfMemory>
+    ensures { IfOk result (λ v. (r : Risk) → Contains v.items r ↔ HasRisk rows.now route.now r) }
+{
+    let mut risks = Vec::new(alloc);
+    for row in rows {
+        if passes(route, row.link) {
+            push_risks(&mut risks, row)?;
+        }
+    }
+    Ok(risks)
+}
+
+// Whether the route has the link.
+fn passes(route: &Steps, link: LinkId) -> bool
+    ensures { IsTrue result ↔ ((s : Step) × Contains route.now s × (link ≡ s.link)) }
+{
+    route.items().iter().any(|step| step.link == link)
+}
+
+// Adds the risks of the row's link.
+fn push_risks(risks: &mut Vec<Risk>, row: &TeRow) -> Result<(), OutOfMemory>
+    ensures { OnOk result (risks.new.items ≡ risks.old.items ++ risks_of row.now) }
+{
+    for srlg in row.srlgs.items() {
+        risks.push(Risk::Srlg(*srlg))?;
+    }
+    risks.push(Risk::Link(row.link))?;
+    Ok(())
+}
+
+// Puts the risks in order, each once.
+fn order(risks: &mut Vec<Risk>) -> Result<(), OutOfMemory>
+    ensures same { OnOk result ((r : Risk) → Contains risks.new.items r ↔ Contains risks.old.items r) }
+    ensures rising { OnOk result (AreRising risks.new.items) }
+{
+    risks.sort()?;
+    risks.dedup();
+    Ok(())
+}
+
+fn are_disjoint(a: &[Risk], b: &[Risk]) -> bool
+    requires a { AreRising a.now }
+    requires b { AreRising b.now }
+    ensures { IsTrue result ↔ AreDisjoint a.now b.now }
+{
+    let mut i = 0;
+    let mut j = 0;
+    while i < a.len() && j < b.len() {
+        match a[i].cmp(&b[j]) {
+            Ordering::Less => i += 1,
+            Ordering::Equal => return false,
+            Ordering::Greater => j += 1,
+        }
+    }
+    true
 }

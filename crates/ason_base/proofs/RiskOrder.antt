@@ -1,0 +1,127 @@
+-- The order of risks: `is_below` is what the comparison of risks says.
+use Rattle.std.proofs.Common.{inl, inr, ◌⊎◌, ◌↔◌, ◌≡◌, ◌≢◌, ℕ, ◌+◌, ◌<◌, ◌≤◌, true, IsTrue, List, [], ◌∷◌, length, get_or, refl, sym, ◌∙◌, ap, subst, arith, Less, Equal, Greater}
+use Rattle.std.specs.List.{Contains, dedup}
+use Rattle.std.specs.List.Sorted.{IsPermutation, IsSorted, IsStrictlySortedBy}
+use Rattle.std.specs.Ordering.{eq_by_cmp}
+use Rattle.std.proofs.lemmas.List.{get_or_default}
+use Rattle.std.proofs.lemmas.List.Elements.{All-from_recursion, All-weaker, Contains-get_or}
+use Rattle.std.proofs.lemmas.List.Kept.{AllPairs-cons, Contains-dedup, Contains-from_dedup, IsStrictlySortedBy-dedup}
+use Rattle.std.proofs.lemmas.List.Sorted.{Contains-permutation, IsPermutation-sym}
+use Rattle.ason_base.specs.Risks.{is_below, AreDisjoint, AreRising}
+use Rattle.ason_base.specs.declared.risks.Risk.{Risk}
+use Rattle.ason_base.specs.declared.risks.Risk.TheVariants.{Srlg, Link}
+use Rattle.ason_base.specs.contracts.risks.RiskOrd.TheImpl.{ghosts}
+use Rattle.ason_base.specs.contracts.risks.RiskOrd.TheImpl.Laws.{total-law}
+use Rattle.ason_base.specs.contracts.risks.RiskPartialEq.TheImpl.{ghosts as equality}
+use Rattle.ason_base.specs.contracts.risks.RiskEq.TheImpl.Laws.{laws-law}
+
+pub below-less : (a b : Risk) → ghosts.cmp a b ≡ Less → is_below a b ≡ true
+below-less (Srlg a) (Srlg b) h = grind arith
+below-less (Srlg a) (Link b) h = refl
+below-less (Link a) (Srlg b) h = cc
+below-less (Link a) (Link b) h = grind arith
+
+pub below-greater : (a b : Risk) → ghosts.cmp a b ≡ Greater → is_below b a ≡ true
+below-greater (Srlg a) (Srlg b) h = grind arith
+below-greater (Srlg a) (Link b) h = cc
+below-greater (Link a) (Srlg b) h = refl
+below-greater (Link a) (Link b) h = grind arith
+
+pub same-equal : (a b : Risk) → ghosts.cmp a b ≡ Equal → a ≡ b
+same-equal (Srlg a) (Srlg b) h = let e : a ≡ b = grind arith in ap Srlg e
+same-equal (Srlg a) (Link b) h = cc
+same-equal (Link a) (Srlg b) h = cc
+same-equal (Link a) (Link b) h = let e : a.0 ≡ b.0 = grind arith in λ i. Link (record { 0 = e i })
+
+pub below-trans : (a b c : Risk) → is_below a b ≡ true → is_below b c ≡ true → is_below a c ≡ true
+below-trans (Srlg a) (Srlg b) (Srlg c) h k = grind arith
+below-trans (Srlg a) (Srlg b) (Link c) h k = refl
+below-trans (Srlg a) (Link b) (Srlg c) h k = cc
+below-trans (Srlg a) (Link b) (Link c) h k = refl
+below-trans (Link a) (Srlg b) (Srlg c) h k = cc
+below-trans (Link a) (Srlg b) (Link c) h k = cc
+below-trans (Link a) (Link b) (Srlg c) h k = cc
+below-trans (Link a) (Link b) (Link c) h k = grind arith
+
+pub not-below-itself : (a : Risk) → is_below a a ≡ true → ⊥
+not-below-itself (Srlg a) h = absurd (grind arith)
+not-below-itself (Link a) h = absurd (grind arith)
+
+pub below-differs : (a b : Risk) → is_below a b ≡ true → a ≢ b
+below-differs a b h e = not-below-itself b (subst (λ x. is_below x b ≡ true) e h)
+
+pub rising-strictly : (risks : List Risk) → IsStrictlySortedBy ghosts.cmp risks → AreRising risks
+unfolding IsStrictlySortedBy
+rising-strictly [] sorted = λ i j d h k. absurd (omega arith)
+rising-strictly (x ∷ xs) sorted =
+    AllPairs-cons (λ a b. IsTrue (is_below a b)) x xs
+    (All-weaker (λ y. ghosts.cmp x y ≡ Less) (λ y. is_below x y ≡ true) (below-less x) xs (All-from_recursion _ xs sorted.0))
+    (rising-strictly xs sorted.1)
+
+below_or_same : (i k : ℕ) → i ≤ k → (i < k) ⊎ (i ≡ k)
+below_or_same i k le = grind arith
+
+before_or_same : (k i : ℕ) → k < i + 1 → (k < i) ⊎ (k ≡ i)
+before_or_same k i h = grind arith
+
+before_or_from : (m j : ℕ) → (m < j) ⊎ (j ≤ m)
+before_or_from m j = grind arith
+
+-- what stands at or after a place is not below what stands there
+pub at-or-after : (risks : List Risk) (a : Risk) (i k : ℕ) (d : Risk) → AreRising risks → i ≤ k → k < length risks → is_below a (get_or risks i d) ≡ true → a ≢ get_or risks k d
+at-or-after risks a i k d rising le within below =
+    elim (below_or_same i k le) [
+      | inl lt ↦ below-differs a (get_or risks k d) (below-trans a (get_or risks i d) (get_or risks k d) below (rising i k d lt within))
+      | inr same ↦ subst (λ n. a ≢ get_or risks n d) same (below-differs a (get_or risks i d) below)
+    ]
+
+-- no element of the one list from its start up to i is in the other list
+abbrev pub Apart : List Risk → List Risk → ℕ → Type 0
+Apart a b i = (k m : ℕ) (d : Risk) → k < i → m < length b → get_or a k d ≢ get_or b m d
+
+-- the element at i, which is below the one at j of the other list, isn't there: neither before j, as is known, nor from j on
+pub apart_more : (a b : List Risk) (i j : ℕ) (e : Risk) → AreRising b → i < length a → j < length b → Apart a b i → Apart b a j → is_below (get_or a i e) (get_or b j e) ≡ true → Apart a b (i + 1)
+apart_more a b i j e rising within inside left right here k m d h n =
+    let below : is_below (get_or a i d) (get_or b j d) ≡ true = subst (λ x. is_below x (get_or b j d) ≡ true) (get_or_default a i e d within) (subst (λ y. is_below (get_or a i e) y ≡ true) (get_or_default b j e d inside) here) in
+    elim (before_or_same k i h) [
+      | inl lt ↦ left k m d lt n
+      | inr same ↦ elim (before_or_from m j) [
+        | inl lt ↦ subst (λ p. get_or a p d ≢ get_or b m d) (sym same) (λ q. right m i d lt within (sym q))
+        | inr le ↦ subst (λ p. get_or a p d ≢ get_or b m d) (sym same) (at-or-after b (get_or a i d) j m d rising le n below)
+      ]
+    ]
+
+pub disjoint-left : (a b : List Risk) (i : ℕ) → length a ≤ i → Apart a b i → AreDisjoint a b
+disjoint-left a b i le apart r in_a in_b =
+    let h : in_a.0 < i = omega (arith, in_a.1) in
+    apart in_a.0 in_b.0 r h in_b.1 (in_a.2 ∙ sym in_b.2)
+
+pub disjoint-flip : (a b : List Risk) → AreDisjoint a b → AreDisjoint b a
+disjoint-flip a b h r in_b in_a = h r in_a in_b
+
+-- an element that both lists have
+pub met : (a b : List Risk) (i j : ℕ) (e : Risk) → i < length a → j < length b → get_or a i e ≡ get_or b j e → AreDisjoint a b → ⊥
+met a b i j e within inside same h =
+    h (get_or a i e) (Contains-get_or a i e within) (subst (λ x. Contains b x) (sym same) (Contains-get_or b j e inside))
+
+pub same-eq : (a b : Risk) → equality.eq a b ≡ true → a ≡ b
+same-eq (Srlg a) (Srlg b) h = let e : a ≡ b = grind arith in ap Srlg e
+same-eq (Srlg a) (Link b) h = cc
+same-eq (Link a) (Srlg b) h = cc
+same-eq (Link a) (Link b) h = let e : a.0 ≡ b.0 = grind arith in λ i. Link (record { 0 = e i })
+
+pub ties : (a b : Risk) → equality.eq a b ≡ eq_by_cmp ghosts.cmp a b
+ties (Srlg a) (Srlg b) = grind arith
+ties (Srlg a) (Link b) = refl
+ties (Link a) (Srlg b) = refl
+ties (Link a) (Link b) = grind arith
+
+-- what is left of a list after a sort and a `dedup`
+pub ordered_rising : (xs : List Risk) → IsSorted ghosts.cmp xs → AreRising (dedup equality.eq xs)
+ordered_rising xs sorted = rising-strictly (dedup equality.eq xs) (IsStrictlySortedBy-dedup total-law ties xs sorted)
+
+pub ordered_same : (xs ys : List Risk) (r : Risk) → IsPermutation xs ys → Contains (dedup equality.eq ys) r ↔ Contains xs r
+ordered_same xs ys r moved = (
+  (λ h. Contains-permutation ys xs r (IsPermutation-sym xs ys moved) (Contains-from_dedup equality.eq ys r h)),
+  (λ h. Contains-dedup laws-law same-eq ys r (Contains-permutation xs ys r moved h)),
+)

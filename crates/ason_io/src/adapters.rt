@@ -1,0 +1,110 @@
+//! Adapters of std's readers and writers. What a file, a terminal or a pipe gave or took is told only as far as
+//! std tells it.
+
+ghost use Rattle.std.specs.Prelude.{◌≡◌, ◌≤◌, ◌<◌, [], IfOk, IsErr, OnErr, OnOk, length, take};
+ghost use Rattle.std.specs.Io.KnownBytes.{Consumes, IsAtEnd, ReadConsumes, WriteAppends};
+ghost use Rattle.ason_io.specs.Faults.{Rose, counted};
+ghost use Rattle.ason_io.specs.Reading.{consumes_both, consumes_none};
+
+use crate::sink::Sink;
+use crate::source::{Failed, Source};
+use std::io::{Read, Write};
+
+/// A reader of std. Each error of it is a fault and is counted, up to 2^64 - 1. Where std doesn't know the bytes to
+/// come, nothing is told of them, nor of what was handed out.
+#[derive(Drop)]
+pub struct StdSource<I: Read> {
+    reader: I,
+    faults: u64,
+}
+
+impl<I: Read> StdSource<I> {
+    /// No fault has been counted.
+    pub fn new(reader: I) -> StdSource<I>
+        ensures left { ⟦<StdSource<I> as Source>⟧.left result ≡ I.remaining reader }
+        ensures faults { ⟦<StdSource<I> as Source>⟧.faults result ≡ 0 }
+    {
+        StdSource { reader, faults: 0 }
+    }
+}
+
+impl<I: Read> Source for StdSource<I> {
+    ghost left = { λ s. I.remaining s.reader };
+
+    ghost faults = { λ s. s.faults };
+
+    ghost handed = { λ s bs t. Consumes (I.remaining s.reader) (I.remaining t.reader) bs };
+
+    ghost ended = { λ s. IsAtEnd (I.remaining s.reader) };
+
+    ghost rests = { λ s. consumes_none (I.remaining s.reader) };
+
+    ghost goes_on = { λ s t u xs ys first then.
+        consumes_both (I.remaining s.reader) (I.remaining t.reader) (I.remaining u.reader) xs ys first then };
+
+    fn read(&mut self, buf: &mut [u8]) -> Result<usize, Failed>
+        ensures fits { IfOk result (λ n. n ≤ length buf.old) }
+        ensures bytes { ReadConsumes (I.remaining self.old.reader) (I.remaining self.new.reader) result buf.new }
+        ensures hands { IfOk result (λ n. Consumes (I.remaining self.old.reader) (I.remaining self.new.reader) (take n buf.new)) }
+        ensures end { IfOk result (λ n. n ≡ 0 → 0 < length buf.old → IsAtEnd (I.remaining self.new.reader)) }
+        ensures kept { OnErr result (Consumes (I.remaining self.old.reader) (I.remaining self.new.reader) []) }
+        ensures failed { IsErr result → Rose self.old.faults self.new.faults }
+        ensures rises { self.old.faults ≤ self.new.faults }
+
+        // Each error is counted, and nothing else.
+        ensures counts { OnErr result (self.new.faults ≡ counted self.old.faults) }
+        ensures counts_no_more { OnOk result (self.new.faults ≡ self.old.faults) }
+    {
+        match self.reader.read(buf) {
+            Ok(n) => Ok(n),
+            Err(_) => {
+                self.faults = self.faults.saturating_add(1);
+                Err(Failed)
+            }
+        }
+    }
+}
+
+/// A writer of std. Each error of it is a fault and is counted, up to 2^64 - 1, and so is a write that takes
+/// nothing of a piece that isn't empty.
+#[derive(Drop)]
+pub struct StdSink<O: Write> {
+    writer: O,
+    faults: u64,
+}
+
+impl<O: Write> StdSink<O> {
+    /// No fault has been counted.
+    pub fn new(writer: O) -> StdSink<O>
+        ensures written { ⟦<StdSink<O> as Sink>⟧.written result ≡ O.contents writer }
+        ensures faults { ⟦<StdSink<O> as Sink>⟧.faults result ≡ 0 }
+    {
+        StdSink { writer, faults: 0 }
+    }
+}
+
+impl<O: Write> Sink for StdSink<O> {
+    ghost written = { λ s. O.contents s.writer };
+
+    ghost faults = { λ s. s.faults };
+
+    fn write(&mut self, piece: &[u8]) -> Result<usize, Failed>
+        ensures fits { IfOk result (λ n. n ≤ length piece.now) }
+        ensures bytes { WriteAppends (O.contents self.old.writer) (O.contents self.new.writer) result piece.now }
+        ensures some { IfOk result (λ n. n ≡ 0 → piece.now ≡ []) }
+        ensures failed { IsErr result → Rose self.old.faults self.new.faults }
+        ensures rises { self.old.faults ≤ self.new.faults }
+
+        // Each error is counted, and nothing else.
+        ensures counts { OnErr result (self.new.faults ≡ counted self.old.faults) }
+        ensures counts_no_more { OnOk result (self.new.faults ≡ self.old.faults) }
+    {
+        match self.writer.write(piece) {
+            Ok(n) if n > 0 || piece.is_empty() => Ok(n),
+            _ => {
+                self.faults = self.faults.saturating_add(1);
+                Err(Failed)
+            }
+        }
+    }
+}

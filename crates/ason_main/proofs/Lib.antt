@@ -1,0 +1,10 @@
+pub mod Elements
+pub mod Finding
+pub mod LaneMail
+pub mod Numbers
+pub mod Repeats
+pub mod Results
+pub mod RoundSteps
+pub mod SeatLemmas
+pub mod Settling
+pub mod Texts

@@ -1,0 +1,7 @@
+pub mod Kept
+pub mod PlanCalls
+pub mod PlanScript
+pub mod PlanTables
+pub mod PlanTexts
+pub mod Plans
+pub mod Rounds

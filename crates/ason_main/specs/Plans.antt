@@ -1,0 +1,91 @@
+-- What plan bytes spell, or their first fault.
+use Rattle.std.specs.Prelude.{◌≡◌, ◌⊎◌, ℕ, Bool, true, false, not, List, [], ◌∷◌, map, codes, Option, Some, None, Result, Ok, Err}
+use Rattle.std.specs.Str.{IsUtf8}
+use Rattle.toml.specs.Data.{Data, Members, table, get}
+use Rattle.toml.specs.Parse.{parse_document}
+use Rattle.ason_base.specs.Network.{Network}
+use Rattle.ason_base.specs.declared.network.NodeSpec.{NodeSpec}
+use Rattle.ason_base.specs.declared.commands.Command.TheVariants.{Setup}
+use Rattle.ason_main.specs.declared.plan.faults.PlanEntry.TheVariants.{Toml, Top}
+use Rattle.ason_main.specs.declared.plan.faults.PlanError.{PlanError}
+use Rattle.ason_main.specs.declared.plan.faults.PlanError.TheVariants.{Fault, OutOfMemory}
+use Rattle.ason_main.specs.declared.plan.faults.PlanFault.{PlanFault}
+use Rattle.ason_main.specs.declared.plan.faults.PlanKind.TheVariants.{Syntax}
+use Rattle.ason_main.specs.declared.plan.lines.Line.{Line}
+use Rattle.ason_main.specs.declared.plan.lines.Line.TheVariants.{Post, Settle, Show}
+use Rattle.ason_main.specs.declared.plan.Plan.{Plan}
+use Rattle.ason_main.specs.PlanTables.{first_of, fault_at, elements_at, text_of, top_kind, name_of, node_of, nodes_fault, link_of, links_fault}
+use Rattle.ason_main.specs.PlanCalls.{no_calls}
+use Rattle.ason_main.specs.PlanScript.{script_fault, lines_of, calls_of}
+
+-- The parts of a plan's table
+
+abbrev pub names_in : Data → List (List ℕ)
+names_in d = map name_of (elements_at (codes "node") d)
+
+abbrev pub nodes_in : Data → List NodeSpec
+nodes_in d = map node_of (elements_at (codes "node") d)
+
+abbrev pub network_in : Data → Network
+network_in d = record { wait = 0; nodes = nodes_in d; links = map (link_of (names_in d) (nodes_in d)) (elements_at (codes "link") d) }
+
+abbrev pub script_in : Data → List (List ℕ)
+script_in d = map text_of (elements_at (codes "script") d)
+
+-- the first fault: the top, then the nodes, the links and the script lines, each in order
+abbrev pub fault_in : Data → Option PlanFault
+fault_in d =
+    first_of (fault_at Top (top_kind d))
+    (first_of (nodes_fault 1 0 [] (elements_at (codes "node") d))
+    (first_of (links_fault (names_in d) (nodes_in d) 1 0 (elements_at (codes "link") d))
+    (script_fault (network_in d) (names_in d) 1 no_calls (script_in d))))
+
+-- what a table without fault says
+abbrev pub plan_in : Data → Plan
+plan_in d = record {
+  topology = network_in d;
+  node_names = names_in d;
+  call_names = (calls_of (network_in d) (names_in d) no_calls (script_in d)).names;
+  lines = lines_of (network_in d) (names_in d) no_calls (script_in d);
+}
+
+abbrev pub unless_fault : Option PlanFault → Plan → Result Plan PlanFault
+unless_fault None p = Ok p
+unless_fault (Some f) p = Err f
+
+-- the plan, or its first fault
+abbrev pub plan_of : Data → Result Plan PlanFault
+plan_of d = unless_fault (fault_in d) (plan_in d)
+
+abbrev pub not_toml : PlanFault
+not_toml = record { entry = Toml; kind = Syntax }
+
+-- The bytes are UTF-8 and a TOML document with that plan or first fault; or they are none, and the fault is that
+abbrev pub PlanOf : List ℕ → Result Plan PlanFault → Type 0
+PlanOf bs r =
+    ((ms : Members) × IsUtf8 bs × (parse_document bs ≡ Some ms) × (plan_of (table ms) ≡ r))
+    ⊎ ((IsUtf8 bs → parse_document bs ≡ None) × (r ≡ Err not_toml))
+
+-- what `read_plan` answers; want of memory may come at any time
+abbrev pub Answers : List ℕ → Result Plan PlanError → Type 0
+Answers bs (Ok p) = PlanOf bs (Ok p)
+Answers bs (Err (Fault f)) = PlanOf bs (Err f)
+Answers bs (Err OutOfMemory) = Unit {0}
+
+-- First plans
+
+-- an empty script, or one setup
+abbrev pub is_first_script : List Line → Bool
+is_first_script [] = true
+is_first_script (Post (Setup call from to protected both via backup) ∷ []) = true
+is_first_script lines = false
+
+-- the bytes are a plan without fault whose script is empty or one setup
+abbrev pub FirstPlanOf : List ℕ → Plan → Type 0
+FirstPlanOf bs p = PlanOf bs (Ok p) × (is_first_script p.lines ≡ true)
+
+-- what `read_first_plan` answers; want of memory may come at any time
+abbrev pub FirstAnswers : List ℕ → Result Plan PlanError → Type 0
+FirstAnswers bs (Ok p) = FirstPlanOf bs p
+FirstAnswers bs (Err (Fault f)) = (p : Plan) → ¬ FirstPlanOf bs p
+FirstAnswers bs (Err OutOfMemory) = Unit {0}

@@ -1,0 +1,7 @@
+pub mod Firsts
+pub mod FreeLabels
+pub mod Places
+pub mod Routes
+pub mod SeatPlaces
+pub mod SiteLemmas
+pub mod Steps

@@ -1,0 +1,12 @@
+//! Where a message comes from.
+
+use ason_base::{LinkId, Lsp, NodeId};
+
+/// The LSP and egress that a message names, and the neighbour and link that it came by.
+#[derive(Clone, Copy, Debug, PartialEq, Eq, Drop)]
+pub struct Arrival {
+    pub lsp: Lsp,
+    pub egress: NodeId,
+    pub from: NodeId,
+    pub link: LinkId,
+}

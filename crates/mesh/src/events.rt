@@ -1,0 +1,25 @@
+//! What may happen next in the mesh.
+
+use ason_base::{Command, LinkId, NodeId};
+
+/// One event of the mesh.
+#[derive(Debug, Drop)]
+pub enum MeshEvent {
+    /// The first message on the way from `from` to `to` is taken.
+    Take { to: NodeId, from: NodeId },
+    /// The first item of the node's desk is handled.
+    Desk { node: NodeId },
+    Tick { node: NodeId },
+    /// The node learns of a link that a neighbour knows.
+    Learn { node: NodeId, link: LinkId },
+    /// A command is given.
+    Post { command: Command },
+}
+
+/// Why an event changed nothing.
+#[derive(Clone, Copy, Debug, PartialEq, Eq, Drop)]
+pub enum StepFault {
+    /// The event isn't enabled in this state.
+    NotEnabled,
+    OutOfMemory,
+}

@@ -1,0 +1,67 @@
+//! What waits: the items on all desks and the messages under way, each in one list in order.
+
+ghost use Rattle.std.specs.Prelude.{◌≡◌, ◌≤◌, ◌+◌, ◌∷◌, ◌++◌, [], OnErr, OnOk, length, map, position, vec_capacity, vec_len};
+ghost use Rattle.ason_base.specs.declared.commands.DeskItem.TheVariants.{Order};
+ghost use Rattle.mesh.specs.Kept.{is_between, is_waiting, sent_by};
+
+use ason_base::{Command, DeskItem, Msg, NodeId, Out, OutOfMemory, Outs};
+use std::alloc::Global;
+
+/// An item on a node's desk.
+#[derive(Debug, Drop)]
+pub(crate) struct Waiting {
+    pub(crate) node: NodeId,
+    pub(crate) item: DeskItem,
+}
+
+/// A message under way.
+#[derive(Debug, Drop)]
+pub(crate) struct Sent {
+    pub(crate) from: NodeId,
+    pub(crate) to: NodeId,
+    pub(crate) msg: Msg,
+}
+
+/// Where the first item of the node's desk stands.
+pub(crate) fn first_item(desks: &[Waiting], node: NodeId) -> Option<usize>
+    ensures { result ≡ position (is_waiting node.0) desks.now }
+{
+    desks.iter().position(|waiting| waiting.node == node)
+}
+
+/// Where the first message from one node to the other stands.
+pub(crate) fn first_message(mail: &[Sent], from: NodeId, to: NodeId) -> Option<usize>
+    ensures { result ≡ position (is_between from.0 to.0) mail.now }
+{
+    mail.iter()
+        .position(|sent| sent.from == from && sent.to == to)
+}
+
+/// Puts the messages of a node at the end. There is room for them.
+pub(crate) fn send(mail: &mut Vec<Sent>, from: NodeId, outs: Outs)
+    requires { vec_len mail.old + length outs ≤ vec_capacity mail.old }
+    ensures { mail.new.items ≡ mail.old.items ++ map (sent_by from) outs }
+{
+    for out in outs.into_vec() {
+        let Out { to, msg } = out;
+        match mail.push(Sent { from, to, msg }) {
+            Ok(()) => {}
+            Err(_) => unreachable!(),
+        }
+    }
+}
+
+/// Puts the command at the end of the node's desk.
+pub(crate) fn order(
+    alloc: Global,
+    desks: &mut Vec<Waiting>,
+    node: NodeId,
+    command: &Command,
+) -> Result<(), OutOfMemory>
+    ensures ok { OnOk result (desks.new.items ≡ desks.old.items ++ record { node = node; item = Order command.now } ∷ []) }
+    ensures err { OnErr result (desks.new.items ≡ desks.old.items) }
+{
+    let item = DeskItem::Order(command.copy(alloc)?);
+    desks.push(Waiting { node, item })?;
+    Ok(())
+}

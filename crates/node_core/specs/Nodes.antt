@@ -1,0 +1,25 @@
+-- One node: what it knows of itself, and what it keeps.
+use Rattle.std.specs.Prelude.{◌≡◌, ℕ}
+use Rattle.ason_base.specs.declared.tables.Out.{Out}
+use Rattle.node_core.specs.declared.inputs.Input.{Input}
+use Rattle.node_core.specs.declared.inputs.Input.TheVariants.{Message, Desk, Tick, Learn}
+use Rattle.mesh.specs.Changes.{Answer, nothing}
+use Rattle.mesh.specs.Sites.{Place}
+use Rattle.mesh.specs.MessageRules.{on_message}
+use Rattle.mesh.specs.CallRules.{NodeState, on_item, on_tick}
+use Rattle.mesh.specs.Machine.{changed}
+
+pub record NodeView : Type 0 where
+  pub place : Place
+  pub state : NodeState
+
+-- the rule of an input; a node learns nothing of other links
+abbrev pub answer_to : NodeView → Input → Answer
+answer_to n (Message u m) = on_message n.place n.state.legs n.state.calls u m
+answer_to n (Desk item) = on_item n.place n.state item
+answer_to n Tick = on_tick n.place n.state
+answer_to n (Learn row) = nothing
+
+-- the node after it
+abbrev pub stepped : NodeView → Input → NodeView
+stepped n i = record { place = n.place; state = changed n.state (answer_to n i) }

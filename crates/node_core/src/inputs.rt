@@ -1,0 +1,15 @@
+//! What a node is given.
+
+use ason_base::{DeskItem, Msg, NodeId, TeRow};
+
+/// One input of a node.
+#[derive(Debug, Drop)]
+pub enum Input {
+    /// A message from a neighbour.
+    Message { from: NodeId, msg: Msg },
+    /// An item of the node's desk.
+    Desk(DeskItem),
+    Tick,
+    /// A row that a neighbour knows.
+    Learn(TeRow),
+}

@@ -1,0 +1,8 @@
+//! One node of an optical network: its connection and call controllers over the tables of its legs and calls (ITU-T G.8080).
+#![tactic(auto)]
+
+pub mod inputs;
+pub mod node;
+
+pub use inputs::Input;
+pub use node::Node;
