@@ -1,0 +1,4 @@
+pub mod Messages
+pub mod State
+pub mod Calls
+pub mod Ends

@@ -1,0 +1,208 @@
+//! What a node knows of links, and what it still owes its neighbours.
+
+ghost use Rattle.std.specs.Prelude.{◌≡◌, ◌<◌, length, Some, IfOk, OnErr, OnOk, IsTrue, false};
+ghost use Rattle.flood.specs.State.{IsStart, declared_row, has_room, is_end, is_known, is_new, learnt_of, pending_count, received, sends_after, sent_at_tick, ticked, with_row};
+
+use crate::ends::{has_room, is_end, is_known};
+use crate::messages::FloodMsg;
+use crate::neighbours::{
+    Neighbour, age_neighbours, copy_all, new_all, pending, push_first_sendings, queued_all, rising,
+    sent_at_tick, take_ack,
+};
+use crate::sends::{FloodOut, FloodSends};
+use ason_base::{LinkId, NodeId, OutOfMemory, TeRow};
+use std::alloc::Global;
+use std::marker::Model;
+
+/// The known rows of a node, and the rows that each neighbour hasn't acknowledged.
+#[derive(Debug, Drop)]
+pub struct Flood {
+    me: NodeId,
+    rows: Vec<TeRow>,
+    neighbours: Vec<Neighbour>,
+}
+
+impl Model for Flood {
+    ghost use Rattle.std.specs.Prelude.{length};
+    ghost use Rattle.flood.specs.State.{FloodState, IsCounted};
+
+    ghost Value = { FloodState };
+
+    ghost view = { λ f. record { me = f.me; rows = f.rows.items; neighbours = f.neighbours.items } };
+
+    ghost invariant = { λ f. IsCounted (length f.rows.items) f.neighbours.items };
+}
+
+impl Flood {
+    /// A node that knows nothing, with these neighbours.
+    pub fn new(alloc: Global, me: NodeId, neighbours: &[NodeId]) -> Result<Flood, OutOfMemory>
+        ensures { IfOk result (λ f. IsStart me neighbours.now f) }
+    {
+        let ids = rising(alloc, neighbours)?;
+        let neighbours = new_all(alloc, &ids)?;
+        Ok(Flood {
+            me,
+            rows: Vec::new(alloc),
+            neighbours,
+        })
+    }
+
+    /// The same again.
+    pub fn copy(&self, alloc: Global) -> Result<Flood, OutOfMemory>
+        ensures { IfOk result (λ f. f ≡ self.now) }
+    {
+        let rows = copy_rows(alloc, &self.rows)?;
+        let neighbours = copy_all(alloc, &self.neighbours)?;
+        Ok(Flood {
+            me: self.me,
+            rows,
+            neighbours,
+        })
+    }
+
+    /// Makes a row of this node's own links known, and due to every neighbour. It goes out first in the next tick.
+    pub fn declare(&mut self, alloc: Global, row: TeRow) -> Result<(), OutOfMemory>
+        requires own { IsTrue (is_end self.old.me row) }
+        requires unknown { is_known self.old.rows row.link ≡ false }
+        requires room { IsTrue (has_room self.old.rows row) }
+        ensures ok { OnOk result (self.new ≡ declared_row self.old row) }
+        ensures err { OnErr result (self.new ≡ self.old) }
+    {
+        let neighbours = queued_all(alloc, &self.neighbours, None, self.me, None, &row)?;
+        self.rows.push(row)?;
+        self.neighbours = neighbours;
+        Ok(())
+    }
+
+    /// Takes a flood message of a neighbour. A row is acknowledged; a new one becomes known and goes at once to the other
+    /// neighbours. It is not new where its link is known or this node is one of its ends, or where the rows would be more
+    /// than 256 or have more than 64 different ends.
+    pub fn receive(
+        &mut self,
+        alloc: Global,
+        from: NodeId,
+        m: &FloodMsg,
+    ) -> Result<FloodOut, OutOfMemory>
+        ensures learnt { IfOk result (λ out. out.learnt ≡ learnt_of self.old m.now) }
+        ensures sends { IfOk result (λ out. out.sends ≡ sends_after self.old from m.now) }
+        ensures ok { OnOk result (self.new ≡ received self.old from m.now) }
+        ensures err { OnErr result (self.new ≡ self.old) }
+    {
+        match m {
+            FloodMsg::Ack { number } => {
+                take_ack(&mut self.neighbours, from, *number);
+                Ok(FloodOut {
+                    learnt: None,
+                    sends: FloodSends::new(alloc),
+                })
+            }
+            FloodMsg::Row {
+                number,
+                origin,
+                row,
+            } => self.take_row(alloc, from, *number, *origin, row),
+        }
+    }
+
+    /// Whether a row that a neighbour gave becomes known.
+    fn is_new(&self, alloc: Global, row: &TeRow) -> Result<bool, OutOfMemory>
+        ensures { IfOk result (λ new. new ≡ is_new self.now row.now) }
+    {
+        if is_known(&self.rows, row.link) || is_end(self.me, row) {
+            return Ok(false);
+        }
+        has_room(alloc, &self.rows, row)
+    }
+
+    /// Makes a new row known, and due to the other neighbours with age 0.
+    fn learn(
+        &mut self,
+        alloc: Global,
+        from: NodeId,
+        origin: NodeId,
+        row: &TeRow,
+    ) -> Result<(), OutOfMemory>
+        requires { length self.old.rows < 256 }
+        ensures ok { OnOk result (self.new ≡ with_row self.old (Some from) origin (Some 0) row.now) }
+        ensures err { OnErr result (self.new ≡ self.old) }
+    {
+        let neighbours = queued_all(alloc, &self.neighbours, Some(from), origin, Some(0), row)?;
+        self.rows.push(row.copy(alloc)?)?;
+        self.neighbours = neighbours;
+        Ok(())
+    }
+
+    /// Takes a row of a neighbour.
+    fn take_row(
+        &mut self,
+        alloc: Global,
+        from: NodeId,
+        number: u32,
+        origin: NodeId,
+        row: &TeRow,
+    ) -> Result<FloodOut, OutOfMemory>
+        ensures learnt { IfOk result (λ out. out.learnt ≡ learnt_of self.old (FloodMsg.Row number origin row.now)) }
+        ensures sends { IfOk result (λ out. out.sends ≡ sends_after self.old from (FloodMsg.Row number origin row.now)) }
+        ensures ok { OnOk result (self.new ≡ received self.old from (FloodMsg.Row number origin row.now)) }
+        ensures err { OnErr result (self.new ≡ self.old) }
+    {
+        let mut sends = FloodSends::new(alloc);
+        sends.push((from, FloodMsg::Ack { number }))?;
+        if !self.is_new(alloc, row)? {
+            return Ok(FloodOut {
+                learnt: None,
+                sends,
+            });
+        }
+        push_first_sendings(alloc, &mut sends, &self.neighbours, from, origin, row)?;
+        let learnt = row.copy(alloc)?;
+        self.learn(alloc, from, origin, row)?;
+        Ok(FloodOut {
+            learnt: Some(learnt),
+            sends,
+        })
+    }
+
+    /// What goes out in a tick, by neighbour, then number: rows that were not sent yet, and those that are due again.
+    pub fn tick(&mut self, alloc: Global) -> Result<FloodSends, OutOfMemory>
+        ensures sends { IfOk result (λ sends. sends ≡ sent_at_tick self.old) }
+        ensures ok { OnOk result (self.new ≡ ticked self.old) }
+        ensures err { OnErr result (self.new ≡ self.old) }
+    {
+        let sends = sent_at_tick(alloc, &self.neighbours)?;
+        age_neighbours(&mut self.neighbours);
+        Ok(sends)
+    }
+
+    /// The known rows, in order of learning.
+    pub fn rows(&self) -> &[TeRow]
+        ensures { result.now ≡ self.now.rows }
+    {
+        &self.rows
+    }
+
+    /// Whether a row of this link is known.
+    pub fn known(&self, link: LinkId) -> bool
+        ensures { result ≡ is_known self.now.rows link }
+    {
+        is_known(&self.rows, link)
+    }
+
+    /// How many rows are due, to each neighbour that hasn't acknowledged them.
+    pub fn pending(&self) -> usize
+        ensures { result ≡ pending_count self.now }
+    {
+        pending(&self.neighbours)
+    }
+}
+
+/// The same rows again.
+fn copy_rows(alloc: Global, rows: &[TeRow]) -> Result<Vec<TeRow>, OutOfMemory>
+    ensures { IfOk result (λ all. all.items ≡ rows.now) }
+{
+    let mut all = Vec::with_capacity(alloc, rows.len())?;
+    for row in rows {
+        all.push(row.copy(alloc)?)?;
+    }
+    Ok(all)
+}

@@ -1,0 +1,17 @@
+//! Flooding of rows of links between neighbours.
+#![tactic(auto)]
+
+pub mod due;
+pub mod ends;
+pub mod flood;
+pub mod laws;
+pub mod messages;
+pub mod neighbours;
+pub mod sends;
+
+pub use flood::Flood;
+pub use messages::{FloodMsg, decode_flood, encode_flood};
+pub use sends::{FloodOut, FloodSends};
+
+#[cfg(test)]
+mod tests;

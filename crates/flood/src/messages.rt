@@ -1,0 +1,116 @@
+//! Flood messages and their bytes.
+
+ghost use Rattle.std.specs.Prelude.{◌≡◌, ◌≤◌, ◌+◌, ◌++◌, drop, length, IfOk, IsErrOf, OnOk};
+ghost use Rattle.byteorder.specs.Endian.{big_bytes, big_number};
+ghost use Rattle.ason_base.specs.declared.network.TeRow.{TeRow};
+ghost use Rattle.flood.specs.declared.messages.FloodMsg.{FloodMsg};
+ghost use Rattle.flood.specs.Messages.{CanBeWritten, SpellsFlood, flood_bytes};
+ghost use Rattle.te_tlv.specs.Rows.{SpellsRow};
+
+use ason_base::{DecodeError, NodeId, OutOfMemory, TeRow};
+use byteorder::{BigEndian, ByteOrder};
+use std::alloc::Global;
+use te_tlv::{read_row, write_row};
+use wire_buf::{push_u8, push_u24, push_u32};
+
+/// The kinds of flood messages.
+const ROW: u8 = 1;
+
+const ACK: u8 = 2;
+
+/// A flood message.
+#[derive(Debug, Drop)]
+pub enum FloodMsg {
+    /// A row, numbered on its channel from 1, as its origin gives it.
+    Row {
+        number: u32,
+        origin: NodeId,
+        row: TeRow,
+    },
+    /// Acknowledges the row of this number.
+    Ack {
+        number: u32,
+    },
+}
+
+/// The number in the four bytes from this place on.
+fn number_at(bytes: &[u8], place: usize) -> u32
+    requires { place + 4 ≤ length bytes.now }
+    ensures { result ≡ big_number 4 (drop place bytes.now) }
+{
+    let (_, rest) = bytes.split_at(place);
+    BigEndian::read_u32(rest)
+}
+
+/// The row behind the envelope.
+fn row_behind(alloc: Global, origin: NodeId, bytes: &[u8]) -> Result<TeRow, DecodeError>
+    requires { 12 ≤ length bytes.now }
+    ensures found { IfOk result (λ row. SpellsRow origin (drop 12 bytes.now) row) }
+    ensures only { (row : TeRow) → SpellsRow origin (drop 12 bytes.now) row → IfOk result (λ read. read ≡ row) }
+    ensures not_message { IsErrOf result DecodeError.NotMessage → (row : TeRow) → ¬ SpellsRow origin (drop 12 bytes.now) row }
+{
+    let (_, tlv) = bytes.split_at(12);
+    read_row(alloc, origin, tlv)
+}
+
+/// The flood message that the bytes spell. NotMessage exactly where they spell none.
+pub fn decode_flood(alloc: Global, bytes: &[u8]) -> Result<FloodMsg, DecodeError>
+    // What is read is spelled so.
+    ensures found { IfOk result (λ m. SpellsFlood bytes.now m) }
+    // What is spelled so is read, unless memory runs out.
+    ensures only { (m : FloodMsg) → SpellsFlood bytes.now m → IfOk result (λ read. read ≡ m) }
+    ensures not_message { IsErrOf result DecodeError.NotMessage → (m : FloodMsg) → ¬ SpellsFlood bytes.now m }
+{
+    if bytes.len() < 8 {
+        return Err(DecodeError::NotMessage);
+    }
+    let number = number_at(bytes, 4);
+    if bytes[0] == ACK && bytes.len() == 8 {
+        return Ok(FloodMsg::Ack { number });
+    }
+    if bytes[0] != ROW || bytes.len() < 12 {
+        return Err(DecodeError::NotMessage);
+    }
+    let origin = NodeId(number_at(bytes, 8));
+    match row_behind(alloc, origin, bytes) {
+        Ok(row) => Ok(FloodMsg::Row {
+            number,
+            origin,
+            row,
+        }),
+        Err(error) => Err(error),
+    }
+}
+
+/// Appends the head of a message: its kind, three zeros and its number.
+fn push_head(out: &mut Vec<u8>, kind: u8, number: u32) -> Result<(), OutOfMemory>
+    ensures { OnOk result (out.new.items ≡ out.old.items ++ (big_bytes 1 kind ++ big_bytes 3 0 ++ big_bytes 4 number)) }
+{
+    push_u8(out, kind)?;
+    push_u24(out, 0)?;
+    push_u32(out, number)
+}
+
+/// The bytes of a flood message, with zeros where nothing reads.
+pub fn encode_flood(alloc: Global, m: &FloodMsg) -> Result<Vec<u8>, OutOfMemory>
+    requires { CanBeWritten m.now }
+    ensures { IfOk result (λ bytes. bytes.items ≡ flood_bytes m.now) }
+{
+    let mut bytes = Vec::new(alloc);
+    match m {
+        FloodMsg::Ack { number } => {
+            push_head(&mut bytes, ACK, *number)?;
+        }
+        FloodMsg::Row {
+            number,
+            origin,
+            row,
+        } => {
+            let tlv = write_row(alloc, *origin, row)?;
+            push_head(&mut bytes, ROW, *number)?;
+            push_u32(&mut bytes, origin.0)?;
+            bytes.extend_from_slice(&tlv)?;
+        }
+    }
+    Ok(bytes)
+}

@@ -1,0 +1,299 @@
+//! What a node keeps of each neighbour.
+
+ghost use Rattle.std.specs.Prelude.{◌≡◌, ℕ, ◌↔◌, Contains, ◌<◌, ◌+◌, ◌^◌, ◌∷◌, ◌++◌, IfOk, OnOk, map, All, length, Some, slice_index, sum_by};
+ghost use Rattle.std.specs.List.{flat_map};
+ghost use Rattle.std.specs.List.Sorted.{IsStrictlyIncreasing};
+ghost use Rattle.flood.specs.State.{acked_by, due_to, first_sending, first_sendings, fresh, is_from, older_neighbour, queued, queued_unless, sent_to};
+
+use crate::due::{Due, age_after_tick, age_all, copies, goes_at, take_off};
+use crate::messages::FloodMsg;
+use crate::sends::FloodSends;
+use ason_base::{NodeId, OutOfMemory, TeRow};
+use std::alloc::Global;
+use std::marker::Model;
+
+/// A neighbour, the last number that a row due to it got, and the rows that it hasn't acknowledged, in order of number.
+#[derive(Debug, Drop)]
+pub struct Neighbour {
+    id: NodeId,
+    sent: u32,
+    due: Vec<Due>,
+}
+
+impl Model for Neighbour {
+    ghost use Rattle.flood.specs.State.{NeighbourState};
+
+    ghost Value = { NeighbourState };
+
+    ghost view = { λ n. record { id = n.id; sent = n.sent; due = n.due.items } };
+}
+
+impl Neighbour {
+    /// A neighbour to which no row is due.
+    pub fn new(alloc: Global, id: NodeId) -> Neighbour
+        ensures { result ≡ fresh id }
+    {
+        Neighbour {
+            id,
+            sent: 0,
+            due: Vec::new(alloc),
+        }
+    }
+
+    /// The same neighbour again.
+    pub fn copy(&self, alloc: Global) -> Result<Neighbour, OutOfMemory>
+        ensures { IfOk result (λ n. n ≡ self.now) }
+    {
+        let due = copies(alloc, &self.due)?;
+        Ok(Neighbour {
+            id: self.id,
+            sent: self.sent,
+            due,
+        })
+    }
+
+    /// The neighbour once the row is due to it with the next number.
+    fn queued(
+        &self,
+        alloc: Global,
+        origin: NodeId,
+        age: Option<u8>,
+        row: &TeRow,
+    ) -> Result<Neighbour, OutOfMemory>
+        requires { self.now.sent + 1 < 2 ^ 32 }
+        ensures { IfOk result (λ n. n ≡ queued origin age row.now self.now) }
+    {
+        let number = self.sent + 1;
+        let mut due = copies(alloc, &self.due)?;
+        due.push(Due {
+            number,
+            age,
+            origin,
+            row: row.copy(alloc)?,
+        })?;
+        Ok(Neighbour {
+            id: self.id,
+            sent: number,
+            due,
+        })
+    }
+
+    /// The neighbour once the row is due to it, if it isn't the one that the row came from.
+    fn queued_unless(
+        &self,
+        alloc: Global,
+        from: Option<NodeId>,
+        origin: NodeId,
+        age: Option<u8>,
+        row: &TeRow,
+    ) -> Result<Neighbour, OutOfMemory>
+        requires { self.now.sent + 1 < 2 ^ 32 }
+        ensures { IfOk result (λ n. n ≡ queued_unless from origin age row.now self.now) }
+    {
+        if self.is_from(from) {
+            self.copy(alloc)
+        } else {
+            self.queued(alloc, origin, age, row)
+        }
+    }
+
+    fn is_from(&self, from: Option<NodeId>) -> bool
+        ensures { result ≡ is_from from self.now }
+    {
+        match from {
+            None => false,
+            Some(node) => self.id.0 == node.0,
+        }
+    }
+
+    /// Takes off the row of this number, if the acknowledgement came from this neighbour.
+    fn take_ack(&mut self, from: NodeId, number: u32)
+        ensures { self.new ≡ acked_by from number self.old }
+    {
+        if self.id.0 == from.0 {
+            take_off(&mut self.due, number);
+        }
+    }
+
+    /// The row as it goes out first to this neighbour.
+    fn first_sending(
+        &self,
+        alloc: Global,
+        origin: NodeId,
+        row: &TeRow,
+    ) -> Result<(NodeId, FloodMsg), OutOfMemory>
+        requires { self.now.sent + 1 < 2 ^ 32 }
+        ensures { IfOk result (λ s. s ≡ first_sending origin row.now self.now) }
+    {
+        let row = row.copy(alloc)?;
+        Ok((
+            self.id,
+            FloodMsg::Row {
+                number: self.sent + 1,
+                origin,
+                row,
+            },
+        ))
+    }
+
+    /// Adds what goes out to this neighbour in a tick.
+    fn push_sent(&self, alloc: Global, sends: &mut FloodSends) -> Result<(), OutOfMemory>
+        ensures { OnOk result (sends.new ≡ sends.old ++ sent_to self.now) }
+    {
+        push_due(alloc, sends, self.id, &self.due)
+    }
+
+    fn age(&mut self)
+        ensures { self.new ≡ older_neighbour self.old }
+    {
+        age_all(&mut self.due);
+    }
+}
+
+/// Adds what of these rows goes out to the neighbour in a tick.
+fn push_due(
+    alloc: Global,
+    sends: &mut FloodSends,
+    to: NodeId,
+    due: &[Due],
+) -> Result<(), OutOfMemory>
+    ensures { OnOk result (sends.new ≡ sends.old ++ due_to to due.now) }
+{
+    for d in due {
+        if goes_at(age_after_tick(d.age)) {
+            let row = d.row.copy(alloc)?;
+            sends.push((
+                to,
+                FloodMsg::Row {
+                    number: d.number,
+                    origin: d.origin,
+                    row,
+                },
+            ))?;
+        }
+    }
+    Ok(())
+}
+
+/// Each neighbour once the row is due to it, but the one that the row came from.
+pub(crate) fn queued_all(
+    alloc: Global,
+    neighbours: &[Neighbour],
+    from: Option<NodeId>,
+    origin: NodeId,
+    age: Option<u8>,
+    row: &TeRow,
+) -> Result<Vec<Neighbour>, OutOfMemory>
+    requires { All (λ n. n.sent + 1 < 2 ^ 32) neighbours.now }
+    ensures { IfOk result (λ ns. ns.items ≡ map (queued_unless from origin age row.now) neighbours.now) }
+{
+    let mut all = Vec::with_capacity(alloc, neighbours.len())?;
+    for n in neighbours {
+        all.push(n.queued_unless(alloc, from, origin, age, row)?)?;
+    }
+    Ok(all)
+}
+
+/// The same neighbours again.
+pub(crate) fn copy_all(
+    alloc: Global,
+    neighbours: &[Neighbour],
+) -> Result<Vec<Neighbour>, OutOfMemory>
+    ensures { IfOk result (λ ns. ns.items ≡ neighbours.now) }
+{
+    let mut all = Vec::with_capacity(alloc, neighbours.len())?;
+    for n in neighbours {
+        all.push(n.copy(alloc)?)?;
+    }
+    Ok(all)
+}
+
+/// Takes off the row that a neighbour acknowledged.
+pub(crate) fn take_ack(neighbours: &mut [Neighbour], from: NodeId, number: u32)
+    ensures { neighbours.new ≡ map (acked_by from number) neighbours.old }
+{
+    for n in neighbours.iter_mut() {
+        n.take_ack(from, number);
+    }
+}
+
+/// Makes all that is due a tick older.
+pub(crate) fn age_neighbours(neighbours: &mut [Neighbour])
+    ensures { neighbours.new ≡ map older_neighbour neighbours.old }
+{
+    for n in neighbours.iter_mut() {
+        n.age();
+    }
+}
+
+/// The row to each neighbour but the one that it came from, with the number that it gets there.
+pub(crate) fn push_first_sendings(
+    alloc: Global,
+    sends: &mut FloodSends,
+    neighbours: &[Neighbour],
+    from: NodeId,
+    origin: NodeId,
+    row: &TeRow,
+) -> Result<(), OutOfMemory>
+    requires { All (λ n. n.sent + 1 < 2 ^ 32) neighbours.now }
+    ensures { OnOk result (sends.new ≡ sends.old ++ first_sendings from origin row.now neighbours.now) }
+{
+    for n in neighbours {
+        if !n.is_from(Some(from)) {
+            sends.push(n.first_sending(alloc, origin, row)?)?;
+        }
+    }
+    Ok(())
+}
+
+/// What goes out in the tick, by neighbour, then number.
+pub(crate) fn sent_at_tick(
+    alloc: Global,
+    neighbours: &[Neighbour],
+) -> Result<FloodSends, OutOfMemory>
+    ensures { IfOk result (λ sends. sends ≡ flat_map sent_to neighbours.now) }
+{
+    let mut sends = FloodSends::new(alloc);
+    for n in neighbours {
+        n.push_sent(alloc, &mut sends)?;
+    }
+    Ok(sends)
+}
+
+/// How many rows are due to these neighbours.
+pub(crate) fn pending(neighbours: &[Neighbour]) -> usize
+    requires { sum_by (λ n. length n.due) neighbours.now < 2 ^ 64 }
+    ensures { result ≡ sum_by (λ n. length n.due) neighbours.now }
+{
+    neighbours.iter().map(|n| n.due.len()).sum()
+}
+
+fn numbers_of(alloc: Global, ids: &[NodeId]) -> Result<Vec<u32>, OutOfMemory>
+    ensures { IfOk result (λ ns. ns.items ≡ map (λ id. id.0) ids.now) }
+{
+    let numbers = ids.iter().map(|id| id.0).collect(alloc)?;
+    Ok(numbers)
+}
+
+/// The numbers of these nodes, each once, rising.
+pub(crate) fn rising(alloc: Global, ids: &[NodeId]) -> Result<Vec<u32>, OutOfMemory>
+    ensures rising { IfOk result (λ ns. IsStrictlyIncreasing ns.items) }
+    ensures same { IfOk result (λ ns. (n : ℕ) → Contains ns.items n ↔ Contains (map (λ id. id.0) ids.now) n) }
+{
+    let mut numbers = numbers_of(alloc, ids)?;
+    numbers.sort_unstable();
+    numbers.dedup();
+    Ok(numbers)
+}
+
+/// A neighbour for each number, to which no row is due.
+pub(crate) fn new_all(alloc: Global, numbers: &[u32]) -> Result<Vec<Neighbour>, OutOfMemory>
+    ensures all { IfOk result (λ ns. ns.items ≡ map (λ n. fresh (record { 0 = n })) numbers.now) }
+    ensures small { (k : ℕ) → slice_index numbers.now k < 2 ^ 32 }
+{
+    let mut all = Vec::with_capacity(alloc, numbers.len())?;
+    for n in numbers {
+        all.push(Neighbour::new(alloc, NodeId(*n)))?;
+    }
+    Ok(all)
+}

@@ -1,0 +1,32 @@
+-- The loop that ages each message in its place.
+use Rattle.std.proofs.Common.{◌≡◌, ℕ, ◌+◌, ◌<◌, ◌==◌, zero, suc, true, List, [], ◌∷◌, ◌++◌, length, get_or, set, take, drop, map, refl, ap, sym, arith, add-one}
+use Rattle.ason_base.specs.declared.messages.MsgId.{MsgId}
+use Rattle.hop_reliable.specs.declared.unacked.Unacked.{Unacked}
+use Rattle.hop_reliable.specs.Ages.{older_age}
+use Rattle.hop_reliable.specs.Hop.{older, still_unacked}
+
+abbrev pub aged : ℕ → List Unacked → List Unacked
+aged i ws = map older (take i ws) ++ drop i ws
+
+get_or-aged : (ws : List Unacked) (i : ℕ) (d : Unacked) → i < length ws → get_or (aged i ws) i d ≡ get_or ws i d
+get_or-aged [] i d h = absurd (omega arith)
+get_or-aged (w ∷ ws) zero d h = refl
+get_or-aged (w ∷ ws) (suc i) d h = get_or-aged ws i d (omega arith)
+
+set-aged : (ws : List Unacked) (i : ℕ) (d : Unacked) → i < length ws → set (aged i ws) i (older (get_or ws i d)) ≡ aged (suc i) ws
+set-aged [] i d h = absurd (omega arith)
+set-aged (w ∷ ws) zero d h = refl
+set-aged (w ∷ ws) (suc i) d h = ap (λ zs. older w ∷ zs) (set-aged ws i d (omega arith))
+
+pub aged_more : (ws now : List Unacked) (i age : ℕ) (w : Unacked) → i < length ws → now ≡ aged i ws → age ≡ older_age (get_or now i w).age →
+    set now i (record { number = (get_or now i w).number; age = age; msg = (get_or now i w).msg }) ≡ aged (i + 1) ws
+aged_more ws now i age w h same older_is =
+    rw (older_is, same, get_or-aged ws i w h, add-one i) (set-aged ws i w h)
+
+pub still_unacked-nil : (ws : List Unacked) → still_unacked [] ws ≡ ws
+still_unacked-nil [] = refl
+still_unacked-nil (w ∷ ws) = ap (λ zs. w ∷ zs) (still_unacked-nil ws)
+
+pub none_acked : (acks : List MsgId) (ws : List Unacked) → (length acks == 0) ≡ true → ws ≡ still_unacked acks ws
+none_acked [] ws h = sym (still_unacked-nil ws)
+none_acked (ack ∷ acks) ws h = absurd (grind arith)

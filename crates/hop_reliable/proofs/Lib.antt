@@ -1,0 +1,8 @@
+pub mod Aged
+pub mod Members
+pub mod Flow
+pub mod Sending
+pub mod Taking
+pub mod Schedule
+pub mod Intervals
+pub mod Order

@@ -1,0 +1,95 @@
+//! Messages that wait for their acknowledgement.
+
+ghost use Rattle.std.specs.Prelude.{◌≡◌, ◌∷◌, ◌++◌, IfOk, map};
+ghost use Rattle.std.specs.List.{list_any};
+ghost use Rattle.hop_reliable.specs.Hop.{again, is_ack_of, numbered, older, still_unacked};
+
+use crate::ages::{is_due, older_age};
+use crate::heard::EPOCH;
+use ason_base::{Ids, Msg, MsgId, OutOfMemory, Packet};
+use std::alloc::Global;
+
+/// A message that was sent and not acknowledged. `age` counts ticks since its first sending, where 68 counts as 8.
+#[derive(Debug, Drop)]
+pub struct Unacked {
+    pub number: u32,
+    pub age: u8,
+    pub msg: Msg,
+}
+
+impl Unacked {
+    /// The same again.
+    pub fn copy(&self, alloc: Global) -> Result<Unacked, OutOfMemory>
+        ensures { IfOk result (λ w. w ≡ self.now) }
+    {
+        let msg = self.msg.copy(alloc)?;
+        Ok(Unacked {
+            number: self.number,
+            age: self.age,
+            msg,
+        })
+    }
+}
+
+/// The message with its number, and no acknowledgement.
+pub(crate) fn numbered(alloc: Global, number: u32, msg: Msg) -> Packet
+    ensures { result ≡ numbered number msg }
+{
+    Packet {
+        id: Some(MsgId {
+            epoch: EPOCH,
+            number,
+        }),
+        acks: Ids::new(alloc),
+        body: Some(msg),
+    }
+}
+
+/// The same messages again, with their numbers and ages.
+pub(crate) fn copies(alloc: Global, unacked: &[Unacked]) -> Result<Vec<Unacked>, OutOfMemory>
+    ensures { IfOk result (λ ws. ws.items ≡ unacked.now) }
+{
+    let mut all = Vec::with_capacity(alloc, unacked.len())?;
+    for w in unacked {
+        all.push(w.copy(alloc)?)?;
+    }
+    Ok(all)
+}
+
+/// What goes again once each message is a tick older.
+pub(crate) fn due_after_tick(alloc: Global, unacked: &[Unacked]) -> Result<Vec<Packet>, OutOfMemory>
+    ensures { IfOk result (λ ps. ps.items ≡ again (map older unacked.now)) }
+{
+    let mut due = Vec::new(alloc);
+    for w in unacked {
+        if is_due(older_age(w.age)) {
+            due.push(numbered(alloc, w.number, w.msg.copy(alloc)?))?;
+        }
+    }
+    Ok(due)
+}
+
+/// Makes each message a tick older.
+pub(crate) fn age_all(unacked: &mut [Unacked])
+    ensures { unacked.new ≡ map older unacked.old }
+{
+    for w in unacked.iter_mut() {
+        w.age = older_age(w.age);
+    }
+}
+
+/// Takes off each message that is acknowledged in epoch 1.
+pub(crate) fn take_off(unacked: &mut Vec<Unacked>, acks: &[MsgId])
+    ensures { unacked.new.items ≡ still_unacked acks.now unacked.old.items }
+{
+    if !acks.is_empty() {
+        unacked.retain(|w| !is_acked(acks, w.number));
+    }
+}
+
+fn is_acked(acks: &[MsgId], number: u32) -> bool
+    ensures { result ≡ list_any (is_ack_of number) acks.now }
+{
+    acks.iter()
+        .any(|ack| ack.epoch == EPOCH && ack.number == number)
+}

@@ -1,0 +1,5 @@
+pub mod Scanning
+pub mod Rising
+pub mod Once
+pub mod Lengths
+pub mod Spelled

@@ -1,0 +1,3 @@
+pub mod SubTlvs
+pub mod Rows
+pub mod Written

@@ -1,0 +1,83 @@
+-- The row of a link that a Link TLV spells (RFC 3630, section 2.5; RFC 4203, section 1).
+use Rattle.std.specs.Prelude.{◌≡◌, ◌≢◌, ◌≤◌, ◌↔◌, ℕ, ◌%◌, min, max, List, [], ◌∷◌, length, drop, Contains}
+use Rattle.std.specs.List.Sorted.{IsStrictlyIncreasing}
+use Rattle.byteorder.specs.Endian.{big_number}
+use Rattle.ason_base.specs.declared.ids.NodeId.{NodeId}
+use Rattle.ason_base.specs.declared.network.TeRow.{TeRow}
+use Rattle.te_tlv.specs.SubTlvs.{SubTlv, IsLinkTlv, values_of}
+
+-- There is just one sub-TLV of this type, and this is its value.
+abbrev pub IsOnly : ℕ → List SubTlv → List ℕ → Type 0
+IsOnly kind subs value = values_of kind subs ≡ value ∷ []
+
+-- a value of four bytes
+abbrev pub IsNumber : List ℕ → ℕ → Type 0
+IsNumber value n = (length value ≡ 4) × (n ≡ big_number 4 value)
+
+-- link type: point-to-point
+abbrev pub IsPointToPoint : List SubTlv → Type 0
+IsPointToPoint subs = IsOnly 1 subs (1 ∷ [])
+
+-- link id: the node at the other end
+abbrev pub HasPeer : NodeId → List SubTlv → ℕ → Type 0
+HasPeer origin subs peer = (value : List ℕ) × IsOnly 2 subs value × IsNumber value peer × (peer ≢ origin.0)
+
+-- traffic engineering metric
+abbrev pub HasMetric : List SubTlv → ℕ → Type 0
+HasMetric subs metric = (value : List ℕ) × IsOnly 5 subs value × IsNumber value metric × (1 ≤ metric) × (metric ≤ 65535)
+
+-- local and remote identifiers, both the link's number
+abbrev pub HasLink : List SubTlv → ℕ → Type 0
+HasLink subs link =
+    (value : List ℕ) × IsOnly 11 subs value × (length value ≡ 8) × (link ≡ big_number 4 value) × (link ≡ big_number 4 (drop 4 value))
+
+-- the numbers of four bytes each, one after the other
+abbrev pub numbers_of : List ℕ → List ℕ
+numbers_of (a ∷ b ∷ c ∷ d ∷ bytes) = big_number 4 (a ∷ b ∷ c ∷ d ∷ []) ∷ numbers_of bytes
+numbers_of bytes = []
+
+-- The SRLGs of a value: the same numbers, each once, rising. There are at most 16.
+pub record AreSrlgs (value : List ℕ) (srlgs : List ℕ) : Type 0 where
+  pub whole : length value % 4 ≡ 0
+  pub rising : IsStrictlyIncreasing srlgs
+  pub same : (n : ℕ) → Contains srlgs n ↔ Contains (numbers_of value) n
+  pub most : length srlgs ≤ 16
+
+-- without a sub-TLV of SRLGs there are none
+abbrev pub SrlgsOf : List (List ℕ) → List ℕ → Type 0
+SrlgsOf [] srlgs = srlgs ≡ []
+SrlgsOf (value ∷ []) srlgs = AreSrlgs value srlgs
+SrlgsOf (value ∷ again ∷ others) srlgs = ⊥
+
+abbrev pub HasSrlgs : List SubTlv → List ℕ → Type 0
+HasSrlgs subs srlgs = SrlgsOf (values_of 16 subs) srlgs
+
+-- What each row has, beside its SRLGs: the other end, the metric and the link's number.
+pub record HasFields (origin : NodeId) (subs : List SubTlv) (peer metric link : ℕ) : Type 0 where
+  pub point_to_point : IsPointToPoint subs
+  pub has_peer : HasPeer origin subs peer
+  pub has_metric : HasMetric subs metric
+  pub has_link : HasLink subs link
+
+-- the row between these two ends
+abbrev pub row_between : NodeId → ℕ → ℕ → ℕ → List ℕ → TeRow
+row_between origin peer metric link srlgs = record {
+  link = record { 0 = link };
+  low = record { 0 = min origin.0 peer };
+  high = record { 0 = max origin.0 peer };
+  metric = metric;
+  srlgs = srlgs;
+}
+
+-- The row that sub-TLVs of this origin spell, in any order; other types are skipped.
+pub record IsRow (origin : NodeId) (subs : List SubTlv) (row : TeRow) : Type 0 where
+  pub peer : ℕ
+  pub fields : HasFields origin subs peer row.metric row.link.0
+  pub has_srlgs : HasSrlgs subs row.srlgs
+  pub is : row ≡ row_between origin peer row.metric row.link.0 row.srlgs
+
+-- the bytes from this origin spell this row
+pub record SpellsRow (origin : NodeId) (bytes : List ℕ) (row : TeRow) : Type 0 where
+  pub subs : List SubTlv
+  pub tlv : IsLinkTlv bytes subs
+  pub fields : IsRow origin subs row

@@ -1,0 +1,42 @@
+-- The written form of a row: the sub-TLVs in order of type, that of SRLGs only where there are any, padding zero.
+use Rattle.std.specs.Prelude.{◌≡◌, ◌<◌, ◌≤◌, ◌⊎◌, ℕ, ◌-◌, ◌^◌, ◌==◌, if◌then◌else◌, List, [], ◌∷◌, ◌++◌, length, replicate, All}
+use Rattle.std.specs.List.{flat_map}
+use Rattle.std.specs.List.Sorted.{IsStrictlyIncreasing}
+use Rattle.byteorder.specs.Endian.{big_bytes}
+use Rattle.ason_base.specs.declared.ids.NodeId.{NodeId}
+use Rattle.ason_base.specs.declared.network.TeRow.{TeRow}
+use Rattle.te_tlv.specs.SubTlvs.{padded}
+
+unfoldable pub sub_tlv : ℕ → List ℕ → List ℕ
+sub_tlv kind value = big_bytes 2 kind ++ big_bytes 2 (length value) ++ value ++ replicate (padded (length value) - length value) 0
+
+-- the end that isn't the origin
+abbrev pub peer_of : NodeId → TeRow → ℕ
+peer_of origin row = if origin.0 == row.low.0 then row.high.0 else row.low.0
+
+abbrev pub srlgs_tlv : List ℕ → List ℕ
+srlgs_tlv [] = []
+srlgs_tlv (s ∷ ss) = sub_tlv 16 (flat_map (λ n. big_bytes 4 n) (s ∷ ss))
+
+abbrev pub link_body : NodeId → TeRow → List ℕ
+link_body origin row =
+    sub_tlv 1 (1 ∷ []) ++ sub_tlv 2 (big_bytes 4 (peer_of origin row)) ++ sub_tlv 5 (big_bytes 4 row.metric)
+    ++ sub_tlv 11 (big_bytes 4 row.link.0 ++ big_bytes 4 row.link.0) ++ srlgs_tlv row.srlgs
+
+abbrev pub link_tlv : NodeId → TeRow → List ℕ
+link_tlv origin row = big_bytes 2 2 ++ big_bytes 2 (length (link_body origin row)) ++ link_body origin row
+
+-- what has a written form
+pub record IsWritable (origin : NodeId) (row : TeRow) : Type 0 where
+  pub end : (origin ≡ row.low) ⊎ (origin ≡ row.high)
+  pub ends : row.low.0 < row.high.0
+  pub positive : 1 ≤ row.metric
+  pub small : row.metric ≤ 65535
+  pub few : length row.srlgs ≤ 16
+
+-- the numbers of a row have 32 bits, and its SRLGs rise, as those of every row of the program do
+pub record HasNumbers (row : TeRow) : Type 0 where
+  pub link : row.link.0 < 2 ^ 32
+  pub high : row.high.0 < 2 ^ 32
+  pub srlgs : All (λ n. n < 2 ^ 32) row.srlgs
+  pub rising : IsStrictlyIncreasing row.srlgs

@@ -1,0 +1,14 @@
+//! Rows of links as Link TLVs (RFC 3630, RFC 4203).
+#![tactic(auto)]
+
+pub mod laws;
+pub mod reading;
+pub mod srlgs;
+pub mod sub_tlvs;
+pub mod writing;
+
+pub use reading::read_row;
+pub use writing::write_row;
+
+#[cfg(test)]
+mod tests;

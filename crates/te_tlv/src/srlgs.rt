@@ -1,0 +1,82 @@
+//! SRLGs of a link (RFC 4203, section 1.3).
+
+ghost use Rattle.std.specs.Prelude.{◌≡◌, ◌↔◌, ℕ, List, Contains, IfOk, IsErrOf};
+ghost use Rattle.std.specs.List.Sorted.{IsStrictlyIncreasing};
+ghost use Rattle.te_tlv.specs.Rows.{AreSrlgs, HasSrlgs, numbers_of};
+ghost use Rattle.te_tlv.specs.SubTlvs.{SubTlv, AreSubTlvs};
+
+use crate::sub_tlvs::at_most_one;
+use ason_base::network::MOST_SRLGS;
+use ason_base::{DecodeError, OutOfMemory, Srlgs};
+use std::alloc::Global;
+use wire_buf::Cursor;
+
+/// The type of the sub-TLV of SRLGs.
+pub(crate) const SRLG: u16 = 16;
+
+/// The numbers of four bytes each, in order.
+fn numbers(alloc: Global, value: &[u8]) -> Result<Vec<u32>, OutOfMemory>
+    ensures { IfOk result (λ ns. ns.items ≡ numbers_of value.now) }
+{
+    let mut cursor = Cursor::new(value);
+    let mut numbers = Vec::new(alloc);
+    'numbers: while let Some(n) = cursor.u32() {
+        numbers.push(n)?;
+    }
+    Ok(numbers)
+}
+
+/// The numbers of four bytes each, rising, each once.
+fn distinct(alloc: Global, value: &[u8]) -> Result<Vec<u32>, OutOfMemory>
+    ensures rising { IfOk result (λ ns. IsStrictlyIncreasing ns.items) }
+    ensures same { IfOk result (λ ns. (n : ℕ) → Contains ns.items n ↔ Contains (numbers_of value.now) n) }
+{
+    let mut numbers = numbers(alloc, value)?;
+    numbers.sort_unstable();
+    numbers.dedup();
+    Ok(numbers)
+}
+
+/// Rising numbers as SRLGs.
+fn listed(alloc: Global, numbers: &[u32]) -> Result<Srlgs, OutOfMemory>
+    requires { IsStrictlyIncreasing numbers.now }
+    ensures { IfOk result (λ s. s ≡ numbers.now) }
+{
+    let mut srlgs = Srlgs::new(alloc);
+    for n in numbers {
+        srlgs.push(*n)?;
+    }
+    Ok(srlgs)
+}
+
+/// The SRLGs of a value. NotMessage exactly where it has none.
+fn srlgs_of_value(alloc: Global, value: &[u8]) -> Result<Srlgs, DecodeError>
+    ensures found { IfOk result (λ s. AreSrlgs value.now s) }
+    ensures not_message { IsErrOf result DecodeError.NotMessage → (s : List ℕ) → ¬ AreSrlgs value.now s }
+{
+    if value.len() % 4 != 0 {
+        return Err(DecodeError::NotMessage);
+    }
+    let Ok(numbers) = distinct(alloc, value) else {
+        return Err(DecodeError::OutOfMemory);
+    };
+    if numbers.len() > MOST_SRLGS {
+        return Err(DecodeError::NotMessage);
+    }
+    match listed(alloc, &numbers) {
+        Ok(srlgs) => Ok(srlgs),
+        Err(OutOfMemory) => Err(DecodeError::OutOfMemory),
+    }
+}
+
+/// The SRLGs of a text of sub-TLVs. NotMessage exactly where they are not in order.
+pub(crate) fn srlgs_of(alloc: Global, body: &[u8]) -> Result<Srlgs, DecodeError>
+    ensures found { IfOk result (λ s. (subs : List SubTlv) → AreSubTlvs body.now subs → HasSrlgs subs s) }
+    ensures not_message { IsErrOf result DecodeError.NotMessage → (subs : List SubTlv) → AreSubTlvs body.now subs → (s : List ℕ) → ¬ HasSrlgs subs s }
+{
+    match at_most_one(body, SRLG) {
+        None => Err(DecodeError::NotMessage),
+        Some(None) => Ok(Srlgs::new(alloc)),
+        Some(Some(value)) => srlgs_of_value(alloc, value),
+    }
+}

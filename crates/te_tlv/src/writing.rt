@@ -1,0 +1,114 @@
+//! Writing rows.
+
+ghost use Rattle.std.specs.Prelude.{◌≡◌, ◌<◌, ◌≤◌, ◌+◌, ◌^◌, ◌++◌, [], ◌∷◌, length, IfOk, OnOk};
+ghost use Rattle.std.specs.List.{flat_map};
+ghost use Rattle.byteorder.specs.Endian.{big_bytes};
+ghost use Rattle.te_tlv.specs.Written.{IsWritable, link_body, link_tlv, peer_of, srlgs_tlv, sub_tlv};
+
+use crate::reading::{IDENTIFIERS, LINK_ID, LINK_TYPE, METRIC};
+use crate::srlgs::SRLG;
+use crate::sub_tlvs::LINK;
+use ason_base::{NodeId, OutOfMemory, TeRow};
+use std::alloc::Global;
+use wire_buf::{push_u16, push_u32};
+
+/// How many bytes a TLV's header takes, and the sub-TLVs that each row has.
+const HEADER: usize = 4;
+
+const FIXED: usize = 36;
+
+/// The number of the end that isn't the origin.
+fn peer_of(origin: NodeId, row: &TeRow) -> u32
+    ensures { result ≡ peer_of origin row.now }
+{
+    if origin == row.low {
+        row.high.0
+    } else {
+        row.low.0
+    }
+}
+
+/// How many bytes the sub-TLV of the SRLGs takes.
+fn srlgs_len(srlgs: &[u32]) -> usize
+    requires { length srlgs.now ≤ 16 }
+    ensures len { result ≡ length (srlgs_tlv srlgs.now) }
+    ensures most { result ≤ 68 }
+{
+    if srlgs.is_empty() {
+        0
+    } else {
+        HEADER + 4 * srlgs.len()
+    }
+}
+
+/// Appends the sub-TLV of a point-to-point link: one byte and three of padding.
+#[tactic(auto, unfolding(crate::specs::Written::sub_tlv))]
+fn push_link_type(out: &mut Vec<u8>) -> Result<(), OutOfMemory>
+    ensures { OnOk result (out.new.items ≡ out.old.items ++ sub_tlv 1 (1 ∷ [])) }
+{
+    push_u16(out, LINK_TYPE)?;
+    push_u16(out, 1)?;
+    push_u32(out, 1 << 24)
+}
+
+/// Appends a sub-TLV of four bytes.
+#[tactic(auto, unfolding(crate::specs::Written::sub_tlv))]
+fn push_number(out: &mut Vec<u8>, kind: u16, n: u32) -> Result<(), OutOfMemory>
+    ensures { OnOk result (out.new.items ≡ out.old.items ++ sub_tlv kind (big_bytes 4 n)) }
+{
+    push_u16(out, kind)?;
+    push_u16(out, 4)?;
+    push_u32(out, n)
+}
+
+/// Appends the sub-TLV of both identifiers.
+#[tactic(auto, unfolding(crate::specs::Written::sub_tlv))]
+fn push_identifiers(out: &mut Vec<u8>, link: u32) -> Result<(), OutOfMemory>
+    ensures { OnOk result (out.new.items ≡ out.old.items ++ sub_tlv 11 (big_bytes 4 link ++ big_bytes 4 link)) }
+{
+    push_u16(out, IDENTIFIERS)?;
+    push_u16(out, 8)?;
+    push_u32(out, link)?;
+    push_u32(out, link)
+}
+
+/// Appends the sub-TLV of the SRLGs, where there are any.
+fn push_srlgs(out: &mut Vec<u8>, srlgs: &[u32]) -> Result<(), OutOfMemory>
+    requires { length srlgs.now ≤ 16 }
+    ensures { OnOk result (out.new.items ≡ out.old.items ++ srlgs_tlv srlgs.now) }
+{
+    if srlgs.is_empty() {
+        return Ok(());
+    }
+    push_u16(out, SRLG)?;
+    push_u16(out, 4 * srlgs.len() as u16)?;
+    for n in srlgs {
+        push_u32(out, *n)?;
+    }
+    Ok(())
+}
+
+/// Appends the sub-TLVs in order of type.
+fn push_body(out: &mut Vec<u8>, origin: NodeId, row: &TeRow) -> Result<(), OutOfMemory>
+    requires { length row.now.srlgs ≤ 16 }
+    ensures { OnOk result (out.new.items ≡ out.old.items ++ link_body origin row.now) }
+{
+    push_link_type(out)?;
+    push_number(out, LINK_ID, peer_of(origin, row))?;
+    push_number(out, METRIC, row.metric)?;
+    push_identifiers(out, row.link.0)?;
+    push_srlgs(out, row.srlgs.items())
+}
+
+/// The Link TLV of a row, from one of its ends: sub-TLVs in order of type, SRLGs rising, padding zero.
+pub fn write_row(alloc: Global, origin: NodeId, row: &TeRow) -> Result<Vec<u8>, OutOfMemory>
+    requires { IsWritable origin row.now }
+    ensures { IfOk result (λ bytes. bytes.items ≡ link_tlv origin row.now) }
+{
+    let len = FIXED + srlgs_len(row.srlgs.items());
+    let mut out = Vec::with_capacity(alloc, HEADER + len)?;
+    push_u16(&mut out, LINK)?;
+    push_u16(&mut out, len as u16)?;
+    push_body(&mut out, origin, row)?;
+    Ok(out)
+}
