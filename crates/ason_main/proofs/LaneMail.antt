@@ -43,7 +43,7 @@ mail_at-refilled f lanes after u d i at changes a b = go (nat_eq a u && nat_eq b
         rw (same.0, same.1, new, there.2) refl
     go false e =
         let other : find (is_lane a b) after ≡ find (is_lane a b) lanes =
-            rw after_is (find-set_other (is_lane u d) (is_lane a b) lanes (refilled f there.0) (lane_apart u d a b there.0 e there.3) (λ l h. lane_apart u d a b l e h)) in
+        rw after_is (find-set_other (is_lane u d) (is_lane a b) lanes (refilled f there.0) (lane_apart u d a b there.0 e there.3) (λ l h. lane_apart u d a b l e h)) in
         ap lane_mail other
 
 pub mail_at-opened : (lanes : List Lane) (from to : NodeId) (mail : List Msg) → position (is_lane from.0 to.0) lanes ≡ None →

@@ -1,11 +1,6 @@
 -- The one's complement sum, word by word.
-<<<<<<< HEAD
 use Rattle.std.proofs.Common.{◌≡◌, ℕ, zero, suc, ◌+◌, ◌-◌, ◌*◌, ◌%◌, ◌<◌, ◌≤◌, List, [], ◌∷◌, ◌++◌, length, drop, refl, ap, ◌∙◌, arith, cond, ltb, true, false}
 use Rattle.std.specs.Prelude.{◌↔◌, sum, All}
-=======
-use Rattle.std.proofs.Common.{◌≡◌, ℕ, zero, suc, ◌+◌, ◌-◌, ◌*◌, ◌%◌, ◌<◌, ◌≤◌, List, [], ◌∷◌, length, drop, refl, ap, ◌∙◌, arith, cond, ltb, true, false}
-use Rattle.std.specs.Prelude.{sum, All}
->>>>>>> x-hop
 use Rattle.std.proofs.lemmas.Bool.{ltb-true, ltb-false}
 use Rattle.std.proofs.lemmas.List.Sums.{sum_by-cons}
 use Rattle.std.specs.List.{fold}
@@ -71,7 +66,6 @@ add_all n (w ∷ ws) fit =
 
 pub all_at_once : (ws : List ℕ) → All (λ w. w < 65536) ws → fold ones_add 0 ws ≡ ones_of (sum ws)
 all_at_once ws fit = let e : 0 + sum ws ≡ sum ws = omega arith in add_all 0 ws fit ∙ ap ones_of e
-<<<<<<< HEAD
 
 pub words-append : (front back : List ℕ) → length front % 2 ≡ 0 → words (front ++ back) ≡ words front ++ words back
 words-append [] back even = refl
@@ -90,5 +84,3 @@ is_right others field some small zero_sum = omega (arith, ones-positive others s
 
 pub cancels_iff : (others field : ℕ) → 0 < others → field < 65535 → (field ≡ 65535 - ones_of others) ↔ (65535 - ones_of (others + field) ≡ 0)
 cancels_iff others field some small = (cancels others field some small, is_right others field some small)
-=======
->>>>>>> x-hop

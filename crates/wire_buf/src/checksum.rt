@@ -1,12 +1,7 @@
 //! The Internet checksum (RFC 1071).
 
-<<<<<<< HEAD
 ghost use Rattle.std.specs.Prelude.{◌≡◌, ◌<◌, ◌+◌, ◌-◌, ◌%◌, ◌++◌, ◌↔◌, List, ℕ, All, fold, length, sum};
 ghost use Rattle.wire_buf.specs.Checksum.{checksum_of, ones_add, ones_of, words};
-=======
-ghost use Rattle.std.specs.Prelude.{◌≡◌, ◌<◌, List, ℕ, All, fold, sum};
-ghost use Rattle.wire_buf.specs.Checksum.{checksum_of, ones_add, ones_of};
->>>>>>> x-hop
 
 use crate::cursor::Cursor;
 
@@ -27,7 +22,6 @@ pub fn carries_may_wait()
     ensures { (words : List ℕ) → All (λ w. w < 65536) words → fold ones_add 0 words ≡ ones_of (sum words) }
 {}
 
-<<<<<<< HEAD
 /// Law: where the other words have a sum above 0, the field between them has their checksum exactly where the checksum of the
 /// whole is 0 (RFC 1071, section 1). 0xFFFF is no checksum of such words.
 pub fn right_checksums_cancel()
@@ -39,8 +33,6 @@ pub fn pieces_keep_words()
     ensures { (front back : List ℕ) → length front % 2 ≡ 0 → words (front ++ back) ≡ words front ++ words back }
 {}
 
-=======
->>>>>>> x-hop
 /// The one's complement of the one's complement sum of the 16-bit words. An odd last byte is the high byte of a word
 /// whose low byte is 0 (RFC 1071, sections 1 and 4.1).
 pub fn internet_checksum(bytes: &[u8]) -> u16

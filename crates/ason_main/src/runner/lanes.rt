@@ -73,9 +73,7 @@ pub struct Lane {
 fn lane_place(lanes: &[Lane], u: NodeId, d: NodeId) -> Option<usize>
     ensures { result ≡ position (is_lane u.0 d.0) lanes.now }
 {
-    lanes
-        .iter()
-        .position(|lane| lane.from == u && lane.to == d)
+    lanes.iter().position(|lane| lane.from == u && lane.to == d)
 }
 
 // Puts the message at the end of this lane.

@@ -148,11 +148,7 @@ pub(crate) struct Gathered {
     pub(crate) legs: Vec<LegRow>,
 }
 
-fn gather_node(
-    alloc: Global,
-    gathered: &mut Gathered,
-    node: &Node,
-) -> Result<(), OutOfMemory>
+fn gather_node(alloc: Global, gathered: &mut Gathered, node: &Node) -> Result<(), OutOfMemory>
     ensures calls { OnOk result (gathered.new.calls.items ≡ gathered.old.calls.items ++ call_rows node.now.place.id node.now.state) }
     ensures legs { OnOk result (gathered.new.legs.items ≡ gathered.old.legs.items ++ leg_rows node.now.place.id node.now.state) }
 {

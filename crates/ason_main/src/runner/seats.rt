@@ -8,7 +8,6 @@ ghost use Rattle.node_core.specs.Nodes.{answer_to};
 ghost use Rattle.ason_main.specs.declared.runner.seats.Seat.{Seat};
 ghost use Rattle.ason_main.specs.Kept.{answered, is_seat_of, mail_at, seat_answer, seat_at, seat_desk, with_less, with_more};
 
-
 use crate::runner::lanes::{Lane, send_all};
 use ason_base::{DeskItem, NodeId, OutOfMemory, Outs};
 use node_core::{Input, Node};

@@ -17,7 +17,7 @@ returns-clause-mail c =
     let at : position (is_seat_of c.args.n.0) c.args.seats.now.items ≡ Some c.in-Some.place = ap (position (is_seat_of c.args.n.0)) (sym c.deref.ensures.value) ∙ sym c.in-Some.ensures in
     let there = seat_found c.args.seats.now.items c.args.n.0 c.in-Some.place at in
     let sent : c.in_ok-outs.outs ≡ (seat_answer (seat_at c.args.seats.now.items c.args.n.0) c.args.input.now).sent =
-        c.in_ok-outs.ensures.sent there.0 there.1 ∙ ap (λ o. (seat_answer o c.args.input.now).sent) (sym there.2) in
+    c.in_ok-outs.ensures.sent there.0 there.1 ∙ ap (λ o. (seat_answer o c.args.input.now).sent) (sym there.2) in
     on_ok c.send_all.result _ _
     (λ h u d. h u d ∙ ap (λ outs. cond (nat_eq u c.args.n.0) (mail_at c.args.lanes.now.items u d ++ sent_to d outs) (mail_at c.args.lanes.now.items u d)) sent)
     c.send_all.ensures
