@@ -5,6 +5,7 @@ pub mod LaneMail
 pub mod LegOrder
 pub mod NewSeats
 pub mod Numbers
+pub mod OutputOf
 pub mod Reading
 pub mod Repeats
 pub mod Results
