@@ -1,0 +1,50 @@
+-- What the program answers to its words and to its input.
+use Rattle.std.specs.Prelude.{◌≡◌, ◌≤◌, ◌<◌, ◌+◌, ◌⊎◌, ℕ, Bool, true, false, List, [], ◌∷◌, Option, bytes_eq, codes, length, take}
+use Rattle.std.specs.Io.KnownBytes.{Appends}
+use Rattle.ason_io.specs.Faults.{Rose}
+use Rattle.ason_io.specs.Reading.{HasRead, WasReadToEnd}
+use Rattle.ason_main.specs.declared.plan.Plan.{Plan}
+use Rattle.ason_main.specs.declared.ason.Reply.{Reply}
+use Rattle.ason_main.specs.declared.ason.Status.{Status}
+use Rattle.ason_main.specs.Outputs.{IsOutput}
+use Rattle.ason_main.specs.Plans.{FirstPlanOf}
+
+-- the words are the one word `run`
+abbrev pub is_run : List (List ℕ) → Bool
+is_run [] = false
+is_run (w ∷ []) = bytes_eq w (codes "run")
+is_run (w ∷ v ∷ ws) = false
+
+abbrev pub status_of : Reply → Status
+status_of (Reply.Done text) = Status.Done
+status_of Reply.Usage = Status.Usage
+status_of Reply.PlanRefused = Status.PlanRefused
+status_of Reply.ReadFault = Status.ReadFault
+status_of Reply.OutOfMemory = Status.OutOfMemory
+status_of Reply.TooLong = Status.TooLong
+
+-- what is written
+abbrev pub text_of_reply : Reply → List ℕ
+text_of_reply (Reply.Done text) = text.items
+text_of_reply Reply.Usage = codes "usage: ason run [--workers N] [--stride T] [--trace] | check | decode | route FROM TO | load SEED NODES CALLS\n"
+text_of_reply Reply.PlanRefused = codes "refused plan\n"
+text_of_reply Reply.ReadFault = []
+text_of_reply Reply.OutOfMemory = []
+text_of_reply Reply.TooLong = codes "refused input too long\n"
+
+-- what the reply says of the words and the source: nothing is read where the words have no meaning
+abbrev pub IsReply : {S : Type 0} → (S → Option (List ℕ)) → (S → List ℕ → S → Type 0) → (S → Type 0) → (S → ℕ) → List (List ℕ) → S → S → Reply → Type 0
+IsReply left handed ended faults words old new (Reply.Done text) =
+    (is_run words ≡ true) × ((bs : List ℕ) × WasReadToEnd left handed ended old new bs × ((p : Plan) × FirstPlanOf bs p × IsOutput p text.items))
+IsReply left handed ended faults words old new Reply.Usage = (is_run words ≡ false) × (new ≡ old)
+IsReply left handed ended faults words old new Reply.PlanRefused =
+    (is_run words ≡ true) × ((bs : List ℕ) × WasReadToEnd left handed ended old new bs × ((p : Plan) → ¬ FirstPlanOf bs p))
+IsReply left handed ended faults words old new Reply.ReadFault = (is_run words ≡ true) × Rose (faults old) (faults new)
+IsReply left handed ended faults words old new Reply.OutOfMemory = is_run words ≡ true
+IsReply left handed ended faults words old new Reply.TooLong = (is_run words ≡ true) × HasRead left handed old new (λ n. n ≡ 4194304 + 1)
+
+-- the reply's status is answered and its text written, or the sink failed and only a part was written
+abbrev pub WasGiven : {K : Type 0} → (K → Option (List ℕ)) → (K → ℕ) → K → K → Reply → Status → Type 0
+WasGiven written faults old new r s =
+    ((s ≡ status_of r) × Appends (written old) (written new) (text_of_reply r))
+    ⊎ ((s ≡ Status.WriteFault) × Rose (faults old) (faults new) × ((n : ℕ) × (n < length (text_of_reply r)) × Appends (written old) (written new) (take n (text_of_reply r))))
