@@ -1,6 +1,7 @@
 pub mod Agree
 pub mod Elements
 pub mod Finding
+pub mod FirstLine
 pub mod LaneMail
 pub mod LegOrder
 pub mod NewSeats
