@@ -35,7 +35,7 @@ id_is_known (m ∷ nodes) zero n h =
     subst (λ (i : NodeId). is_node_id (m ∷ nodes) i ≡ true) same here
 id_is_known (m ∷ nodes) (suc k) n h = rw (id_is_known nodes k n h) (or_true (m.id.0 == n.0))
 
-place_is_known : (nodes : List NodeSpec) (o : Option ℕ) (n : NodeId) → id_at_place nodes o ≡ Some n → is_node_id nodes n ≡ true
+pub place_is_known : (nodes : List NodeSpec) (o : Option ℕ) (n : NodeId) → id_at_place nodes o ≡ Some n → is_node_id nodes n ≡ true
 place_is_known nodes None n h = absurd (cc (h))
 place_is_known nodes (Some k) n h = id_is_known nodes k n h
 
@@ -99,11 +99,11 @@ line_is_postable t names ws h = go (is_given_setup ws) h
 
 -- Plans
 
-no_fault_here : (entry : PlanEntry) (kind : Option PlanKind) (later : Option PlanFault) → first_of (fault_at entry kind) later ≡ None → kind ≡ None
+pub no_fault_here : (entry : PlanEntry) (kind : Option PlanKind) (later : Option PlanFault) → first_of (fault_at entry kind) later ≡ None → kind ≡ None
 no_fault_here entry None later h = refl
 no_fault_here entry (Some k) later h = absurd (cc (h))
 
-no_fault_later : (here later : Option PlanFault) → first_of here later ≡ None → later ≡ None
+pub no_fault_later : (here later : Option PlanFault) → first_of here later ≡ None → later ≡ None
 no_fault_later None later h = h
 no_fault_later (Some f) later h = absurd (cc (h))
 

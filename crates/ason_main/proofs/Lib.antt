@@ -13,5 +13,6 @@ pub mod RoundSteps
 pub mod RunsOfRounds
 pub mod SeatLemmas
 pub mod Settling
+pub mod SoundTables
 pub mod TextParts
 pub mod Texts

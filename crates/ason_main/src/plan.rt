@@ -20,7 +20,7 @@ mod top;
 mod values;
 mod words;
 
-use ason_base::{Command, LinkSpec, NodeSpec, OutOfMemory, Topology};
+use ason_base::{Command, LinkSpec, NodeSpec, OutOfMemory, Topology, TopologyFault};
 use faults::fault;
 pub use faults::{PlanEntry, PlanError, PlanFault, PlanKind};
 pub use lines::{Line, Lines};
@@ -44,12 +44,14 @@ pub struct Plan {
 
 // The topology of the nodes and links that were read.
 fn topology(alloc: Global, nodes: &[NodeSpec], links: &[LinkSpec]) -> Result<Topology, OutOfMemory>
+    requires { IsTopology (record { wait = 0; nodes = nodes.now; links = links.now }) }
     ensures value { IfOk result (λ t. t ≡ record { wait = 0; nodes = nodes.now; links = links.now }) }
     ensures valid { IfOk result (λ t. IsTopology t) }
 {
     match Topology::new(alloc, 0, nodes, links) {
         Ok(topology) => Ok(topology),
-        Err(_) => Err(OutOfMemory),
+        Err(TopologyFault::OutOfMemory) => Err(OutOfMemory),
+        Err(_) => unreachable!(),
     }
 }
 
