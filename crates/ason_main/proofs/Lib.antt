@@ -1,6 +1,7 @@
 pub mod Agree
 pub mod Elements
 pub mod Finding
+pub mod FirstLine
 pub mod LaneMail
 pub mod LegOrder
 pub mod NewSeats
@@ -13,5 +14,6 @@ pub mod RoundSteps
 pub mod RunsOfRounds
 pub mod SeatLemmas
 pub mod Settling
+pub mod SoundTables
 pub mod TextParts
 pub mod Texts

@@ -7,13 +7,14 @@ use Rattle.ason_base.specs.Network.{Network}
 use Rattle.ason_base.specs.declared.network.LinkSpec.{LinkSpec}
 use Rattle.ason_base.specs.declared.network.NodeSpec.{NodeSpec}
 use Rattle.ason_base.specs.declared.commands.Command.TheVariants.{Setup}
+use Rattle.mesh.specs.Commands.{is_valid}
 use Rattle.ason_main.specs.declared.plan.faults.PlanEntry.TheVariants.{Toml, Top}
 use Rattle.ason_main.specs.declared.plan.faults.PlanError.{PlanError}
 use Rattle.ason_main.specs.declared.plan.faults.PlanError.TheVariants.{Fault, OutOfMemory}
 use Rattle.ason_main.specs.declared.plan.faults.PlanFault.{PlanFault}
 use Rattle.ason_main.specs.declared.plan.faults.PlanKind.TheVariants.{Syntax}
 use Rattle.ason_main.specs.declared.plan.lines.Line.{Line}
-use Rattle.ason_main.specs.declared.plan.lines.Line.TheVariants.{Post}
+use Rattle.ason_main.specs.declared.plan.lines.Line.TheVariants.{Post, Settle, Show}
 use Rattle.ason_main.specs.declared.plan.Plan.{Plan}
 use Rattle.ason_main.specs.PlanTables.{first_of, fault_at, elements_at, text_of, top_kind, name_of, node_of, nodes_fault, link_of, links_fault}
 use Rattle.ason_main.specs.PlanCalls.{no_calls}
@@ -104,3 +105,10 @@ abbrev pub FirstAnswers : List ℕ → Result Plan PlanError → Type 0
 FirstAnswers bs (Ok p) = FirstPlanOf bs p
 FirstAnswers bs (Err (Fault f)) = (p : Plan) → ¬ FirstPlanOf bs p
 FirstAnswers bs (Err OutOfMemory) = Unit {0}
+
+-- the command of the line, if it posts one, is valid
+abbrev pub IsPostableLine : Network → Option Line → Type 0
+IsPostableLine t None = Unit {0}
+IsPostableLine t (Some (Post c)) = is_valid t c ≡ true
+IsPostableLine t (Some (Settle r)) = Unit {0}
+IsPostableLine t (Some Show) = Unit {0}

@@ -1,8 +1,9 @@
 //! Plans: the network, the script of lines to be run over it, and the first fault of what is no plan.
 
-ghost use Rattle.std.specs.Prelude.{◌≡◌, ◌≤◌, codes, length, IfErr, IfOk, OnOk, Ok, Err, Some, None};
+ghost use Rattle.std.specs.Prelude.{◌≡◌, ◌≤◌, codes, length, slice_get, IfErr, IfOk, OnOk, Ok, Err, Some, None};
 ghost use Rattle.toml.specs.View.{view};
-ghost use Rattle.ason_main.specs.Plans.{Answers, FirstAnswers, call_names_in, is_first_script, lines_in, links_fault_in, links_in, names_in, network_in, nodes_fault_in, nodes_in, plan_of, script_fault_in};
+ghost use Rattle.ason_base.specs.Network.{IsTopology};
+ghost use Rattle.ason_main.specs.Plans.{Answers, FirstAnswers, IsPostableLine, call_names_in, is_first_script, lines_in, links_fault_in, links_in, names_in, network_in, nodes_fault_in, nodes_in, plan_of, script_fault_in};
 ghost use Rattle.ason_main.specs.PlanTables.{elements_at};
 ghost use Rattle.ason_main.specs.declared.plan.faults.PlanError.{PlanError};
 ghost use Rattle.ason_main.specs.declared.plan.faults.PlanFault.{PlanFault};
@@ -19,7 +20,7 @@ mod top;
 mod values;
 mod words;
 
-use ason_base::{Command, LinkSpec, NodeSpec, OutOfMemory, Topology};
+use ason_base::{Command, LinkSpec, NodeSpec, OutOfMemory, Topology, TopologyFault};
 use faults::fault;
 pub use faults::{PlanEntry, PlanError, PlanFault, PlanKind};
 pub use lines::{Line, Lines};
@@ -43,11 +44,14 @@ pub struct Plan {
 
 // The topology of the nodes and links that were read.
 fn topology(alloc: Global, nodes: &[NodeSpec], links: &[LinkSpec]) -> Result<Topology, OutOfMemory>
-    ensures { IfOk result (λ t. t ≡ record { wait = 0; nodes = nodes.now; links = links.now }) }
+    requires { IsTopology (record { wait = 0; nodes = nodes.now; links = links.now }) }
+    ensures value { IfOk result (λ t. t ≡ record { wait = 0; nodes = nodes.now; links = links.now }) }
+    ensures valid { IfOk result (λ t. IsTopology t) }
 {
     match Topology::new(alloc, 0, nodes, links) {
         Ok(topology) => Ok(topology),
-        Err(_) => Err(OutOfMemory),
+        Err(TopologyFault::OutOfMemory) => Err(OutOfMemory),
+        Err(_) => unreachable!(),
     }
 }
 
@@ -91,6 +95,7 @@ fn plan_script(
 
 fn read_table(alloc: Global, value: &Value) -> Result<Plan, PlanError>
     ensures plan { IfOk result (λ p. plan_of (view value.now) ≡ Ok p) }
+    ensures valid { IfOk result (λ p. IsTopology p.topology) }
     ensures fault { IfErr result (λ e. (f : PlanFault) → e ≡ PlanError.Fault f → plan_of (view value.now) ≡ Err f) }
 {
     if let Some(kind) = top_kind(value) {
@@ -110,7 +115,8 @@ fn read_table(alloc: Global, value: &Value) -> Result<Plan, PlanError>
 
 /// Reads a plan from TOML. A fault is the first: the text, the top table, then the nodes, the links and the script's lines, each in order.
 pub fn read_plan(alloc: Global, bytes: &[u8]) -> Result<Plan, PlanError>
-    ensures { Answers bytes.now result }
+    ensures plan { Answers bytes.now result }
+    ensures valid { IfOk result (λ p. IsTopology p.topology) }
 {
     match toml::table_from_slice(alloc, bytes) {
         Ok(table) => read_table(alloc, &Value::Table(table)),
@@ -129,9 +135,11 @@ fn is_first_script(lines: &[Line]) -> bool
     }
 }
 
-/// Reads a plan whose script is empty or one setup. A fault comes exactly where the bytes are no such plan.
+/// Reads a plan whose script is empty or one setup, which is valid for its network. A fault comes exactly where the bytes are no such plan.
 pub fn read_first_plan(alloc: Global, bytes: &[u8]) -> Result<Plan, PlanError>
-    ensures { FirstAnswers bytes.now result }
+    ensures plan { FirstAnswers bytes.now result }
+    ensures valid { IfOk result (λ p. IsTopology p.topology) }
+    ensures postable { IfOk result (λ p. IsPostableLine p.topology (slice_get p.lines 0)) }
 {
     let plan = read_plan(alloc, bytes)?;
     if is_first_script(plan.lines.items()) {
