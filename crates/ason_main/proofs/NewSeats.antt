@@ -1,8 +1,7 @@
 -- The seats at the start, and a command that is posted.
-use Rattle.std.proofs.Common.{◌≡◌, ◌<◌, ℕ, zero, suc, Bool, true, false, cond, not, nat_eq, List, [], ◌∷◌, ◌++◌, length, get_or, refl, sym, ap, ◌∙◌, subst, arith}
-use Rattle.std.specs.Prelude.{◌&&◌, ◌||◌, find, map, Option, Some, None, IsSome, IsTrue}
+use Rattle.std.proofs.Common.{◌≡◌, ◌<◌, ℕ, zero, suc, Bool, true, false, cond, nat_eq, List, [], ◌∷◌, ◌++◌, length, get_or, refl, sym, ap, ◌∙◌, subst, arith}
+use Rattle.std.specs.Prelude.{◌||◌, find, map, Some, IsSome}
 use Rattle.std.specs.Option.{option_map}
-use Rattle.std.specs.List.{list_any}
 use Rattle.ason_base.specs.declared.ids.NodeId.{NodeId}
 use Rattle.ason_base.specs.declared.ids.CallNo.{CallNo}
 use Rattle.ason_base.specs.declared.network.NodeSpec.{NodeSpec}
@@ -14,7 +13,7 @@ use Rattle.ason_base.specs.Network.{Network, find_node, is_node_id}
 use Rattle.mesh.specs.Sites.{site_of}
 use Rattle.mesh.specs.Commands.{is_valid}
 use Rattle.mesh.specs.Events.{posted}
-use Rattle.mesh.specs.Machine.{Mesh, new_node, start, with_item, with_posted}
+use Rattle.mesh.specs.Machine.{new_node, start, with_item, with_posted}
 use Rattle.mesh.proofs.SiteLemmas.{and_first}
 use Rattle.ason_main.specs.declared.runner.lanes.Lane.{Lane}
 use Rattle.ason_main.specs.declared.runner.seats.Seat.{Seat}

@@ -1,5 +1,5 @@
 -- What is printed is the output of the plan.
-use Rattle.std.proofs.Common.{◌≡◌, List, [], ◌++◌, ℕ, refl, sym, ap, ◌∙◌, subst, append_assoc}
+use Rattle.std.proofs.Common.{◌≡◌, List, [], ◌++◌, ℕ, sym, ap, ◌∙◌, subst, append_assoc}
 use Rattle.std.specs.Prelude.{map, Option}
 use Rattle.ason_base.specs.declared.ids.CallNo.{CallNo}
 use Rattle.ason_main.specs.declared.plan.lines.Line.{Line}
@@ -9,7 +9,6 @@ use Rattle.ason_main.specs.Kept.{mesh_with, new_seat}
 use Rattle.ason_main.specs.Outputs.{calls_after_line, line_posted}
 use Rattle.ason_main.specs.Rounds.{settled}
 use Rattle.ason_main.proofs.NewSeats.{started}
-use Rattle.ason_base.specs.declared.ids.NodeId.{NodeId}
 use Rattle.ason_base.specs.declared.calls.TableRows.{TableRows}
 use Rattle.ason_base.specs.Network.{Network}
 use Rattle.mesh.specs.Machine.{Mesh}

@@ -1,5 +1,5 @@
 -- An event that is repeated.
-use Rattle.std.proofs.Common.{◌≡◌, ◌<◌, ◌≤◌, ◌+◌, ◌-◌, ℕ, zero, suc, refl, sym, ap, ◌∙◌, arith}
+use Rattle.std.proofs.Common.{◌≡◌, ◌<◌, ◌≤◌, ◌+◌, ◌-◌, ℕ, suc, sym, ap, ◌∙◌, arith}
 use Rattle.ason_base.specs.Network.{Network}
 use Rattle.mesh.specs.declared.events.MeshEvent.{MeshEvent}
 use Rattle.mesh.specs.Machine.{Mesh}

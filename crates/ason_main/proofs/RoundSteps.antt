@@ -1,5 +1,5 @@
 -- What the runner keeps after one event is the mesh after it.
-use Rattle.std.proofs.Common.{◌≡◌, ℕ, Bool, true, false, cond, nat_eq, List, [], ◌∷◌, ◌++◌, drop, refl, sym, ap, ◌∙◌, subst, arith}
+use Rattle.std.proofs.Common.{◌≡◌, ℕ, Bool, true, false, cond, nat_eq, List, [], ◌∷◌, ◌++◌, drop, refl, sym, ap, ◌∙◌, arith}
 use Rattle.std.specs.Prelude.{◌&&◌, slice_get, Option, Some, None}
 use Rattle.std.specs.Option.{option_map}
 use Rattle.ason_base.specs.declared.ids.NodeId.{NodeId}
@@ -10,11 +10,10 @@ use Rattle.ason_base.specs.Network.{Network}
 use Rattle.mesh.specs.declared.events.MeshEvent.TheVariants as event
 use Rattle.mesh.specs.Changes.{Answer}
 use Rattle.mesh.specs.Sites.{site_of}
-use Rattle.mesh.specs.CallRules.{NodeState, on_item}
+use Rattle.mesh.specs.CallRules.{on_item}
 use Rattle.mesh.specs.MessageRules.{on_message}
-use Rattle.mesh.specs.Machine.{Mesh, changed, commit, sent_to, without_item, without_first}
+use Rattle.mesh.specs.Machine.{changed, sent_to}
 use Rattle.mesh.specs.Events.{on_first, on_first_item, step}
-use Rattle.node_core.specs.declared.inputs.Input.{Input}
 use Rattle.node_core.specs.declared.inputs.Input.TheVariants.{Message, Desk}
 use Rattle.node_core.specs.Nodes.{answer_to}
 use Rattle.ason_main.specs.declared.runner.lanes.Lane.{Lane}

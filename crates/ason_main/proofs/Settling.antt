@@ -1,5 +1,5 @@
 -- Rounds until all is quiet.
-use Rattle.std.proofs.Common.{◌≡◌, ◌<◌, ◌≤◌, ◌+◌, ◌-◌, ℕ, zero, suc, true, false, refl, sym, ap, ◌∙◌, arith}
+use Rattle.std.proofs.Common.{◌≡◌, ◌<◌, ◌+◌, ◌-◌, ℕ, suc, true, false, refl, sym, ap, ◌∙◌, arith}
 use Rattle.ason_base.specs.Network.{Network}
 use Rattle.mesh.specs.Machine.{Mesh}
 use Rattle.ason_main.specs.Rounds.{is_quiet, round, settled}

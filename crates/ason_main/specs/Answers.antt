@@ -1,5 +1,5 @@
 -- What the program answers to its words and to its input.
-use Rattle.std.specs.Prelude.{◌≡◌, ◌≤◌, ◌<◌, ◌+◌, ◌⊎◌, ℕ, Bool, true, false, List, [], ◌∷◌, Option, bytes_eq, codes, length, take}
+use Rattle.std.specs.Prelude.{◌≡◌, ◌<◌, ◌+◌, ◌⊎◌, ℕ, Bool, true, false, List, [], ◌∷◌, Option, bytes_eq, codes, length, take}
 use Rattle.std.specs.Io.KnownBytes.{Appends}
 use Rattle.ason_io.specs.Faults.{Rose}
 use Rattle.ason_io.specs.Reading.{HasRead, WasReadToEnd}
@@ -22,6 +22,16 @@ status_of Reply.PlanRefused = Status.PlanRefused
 status_of Reply.ReadFault = Status.ReadFault
 status_of Reply.OutOfMemory = Status.OutOfMemory
 status_of Reply.TooLong = Status.TooLong
+
+-- the exit status of the process
+abbrev pub exit_status : Status → ℕ
+exit_status Status.Done = 0
+exit_status Status.Usage = 2
+exit_status Status.PlanRefused = 3
+exit_status Status.ReadFault = 4
+exit_status Status.WriteFault = 5
+exit_status Status.OutOfMemory = 7
+exit_status Status.TooLong = 8
 
 -- what is written
 abbrev pub text_of_reply : Reply → List ℕ

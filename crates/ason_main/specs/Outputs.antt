@@ -1,10 +1,9 @@
 -- What the program prints of a first plan's run.
-use Rattle.std.specs.Prelude.{◌≡◌, ℕ, true, List, [], ◌∷◌, ◌++◌, Option, Some, None, slice_get, if◌then◌else◌}
+use Rattle.std.specs.Prelude.{◌≡◌, ℕ, List, [], ◌++◌, Option, Some, None, slice_get, if◌then◌else◌}
 use Rattle.std.specs.List.Sorted.{IsNonDecreasingBy, IsPermutation, IsSortedBy}
 use Rattle.ason_base.specs.declared.calls.TableRows.{TableRows}
 use Rattle.ason_base.specs.Network.{Network}
 use Rattle.ason_base.specs.declared.ids.CallNo.{CallNo}
-use Rattle.mesh.specs.Commands.{is_valid}
 use Rattle.mesh.specs.Machine.{Mesh, start}
 use Rattle.ason_main.specs.Kept.{calls_after}
 use Rattle.mesh.specs.Events.{posted}
@@ -13,7 +12,6 @@ use Rattle.ason_main.specs.declared.plan.Plan.{Plan}
 use Rattle.ason_main.specs.declared.plan.lines.Line.{Line}
 use Rattle.ason_main.specs.declared.plan.lines.Line.TheVariants.{Post, Settle, Show}
 use Rattle.ason_main.specs.Rounds.{is_quiet, items_waiting, mail_waiting, settled}
-use Rattle.ason_main.specs.Runs.{Reaches}
 use Rattle.ason_main.specs.TableText.{leg_before, table_text, unsettled_text}
 
 -- the rows of all nodes: calls in order of number, legs in order of LSP and node
@@ -46,13 +44,6 @@ abbrev pub IsOutput : Plan → List ℕ → Type 0
 IsOutput p text =
     (rows : TableRows) × IsTable p.topology (last_state p) rows
     × (text ≡ unsettled_line p.topology (first_state p) ++ (unsettled_line p.topology (last_state p) ++ table_text p rows))
-
--- the command of the line, if it posts one, is valid
-abbrev pub IsPostable : Network → Option Line → Type 0
-IsPostable t None = Unit {0}
-IsPostable t (Some (Post c)) = is_valid t c ≡ true
-IsPostable t (Some (Settle r)) = Unit {0}
-IsPostable t (Some Show) = Unit {0}
 
 -- the call numbers of all setups after it
 abbrev pub calls_after_line : List CallNo → Option Line → List CallNo

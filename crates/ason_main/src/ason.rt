@@ -1,7 +1,7 @@
 //! The top call: reads a plan, runs it, and writes what the network came to.
 
 ghost use Rattle.std.specs.Prelude.{◌≡◌, ◌≤◌, map, string_bytes, IfOk, IfErr, slice_get};
-ghost use Rattle.ason_main.specs.Answers.{IsReply, WasGiven, is_run, status_of, text_of_reply};
+ghost use Rattle.ason_main.specs.Answers.{IsReply, WasGiven, exit_status, is_run, status_of, text_of_reply};
 ghost use Rattle.ason_main.specs.Outputs.{IsOutput};
 ghost use Rattle.ason_main.specs.Plans.{FirstPlanOf};
 ghost use Rattle.ason_main.specs.declared.plan.Plan.{Plan};
@@ -37,7 +37,9 @@ pub enum Status {
 
 impl Status {
     /// The exit status of the process.
-    pub fn code(self) -> u8 {
+    pub fn code(self) -> u8
+        ensures { result ≡ exit_status self }
+    {
         match self {
             Status::Done => 0,
             Status::Usage => 2,
@@ -80,7 +82,8 @@ impl Reply {
     {
         match self {
             Reply::Done(text) => text,
-            Reply::Usage => b"usage: ason run [--workers N] [--stride T] [--trace] | check | decode | route FROM TO | load SEED NODES CALLS\n",
+            Reply::Usage =>
+                b"usage: ason run [--workers N] [--stride T] [--trace] | check | decode | route FROM TO | load SEED NODES CALLS\n",
             Reply::PlanRefused => b"refused plan\n",
             Reply::ReadFault => b"",
             Reply::OutOfMemory => b"",
@@ -128,12 +131,7 @@ fn reply_to<S: Source>(alloc: Global, words: &[String], src: &mut S) -> Reply
 
 /// Answers the words, those after the program's name. `run` reads a plan whose script is empty or one unprotected setup
 /// over a given route, runs it until it is quiet, and writes its tables. If the sink fails the status is `WriteFault`.
-pub fn ason<S: Source, K: Sink>(
-    alloc: Global,
-    words: &[String],
-    src: &mut S,
-    out: &mut K,
-) -> Status
+pub fn ason<S: Source, K: Sink>(alloc: Global, words: &[String], src: &mut S, out: &mut K) -> Status
     ensures { (r : Reply) × IsReply S.left S.handed S.ended S.faults (map string_bytes words.now) src.old src.new r × WasGiven K.written K.faults out.old out.new r result }
 {
     let reply = reply_to(alloc, words, src);

@@ -6,6 +6,8 @@ mod plan;
 mod runner;
 mod table;
 mod table_rows;
+#[cfg(test)]
+mod tests;
 
 use ason_io::{StdSink, StdSource};
 use std::env;

@@ -2,7 +2,8 @@
 
 ghost use Rattle.std.specs.Prelude.{◌≡◌, ◌++◌, [], IfOk, OnOk, slice_get};
 ghost use Rattle.ason_main.specs.Kept.{AreSeated, mesh_with};
-ghost use Rattle.ason_main.specs.Outputs.{IsOutput, IsPostable, IsTable, unsettled_line};
+ghost use Rattle.ason_main.specs.Plans.{IsPostableLine};
+ghost use Rattle.ason_main.specs.Outputs.{IsOutput, IsTable, unsettled_line};
 
 use crate::plan::Plan;
 use crate::runner::lanes::Lane;
@@ -43,7 +44,7 @@ fn table(alloc: Global, t: &Topology, seats: &[Seat]) -> Result<TableRows, OutOf
 
 /// What is printed of the plan: the network settles, the command of the script is posted, and the network settles again.
 pub fn run_first(alloc: Global, plan: &Plan) -> Result<Vec<u8>, OutOfMemory>
-    requires { IsPostable plan.now.topology (slice_get plan.now.lines 0) }
+    requires { IsPostableLine plan.now.topology (slice_get plan.now.lines 0) }
     ensures { IfOk result (λ v. IsOutput plan.now v.items) }
 {
     let t = &plan.topology;

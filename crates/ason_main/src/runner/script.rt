@@ -11,7 +11,8 @@ ghost use Rattle.ason_base.specs.Network.{is_node_id};
 ghost use Rattle.ason_main.specs.declared.runner.lanes.Lane.{Lane};
 ghost use Rattle.ason_main.specs.Kept.{AreSeated, HasSeat, KeepsSeats, calls_after, ingress, mesh_with, new_seat, seat_at, seat_state};
 ghost use Rattle.ason_main.specs.Rounds.{items_waiting, mail_waiting, mail_waiting_at};
-ghost use Rattle.ason_main.specs.Outputs.{IsOutput, IsPostable, calls_after_line, line_posted, unsettled_line};
+ghost use Rattle.ason_main.specs.Plans.{IsPostableLine};
+ghost use Rattle.ason_main.specs.Outputs.{IsOutput, calls_after_line, line_posted, unsettled_line};
 
 use crate::plan::{Line, Plan};
 use crate::runner::lanes::{Lane, mail_len};
@@ -88,7 +89,7 @@ pub(crate) fn post_line(
     line: Option<&Line>,
 ) -> Result<(), OutOfMemory>
     requires seated { AreSeated t.now seats.old.items }
-    requires valid { IsPostable t.now (option_copied line) }
+    requires valid { IsPostableLine t.now (option_copied line) }
     ensures mesh { OnOk result ((lanes : List Lane) (before : List CallNo) → mesh_with seats.new.items lanes (calls_after_line before (option_copied line.entry)) ≡ line_posted (mesh_with seats.old.items lanes before) (option_copied line.entry)) }
     ensures seated { OnOk result (KeepsSeats seats.old.items seats.new.items) }
 {

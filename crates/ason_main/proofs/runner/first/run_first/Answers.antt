@@ -1,11 +1,8 @@
-use Rattle.std.proofs.Common.{◌≡◌, ◌++◌, [], List, sym, ◌∙◌, ap, refl, subst}
-use Rattle.std.specs.Prelude.{slice_get, Ok, IfOk, option_copied}
-use Rattle.mesh.specs.Machine.{start}
+use Rattle.std.proofs.Common.{◌++◌, [], sym, ◌∙◌, ap, subst}
+use Rattle.std.specs.Prelude.{slice_get, option_copied}
 use Rattle.ason_main.specs.Kept.{AreSeated, mesh_with}
-use Rattle.ason_main.specs.Outputs.{IsTable, calls_after_line, first_state, last_state, line_posted, unsettled_line}
-use Rattle.ason_main.specs.Rounds.{settled}
-use Rattle.ason_main.specs.TableText.{table_text}
-use Rattle.ason_main.proofs.NewSeats.{seated, started}
+use Rattle.ason_main.specs.Outputs.{calls_after_line, first_state, unsettled_line}
+use Rattle.ason_main.proofs.NewSeats.{seated}
 use Rattle.ason_main.proofs.OutputOf.{output_of, seats_kept, settled_first, settled_last, table_of, told}
 use Rattle.ason_main.proofs.runner.first.run_first.Goals as goal
 
@@ -26,11 +23,11 @@ pub table-requires : goal.table-requires
 table-requires c =
     let t = c.args.plan.now.topology in
     let last : AreSeated t c.settle-2.new.seats.items =
-        seats_kept t c.post_line.new.seats.items c.settle-2.new.seats.items
-        (seats_kept t c.settle.new.seats.items c.post_line.new.seats.items
-        (seats_kept t c.in_ok-seats.seats.items c.settle.new.seats.items (seated t c.in_ok-seats.seats.items c.in_ok-seats.ensures) c.in_ok-settle.ensures.seated)
-        c.in_ok-post_line.ensures.seated)
-        c.in_ok-settle-2.ensures.seated in
+    seats_kept t c.post_line.new.seats.items c.settle-2.new.seats.items
+    (seats_kept t c.settle.new.seats.items c.post_line.new.seats.items
+    (seats_kept t c.in_ok-seats.seats.items c.settle.new.seats.items (seated t c.in_ok-seats.seats.items c.in_ok-seats.ensures) c.in_ok-settle.ensures.seated)
+    c.in_ok-post_line.ensures.seated)
+    c.in_ok-settle-2.ensures.seated in
     subst (AreSeated t) (sym c.deref-5.ensures.value) last
 
 pub returns : goal.returns

@@ -1,6 +1,6 @@
 use Rattle.std.proofs.Common.{◌≡◌, ◌++◌, ◌∷◌, [], sym, ◌∙◌, ap}
 use Rattle.std.specs.Prelude.{position, Some, None}
-use Rattle.ason_main.specs.Kept.{is_lane, mail_at}
+use Rattle.ason_main.specs.Kept.{is_lane}
 use Rattle.ason_main.proofs.LaneMail.{mail_at-refilled, mail_at-opened_with}
 use Rattle.ason_main.proofs.Results.{on_ok}
 use Rattle.ason_main.proofs.runner.lanes.send.Goals as goal

@@ -1,6 +1,6 @@
-use Rattle.std.proofs.Common.{◌≡◌, [], sym, ◌∙◌, ap, drop, cond, nat_eq, refl}
+use Rattle.std.proofs.Common.{◌≡◌, sym, ◌∙◌, ap, drop}
 use Rattle.std.specs.Prelude.{position, Some, None, slice_get}
-use Rattle.ason_main.specs.Kept.{is_lane, mail_at}
+use Rattle.ason_main.specs.Kept.{is_lane}
 use Rattle.ason_main.proofs.LaneMail.{mail_at-refilled, mail_at-nowhere, mail_at-first, drop-nowhere}
 use Rattle.ason_main.proofs.runner.lanes.take_first.Goals as goal
 

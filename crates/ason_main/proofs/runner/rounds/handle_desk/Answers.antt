@@ -1,6 +1,6 @@
-use Rattle.std.proofs.Common.{◌≡◌, sym, ◌∙◌, ap, refl, length}
+use Rattle.std.proofs.Common.{sym, ◌∙◌, ap, refl, length}
 use Rattle.mesh.specs.declared.events.MeshEvent.TheVariants as event
-use Rattle.ason_main.specs.Kept.{mail_at, mesh_with, seat_at, seat_desk}
+use Rattle.ason_main.specs.Kept.{mesh_with, seat_at, seat_desk}
 use Rattle.ason_main.specs.Rounds.{repeated}
 use Rattle.ason_main.proofs.Repeats.{repeated_first, repeated_next, repeated_last}
 use Rattle.ason_main.proofs.runner.rounds.handle_desk.Goals as goal

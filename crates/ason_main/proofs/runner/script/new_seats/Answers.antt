@@ -1,4 +1,4 @@
-use Rattle.std.proofs.Common.{◌≡◌, ◌<◌, length, get_or, true, false, subst, sym, List}
+use Rattle.std.proofs.Common.{◌≡◌, get_or, true, false, subst, List}
 use Rattle.ason_base.specs.declared.network.NodeSpec.{NodeSpec}
 use Rattle.ason_base.specs.Network.{is_node_id}
 use Rattle.ason_main.proofs.NewSeats.{listed_node}

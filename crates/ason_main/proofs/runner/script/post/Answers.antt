@@ -1,4 +1,4 @@
-use Rattle.std.proofs.Common.{◌≡◌, sym, ◌∙◌, ap, cond, nat_eq, ℕ}
+use Rattle.std.proofs.Common.{sym, ◌∙◌, ap, cond, nat_eq}
 use Rattle.std.specs.Option.{option_map}
 use Rattle.ason_base.specs.declared.commands.DeskItem.TheVariants.{Order}
 use Rattle.ason_main.specs.Kept.{seat_at, with_more}

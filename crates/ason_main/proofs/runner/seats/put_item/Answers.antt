@@ -1,5 +1,5 @@
 use Rattle.std.proofs.Common.{◌≡◌, sym, ◌∙◌, ap, refl}
-use Rattle.std.specs.Prelude.{position, Some, None}
+use Rattle.std.specs.Prelude.{position, Some}
 use Rattle.ason_main.specs.Kept.{is_seat_of, with_more}
 use Rattle.ason_main.proofs.SeatLemmas.{seat_changed, seat_nowhere}
 use Rattle.ason_main.proofs.Results.{on_ok}
