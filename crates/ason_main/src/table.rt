@@ -358,11 +358,17 @@ mod tests {
         lsp: 1,
     };
 
-    fn names(alloc: Global, texts: &[&str]) -> Result<Names, OutOfMemory> {
+    fn node_names(alloc: Global) -> Result<Names, OutOfMemory> {
         let mut names = Names::new(alloc);
-        for text in texts {
-            names.push(Name::new(alloc, text)?)?;
-        }
+        names.push(Name::new(alloc, b"a")?)?;
+        names.push(Name::new(alloc, b"b")?)?;
+        Ok(names)
+    }
+
+    #[tactic(auto, unfolding(crate::specs::PlanTexts::is_name_byte))]
+    fn call_names(alloc: Global) -> Result<Names, OutOfMemory> {
+        let mut names = Names::new(alloc);
+        names.push(Name::new(alloc, b"c1")?)?;
         Ok(names)
     }
 
@@ -371,11 +377,11 @@ mod tests {
         let nodes = [
             NodeSpec {
                 id: A,
-                convert: false,
+                convert: true,
             },
             NodeSpec {
                 id: B,
-                convert: false,
+                convert: true,
             },
         ];
         let topology = Topology::new(alloc, 0, &nodes, &[])
@@ -383,8 +389,8 @@ mod tests {
             .ok_or("two nodes")?;
         Ok(Plan {
             topology,
-            node_names: names(alloc, &["a", "b"])?,
-            call_names: names(alloc, &["c1"])?,
+            node_names: node_names(alloc)?,
+            call_names: call_names(alloc)?,
             lines: Lines::new(alloc),
         })
     }
