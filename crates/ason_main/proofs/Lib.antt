@@ -1,4 +1,5 @@
 pub mod Agree
+pub mod Complete
 pub mod Elements
 pub mod Finding
 pub mod FirstLine

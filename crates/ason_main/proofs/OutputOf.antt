@@ -1,6 +1,14 @@
 -- What is printed is the output of the plan.
-use Rattle.std.proofs.Common.{◌≡◌, List, [], ◌++◌, ℕ, sym, ap, ◌∙◌, subst, append_assoc}
-use Rattle.std.specs.Prelude.{map, Option}
+use Rattle.std.proofs.Common.{◌≡◌, List, [], ◌++◌, ℕ, refl, false, sym, ap, ◌∙◌, subst, append_assoc}
+use Rattle.std.specs.Prelude.{map, Option, Some, None}
+use Rattle.ason_base.specs.declared.commands.Command.{Command}
+use Rattle.ason_base.specs.declared.commands.Command.TheVariants.{Setup, Release, Protect, Retry, Revert, Fail, Repair}
+use Rattle.ason_base.specs.Network.{IsTopology}
+use Rattle.mesh.specs.Commands.{is_again}
+use Rattle.ason_main.specs.declared.plan.lines.Line.TheVariants.{Post, Settle, Show}
+use Rattle.ason_main.specs.Plans.{IsPostableLine}
+use Rattle.ason_main.specs.Runs.{Reaches}
+use Rattle.ason_main.proofs.RunsOfRounds.{post_reached, reaches_both, reaches_here, settled_reached}
 use Rattle.ason_base.specs.declared.ids.CallNo.{CallNo}
 use Rattle.ason_main.specs.declared.plan.lines.Line.{Line}
 use Rattle.ason_main.specs.declared.runner.lanes.Lane.{Lane}
@@ -22,12 +30,15 @@ use Rattle.ason_main.specs.TableText.{table_text}
 pub seats_kept : (t : Network) (old new : List Seat) → AreSeated t old → KeepsSeats old new → AreSeated t new
 seats_kept t old new are keeps n known = keeps n.0 ∙ are n known
 
-pub output_of : (p : Plan) (first last : Mesh) (rows : TableRows) (before middle after : List ℕ) → first ≡ first_state p → last ≡ last_state p → IsTable p.topology last rows →
+pub output_of : (p : Plan) (first last : Mesh) (rows : TableRows) (before middle after : List ℕ) → Reaches p.topology start (last_state p) → first ≡ first_state p → last ≡ last_state p → IsTable p.topology last rows →
     before ≡ unsettled_line p.topology first → middle ≡ before ++ unsettled_line p.topology last → after ≡ middle ++ table_text p rows → IsOutput p after
-output_of p first last rows before middle after is_first is_last is_table is_before is_middle is_after = (
-  rows,
-  subst (λ s. IsTable p.topology s rows) is_last is_table,
-  is_after ∙ ap (λ xs. xs ++ table_text p rows) (is_middle ∙ ap (λ xs. xs ++ unsettled_line p.topology last) is_before) ∙ grouped,
+output_of p first last rows before middle after reached is_first is_last is_table is_before is_middle is_after = (
+  reached,
+  (
+    rows,
+    subst (λ s. IsTable p.topology s rows) is_last is_table,
+    is_after ∙ ap (λ xs. xs ++ table_text p rows) (is_middle ∙ ap (λ xs. xs ++ unsettled_line p.topology last) is_before) ∙ grouped,
+  ),
 )
   where
     grouped : (unsettled_line p.topology first ++ unsettled_line p.topology last) ++ table_text p rows ≡ unsettled_line p.topology (first_state p) ++ (unsettled_line p.topology (last_state p) ++ table_text p rows)
@@ -59,3 +70,29 @@ table_of t seats read lanes posted rows is table = subst (λ x. IsTable t (mesh_
   same_legs = table.same_legs;
   legs = table.legs;
 })
+
+-- no call number was posted before the first setup
+none_again : (c : Command) → is_again [] c ≡ false
+none_again (Setup n from to protected both via backup) = refl
+none_again (Release n from) = refl
+none_again (Protect n from) = refl
+none_again (Retry n from) = refl
+none_again (Revert n from) = refl
+none_again (Fail g) = refl
+none_again (Repair g) = refl
+
+-- the script's line is an event of the machine, or none
+line_reached : (t : Network) (s : Mesh) (line : Option Line) → IsPostableLine t line → s.posted ≡ [] → Reaches t s (line_posted s line)
+line_reached t s None valid none = reaches_here t s
+line_reached t s (Some (Post c)) valid none = post_reached t s c valid (ap (λ q. is_again q c) none ∙ none_again c)
+line_reached t s (Some (Settle r)) valid none = reaches_here t s
+line_reached t s (Some Show) valid none = reaches_here t s
+
+-- the whole run
+pub run_reached : (t : Network) (rounds : ℕ) (line : Option Line) → IsTopology t → IsPostableLine t line → (settled t rounds start).posted ≡ [] → Reaches t start (settled t rounds (line_posted (settled t rounds start) line))
+run_reached t rounds line topology valid none =
+    reaches_both t start (settled t rounds start) (settled t rounds (line_posted (settled t rounds start) line))
+    (settled_reached t topology rounds start)
+    (reaches_both t (settled t rounds start) (line_posted (settled t rounds start) line) (settled t rounds (line_posted (settled t rounds start) line))
+    (line_reached t (settled t rounds start) line valid none)
+    (settled_reached t topology rounds (line_posted (settled t rounds start) line)))

@@ -1,5 +1,5 @@
 -- What the program answers to its words and to its input.
-use Rattle.std.specs.Prelude.{◌≡◌, ◌<◌, ◌+◌, ◌⊎◌, ℕ, Bool, true, false, List, [], ◌∷◌, Option, bytes_eq, codes, length, take}
+use Rattle.std.specs.Prelude.{◌≡◌, ◌<◌, ◌≤◌, ◌+◌, ◌⊎◌, ℕ, Bool, true, false, List, [], ◌∷◌, Option, Some, bytes_eq, codes, length, take}
 use Rattle.std.specs.Io.KnownBytes.{Appends}
 use Rattle.ason_io.specs.Faults.{Rose}
 use Rattle.ason_io.specs.Reading.{HasRead, WasReadToEnd}
@@ -58,3 +58,9 @@ abbrev pub WasGiven : {K : Type 0} → (K → Option (List ℕ)) → (K → ℕ)
 WasGiven written faults old new r s =
     ((s ≡ status_of r) × Appends (written old) (written new) (text_of_reply r))
     ⊎ ((s ≡ Status.WriteFault) × Rose (faults old) (faults new) × ((n : ℕ) × (n < length (text_of_reply r)) × Appends (written old) (written new) (take n (text_of_reply r))))
+
+-- words with a meaning, a plan that can be run and no end that fails: the status is Done or want of memory, and no other
+abbrev pub IsComplete : {S K : Type 0} → (S → Option (List ℕ)) → (S → ℕ) → (K → ℕ) → List (List ℕ) → S → S → K → K → Status → Type 0
+IsComplete left faults sink_faults words old new sink_old sink_new s =
+    is_run words ≡ true → (bs : List ℕ) (p : Plan) → left old ≡ Some bs → length bs ≤ 4194304 → FirstPlanOf bs p →
+    ¬ Rose (faults old) (faults new) → ¬ Rose (sink_faults sink_old) (sink_faults sink_new) → (s ≡ Status.Done) ⊎ (s ≡ Status.OutOfMemory)

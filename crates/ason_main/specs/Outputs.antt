@@ -12,6 +12,7 @@ use Rattle.ason_main.specs.declared.plan.Plan.{Plan}
 use Rattle.ason_main.specs.declared.plan.lines.Line.{Line}
 use Rattle.ason_main.specs.declared.plan.lines.Line.TheVariants.{Post, Settle, Show}
 use Rattle.ason_main.specs.Rounds.{is_quiet, items_waiting, mail_waiting, settled}
+use Rattle.ason_main.specs.Runs.{Reaches}
 use Rattle.ason_main.specs.TableText.{leg_before, table_text, unsettled_text}
 
 -- the rows of all nodes: calls in order of number, legs in order of LSP and node
@@ -39,11 +40,12 @@ first_state p = settled p.topology 1000 start
 abbrev pub last_state : Plan → Mesh
 last_state p = settled p.topology 1000 (line_posted (first_state p) (slice_get p.lines 0))
 
--- what is printed: what is unsettled before and after the script, and the table of the last state
+-- what is printed, of one run of the machine that leads to the last state: what is unsettled before and after the script, and the table of the last state
 abbrev pub IsOutput : Plan → List ℕ → Type 0
 IsOutput p text =
-    (rows : TableRows) × IsTable p.topology (last_state p) rows
-    × (text ≡ unsettled_line p.topology (first_state p) ++ (unsettled_line p.topology (last_state p) ++ table_text p rows))
+    Reaches p.topology start (last_state p)
+    × ((rows : TableRows) × IsTable p.topology (last_state p) rows
+    × (text ≡ unsettled_line p.topology (first_state p) ++ (unsettled_line p.topology (last_state p) ++ table_text p rows)))
 
 -- the call numbers of all setups after it
 abbrev pub calls_after_line : List CallNo → Option Line → List CallNo

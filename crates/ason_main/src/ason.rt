@@ -1,7 +1,7 @@
 //! The top call: reads a plan, runs it, and writes what the network came to.
 
 ghost use Rattle.std.specs.Prelude.{◌≡◌, ◌≤◌, map, string_bytes, IfOk, IfErr, slice_get};
-ghost use Rattle.ason_main.specs.Answers.{IsReply, WasGiven, exit_status, is_run, status_of, text_of_reply};
+ghost use Rattle.ason_main.specs.Answers.{IsComplete, IsReply, WasGiven, exit_status, is_run, status_of, text_of_reply};
 ghost use Rattle.ason_main.specs.Outputs.{IsOutput};
 ghost use Rattle.ason_main.specs.Plans.{FirstPlanOf};
 ghost use Rattle.ason_main.specs.declared.plan.Plan.{Plan};
@@ -132,7 +132,8 @@ fn reply_to<S: Source>(alloc: Global, words: &[String], src: &mut S) -> Reply
 /// Answers the words, those after the program's name. `run` reads a plan whose script is empty or one unprotected setup
 /// over a given route, runs it until it is quiet, and writes its tables. If the sink fails the status is `WriteFault`.
 pub fn ason<S: Source, K: Sink>(alloc: Global, words: &[String], src: &mut S, out: &mut K) -> Status
-    ensures { (r : Reply) × IsReply S.left S.handed S.ended S.faults (map string_bytes words.now) src.old src.new r × WasGiven K.written K.faults out.old out.new r result }
+    ensures answer { (r : Reply) × IsReply S.left S.handed S.ended S.faults (map string_bytes words.now) src.old src.new r × WasGiven K.written K.faults out.old out.new r result }
+    ensures complete { IsComplete S.left S.faults K.faults (map string_bytes words.now) src.old src.new out.old out.new result }
 {
     let reply = reply_to(alloc, words, src);
     match write_all(out, reply.text()) {

@@ -75,7 +75,7 @@ fn each_status_has_its_text(rt: HostRuntime) -> Result<(), Fail> {
         ("run", FIRST, &[], Status::Done, TABLE),
         ("run", IDLE, &[], Status::Done, b"calls 0 legs 0\n"),
         ("run", NO_ENDS, &[], Status::PlanRefused, b"refused plan\n"),
-        ("run", FIRST, &[1], Status::ReadFault, b""),
+        ("run", FIRST, &[2], Status::ReadFault, b""),
         ("--help", FIRST, &[], Status::Usage, USAGE),
     ];
     for (word, input, failing, status, text) in rows {
@@ -87,11 +87,14 @@ fn each_status_has_its_text(rt: HostRuntime) -> Result<(), Fail> {
 }
 
 #[test]
-fn a_sink_without_room_fails(rt: HostRuntime) -> Result<(), Fail> {
+fn a_sink_that_fails_has_a_prefix(rt: HostRuntime) -> Result<(), Fail> {
     let alloc = rt.alloc();
-    let mut src = MemSource::new(IDLE.to_vec(alloc)?, Vec::new(alloc));
-    let mut out = MemSink::new(alloc, 7, Vec::new(alloc));
-    let status = ason(alloc, &["run".to_string(alloc)?], &mut src, &mut out);
+    let words = ["run".to_string(alloc)?];
+    let mut src = MemSource::new(FIRST.to_vec(alloc)?, Vec::new(alloc));
+    let mut out = MemSink::new(alloc, 5, [2].to_vec(alloc)?);
+    out.reserve(alloc, 4096)?;
+    let status = ason(alloc, &words, &mut src, &mut out);
     assert_eq!(rt; status, Status::WriteFault);
+    assert_eq!(rt; out.written(), b"calls".as_slice());
     Ok(())
 }

@@ -1,6 +1,7 @@
 //! What is printed of a first plan.
 
 ghost use Rattle.std.specs.Prelude.{◌≡◌, ◌++◌, [], IfOk, OnOk, slice_get};
+ghost use Rattle.ason_base.specs.Network.{IsTopology};
 ghost use Rattle.ason_main.specs.Kept.{AreSeated, mesh_with};
 ghost use Rattle.ason_main.specs.Plans.{IsPostableLine};
 ghost use Rattle.ason_main.specs.Outputs.{IsOutput, IsTable, unsettled_line};
@@ -44,7 +45,8 @@ fn table(alloc: Global, t: &Topology, seats: &[Seat]) -> Result<TableRows, OutOf
 
 /// What is printed of the plan: the network settles, the command of the script is posted, and the network settles again.
 pub fn run_first(alloc: Global, plan: &Plan) -> Result<Vec<u8>, OutOfMemory>
-    requires { IsPostableLine plan.now.topology (slice_get plan.now.lines 0) }
+    requires topology { IsTopology plan.now.topology }
+    requires postable { IsPostableLine plan.now.topology (slice_get plan.now.lines 0) }
     ensures { IfOk result (λ v. IsOutput plan.now v.items) }
 {
     let t = &plan.topology;

@@ -3,7 +3,7 @@ use Rattle.std.specs.Prelude.{slice_get, option_copied}
 use Rattle.ason_main.specs.Kept.{AreSeated, mesh_with}
 use Rattle.ason_main.specs.Outputs.{calls_after_line, first_state, unsettled_line}
 use Rattle.ason_main.proofs.NewSeats.{seated}
-use Rattle.ason_main.proofs.OutputOf.{output_of, seats_kept, settled_first, settled_last, table_of, told}
+use Rattle.ason_main.proofs.OutputOf.{output_of, run_reached, seats_kept, settled_first, settled_last, table_of, told}
 use Rattle.ason_main.proofs.runner.first.run_first.Goals as goal
 
 pub settle-requires : goal.settle-requires
@@ -41,6 +41,7 @@ returns c =
     let is_first = settled_first t 1000 c.in_ok-seats.seats.items c.settle.new.seats.items c.new-lanes.result.items c.settle.new.lanes.items c.in_ok-seats.ensures c.new-lanes.ensures.items c.in_ok-settle.ensures.mesh in
     output_of p first last c.in_ok-rows.rows
     c.tell_unsettled.new.out.items c.tell_unsettled-2.new.out.items c.write_table.new.out.items
+    (run_reached t 1000 line c.requires.topology c.requires.postable (sym (ap (λ m. m.posted) is_first)))
     is_first
     (settled_last t 1000 (first_state p) c.settle.new.seats.items c.post_line.new.seats.items c.settle-2.new.seats.items c.settle.new.lanes.items c.settle-2.new.lanes.items line (option_copied c.first.result) (c.first.ensures.value ∙ ap (λ xs. slice_get xs 0) c.items.ensures) is_first c.in_ok-post_line.ensures.mesh c.in_ok-settle-2.ensures.mesh)
     (table_of t c.settle-2.new.seats.items c.deref-5.result.now c.settle-2.new.lanes.items q c.in_ok-rows.rows c.deref-5.ensures.value c.in_ok-rows.ensures)

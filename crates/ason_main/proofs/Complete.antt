@@ -1,0 +1,39 @@
+-- Words with a meaning, a plan that can be run and no end that fails.
+use Rattle.std.proofs.Common.{◌≡◌, ◌∙◌, ◌≤◌, ◌<◌, ◌+◌, ℕ, List, inl, inr, length, sym, ap, subst, arith, length-append, take, refl, []}
+use Rattle.std.specs.Prelude.{◌⊎◌, Option, Some, None, IfSome}
+use Rattle.std.specs.Io.KnownBytes.{Appends, Consumes}
+use Rattle.ason_io.specs.Faults.{Rose}
+use Rattle.ason_main.specs.declared.ason.Reply.{Reply}
+use Rattle.ason_main.specs.declared.ason.Status.{Status}
+use Rattle.ason_main.specs.Answers.{IsComplete, IsReply, WasGiven, status_of, text_of_reply}
+use Rattle.ason_main.specs.Plans.{FirstPlanOf}
+
+-- no more is consumed than was there
+consumed : (all bs : List ℕ) (rest : Option (List ℕ)) → Consumes (Some all) rest bs → length bs ≤ length all
+consumed all bs None is = absurd is
+consumed all bs (Some rest) is = subst (λ n. length bs ≤ n) (sym (ap length is ∙ length-append bs rest)) (grind arith)
+
+pub is_complete : {S K : Type 0} (left : S → Option (List ℕ)) (handed : S → List ℕ → S → Type 0) (ended : S → Type 0) (faults : S → ℕ) (written : K → Option (List ℕ)) (sink_faults : K → ℕ)
+    (words : List (List ℕ)) (old new : S) (sink_old sink_new : K) (r : Reply) (s : Status) →
+    IsReply left handed ended faults words old new r → WasGiven written sink_faults sink_old sink_new r s → IsComplete left faults sink_faults words old new sink_old sink_new s
+is_complete left handed ended faults written sink_faults words old new sink_old sink_new r s reply (inr failed) is_run_word bs p tells short first no_read no_write = absurd (no_write failed.1)
+is_complete left handed ended faults written sink_faults words old new sink_old sink_new r s reply (inl given) is_run_word bs p tells short first no_read no_write = go r reply given.0
+  where
+    go : (r : Reply) → IsReply left handed ended faults words old new r → s ≡ status_of r → (s ≡ Status.Done) ⊎ (s ≡ Status.OutOfMemory)
+    go (Reply.Done text) holds is = inl is
+    go Reply.Usage holds is = absurd (cc (sym is_run_word ∙ holds.0))
+    go Reply.PlanRefused holds is = absurd (holds.1.2 p (subst (λ xs. FirstPlanOf xs p) same first))
+      where
+        same : bs ≡ holds.1.0
+        same = (subst (λ l. IfSome l (λ all. (all ≡ holds.1.0) × (left new ≡ Some []))) tells holds.1.1.told).0
+    go Reply.ReadFault holds is = absurd (no_read holds.1)
+    go Reply.OutOfMemory holds is = inr is
+    go Reply.TooLong holds is = absurd (too_many (length holds.1.0) (length bs) holds.1.2 short (consumed bs holds.1.0 (left new) (subst (λ l. Consumes l (left new) holds.1.0) tells holds.1.1.told)))
+      where
+        too_many : (n m : ℕ) → n ≡ 4194304 + 1 → m ≤ 4194304 → n ≤ m → ⊥
+        too_many n m a b c = grind arith
+
+-- the sink failed
+pub write_failed : {K : Type 0} (written : K → Option (List ℕ)) (faults : K → ℕ) (old new : K) (r : Reply) (text : List ℕ) → text ≡ text_of_reply r → Rose (faults old) (faults new) →
+    (n : ℕ) × (n < length text) × Appends (written old) (written new) (take n text) → WasGiven written faults old new r Status.WriteFault
+write_failed written faults old new r text is rose part = inr (refl, rose, subst (λ xs. (n : ℕ) × (n < length xs) × Appends (written old) (written new) (take n xs)) is part)
