@@ -123,6 +123,22 @@ pub has-members : (mask l : ℕ) → 1 ≤ l → l ≤ 80 → has (members mask)
 unfolding members
 has-members mask l low high = has-filter (is_marked mask) (up_to 80) l ∙ ap (λ b. b && is_marked mask l) (has-numbers 80 1 l low (omega arith))
 
+has-low : (n first l : ℕ) → has (numbers_from first n) l ≡ true → first ≤ l
+unfolding numbers_from
+has-low zero first l h = cc
+has-low (suc n) first l h =
+    elim (nat_eq first l) as (λ b. nat_eq first l ≡ b → (b || has (numbers_from (first + 1) n) l) ≡ true → first ≤ l) [
+      | true ↦ λ e f. grind arith
+      | false ↦ λ e f. let above : first + 1 ≤ l = has-low n (first + 1) l f in omega arith
+    ] refl h
+
+-- a mask's labels are those labels of 1 to 80 that are among them
+pub members-rise : (mask : ℕ) → members mask ≡ filter (has (members mask)) (up_to 80)
+unfolding members
+members-rise mask =
+    filter-agree (is_marked mask) (has (members mask)) (up_to 80)
+    (λ l h. sym (has-members mask l (has-low 80 1 l h) (let b : l < 1 + 80 = has-bound 80 1 l h in omega arith)))
+
 marked-and : (a b l : ℕ) → is_marked (bit_and a b) l ≡ (is_marked a l && is_marked b l)
 marked-and a b l = rw (bit_at_and a b l) (bits (bit_at a l) (bit_at b l) (bit_at-lt a l) (bit_at-lt b l))
   where

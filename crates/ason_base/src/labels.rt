@@ -1,6 +1,6 @@
 //! Labels, and sets of labels (RFC 3471, section 3).
 
-ghost use Rattle.std.specs.Prelude.{◌≡◌, ◌≤◌, [], SomeIff};
+ghost use Rattle.std.specs.Prelude.{◌≡◌, ◌≤◌, [], SomeIff, filter};
 ghost use Rattle.ason_base.specs.Labels.{has, least, meet, up_to, with_label, without};
 
 use std::marker::Model;
@@ -121,6 +121,13 @@ impl LabelSet {
         LabelSet {
             mask: self.mask & !(1u128 << l.number()),
         }
+    }
+
+    /// Law: a set is the rising list of the labels of 1 to 80 that it has.
+    pub fn rises(&self)
+        ensures { self.now ≡ filter (has self.now) (up_to 80) }
+    {
+        let _mask = self.mask;
     }
 
     /// The same set again.
