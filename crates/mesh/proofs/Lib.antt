@@ -5,3 +5,4 @@ pub mod Routes
 pub mod SeatPlaces
 pub mod SiteLemmas
 pub mod Steps
+pub mod hops
