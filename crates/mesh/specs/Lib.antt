@@ -3,6 +3,7 @@ pub mod Calls
 pub mod Changes
 pub mod Commands
 pub mod Events
+pub mod HopLaw
 pub mod HopShapes
 pub mod Kept
 pub mod Legs
