@@ -1,2 +1,6 @@
+pub mod Chain
+pub mod Changed
 pub mod Kinds
 pub mod Plans
+pub mod Tables
+pub mod Views
