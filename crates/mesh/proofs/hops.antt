@@ -1,6 +1,9 @@
 pub mod Chain
 pub mod Changed
+pub mod Farther
 pub mod Kinds
+pub mod Nearer
 pub mod Plans
+pub mod Sentences
 pub mod Tables
 pub mod Views

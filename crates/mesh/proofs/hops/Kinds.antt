@@ -100,14 +100,15 @@ no_removal_live d down up h = elim h [ ]
 
 -- Seen from the hop before: an Asked leg is answered, or goes, or closes; a torn leg goes.
 pub record AskedAnswers (u : LegKind) (down up : List MsgKind) : Type 0 where
+  pub asked : (u ≡ IsAsked) ⊎ (u ≡ IsTorn)
   pub none : up ≡ []
   pub answered : Shape Work u IsLive down (up ++ Label ∷ [])
   pub refused : Shape Work u NoLeg down (up ++ Removal ∷ [])
   pub closed : Shape Work u IsTorn down (up ++ Removal ∷ [])
 
 pub asked_answers : (u : LegKind) (down up : List MsgKind) → Shape Work u IsAsked down up → AskedAnswers u down up
-asked_answers _ _ _ Passed = record { none = refl; answered = Answered; refused = Refused; closed = RefusedLate }
-asked_answers _ _ _ TornPassed = record { none = refl; answered = TornAnswered; refused = TornRefused; closed = TornRefusedLate }
+asked_answers _ _ _ Passed = record { asked = inl refl; none = refl; answered = Answered; refused = Refused; closed = RefusedLate }
+asked_answers _ _ _ TornPassed = record { asked = inr refl; none = refl; answered = TornAnswered; refused = TornRefused; closed = TornRefusedLate }
 
 pub torn_leaves : (u : LegKind) (down up : List MsgKind) → Shape Work u IsTorn down up → Shape Work u NoLeg down up
 torn_leaves _ _ _ RefusedLate = Refused
