@@ -4,6 +4,8 @@ pub mod Farther
 pub mod Kinds
 pub mod Nearer
 pub mod Plans
+pub mod Sending
 pub mod Sentences
 pub mod Tables
+pub mod Taken
 pub mod Views
