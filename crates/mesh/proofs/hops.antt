@@ -2,7 +2,9 @@ pub mod Chain
 pub mod Changed
 pub mod Farther
 pub mod Kinds
+pub mod Labels
 pub mod Nearer
+pub mod PathRule
 pub mod Plans
 pub mod Sending
 pub mod Sentences

@@ -31,6 +31,9 @@ module _ (p : Plan) (i : ℕ) (u : Option Leg) (asked_bare : leg_kind u ≡ IsAs
     pub path_quiet : up ≡ []
     path_quiet = no_kinds up taken.quiet
 
+    pub path_last : (map msg_kind rest ≡ []) ⊎ (map msg_kind rest ≡ Tear ∷ [])
+    path_last = taken.last
+
     bare_path : out_label_of u ≡ None
     bare_path = elim taken.asked [ inl asked ↦ asked_bare asked | inr torn ↦ h.bare torn (inl refl) ]
 

@@ -60,6 +60,12 @@ same n = grind arith
 pub other : (a b : ℕ) → a ≢ b → nat_eq a b ≡ false
 other a b apart = grind arith
 
+pub lt_true : {a b : ℕ} → a < b → nat_lt a b ≡ true
+lt_true h = grind arith
+
+pub lt_false : {a b : ℕ} → b ≤ a → nat_lt a b ≡ false
+lt_false h = grind arith
+
 -- Links
 
 find-filter : {X : Type 0} (q p : X → Bool) (xs : List X) (x : X) → find q xs ≡ Some x → p x ≡ true → find q (filter p xs) ≡ Some x
