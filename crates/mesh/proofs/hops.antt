@@ -3,6 +3,7 @@ pub mod Changed
 pub mod Farther
 pub mod Kinds
 pub mod Labels
+pub mod LegChanges
 pub mod Nearer
 pub mod PathRule
 pub mod Plans
@@ -10,4 +11,5 @@ pub mod Sending
 pub mod Sentences
 pub mod Tables
 pub mod Taken
+pub mod TearRule
 pub mod Views

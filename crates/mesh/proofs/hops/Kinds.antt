@@ -42,6 +42,16 @@ tear_late _ _ _ _ late TornPassed = elim late [ inl e ↦ absurd cc | inr e ↦ 
 tear_late _ _ _ _ late TornAnswered = elim late [ inl e ↦ absurd cc | inr e ↦ absurd cc ]
 tear_late _ _ _ _ late TornConnected = elim late [ inl e ↦ absurd cc | inr e ↦ absurd cc ]
 
+-- It is the last one.
+pub tear_last : (u d : LegKind) (down up : List MsgKind) → Shape Work u d (Tear ∷ down) up → down ≡ []
+tear_last _ _ _ _ TornPassed = refl
+tear_last _ _ _ _ TornRefused = refl
+tear_last _ _ _ _ TornRefusedLate = refl
+tear_last _ _ _ _ TornAnswered = refl
+tear_last _ _ _ _ TornConnected = refl
+tear_last _ _ _ _ Left = refl
+tear_last _ _ _ _ LeftAhead = refl
+
 -- A leg closes, and a PathTear goes on.
 pub closes_asked : (d : LegKind) (down up : List MsgKind) → Shape Work IsAsked d down up → Shape Work IsTorn d (down ++ Tear ∷ []) up
 closes_asked _ _ _ Asking = TornAsking
