@@ -1,5 +1,6 @@
 pub mod Chain
 pub mod Changed
+pub mod ErrRule
 pub mod Farther
 pub mod Kinds
 pub mod Labels

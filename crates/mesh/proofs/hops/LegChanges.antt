@@ -78,3 +78,11 @@ following_is t l p i g fits small = rw (fits.next, fits.out_fibre, lt_true small
 
 pub following_none : (t : Network) (l : Lsp) (p : Plan) (i : ℕ) (g : Leg) → LegFits t l p i g → hops p ≤ i → following g ≡ None
 following_none t l p i g fits end = rw (fits.next, lt_false end) refl
+
+-- the place before, if there is one
+abbrev pub Before : ℕ → Type 0
+Before i = (i ≡ 0) ⊎ ((j : ℕ) × (suc j ≡ i))
+
+pub before_or_first : (i : ℕ) → Before i
+before_or_first zero = inl refl
+before_or_first (suc j) = inr (j, refl)
