@@ -8,6 +8,7 @@ pub mod LegChanges
 pub mod Nearer
 pub mod PathRule
 pub mod Plans
+pub mod ResvRule
 pub mod Sending
 pub mod Sentences
 pub mod Tables
