@@ -6,6 +6,7 @@ pub mod Kinds
 pub mod Labels
 pub mod LegChanges
 pub mod Nearer
+pub mod Own
 pub mod PathRule
 pub mod Plans
 pub mod ResvRule
