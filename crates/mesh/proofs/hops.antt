@@ -16,3 +16,4 @@ pub mod Tables
 pub mod Taken
 pub mod TearRule
 pub mod Views
+pub mod Traced

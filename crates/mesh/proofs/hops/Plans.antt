@@ -144,7 +144,7 @@ no_start t (h ∷ route) = no_start t route
 end_is : (n e : NodeId) → nat_eq n.0 e.0 ≡ true → n.0 ≡ e.0
 end_is n e h = grind arith
 
-abbrev plan : List Step → NodeId → Plan
+abbrev pub plan : List Step → NodeId → Plan
 plan route to = record { egress = to; route = route }
 
 pub record Linked (t : Network) (from : NodeId) (p : Plan) : Type 0 where
