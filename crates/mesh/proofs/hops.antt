@@ -17,3 +17,5 @@ pub mod Taken
 pub mod TearRule
 pub mod Views
 pub mod Traced
+pub mod Quiet
+pub mod Released
