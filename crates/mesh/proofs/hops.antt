@@ -19,3 +19,5 @@ pub mod Views
 pub mod Traced
 pub mod Quiet
 pub mod Released
+pub mod Begun
+pub mod Run
