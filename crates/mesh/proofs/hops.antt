@@ -21,3 +21,4 @@ pub mod Quiet
 pub mod Released
 pub mod Begun
 pub mod Run
+pub mod Law
