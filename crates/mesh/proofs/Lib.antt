@@ -1,5 +1,7 @@
 pub mod Firsts
 pub mod FreeLabels
+pub mod NodeFacts
+pub mod NodeRuns
 pub mod Places
 pub mod Routes
 pub mod SeatPlaces

@@ -1,9 +1,11 @@
+pub mod CallLaw
 pub mod CallRules
 pub mod Calls
 pub mod Changes
 pub mod Commands
 pub mod Events
 pub mod Kept
+pub mod LabelLaw
 pub mod Legs
 pub mod Machine
 pub mod MessageRules

@@ -1,0 +1,7 @@
+use Rattle.mesh.proofs.laws.every_run.Goals as goal
+
+pub returns-clause-labels : goal.returns-clause-labels
+returns-clause-labels c = ?
+
+pub returns-clause-calls : goal.returns-clause-calls
+returns-clause-calls c = ?
