@@ -1,5 +1,6 @@
 pub mod Firsts
 pub mod FreeLabels
+pub mod LegList
 pub mod NodeFacts
 pub mod NodeRuns
 pub mod Places
