@@ -1,3 +1,4 @@
+pub mod CallList
 pub mod Firsts
 pub mod FreeLabels
 pub mod LegList
