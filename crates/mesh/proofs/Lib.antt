@@ -2,6 +2,7 @@ pub mod CallList
 pub mod Firsts
 pub mod FreeLabels
 pub mod LegList
+pub mod LegParts
 pub mod NodeFacts
 pub mod NodeRuns
 pub mod Places
