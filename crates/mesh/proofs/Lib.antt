@@ -1,8 +1,10 @@
 pub mod CallList
+pub mod CallParts
 pub mod Firsts
 pub mod FreeLabels
 pub mod LegList
 pub mod LegParts
+pub mod NewLegs
 pub mod NodeFacts
 pub mod NodeRuns
 pub mod Places
