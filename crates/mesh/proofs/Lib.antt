@@ -1,12 +1,16 @@
+pub mod AnswerKeeps
 pub mod CallList
 pub mod CallParts
+pub mod Cases
 pub mod Firsts
 pub mod FreeLabels
 pub mod LegList
 pub mod LegParts
 pub mod NewLegs
 pub mod NodeFacts
+pub mod NodeParts
 pub mod NodeRuns
+pub mod PathKeeps
 pub mod Places
 pub mod Routes
 pub mod SeatPlaces

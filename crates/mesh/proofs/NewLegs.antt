@@ -20,6 +20,7 @@ use Rattle.mesh.specs.Sites.{Place, own_link, labels_of, fibre_in}
 use Rattle.mesh.specs.Legs.{is_free, usable, closed, closing_phase, connected, previous, following, neighbour_over}
 use Rattle.mesh.specs.CallRules.{NodeState, first_leg, next_lsp}
 use Rattle.mesh.specs.MessageRules.{egress_leg, transit_leg, label_back, only, offered_labels}
+use Rattle.mesh.proofs.Cases.{both_left, both_right}
 use Rattle.mesh.proofs.NodeFacts.{FitsPhase, LegFacts}
 use Rattle.mesh.proofs.LegParts.{MayStand, Taken}
 
@@ -28,14 +29,6 @@ use Rattle.mesh.proofs.LegParts.{MayStand, Taken}
 pub least-has : (xs : List ℕ) (y : ℕ) → least xs ≡ Some y → has xs y ≡ true
 least-has [] y e = cc
 least-has (x ∷ xs) y e = let is : x ≡ y = cc in let test : nat_eq x y ≡ true = grind arith in rw test refl
-
-both_left : (a b : Bool) → (a && b) ≡ true → a ≡ true
-both_left true b e = refl
-both_left false b e = e
-
-both_right : (a b : Bool) → (a && b) ≡ true → b ≡ true
-both_right true b e = e
-both_right false b e = absurd (cc e)
 
 pub has-left : (a b : List ℕ) (x : ℕ) → has (meet a b) x ≡ true → has a x ≡ true
 has-left a b x h = both_left (has a x) (has b x) (sym (has-filter (has b) a x) ∙ h)
