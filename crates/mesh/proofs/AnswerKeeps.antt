@@ -38,6 +38,7 @@ use Rattle.mesh.proofs.LegParts.{part-with_leg, part-without_leg}
 use Rattle.mesh.proofs.NewLegs.{Beside, beside, alone, alone_fibre, back-has, closed-stands, connected-stands, ingress-stands}
 use Rattle.mesh.proofs.CallList.{called-found, called-work, not_called, find-with_call, rise-with_call}
 use Rattle.mesh.proofs.CallParts.{CallPart, Together, lsp-is, together-part}
+use Rattle.mesh.proofs.CallKeeps.{asking_call, must_have_call, keeps-bare, keeps-blocked}
 use Rattle.mesh.proofs.NodeParts.{leg_part, call_part, node_facts, named, state-fits, unnamed-away, unnamed-torn, keeps-leg, keeps-gone}
 use Rattle.mesh.proofs.PathKeeps.{Keeps}
 
@@ -72,48 +73,92 @@ asked-is Live e = absurd (cc e)
 asked-is Closing e = absurd (cc e)
 asked-is Falling e = absurd (cc e)
 
--- The call of a leg that was asked for
 
--- the call of this LSP at its ingress, whose leg is Asked
-pub record AskingCall (n : ℕ) (s : NodeState) (l : Lsp) (c : CallRec) : Type 0 where
-  pub found : find_call c.call s.calls ≡ Some c
-  pub work : is_lsp c.work l ≡ true
-  pub state : c.state ≡ Asking
+-- Resv
 
-asked-state : (state : CallState) → fits state (Some Asked) None ≡ true → state ≡ Asking
-asked-state Asking e = refl
-asked-state Bare e = absurd (cc e)
-asked-state Pairing e = absurd (cc e)
-asked-state Guarded e = absurd (cc e)
-asked-state Turning e = absurd (cc e)
-asked-state Turned e = absurd (cc e)
-asked-state Stuck e = absurd (cc e)
-asked-state Blocked e = absurd (cc e)
+phase_answered : (f : Phase) → is_asked f ≡ true → is_closing f ≡ false
+phase_answered f e = ap is_closing (asked-is f e)
 
-asking_call : (n : ℕ) (s : NodeState) (g : Leg) (c : CallRec) → NodeFacts n s → find_leg g.lsp s.legs ≡ Some g → g.phase ≡ Asked → call_of g.lsp s.calls ≡ Some c → AskingCall n s g.lsp c
-asking_call n s g c facts here asked called =
-    let found = called-found g.lsp s.calls c facts.calls_rise called in
-    let work = called-work g.lsp s.calls c called in
-    let fit : fits c.state (Some g.phase) None ≡ true = state-fits n s.lsp s.legs c g.lsp g (facts.call c.call c found) (lsp-is c.work g.lsp work) here in
-    record { found = found; work = work; state = asked-state c.state (subst (λ f. fits c.state (Some f) None ≡ true) asked fit) }
+keeps-passed_back : (p : Place) (s : NodeState) (a : Arrival) (g : Leg) (h : Neighbour) (x : ℕ) (o : Option ℕ) → NodeFacts p.id.0 s → LegFacts p.id.0 s.lsp g → previous g ≡ Some h → is_some g.next ≡ true → has g.sent x ≡ true →
+    label_back p (meet g.offered (usable p s.legs h.fibre)) x ≡ o → Keeps p s (passed_back p a g h x o)
+keeps-passed_back p s a g h x None facts leg is goes_on sent looked =
+    keeps-leg p.id.0 s (closed g) (has_previous-away p.id.0 s.lsp g h leg is) (closed-stands p.id.0 s.lsp s.legs g goes_on leg) facts
+keeps-passed_back p s a g h x (Some y) facts leg is goes_on sent looked =
+    keeps-leg p.id.0 s (connected g (Some y) x) (has_previous-away p.id.0 s.lsp g h leg is)
+    (connected-stands p s.lsp s.legs g h x y leg (beside g.prev g.in_fibre h is).fibre goes_on sent (back-has p (meet g.offered (usable p s.legs h.fibre)) x y looked)) facts
 
--- an Asked leg at its ingress has a call
-must_have_call : (n : ℕ) (s : NodeState) (g : Leg) → NodeFacts n s → find_leg g.lsp s.legs ≡ Some g → g.phase ≡ Asked → g.lsp.ingress.0 ≡ n → call_of g.lsp s.calls ≡ None → ⊥
-must_have_call n s g facts here asked ingress none =
-    let has = facts.has_call g.lsp g here ingress (ap is_closing asked) in
-    not_called g.lsp s.calls has.call.call has.call none has.found has.work
-
--- the call changes together with its leg
-together : (n : ℕ) (s : NodeState) (l : Lsp) (c d : CallRec) (p : Option Leg) (legs' : List Leg) → NodeFacts n s → find_call c.call s.calls ≡ Some c → is_lsp c.work l ≡ true → d.call ≡ c.call → CallFacts n s.lsp legs' d →
-    ((m : Lsp) → is_lsp d.work m ≡ true → l ≡ m) → ((g : Leg) → p ≡ Some g → l.ingress.0 ≡ n → is_closing g.phase ≡ false → is_lsp d.work l ≡ true) → Together n s.lsp l c.call p (Some d) legs' s.calls
-together n s l c d p legs' facts found work number fit only wanted = record {
-  apart = λ m e other there has. let one : c.call ≡ m = facts.one_call l c.call m c e found there work has in let same : nat_eq c.call.0 m.0 ≡ true = (let p : c.call.0 ≡ m.0 = ap (λ x. x.0) one in grind arith) in cc (same, other);
-  had = λ e m there has. let one : c ≡ e = cc (found, there) in same_lsps l m c work (subst (λ x. is_lsp x.work m ≡ true) (sym one) has);
-  has = λ e m is has. let one : d ≡ e = cc is in only m (subst (λ x. is_lsp x.work m ≡ true) (sym one) has);
-  facts = λ e is. let one : d ≡ e = cc is in subst (CallFacts n s.lsp legs') one fit;
-  number = λ e is. let one : d ≡ e = cc is in subst (λ x. x.call ≡ c.call) one number;
-  wanted = λ g is here standing. (d, refl, wanted g is here standing);
-}
+keeps-answered : (p : Place) (s : NodeState) (a : Arrival) (x : ℕ) (g : Leg) (o : Option Neighbour) → NodeFacts p.id.0 s → find_leg g.lsp s.legs ≡ Some g → g.phase ≡ Asked → is_some g.next ≡ true → has g.sent x ≡ true → previous g ≡ o →
+    Keeps p s (answered p s.legs s.calls a x g o)
+keeps-answered p s a x g None facts here asked goes_on sent is = go (call_of g.lsp s.calls) refl
   where
-    same_lsps : (l m : Lsp) (c : CallRec) → is_lsp c.work l ≡ true → is_lsp c.work m ≡ true → l ≡ m
-    same_lsps l m c e f = let p = lsp-is c.work l e in let q = lsp-is c.work m f in cc (p, q)
+    mine : LegFacts p.id.0 s.lsp g
+    mine = facts.leg g.lsp g here
+
+    go : (o : Option CallRec) → call_of g.lsp s.calls ≡ o → Keeps p s (record { legs = leg.Stands (connected g None x) ∷ []; calls = call_stands o; numbers = None; sent = [] })
+    go None none = absurd (must_have_call p.id.0 s g facts here asked (no_previous-here p.id.0 s.lsp g mine is) none)
+    go (Some c) called =
+        let asking = asking_call p.id.0 s g c facts here asked called in
+        let old = facts.call c.call c asking.found in
+        let test : (is_asking c.state && not c.protected) ≡ true = rw (asking.state, old.protected) refl in
+        rw test (keeps-bare p.id.0 s g c x facts here asking (ingress-stands p.id.0 s.lsp s.legs g x mine (alone_fibre g.prev g.in_fibre mine.in_fibre is) goes_on sent))
+keeps-answered p s a x g (Some h) facts here asked goes_on sent is =
+    keeps-passed_back p s a g h x (label_back p (meet g.offered (usable p s.legs h.fibre)) x) facts (facts.leg g.lsp g here) is goes_on sent refl
+
+pub keeps-on_resv : (p : Place) (s : NodeState) (a : Arrival) (x : ℕ) (o : Option Leg) → NodeFacts p.id.0 s → find_leg a.lsp s.legs ≡ o → Keeps p s (on_resv p s.legs s.calls a x o)
+keeps-on_resv p s a x None facts is = facts
+keeps-on_resv p s a x (Some g) facts is =
+    if_cases (Keeps p s) (is_expected a x g) _ _
+    (λ e.
+    let here : find_leg g.lsp s.legs ≡ Some g = subst (λ l. find_leg l s.legs ≡ Some g) (sym (found-lsp a.lsp s.legs g is)) is in
+    let test : (is_work g.role && (is_over (following g) a.from a.link && has g.sent x)) ≡ true = both_right (is_asked g.phase) _ e in
+    let test' : (is_over (following g) a.from a.link && has g.sent x) ≡ true = both_right (is_work g.role) _ test in
+    keeps-answered p s a x g (previous g) facts here (asked-is g.phase (both_left (is_asked g.phase) _ e))
+    (over-some g.next g.out_fibre a.from a.link (both_left _ _ test')) (both_right (is_over (following g) a.from a.link) _ test') refl)
+    (λ e. facts)
+
+-- PathErr
+
+keeps-err_passed : (p : Place) (s : NodeState) (g : Leg) (m : Msg) (code : ErrCode) (o : Option Neighbour) → NodeFacts p.id.0 s → find_leg g.lsp s.legs ≡ Some g → g.phase ≡ Asked → previous g ≡ o → Keeps p s (err_passed s.calls g m code o)
+keeps-err_passed p s g m code None facts here asked is = go (call_of g.lsp s.calls) refl
+  where
+    go : (o : Option CallRec) → call_of g.lsp s.calls ≡ o → Keeps p s (record { legs = leg.Goes g.lsp ∷ []; calls = call_falls code o; numbers = None; sent = [] })
+    go None none = absurd (must_have_call p.id.0 s g facts here asked (no_previous-here p.id.0 s.lsp g (facts.leg g.lsp g here) is) none)
+    go (Some c) called =
+        let asking = asking_call p.id.0 s g c facts here asked called in
+        let test : is_asking c.state ≡ true = rw asking.state refl in
+        rw test (keeps-blocked p.id.0 s g c (Code code) facts asking)
+keeps-err_passed p s g m code (Some h) facts here asked is =
+    keeps-gone p.id.0 s g.lsp (unnamed-away p.id.0 s.lsp s.legs s.calls g.lsp (has_previous-away p.id.0 s.lsp g h (facts.leg g.lsp g here) is) (call_part p.id.0 s facts)) facts
+
+keeps-removed : (p : Place) (s : NodeState) (g : Leg) (m : Msg) (code : ErrCode) → NodeFacts p.id.0 s → find_leg g.lsp s.legs ≡ Some g → Keeps p s (removed s.calls g m code)
+keeps-removed p s g m code facts here =
+    if_cases (Keeps p s) (is_asked g.phase) _ _ (λ e. keeps-err_passed p s g m code (previous g) facts here (asked-is g.phase e) refl)
+    (λ e. if_cases (Keeps p s) (is_closing g.phase) _ _ (λ f. keeps-gone p.id.0 s g.lsp (unnamed-torn p.id.0 s.lsp s.legs s.calls g.lsp g here f (call_part p.id.0 s facts)) facts) (λ f. facts))
+
+pub keeps-on_path_err : (p : Place) (s : NodeState) (u : NodeId) (l : Lsp) (m : Msg) (gone : Bool) (code : ErrCode) (o : Option Leg) → NodeFacts p.id.0 s → find_leg l s.legs ≡ o → Keeps p s (on_path_err s.calls u m gone code o)
+keeps-on_path_err p s u l m gone code None facts is = facts
+keeps-on_path_err p s u l m gone code (Some g) facts is =
+    let here : find_leg g.lsp s.legs ≡ Some g = subst (λ k. find_leg k s.legs ≡ Some g) (sym (found-lsp l s.legs g is)) is in
+    if_cases (Keeps p s) (gone && is_node (following g) u) _ _ (λ e. keeps-removed p s g m code facts here) (λ e. facts)
+
+-- PathTear
+
+following-some : (o : Option NodeId) (f : Option Fibre) (h : Neighbour) → neighbour_over o f ≡ Some h → is_some o ≡ true
+following-some o f h e = ap is_some (beside o f h e).node
+
+keeps-torn : (p : Place) (s : NodeState) (g : Leg) (answer : Out) (o : Option Neighbour) → NodeFacts p.id.0 s → find_leg g.lsp s.legs ≡ Some g → nat_eq g.lsp.ingress.0 p.id.0 ≡ false → following g ≡ o → Keeps p s (torn g answer o)
+keeps-torn p s g answer None facts here away is = keeps-gone p.id.0 s g.lsp (unnamed-away p.id.0 s.lsp s.legs s.calls g.lsp away (call_part p.id.0 s facts)) facts
+keeps-torn p s g answer (Some h) facts here away is =
+    keeps-leg p.id.0 s (closed g) away (closed-stands p.id.0 s.lsp s.legs g (following-some g.next g.out_fibre h is) (facts.leg g.lsp g here)) facts
+
+-- a leg to which a message comes from its previous node is away from its ingress
+previous-away : (n next : ℕ) (g : Leg) (u : NodeId) (k : LinkId) → LegFacts n next g → is_over (previous g) u k ≡ true → nat_eq g.lsp.ingress.0 n ≡ false
+previous-away n next g u k facts over = not-true (nat_eq g.lsp.ingress.0 n) (sym facts.prev ∙ over-some g.prev g.in_fibre u k over)
+
+pub keeps-on_tear : (p : Place) (s : NodeState) (a : Arrival) (o : Option Leg) → NodeFacts p.id.0 s → find_leg a.lsp s.legs ≡ o → Keeps p s (on_tear p a o)
+keeps-on_tear p s a None facts is = facts
+keeps-on_tear p s a (Some g) facts is =
+    let here : find_leg g.lsp s.legs ≡ Some g = subst (λ l. find_leg l s.legs ≡ Some g) (sym (found-lsp a.lsp s.legs g is)) is in
+    if_cases (Keeps p s) (not (is_closing g.phase) && is_over (previous g) a.from a.link) _ _
+    (λ e. keeps-torn p s g _ (following g) facts here (previous-away p.id.0 s.lsp g a.from a.link (facts.leg g.lsp g here) (both_right (not (is_closing g.phase)) _ e)) refl)
+    (λ e. facts)

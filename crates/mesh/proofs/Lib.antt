@@ -1,4 +1,5 @@
 pub mod AnswerKeeps
+pub mod CallKeeps
 pub mod CallList
 pub mod CallParts
 pub mod Cases
