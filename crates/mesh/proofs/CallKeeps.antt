@@ -89,7 +89,7 @@ together n s l c d p legs' facts found work number fit only wanted = record {
     same_lsps l m c e f = let p = lsp-is c.work l e in let q = lsp-is c.work m f in cc (p, q)
 
 -- a call of which its state and its working LSP may have changed; it is unprotected and has no backup
-call-fits : (n next : ℕ) (legs : List Leg) (d : CallRec) → d.protected ≡ false → d.backup ≡ None → d.back ≡ None → d.work_reports ≡ [] → d.back_reports ≡ [] → fits d.state (phase_of (leg_of d.work legs)) None ≡ true → IfSome d.work (IsNamed n next legs Work d.egress) → CallFacts n next legs d
+pub call-fits : (n next : ℕ) (legs : List Leg) (d : CallRec) → d.protected ≡ false → d.backup ≡ None → d.back ≡ None → d.work_reports ≡ [] → d.back_reports ≡ [] → fits d.state (phase_of (leg_of d.work legs)) None ≡ true → IfSome d.work (IsNamed n next legs Work d.egress) → CallFacts n next legs d
 call-fits n next legs d protected backup back work_reports back_reports state work = record {
   fits = record {
     state = subst (λ o. fits d.state (phase_of (leg_of d.work legs)) (phase_of (leg_of o legs)) ≡ true) (sym back) state;

@@ -21,3 +21,7 @@ neither_left false b e = refl
 pub not-true : (b : Bool) → not b ≡ true → b ≡ false
 not-true true e = absurd (cc e)
 not-true false e = refl
+
+pub neither_right : (a b : Bool) → (a || b) ≡ false → b ≡ false
+neither_right true b e = absurd (cc e)
+neither_right false b e = e

@@ -7,10 +7,12 @@ pub mod Firsts
 pub mod FreeLabels
 pub mod LegList
 pub mod LegParts
+pub mod MessageKeeps
 pub mod NewLegs
 pub mod NodeFacts
 pub mod NodeParts
 pub mod NodeRuns
+pub mod OrderKeeps
 pub mod PathKeeps
 pub mod Places
 pub mod Routes
