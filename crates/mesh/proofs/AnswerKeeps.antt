@@ -73,7 +73,6 @@ asked-is Live e = absurd (cc e)
 asked-is Closing e = absurd (cc e)
 asked-is Falling e = absurd (cc e)
 
-
 -- Resv
 
 phase_answered : (f : Phase) → is_asked f ≡ true → is_closing f ≡ false

@@ -79,9 +79,9 @@ all-with_call P c (d ∷ calls) here all =
     elim (nat_eq d.call.0 c.call.0) as (λ a. AllByRecursion P (cond a (c ∷ calls) (cond (nat_lt c.call.0 d.call.0) (c ∷ d ∷ calls) (d ∷ with_call c calls)))) [
       | true ↦ (here, all.1)
       | false ↦ elim (nat_lt c.call.0 d.call.0) as (λ b. AllByRecursion P (cond b (c ∷ d ∷ calls) (d ∷ with_call c calls))) [
-          | true ↦ (here, all)
-          | false ↦ (all.0, all-with_call P c calls here all.1)
-        ]
+        | true ↦ (here, all)
+        | false ↦ (all.0, all-with_call P c calls here all.1)
+      ]
     ]
 
 pub rise-with_call : (c : CallRec) (calls : List CallRec) → CallsRise calls → CallsRise (with_call c calls)
@@ -112,9 +112,10 @@ found-below d calls k c above found =
 -- what holds of each call that is found holds of all
 pub all-calls_found : (P : CallRec → Type 0) (calls : List CallRec) → CallsRise calls → ((k : CallNo) (c : CallRec) → find_call k calls ≡ Some c → P c) → AllByRecursion P calls
 all-calls_found P [] rise each = tt
-all-calls_found P (d ∷ calls) rise each =
-    (each d.call d (rw (same d.call.0) refl),
-    all-calls_found P calls rise.1 (λ k c found. each k c (found-below d calls k c rise.0 found)))
+all-calls_found P (d ∷ calls) rise each = (
+  each d.call d (rw (same d.call.0) refl),
+  all-calls_found P calls rise.1 (λ k c found. each k c (found-below d calls k c rise.0 found)),
+)
 
 -- The call of an LSP
 

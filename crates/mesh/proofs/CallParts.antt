@@ -104,9 +104,9 @@ unnamed-part n next l p legs legs' calls becomes unnamed needs_none part = recor
   call = λ k c found. call-stays n next next legs legs' c (omega arith) (stays k c found) (part.call k c found);
   one_call = part.one_call;
   has_call = λ m g found here stands.
-    found-new (HasCall calls m) l m p g legs legs' becomes found
-    (λ e is. absurd (needs_none g is (subst (λ x. x.ingress.0 ≡ n) (sym e) here) stands))
-    (λ e there. part.has_call m g there here stands);
+      found-new (HasCall calls m) l m p g legs legs' becomes found
+      (λ e is. absurd (needs_none g is (subst (λ x. x.ingress.0 ≡ n) (sym e) here) stands))
+      (λ e there. part.has_call m g there here stands);
 }
   where
     stays : (k : CallNo) (c : CallRec) → find_call k calls ≡ Some c → Stay (λ m. is_lsp c.work m ≡ true) legs legs'
@@ -143,17 +143,17 @@ pub together-part : (n a b : ℕ) (l : Lsp) (k : CallNo) (p : Option Leg) (o : O
 together-part n a b l k p o legs legs' calls calls' le rise becomes replaced both part = record {
   rise = rise;
   call = λ m c found. found-call (CallFacts n b legs' c) k m o c calls calls' replaced found
-    (λ e is. both.facts c is)
-    (λ e there. call-stays n a b legs legs' c le (stays m c e there) (part.call m c there));
+      (λ e is. both.facts c is)
+      (λ e there. call-stays n a b legs legs' c le (stays m c e there) (part.call m c there));
   one_call = λ m i j c d at_i at_j c_has d_has. found-call (i ≡ j) k i o c calls calls' replaced at_i
-    (λ e is. found-call (i ≡ j) k j o d calls calls' replaced at_j (λ e' is'. sym e ∙ e') (λ e' there. absurd (clash m j c d e' is there c_has d_has)))
-    (λ e there. found-call (i ≡ j) k j o d calls calls' replaced at_j
-    (λ e' is'. absurd (clash m i d c e is' there d_has c_has))
-    (λ e' there'. part.one_call m i j c d there there' c_has d_has));
+      (λ e is. found-call (i ≡ j) k j o d calls calls' replaced at_j (λ e' is'. sym e ∙ e') (λ e' there. absurd (clash m j c d e' is there c_has d_has)))
+      (λ e there. found-call (i ≡ j) k j o d calls calls' replaced at_j
+      (λ e' is'. absurd (clash m i d c e is' there d_has c_has))
+      (λ e' there'. part.one_call m i j c d there there' c_has d_has));
   has_call = λ m g found here stands.
-    found-new (HasCall calls' m) l m p g legs legs' becomes found
-    (λ e is. wanted m e (both.wanted g is (subst (λ x. x.ingress.0 ≡ n) (sym e) here) stands))
-    (λ e there. kept m e (part.has_call m g there here stands));
+      found-new (HasCall calls' m) l m p g legs legs' becomes found
+      (λ e is. wanted m e (both.wanted g is (subst (λ x. x.ingress.0 ≡ n) (sym e) here) stands))
+      (λ e there. kept m e (part.has_call m g there here stands));
 }
   where
     clash : (m : Lsp) (j : CallNo) (c d : CallRec) → nat_eq k.0 j.0 ≡ false → o ≡ Some c → find_call j calls ≡ Some d → is_lsp c.work m ≡ true → is_lsp d.work m ≡ true → ⊥
@@ -188,10 +188,10 @@ lone-part n next k o legs calls calls' rise replaced had has facts part = record
   rise = rise;
   call = λ m c found. found-call (CallFacts n next legs c) k m o c calls calls' replaced found (λ e is. facts c is) (λ e there. part.call m c there);
   one_call = λ m i j c d at_i at_j c_has d_has. found-call (i ≡ j) k i o c calls calls' replaced at_i
-    (λ e is. absurd (none c m (has c is) c_has))
-    (λ e there. found-call (i ≡ j) k j o d calls calls' replaced at_j
-    (λ e' is'. absurd (none d m (has d is') d_has))
-    (λ e' there'. part.one_call m i j c d there there' c_has d_has));
+      (λ e is. absurd (none c m (has c is) c_has))
+      (λ e there. found-call (i ≡ j) k j o d calls calls' replaced at_j
+      (λ e' is'. absurd (none d m (has d is') d_has))
+      (λ e' there'. part.one_call m i j c d there there' c_has d_has));
   has_call = λ m g found here stands. kept m (part.has_call m g found here stands);
 }
   where

@@ -148,9 +148,9 @@ all-with_leg P g (h ∷ legs) here all =
     elim (same_lsp h.lsp g.lsp) as (λ a. AllByRecursion P (cond a (g ∷ legs) (cond (lsp_before g.lsp h.lsp) (g ∷ h ∷ legs) (h ∷ with_leg g legs)))) [
       | true ↦ (here, all.1)
       | false ↦ elim (lsp_before g.lsp h.lsp) as (λ b. AllByRecursion P (cond b (g ∷ h ∷ legs) (h ∷ with_leg g legs))) [
-          | true ↦ (here, all)
-          | false ↦ (all.0, all-with_leg P g legs here all.1)
-        ]
+        | true ↦ (here, all)
+        | false ↦ (all.0, all-with_leg P g legs here all.1)
+      ]
     ]
 
 pub rise-with_leg : (g : Leg) (legs : List Leg) → LegsRise legs → LegsRise (with_leg g legs)
@@ -173,10 +173,11 @@ rise-without_leg l (h ∷ legs) rise =
 -- what holds of each leg that is found holds of all
 pub all-found : (P : Leg → Type 0) (legs : List Leg) → LegsRise legs → ((l : Lsp) (g : Leg) → find_leg l legs ≡ Some g → P g) → AllByRecursion P legs
 all-found P [] rise each = tt
-all-found P (h ∷ legs) rise each =
-    (each h.lsp h (rw (same_lsp-refl h.lsp) refl),
-    all-found P legs rise.1 (λ l g found.
-        let is = found-lsp l legs g found in
-        let before : lsp_before h.lsp g.lsp ≡ true = found-all (λ x. IsTrue (lsp_before h.lsp x.lsp)) l legs g found rise.0 in
-        let apart : same_lsp h.lsp l ≡ false = rw (← is) (before-apart h.lsp g.lsp before) in
-        each l g (rw apart found)))
+all-found P (h ∷ legs) rise each = (
+  each h.lsp h (rw (same_lsp-refl h.lsp) refl),
+  all-found P legs rise.1 (λ l g found.
+      let is = found-lsp l legs g found in
+      let before : lsp_before h.lsp g.lsp ≡ true = found-all (λ x. IsTrue (lsp_before h.lsp x.lsp)) l legs g found rise.0 in
+      let apart : same_lsp h.lsp l ≡ false = rw (← is) (before-apart h.lsp g.lsp before) in
+      each l g (rw apart found)),
+)

@@ -96,11 +96,11 @@ part-with_leg n a b g legs le part may = record {
   rise = rise-with_leg g legs part.rise;
   leg = λ l h found. found-after (LegFacts n b h) g h legs l found (λ e is. subst (LegFacts n b) is may.facts) (λ e f. later-facts n a b h le (part.leg l h f));
   one_leg = λ f x l m i j at_l at_m takes_i takes_j.
-    found-after (l ≡ m) g i legs l at_l
-    (λ e is. found-after (l ≡ m) g j legs m at_m (λ e' is'. sym e ∙ e') (λ e' there. absurd (clash f x m j (subst (λ y. takes f x y ≡ true) (sym is) takes_i) there takes_j)))
-    (λ e there. found-after (l ≡ m) g j legs m at_m
-    (λ e' is'. absurd (clash f x l i (subst (λ y. takes f x y ≡ true) (sym is') takes_j) there takes_i))
-    (λ e' there'. part.one_leg f x l m i j there there' takes_i takes_j));
+      found-after (l ≡ m) g i legs l at_l
+      (λ e is. found-after (l ≡ m) g j legs m at_m (λ e' is'. sym e ∙ e') (λ e' there. absurd (clash f x m j (subst (λ y. takes f x y ≡ true) (sym is) takes_i) there takes_j)))
+      (λ e there. found-after (l ≡ m) g j legs m at_m
+      (λ e' is'. absurd (clash f x l i (subst (λ y. takes f x y ≡ true) (sym is') takes_j) there takes_i))
+      (λ e' there'. part.one_leg f x l m i j there there' takes_i takes_j));
 }
   where
     clash : (f : Fibre) (x : ℕ) (m : Lsp) (h : Leg) → takes f x g ≡ true → find_leg m legs ≡ Some h → takes f x h ≡ true → ⊥

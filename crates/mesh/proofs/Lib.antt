@@ -10,6 +10,7 @@ pub mod LegParts
 pub mod MessageKeeps
 pub mod NewLegs
 pub mod NodeFacts
+pub mod NodeLaws
 pub mod NodeParts
 pub mod NodeRuns
 pub mod OrderKeeps

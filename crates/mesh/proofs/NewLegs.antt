@@ -104,9 +104,9 @@ egress-stands p a link r legs set x next far here offered = record {
     back_out = refl;
   };
   free = λ f y taken.
-    let fibre : fibre_in link p.id ≡ f = some (fibre_in link p.id) f taken.fibre in
-    let label : x ≡ y = some x y taken.label in
-    subst (λ z. is_free legs f z ≡ true) label (subst (λ z. is_free legs z x ≡ true) fibre (usable-free p legs (fibre_in link p.id) x (has-right set (usable p legs (fibre_in link p.id)) x offered)));
+      let fibre : fibre_in link p.id ≡ f = some (fibre_in link p.id) f taken.fibre in
+      let label : x ≡ y = some x y taken.label in
+      subst (λ z. is_free legs f z ≡ true) label (subst (λ z. is_free legs z x ≡ true) fibre (usable-free p legs (fibre_in link p.id) x (has-right set (usable p legs (fibre_in link p.id)) x offered)));
 }
 
 pub transit-stands : (p : Place) (a : Arrival) (link out : LinkSpec) (route : List Step) (r : PathRole) (offered sent : List ℕ) (legs : List Leg) (next : ℕ) → nat_eq a.lsp.ingress.0 p.id.0 ≡ false → nat_eq a.egress.0 p.id.0 ≡ false →
@@ -202,9 +202,9 @@ pub connected-stands : (p : Place) (next : ℕ) (legs : List Leg) (g : Leg) (h :
 connected-stands p next legs g h x y facts fibre goes_on sent looked = record {
   facts = connected-facts p.id.0 next g (Some y) x facts (sym (is_some-of g.in_fibre h.fibre fibre)) goes_on (has-left g.offered (usable p legs h.fibre) y looked) sent;
   free = λ f z taken.
-    let on : h.fibre ≡ f = some h.fibre f (sym fibre ∙ taken.fibre) in
-    let label : y ≡ z = some y z taken.label in
-    subst (λ w. is_free legs f w ≡ true) label (subst (λ w. is_free legs w y ≡ true) on (usable-free p legs h.fibre y (has-right g.offered (usable p legs h.fibre) y looked)));
+      let on : h.fibre ≡ f = some h.fibre f (sym fibre ∙ taken.fibre) in
+      let label : y ≡ z = some y z taken.label in
+      subst (λ w. is_free legs f w ≡ true) label (subst (λ w. is_free legs w y ≡ true) on (usable-free p legs h.fibre y (has-right g.offered (usable p legs h.fibre) y looked)));
 }
 
 pub ingress-stands : (n next : ℕ) (legs : List Leg) (g : Leg) (x : ℕ) → LegFacts n next g → g.in_fibre ≡ None → is_some g.next ≡ true → has g.sent x ≡ true → MayStand n next legs (connected g None x)

@@ -77,8 +77,8 @@ keeps-begins p s w out route unbacked away unknown facts =
     both : Together p.id.0 (s.lsp + 1) l w.call (Some g) (Some c) legs' s.calls
     both = record {
       apart = λ m d other there has.
-        let small : s.lsp < s.lsp = (named p.id.0 s.lsp s.legs d l (facts.call m d there) (lsp-is d.work l has)).number in
-        absurd (omega arith);
+          let small : s.lsp < s.lsp = (named p.id.0 s.lsp s.legs d l (facts.call m d there) (lsp-is d.work l has)).number in
+          absurd (omega arith);
       had = λ d m there has. absurd (cc (there, unknown));
       has = λ d m is has. let one : c ≡ d = cc is in same_lsp-eq l m (subst (λ x. is_lsp x.work m ≡ true) (sym one) has);
       facts = λ d is. let one : c ≡ d = cc is in subst (CallFacts p.id.0 (s.lsp + 1) legs') one fit;
@@ -157,21 +157,21 @@ keeps-released p s n c g found work here ingress facts =
     both : Together p.id.0 s.lsp g.lsp n (Some (closed g)) None legs' s.calls
     both = record {
       apart = λ m d other there has.
-        let one : n ≡ m = facts.one_call g.lsp n m c d found there names has in
-        let same : nat_eq n.0 m.0 ≡ true = (let q : n.0 ≡ m.0 = ap (λ x. x.0) one in grind arith) in
-        cc (same, other);
+          let one : n ≡ m = facts.one_call g.lsp n m c d found there names has in
+          let same : nat_eq n.0 m.0 ≡ true = (let q : n.0 ≡ m.0 = ap (λ x. x.0) one in grind arith) in
+          cc (same, other);
       had = λ d m there has.
-        let one : c ≡ d = cc (found, there) in
-        let other = lsp-is c.work m (subst (λ x. is_lsp x.work m ≡ true) (sym one) has) in
-        cc (work, other);
+          let one : c ≡ d = cc (found, there) in
+          let other = lsp-is c.work m (subst (λ x. is_lsp x.work m ≡ true) (sym one) has) in
+          cc (work, other);
       has = λ d m is has. absurd (cc is);
       facts = λ d is. absurd (cc is);
       number = λ d is. absurd (cc is);
       wanted = λ h is at_ingress standing.
-        let one : closed g ≡ h = cc is in
-        let open_still : is_closing (closed g).phase ≡ false = subst (λ x. is_closing x.phase ≡ false) (sym one) standing in
-        let torn : is_closing (closing_phase g.phase g.role) ≡ true = subst (λ r. is_closing (closing_phase g.phase r) ≡ true) (sym mine.role) (closed-closing g.phase) in
-        absurd (cc (open_still, torn));
+          let one : closed g ≡ h = cc is in
+          let open_still : is_closing (closed g).phase ≡ false = subst (λ x. is_closing x.phase ≡ false) (sym one) standing in
+          let torn : is_closing (closing_phase g.phase g.role) ≡ true = subst (λ r. is_closing (closing_phase g.phase r) ≡ true) (sym mine.role) (closed-closing g.phase) in
+          absurd (cc (open_still, torn));
     }
 
 keeps-given_up : (p : Place) (s : NodeState) (n : CallNo) (c : CallRec) → find_call n s.calls ≡ Some c → NodeFacts p.id.0 s → Keeps p s (given_up n (leg_of c.work s.legs) (leg_of c.back s.legs))

@@ -1,7 +1,8 @@
+use Rattle.mesh.proofs.NodeLaws.{every_call, every_label}
 use Rattle.mesh.proofs.laws.every_run.Goals as goal
 
 pub returns-clause-labels : goal.returns-clause-labels
-returns-clause-labels c = ?
+returns-clause-labels c = every_label
 
 pub returns-clause-calls : goal.returns-clause-calls
-returns-clause-calls c = ?
+returns-clause-calls c = every_call
