@@ -1,46 +1,29 @@
 -- A call changes together with its leg at the ingress, when the Resv or the PathErr comes.
-use Rattle.std.proofs.Common.{◌≡◌, ℕ, Bool, true, false, cond, not, nat_eq, List, [], ◌∷◌, refl, sym, ap, subst, ◌∙◌, arith}
-use Rattle.std.specs.Prelude.{◌&&◌, Option, Some, None, IfSome}
-use Rattle.ason_base.specs.Labels.{has, meet}
-use Rattle.ason_base.specs.declared.ids.LinkId.{LinkId}
+use Rattle.std.proofs.Common.{◌≡◌, ℕ, true, false, nat_eq, List, [], ◌∷◌, refl, sym, ap, subst, arith}
+use Rattle.std.specs.Prelude.{Option, Some, None, IfSome}
 use Rattle.ason_base.specs.declared.ids.Lsp.{Lsp}
-use Rattle.ason_base.specs.declared.ids.Fibre.{Fibre}
-use Rattle.ason_base.specs.declared.ids.NodeId.{NodeId}
-use Rattle.ason_base.specs.declared.codes.ErrCode.{ErrCode}
-use Rattle.ason_base.specs.declared.messages.Msg.{Msg}
-use Rattle.ason_base.specs.declared.calls.Phase.{Phase}
-use Rattle.ason_base.specs.declared.calls.Phase.TheVariants.{Asked, Held, Armed, Live, Closing, Falling}
+use Rattle.ason_base.specs.declared.calls.Phase.TheVariants.{Asked, Live}
 use Rattle.ason_base.specs.declared.calls.Role.TheVariants as role
 use Rattle.ason_base.specs.declared.calls.Role.TheVariants.{Work}
 use Rattle.ason_base.specs.declared.calls.CallState.{CallState}
 use Rattle.ason_base.specs.declared.calls.CallState.TheVariants.{Asking, Bare, Pairing, Guarded, Turning, Turned, Stuck, Blocked}
 use Rattle.ason_base.specs.declared.calls.Cause.{Cause}
-use Rattle.ason_base.specs.declared.calls.Cause.TheVariants.{Code}
 use Rattle.ason_base.specs.declared.tables.CallRec.{CallRec}
 use Rattle.ason_base.specs.declared.tables.Leg.{Leg}
-use Rattle.ason_base.specs.declared.tables.Out.{Out}
 use Rattle.ason_base.specs.Lsps.{is_lsp}
-use Rattle.mesh.specs.declared.arrivals.Arrival.{Arrival}
 use Rattle.mesh.specs.declared.changes.CallChange.TheVariants as call
 use Rattle.mesh.specs.declared.changes.LegChange.TheVariants as leg
-use Rattle.mesh.specs.declared.neighbours.Neighbour.{Neighbour}
-use Rattle.mesh.specs.Changes.{Answer, nothing}
-use Rattle.mesh.specs.Sites.{Place}
-use Rattle.mesh.specs.Legs.{find_leg, is_asked, is_closing, is_work, closed, connected, previous, following, neighbour_over, is_node, is_over, usable, with_leg, without_leg}
-use Rattle.mesh.specs.Calls.{find_call, call_of, is_asking, bare, blocked, with_call}
+use Rattle.mesh.specs.Legs.{find_leg, is_closing, connected, with_leg, without_leg}
+use Rattle.mesh.specs.Calls.{find_call, call_of, bare, blocked, with_call}
 use Rattle.mesh.specs.CallRules.{NodeState, leg_of}
-use Rattle.mesh.specs.MessageRules.{is_expected, call_stands, label_back, passed_back, answered, on_resv, call_falls, err_passed, removed, on_path_err, torn, on_tear, stands}
 use Rattle.mesh.specs.Machine.{changed}
 use Rattle.mesh.specs.CallLaw.{IsNamed, fits, phase_of}
-use Rattle.mesh.proofs.Cases.{if_cases, both_left, both_right, not-true}
-use Rattle.mesh.proofs.NodeFacts.{CallFacts, LegFacts, NodeFacts, HasCall}
-use Rattle.mesh.proofs.LegList.{found-lsp, same_lsp-refl, find-with_leg, find-without_leg}
+use Rattle.mesh.proofs.NodeFacts.{CallFacts, NodeFacts}
+use Rattle.mesh.proofs.LegList.{same_lsp-refl, find-with_leg, find-without_leg}
 use Rattle.mesh.proofs.LegParts.{MayStand, part-with_leg, part-without_leg}
-use Rattle.mesh.proofs.NewLegs.{Beside, beside, alone, alone_fibre, back-has, closed-stands, connected-stands, ingress-stands}
 use Rattle.mesh.proofs.CallList.{called-found, called-work, not_called, find-with_call, rise-with_call}
-use Rattle.mesh.proofs.CallParts.{CallPart, Together, lsp-is, together-part}
-use Rattle.mesh.proofs.NodeParts.{leg_part, call_part, node_facts, named, state-fits, unnamed-away, unnamed-torn, keeps-leg, keeps-gone}
-use Rattle.mesh.proofs.PathKeeps.{Keeps}
+use Rattle.mesh.proofs.CallParts.{Together, lsp-is, together-part}
+use Rattle.mesh.proofs.NodeParts.{leg_part, call_part, node_facts, named, state-fits}
 
 -- The call of a leg that was asked for
 

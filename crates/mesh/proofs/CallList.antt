@@ -1,6 +1,6 @@
 -- The calls of a node: which call is found, and their order, after a call comes, changes or goes.
-use Rattle.std.proofs.Common.{◌≡◌, ◌≢◌, ◌<◌, ◌+◌, ℕ, Bool, true, false, cond, not, nat_lt, nat_eq, List, [], ◌∷◌, length, refl, sym, ap, subst, ◌∙◌, arith}
-use Rattle.std.specs.Prelude.{Option, Some, None, IsTrue, filter}
+use Rattle.std.proofs.Common.{◌≡◌, ◌<◌, ℕ, Bool, true, false, cond, not, nat_lt, nat_eq, List, [], ◌∷◌, length, refl, sym, ap, subst, ◌∙◌, arith}
+use Rattle.std.specs.Prelude.{Some, None, filter}
 use Rattle.std.proofs.lemmas.List.Sums.{length-filter}
 use Rattle.std.specs.List.{AllByRecursion, count_by}
 use Rattle.ason_base.specs.declared.ids.CallNo.{CallNo}
@@ -8,7 +8,7 @@ use Rattle.ason_base.specs.declared.ids.Lsp.{Lsp}
 use Rattle.ason_base.specs.declared.tables.CallRec.{CallRec}
 use Rattle.ason_base.specs.Lsps.{is_lsp}
 use Rattle.mesh.specs.Calls.{find_call, call_of, with_call, without_call}
-use Rattle.mesh.proofs.NodeFacts.{CallsRise, HasCall}
+use Rattle.mesh.proofs.NodeFacts.{CallsRise}
 use Rattle.mesh.proofs.LegList.{all-then, all-filter}
 
 -- Numbers

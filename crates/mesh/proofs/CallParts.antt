@@ -1,23 +1,19 @@
 -- The calls of a node after a leg or a call comes, changes or goes.
-use Rattle.std.proofs.Common.{◌≡◌, ◌≢◌, ◌≤◌, ◌<◌, ℕ, Bool, true, false, cond, not, nat_eq, List, [], ◌∷◌, refl, sym, ap, subst, ◌∙◌, arith}
+use Rattle.std.proofs.Common.{◌≡◌, ◌≤◌, ◌<◌, ℕ, Bool, true, false, cond, nat_eq, List, refl, sym, ap, subst, ◌∙◌, arith}
 use Rattle.std.specs.Prelude.{Option, Some, None, IsTrue, IfSome}
 use Rattle.ason_base.specs.declared.ids.CallNo.{CallNo}
 use Rattle.ason_base.specs.declared.ids.NodeId.{NodeId}
 use Rattle.ason_base.specs.declared.ids.Lsp.{Lsp}
-use Rattle.ason_base.specs.declared.calls.Phase.{Phase}
 use Rattle.ason_base.specs.declared.calls.Role.{Role}
-use Rattle.ason_base.specs.declared.calls.CallState.{CallState}
-use Rattle.ason_base.specs.declared.calls.CallState.TheVariants.{Asking, Bare, Pairing, Guarded, Turning, Turned, Stuck, Blocked}
 use Rattle.ason_base.specs.declared.tables.CallRec.{CallRec}
 use Rattle.ason_base.specs.declared.tables.Leg.{Leg}
 use Rattle.ason_base.specs.Lsps.{is_lsp, same_lsp}
 use Rattle.mesh.specs.Legs.{find_leg, is_closing}
 use Rattle.mesh.specs.Calls.{find_call}
 use Rattle.mesh.specs.CallRules.{leg_of}
-use Rattle.mesh.specs.CallLaw.{FitsLegs, IsNamed, fits, phase_of}
+use Rattle.mesh.specs.CallLaw.{IsNamed}
 use Rattle.mesh.proofs.NodeFacts.{CallFacts, CallsRise, HasCall}
 use Rattle.mesh.proofs.LegList.{same_lsp-refl, same_lsp-eq}
-use Rattle.mesh.proofs.CallList.{found-number}
 
 pub record CallPart (n : ℕ) (next : ℕ) (legs : List Leg) (calls : List CallRec) : Type 0 where
   pub rise : CallsRise calls

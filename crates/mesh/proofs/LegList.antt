@@ -1,6 +1,6 @@
 -- The legs of a node: which leg is found, and their order, after a leg comes, changes or goes.
 use Rattle.std.proofs.Common.{◌≡◌, ◌<◌, ℕ, Bool, true, false, cond, not, nat_lt, nat_eq, List, [], ◌∷◌, refl, sym, ap, subst, ◌∙◌, arith, inl, inr}
-use Rattle.std.specs.Prelude.{◌⊎◌, ◌||◌, ◌&&◌, Option, Some, None, IsTrue, filter}
+use Rattle.std.specs.Prelude.{◌⊎◌, ◌||◌, ◌&&◌, Some, None, IsTrue, filter}
 use Rattle.std.specs.List.{AllByRecursion}
 use Rattle.ason_base.specs.declared.ids.Lsp.{Lsp}
 use Rattle.ason_base.specs.declared.tables.Leg.{Leg}

@@ -1,6 +1,6 @@
 -- The legs that rules make may stand: they have the facts of a leg, and their label in is free.
-use Rattle.std.proofs.Common.{◌≡◌, ◌<◌, ℕ, Bool, true, false, cond, not, nat_eq, List, [], ◌∷◌, refl, sym, ap, subst, ◌∙◌, arith}
-use Rattle.std.specs.Prelude.{◌||◌, ◌&&◌, filter, Option, Some, None, IsTrue, IfSome, is_some}
+use Rattle.std.proofs.Common.{◌≡◌, ◌<◌, ℕ, Bool, true, false, cond, nat_eq, List, [], ◌∷◌, refl, sym, ap, subst, ◌∙◌, arith}
+use Rattle.std.specs.Prelude.{Option, Some, None, IsTrue, IfSome, is_some}
 use Rattle.ason_base.specs.Labels.{has, meet, least, up_to}
 use Rattle.ason_base.proofs.MaskMembers.{has-filter}
 use Rattle.ason_base.specs.declared.ids.Fibre.{Fibre}
@@ -11,18 +11,17 @@ use Rattle.ason_base.specs.declared.network.LinkSpec.{LinkSpec}
 use Rattle.ason_base.specs.declared.messages.PathRole.{PathRole}
 use Rattle.ason_base.specs.declared.calls.Phase.{Phase}
 use Rattle.ason_base.specs.declared.calls.Phase.TheVariants.{Asked, Held, Armed, Live, Closing, Falling}
-use Rattle.ason_base.specs.declared.calls.Role.{Role}
 use Rattle.ason_base.specs.declared.calls.Role.TheVariants.{Work}
 use Rattle.ason_base.specs.declared.tables.Leg.{Leg}
 use Rattle.mesh.specs.declared.arrivals.Arrival.{Arrival}
 use Rattle.mesh.specs.declared.neighbours.Neighbour.{Neighbour}
 use Rattle.mesh.specs.Sites.{Place, own_link, labels_of, fibre_in}
-use Rattle.mesh.specs.Legs.{is_free, usable, closed, closing_phase, connected, previous, following, neighbour_over}
-use Rattle.mesh.specs.CallRules.{NodeState, first_leg, next_lsp}
+use Rattle.mesh.specs.Legs.{is_free, usable, closed, closing_phase, connected, neighbour_over}
+use Rattle.mesh.specs.CallRules.{first_leg}
 use Rattle.mesh.specs.MessageRules.{egress_leg, transit_leg, label_back, only, offered_labels}
 use Rattle.mesh.proofs.Cases.{both_left, both_right}
 use Rattle.mesh.proofs.NodeFacts.{FitsPhase, LegFacts}
-use Rattle.mesh.proofs.LegParts.{MayStand, Taken}
+use Rattle.mesh.proofs.LegParts.{MayStand}
 
 -- Labels
 

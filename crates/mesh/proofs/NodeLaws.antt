@@ -1,17 +1,15 @@
 -- What the facts of a node say of the places in its lists: each label has one leg, and the state of each call fits its legs.
-use Rattle.std.proofs.Common.{◌≡◌, ◌<◌, ℕ, Bool, true, false, cond, not, nat_eq, List, [], ◌∷◌, refl, sym, ap, subst, ◌∙◌, arith}
-use Rattle.std.specs.Prelude.{◌&&◌, Option, Some, None, IsTrue, IfSome, All}
+use Rattle.std.proofs.Common.{◌≡◌, ◌<◌, ℕ, true, false, not, nat_eq, List, [], ◌∷◌, refl, sym, subst, ◌∙◌, arith}
+use Rattle.std.specs.Prelude.{Some, IsTrue}
 use Rattle.std.specs.List.{AllByRecursion, AllPairs}
 use Rattle.std.proofs.lemmas.List.Elements.{All-from_recursion}
 use Rattle.std.proofs.lemmas.List.Kept.{AllPairs-cons}
-use Rattle.ason_base.specs.declared.ids.CallNo.{CallNo}
 use Rattle.ason_base.specs.declared.ids.Fibre.{Fibre}
 use Rattle.ason_base.specs.declared.ids.Lsp.{Lsp}
 use Rattle.ason_base.specs.declared.tables.CallRec.{CallRec}
 use Rattle.ason_base.specs.declared.tables.Leg.{Leg}
 use Rattle.ason_base.specs.Lsps.{is_lsp, lsp_before, same_lsp}
 use Rattle.mesh.specs.Legs.{find_leg, is_closing, takes}
-use Rattle.mesh.specs.Calls.{find_call}
 use Rattle.mesh.specs.CallRules.{NodeState}
 use Rattle.mesh.specs.LabelLaw.{EveryLabelHasOneLeg, LabelsHaveOneLeg, TakeNoLabelTwice}
 use Rattle.mesh.specs.CallLaw.{CallsFit, EveryCallFitsItsLegs, FitsLegs, IsOfOneCall, wants_call}

@@ -1,7 +1,6 @@
 -- The facts of a node after a rule changed one of its legs.
-use Rattle.std.proofs.Common.{◌≡◌, ℕ, Bool, true, false, cond, nat_eq, List, [], ◌∷◌, refl, sym, ap, subst, ◌∙◌, arith}
-use Rattle.std.specs.Prelude.{Option, Some, None, IsTrue, IfSome}
-use Rattle.ason_base.specs.declared.ids.CallNo.{CallNo}
+use Rattle.std.proofs.Common.{◌≡◌, ℕ, true, false, nat_eq, List, [], ◌∷◌, subst, arith}
+use Rattle.std.specs.Prelude.{Some, None, IfSome}
 use Rattle.ason_base.specs.declared.ids.Lsp.{Lsp}
 use Rattle.ason_base.specs.declared.calls.Phase.{Phase}
 use Rattle.ason_base.specs.declared.calls.Phase.TheVariants.{Asked, Held, Armed, Live, Closing, Falling}
@@ -10,10 +9,8 @@ use Rattle.ason_base.specs.declared.calls.CallState.{CallState}
 use Rattle.ason_base.specs.declared.calls.CallState.TheVariants.{Asking, Bare, Pairing, Guarded, Turning, Turned, Stuck, Blocked}
 use Rattle.ason_base.specs.declared.tables.CallRec.{CallRec}
 use Rattle.ason_base.specs.declared.tables.Leg.{Leg}
-use Rattle.ason_base.specs.Lsps.{is_lsp}
 use Rattle.mesh.specs.declared.changes.LegChange.TheVariants as leg
 use Rattle.mesh.specs.Legs.{find_leg, is_closing, with_leg, without_leg}
-use Rattle.mesh.specs.Calls.{find_call}
 use Rattle.mesh.specs.CallRules.{NodeState, leg_of}
 use Rattle.mesh.specs.MessageRules.{stands}
 use Rattle.mesh.specs.Machine.{changed}

@@ -1,6 +1,6 @@
 -- Orders keep the facts of a node.
-use Rattle.std.proofs.Common.{◌≡◌, ◌<◌, ◌+◌, ℕ, Bool, true, false, cond, not, nat_eq, nat_lt, List, [], ◌∷◌, length, drop, refl, sym, ap, subst, ◌∙◌, arith}
-use Rattle.std.specs.Prelude.{◌&&◌, ◌||◌, nat_le, Option, Some, None, IsTrue, IfSome, is_some}
+use Rattle.std.proofs.Common.{◌≡◌, ◌<◌, ◌+◌, ℕ, Bool, true, false, cond, not, nat_eq, List, length, drop, refl, sym, ap, subst, ◌∙◌, arith}
+use Rattle.std.specs.Prelude.{◌||◌, nat_le, Option, Some, None, is_some}
 use Rattle.ason_base.specs.declared.ids.CallNo.{CallNo}
 use Rattle.ason_base.specs.declared.ids.Lsp.{Lsp}
 use Rattle.ason_base.specs.declared.ids.NodeId.{NodeId}
@@ -26,14 +26,14 @@ use Rattle.mesh.specs.Calls.{find_call, with_call, without_call}
 use Rattle.mesh.specs.Commands.{is_given_backup}
 use Rattle.mesh.specs.CallRules.{NodeState, Wish, call_record, refused_setup, first_leg, next_lsp, begins, is_spent, admitted, first_link, is_followable, over_first, new_call, on_setup, leg_of, given_up, on_release, on_order, on_item}
 use Rattle.mesh.specs.Machine.{changed}
-use Rattle.mesh.specs.CallLaw.{IsNamed, fits, phase_of}
+use Rattle.mesh.specs.CallLaw.{fits, phase_of}
 use Rattle.mesh.proofs.Cases.{if_cases, both_left, both_right, neither_left, neither_right}
 use Rattle.mesh.proofs.NodeFacts.{CallFacts, FitsDesk, LegFacts, NodeFacts}
 use Rattle.mesh.proofs.LegList.{found-lsp, same_lsp-refl, same_lsp-eq, find-with_leg}
 use Rattle.mesh.proofs.LegParts.{part-with_leg}
 use Rattle.mesh.proofs.NewLegs.{closed-stands, first-stands}
 use Rattle.mesh.proofs.CallList.{find-with_call, find-without_call, rise-with_call, rise-without_call}
-use Rattle.mesh.proofs.CallParts.{CallPart, Together, lone-part, lsp-is, together-part}
+use Rattle.mesh.proofs.CallParts.{Together, lone-part, lsp-is, together-part}
 use Rattle.mesh.proofs.CallKeeps.{call-fits}
 use Rattle.mesh.proofs.NodeParts.{leg_part, call_part, node_facts, named}
 use Rattle.mesh.proofs.PathKeeps.{Keeps}

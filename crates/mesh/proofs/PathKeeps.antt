@@ -1,21 +1,18 @@
 -- A Path keeps the facts of a node.
-use Rattle.std.proofs.Common.{◌≡◌, ℕ, Bool, true, false, cond, not, nat_eq, List, [], ◌∷◌, length, refl, sym, arith}
+use Rattle.std.proofs.Common.{◌≡◌, ℕ, true, false, not, nat_eq, List, [], ◌∷◌, length, refl, arith}
 use Rattle.std.specs.Prelude.{◌||◌, ◌&&◌, nat_le, Option, Some, None}
-use Rattle.ason_base.specs.Codes.{full_code, route_code, set_code}
-use Rattle.ason_base.specs.Labels.{has, least}
+use Rattle.ason_base.specs.Labels.{least}
 use Rattle.ason_base.specs.declared.steps.Step.{Step}
 use Rattle.ason_base.specs.declared.network.LinkSpec.{LinkSpec}
-use Rattle.ason_base.specs.declared.codes.ErrCode.{ErrCode}
 use Rattle.ason_base.specs.declared.messages.PathRole.{PathRole}
 use Rattle.ason_base.specs.declared.messages.PathRole.TheVariants.{Work, Back}
-use Rattle.ason_base.specs.declared.messages.Msg.TheVariants.{Path, Resv}
 use Rattle.ason_base.specs.declared.tables.Leg.{Leg}
 use Rattle.mesh.specs.declared.arrivals.Arrival.{Arrival}
-use Rattle.mesh.specs.Changes.{Answer, nothing}
-use Rattle.mesh.specs.Sites.{Place, own_link, leads, other_end}
+use Rattle.mesh.specs.Changes.{Answer}
+use Rattle.mesh.specs.Sites.{Place, own_link, leads}
 use Rattle.mesh.specs.CallRules.{NodeState}
 use Rattle.mesh.specs.Machine.{changed}
-use Rattle.mesh.specs.MessageRules.{refusal, egress_leg, transit_leg, at_egress, set_on, in_transit, over_link, along, offered_labels, with_room, new_path, on_path, to_node}
+use Rattle.mesh.specs.MessageRules.{egress_leg, transit_leg, at_egress, set_on, in_transit, over_link, along, offered_labels, with_room, new_path, on_path}
 use Rattle.mesh.proofs.Cases.{if_cases, both_right, neither_left, not-true}
 use Rattle.mesh.proofs.NodeFacts.{NodeFacts}
 use Rattle.mesh.proofs.NewLegs.{least-has, egress-stands, transit-stands}
