@@ -1,4 +1,4 @@
-use Rattle.mesh.proofs.NodeLaws.{every_call, every_label}
+use Rattle.mesh.proofs.nodes.Laws.{every_call, every_label}
 use Rattle.mesh.proofs.laws.every_run.Goals as goal
 
 pub returns-clause-labels : goal.returns-clause-labels

@@ -13,11 +13,11 @@ use Rattle.mesh.specs.Legs.{find_leg, is_closing, takes}
 use Rattle.mesh.specs.CallRules.{NodeState}
 use Rattle.mesh.specs.LabelLaw.{EveryLabelHasOneLeg, LabelsHaveOneLeg, TakeNoLabelTwice}
 use Rattle.mesh.specs.CallLaw.{CallsFit, EveryCallFitsItsLegs, FitsLegs, IsOfOneCall, wants_call}
-use Rattle.mesh.proofs.Cases.{both_left, both_right, not-true}
-use Rattle.mesh.proofs.NodeFacts.{CallsRise, LegsRise, NodeFacts}
-use Rattle.mesh.proofs.LegList.{all-found, before-apart, found-all, found-lsp, same_lsp-refl}
-use Rattle.mesh.proofs.CallList.{all-calls_found, one-count}
-use Rattle.mesh.proofs.NodeRuns.{facts-hold}
+use Rattle.mesh.proofs.nodes.Cases.{both_left, both_right, not-true}
+use Rattle.mesh.proofs.nodes.Facts.{CallsRise, LegsRise, NodeFacts}
+use Rattle.mesh.proofs.nodes.LegList.{all-found, before-apart, found-all, found-lsp, same_lsp-refl}
+use Rattle.mesh.proofs.nodes.CallList.{all-calls_found, one-count}
+use Rattle.mesh.proofs.nodes.Runs.{facts-hold}
 
 -- Labels
 

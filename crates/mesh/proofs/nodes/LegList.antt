@@ -6,7 +6,7 @@ use Rattle.ason_base.specs.declared.ids.Lsp.{Lsp}
 use Rattle.ason_base.specs.declared.tables.Leg.{Leg}
 use Rattle.ason_base.specs.Lsps.{same_lsp, lsp_before}
 use Rattle.mesh.specs.Legs.{find_leg, with_leg, without_leg}
-use Rattle.mesh.proofs.NodeFacts.{LegsRise}
+use Rattle.mesh.proofs.nodes.Facts.{LegsRise}
 
 -- LSPs
 

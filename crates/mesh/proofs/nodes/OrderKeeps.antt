@@ -27,16 +27,16 @@ use Rattle.mesh.specs.Commands.{is_given_backup}
 use Rattle.mesh.specs.CallRules.{NodeState, Wish, call_record, refused_setup, first_leg, next_lsp, begins, is_spent, admitted, first_link, is_followable, over_first, new_call, on_setup, leg_of, given_up, on_release, on_order, on_item}
 use Rattle.mesh.specs.Machine.{changed}
 use Rattle.mesh.specs.CallLaw.{fits, phase_of}
-use Rattle.mesh.proofs.Cases.{if_cases, both_left, both_right, neither_left, neither_right}
-use Rattle.mesh.proofs.NodeFacts.{CallFacts, FitsDesk, LegFacts, NodeFacts}
-use Rattle.mesh.proofs.LegList.{found-lsp, same_lsp-refl, same_lsp-eq, find-with_leg}
-use Rattle.mesh.proofs.LegParts.{part-with_leg}
-use Rattle.mesh.proofs.NewLegs.{closed-stands, first-stands}
-use Rattle.mesh.proofs.CallList.{find-with_call, find-without_call, rise-with_call, rise-without_call}
-use Rattle.mesh.proofs.CallParts.{Together, lone-part, lsp-is, together-part}
-use Rattle.mesh.proofs.CallKeeps.{call-fits}
-use Rattle.mesh.proofs.NodeParts.{leg_part, call_part, node_facts, named}
-use Rattle.mesh.proofs.PathKeeps.{Keeps}
+use Rattle.mesh.proofs.nodes.Cases.{if_cases, both_left, both_right, neither_left, neither_right}
+use Rattle.mesh.proofs.nodes.Facts.{CallFacts, FitsDesk, LegFacts, NodeFacts}
+use Rattle.mesh.proofs.nodes.LegList.{found-lsp, same_lsp-refl, same_lsp-eq, find-with_leg}
+use Rattle.mesh.proofs.nodes.LegParts.{part-with_leg}
+use Rattle.mesh.proofs.nodes.NewLegs.{closed-stands, first-stands}
+use Rattle.mesh.proofs.nodes.CallList.{find-with_call, find-without_call, rise-with_call, rise-without_call}
+use Rattle.mesh.proofs.nodes.CallParts.{Together, lone-part, lsp-is, together-part}
+use Rattle.mesh.proofs.nodes.CallKeeps.{call-fits}
+use Rattle.mesh.proofs.nodes.Parts.{leg_part, call_part, node_facts, named}
+use Rattle.mesh.proofs.nodes.PathKeeps.{Keeps}
 
 -- Setup
 

@@ -15,10 +15,10 @@ use Rattle.mesh.specs.CallRules.{NodeState, leg_of}
 use Rattle.mesh.specs.MessageRules.{stands}
 use Rattle.mesh.specs.Machine.{changed}
 use Rattle.mesh.specs.CallLaw.{IsNamed, fits, phase_of}
-use Rattle.mesh.proofs.NodeFacts.{CallFacts, NodeFacts}
-use Rattle.mesh.proofs.LegList.{find-with_leg, find-without_leg}
-use Rattle.mesh.proofs.LegParts.{LegPart, MayStand, part-with_leg, part-without_leg}
-use Rattle.mesh.proofs.CallParts.{CallPart, Unnamed, lsp-is, unnamed-part}
+use Rattle.mesh.proofs.nodes.Facts.{CallFacts, NodeFacts}
+use Rattle.mesh.proofs.nodes.LegList.{find-with_leg, find-without_leg}
+use Rattle.mesh.proofs.nodes.LegParts.{LegPart, MayStand, part-with_leg, part-without_leg}
+use Rattle.mesh.proofs.nodes.CallParts.{CallPart, Unnamed, lsp-is, unnamed-part}
 
 pub leg_part : (n : ℕ) (s : NodeState) → NodeFacts n s → LegPart n s.lsp s.legs
 leg_part n s facts = record { rise = facts.legs_rise; leg = facts.leg; one_leg = facts.one_leg }

@@ -12,8 +12,8 @@ use Rattle.mesh.specs.Legs.{find_leg, is_closing}
 use Rattle.mesh.specs.Calls.{find_call}
 use Rattle.mesh.specs.CallRules.{leg_of}
 use Rattle.mesh.specs.CallLaw.{IsNamed}
-use Rattle.mesh.proofs.NodeFacts.{CallFacts, CallsRise, HasCall}
-use Rattle.mesh.proofs.LegList.{same_lsp-refl, same_lsp-eq}
+use Rattle.mesh.proofs.nodes.Facts.{CallFacts, CallsRise, HasCall}
+use Rattle.mesh.proofs.nodes.LegList.{same_lsp-refl, same_lsp-eq}
 
 pub record CallPart (n : ℕ) (next : ℕ) (legs : List Leg) (calls : List CallRec) : Type 0 where
   pub rise : CallsRise calls

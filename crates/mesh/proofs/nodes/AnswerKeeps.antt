@@ -22,13 +22,13 @@ use Rattle.mesh.specs.Legs.{find_leg, is_asked, is_closing, is_work, closed, con
 use Rattle.mesh.specs.Calls.{call_of, is_asking}
 use Rattle.mesh.specs.CallRules.{NodeState}
 use Rattle.mesh.specs.MessageRules.{is_expected, call_stands, label_back, passed_back, answered, on_resv, call_falls, err_passed, removed, on_path_err, torn, on_tear}
-use Rattle.mesh.proofs.Cases.{if_cases, both_left, both_right, not-true}
-use Rattle.mesh.proofs.NodeFacts.{LegFacts, NodeFacts}
-use Rattle.mesh.proofs.LegList.{found-lsp}
-use Rattle.mesh.proofs.NewLegs.{beside, alone, alone_fibre, back-has, closed-stands, connected-stands, ingress-stands}
-use Rattle.mesh.proofs.CallKeeps.{asking_call, must_have_call, keeps-bare, keeps-blocked}
-use Rattle.mesh.proofs.NodeParts.{call_part, unnamed-away, unnamed-torn, keeps-leg, keeps-gone}
-use Rattle.mesh.proofs.PathKeeps.{Keeps}
+use Rattle.mesh.proofs.nodes.Cases.{if_cases, both_left, both_right, not-true}
+use Rattle.mesh.proofs.nodes.Facts.{LegFacts, NodeFacts}
+use Rattle.mesh.proofs.nodes.LegList.{found-lsp}
+use Rattle.mesh.proofs.nodes.NewLegs.{beside, alone, alone_fibre, back-has, closed-stands, connected-stands, ingress-stands}
+use Rattle.mesh.proofs.nodes.CallKeeps.{asking_call, must_have_call, keeps-bare, keeps-blocked}
+use Rattle.mesh.proofs.nodes.Parts.{call_part, unnamed-away, unnamed-torn, keeps-leg, keeps-gone}
+use Rattle.mesh.proofs.nodes.PathKeeps.{Keeps}
 
 -- What a leg's neighbours tell
 

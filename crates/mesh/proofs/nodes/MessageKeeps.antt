@@ -7,9 +7,9 @@ use Rattle.mesh.specs.Legs.{find_leg}
 use Rattle.mesh.specs.Sites.{Place}
 use Rattle.mesh.specs.CallRules.{NodeState}
 use Rattle.mesh.specs.MessageRules.{on_message}
-use Rattle.mesh.proofs.NodeFacts.{NodeFacts}
-use Rattle.mesh.proofs.PathKeeps.{Keeps, keeps-on_path}
-use Rattle.mesh.proofs.AnswerKeeps.{keeps-on_resv, keeps-on_path_err, keeps-on_tear}
+use Rattle.mesh.proofs.nodes.Facts.{NodeFacts}
+use Rattle.mesh.proofs.nodes.PathKeeps.{Keeps, keeps-on_path}
+use Rattle.mesh.proofs.nodes.AnswerKeeps.{keeps-on_resv, keeps-on_path_err, keeps-on_tear}
 
 pub keeps-on_message : (p : Place) (s : NodeState) (u : NodeId) (m : Msg) → NodeFacts p.id.0 s → Keeps p s (on_message p s.legs s.calls u m)
 keeps-on_message p s u (Path l e k route set up r) facts = keeps-on_path p s (record { lsp = l; egress = e; from = u; link = k }) route set r (find_leg l s.legs) facts

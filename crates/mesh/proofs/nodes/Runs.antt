@@ -15,11 +15,11 @@ use Rattle.mesh.specs.CallRules.{NodeState, on_tick}
 use Rattle.mesh.specs.Commands.{is_again, is_valid}
 use Rattle.mesh.specs.Machine.{Mesh, changed, commit, new_node, start, without_first, without_item}
 use Rattle.mesh.specs.Events.{IsRun, after, is_enabled, on_first, on_first_item, posted, step}
-use Rattle.mesh.proofs.Cases.{both_left, if_cases}
-use Rattle.mesh.proofs.NodeFacts.{DeskFits, FitsDesk, MeshFacts, NodeFacts}
-use Rattle.mesh.proofs.PathKeeps.{Keeps}
-use Rattle.mesh.proofs.MessageKeeps.{keeps-on_message}
-use Rattle.mesh.proofs.OrderKeeps.{keeps-on_item}
+use Rattle.mesh.proofs.nodes.Cases.{both_left, if_cases}
+use Rattle.mesh.proofs.nodes.Facts.{DeskFits, FitsDesk, MeshFacts, NodeFacts}
+use Rattle.mesh.proofs.nodes.PathKeeps.{Keeps}
+use Rattle.mesh.proofs.nodes.MessageKeeps.{keeps-on_message}
+use Rattle.mesh.proofs.nodes.OrderKeeps.{keeps-on_item}
 
 new-facts : (n : ℕ) → NodeFacts n new_node
 new-facts n = record {

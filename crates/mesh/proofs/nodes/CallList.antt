@@ -8,8 +8,8 @@ use Rattle.ason_base.specs.declared.ids.Lsp.{Lsp}
 use Rattle.ason_base.specs.declared.tables.CallRec.{CallRec}
 use Rattle.ason_base.specs.Lsps.{is_lsp}
 use Rattle.mesh.specs.Calls.{find_call, call_of, with_call, without_call}
-use Rattle.mesh.proofs.NodeFacts.{CallsRise}
-use Rattle.mesh.proofs.LegList.{all-then, all-filter}
+use Rattle.mesh.proofs.nodes.Facts.{CallsRise}
+use Rattle.mesh.proofs.nodes.LegList.{all-then, all-filter}
 
 -- Numbers
 

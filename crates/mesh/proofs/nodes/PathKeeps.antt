@@ -13,10 +13,10 @@ use Rattle.mesh.specs.Sites.{Place, own_link, leads}
 use Rattle.mesh.specs.CallRules.{NodeState}
 use Rattle.mesh.specs.Machine.{changed}
 use Rattle.mesh.specs.MessageRules.{egress_leg, transit_leg, at_egress, set_on, in_transit, over_link, along, offered_labels, with_room, new_path, on_path}
-use Rattle.mesh.proofs.Cases.{if_cases, both_right, neither_left, not-true}
-use Rattle.mesh.proofs.NodeFacts.{NodeFacts}
-use Rattle.mesh.proofs.NewLegs.{least-has, egress-stands, transit-stands}
-use Rattle.mesh.proofs.NodeParts.{keeps-leg}
+use Rattle.mesh.proofs.nodes.Cases.{if_cases, both_right, neither_left, not-true}
+use Rattle.mesh.proofs.nodes.Facts.{NodeFacts}
+use Rattle.mesh.proofs.nodes.NewLegs.{least-has, egress-stands, transit-stands}
+use Rattle.mesh.proofs.nodes.Parts.{keeps-leg}
 
 -- the answer keeps the facts
 abbrev pub Keeps : Place → NodeState → Answer → Type 0

@@ -18,12 +18,12 @@ use Rattle.mesh.specs.Calls.{find_call, call_of, bare, blocked, with_call}
 use Rattle.mesh.specs.CallRules.{NodeState, leg_of}
 use Rattle.mesh.specs.Machine.{changed}
 use Rattle.mesh.specs.CallLaw.{IsNamed, fits, phase_of}
-use Rattle.mesh.proofs.NodeFacts.{CallFacts, NodeFacts}
-use Rattle.mesh.proofs.LegList.{same_lsp-refl, find-with_leg, find-without_leg}
-use Rattle.mesh.proofs.LegParts.{MayStand, part-with_leg, part-without_leg}
-use Rattle.mesh.proofs.CallList.{called-found, called-work, not_called, find-with_call, rise-with_call}
-use Rattle.mesh.proofs.CallParts.{Together, lsp-is, together-part}
-use Rattle.mesh.proofs.NodeParts.{leg_part, call_part, node_facts, named, state-fits}
+use Rattle.mesh.proofs.nodes.Facts.{CallFacts, NodeFacts}
+use Rattle.mesh.proofs.nodes.LegList.{same_lsp-refl, find-with_leg, find-without_leg}
+use Rattle.mesh.proofs.nodes.LegParts.{MayStand, part-with_leg, part-without_leg}
+use Rattle.mesh.proofs.nodes.CallList.{called-found, called-work, not_called, find-with_call, rise-with_call}
+use Rattle.mesh.proofs.nodes.CallParts.{Together, lsp-is, together-part}
+use Rattle.mesh.proofs.nodes.Parts.{leg_part, call_part, node_facts, named, state-fits}
 
 -- The call of a leg that was asked for
 

@@ -19,9 +19,9 @@ use Rattle.mesh.specs.Sites.{Place, own_link, labels_of, fibre_in}
 use Rattle.mesh.specs.Legs.{is_free, usable, closed, closing_phase, connected, neighbour_over}
 use Rattle.mesh.specs.CallRules.{first_leg}
 use Rattle.mesh.specs.MessageRules.{egress_leg, transit_leg, label_back, only, offered_labels}
-use Rattle.mesh.proofs.Cases.{both_left, both_right}
-use Rattle.mesh.proofs.NodeFacts.{FitsPhase, LegFacts}
-use Rattle.mesh.proofs.LegParts.{MayStand}
+use Rattle.mesh.proofs.nodes.Cases.{both_left, both_right}
+use Rattle.mesh.proofs.nodes.Facts.{FitsPhase, LegFacts}
+use Rattle.mesh.proofs.nodes.LegParts.{MayStand}
 
 -- Labels
 
