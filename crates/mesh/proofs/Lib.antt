@@ -6,3 +6,4 @@ pub mod SeatPlaces
 pub mod SiteLemmas
 pub mod Steps
 pub mod hops
+pub mod nodes

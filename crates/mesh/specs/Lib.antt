@@ -1,3 +1,4 @@
+pub mod CallLaw
 pub mod CallRules
 pub mod Calls
 pub mod Changes
@@ -6,6 +7,7 @@ pub mod Events
 pub mod HopLaw
 pub mod HopShapes
 pub mod Kept
+pub mod LabelLaw
 pub mod Legs
 pub mod Machine
 pub mod MessageRules

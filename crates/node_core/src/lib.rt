@@ -3,6 +3,8 @@
 
 pub mod inputs;
 pub mod node;
+#[cfg(test)]
+mod tests;
 
 pub use inputs::Input;
 pub use node::Node;

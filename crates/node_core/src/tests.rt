@@ -1,0 +1,3 @@
+//! Nodes over messages that are carried by hand.
+
+mod closing;
