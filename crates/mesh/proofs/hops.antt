@@ -22,3 +22,5 @@ pub mod Released
 pub mod Begun
 pub mod Run
 pub mod Law
+pub mod Laws
+pub mod Safe

@@ -1,5 +1,6 @@
 -- What holds of each LSP, and of each hop of its route, in every state of every run.
 use Rattle.std.specs.Prelude.{◌≡◌, ◌≢◌, ◌<◌, ℕ, ◌⊎◌, List, [], ◌∷◌, map, filter, length, slice_get, Option, Some, None, IsTrue}
+use Rattle.std.specs.List.{Contains}
 use Rattle.ason_base.specs.declared.ids.NodeId.{NodeId}
 use Rattle.ason_base.specs.declared.ids.Lsp.{Lsp}
 use Rattle.ason_base.specs.declared.steps.Step.{Step}
@@ -98,6 +99,10 @@ abbrev pub LspFits : Network → Mesh → Lsp → Option (List Step) → Type 0
 LspFits t s l None = IsBlank s l
 LspFits t s l (Some route) = (e : NodeId) × RouteFits t s l route e
 
+-- a node has at most one leg of an LSP: each of its legs is the one that is found
+abbrev pub HasOneLegEach : Mesh → Type 0
+HasOneLegEach s = (n : NodeId) (g : Leg) → Contains (s.nodes n.0).legs g → leg_at s g.lsp n ≡ Some g
+
 -- each hop of each LSP has a shape of the table, and what was never sent from its ingress is nowhere
 abbrev pub EveryHopHasAShape : Type 0
-EveryHopHasAShape = (t : Network) (events : List MeshEvent) → IsRun t start events → (l : Lsp) → LspFits t (after t start events) l (route_of t start events l)
+EveryHopHasAShape = (t : Network) (events : List MeshEvent) → IsRun t start events → HasOneLegEach (after t start events) × ((l : Lsp) → LspFits t (after t start events) l (route_of t start events l))

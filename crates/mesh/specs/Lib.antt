@@ -12,4 +12,5 @@ pub mod Legs
 pub mod Machine
 pub mod MessageRules
 pub mod Rows
+pub mod SafeLaw
 pub mod Sites
