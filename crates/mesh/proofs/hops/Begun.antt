@@ -1,10 +1,9 @@
 -- An LSP is begun at its ingress.
-use Rattle.std.proofs.Common.{◌≡◌, ◌≢◌, ◌<◌, ◌≤◌, ◌+◌, ℕ, zero, suc, Bool, true, false, cond, not, nat_eq, nat_lt, List, [], ◌∷◌, length, drop, refl, sym, ap, ◌∙◌, subst, arith, inl, inr}
+use Rattle.std.proofs.Common.{◌≡◌, ◌≢◌, ◌<◌, ◌≤◌, ℕ, suc, Bool, true, false, cond, not, nat_eq, nat_lt, List, [], ◌∷◌, length, refl, sym, ap, ◌∙◌, subst, arith, inl, inr}
 use Rattle.std.specs.Prelude.{◌⊎◌, ◌&&◌, ◌||◌, nat_le, Option, Some, None}
 use Rattle.ason_base.specs.Labels.{up_to}
 use Rattle.ason_base.specs.Network.{Network}
 use Rattle.ason_base.specs.Lsps.{same_lsp}
-use Rattle.ason_base.specs.declared.ids.CallNo.{CallNo}
 use Rattle.ason_base.specs.declared.ids.LinkId.{LinkId}
 use Rattle.ason_base.specs.declared.ids.Lsp.{Lsp}
 use Rattle.ason_base.specs.declared.ids.NodeId.{NodeId}
@@ -20,19 +19,17 @@ use Rattle.ason_base.specs.declared.tables.CallRec.{CallRec}
 use Rattle.ason_base.specs.declared.tables.Leg.{Leg}
 use Rattle.ason_base.specs.declared.tables.Out.{Out}
 use Rattle.mesh.specs.Changes.{Answer, nothing}
-use Rattle.mesh.specs.Sites.{Place, site_of, own_link, other_end, fibre_out}
-use Rattle.mesh.specs.MessageRules.{to_node}
-use Rattle.mesh.specs.CallRules.{NodeState, Wish, refused_setup, first_leg, next_lsp, begins, is_spent, admitted, first_link, is_followable, over_first, new_call, on_setup}
+use Rattle.mesh.specs.Sites.{site_of, own_link, other_end, fibre_out}
+use Rattle.mesh.specs.CallRules.{Wish, refused_setup, first_leg, next_lsp, begins, is_spent, admitted, is_followable, over_first, new_call, on_setup}
 use Rattle.mesh.specs.Commands.{makes_route}
 use Rattle.mesh.specs.Machine.{Mesh, changed, commit}
 use Rattle.mesh.specs.Events.{first_route, or_route}
-use Rattle.mesh.specs.HopLaw.{lsp_of, leg_at, mail_between, IsBlank}
-use Rattle.mesh.proofs.SiteLemmas.{and_first}
-use Rattle.mesh.proofs.hops.Plans.{Plan, hops, plan, node_at, link_at, fibre_at, IsRoute, Leads, route_made, distinct, same, same_node, lt_true, own_near, fibre_out_is}
+use Rattle.mesh.specs.HopLaw.{leg_at, mail_between, IsBlank}
+use Rattle.mesh.proofs.hops.Plans.{Plan, hops, plan, node_at, fibre_at, IsRoute, Leads, route_made, distinct, same, same_node, lt_true, own_near, fibre_out_is}
 use Rattle.mesh.proofs.hops.Labels.{if_cases}
-use Rattle.mesh.proofs.hops.Tables.{leg_after, same_lsp-refl, same_lsp-eq}
+use Rattle.mesh.proofs.hops.Tables.{same_lsp-refl, same_lsp-eq}
 use Rattle.mesh.proofs.hops.Views.{leg-here, leg-there, mail-from, mail-else}
-use Rattle.mesh.proofs.hops.Chain.{LegFits, Fits, DownFits, Hop, OnRoute, IsPlace, IsVacant, starts_with_path, Chain, is_or_not, at_or_else}
+use Rattle.mesh.proofs.hops.Chain.{LegFits, Fits, DownFits, Hop, OnRoute, IsPlace, Chain, is_or_not, at_or_else}
 use Rattle.mesh.proofs.hops.Sending.{sent_by, sent-first, sent-past}
 use Rattle.mesh.proofs.hops.Nearer.{hop_idle, hop_asks}
 use Rattle.mesh.proofs.hops.Own.{IsOf, leg-other, mail-other}

@@ -1,6 +1,6 @@
 -- A PathErr is taken at a node of its route.
-use Rattle.std.proofs.Common.{◌≡◌, ◌<◌, ℕ, zero, suc, Bool, true, false, cond, not, nat_eq, List, [], ◌∷◌, ◌++◌, refl, sym, ap, ◌∙◌, subst, arith, inl, inr, append-nil}
-use Rattle.std.specs.Prelude.{◌⊎◌, ◌&&◌, map, Option, Some, None}
+use Rattle.std.proofs.Common.{◌≡◌, ◌<◌, ℕ, suc, Bool, true, false, List, [], ◌∷◌, ◌++◌, refl, subst, arith, inl, inr}
+use Rattle.std.specs.Prelude.{◌⊎◌, Option, Some, None}
 use Rattle.ason_base.specs.Network.{Network}
 use Rattle.ason_base.specs.declared.codes.ErrCode.{ErrCode}
 use Rattle.ason_base.specs.declared.ids.Lsp.{Lsp}
@@ -12,17 +12,17 @@ use Rattle.ason_base.specs.declared.tables.Leg.{Leg}
 use Rattle.ason_base.specs.declared.tables.CallRec.{CallRec}
 use Rattle.mesh.specs.declared.changes.CallChange.{CallChange}
 use Rattle.mesh.specs.declared.changes.LegChange.TheVariants as leg
-use Rattle.mesh.specs.Changes.{Answer, nothing}
-use Rattle.mesh.specs.Legs.{find_leg, is_asked, is_closing, previous, following, is_node}
+use Rattle.mesh.specs.Changes.{Answer}
+use Rattle.mesh.specs.Legs.{previous}
 use Rattle.mesh.specs.Calls.{call_of}
 use Rattle.mesh.specs.MessageRules.{call_falls, err_passed, removed, on_path_err, to_node}
 use Rattle.mesh.specs.Machine.{Mesh}
-use Rattle.mesh.specs.HopShapes.{msg_kind, leg_kind, NoLeg, IsAsked, IsTorn}
-use Rattle.mesh.specs.HopLaw.{lsp_of, messages_of, leg_at, mail_between}
+use Rattle.mesh.specs.HopShapes.{leg_kind, IsAsked, IsTorn}
+use Rattle.mesh.specs.HopLaw.{messages_of, leg_at, mail_between}
 use Rattle.mesh.proofs.hops.Plans.{Plan, hops, node_at, IsRoute, same}
 use Rattle.mesh.proofs.hops.Kinds.{no_contention_up, no_removal_gone, no_removal_live}
-use Rattle.mesh.proofs.hops.Tables.{leg_after, same_lsp-refl}
-use Rattle.mesh.proofs.hops.Chain.{LegFits, Fits, Hop, Chain, out_label_of}
+use Rattle.mesh.proofs.hops.Tables.{same_lsp-refl}
+use Rattle.mesh.proofs.hops.Chain.{LegFits, Hop, Chain}
 use Rattle.mesh.proofs.hops.Changed.{Sends}
 use Rattle.mesh.proofs.hops.Sending.{sent_by, sends_none, sends_back}
 use Rattle.mesh.proofs.hops.Sentences.{asked_bare}

@@ -1,5 +1,5 @@
 -- What a hop is after a step at its farther node.
-use Rattle.std.proofs.Common.{◌≡◌, ℕ, Bool, true, false, List, [], ◌∷◌, ◌++◌, refl, inl, inr, append-nil}
+use Rattle.std.proofs.Common.{◌≡◌, ℕ, Bool, true, List, [], ◌∷◌, ◌++◌, refl, inl, inr, append-nil}
 use Rattle.std.specs.Prelude.{◌⊎◌, map, Option, Some, None}
 use Rattle.std.proofs.lemmas.List.{map-append}
 use Rattle.ason_base.specs.Labels.{has}
@@ -15,10 +15,10 @@ use Rattle.ason_base.specs.declared.messages.PathRole.TheVariants.{Work}
 use Rattle.ason_base.specs.declared.messages.Msg.{Msg}
 use Rattle.ason_base.specs.declared.messages.Msg.TheVariants.{Path, Resv, PathTear, PathErr}
 use Rattle.ason_base.specs.declared.tables.Leg.{Leg}
-use Rattle.mesh.specs.HopShapes.{LegKind, NoLeg, IsAsked, IsLive, IsTorn, MsgKind, PlainPath, Tear, Label, Removal, Shape, leg_kind, phase_kind, msg_kind}
+use Rattle.mesh.specs.HopShapes.{NoLeg, IsAsked, IsLive, IsTorn, Tear, Label, Shape, leg_kind, phase_kind, msg_kind}
 use Rattle.mesh.proofs.hops.Kinds.{PathTaken, path_taken, TearTaken, tear_asked, tear_live, tear_late, AskedAnswers, asked_answers, torn_leaves}
 use Rattle.mesh.proofs.hops.Plans.{Plan, link_at}
-use Rattle.mesh.proofs.hops.Chain.{Each, each-append, UpFits, AnswerFits, OfferSent, SentOn, LabelsMeet, out_label_of, starts_with_path, Hop}
+use Rattle.mesh.proofs.hops.Chain.{each-append, UpFits, out_label_of, Hop}
 use Rattle.mesh.proofs.hops.Sentences.{no_kinds, meets_none, answers_idle, offer_idle, offer_path, sent_path, sent_offer}
 
 module _ (p : Plan) (i : ℕ) (u : Option Leg) (asked_bare : leg_kind u ≡ IsAsked → out_label_of u ≡ None) where

@@ -1,9 +1,8 @@
 -- How the shapes of a hop follow each other: what a message that is taken leaves, on the hop that it came by and on the next one.
 use Rattle.std.proofs.Common.{◌≡◌, List, [], ◌∷◌, ◌++◌, refl, inl, inr}
 use Rattle.std.specs.Prelude.{◌⊎◌}
-use Rattle.ason_base.specs.declared.calls.Role.{Role}
 use Rattle.ason_base.specs.declared.calls.Role.TheVariants.{Work}
-use Rattle.mesh.specs.HopShapes.{LegKind, NoLeg, IsAsked, IsHeld, IsArmed, IsLive, IsTorn, MsgKind, PlainPath, ActivePath, Tear, Label, Removal, Contention, Report, Shape, Idle, Asking, Passed, Refused, RefusedLate, Answered, Connected, TornAsking, TornPassed, TornRefused, TornRefusedLate, TornAnswered, TornConnected, LetGo, LetGoAnswered, LetGoAhead, LetGoAheadAnswered, Left, LeftAhead, Ahead}
+use Rattle.mesh.specs.HopShapes.{LegKind, NoLeg, IsAsked, IsLive, IsTorn, MsgKind, PlainPath, ActivePath, Tear, Label, Removal, Contention, Report, Shape, Idle, Asking, Passed, Refused, RefusedLate, Answered, Connected, TornAsking, TornPassed, TornRefused, TornRefusedLate, TornAnswered, TornConnected, LetGo, LetGoAnswered, LetGoAhead, LetGoAheadAnswered, Left, LeftAhead, Ahead}
 
 -- The first Path is taken: no leg is there and nothing comes up. The leg may then be Asked, or Live with a Resv, or none stands.
 pub record PathTaken (u d : LegKind) (down up : List MsgKind) : Type 0 where

@@ -1,6 +1,6 @@
 -- Which labels are in the sets that a rule makes, and case splits.
-use Rattle.std.proofs.Common.{◌≡◌, ℕ, Bool, true, false, cond, nat_eq, List, [], ◌∷◌, refl, ap, arith}
-use Rattle.std.specs.Prelude.{◌&&◌, ◌||◌, Option, Some, None}
+use Rattle.std.proofs.Common.{◌≡◌, ℕ, Bool, true, false, cond, nat_eq, List, [], ◌∷◌, refl, arith}
+use Rattle.std.specs.Prelude.{Some}
 use Rattle.ason_base.specs.Labels.{has, meet, least}
 use Rattle.ason_base.proofs.MaskMembers.{has-filter}
 use Rattle.mesh.specs.Sites.{Place}

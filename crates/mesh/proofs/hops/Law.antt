@@ -1,5 +1,5 @@
 -- From what is carried along a run to what is said of each hop.
-use Rattle.std.proofs.Common.{◌≡◌, ◌≢◌, ◌<◌, ◌≤◌, ℕ, zero, suc, Bool, true, false, List, [], ◌∷◌, length, refl, sym, ap, ◌∙◌, subst, arith, inl, inr}
+use Rattle.std.proofs.Common.{◌≡◌, ◌<◌, ◌≤◌, ℕ, zero, suc, true, List, [], ◌∷◌, length, refl, sym, ap, ◌∙◌, subst, arith, inl, inr}
 use Rattle.std.specs.Prelude.{◌⊎◌, slice_get, Option, Some, None}
 use Rattle.std.proofs.lemmas.Option.{slice_get_within, slice_get_past}
 use Rattle.ason_base.specs.Labels.{has}
@@ -7,19 +7,17 @@ use Rattle.ason_base.specs.Network.{Network, find_link}
 use Rattle.ason_base.specs.declared.ids.Lsp.{Lsp}
 use Rattle.ason_base.specs.declared.ids.NodeId.{NodeId}
 use Rattle.ason_base.specs.declared.steps.Step.{Step}
-use Rattle.ason_base.specs.declared.network.LinkSpec.{LinkSpec}
 use Rattle.ason_base.specs.declared.calls.Phase.{Phase}
 use Rattle.ason_base.specs.declared.calls.Phase.TheVariants.{Asked, Held, Armed, Live, Closing, Falling}
-use Rattle.ason_base.specs.declared.calls.Role.TheVariants as role
 use Rattle.ason_base.specs.declared.messages.Msg.{Msg}
 use Rattle.ason_base.specs.declared.messages.Msg.TheVariants.{Path, Resv, PathTear, PathErr, Notify}
 use Rattle.ason_base.specs.declared.tables.Leg.{Leg}
-use Rattle.mesh.specs.Sites.{other_end, fibre_in, fibre_out}
+use Rattle.mesh.specs.Sites.{other_end}
 use Rattle.mesh.specs.Legs.{is_beyond_asked}
 use Rattle.mesh.specs.Machine.{Mesh}
 use Rattle.mesh.specs.HopShapes.{IsLive, leg_kind, phase_kind}
 use Rattle.mesh.specs.HopLaw.{leg_at, mail_between, EachLabel, HopFits, StepFits, IsHop, RouteFits, LspFits}
-use Rattle.mesh.proofs.hops.Plans.{Plan, hops, plan, node_at, link_at, fibre_at, IsRoute, distinct, same_node, lt_true, joined, fibre_in_is, fibre_out_is}
+use Rattle.mesh.proofs.hops.Plans.{Plan, hops, plan, node_at, link_at, IsRoute, distinct, same_node, lt_true, joined, fibre_in_is, fibre_out_is}
 use Rattle.mesh.proofs.hops.Chain.{LegFits, PhaseFits, Each, AnswerFits, LabelsMeet, IsPlace, OnRoute, Chain, below_or_not}
 use Rattle.mesh.proofs.hops.Traced.{Planned, Follows}
 

@@ -1,19 +1,15 @@
 -- Every hop of every LSP has a shape, in every state of every run.
-use Rattle.std.proofs.Common.{◌≡◌, ℕ, Bool, true, false, List, [], ◌∷◌, refl, sym, subst, inl, inr}
-use Rattle.std.specs.Prelude.{◌⊎◌, Option, Some, None, IfSome}
-use Rattle.std.specs.List.{Contains, AllByRecursion}
+use Rattle.std.proofs.Common.{◌≡◌, ℕ, true, false, List, ◌∷◌, refl, sym, subst}
+use Rattle.std.specs.Prelude.{Option, Some, None, IfSome}
+use Rattle.std.specs.List.{Contains}
 use Rattle.std.proofs.lemmas.List.Elements.{All-contains, All-from_recursion}
 use Rattle.ason_base.specs.Network.{Network}
-use Rattle.ason_base.specs.declared.ids.CallNo.{CallNo}
 use Rattle.ason_base.specs.declared.ids.Lsp.{Lsp}
-use Rattle.ason_base.specs.declared.ids.NodeId.{NodeId}
-use Rattle.ason_base.specs.declared.steps.Step.{Step}
 use Rattle.ason_base.specs.declared.calls.CallState.{CallState}
 use Rattle.ason_base.specs.declared.calls.CallState.TheVariants.{Asking, Bare, Pairing, Guarded, Turning, Turned, Stuck, Blocked}
 use Rattle.ason_base.specs.declared.calls.Phase.{Phase}
 use Rattle.ason_base.specs.declared.calls.Phase.TheVariants.{Asked, Held, Armed, Live, Closing, Falling}
 use Rattle.ason_base.specs.declared.calls.Role.TheVariants.{Work}
-use Rattle.ason_base.specs.declared.commands.Command.{Command}
 use Rattle.ason_base.specs.declared.commands.Command.TheVariants.{Setup, Release, Protect, Retry, Revert, Fail, Repair}
 use Rattle.ason_base.specs.declared.commands.DeskItem.{DeskItem}
 use Rattle.ason_base.specs.declared.commands.DeskItem.TheVariants.{Order, Alarm, Clear}
@@ -21,12 +17,11 @@ use Rattle.ason_base.specs.declared.tables.CallRec.{CallRec}
 use Rattle.ason_base.specs.declared.tables.Leg.{Leg}
 use Rattle.mesh.specs.declared.events.MeshEvent.{MeshEvent}
 use Rattle.mesh.specs.Legs.{find_leg, is_closing}
-use Rattle.mesh.specs.Calls.{find_call}
 use Rattle.mesh.specs.CallRules.{NodeState, leg_of}
 use Rattle.mesh.specs.Machine.{Mesh, start}
 use Rattle.mesh.specs.Events.{IsRun, after, route_of}
 use Rattle.mesh.specs.CallLaw.{fits, phase_of, IsNamed}
-use Rattle.mesh.specs.HopLaw.{leg_at, HasOneLegEach, EveryHopHasAShape}
+use Rattle.mesh.specs.HopLaw.{HasOneLegEach, EveryHopHasAShape}
 use Rattle.mesh.proofs.nodes.Facts.{CallFacts, DeskFits, FitsDesk, LegsRise, MeshFacts}
 use Rattle.mesh.proofs.nodes.LegList.{all-found, found-lsp}
 use Rattle.mesh.proofs.nodes.Runs.{facts-start, facts-step, facts-hold}

@@ -1,5 +1,5 @@
 -- A leg of a route that closes or is connected, and its neighbours.
-use Rattle.std.proofs.Common.{◌≡◌, ◌<◌, ◌≤◌, ℕ, zero, suc, Bool, true, false, refl, inl, inr, arith}
+use Rattle.std.proofs.Common.{◌≡◌, ◌<◌, ◌≤◌, ℕ, zero, suc, false, refl, inl, inr}
 use Rattle.std.specs.Prelude.{◌⊎◌, Option, Some, None}
 use Rattle.ason_base.specs.Network.{Network}
 use Rattle.ason_base.specs.declared.ids.Lsp.{Lsp}
@@ -7,7 +7,6 @@ use Rattle.ason_base.specs.declared.calls.Phase.{Phase}
 use Rattle.ason_base.specs.declared.calls.Phase.TheVariants.{Asked, Held, Armed, Live, Closing, Falling}
 use Rattle.ason_base.specs.declared.tables.Leg.{Leg}
 use Rattle.mesh.specs.Legs.{closed, connected, previous, following, is_closing}
-use Rattle.mesh.specs.HopShapes.{IsAsked, IsTorn, phase_kind}
 use Rattle.mesh.proofs.hops.Plans.{Plan, hops, node_at, fibre_at, lt_true, lt_false}
 use Rattle.mesh.proofs.hops.Chain.{LegFits, LiveIn, PhaseFits}
 use Rattle.mesh.proofs.hops.Sentences.{closing_work}

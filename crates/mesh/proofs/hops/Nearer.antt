@@ -7,7 +7,6 @@ use Rattle.ason_base.specs.declared.ids.Lsp.{Lsp}
 use Rattle.ason_base.specs.declared.ids.NodeId.{NodeId}
 use Rattle.ason_base.specs.declared.ids.LinkId.{LinkId}
 use Rattle.ason_base.specs.declared.steps.Step.{Step}
-use Rattle.ason_base.specs.declared.calls.Phase.{Phase}
 use Rattle.ason_base.specs.declared.calls.Phase.TheVariants.{Asked, Live}
 use Rattle.ason_base.specs.declared.calls.Role.TheVariants as role
 use Rattle.ason_base.specs.declared.messages.PathRole.TheVariants.{Work}
@@ -15,10 +14,10 @@ use Rattle.ason_base.specs.declared.messages.Msg.{Msg}
 use Rattle.ason_base.specs.declared.messages.Msg.TheVariants.{Path, Resv, PathTear, PathErr}
 use Rattle.ason_base.specs.declared.tables.Leg.{Leg}
 use Rattle.mesh.specs.Legs.{closed, connected}
-use Rattle.mesh.specs.HopShapes.{LegKind, NoLeg, IsAsked, IsLive, IsTorn, MsgKind, PlainPath, Tear, Label, Removal, Shape, Idle, Asking, leg_kind, phase_kind, msg_kind}
+use Rattle.mesh.specs.HopShapes.{NoLeg, IsAsked, IsLive, IsTorn, Tear, Shape, Idle, Asking, leg_kind, msg_kind}
 use Rattle.mesh.proofs.hops.Kinds.{ResvTaken, resv_asked, resv_torn, removal_asked, removal_torn, closes_asked, LiveCloses, closes_live}
 use Rattle.mesh.proofs.hops.Plans.{Plan, link_at}
-use Rattle.mesh.proofs.hops.Chain.{Each, each-append, each-map, DownFits, UpFits, AnswerFits, OfferSent, SetSent, LabelsMeet, out_label_of, in_label_of, starts_with_path, Hop}
+use Rattle.mesh.proofs.hops.Chain.{each-append, each-map, DownFits, AnswerFits, SetSent, LabelsMeet, in_label_of, starts_with_path, Hop}
 use Rattle.mesh.proofs.hops.Sentences.{no_kinds, meets_some, answer_gone, answer_same, offer_idle, set_none, closed_torn}
 
 -- nothing is there

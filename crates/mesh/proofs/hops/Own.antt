@@ -1,5 +1,5 @@
 -- What a message's rule changes and sends is of the message's LSP, and its node begins no LSP by it.
-use Rattle.std.proofs.Common.{◌≡◌, ◌<◌, ℕ, Bool, true, false, cond, not, nat_eq, List, [], ◌∷◌, ◌++◌, length, refl, sym, ap, ◌∙◌, arith, append-nil}
+use Rattle.std.proofs.Common.{◌≡◌, ℕ, Bool, true, false, cond, not, nat_eq, List, [], ◌∷◌, ◌++◌, length, refl, ◌∙◌, arith, append-nil}
 use Rattle.std.specs.Prelude.{◌&&◌, ◌||◌, nat_le, filter, map, Option, Some, None}
 use Rattle.std.proofs.lemmas.List.Elements.{filter-append}
 use Rattle.ason_base.specs.Codes.{full_code, route_code, set_code, torn_code}
@@ -24,14 +24,14 @@ use Rattle.mesh.specs.declared.neighbours.Neighbour.{Neighbour}
 use Rattle.mesh.specs.Changes.{Answer, nothing}
 use Rattle.mesh.specs.Sites.{Place, own_link, leads}
 use Rattle.mesh.specs.Legs.{find_leg, is_asked, is_closing, previous, following, is_node, is_over, usable}
-use Rattle.mesh.specs.MessageRules.{refusal, at_egress, in_transit, over_link, along, offered_labels, with_room, new_path, on_path, is_expected, label_back, passed_back, answered, on_resv, err_passed, removed, on_path_err, torn, on_tear, on_message, to_node}
+use Rattle.mesh.specs.MessageRules.{refusal, at_egress, in_transit, over_link, along, offered_labels, new_path, on_path, is_expected, label_back, passed_back, answered, on_resv, err_passed, removed, on_path_err, torn, on_tear, on_message, to_node}
 use Rattle.mesh.specs.Machine.{Mesh, commit, sent_to}
 use Rattle.mesh.specs.Events.{whole_route, first_route}
 use Rattle.mesh.specs.HopLaw.{lsp_of, messages_of, leg_at, mail_between}
 use Rattle.mesh.proofs.SiteLemmas.{and_second}
 use Rattle.mesh.proofs.hops.Labels.{if_cases}
 use Rattle.mesh.proofs.hops.Tables.{leg_after, same_lsp-eq, found_lsp}
-use Rattle.mesh.proofs.hops.Views.{leg-here, leg-there}
+use Rattle.mesh.proofs.hops.Views.{leg-here}
 use Rattle.mesh.proofs.hops.Sending.{sent_by}
 
 abbrev pub AllLegs : Lsp → List LegChange → Type 0

@@ -1,36 +1,31 @@
 -- A first Path is taken at a node of its route.
-use Rattle.std.proofs.Common.{◌≡◌, ◌≢◌, ◌<◌, ◌≤◌, ℕ, zero, suc, Bool, true, false, cond, not, nat_eq, nat_lt, List, [], ◌∷◌, ◌++◌, length, drop, refl, sym, ap, ◌∙◌, subst, arith, inl, inr, append-nil}
-use Rattle.std.specs.Prelude.{◌⊎◌, ◌&&◌, ◌||◌, nat_le, map, slice_get, Option, Some, None}
+use Rattle.std.proofs.Common.{◌≡◌, ◌≢◌, ◌<◌, ◌≤◌, ℕ, zero, suc, Bool, true, false, not, nat_eq, nat_lt, List, [], ◌∷◌, length, drop, refl, sym, ap, ◌∙◌, subst, arith, inl, inr, append-nil}
+use Rattle.std.specs.Prelude.{◌⊎◌, ◌||◌, nat_le, map, slice_get, Option, Some, None}
 use Rattle.ason_base.specs.Codes.{full_code, route_code, set_code}
-use Rattle.ason_base.specs.Labels.{has, meet, least}
+use Rattle.ason_base.specs.Labels.{has, least}
 use Rattle.ason_base.specs.Network.{Network}
 use Rattle.ason_base.specs.declared.codes.ErrCode.{ErrCode}
 use Rattle.ason_base.specs.declared.ids.Lsp.{Lsp}
 use Rattle.ason_base.specs.declared.ids.NodeId.{NodeId}
 use Rattle.ason_base.specs.declared.ids.LinkId.{LinkId}
 use Rattle.ason_base.specs.declared.steps.Step.{Step}
-use Rattle.ason_base.specs.declared.network.LinkSpec.{LinkSpec}
-use Rattle.ason_base.specs.declared.calls.Phase.TheVariants.{Asked, Live}
 use Rattle.ason_base.specs.declared.messages.PathRole.{PathRole}
 use Rattle.ason_base.specs.declared.messages.PathRole.TheVariants.{Work, Back}
 use Rattle.ason_base.specs.declared.messages.Msg.{Msg}
 use Rattle.ason_base.specs.declared.messages.Msg.TheVariants.{Path, Resv, PathTear, PathErr, Notify}
-use Rattle.ason_base.specs.declared.tables.Leg.{Leg}
 use Rattle.mesh.specs.declared.arrivals.Arrival.{Arrival}
-use Rattle.mesh.specs.Changes.{Answer, nothing}
-use Rattle.mesh.specs.Sites.{Place, site_of, own_link, leads, other_end, fibre_in, fibre_out}
-use Rattle.mesh.specs.Legs.{find_leg, usable}
-use Rattle.mesh.specs.MessageRules.{refusal, egress_leg, transit_leg, at_egress, in_transit, over_link, along, set_on, offered_labels, with_room, new_path, on_message, to_node}
+use Rattle.mesh.specs.Changes.{Answer}
+use Rattle.mesh.specs.Sites.{site_of, own_link, fibre_in}
+use Rattle.mesh.specs.MessageRules.{refusal, egress_leg, transit_leg, at_egress, in_transit, over_link, along, set_on, offered_labels, on_message}
 use Rattle.mesh.specs.Machine.{Mesh}
 use Rattle.mesh.specs.HopShapes.{MsgKind, Tear, msg_kind, path_kind, leg_kind, IsAsked}
-use Rattle.mesh.specs.HopLaw.{lsp_of, messages_of, leg_at, mail_between}
-use Rattle.mesh.proofs.hops.Plans.{Plan, hops, node_at, link_at, fibre_at, IsRoute, Leads, distinct, same, other, lt_true, lt_false, joined, own_near, own_far, fibre_in_is, fibre_out_is}
+use Rattle.mesh.specs.HopLaw.{messages_of, leg_at, mail_between}
+use Rattle.mesh.proofs.hops.Plans.{Plan, hops, node_at, link_at, fibre_at, IsRoute, Leads, distinct, other, lt_true, lt_false, joined, own_near, own_far, fibre_in_is, fibre_out_is}
 use Rattle.mesh.proofs.hops.Kinds.{path_taken}
 use Rattle.mesh.proofs.hops.Labels.{if_cases, has_least, has_meet}
-use Rattle.mesh.proofs.hops.Tables.{leg_after, same_lsp-refl}
-use Rattle.mesh.proofs.hops.Chain.{LegFits, Fits, Hop, IsVacant, starts_with_path, Chain, out_label_of}
-use Rattle.mesh.proofs.hops.Changed.{Sends}
-use Rattle.mesh.proofs.hops.Sending.{sent_by, sends_back, sends_on}
+use Rattle.mesh.proofs.hops.Tables.{same_lsp-refl}
+use Rattle.mesh.proofs.hops.Chain.{Hop, IsVacant, starts_with_path, Chain, out_label_of}
+use Rattle.mesh.proofs.hops.Sending.{sends_back, sends_on}
 use Rattle.mesh.proofs.hops.Sentences.{asked_bare, gone_none}
 use Rattle.mesh.proofs.hops.Farther.{path_last, path_passed, path_answered, path_refused}
 use Rattle.mesh.proofs.hops.Nearer.{hop_idle, hop_asks}

@@ -1,6 +1,6 @@
 -- The route of an LSP with the node where it ends, place by place.
 use Rattle.std.proofs.Common.{◌≡◌, ◌≢◌, ◌<◌, ◌≤◌, ℕ, zero, suc, Bool, true, false, cond, not, nat_eq, nat_lt, List, [], ◌∷◌, ◌++◌, length, refl, sym, ◌∙◌, ap, arith}
-use Rattle.std.specs.Prelude.{◌&&◌, ◌||◌, find, filter, fold, slice_get, Option, Some, None}
+use Rattle.std.specs.Prelude.{◌||◌, find, filter, fold, slice_get, Option, Some, None}
 use Rattle.std.specs.List.{list_any}
 use Rattle.ason_base.specs.declared.ids.NodeId.{NodeId}
 use Rattle.ason_base.specs.declared.ids.LinkId.{LinkId}

@@ -1,6 +1,6 @@
 -- A rule's answer that changes no leg and sends nothing leaves every LSP as it was.
-use Rattle.std.proofs.Common.{◌≡◌, ◌≤◌, ℕ, Bool, true, false, cond, nat_eq, List, [], refl, ◌∙◌, arith, append-nil}
-use Rattle.std.specs.Prelude.{Option, None}
+use Rattle.std.proofs.Common.{◌≡◌, Bool, true, false, nat_eq, [], refl, ◌∙◌, arith, append-nil}
+use Rattle.std.specs.Prelude.{None}
 use Rattle.ason_base.specs.declared.ids.Lsp.{Lsp}
 use Rattle.ason_base.specs.declared.ids.NodeId.{NodeId}
 use Rattle.mesh.specs.Changes.{Answer}

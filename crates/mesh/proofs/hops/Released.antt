@@ -1,39 +1,36 @@
 -- A call is released at its ingress.
-use Rattle.std.proofs.Common.{◌≡◌, ◌≢◌, ◌<◌, ◌≤◌, ℕ, zero, suc, Bool, true, false, cond, nat_eq, List, [], ◌∷◌, ◌++◌, refl, sym, ap, ◌∙◌, subst, arith, inl, inr}
-use Rattle.std.specs.Prelude.{◌⊎◌, Option, Some, None}
+use Rattle.std.proofs.Common.{◌≡◌, ◌<◌, ℕ, Bool, true, false, nat_eq, List, [], ◌∷◌, ◌++◌, refl, sym, ◌∙◌, arith}
+use Rattle.std.specs.Prelude.{Option, Some, None}
 use Rattle.ason_base.specs.Network.{Network}
 use Rattle.ason_base.specs.Lsps.{same_lsp}
 use Rattle.ason_base.specs.declared.ids.CallNo.{CallNo}
 use Rattle.ason_base.specs.declared.ids.Lsp.{Lsp}
 use Rattle.ason_base.specs.declared.ids.NodeId.{NodeId}
 use Rattle.ason_base.specs.declared.steps.Step.{Step}
-use Rattle.ason_base.specs.declared.messages.Msg.{Msg}
 use Rattle.ason_base.specs.declared.messages.Msg.TheVariants.{PathTear}
 use Rattle.ason_base.specs.declared.tables.CallRec.{CallRec}
 use Rattle.ason_base.specs.declared.tables.Leg.{Leg}
 use Rattle.mesh.specs.declared.neighbours.Neighbour.{Neighbour}
 use Rattle.mesh.specs.Changes.{Answer, nothing}
-use Rattle.mesh.specs.Sites.{Place, site_of}
+use Rattle.mesh.specs.Sites.{site_of}
 use Rattle.mesh.specs.Legs.{find_leg, closed, following, is_closing}
-use Rattle.mesh.specs.Calls.{find_call}
-use Rattle.mesh.specs.MessageRules.{to_node}
 use Rattle.mesh.specs.CallRules.{NodeState, leg_of, given_up, on_release, tear_to}
 use Rattle.mesh.specs.Machine.{Mesh, commit}
 use Rattle.mesh.specs.Events.{first_route}
-use Rattle.mesh.specs.HopLaw.{lsp_of, leg_at, mail_between, IsBlank}
-use Rattle.mesh.proofs.hops.Plans.{Plan, hops, plan, node_at, link_at, IsRoute, distinct, same_node}
-use Rattle.mesh.proofs.hops.Tables.{leg_after, same_lsp-refl, same_lsp-eq}
+use Rattle.mesh.specs.HopLaw.{leg_at, mail_between}
+use Rattle.mesh.proofs.hops.Plans.{Plan, hops, plan, node_at, link_at, distinct, same_node}
+use Rattle.mesh.proofs.hops.Tables.{same_lsp-refl, same_lsp-eq}
 use Rattle.mesh.proofs.hops.Views.{mail-else}
-use Rattle.mesh.proofs.hops.Chain.{LegFits, OnRoute, Chain}
-use Rattle.mesh.proofs.hops.Changed.{Sends, place_changed}
+use Rattle.mesh.proofs.hops.Chain.{LegFits, Chain}
+use Rattle.mesh.proofs.hops.Changed.{place_changed}
 use Rattle.mesh.proofs.hops.Sending.{sent_by, sends_on, changed-here}
 use Rattle.mesh.proofs.hops.LegChanges.{closed_fits, stands_bare, following_is}
 use Rattle.mesh.proofs.hops.Nearer.{leg_closes}
 use Rattle.mesh.proofs.hops.Taken.{no_path_append}
 use Rattle.mesh.proofs.hops.Labels.{if_cases}
-use Rattle.mesh.proofs.hops.Own.{AllSent, IsOf, IsLegOf, found-is, leg-other, mail-other}
-use Rattle.mesh.proofs.hops.Traced.{Planned, Follows, SameOf, follows_same, or_none, next_same}
-use Rattle.mesh.proofs.hops.Quiet.{IsQuiet, same_quiet}
+use Rattle.mesh.proofs.hops.Own.{AllSent, IsOf, found-is, leg-other, mail-other}
+use Rattle.mesh.proofs.hops.Traced.{Planned, Follows, SameOf, follows_same, next_same}
+use Rattle.mesh.proofs.hops.Quiet.{same_quiet}
 
 -- what a release needs to know of a call: no leg stands of its backup LSP, and the leg of its working LSP begins here and isn't torn
 pub record CallStands (n : ℕ) (s : NodeState) (c : CallRec) : Type 0 where

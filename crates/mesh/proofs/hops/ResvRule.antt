@@ -1,10 +1,9 @@
 -- A Resv is taken at a node of its route.
-use Rattle.std.proofs.Common.{◌≡◌, ◌<◌, ℕ, zero, suc, Bool, true, false, cond, not, nat_eq, List, [], ◌∷◌, ◌++◌, refl, sym, ap, ◌∙◌, subst, arith, inl, inr, append-nil}
-use Rattle.std.specs.Prelude.{◌⊎◌, ◌&&◌, map, Option, Some, None}
+use Rattle.std.proofs.Common.{◌≡◌, ◌<◌, ℕ, suc, true, List, [], ◌∷◌, refl, subst, arith, inl, inr, append-nil}
+use Rattle.std.specs.Prelude.{◌⊎◌, Option, Some, None}
 use Rattle.ason_base.specs.Codes.{label_code}
 use Rattle.ason_base.specs.Labels.{has, meet}
 use Rattle.ason_base.specs.Network.{Network}
-use Rattle.ason_base.specs.declared.codes.ErrCode.{ErrCode}
 use Rattle.ason_base.specs.declared.ids.Lsp.{Lsp}
 use Rattle.ason_base.specs.declared.ids.NodeId.{NodeId}
 use Rattle.ason_base.specs.declared.ids.LinkId.{LinkId}
@@ -13,22 +12,21 @@ use Rattle.ason_base.specs.declared.messages.Msg.{Msg}
 use Rattle.ason_base.specs.declared.messages.Msg.TheVariants.{Resv, PathTear, PathErr}
 use Rattle.ason_base.specs.declared.tables.Leg.{Leg}
 use Rattle.ason_base.specs.declared.tables.CallRec.{CallRec}
-use Rattle.mesh.specs.declared.arrivals.Arrival.{Arrival}
 use Rattle.mesh.specs.declared.changes.CallChange.{CallChange}
 use Rattle.mesh.specs.declared.changes.LegChange.TheVariants as leg
 use Rattle.mesh.specs.Changes.{Answer, nothing}
-use Rattle.mesh.specs.Sites.{Place, site_of}
-use Rattle.mesh.specs.Legs.{find_leg, is_asked, closed, connected, previous, following, usable}
+use Rattle.mesh.specs.Sites.{site_of}
+use Rattle.mesh.specs.Legs.{closed, connected, previous, usable}
 use Rattle.mesh.specs.Calls.{call_of}
 use Rattle.mesh.specs.MessageRules.{is_expected, call_stands, label_back, passed_back, answered, on_resv, to_node}
 use Rattle.mesh.specs.Machine.{Mesh}
-use Rattle.mesh.specs.HopShapes.{msg_kind, leg_kind, NoLeg, IsAsked, IsTorn}
-use Rattle.mesh.specs.HopLaw.{lsp_of, messages_of, leg_at, mail_between}
+use Rattle.mesh.specs.HopShapes.{leg_kind, IsAsked, IsTorn}
+use Rattle.mesh.specs.HopLaw.{messages_of, leg_at, mail_between}
 use Rattle.mesh.proofs.hops.Plans.{Plan, hops, node_at, link_at, fibre_at, IsRoute, same}
 use Rattle.mesh.proofs.hops.Kinds.{resv_asked, no_resv_gone, no_resv_live}
 use Rattle.mesh.proofs.hops.Labels.{has_label_back, has_meet}
-use Rattle.mesh.proofs.hops.Tables.{leg_after, same_lsp-refl}
-use Rattle.mesh.proofs.hops.Chain.{LegFits, Fits, Hop, Chain, out_label_of}
+use Rattle.mesh.proofs.hops.Tables.{same_lsp-refl}
+use Rattle.mesh.proofs.hops.Chain.{LegFits, Hop, Chain, out_label_of}
 use Rattle.mesh.proofs.hops.Changed.{Sends}
 use Rattle.mesh.proofs.hops.Sending.{sent_by, sends_none, sends_back, sends_on_back}
 use Rattle.mesh.proofs.hops.Sentences.{asked_bare, closed_torn}

@@ -1,6 +1,6 @@
 -- Each LSP with its route in every state of every run.
-use Rattle.std.proofs.Common.{◌≡◌, ℕ, Bool, true, false, cond, nat_eq, List, [], ◌∷◌, refl, ap, ◌∙◌, arith}
-use Rattle.std.specs.Prelude.{◌&&◌, ◌≤◌, Option, Some, None}
+use Rattle.std.proofs.Common.{◌≡◌, ℕ, true, List, [], ◌∷◌, refl, arith}
+use Rattle.std.specs.Prelude.{Option, Some, None}
 use Rattle.ason_base.specs.Network.{Network}
 use Rattle.ason_base.specs.declared.ids.CallNo.{CallNo}
 use Rattle.ason_base.specs.declared.ids.Lsp.{Lsp}
@@ -13,18 +13,17 @@ use Rattle.ason_base.specs.declared.commands.DeskItem.TheVariants.{Order, Alarm,
 use Rattle.ason_base.specs.declared.tables.CallRec.{CallRec}
 use Rattle.mesh.specs.declared.events.MeshEvent.{MeshEvent}
 use Rattle.mesh.specs.declared.events.MeshEvent.TheVariants.{Take, Desk, Tick, Learn, Post}
-use Rattle.mesh.specs.Changes.{Answer, nothing}
+use Rattle.mesh.specs.Changes.{Answer}
 use Rattle.mesh.specs.Sites.{site_of}
 use Rattle.mesh.specs.Calls.{find_call}
-use Rattle.mesh.specs.CallRules.{NodeState, on_order, on_item, on_release, on_tick}
+use Rattle.mesh.specs.CallRules.{on_order, on_item, on_release}
 use Rattle.mesh.specs.Commands.{is_valid, makes_route, is_given_route}
-use Rattle.mesh.specs.Machine.{Mesh, start, commit, without_item}
-use Rattle.mesh.specs.Events.{has_first, is_enabled, on_first_item, posted, step, IsRun, after, first_route, or_route, sent_at_ingress, route_of}
-use Rattle.mesh.specs.HopLaw.{leg_at, mail_between}
+use Rattle.mesh.specs.Machine.{Mesh, commit, without_item}
+use Rattle.mesh.specs.Events.{is_enabled, on_first_item, posted, step, IsRun, after, first_route, or_route, sent_at_ingress, route_of}
 use Rattle.mesh.proofs.SiteLemmas.{and_first, and_second}
 use Rattle.mesh.proofs.hops.Traced.{Follows, SameOf, follows_same, or_none, traced_take}
 use Rattle.mesh.proofs.hops.Begun.{Stepped, stepped_none, stepped_nothing, setup_stepped}
-use Rattle.mesh.proofs.hops.Released.{CallStands, Released, released}
+use Rattle.mesh.proofs.hops.Released.{CallStands, released}
 
 -- What a step needs to know: of the calls of each node, and of the items on each desk
 

@@ -1,8 +1,8 @@
 -- No wavelength of a fibre is cross-connected for two LSPs.
-use Rattle.std.proofs.Common.{◌≡◌, ◌≢◌, ◌<◌, ◌≤◌, ℕ, suc, Bool, true, false, cond, nat_eq, nat_lt, List, refl, sym, ap, ◌∙◌, subst, arith, inl, inr}
+use Rattle.std.proofs.Common.{◌≡◌, ◌≢◌, ◌<◌, ◌≤◌, ℕ, suc, Bool, true, false, nat_eq, List, refl, sym, ap, ◌∙◌, arith, inl, inr}
 use Rattle.std.specs.Prelude.{◌⊎◌, ◌&&◌, ◌||◌, Option, Some, None}
 use Rattle.ason_base.specs.Lsps.{same_bool, same_fibre}
-use Rattle.ason_base.specs.Network.{Network, find_link, far_end, receiver_of, sender_of}
+use Rattle.ason_base.specs.Network.{Network, far_end, receiver_of, sender_of}
 use Rattle.ason_base.specs.declared.ids.Fibre.{Fibre}
 use Rattle.ason_base.specs.declared.ids.Lsp.{Lsp}
 use Rattle.ason_base.specs.declared.ids.NodeId.{NodeId}
@@ -11,20 +11,19 @@ use Rattle.ason_base.specs.declared.network.LinkSpec.{LinkSpec}
 use Rattle.ason_base.specs.declared.calls.Phase.{Phase}
 use Rattle.ason_base.specs.declared.calls.Phase.TheVariants.{Asked, Held, Armed, Live, Closing, Falling}
 use Rattle.ason_base.specs.declared.tables.Leg.{Leg}
-use Rattle.mesh.specs.declared.events.MeshEvent.{MeshEvent}
 use Rattle.mesh.specs.Sites.{leads}
-use Rattle.mesh.specs.Legs.{find_leg, takes}
+use Rattle.mesh.specs.Legs.{takes}
 use Rattle.mesh.specs.Machine.{Mesh, start}
-use Rattle.mesh.specs.Events.{IsRun, after, route_of}
+use Rattle.mesh.specs.Events.{after, route_of}
 use Rattle.mesh.specs.HopShapes.{IsLive, leg_kind, phase_kind}
-use Rattle.mesh.specs.HopLaw.{leg_at, mail_between, HasOneLegEach, IsBlank}
-use Rattle.mesh.specs.SafeLaw.{StandsAt, Connects, IsSafe, EveryRunIsSafe}
+use Rattle.mesh.specs.HopLaw.{leg_at, mail_between, HasOneLegEach}
+use Rattle.mesh.specs.SafeLaw.{StandsAt, EveryRunIsSafe}
 use Rattle.mesh.proofs.nodes.Facts.{MeshFacts}
 use Rattle.mesh.proofs.nodes.Runs.{facts-hold}
-use Rattle.mesh.proofs.hops.Plans.{Plan, hops, plan, node_at, link_at, fibre_at, is_high, IsRoute, Leads, distinct, same, same_node, lt_true, lt_false, joined}
+use Rattle.mesh.proofs.hops.Plans.{Plan, hops, plan, node_at, link_at, fibre_at, IsRoute, Leads, distinct, same, same_node, lt_true, lt_false, joined}
 use Rattle.mesh.proofs.hops.Kinds.{closes_live}
-use Rattle.mesh.proofs.hops.Chain.{LegFits, PhaseFits, Hop, LabelsMeet, Chain, IsPlace, out_fibre_at, below_or_not}
-use Rattle.mesh.proofs.hops.Traced.{Planned, Follows}
+use Rattle.mesh.proofs.hops.Chain.{LegFits, Hop, LabelsMeet, Chain, out_fibre_at, below_or_not}
+use Rattle.mesh.proofs.hops.Traced.{Follows}
 use Rattle.mesh.proofs.hops.Laws.{follows, one_leg_each}
 
 -- at the node into which the fibre leads a Live leg of the LSP has the label in

@@ -1,8 +1,7 @@
 -- Where the messages of a rule go, and what a step changes for one LSP.
-use Rattle.std.proofs.Common.{◌≡◌, ◌≢◌, ◌<◌, ◌≤◌, ℕ, suc, Bool, true, false, cond, nat_eq, List, [], ◌∷◌, ◌++◌, refl, sym, ap, ◌∙◌, arith, inl, inr}
-use Rattle.std.specs.Prelude.{◌⊎◌, filter, map, Option, Some, None}
+use Rattle.std.proofs.Common.{◌≡◌, ◌≢◌, ◌<◌, ℕ, suc, List, [], ◌∷◌, ◌++◌, refl, sym, ap, ◌∙◌, arith, inl, inr}
+use Rattle.std.specs.Prelude.{◌⊎◌, Option}
 use Rattle.ason_base.specs.Network.{Network}
-use Rattle.ason_base.specs.Lsps.{same_lsp}
 use Rattle.ason_base.specs.declared.ids.Lsp.{Lsp}
 use Rattle.ason_base.specs.declared.ids.NodeId.{NodeId}
 use Rattle.ason_base.specs.declared.messages.Msg.{Msg}
@@ -14,7 +13,7 @@ use Rattle.mesh.specs.Machine.{Mesh, commit, without_first, sent_to}
 use Rattle.mesh.specs.HopLaw.{lsp_of, messages_of, leg_at, mail_between}
 use Rattle.mesh.proofs.hops.Plans.{Plan, hops, node_at, IsRoute, distinct, same, other}
 use Rattle.mesh.proofs.hops.Tables.{leg_after, same_lsp-refl}
-use Rattle.mesh.proofs.hops.Views.{sent_of, leg-here, leg-there, mail-from, mail-else, without-here, without-else}
+use Rattle.mesh.proofs.hops.Views.{leg-here, leg-there, mail-from, mail-else, without-here, without-else}
 use Rattle.mesh.proofs.hops.Chain.{is_or_not}
 use Rattle.mesh.proofs.hops.Changed.{Changed, IsNext, Sends}
 

@@ -1,5 +1,5 @@
 -- What is said of labels over a hop, where a leg is gone or has changed.
-use Rattle.std.proofs.Common.{◌≡◌, ℕ, Bool, true, false, List, [], ◌∷◌, ◌++◌, refl, inl, inr}
+use Rattle.std.proofs.Common.{◌≡◌, ℕ, true, false, List, [], ◌∷◌, refl, inl, inr}
 use Rattle.std.specs.Prelude.{◌⊎◌, map, Option, Some, None}
 use Rattle.ason_base.specs.Labels.{has}
 use Rattle.ason_base.specs.declared.calls.Phase.{Phase}
@@ -12,9 +12,9 @@ use Rattle.ason_base.specs.declared.tables.Leg.{Leg}
 use Rattle.ason_base.specs.Network.{Network}
 use Rattle.ason_base.specs.declared.ids.Lsp.{Lsp}
 use Rattle.mesh.specs.Legs.{closed, closing_phase, is_closing}
-use Rattle.mesh.specs.HopShapes.{LegKind, NoLeg, IsAsked, IsLive, IsTorn, leg_kind, phase_kind, msg_kind, MsgKind}
+use Rattle.mesh.specs.HopShapes.{NoLeg, IsAsked, IsLive, IsTorn, leg_kind, phase_kind, msg_kind}
 use Rattle.mesh.proofs.hops.Plans.{Plan, hops}
-use Rattle.mesh.proofs.hops.Chain.{PhaseFits, LegFits, Fits, Each, each-any, AnswerFits, OfferSent, SetSent, HasSet, SentOn, LabelsMeet, out_label_of}
+use Rattle.mesh.proofs.hops.Chain.{PhaseFits, Fits, Each, each-any, AnswerFits, OfferSent, SetSent, HasSet, SentOn, LabelsMeet, out_label_of}
 
 pub no_kinds : (ms : List Msg) → map msg_kind ms ≡ [] → ms ≡ []
 no_kinds [] e = refl

@@ -1,13 +1,12 @@
 -- The leg of one LSP after a rule's answer.
-use Rattle.std.proofs.Common.{◌≡◌, ℕ, Bool, true, false, cond, not, nat_eq, List, [], ◌∷◌, refl, sym, ◌∙◌, arith}
-use Rattle.std.specs.Prelude.{◌&&◌, filter, find, Option, Some, None}
+use Rattle.std.proofs.Common.{◌≡◌, Bool, true, false, cond, not, List, [], ◌∷◌, refl, arith}
+use Rattle.std.specs.Prelude.{Option, Some, None}
 use Rattle.ason_base.specs.declared.ids.Lsp.{Lsp}
-use Rattle.ason_base.specs.declared.ids.NodeId.{NodeId}
 use Rattle.ason_base.specs.declared.tables.Leg.{Leg}
 use Rattle.ason_base.specs.Lsps.{same_lsp, lsp_before}
 use Rattle.mesh.specs.declared.changes.LegChange.{LegChange}
 use Rattle.mesh.specs.declared.changes.LegChange.TheVariants.{Goes, Stands}
-use Rattle.mesh.specs.Legs.{find_leg, with_leg, without_leg, leg_changed, legs_changed}
+use Rattle.mesh.specs.Legs.{find_leg, with_leg, without_leg, legs_changed}
 
 pub same_lsp-refl : (l : Lsp) → same_lsp l l ≡ true
 same_lsp-refl l = grind arith

@@ -1,6 +1,6 @@
 -- A message of an LSP is taken at a place of its route: what is left of the whole route.
-use Rattle.std.proofs.Common.{◌≡◌, ◌≢◌, ◌<◌, ◌≤◌, ℕ, suc, Bool, true, false, List, [], ◌∷◌, ◌++◌, refl, sym, arith, inl, inr, append-nil}
-use Rattle.std.specs.Prelude.{◌⊎◌, Option, Some, None}
+use Rattle.std.proofs.Common.{◌≡◌, ◌≢◌, ◌<◌, ◌≤◌, ℕ, suc, true, false, List, [], ◌∷◌, ◌++◌, refl, arith, inl, inr}
+use Rattle.std.specs.Prelude.{◌⊎◌, Option}
 use Rattle.ason_base.specs.Network.{Network}
 use Rattle.ason_base.specs.declared.ids.Lsp.{Lsp}
 use Rattle.ason_base.specs.declared.ids.NodeId.{NodeId}
@@ -76,7 +76,7 @@ module _ (t : Network) (s : Mesh) (l : Lsp) (p : Plan) (i : ℕ) (route : IsRout
       quiet k less (inl e) path = last (rw (e, left) at path)
       quiet k less (inr ne) path =
           let same_mail = elsewhere-taken s (node_at p i) (node_at p (suc i)) (node_at p k) (node_at p (suc k)) l a
-              (distinct t l.ingress p route k (suc i) (omega arith) (omega arith) (omega arith)) (inl (distinct t l.ingress p route k i (omega arith) (omega arith) ne)) in
+          (distinct t l.ingress p route k (suc i) (omega arith) (omega arith) (omega arith)) (inl (distinct t l.ingress p route k i (omega arith) (omega arith) ne)) in
           let empty : mail_between s l (node_at p i) (node_at p (suc i)) ≡ [] = (chain.fresh k (omega arith) (rw same_mail at path) i (omega arith) (omega arith)).no_down below in
           cc (empty, down_mine)
 
@@ -124,6 +124,6 @@ module _ (t : Network) (s : Mesh) (l : Lsp) (p : Plan) (i : ℕ) (route : IsRout
       quiet : (k : ℕ) → k < i → starts_with_path (mail_between (commit (without_first s (node_at p (suc i)).0 (node_at p i).0) (node_at p i).0 a) l (node_at p k) (node_at p (suc k))) ≡ true → ⊥
       quiet k less path =
           let same_mail = elsewhere-taken s (node_at p (suc i)) (node_at p i) (node_at p k) (node_at p (suc k)) l a
-              (distinct t l.ingress p route k i (omega arith) (omega arith) (omega arith)) (inl (distinct t l.ingress p route k (suc i) (omega arith) (omega arith) (omega arith))) in
+          (distinct t l.ingress p route k i (omega arith) (omega arith) (omega arith)) (inl (distinct t l.ingress p route k (suc i) (omega arith) (omega arith) (omega arith))) in
           let empty : mail_between s l (node_at p (suc i)) (node_at p i) ≡ [] = (chain.fresh k (omega arith) (rw same_mail at path) i less (omega arith)).no_up below in
           cc (empty, up_mine)

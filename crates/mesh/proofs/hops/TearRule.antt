@@ -1,6 +1,6 @@
 -- A PathTear is taken at a node of its route.
-use Rattle.std.proofs.Common.{◌≡◌, ◌≢◌, ◌<◌, ◌≤◌, ℕ, zero, suc, Bool, true, false, cond, not, nat_eq, nat_lt, List, [], ◌∷◌, ◌++◌, refl, sym, ap, ◌∙◌, arith, inl, inr, append-nil}
-use Rattle.std.specs.Prelude.{◌⊎◌, ◌&&◌, map, Option, Some, None}
+use Rattle.std.proofs.Common.{◌≡◌, ◌<◌, ◌≤◌, ℕ, suc, Bool, true, false, cond, not, List, [], ◌∷◌, refl, arith, inl, inr, append-nil}
+use Rattle.std.specs.Prelude.{◌⊎◌, ◌&&◌, Option, Some, None}
 use Rattle.ason_base.specs.Codes.{torn_code}
 use Rattle.ason_base.specs.Network.{Network}
 use Rattle.ason_base.specs.declared.ids.Lsp.{Lsp}
@@ -9,17 +9,16 @@ use Rattle.ason_base.specs.declared.ids.LinkId.{LinkId}
 use Rattle.ason_base.specs.declared.messages.Msg.{Msg}
 use Rattle.ason_base.specs.declared.messages.Msg.TheVariants.{PathTear, PathErr}
 use Rattle.ason_base.specs.declared.tables.Leg.{Leg}
-use Rattle.mesh.specs.declared.neighbours.Neighbour.{Neighbour}
 use Rattle.mesh.specs.Changes.{Answer, nothing}
 use Rattle.mesh.specs.Sites.{site_of}
-use Rattle.mesh.specs.Legs.{find_leg, is_closing, closed, previous, following, is_over}
+use Rattle.mesh.specs.Legs.{is_closing, closed, previous, following, is_over}
 use Rattle.mesh.specs.MessageRules.{torn, on_tear, to_node}
 use Rattle.mesh.specs.Machine.{Mesh}
-use Rattle.mesh.specs.HopShapes.{msg_kind, leg_kind, NoLeg, IsAsked, IsTorn}
-use Rattle.mesh.specs.HopLaw.{lsp_of, messages_of, leg_at, mail_between}
+use Rattle.mesh.specs.HopShapes.{leg_kind, NoLeg, IsAsked, IsTorn}
+use Rattle.mesh.specs.HopLaw.{messages_of, leg_at, mail_between}
 use Rattle.mesh.proofs.hops.Plans.{Plan, hops, node_at, link_at, fibre_at, IsRoute, same}
 use Rattle.mesh.proofs.hops.Kinds.{tear_last}
-use Rattle.mesh.proofs.hops.Tables.{leg_after, same_lsp-refl}
+use Rattle.mesh.proofs.hops.Tables.{same_lsp-refl}
 use Rattle.mesh.proofs.hops.Chain.{LegFits, Fits, Hop, starts_with_path, Chain, out_label_of, below_or_not}
 use Rattle.mesh.proofs.hops.Sending.{sends_none, sends_back, sends_back_on}
 use Rattle.mesh.proofs.hops.Sentences.{no_kinds, asked_bare, closed_torn, standing, torn_kind}

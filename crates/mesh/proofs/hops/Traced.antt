@@ -6,12 +6,11 @@ use Rattle.ason_base.specs.Lsps.{same_lsp}
 use Rattle.ason_base.specs.declared.ids.Lsp.{Lsp}
 use Rattle.ason_base.specs.declared.ids.NodeId.{NodeId}
 use Rattle.ason_base.specs.declared.steps.Step.{Step}
-use Rattle.ason_base.specs.declared.messages.PathRole.{PathRole}
 use Rattle.ason_base.specs.declared.messages.PathRole.TheVariants.{Work, Back}
 use Rattle.ason_base.specs.declared.messages.Msg.{Msg}
 use Rattle.ason_base.specs.declared.messages.Msg.TheVariants.{Path, Resv, PathTear, PathErr, Notify}
 use Rattle.mesh.specs.declared.events.MeshEvent.TheVariants.{Take}
-use Rattle.mesh.specs.Changes.{Answer, nothing}
+use Rattle.mesh.specs.Changes.{Answer}
 use Rattle.mesh.specs.Sites.{site_of}
 use Rattle.mesh.specs.Legs.{find_leg}
 use Rattle.mesh.specs.MessageRules.{on_message}
@@ -21,9 +20,9 @@ use Rattle.mesh.specs.Events.{has_first, on_first, first_route, or_route, sent_a
 use Rattle.mesh.specs.HopLaw.{lsp_of, messages_of, leg_at, mail_between, IsBlank}
 use Rattle.mesh.proofs.hops.Plans.{Plan, hops, plan, node_at, IsRoute, same_node}
 use Rattle.mesh.proofs.hops.Kinds.{no_resv_down, no_removal_down, no_contention_down, no_report_down, no_path_up, no_active_up, no_tear_up, no_report_up}
-use Rattle.mesh.proofs.hops.Tables.{same_lsp-refl, same_lsp-eq}
-use Rattle.mesh.proofs.hops.Views.{leg-here, leg-there, mail-from, mail-else, without-other}
-use Rattle.mesh.proofs.hops.Chain.{OnRoute, Hop, Chain}
+use Rattle.mesh.proofs.hops.Tables.{same_lsp-eq}
+use Rattle.mesh.proofs.hops.Views.{without-other}
+use Rattle.mesh.proofs.hops.Chain.{OnRoute, Chain}
 use Rattle.mesh.proofs.hops.Taken.{KeepsDown, KeepsUp, down_hop, up_hop, mine}
 use Rattle.mesh.proofs.hops.Own.{IsOf, Own, own-on_message, leg-other, mail-other}
 use Rattle.mesh.proofs.hops.PathRule.{path_keeps}

@@ -1,18 +1,16 @@
 -- The legs and messages of one LSP after a step at one node.
-use Rattle.std.proofs.Common.{◌≡◌, ◌≢◌, ℕ, Bool, true, false, cond, nat_eq, List, [], ◌∷◌, ◌++◌, drop, refl, ap, ◌∙◌, arith, append-nil, inl, inr}
-use Rattle.std.specs.Prelude.{◌&&◌, ◌⊎◌, filter, map, Option, Some, None}
+use Rattle.std.proofs.Common.{◌≡◌, ◌≢◌, Bool, true, false, cond, nat_eq, List, ◌∷◌, ◌++◌, drop, refl, arith, inl, inr}
+use Rattle.std.specs.Prelude.{◌&&◌, ◌⊎◌}
 use Rattle.std.proofs.lemmas.List.Elements.{filter-append}
 use Rattle.ason_base.specs.declared.ids.Lsp.{Lsp}
 use Rattle.ason_base.specs.declared.ids.NodeId.{NodeId}
 use Rattle.ason_base.specs.declared.messages.Msg.{Msg}
-use Rattle.ason_base.specs.declared.tables.Out.{Out}
 use Rattle.ason_base.specs.Lsps.{same_lsp}
 use Rattle.mesh.specs.Changes.{Answer}
-use Rattle.mesh.specs.Legs.{find_leg, legs_changed}
 use Rattle.mesh.specs.Machine.{Mesh, commit, without_first, sent_to}
 use Rattle.mesh.specs.HopLaw.{lsp_of, messages_of, leg_at, mail_between}
 use Rattle.mesh.proofs.hops.Plans.{same, other}
-use Rattle.mesh.proofs.hops.Tables.{leg_after, find-changed, other_lsp, same_lsp-sym}
+use Rattle.mesh.proofs.hops.Tables.{leg_after, find-changed}
 
 -- what goes to a node of this LSP
 abbrev pub sent_of : Lsp → Answer → NodeId → List Msg
