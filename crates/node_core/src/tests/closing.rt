@@ -16,6 +16,7 @@ const B: NodeId = NodeId(2);
 const C: NodeId = NodeId(3);
 
 // Three converting nodes in a row: link 1 joins a and b, link 2 joins b and c, with one label each.
+#[derive(Drop)]
 struct Line {
     a: Node,
     b: Node,
