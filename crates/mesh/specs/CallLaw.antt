@@ -21,6 +21,7 @@ use Rattle.mesh.specs.Events.{IsRun, after}
 
 -- The state of a call
 
+-- the phase of a leg, where it stands
 abbrev pub phase_of : Option Leg → Option Phase
 phase_of None = None
 phase_of (Some g) = Some g.phase

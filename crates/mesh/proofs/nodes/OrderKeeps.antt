@@ -169,9 +169,9 @@ keeps-released p s n c g found work here ingress facts =
       number = λ d is. absurd (cc is);
       wanted = λ h is at_ingress standing.
           let one : closed g ≡ h = cc is in
-          let open_still : is_closing (closed g).phase ≡ false = subst (λ x. is_closing x.phase ≡ false) (sym one) standing in
+          let not_torn : is_closing (closed g).phase ≡ false = subst (λ x. is_closing x.phase ≡ false) (sym one) standing in
           let torn : is_closing (closing_phase g.phase g.role) ≡ true = subst (λ r. is_closing (closing_phase g.phase r) ≡ true) (sym mine.role) (closed-closing g.phase) in
-          absurd (cc (open_still, torn));
+          absurd (cc (not_torn, torn));
     }
 
 keeps-given_up : (p : Place) (s : NodeState) (n : CallNo) (c : CallRec) → find_call n s.calls ≡ Some c → NodeFacts p.id.0 s → Keeps p s (given_up n (leg_of c.work s.legs) (leg_of c.back s.legs))

@@ -16,7 +16,14 @@ const B: NodeId = NodeId(2);
 const C: NodeId = NodeId(3);
 
 // Three converting nodes in a row: link 1 joins a and b, link 2 joins b and c, with one label each.
-fn line(alloc: Global) -> Result<Topology, Fail> {
+#[derive(Drop)]
+struct Line {
+    a: Node,
+    b: Node,
+    c: Node,
+}
+
+fn topology(alloc: Global) -> Result<Topology, Fail> {
     let node = |id: NodeId| NodeSpec { id, convert: true };
     let link = |id: u32, low: NodeId, high: NodeId| LinkSpec {
         id: LinkId(id),
@@ -104,27 +111,38 @@ fn is_torn(out: Option<&Out>, at: NodeId) -> bool {
     }
 }
 
-// Over three nodes: the tear goes on to the egress while each node behind it is answered; a leg is closing until then.
+// The line with a call whose LSP is Live at each node.
+fn live_line(alloc: Global) -> Result<Line, Fail> {
+    let t = topology(alloc)?;
+    let mut line = Line {
+        a: node_of(alloc, &t, A)?,
+        b: node_of(alloc, &t, B)?,
+        c: node_of(alloc, &t, C)?,
+    };
+    let mut sent = line.a.step(alloc, &setup(alloc)?)?.into_vec();
+    sent = carry(alloc, A, &mut sent, &mut line.b)?;
+    sent = carry(alloc, B, &mut sent, &mut line.c)?;
+    sent = carry(alloc, C, &mut sent, &mut line.b)?;
+    carry(alloc, B, &mut sent, &mut line.a)?;
+    Ok(line)
+}
+
+// The tear goes on to the egress, each node answers the one before it, and a leg is closing until it has its answer.
 #[test]
 fn a_torn_leg_waits_for_its_answer(rt: HostRuntime) -> Result<(), Fail> {
     let alloc = rt.alloc();
-    let t = line(alloc)?;
-    let mut a = node_of(alloc, &t, A)?;
-    let mut b = node_of(alloc, &t, B)?;
-    let mut c = node_of(alloc, &t, C)?;
-    let mut sent = a.step(alloc, &setup(alloc)?)?.into_vec();
-    sent = carry(alloc, A, &mut sent, &mut b)?;
-    sent = carry(alloc, B, &mut sent, &mut c)?;
-    sent = carry(alloc, C, &mut sent, &mut b)?;
-    sent = carry(alloc, B, &mut sent, &mut a)?;
+    let Line {
+        mut a,
+        mut b,
+        mut c,
+    } = live_line(alloc)?;
     let one = Label::new(1);
-    assert!(rt; sent.is_empty());
     assert_eq!(rt; shown(alloc, &a)?, Some((Phase::Live, None, one)));
     assert_eq!(rt; shown(alloc, &b)?, Some((Phase::Live, one, one)));
     assert_eq!(rt; shown(alloc, &c)?, Some((Phase::Live, one, None)));
 
     // the call goes at once, its leg stands
-    sent = a.step(alloc, &release())?.into_vec();
+    let mut sent = a.step(alloc, &release())?.into_vec();
     assert!(rt; a.rows(alloc)?.calls.items().is_empty());
     assert_eq!(rt; shown(alloc, &a)?, Some((Phase::Closing, None, one)));
 
