@@ -26,8 +26,8 @@ use Rattle.mesh.specs.Machine.{Mesh, changed, commit}
 use Rattle.mesh.specs.Events.{first_route, or_route}
 use Rattle.mesh.specs.HopLaw.{leg_at, mail_between, IsBlank}
 use Rattle.mesh.proofs.hops.Plans.{Plan, hops, plan, node_at, fibre_at, IsRoute, Leads, route_made, distinct, same, same_node, lt_true, own_near, fibre_out_is}
-use Rattle.mesh.proofs.hops.Labels.{if_cases}
-use Rattle.mesh.proofs.hops.Tables.{same_lsp-refl, same_lsp-eq}
+use Rattle.mesh.proofs.nodes.Cases.{if_cases}
+use Rattle.mesh.proofs.nodes.LegList.{same_lsp-eq, same_lsp-refl}
 use Rattle.mesh.proofs.hops.Views.{leg-here, leg-there, mail-from, mail-else}
 use Rattle.mesh.proofs.hops.Chain.{LegFits, Fits, DownFits, Hop, OnRoute, IsPlace, Chain, is_or_not, at_or_else}
 use Rattle.mesh.proofs.hops.Sending.{sent_by, sent-first, sent-past}

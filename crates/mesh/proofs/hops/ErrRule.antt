@@ -21,7 +21,7 @@ use Rattle.mesh.specs.HopShapes.{leg_kind, IsAsked, IsTorn}
 use Rattle.mesh.specs.HopLaw.{messages_of, leg_at, mail_between}
 use Rattle.mesh.proofs.hops.Plans.{Plan, hops, node_at, IsRoute, same}
 use Rattle.mesh.proofs.hops.Kinds.{no_contention_up, no_removal_gone, no_removal_live}
-use Rattle.mesh.proofs.hops.Tables.{same_lsp-refl}
+use Rattle.mesh.proofs.nodes.LegList.{same_lsp-refl}
 use Rattle.mesh.proofs.hops.Chain.{LegFits, Hop, Chain}
 use Rattle.mesh.proofs.hops.Changed.{Sends}
 use Rattle.mesh.proofs.hops.Sending.{sent_by, sends_none, sends_back}

@@ -140,9 +140,6 @@ no_contention_down u d down up h = elim h [ ]
 pub no_report_down : (u d : LegKind) (down up : List MsgKind) → Shape Work u d (Report ∷ down) up → ⊥
 no_report_down u d down up h = elim h [ ]
 
-pub no_active_down : (u d : LegKind) (down up : List MsgKind) → Shape Work u d (ActivePath ∷ down) up → ⊥
-no_active_down u d down up h = elim h [ ]
-
 pub no_path_up : (u d : LegKind) (down up : List MsgKind) → Shape Work u d down (PlainPath ∷ up) → ⊥
 no_path_up u d down up h = elim h [ ]
 

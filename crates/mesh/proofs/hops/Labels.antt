@@ -1,4 +1,4 @@
--- Which labels are in the sets that a rule makes, and case splits.
+-- Which labels are in the sets that a rule makes.
 use Rattle.std.proofs.Common.{◌≡◌, ℕ, Bool, true, false, cond, nat_eq, List, [], ◌∷◌, refl, arith}
 use Rattle.std.specs.Prelude.{Some}
 use Rattle.ason_base.specs.Labels.{has, meet, least}
@@ -6,10 +6,6 @@ use Rattle.ason_base.proofs.MaskMembers.{has-filter}
 use Rattle.mesh.specs.Sites.{Place}
 use Rattle.mesh.specs.MessageRules.{only, label_back}
 use Rattle.mesh.proofs.SiteLemmas.{and_first}
-
-pub if_cases : {A : Type 0} (P : A → Type 0) (b : Bool) (x y : A) → (b ≡ true → P x) → (b ≡ false → P y) → P (cond b x y)
-if_cases P true x y this that = this refl
-if_cases P false x y this that = that refl
 
 pub has_least : (labels : List ℕ) (x : ℕ) → least labels ≡ Some x → has labels x ≡ true
 has_least [] x e = cc

@@ -28,9 +28,9 @@ use Rattle.mesh.specs.MessageRules.{refusal, at_egress, in_transit, over_link, a
 use Rattle.mesh.specs.Machine.{Mesh, commit, sent_to}
 use Rattle.mesh.specs.Events.{whole_route, first_route}
 use Rattle.mesh.specs.HopLaw.{lsp_of, messages_of, leg_at, mail_between}
-use Rattle.mesh.proofs.SiteLemmas.{and_second}
-use Rattle.mesh.proofs.hops.Labels.{if_cases}
-use Rattle.mesh.proofs.hops.Tables.{leg_after, same_lsp-eq, found_lsp}
+use Rattle.mesh.proofs.nodes.Cases.{both_right, if_cases, not-true}
+use Rattle.mesh.proofs.nodes.LegList.{found-lsp}
+use Rattle.mesh.proofs.hops.Tables.{leg_after}
 use Rattle.mesh.proofs.hops.Views.{leg-here}
 use Rattle.mesh.proofs.hops.Sending.{sent_by}
 
@@ -61,7 +61,7 @@ IsLegOf l (Some g) = g.lsp ≡ l
 
 pub found-is : (l : Lsp) (legs : List Leg) (o : Option Leg) → find_leg l legs ≡ o → IsLegOf l o
 found-is l legs None e = tt
-found-is l legs (Some g) e = same_lsp-eq g.lsp l (found_lsp l legs g e)
+found-is l legs (Some g) e = found-lsp l legs g e
 
 -- Path
 
@@ -91,14 +91,10 @@ own-along p a link r offered [] away = if_cases (Own p.id.0 a.lsp) (nat_eq p.id.
 own-along p a link r offered (hop ∷ route) away =
     if_cases (Own p.id.0 a.lsp) (nat_eq p.id.0 a.egress.0 || (not (nat_eq hop.node.0 p.id.0) || nat_eq hop.link.0 a.link.0)) _ _ (λ h. own-refusal p.id.0 p a route_code) (λ h. own-over_link p a link route r offered (own_link p hop.link) away)
 
-not_true : (b : Bool) → not b ≡ true → b ≡ false
-not_true true e = cc
-not_true false e = refl
-
 own-new_path : (p : Place) (legs : List Leg) (a : Arrival) (route : List Step) (set : List ℕ) (r : PathRole) (o : Option LinkSpec) → Own p.id.0 a.lsp (new_path p legs a route set r o)
 own-new_path p legs a route set r None = own-nothing p.id.0 a.lsp
 own-new_path p legs a route set r (Some link) =
-    if_cases (Own p.id.0 a.lsp) (leads (Some link) a.from p.id && not (nat_eq a.lsp.ingress.0 p.id.0)) _ _ (λ h. let away = not_true (nat_eq a.lsp.ingress.0 p.id.0) (and_second _ _ h) in
+    if_cases (Own p.id.0 a.lsp) (leads (Some link) a.from p.id && not (nat_eq a.lsp.ingress.0 p.id.0)) _ _ (λ h. let away = not-true (nat_eq a.lsp.ingress.0 p.id.0) (both_right (leads (Some link) a.from p.id) _ h) in
     if_cases (Own p.id.0 a.lsp) (nat_le 4096 (length legs)) _ _ (λ full. own-refusal p.id.0 p a full_code) (λ room. own-along p a link r (offered_labels p legs link set) route away))
     (λ h. own-nothing p.id.0 a.lsp)
 

@@ -19,7 +19,7 @@ use Rattle.mesh.specs.Machine.{Mesh, commit}
 use Rattle.mesh.specs.Events.{first_route}
 use Rattle.mesh.specs.HopLaw.{leg_at, mail_between}
 use Rattle.mesh.proofs.hops.Plans.{Plan, hops, plan, node_at, link_at, distinct, same_node}
-use Rattle.mesh.proofs.hops.Tables.{same_lsp-refl, same_lsp-eq}
+use Rattle.mesh.proofs.nodes.LegList.{same_lsp-eq, same_lsp-refl}
 use Rattle.mesh.proofs.hops.Views.{mail-else}
 use Rattle.mesh.proofs.hops.Chain.{LegFits, Chain}
 use Rattle.mesh.proofs.hops.Changed.{place_changed}
@@ -27,7 +27,7 @@ use Rattle.mesh.proofs.hops.Sending.{sent_by, sends_on, changed-here}
 use Rattle.mesh.proofs.hops.LegChanges.{closed_fits, stands_bare, following_is}
 use Rattle.mesh.proofs.hops.Nearer.{leg_closes}
 use Rattle.mesh.proofs.hops.Taken.{no_path_append}
-use Rattle.mesh.proofs.hops.Labels.{if_cases}
+use Rattle.mesh.proofs.nodes.Cases.{if_cases}
 use Rattle.mesh.proofs.hops.Own.{AllSent, IsOf, found-is, leg-other, mail-other}
 use Rattle.mesh.proofs.hops.Traced.{Planned, Follows, SameOf, follows_same, next_same}
 use Rattle.mesh.proofs.hops.Quiet.{same_quiet}

@@ -140,7 +140,6 @@ owner t s one all f x g live a (Some n) at_a at_b (inr h) = sender_owner t s g.l
 
 pub every_run_safe : EveryRunIsSafe
 every_run_safe t events run f x g h this that =
-    let s = after t start events in
     let facts = facts-hold t events run in
     let all : (l : Lsp) → (o : Option (List Step)) × Follows t (after t start events) l o = λ l. (route_of t start events l, follows t events run l) in
     owners t (after t start events) f x g.lsp h.lsp facts

@@ -12,7 +12,8 @@ use Rattle.mesh.specs.MessageRules.{to_node}
 use Rattle.mesh.specs.Machine.{Mesh, commit, without_first, sent_to}
 use Rattle.mesh.specs.HopLaw.{lsp_of, messages_of, leg_at, mail_between}
 use Rattle.mesh.proofs.hops.Plans.{Plan, hops, node_at, IsRoute, distinct, same, other}
-use Rattle.mesh.proofs.hops.Tables.{leg_after, same_lsp-refl}
+use Rattle.mesh.proofs.nodes.LegList.{same_lsp-refl}
+use Rattle.mesh.proofs.hops.Tables.{leg_after}
 use Rattle.mesh.proofs.hops.Views.{leg-here, leg-there, mail-from, mail-else, without-here, without-else}
 use Rattle.mesh.proofs.hops.Chain.{is_or_not}
 use Rattle.mesh.proofs.hops.Changed.{Changed, IsNext, Sends}

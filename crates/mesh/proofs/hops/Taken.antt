@@ -11,7 +11,8 @@ use Rattle.mesh.specs.Changes.{Answer}
 use Rattle.mesh.specs.Machine.{Mesh, commit, without_first}
 use Rattle.mesh.specs.HopLaw.{lsp_of, messages_of, leg_at, mail_between}
 use Rattle.mesh.proofs.hops.Plans.{Plan, hops, node_at, IsRoute, distinct}
-use Rattle.mesh.proofs.hops.Tables.{leg_after, same_lsp-refl}
+use Rattle.mesh.proofs.nodes.LegList.{same_lsp-refl}
+use Rattle.mesh.proofs.hops.Tables.{leg_after}
 use Rattle.mesh.proofs.hops.Chain.{Fits, Hop, OnRoute, IsVacant, starts_with_path, Chain, is_or_not}
 use Rattle.mesh.proofs.hops.Changed.{Sends, place_changed}
 use Rattle.mesh.proofs.hops.Sending.{sent_by, changed-taken, left-taken, elsewhere-taken}
@@ -57,9 +58,6 @@ module _ (t : Network) (s : Mesh) (l : Lsp) (p : Plan) (i : ℕ) (route : IsRout
       (λ k less. quiet k less (is_or_not k i))
       vacant
     where
-      s' : Mesh
-      s' = commit (without_first s (node_at p i).0 (node_at p (suc i)).0) (node_at p (suc i)).0 a
-
       left : mail_between (commit (without_first s (node_at p i).0 (node_at p (suc i)).0) (node_at p (suc i)).0 a) l (node_at p i) (node_at p (suc i)) ≡ messages_of l rest
       left = left-taken s (node_at p i) (node_at p (suc i)) l a m rest down_far was
 

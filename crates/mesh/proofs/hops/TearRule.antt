@@ -18,7 +18,7 @@ use Rattle.mesh.specs.HopShapes.{leg_kind, NoLeg, IsAsked, IsTorn}
 use Rattle.mesh.specs.HopLaw.{messages_of, leg_at, mail_between}
 use Rattle.mesh.proofs.hops.Plans.{Plan, hops, node_at, link_at, fibre_at, IsRoute, same}
 use Rattle.mesh.proofs.hops.Kinds.{tear_last}
-use Rattle.mesh.proofs.hops.Tables.{same_lsp-refl}
+use Rattle.mesh.proofs.nodes.LegList.{same_lsp-refl}
 use Rattle.mesh.proofs.hops.Chain.{LegFits, Fits, Hop, starts_with_path, Chain, out_label_of, below_or_not}
 use Rattle.mesh.proofs.hops.Sending.{sends_none, sends_back, sends_back_on}
 use Rattle.mesh.proofs.hops.Sentences.{no_kinds, asked_bare, closed_torn, standing, torn_kind}

@@ -20,7 +20,7 @@ use Rattle.mesh.specs.Events.{has_first, on_first, first_route, or_route, sent_a
 use Rattle.mesh.specs.HopLaw.{lsp_of, messages_of, leg_at, mail_between, IsBlank}
 use Rattle.mesh.proofs.hops.Plans.{Plan, hops, plan, node_at, IsRoute, same_node}
 use Rattle.mesh.proofs.hops.Kinds.{no_resv_down, no_removal_down, no_contention_down, no_report_down, no_path_up, no_active_up, no_tear_up, no_report_up}
-use Rattle.mesh.proofs.hops.Tables.{same_lsp-eq}
+use Rattle.mesh.proofs.nodes.LegList.{same_lsp-eq}
 use Rattle.mesh.proofs.hops.Views.{without-other}
 use Rattle.mesh.proofs.hops.Chain.{OnRoute, Chain}
 use Rattle.mesh.proofs.hops.Taken.{KeepsDown, KeepsUp, down_hop, up_hop, mine}
