@@ -5,3 +5,5 @@ pub mod Routes
 pub mod SeatPlaces
 pub mod SiteLemmas
 pub mod Steps
+pub mod hops
+pub mod nodes

@@ -1,11 +1,16 @@
+pub mod CallLaw
 pub mod CallRules
 pub mod Calls
 pub mod Changes
 pub mod Commands
 pub mod Events
+pub mod HopLaw
+pub mod HopShapes
 pub mod Kept
+pub mod LabelLaw
 pub mod Legs
 pub mod Machine
 pub mod MessageRules
 pub mod Rows
+pub mod SafeLaw
 pub mod Sites

@@ -7,6 +7,7 @@ pub mod calls;
 pub mod changes;
 pub mod commands;
 pub mod events;
+pub mod laws;
 pub mod legs;
 pub mod message_rules;
 pub mod neighbours;

@@ -1,52 +1,13 @@
 //! What a node refuses, and how.
 
+use crate::tests::line::{A, B, C, line, node_of, release, setup, steps};
 use crate::{Input, Node};
 use ason_base::codes::{FULL, LABEL, ROUTE, SET};
 use ason_base::{
-    CallNo, CallState, Cause, Command, DeskItem, ErrCode, Label, LabelSet, LinkId, LinkSpec, Lsp,
-    Msg, NodeId, NodeSpec, Numbers, Outs, PathRole, Phase, Step, Steps, Topology,
+    CallState, Cause, ErrCode, Label, LabelSet, LinkId, Lsp, Msg, NodeId, Outs, PathRole, Phase,
 };
 use std::alloc::Global;
 use std::test::Fail;
-
-const A: NodeId = NodeId(1);
-
-const B: NodeId = NodeId(2);
-
-const C: NodeId = NodeId(3);
-
-// Three converting nodes in a row: link 1 joins a and b, link 2 joins b and c, with so many labels each.
-fn line(alloc: Global, first: u8, second: u8) -> Result<Topology, Fail> {
-    let node = |id: NodeId| NodeSpec { id, convert: true };
-    let link = |id: u32, low: NodeId, high: NodeId, labels: u8| LinkSpec {
-        id: LinkId(id),
-        low,
-        high,
-        labels,
-        metric: 1,
-        srlgs: Numbers::new(alloc),
-    };
-    let links = [link(1, A, B, first), link(2, B, C, second)];
-    Ok(Topology::new(alloc, 0, &[node(A), node(B), node(C)], &links)?)
-}
-
-fn node_of(alloc: Global, t: &Topology, id: NodeId) -> Result<Node, Fail> {
-    match t.node(id) {
-        None => Err(Fail::new("no such node")),
-        Some(_) => Ok(Node::new(alloc, t, id)?),
-    }
-}
-
-fn steps(alloc: Global, hops: &[(u32, u32)]) -> Result<Steps, Fail> {
-    let mut route = Steps::new(alloc);
-    for (node, link) in hops {
-        route.push(Step {
-            node: NodeId(*node),
-            link: LinkId(*link),
-        })?;
-    }
-    Ok(route)
-}
 
 fn lsp(number: u16) -> Lsp {
     Lsp {
@@ -97,27 +58,6 @@ fn path_err(number: u16, from: NodeId, code: ErrCode) -> Input {
         code,
     };
     Input::Message { from, msg }
-}
-
-fn setup(alloc: Global, call: u16) -> Result<Input, Fail> {
-    let command = Command::Setup {
-        call: CallNo(call),
-        from: A,
-        to: C,
-        protected: false,
-        both: false,
-        via: Some(steps(alloc, &[(1, 1), (2, 2)])?),
-        backup: None,
-    };
-    Ok(Input::Desk(DeskItem::Order(command)))
-}
-
-fn release(call: u16) -> Input {
-    let command = Command::Release {
-        call: CallNo(call),
-        from: A,
-    };
-    Input::Desk(DeskItem::Order(command))
 }
 
 // The code of a PathErr with Path_State_Removed that `at` made, where it is the one message sent and goes to this node.

@@ -1,0 +1,15 @@
+pub mod AnswerKeeps
+pub mod CallKeeps
+pub mod CallList
+pub mod CallParts
+pub mod Cases
+pub mod Facts
+pub mod Laws
+pub mod LegList
+pub mod LegParts
+pub mod MessageKeeps
+pub mod NewLegs
+pub mod OrderKeeps
+pub mod Parts
+pub mod PathKeeps
+pub mod Runs
