@@ -1,7 +1,7 @@
 -- Bytes have one plan or first fault.
 use Rattle.std.proofs.Common.{◌≡◌, inl, inr, ℕ, List, false, Result, Ok, Err, sym, ap, ◌∙◌}
 use Rattle.toml.specs.Data.{Members, table}
-use Rattle.ason_main.specs.declared.plan.Plan.{Plan}
+use Rattle.table_text.specs.declared.plan.Plan.{Plan}
 use Rattle.ason_main.specs.declared.plan.faults.PlanFault.{PlanFault}
 use Rattle.ason_main.specs.Plans.{FirstPlanOf, PlanOf, is_first_script, plan_of}
 

@@ -9,14 +9,15 @@ use Rattle.mesh.specs.Commands.{is_valid, makes_route}
 use Rattle.ason_main.specs.PlanCalls.{CallList, no_calls, no_node}
 use Rattle.ason_main.specs.PlanScript.{are_same, from_node, from_of, is_given_setup, is_release, is_settle, is_show, is_unbuilt, line_kind, line_of, lines_of, other_kind, other_line, release_kind, release_of, rounds_of, route_of, script_fault, settle_kind, setup_kind, setup_of, to_node, to_of}
 use Rattle.ason_main.specs.PlanTables.{fault_at, first_of}
-use Rattle.ason_main.specs.PlanTexts.{are_link_ids, has_name, id_at, id_at_place, is_name, place_of, word_at, words_of}
+use Rattle.ason_main.specs.PlanTexts.{are_link_ids, id_at, id_at_place, word_at, words_of}
+use Rattle.table_text.specs.Names.{has_name, is_name, place_of}
 use Rattle.ason_main.specs.Plans.{IsPostableLine, PlanOf, fault_in, links_fault_in, names_in, network_in, nodes_fault_in, plan_in, plan_of, script_fault_in, script_in, top_fault_in, unless_fault}
-use Rattle.ason_main.specs.declared.plan.Plan.{Plan}
+use Rattle.table_text.specs.declared.plan.Plan.{Plan}
 use Rattle.ason_main.specs.declared.plan.faults.PlanEntry.{PlanEntry}
 use Rattle.ason_main.specs.declared.plan.faults.PlanFault.{PlanFault}
 use Rattle.ason_main.specs.declared.plan.faults.PlanKind.{PlanKind}
 use Rattle.ason_main.specs.declared.plan.faults.PlanKind.TheVariants as kinds
-use Rattle.ason_main.specs.declared.plan.lines.Line.TheVariants.{Post, Settle, Show}
+use Rattle.table_text.specs.declared.lines.Line.TheVariants.{Post, Settle, Show}
 
 -- Nodes by name
 

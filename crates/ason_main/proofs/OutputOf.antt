@@ -5,12 +5,12 @@ use Rattle.ason_base.specs.declared.commands.Command.{Command}
 use Rattle.ason_base.specs.declared.commands.Command.TheVariants.{Setup, Release, Protect, Retry, Revert, Fail, Repair}
 use Rattle.ason_base.specs.Network.{IsTopology}
 use Rattle.mesh.specs.Commands.{is_again}
-use Rattle.ason_main.specs.declared.plan.lines.Line.TheVariants.{Post, Settle, Show}
+use Rattle.table_text.specs.declared.lines.Line.TheVariants.{Post, Settle, Show}
 use Rattle.ason_main.specs.Plans.{IsPostableLine}
 use Rattle.ason_main.specs.Runs.{Reaches}
 use Rattle.ason_main.proofs.RunsOfRounds.{post_reached, reaches_both, reaches_here, settled_reached}
 use Rattle.ason_base.specs.declared.ids.CallNo.{CallNo}
-use Rattle.ason_main.specs.declared.plan.lines.Line.{Line}
+use Rattle.table_text.specs.declared.lines.Line.{Line}
 use Rattle.ason_main.specs.declared.runner.lanes.Lane.{Lane}
 use Rattle.mesh.specs.Machine.{start}
 use Rattle.ason_main.specs.Kept.{mesh_with, new_seat}
@@ -20,11 +20,11 @@ use Rattle.ason_main.proofs.NewSeats.{started}
 use Rattle.ason_base.specs.declared.calls.TableRows.{TableRows}
 use Rattle.ason_base.specs.Network.{Network}
 use Rattle.mesh.specs.Machine.{Mesh}
-use Rattle.ason_main.specs.declared.plan.Plan.{Plan}
+use Rattle.table_text.specs.declared.plan.Plan.{Plan}
 use Rattle.ason_main.specs.declared.runner.seats.Seat.{Seat}
 use Rattle.ason_main.specs.Kept.{AreSeated, KeepsSeats}
 use Rattle.ason_main.specs.Outputs.{IsOutput, IsTable, first_state, last_state, unsettled_line}
-use Rattle.ason_main.specs.TableText.{table_text}
+use Rattle.table_text.specs.TableText.{table_text}
 
 -- every node keeps its seat
 pub seats_kept : (t : Network) (old new : List Seat) → AreSeated t old → KeepsSeats old new → AreSeated t new

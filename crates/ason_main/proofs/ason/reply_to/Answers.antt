@@ -1,5 +1,5 @@
 use Rattle.std.proofs.Common.{◌∙◌, sym, subst}
-use Rattle.ason_main.specs.declared.plan.Plan.{Plan}
+use Rattle.table_text.specs.declared.plan.Plan.{Plan}
 use Rattle.ason_main.specs.Outputs.{IsOutput}
 use Rattle.ason_main.specs.Plans.{FirstPlanOf}
 use Rattle.ason_main.proofs.ason.reply_to.Goals as goal

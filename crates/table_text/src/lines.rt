@@ -25,7 +25,7 @@ pub struct Lines {
 
 impl Model for Lines {
     ghost use Rattle.std.specs.Prelude.{List};
-    ghost use Rattle.ason_main.specs.declared.plan.lines.Line.{Line};
+    ghost use Rattle.table_text.specs.declared.lines.Line.{Line};
 
     ghost Value = { List Line };
 

@@ -1,11 +1,40 @@
 //! Names of nodes and calls.
 
 ghost use Rattle.std.specs.Prelude.{◌≡◌, ◌<◌, [], ◌∷◌, ◌++◌, length, IfOk, IfSome, IsTrue, OnErr, OnOk};
-ghost use Rattle.ason_main.specs.PlanTexts.{has_name, is_name, place_of, same_text};
+ghost use Rattle.table_text.specs.Names.{are_name_bytes, has_name, is_name, is_name_byte, is_name_rest, place_of, same_text};
 
 use ason_base::OutOfMemory;
 use std::alloc::Global;
 use std::marker::Model;
+
+#[tactic(auto, unfolding(crate::specs::Names::is_name_byte))]
+fn is_name_byte(b: u8) -> bool
+    ensures { result ≡ is_name_byte b }
+{
+    b.is_ascii_alphanumeric() || b == b'_' || b == b'-'
+}
+
+fn are_name_bytes(text: &[u8]) -> bool
+    ensures { result ≡ are_name_bytes text.now }
+{
+    text.iter().all(|b| is_name_byte(*b))
+}
+
+fn is_name_rest(text: &[u8]) -> bool
+    ensures { result ≡ is_name_rest text.now }
+{
+    text.len() <= 15 && are_name_bytes(text)
+}
+
+/// Whether the text is a name: 1 to 16 characters, the first an ASCII letter, the others ASCII letters, digits, `_` or `-`.
+pub fn is_name(text: &[u8]) -> bool
+    ensures { result ≡ is_name text.now }
+{
+    match text {
+        [] => false,
+        [first, others @ ..] => first.is_ascii_alphabetic() && is_name_rest(others),
+    }
+}
 
 /// A name: contracts see its text.
 #[derive(Debug, Drop)]

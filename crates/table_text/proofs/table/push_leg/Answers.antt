@@ -1,7 +1,7 @@
 use Rattle.std.proofs.Common.{codes, string_bytes}
-use Rattle.ason_main.specs.TableText.{back_text, leg_labels, leg_place}
-use Rattle.ason_main.proofs.TextParts.{four_parts}
-use Rattle.ason_main.proofs.table.push_leg.Goals as goal
+use Rattle.table_text.specs.TableText.{back_text, leg_labels, leg_place}
+use Rattle.table_text.proofs.TextParts.{four_parts}
+use Rattle.table_text.proofs.table.push_leg.Goals as goal
 
 pub returns : goal.returns
 returns c =

@@ -2,13 +2,13 @@
 
 ghost use Rattle.std.specs.Prelude.{◌≡◌, ◌==◌, ◌++◌, IfOk, OnErr, OnOk, codes, option_map, position, string_bytes};
 ghost use Rattle.std.specs.List.{flat_map};
-ghost use Rattle.ason_main.specs.TableText.{back_label_text, back_text, call_name, call_text, cause_text, code_name, head_text, label_or_dash, label_text, leg_labels, leg_place, leg_text, lsp_or_dash, lsp_text, name_at, named_or_decimal, node_name, phase_word, role_word, state_word, table_text, unsettled_text};
+ghost use Rattle.table_text.specs.TableText.{back_label_text, back_text, call_name, call_text, cause_text, code_name, head_text, label_or_dash, label_text, leg_labels, leg_place, leg_text, lsp_or_dash, lsp_text, name_at, named_or_decimal, node_name, phase_word, role_word, state_word, stopped_text, table_text, unsettled_text};
 
-use crate::plan::{Name, Plan};
-use ason_base::codes::{BUSY, DOWN, FULL, LABEL, PRIMARY, ROUTE, SET, TORN};
+use crate::names::Name;
+use crate::plan::Plan;
+use crate::words::{code_name, phase_word, role_word, state_word};
 use ason_base::{
-    CallNo, CallRow, CallState, Cause, ErrCode, Label, LegRow, LinkId, Lsp, NodeId, OutOfMemory,
-    Phase, Role, TableRows,
+    CallNo, CallRow, Cause, ErrCode, Label, LegRow, LinkId, Lsp, NodeId, OutOfMemory, TableRows,
 };
 use std::alloc::Global;
 
@@ -41,6 +41,29 @@ pub fn write_unsettled(
     let text = unsettled_text(alloc, desk, hop, flood)?;
     out.extend_from_slice(text.as_bytes())?;
     Ok(())
+}
+
+/// Appends the line of a run that is stopped at a node's limit. After want of memory nothing is appended.
+pub fn write_stopped(
+    alloc: Global,
+    out: &mut Vec<u8>,
+    plan: &Plan,
+    node: NodeId,
+) -> Result<(), OutOfMemory>
+    ensures ok { OnOk result (out.new.items ≡ out.old.items ++ stopped_text plan.now node) }
+    ensures err { OnErr result (out.new.items ≡ out.old.items) }
+{
+    let text = stopped_text(alloc, plan, node)?;
+    out.extend_from_slice(text.as_bytes())?;
+    Ok(())
+}
+
+fn stopped_text(alloc: Global, plan: &Plan, node: NodeId) -> Result<String, OutOfMemory>
+    ensures { IfOk result (λ text. string_bytes text ≡ stopped_text plan.now node) }
+{
+    let name = node_name(plan, node);
+    let text = format!(in alloc; "stopped at limit {name}\n")?;
+    Ok(text)
 }
 
 fn unsettled_text(
@@ -243,67 +266,6 @@ fn push_code(text: &mut String, code: ErrCode) -> Result<(), OutOfMemory>
     Ok(())
 }
 
-fn code_name(code: ErrCode) -> Option<&'static str>
-    ensures { option_map (λ name. name.now) result ≡ code_name code }
-{
-    if code == BUSY {
-        Some("busy")
-    } else if code == FULL {
-        Some("full")
-    } else if code == DOWN {
-        Some("down")
-    } else if code == TORN {
-        Some("torn")
-    } else if code == LABEL {
-        Some("label")
-    } else if code == SET {
-        Some("set")
-    } else if code == ROUTE {
-        Some("route")
-    } else if code == PRIMARY {
-        Some("primary")
-    } else {
-        None
-    }
-}
-
-fn state_word(state: CallState) -> &'static str
-    ensures { result.now ≡ state_word state }
-{
-    match state {
-        CallState::Asking => "asking",
-        CallState::Bare => "bare",
-        CallState::Pairing => "pairing",
-        CallState::Guarded => "guarded",
-        CallState::Turning => "turning",
-        CallState::Turned => "turned",
-        CallState::Stuck => "stuck",
-        CallState::Blocked => "blocked",
-    }
-}
-
-fn role_word(role: Role) -> &'static str
-    ensures { result.now ≡ role_word role }
-{
-    match role {
-        Role::Work => "work",
-        Role::Back => "back",
-    }
-}
-
-fn phase_word(phase: Phase) -> &'static str
-    ensures { result.now ≡ phase_word phase }
-{
-    match phase {
-        Phase::Asked => "asked",
-        Phase::Held => "held",
-        Phase::Armed => "armed",
-        Phase::Live => "live",
-        Phase::Closing => "closing",
-        Phase::Falling => "falling",
-    }
-}
-
 // The node's name; empty where the plan has no such node.
 fn node_name(plan: &Plan, node: NodeId) -> &str
     ensures { result.now ≡ node_name plan.now node }
@@ -339,7 +301,9 @@ fn name_at(names: &[Name], place: usize) -> &str
 #[cfg(test)]
 mod tests {
     use super::{write_table, write_unsettled};
-    use crate::plan::{Lines, Name, Names, Plan};
+    use crate::lines::Lines;
+    use crate::names::{Name, Names};
+    use crate::plan::Plan;
     use ason_base::codes::LABEL;
     use ason_base::{
         CallNo, CallRow, CallRows, CallState, Cause, Label, LegRow, LegRows, LinkId, Lsp, NodeId,
@@ -365,7 +329,7 @@ mod tests {
         Ok(names)
     }
 
-    #[tactic(auto, unfolding(crate::specs::PlanTexts::is_name_byte))]
+    #[tactic(auto, unfolding(crate::specs::Names::is_name_byte))]
     fn call_names(alloc: Global) -> Result<Names, OutOfMemory> {
         let mut names = Names::new(alloc);
         names.push(Name::new(alloc, b"c1")?)?;

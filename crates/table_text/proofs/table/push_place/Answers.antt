@@ -1,7 +1,7 @@
 use Rattle.std.proofs.Common.{codes, string_bytes}
-use Rattle.ason_main.specs.TableText.{lsp_text, node_name, phase_word, role_word}
-use Rattle.ason_main.proofs.TextParts.{place_parts}
-use Rattle.ason_main.proofs.table.push_place.Goals as goal
+use Rattle.table_text.specs.TableText.{lsp_text, node_name, phase_word, role_word}
+use Rattle.table_text.proofs.TextParts.{place_parts}
+use Rattle.table_text.proofs.table.push_place.Goals as goal
 
 pub returns : goal.returns
 returns c =

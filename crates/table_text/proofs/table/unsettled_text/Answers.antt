@@ -1,5 +1,5 @@
 use Rattle.std.proofs.Common.{append_assoc, refl}
-use Rattle.ason_main.proofs.table.unsettled_text.Goals as goal
+use Rattle.table_text.proofs.table.unsettled_text.Goals as goal
 
 pub returns : goal.returns
 returns c =

@@ -1,5 +1,5 @@
--- The table of calls and legs: the order of its rows, and its text.
-use Rattle.std.specs.Prelude.{ℕ, ◌==◌, ◌&&◌, ◌||◌, nat_lt, Bool, List, [], ◌++◌, length, codes, Option, Some, None, slice_get, unwrap_or, position, is_some, if◌then◌else◌}
+-- The text of a table of calls and legs, and of the lines that a run prints beside it.
+use Rattle.std.specs.Prelude.{ℕ, ◌==◌, ◌&&◌, ◌||◌, Bool, List, [], ◌++◌, length, codes, Option, Some, None, slice_get, unwrap_or, position, is_some, if◌then◌else◌}
 use Rattle.std.specs.List.{flat_map}
 use Rattle.std.specs.Fmt.{decimal}
 use Rattle.ason_base.specs.declared.ids.NodeId.{NodeId}
@@ -19,13 +19,7 @@ use Rattle.ason_base.specs.declared.calls.CallRow.{CallRow}
 use Rattle.ason_base.specs.declared.calls.LegRow.{LegRow}
 use Rattle.ason_base.specs.declared.calls.TableRows.{TableRows}
 use Rattle.ason_base.specs.Codes.{busy_code, full_code, down_code, torn_code, label_code, set_code, route_code, primary_code}
-use Rattle.ason_base.specs.Lsps.{same_lsp, lsp_before}
-use Rattle.ason_main.specs.declared.plan.Plan.{Plan}
-
--- Order of the legs: by LSP, then by node
-
-abbrev pub leg_before : LegRow → LegRow → Bool
-leg_before a b = lsp_before a.lsp b.lsp || (same_lsp a.lsp b.lsp && nat_lt a.node.0 b.node.0)
+use Rattle.table_text.specs.declared.plan.Plan.{Plan}
 
 -- Names; a number without a name gives no text
 
@@ -163,3 +157,7 @@ table_text p rows = head_text rows ++ flat_map (call_text p) rows.calls ++ flat_
 -- what is unsettled: desk items, unacknowledged messages, unacknowledged floods
 abbrev pub unsettled_text : ℕ → ℕ → ℕ → List ℕ
 unsettled_text desk hop flood = codes "unsettled desk " ++ decimal desk ++ codes " hop " ++ decimal hop ++ codes " flood " ++ decimal flood ++ codes "\n"
+
+-- the run is stopped at the limit of a node
+abbrev pub stopped_text : Plan → NodeId → List ℕ
+stopped_text p n = codes "stopped at limit " ++ node_name p n ++ codes "\n"
