@@ -1,5 +1,6 @@
--- A fact of an Ok, from another.
-use Rattle.std.specs.Prelude.{Result, Ok, Err, OnOk}
+-- A fact of an Ok or an error, from another.
+use Rattle.std.specs.Prelude.{Result, Ok, Err, IfErr, OnOk}
+use Rattle.std.specs.Result.{IsErrAnd}
 
 pub on_ok : {T E : Type 0} (r : Result T E) (P Q : Type 0) → (P → Q) → OnOk r P → OnOk r Q
 on_ok (Ok x) P Q f h = f h
@@ -12,3 +13,12 @@ on_ok_always (Err e) P h = tt
 pub on_ok_both : {T E : Type 0} (r : Result T E) (P Q R : Type 0) → (P → Q → R) → OnOk r P → OnOk r Q → OnOk r R
 on_ok_both (Ok x) P Q R f g h = f g h
 on_ok_both (Err e) P Q R f g h = h
+
+-- the error that a `?` passes on
+pub passed_on : {T E : Type 0} (r : Result T E) (Q P : E → Type 0) → ((e : E) → Q e → P e) → IsErrAnd r Q → IfErr r P
+passed_on (Ok x) Q P f h = absurd h
+passed_on (Err e) Q P f h = f e h
+
+pub if_err : {T E : Type 0} (r : Result T E) (P Q : E → Type 0) → ((e : E) → P e → Q e) → IfErr r P → IfErr r Q
+if_err (Ok x) P Q f h = h
+if_err (Err e) P Q f h = f e h

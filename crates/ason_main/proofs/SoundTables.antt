@@ -14,7 +14,7 @@ use Rattle.table_text.specs.Names.{has_name, is_name, place_of}
 use Rattle.ason_main.specs.Plans.{links_fault_in, links_in, names_in, network_in, nodes_fault_in, nodes_in}
 use Rattle.ason_main.specs.declared.plan.faults.PlanKind.TheVariants as kinds
 use Rattle.ason_main.specs.declared.plan.values.Shape.TheVariants.{OfNode, OfLink}
-use Rattle.ason_main.proofs.FirstLine.{no_fault_here, no_fault_later, place_is_known}
+use Rattle.ason_main.proofs.PostableLines.{no_fault_here, no_fault_later, place_is_known}
 
 -- Order
 

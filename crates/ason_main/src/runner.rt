@@ -8,5 +8,6 @@ pub mod rows;
 pub mod run;
 pub mod seats;
 pub mod settling;
+pub mod steps;
 pub mod stops;
 pub mod waiting;

@@ -9,15 +9,15 @@ ghost use Rattle.ason_main.specs.Kept.{AreSeated, HasSeat, KeepsSeats, StandsFor
 ghost use Rattle.ason_main.specs.Rounds.{around, desk_done, mail_done, neighbours, round, turn};
 
 use crate::runner::hoods::Hood;
-use crate::runner::lanes::{Lane, mail_len, take_first};
-use crate::runner::seats::{Seat, count_event, desk_len, give, take_item};
+use crate::runner::lanes::{Lane, mail_len};
+use crate::runner::seats::{Seat, count_event, desk_len};
+use crate::runner::steps::{handle_item, take_message, tick};
 use crate::runner::stops::Stop;
 use ason_base::{NodeId, NodeSpec, Topology};
-use node_core::Input;
 use std::alloc::Global;
 
-// The node ticks.
-fn tick(
+// The node ticks, unless it is at its limit.
+fn count_tick(
     alloc: Global,
     t: &Topology,
     seats: &mut Vec<Seat>,
@@ -29,14 +29,13 @@ fn tick(
     ensures stops { IfErr result (λ e. (k : NodeId) → e ≡ Stop.AtLimit k → (h : History) → StandsFor t.now seats.old.items lanes.old.items h → (made n (MeshEvent.Tick n) h).stopped ≡ Some k) }
     ensures seated { OnOk result (KeepsSeats seats.old.items seats.new.items) }
 {
-    let _ = t;
     count_event(seats, n)?;
-    give(alloc, seats, lanes, n, &Input::Tick)?;
+    tick(alloc, t, seats, lanes, n)?;
     Ok(())
 }
 
-// The first item of the node's desk is handled.
-fn handle_item(
+// The first item of the node's desk is handled, unless the node is at its limit.
+fn count_item(
     alloc: Global,
     t: &Topology,
     seats: &mut Vec<Seat>,
@@ -48,16 +47,13 @@ fn handle_item(
     ensures stops { IfErr result (λ e. (k : NodeId) → e ≡ Stop.AtLimit k → (h : History) → StandsFor t.now seats.old.items lanes.old.items h → (made n (MeshEvent.Desk n) h).stopped ≡ Some k) }
     ensures seated { OnOk result (KeepsSeats seats.old.items seats.new.items) }
 {
-    let _ = t;
     count_event(seats, n)?;
-    if let Some(item) = take_item(seats, n) {
-        give(alloc, seats, lanes, n, &Input::Desk(item))?;
-    }
+    handle_item(alloc, t, seats, lanes, n)?;
     Ok(())
 }
 
-// The first message from this neighbour is taken.
-fn take_message(
+// The first message from this neighbour is taken, unless the node is at its limit.
+fn count_message(
     alloc: Global,
     t: &Topology,
     seats: &mut Vec<Seat>,
@@ -70,11 +66,8 @@ fn take_message(
     ensures stops { IfErr result (λ e. (k : NodeId) → e ≡ Stop.AtLimit k → (h : History) → StandsFor t.now seats.old.items lanes.old.items h → (made n (MeshEvent.Take n from) h).stopped ≡ Some k) }
     ensures seated { OnOk result (KeepsSeats seats.old.items seats.new.items) }
 {
-    let _ = t;
     count_event(seats, n)?;
-    if let Some(msg) = take_first(lanes, from, n) {
-        give(alloc, seats, lanes, n, &Input::Message { from, msg })?;
-    }
+    take_message(alloc, t, seats, lanes, n, from)?;
     Ok(())
 }
 
@@ -93,7 +86,7 @@ fn handle_desk(
 {
     let count = desk_len(seats, n);
     for _item in 0..count {
-        handle_item(alloc, t, seats, lanes, n)?;
+        count_item(alloc, t, seats, lanes, n)?;
     }
     Ok(())
 }
@@ -114,7 +107,7 @@ fn take_mail(
 {
     let count = mail_len(lanes, from.id, n);
     for _message in 0..count {
-        take_message(alloc, t, seats, lanes, n, from.id)?;
+        count_message(alloc, t, seats, lanes, n, from.id)?;
     }
     Ok(())
 }
@@ -154,7 +147,7 @@ fn turn(
     ensures seated { OnOk result (KeepsSeats seats.old.items seats.new.items) }
 {
     let n = hood.id();
-    tick(alloc, t, seats, lanes, n)?;
+    count_tick(alloc, t, seats, lanes, n)?;
     handle_desk(alloc, t, seats, lanes, n)?;
     take_all_mail(alloc, t, seats, lanes, n, hood.near())
 }
