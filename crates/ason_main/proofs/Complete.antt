@@ -1,12 +1,13 @@
 -- Words with a meaning, a plan without fault and no end that fails.
-use Rattle.std.proofs.Common.{◌≡◌, ◌∙◌, ◌≤◌, ◌<◌, ◌+◌, ℕ, List, inl, inr, length, sym, ap, subst, arith, length-append, take, refl, []}
+use Rattle.std.proofs.Common.{◌≡◌, ◌∙◌, ◌≤◌, ◌<◌, ◌+◌, ℕ, List, inl, inr, true, length, sym, ap, subst, arith, length-append, take, refl, []}
 use Rattle.std.specs.Prelude.{◌⊎◌, Option, Some, None, IfSome, Ok, Err}
 use Rattle.std.specs.Io.KnownBytes.{Appends, Consumes}
 use Rattle.ason_io.specs.Faults.{Rose}
+use Rattle.ason_io.specs.Reading.{WasReadToEnd}
 use Rattle.table_text.specs.declared.plan.Plan.{Plan}
 use Rattle.ason_main.specs.declared.ason.Reply.{Reply}
 use Rattle.ason_main.specs.declared.ason.Status.{Status}
-use Rattle.ason_main.specs.Answers.{IsComplete, IsEnd, IsJudged, IsReply, WasGiven, status_of, text_of_reply}
+use Rattle.ason_main.specs.Answers.{IsComplete, IsEnd, IsJudged, IsReply, WasGiven, is_run, status_of, text_of_reply}
 use Rattle.ason_main.specs.Outputs.{run_of}
 use Rattle.ason_main.specs.Plans.{PlanOf}
 use Rattle.ason_main.proofs.Agree.{no_plan, one_plan}
@@ -15,6 +16,17 @@ use Rattle.ason_main.proofs.Agree.{no_plan, one_plan}
 consumed : (all bs : List ℕ) (rest : Option (List ℕ)) → Consumes (Some all) rest bs → length bs ≤ length all
 consumed all bs None is = absurd is
 consumed all bs (Some rest) is = subst (λ n. length bs ≤ n) (sym (ap length is ∙ length-append bs rest)) (grind arith)
+
+-- what is answered of the bytes that were read to their end
+pub judged_reply : {S : Type 0} (left : S → Option (List ℕ)) (handed : S → List ℕ → S → Type 0) (ended : S → Type 0) (faults : S → ℕ) (words : List (List ℕ)) (old new : S) (bs : List ℕ) (r : Reply) →
+    is_run words ≡ true → WasReadToEnd left handed ended old new bs → IsJudged bs r → IsReply left handed ended faults words old new r
+judged_reply left handed ended faults words old new bs (Reply.Done text) word read is = (word, (bs, read, is))
+judged_reply left handed ended faults words old new bs Reply.Usage word read is = absurd is
+judged_reply left handed ended faults words old new bs (Reply.PlanRefused text) word read is = (word, (bs, read, is))
+judged_reply left handed ended faults words old new bs Reply.ReadFault word read is = absurd is
+judged_reply left handed ended faults words old new bs (Reply.EventLimit text) word read is = (word, (bs, read, is))
+judged_reply left handed ended faults words old new bs Reply.OutOfMemory word read is = word
+judged_reply left handed ended faults words old new bs Reply.TooLong word read is = absurd is
 
 -- a plan's reply
 judged_end : (bs : List ℕ) (p : Plan) (r : Reply) (s : Status) → PlanOf bs (Ok p) → IsJudged bs r → s ≡ status_of r → IsEnd p s

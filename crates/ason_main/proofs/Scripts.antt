@@ -52,20 +52,47 @@ pub record Cuts (p : Plan) (old new : Run) (line : Line) (k : NodeId) : Type 0 w
 pub record CutsAll (p : Plan) (old new : Run) (lines : List Line) (k : NodeId) : Type 0 where
   pub cut : (h : History) → StandsNow p.topology old h → AreCut p old new lines k h
 
-pub does_one : (p : Plan) (a b : Run) (line : Line) → Does p a b line → DoesAll p a b (line ∷ [])
+does_one : (p : Plan) (a b : Run) (line : Line) → Does p a b line → DoesAll p a b (line ∷ [])
 does_one p a b line does = record { done = λ h stands. done_one p a b line h (does.done h stands) }
 
-pub does_both : (p : Plan) (a b c : Run) (xs ys : List Line) → DoesAll p a b xs → DoesAll p b c ys → DoesAll p a c (xs ++ ys)
+does_both : (p : Plan) (a b c : Run) (xs ys : List Line) → DoesAll p a b xs → DoesAll p b c ys → DoesAll p a c (xs ++ ys)
 does_both p a b c xs ys first second = record { done = λ h stands. let now = first.done h stands in done_append p a b c xs ys h now (second.done _ now.stands) }
 
-pub cuts_one : (p : Plan) (a b : Run) (line : Line) (k : NodeId) → Cuts p a b line k → CutsAll p a b (line ∷ []) k
+cuts_one : (p : Plan) (a b : Run) (line : Line) (k : NodeId) → Cuts p a b line k → CutsAll p a b (line ∷ []) k
 cuts_one p a b line k cuts = record { cut = λ h stands. cut_one p a b line k h (cuts.cut h stands) }
 
-pub cuts_later : (p : Plan) (a b c : Run) (xs ys : List Line) (k : NodeId) → DoesAll p a b xs → CutsAll p b c ys k → CutsAll p a c (xs ++ ys) k
+cuts_later : (p : Plan) (a b c : Run) (xs ys : List Line) (k : NodeId) → DoesAll p a b xs → CutsAll p b c ys k → CutsAll p a c (xs ++ ys) k
 cuts_later p a b c xs ys k first second = record { cut = λ h stands. let now = first.done h stands in cut_append p a b c xs ys k h now (second.cut _ now.stands) }
 
-pub cuts_early : (p : Plan) (a b : Run) (xs ys : List Line) (k : NodeId) → CutsAll p a b xs k → CutsAll p a b (xs ++ ys) k
+cuts_early : (p : Plan) (a b : Run) (xs ys : List Line) (k : NodeId) → CutsAll p a b xs k → CutsAll p a b (xs ++ ys) k
 cuts_early p a b xs ys k first = record { cut = λ h stands. cut_early p a b xs ys k h (first.cut h stands) }
+
+-- The whole script, and where it is cut
+
+abbrev last_lines : ℕ → List Line
+last_lines rounds = Settle rounds ∷ Show ∷ []
+
+pub does_script : (p : Plan) (rounds : ℕ) (a b c d e : Run) → Does p a b (Settle rounds) → DoesAll p b c p.lines → Does p c d (Settle rounds) → Does p d e Show → DoesAll p a e (settling_script rounds p)
+does_script p rounds a b c d e first lines last show =
+    does_both p a b e (Settle rounds ∷ []) (p.lines ++ last_lines rounds) (does_one p a b (Settle rounds) first)
+    (does_both p b c e p.lines (last_lines rounds) lines (does_both p c d e (Settle rounds ∷ []) (Show ∷ []) (does_one p c d (Settle rounds) last) (does_one p d e Show show)))
+
+pub cut_first : (p : Plan) (rounds : ℕ) (a b : Run) (k : NodeId) → Cuts p a b (Settle rounds) k → CutsAll p a b (settling_script rounds p) k
+cut_first p rounds a b k cuts = cuts_early p a b (Settle rounds ∷ []) (p.lines ++ last_lines rounds) k (cuts_one p a b (Settle rounds) k cuts)
+
+pub cut_lines : (p : Plan) (rounds : ℕ) (a b c : Run) (k : NodeId) → Does p a b (Settle rounds) → CutsAll p b c p.lines k → CutsAll p a c (settling_script rounds p) k
+cut_lines p rounds a b c k first cuts =
+    cuts_later p a b c (Settle rounds ∷ []) (p.lines ++ last_lines rounds) k (does_one p a b (Settle rounds) first) (cuts_early p b c p.lines (last_lines rounds) k cuts)
+
+pub cut_last : (p : Plan) (rounds : ℕ) (a b c d : Run) (k : NodeId) → Does p a b (Settle rounds) → DoesAll p b c p.lines → Cuts p c d (Settle rounds) k → CutsAll p a d (settling_script rounds p) k
+cut_last p rounds a b c d k first lines cuts =
+    cuts_later p a b d (Settle rounds ∷ []) (p.lines ++ last_lines rounds) k (does_one p a b (Settle rounds) first)
+    (cuts_later p b c d p.lines (last_lines rounds) k lines (cuts_early p c d (Settle rounds ∷ []) (Show ∷ []) k (cuts_one p c d (Settle rounds) k cuts)))
+
+pub cut_show : (p : Plan) (rounds : ℕ) (a b c d e : Run) (k : NodeId) → Does p a b (Settle rounds) → DoesAll p b c p.lines → Does p c d (Settle rounds) → Cuts p d e Show k → CutsAll p a e (settling_script rounds p) k
+cut_show p rounds a b c d e k first lines last cuts =
+    cuts_later p a b e (Settle rounds ∷ []) (p.lines ++ last_lines rounds) k (does_one p a b (Settle rounds) first)
+    (cuts_later p b c e p.lines (last_lines rounds) k lines (cuts_later p c d e (Settle rounds ∷ []) (Show ∷ []) k (does_one p c d (Settle rounds) last) (cuts_one p d e Show k cuts)))
 
 -- Outputs
 

@@ -38,8 +38,8 @@ pub returns-in_err-count_item-clause-stops : goal.returns-in_err-count_item-clau
 returns-in_err-count_item-clause-stops c =
     passed_on c.from_residual.result _ _
     (λ e same k is h stands.
-        let times = c.desk_len-count.ensures ∙ (ap (λ xs. length (seat_desk (seat_at xs c.args.n.0))) c.deref.ensures.value ∙ ap (λ s. length (s.desks c.args.n.0)) stands.mesh) in
-        ap (λ j. (repeated c.args.n (event.Desk c.args.n) j h).stopped) (sym times)
-        ∙ repeated_cut c.args.n (event.Desk c.args.n) c.desk_len-count.result c.loop-item._item h k c.loop-item-test.true
-        (c.in_err-count_item.ensures.stops k (sym same ∙ is) (repeated c.args.n (event.Desk c.args.n) c.loop-item._item h) (c.loop-item.invariant.on h stands)))
+    let times = c.desk_len-count.ensures ∙ (ap (λ xs. length (seat_desk (seat_at xs c.args.n.0))) c.deref.ensures.value ∙ ap (λ s. length (s.desks c.args.n.0)) stands.mesh) in
+    ap (λ j. (repeated c.args.n (event.Desk c.args.n) j h).stopped) (sym times)
+    ∙ repeated_cut c.args.n (event.Desk c.args.n) c.desk_len-count.result c.loop-item._item h k c.loop-item-test.true
+    (c.in_err-count_item.ensures.stops k (sym same ∙ is) (repeated c.args.n (event.Desk c.args.n) c.loop-item._item h) (c.loop-item.invariant.on h stands)))
     c.from_residual.ensures.1

@@ -21,12 +21,12 @@ pub returns-in_err-turn-clause-stops : goal.returns-in_err-turn-clause-stops
 returns-in_err-turn-clause-stops c =
     passed_on c.from_residual.result _ _
     (λ e same k is h stands.
-        let t = c.args.t.now in
-        let f : History → Around → History = λ g a. turn t g a.id in
-        let before : History = fold f h (take c.loop-hood.hood-index c.args.hoods.now) in
-        let cut : (turn t before c.hood-item.result.id).stopped ≡ Some k = c.in_err-turn.ensures.stops k (sym same ∙ is) before (c.loop-hood.invariant.on h stands) in
-        ap (λ (g : History). g.stopped) (sym (round_is t c.args.hoods.now h c.requires.hoods))
-        ∙ fold_cut f (λ a. turn_stays t a.id) h c.args.hoods.now c.loop-hood.hood-index c.hood-item.result k c.loop-hood-test.true (subst (λ (a : Around). (turn t before a.id).stopped ≡ Some k) c.hood-item.is cut))
+    let t = c.args.t.now in
+    let f : History → Around → History = λ g a. turn t g a.id in
+    let before : History = fold f h (take c.loop-hood.hood-index c.args.hoods.now) in
+    let cut : (turn t before c.hood-item.result.id).stopped ≡ Some k = c.in_err-turn.ensures.stops k (sym same ∙ is) before (c.loop-hood.invariant.on h stands) in
+    ap (λ (g : History). g.stopped) (sym (round_is t c.args.hoods.now h c.requires.hoods))
+    ∙ fold_cut f (λ a. turn_stays t a.id) h c.args.hoods.now c.loop-hood.hood-index c.hood-item.result k c.loop-hood-test.true (subst (λ (a : Around). (turn t before a.id).stopped ≡ Some k) c.hood-item.is cut))
     c.from_residual.ensures.1
 
 pub loop-hood-preserved : goal.loop-hood-preserved

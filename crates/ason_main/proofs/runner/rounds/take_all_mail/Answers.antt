@@ -9,6 +9,6 @@ pub returns-in_err-take_mail-clause-stops : goal.returns-in_err-take_mail-clause
 returns-in_err-take_mail-clause-stops c =
     passed_on c.from_residual.result _ _
     (λ e same k is h stands.
-        fold_cut (mail_done c.args.t.now c.args.n) (mail_stays c.args.t.now c.args.n) h c.args.near.now c.loop-from.from-index _ k c.loop-from-test.true
-        (c.in_err-take_mail.ensures.stops k (sym same ∙ is) (fold (mail_done c.args.t.now c.args.n) h (take c.loop-from.from-index c.args.near.now)) (c.loop-from.invariant.on h stands)))
+    fold_cut (mail_done c.args.t.now c.args.n) (mail_stays c.args.t.now c.args.n) h c.args.near.now c.loop-from.from-index _ k c.loop-from-test.true
+    (c.in_err-take_mail.ensures.stops k (sym same ∙ is) (fold (mail_done c.args.t.now c.args.n) h (take c.loop-from.from-index c.args.near.now)) (c.loop-from.invariant.on h stands)))
     c.from_residual.ensures.1

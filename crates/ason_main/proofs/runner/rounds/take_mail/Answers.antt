@@ -38,8 +38,8 @@ pub returns-in_err-count_message-clause-stops : goal.returns-in_err-count_messag
 returns-in_err-count_message-clause-stops c =
     passed_on c.from_residual.result _ _
     (λ e same k is h stands.
-        let times = c.mail_len-count.ensures ∙ (ap (λ xs. length (mail_at xs c.args.from.now.id.0 c.args.n.0)) c.deref.ensures.value ∙ ap (λ s. length (s.mail c.args.from.now.id.0 c.args.n.0)) stands.mesh) in
-        ap (λ j. (repeated c.args.n (event.Take c.args.n c.args.from.now.id) j h).stopped) (sym times)
-        ∙ repeated_cut c.args.n (event.Take c.args.n c.args.from.now.id) c.mail_len-count.result c.loop-message._message h k c.loop-message-test.true
-        (c.in_err-count_message.ensures.stops k (sym same ∙ is) (repeated c.args.n (event.Take c.args.n c.args.from.now.id) c.loop-message._message h) (c.loop-message.invariant.on h stands)))
+    let times = c.mail_len-count.ensures ∙ (ap (λ xs. length (mail_at xs c.args.from.now.id.0 c.args.n.0)) c.deref.ensures.value ∙ ap (λ s. length (s.mail c.args.from.now.id.0 c.args.n.0)) stands.mesh) in
+    ap (λ j. (repeated c.args.n (event.Take c.args.n c.args.from.now.id) j h).stopped) (sym times)
+    ∙ repeated_cut c.args.n (event.Take c.args.n c.args.from.now.id) c.mail_len-count.result c.loop-message._message h k c.loop-message-test.true
+    (c.in_err-count_message.ensures.stops k (sym same ∙ is) (repeated c.args.n (event.Take c.args.n c.args.from.now.id) c.loop-message._message h) (c.loop-message.invariant.on h stands)))
     c.from_residual.ensures.1

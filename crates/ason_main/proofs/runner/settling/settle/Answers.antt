@@ -18,11 +18,11 @@ pub returns-in_err-round-clause-stops : goal.returns-in_err-round-clause-stops
 returns-in_err-round-clause-stops c =
     passed_on c.from_residual.result _ _
     (λ e same k is h stands.
-        let t = c.args.t.now in
-        let x = c.loop-made.invariant.on h stands in
-        let busy : is_quiet t (mesh_with c.loop-made.seats.items c.loop-made.lanes.items []) ≡ false =
-        ap (λ xs. is_quiet t (mesh_with xs c.loop-made.lanes.items [])) (sym c.deref.ensures.value) ∙ ap (λ ys. is_quiet t (mesh_with c.deref.result.now ys [])) (sym c.deref-in-loop-made.ensures.value) ∙ sym c.is_quiet.ensures ∙ c.if-is_quiet.false in
-        settled_cut t c.args.rounds c.loop-made._made h x.0 k c.loop-made-test.true (ap (is_quiet t) (sym x.1.mesh) ∙ busy) x.2 (c.in_err-round.ensures.stops k (sym same ∙ is) x.0 x.1))
+    let t = c.args.t.now in
+    let x = c.loop-made.invariant.on h stands in
+    let busy : is_quiet t (mesh_with c.loop-made.seats.items c.loop-made.lanes.items []) ≡ false =
+    ap (λ xs. is_quiet t (mesh_with xs c.loop-made.lanes.items [])) (sym c.deref.ensures.value) ∙ ap (λ ys. is_quiet t (mesh_with c.deref.result.now ys [])) (sym c.deref-in-loop-made.ensures.value) ∙ sym c.is_quiet.ensures ∙ c.if-is_quiet.false in
+    settled_cut t c.args.rounds c.loop-made._made h x.0 k c.loop-made-test.true (ap (is_quiet t) (sym x.1.mesh) ∙ busy) x.2 (c.in_err-round.ensures.stops k (sym same ∙ is) x.0 x.1))
     c.from_residual.ensures.1
 
 pub loop-made-preserved : goal.loop-made-preserved
