@@ -1,5 +1,5 @@
 -- The events that a script's run makes are a run of the machine.
-use Rattle.std.proofs.Common.{◌≡◌, ◌<◌, ◌≤◌, ℕ, zero, suc, Bool, true, false, cond, not, nat_eq, nat_lt, List, [], ◌∷◌, ◌++◌, length, drop, refl, sym, ap, ◌∙◌, subst, arith, append-nil, append_assoc}
+use Rattle.std.proofs.Common.{◌≡◌, ◌≤◌, ℕ, zero, suc, Bool, true, false, cond, not, nat_eq, nat_lt, List, [], ◌∷◌, ◌++◌, length, drop, refl, sym, ap, ◌∙◌, subst, arith}
 use Rattle.std.specs.Prelude.{◌&&◌, Option, Some, None, fold, is_some}
 use Rattle.std.specs.List.{list_all}
 use Rattle.std.proofs.lemmas.Bool.{and_parts}
@@ -22,8 +22,8 @@ use Rattle.ason_main.specs.Outputs.{line_done, lines_done}
 use Rattle.ason_main.specs.Plans.{ArePostable, IsPostable, calls_after_line}
 use Rattle.ason_main.specs.Rounds.{desk_done, is_quiet, mail_done, neighbours, repeated, round, settled, turn}
 use Rattle.ason_main.proofs.Neighbours.{is_known, is_other, neighbours_apart, nodes_known}
-use Rattle.ason_main.proofs.Standing.{after_append, state_with}
-use Rattle.ason_main.proofs.Stopping.{IsStoppedAt, lines_stay}
+use Rattle.ason_main.proofs.Standing.{state_with}
+use Rattle.ason_main.proofs.Stopping.{lines_stay}
 
 -- the events are a run, after which these calls are posted
 pub record IsRunning (t : Network) (posted : List CallNo) (h : History) : Type 0 where

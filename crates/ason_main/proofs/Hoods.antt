@@ -1,6 +1,6 @@
 -- Each node with its neighbours.
 use Rattle.std.proofs.Common.{◌≡◌, ◌<◌, ℕ, zero, suc, Bool, true, false, nat_eq, List, [], ◌∷◌, length, get_or, refl, sym, ap, ◌∙◌, subst, arith}
-use Rattle.std.specs.Prelude.{◌||◌, Some, fold, map}
+use Rattle.std.specs.Prelude.{◌||◌, fold, map}
 use Rattle.std.proofs.lemmas.List.Folds.{fold-map}
 use Rattle.ason_base.specs.declared.ids.NodeId.{NodeId}
 use Rattle.ason_base.specs.declared.network.NodeSpec.{NodeSpec}

@@ -8,7 +8,7 @@ use Rattle.mesh.specs.declared.events.MeshEvent.{MeshEvent}
 use Rattle.mesh.specs.declared.events.MeshEvent.TheVariants as event
 use Rattle.table_text.specs.declared.lines.Line.{Line}
 use Rattle.table_text.specs.declared.lines.Line.TheVariants.{Post, Settle, Show}
-use Rattle.ason_main.specs.Histories.{History, made, state_after, stopped_at, with_event}
+use Rattle.ason_main.specs.Histories.{History, made, state_after, with_event}
 use Rattle.ason_main.specs.Outputs.{LeadThrough, line_done, lines_done}
 use Rattle.ason_main.specs.Rounds.{desk_done, is_quiet, mail_done, neighbours, repeated, round, settled, turn}
 use Rattle.ason_main.proofs.HistoryRuns.{made_cases}

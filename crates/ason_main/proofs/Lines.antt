@@ -1,5 +1,5 @@
 -- What one line of a script does to what the runner keeps.
-use Rattle.std.proofs.Common.{◌≡◌, ◌+◌, ℕ, Bool, true, false, cond, List, [], ◌∷◌, ◌++◌, refl, sym, ap, ◌∙◌, subst, arith, append-nil}
+use Rattle.std.proofs.Common.{◌≡◌, ◌+◌, ℕ, cond, List, [], refl, sym, ap, ◌∙◌, subst, arith}
 use Rattle.std.specs.Prelude.{Option, Some, None, is_some}
 use Rattle.ason_base.specs.declared.calls.TableRows.{TableRows}
 use Rattle.ason_base.specs.declared.commands.Command.{Command}
@@ -7,19 +7,15 @@ use Rattle.ason_base.specs.declared.ids.CallNo.{CallNo}
 use Rattle.ason_base.specs.declared.ids.NodeId.{NodeId}
 use Rattle.ason_base.specs.Network.{Network}
 use Rattle.mesh.specs.declared.events.MeshEvent.TheVariants as event
-use Rattle.mesh.specs.Machine.{Mesh}
 use Rattle.mesh.specs.Events.{posted}
-use Rattle.table_text.specs.TableText.{table_text}
 use Rattle.table_text.specs.declared.lines.Line.{Line}
-use Rattle.table_text.specs.declared.lines.Line.TheVariants.{Post, Settle, Show}
+use Rattle.table_text.specs.declared.lines.Line.TheVariants.{Post}
 use Rattle.table_text.specs.declared.plan.Plan.{Plan}
 use Rattle.ason_main.specs.declared.runner.lanes.Lane.{Lane}
-use Rattle.ason_main.specs.declared.runner.run.Run.{Run}
 use Rattle.ason_main.specs.declared.runner.seats.Seat.{Seat}
 use Rattle.ason_main.specs.Histories.{History, events_of, is_event_of, state_after, with_event}
 use Rattle.ason_main.specs.Kept.{StandsFor, calls_after, mesh_with, seat_at, seat_made}
 use Rattle.ason_main.specs.Outputs.{IsTable, LinePrints, Shows, UnlessStopped, line_done, unsettled_line}
-use Rattle.ason_main.specs.Running.{HasPrinted, IsCut, IsDone, StandsNow}
 use Rattle.ason_main.proofs.Standing.{count_more, state_with}
 
 -- A post

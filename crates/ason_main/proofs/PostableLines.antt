@@ -1,6 +1,6 @@
 -- The lines of a plan without fault can be posted one after the other.
 use Rattle.std.proofs.Common.{◌≡◌, inl, inr, ℕ, zero, suc, Bool, true, false, ◌&&◌, ◌||◌, ◌==◌, ◌+◌, ◌++◌, cond, not, nat_le, nat_lt, arith, length, length-append, List, [], ◌∷◌, Ok, refl, sym, ap, ◌∙◌, subst}
-use Rattle.std.specs.Prelude.{Option, Some, None, is_none, position, slice_get, unwrap_or}
+use Rattle.std.specs.Prelude.{Option, Some, None, is_none, slice_get, unwrap_or}
 use Rattle.std.specs.List.{list_all, list_any, position_or_len}
 use Rattle.std.proofs.lemmas.Bool.{and_parts}
 use Rattle.std.proofs.lemmas.List.Folds.{list_all-append}
@@ -9,12 +9,12 @@ use Rattle.ason_base.specs.Network.{Network, is_node_id}
 use Rattle.ason_base.specs.declared.ids.CallNo.{CallNo}
 use Rattle.ason_base.specs.declared.ids.NodeId.{NodeId}
 use Rattle.ason_base.specs.declared.network.NodeSpec.{NodeSpec}
-use Rattle.mesh.specs.Commands.{is_again, is_valid, makes_route}
+use Rattle.mesh.specs.Commands.{is_valid, makes_route}
 use Rattle.table_text.specs.Names.{has_name, is_name, place_of, same_text}
 use Rattle.table_text.specs.declared.lines.Line.TheVariants.{Post, Settle, Show}
 use Rattle.table_text.specs.declared.plan.Plan.{Plan}
 use Rattle.ason_main.specs.PlanCalls.{CallList, ingress_at, ingress_of, no_calls, no_node, with_call}
-use Rattle.ason_main.specs.PlanScript.{are_same, call_of, calls_after, from_node, from_of, is_given_setup, is_release, is_settle, is_show, is_unbuilt, line_kind, line_of, lines_of, other_kind, other_line, release_kind, release_of, rounds_of, route_of, script_fault, settle_kind, setup_kind, setup_of, to_node, to_of}
+use Rattle.ason_main.specs.PlanScript.{are_same, calls_after, from_node, from_of, is_given_setup, is_release, is_settle, is_show, is_unbuilt, line_kind, line_of, lines_of, other_kind, other_line, release_kind, release_of, rounds_of, route_of, script_fault, settle_kind, setup_kind, setup_of, to_node, to_of}
 use Rattle.ason_main.specs.PlanTables.{fault_at, first_of}
 use Rattle.ason_main.specs.PlanTexts.{are_link_ids, id_at, id_at_place, word_at, words_of}
 use Rattle.ason_main.specs.Plans.{ArePostable, IsPostable, PlanOf, calls_after_line, fault_in, links_fault_in, names_in, network_in, nodes_fault_in, plan_in, plan_of, script_fault_in, script_in, top_fault_in, unless_fault}

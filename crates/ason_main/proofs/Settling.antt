@@ -1,5 +1,5 @@
 -- Rounds until all is quiet, and what is quiet and what waits by the nodes' neighbours.
-use Rattle.std.proofs.Common.{◌≡◌, ◌<◌, ◌≤◌, ◌+◌, ◌-◌, ℕ, suc, Bool, true, false, cond, List, [], ◌∷◌, refl, sym, ap, ◌∙◌, subst, arith}
+use Rattle.std.proofs.Common.{◌≡◌, ◌<◌, ◌≤◌, ◌+◌, ◌-◌, ℕ, suc, Bool, true, false, cond, List, [], refl, sym, ap, ◌∙◌, arith}
 use Rattle.std.specs.Prelude.{◌&&◌, Some, map, sum_by}
 use Rattle.std.specs.List.{list_all}
 use Rattle.std.proofs.lemmas.List.Folds.{fold-map, list_all-map}
@@ -9,8 +9,8 @@ use Rattle.ason_main.specs.declared.runner.lanes.Lane.{Lane}
 use Rattle.ason_main.specs.declared.runner.seats.Seat.{Seat}
 use Rattle.ason_main.specs.Histories.{History, state_after}
 use Rattle.ason_main.specs.Kept.{mesh_with}
-use Rattle.ason_main.specs.Rounds.{Around, around, has_no_item, has_no_mail, is_quiet, mail_waiting, mail_waiting_at, neighbours, round, settled}
-use Rattle.ason_main.proofs.Stopping.{IsStoppedAt, settled_stays}
+use Rattle.ason_main.specs.Rounds.{Around, around, has_no_item, has_no_mail, is_quiet, mail_waiting, mail_waiting_at, round, settled}
+use Rattle.ason_main.proofs.Stopping.{settled_stays}
 
 quiet_of : (t : Network) (seats : List Seat) (lanes : List Lane) (hoods : List Around) → hoods ≡ map (around t) t.nodes →
     (list_all (λ k. has_no_item (mesh_with seats [] []) k.id) hoods && list_all (λ k. has_no_mail (mesh_with [] lanes []) k.id k.near) hoods) ≡ is_quiet t (mesh_with seats lanes [])

@@ -1,6 +1,6 @@
-use Rattle.std.proofs.Common.{◌≡◌, ◌∙◌, nat_eq, refl, sym}
+use Rattle.std.proofs.Common.{refl}
 use Rattle.mesh.specs.declared.events.MeshEvent.TheVariants as event
-use Rattle.ason_main.proofs.Standing.{AreCounted, IsOf, counted_keeps, stands_cut, stands_on}
+use Rattle.ason_main.proofs.Standing.{stands_on}
 use Rattle.ason_main.proofs.runner.rounds.count_tick.Goals as goal
 
 pub returns-clause-on : goal.returns-clause-on

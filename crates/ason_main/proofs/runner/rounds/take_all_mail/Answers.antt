@@ -1,4 +1,4 @@
-use Rattle.std.proofs.Common.{sym, ◌∙◌, get_or, take}
+use Rattle.std.proofs.Common.{sym, ◌∙◌, take}
 use Rattle.std.specs.Prelude.{fold}
 use Rattle.ason_main.specs.Rounds.{mail_done}
 use Rattle.ason_main.proofs.Results.{passed_on}

@@ -1,4 +1,4 @@
-use Rattle.std.proofs.Common.{sym, ◌∙◌, ap, refl, length, arith, ◌≤◌, ◌+◌}
+use Rattle.std.proofs.Common.{sym, ◌∙◌, ap, refl, length, arith}
 use Rattle.mesh.specs.declared.events.MeshEvent.TheVariants as event
 use Rattle.ason_main.specs.Kept.{StandsFor, mail_at}
 use Rattle.ason_main.specs.Rounds.{repeated}

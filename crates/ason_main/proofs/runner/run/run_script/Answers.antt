@@ -1,9 +1,8 @@
 use Rattle.std.proofs.Common.{sym, ◌∙◌, subst}
-use Rattle.table_text.specs.declared.lines.Line.TheVariants.{Settle, Show}
 use Rattle.ason_main.specs.Plans.{AreValidLines}
 use Rattle.ason_main.specs.Running.{AreCut, AreDone}
 use Rattle.ason_main.proofs.Results.{if_err, on_ok, passed_on}
-use Rattle.ason_main.proofs.Scripts.{Cuts, CutsAll, Does, DoesAll, cut_first, cut_last, cut_lines, cut_show, does_script}
+use Rattle.ason_main.proofs.Scripts.{CutsAll, DoesAll, cut_first, cut_last, cut_lines, cut_show, does_script}
 use Rattle.ason_main.proofs.runner.run.run_script.Goals as goal
 
 pub run_lines-requires-clause-valid : goal.run_lines-requires-clause-valid

@@ -1,5 +1,4 @@
 use Rattle.std.proofs.Common.{◌≡◌, sym, ◌∙◌, ap, subst, true, false, []}
-use Rattle.ason_main.specs.Histories.{state_after}
 use Rattle.ason_main.specs.Kept.{StandsFor, mesh_with}
 use Rattle.ason_main.specs.Rounds.{is_quiet, round}
 use Rattle.ason_main.proofs.Results.{passed_on}
