@@ -3,7 +3,7 @@ use Rattle.std.proofs.Common.{◌≡◌, ℕ, ◌==◌, ◌&&◌, ◌||◌, nat_
 use Rattle.std.specs.List.Sorted.{IsSortedBy}
 use Rattle.std.specs.Ordering.{ordering_then}
 use Rattle.ason_base.specs.declared.calls.LegRow.{LegRow}
-use Rattle.ason_main.specs.TableText.{leg_before}
+use Rattle.ason_main.specs.Outputs.{leg_before}
 use mathlib.Core.Bool.{cond}
 
 is_lt-cond : (b e : Bool) → is_lt (cond b Less (cond e Equal Greater)) ≡ b

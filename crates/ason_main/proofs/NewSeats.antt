@@ -17,7 +17,8 @@ use Rattle.mesh.specs.Machine.{new_node, start, with_item, with_posted}
 use Rattle.mesh.proofs.SiteLemmas.{and_first}
 use Rattle.ason_main.specs.declared.runner.lanes.Lane.{Lane}
 use Rattle.ason_main.specs.declared.runner.seats.Seat.{Seat}
-use Rattle.ason_main.specs.Kept.{AreSeated, HasSeat, calls_after, ingress, mesh_with, new_seat, seat_at, seat_desk, seat_place, seat_state, with_more}
+use Rattle.ason_main.specs.Histories.{new_history}
+use Rattle.ason_main.specs.Kept.{AreSeated, HasSeat, StandsFor, calls_after, ingress, mesh_with, new_seat, seat_at, seat_desk, seat_made, seat_place, seat_state, with_more}
 use Rattle.ason_main.proofs.RoundSteps.{some_site}
 
 -- Nodes of a topology
@@ -84,6 +85,23 @@ started t seats is = ap (λ xs. mesh_with xs [] []) is ∙ (λ i. record {
 
 pub seated : (t : Network) (seats : List Seat) → seats ≡ map (new_seat t) t.nodes → AreSeated t seats
 seated t seats is n known = ap (λ xs. seat_place (seat_at xs n.0)) is ∙ seats_known t t.nodes n known
+
+made_new : (t : Network) (nodes : List NodeSpec) (n : ℕ) → seat_made (seat_at (map (new_seat t) nodes) n) ≡ 0
+made_new t [] n = refl
+made_new t (m ∷ nodes) n = go (nat_eq m.id.0 n) (made_new t nodes n)
+  where
+    go : (b : Bool) → seat_made (seat_at (map (new_seat t) nodes) n) ≡ 0 → seat_made (cond b (Some (new_seat t m)) (seat_at (map (new_seat t) nodes) n)) ≡ 0
+    go true others = refl
+    go false others = others
+
+-- what is kept at the start stands for a run that has made nothing
+pub stands_new : (t : Network) (seats : List Seat) (lanes : List Lane) → seats ≡ map (new_seat t) t.nodes → lanes ≡ [] → StandsFor t seats lanes new_history
+stands_new t seats lanes is none = record {
+  posted = [];
+  mesh = ap (λ ls. mesh_with seats ls []) none ∙ started t seats is;
+  made = λ n. ap (λ xs. seat_made (seat_at xs n)) is ∙ made_new t t.nodes n;
+  going = refl;
+}
 
 -- A command that is posted
 

@@ -15,7 +15,7 @@ use Rattle.ason_main.specs.declared.plan.faults.PlanError.{PlanError}
 use Rattle.ason_main.specs.declared.plan.faults.PlanError.TheVariants.{Fault}
 use Rattle.ason_main.specs.declared.plan.faults.PlanFault.{PlanFault}
 use Rattle.ason_main.specs.declared.plan.faults.PlanKind.{PlanKind}
-use Rattle.ason_main.specs.declared.plan.lines.Line.{Line}
+use Rattle.table_text.specs.declared.lines.Line.{Line}
 use Rattle.ason_main.proofs.Elements.{views_here}
 
 pub node_sound :

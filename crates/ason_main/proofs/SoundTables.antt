@@ -9,11 +9,12 @@ use Rattle.ason_base.specs.declared.ids.NodeId.{NodeId}
 use Rattle.ason_base.specs.declared.network.LinkSpec.{LinkSpec}
 use Rattle.ason_base.specs.declared.network.NodeSpec.{NodeSpec}
 use Rattle.ason_main.specs.PlanTables.{are_srlgs_within, elements_at, end_ids, end_name, ends_of, fault_at, has_link_counts, has_link_kinds, has_node_kinds, has_strange, has_top_counts, id_in, id_number, labels_in, lacks, lacks_link_key, link_kind, link_of, links_fault, metric_in, name_of, no_ends, node_kind, node_of, nodes_fault, number_in, number_of, number_or, srlgs_of, is_link_within, converts}
-use Rattle.ason_main.specs.PlanTexts.{has_name, id_at_place, is_name, node_named, place_of}
+use Rattle.ason_main.specs.PlanTexts.{id_at_place, node_named}
+use Rattle.table_text.specs.Names.{has_name, is_name, place_of}
 use Rattle.ason_main.specs.Plans.{links_fault_in, links_in, names_in, network_in, nodes_fault_in, nodes_in}
 use Rattle.ason_main.specs.declared.plan.faults.PlanKind.TheVariants as kinds
 use Rattle.ason_main.specs.declared.plan.values.Shape.TheVariants.{OfNode, OfLink}
-use Rattle.ason_main.proofs.FirstLine.{no_fault_here, no_fault_later, place_is_known}
+use Rattle.ason_main.proofs.PostableLines.{no_fault_here, no_fault_later, place_is_known}
 
 -- Order
 

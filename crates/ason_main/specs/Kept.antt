@@ -1,5 +1,5 @@
 -- What the runner keeps, and the mesh that it stands for.
-use Rattle.std.specs.Prelude.{◌≡◌, ℕ, ◌==◌, ◌&&◌, Bool, List, [], ◌∷◌, ◌++◌, drop, find, Option, Some, None, IsTrue}
+use Rattle.std.specs.Prelude.{◌≡◌, ℕ, ◌+◌, ◌==◌, ◌&&◌, Bool, List, [], ◌∷◌, ◌++◌, drop, find, Option, Some, None, IsTrue}
 use Rattle.ason_base.specs.declared.ids.NodeId.{NodeId}
 use Rattle.ason_base.specs.Network.{Network, is_node_id}
 use Rattle.node_core.specs.declared.inputs.Input.{Input}
@@ -16,6 +16,7 @@ use Rattle.ason_main.specs.declared.runner.lanes.Lane.{Lane}
 use Rattle.ason_main.specs.declared.runner.seats.Seat.{Seat}
 use Rattle.mesh.specs.CallRules.{NodeState}
 use Rattle.mesh.specs.Machine.{Mesh, new_node}
+use Rattle.ason_main.specs.Histories.{History, events_of, state_after}
 
 -- one seat a node, one lane an ordered pair of nodes, and the call numbers of all setups so far
 pub record Kept : Type 0 where
@@ -74,14 +75,23 @@ mesh_of k = record {
 
 -- the seat without the first item of its desk, and with one more at the end
 abbrev pub with_less : Seat → Seat
-with_less s = record { node = s.node; desk = drop 1 s.desk }
+with_less s = record { node = s.node; desk = drop 1 s.desk; made = s.made }
 
 abbrev pub with_more : DeskItem → Seat → Seat
-with_more i s = record { node = s.node; desk = s.desk ++ i ∷ [] }
+with_more i s = record { node = s.node; desk = s.desk ++ i ∷ []; made = s.made }
 
 -- the seat whose node has taken an input
 abbrev pub answered : Input → Seat → Seat
-answered i s = record { node = stepped s.node i; desk = s.desk }
+answered i s = record { node = stepped s.node i; desk = s.desk; made = s.made }
+
+-- the seat whose node makes one event more
+abbrev pub counted : Seat → Seat
+counted s = record { node = s.node; desk = s.desk; made = s.made + 1 }
+
+-- how many events the node of a seat has made
+abbrev pub seat_made : Option Seat → ℕ
+seat_made None = 0
+seat_made (Some s) = s.made
 
 -- every node's seat knows of it what it knew
 abbrev pub KeepsSeats : List Seat → List Seat → Type 0
@@ -90,9 +100,16 @@ KeepsSeats old new = (m : ℕ) → seat_place (seat_at new m) ≡ seat_place (se
 abbrev pub mesh_with : List Seat → List Lane → List CallNo → Mesh
 mesh_with seats lanes posted = mesh_of (record { seats = seats; lanes = lanes; posted = posted })
 
+-- what is kept stands for a run that isn't stopped
+pub record StandsFor (t : Network) (seats : List Seat) (lanes : List Lane) (h : History) : Type 0 where
+  pub posted : List CallNo
+  pub mesh : mesh_with seats lanes posted ≡ state_after t h
+  pub made : (n : ℕ) → seat_made (seat_at seats n) ≡ events_of n h.events
+  pub going : h.stopped ≡ None
+
 -- a node's seat at the start
 abbrev pub new_seat : Network → NodeSpec → Seat
-new_seat t n = record { node = record { place = site_of t n.id; state = new_node }; desk = [] }
+new_seat t n = record { node = record { place = site_of t n.id; state = new_node }; desk = []; made = 0 }
 
 -- the node to whose desk a command goes
 abbrev pub ingress : Command → Option NodeId

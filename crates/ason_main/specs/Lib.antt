@@ -1,11 +1,12 @@
 pub mod Answers
+pub mod FaultText
+pub mod Histories
 pub mod Kept
+pub mod Outputs
 pub mod PlanCalls
 pub mod PlanScript
 pub mod PlanTables
 pub mod PlanTexts
 pub mod Plans
-pub mod Outputs
 pub mod Rounds
-pub mod Runs
-pub mod TableText
+pub mod Running

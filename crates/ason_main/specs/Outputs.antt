@@ -1,19 +1,29 @@
--- What the program prints of a first plan's run.
-use Rattle.std.specs.Prelude.{◌≡◌, ℕ, List, [], ◌++◌, Option, Some, None, slice_get, if◌then◌else◌}
+-- What the program prints of a plan.
+use Rattle.std.specs.Prelude.{◌≡◌, ℕ, ◌||◌, ◌&&◌, nat_lt, Bool, List, [], ◌∷◌, ◌++◌, Option, Some, None, fold, is_some, if◌then◌else◌}
 use Rattle.std.specs.List.Sorted.{IsNonDecreasingBy, IsPermutation, IsSortedBy}
+use Rattle.ason_base.specs.declared.calls.LegRow.{LegRow}
 use Rattle.ason_base.specs.declared.calls.TableRows.{TableRows}
+use Rattle.ason_base.specs.declared.commands.Command.{Command}
+use Rattle.ason_base.specs.declared.ids.NodeId.{NodeId}
+use Rattle.ason_base.specs.Lsps.{same_lsp, lsp_before}
 use Rattle.ason_base.specs.Network.{Network}
-use Rattle.ason_base.specs.declared.ids.CallNo.{CallNo}
+use Rattle.mesh.specs.declared.events.MeshEvent.{MeshEvent}
+use Rattle.mesh.specs.declared.events.MeshEvent.TheVariants as event
 use Rattle.mesh.specs.Machine.{Mesh, start}
-use Rattle.ason_main.specs.Kept.{calls_after}
-use Rattle.mesh.specs.Events.{posted}
+use Rattle.mesh.specs.Events.{IsRun}
 use Rattle.mesh.specs.Rows.{all_call_rows, all_leg_rows}
-use Rattle.ason_main.specs.declared.plan.Plan.{Plan}
-use Rattle.ason_main.specs.declared.plan.lines.Line.{Line}
-use Rattle.ason_main.specs.declared.plan.lines.Line.TheVariants.{Post, Settle, Show}
+use Rattle.table_text.specs.declared.lines.Line.{Line}
+use Rattle.table_text.specs.declared.lines.Line.TheVariants.{Post, Settle, Show}
+use Rattle.table_text.specs.declared.plan.Plan.{Plan}
+use Rattle.table_text.specs.TableText.{stopped_text, table_text, unsettled_text}
+use Rattle.ason_main.specs.Histories.{History, new_history, state_after, with_event}
 use Rattle.ason_main.specs.Rounds.{is_quiet, items_waiting, mail_waiting, settled}
-use Rattle.ason_main.specs.Runs.{Reaches}
-use Rattle.ason_main.specs.TableText.{leg_before, table_text, unsettled_text}
+
+-- The table
+
+-- by LSP, then by node
+abbrev pub leg_before : LegRow → LegRow → Bool
+leg_before a b = lsp_before a.lsp b.lsp || (same_lsp a.lsp b.lsp && nat_lt a.node.0 b.node.0)
 
 -- the rows of all nodes: calls in order of number, legs in order of LSP and node
 pub record IsTable (t : Network) (s : Mesh) (rows : TableRows) : Type 0 where
@@ -22,34 +32,80 @@ pub record IsTable (t : Network) (s : Mesh) (rows : TableRows) : Type 0 where
   pub same_legs : IsPermutation (all_leg_rows t s) rows.legs
   pub legs : IsSortedBy leg_before rows.legs
 
+-- The script
+
+-- the command is posted, unless the run is stopped
+abbrev pub posted_on : Command → History → History
+posted_on c h = if is_some h.stopped then h else with_event h (event.Post c)
+
+-- what a line makes of the run
+abbrev pub line_done : Network → History → Line → History
+line_done t h (Post c) = posted_on c h
+line_done t h (Settle r) = settled t r h
+line_done t h Show = h
+
+-- the network settles before the plan's lines and after them, and the table comes last
+abbrev pub settling_script : ℕ → Plan → List Line
+settling_script rounds p = Settle rounds ∷ (p.lines ++ (Settle rounds ∷ (Show ∷ [])))
+
+abbrev pub script_of : Plan → List Line
+script_of p = settling_script 1000 p
+
+abbrev pub lines_done : Network → List Line → History → History
+lines_done t lines h = fold (line_done t) h lines
+
+-- the run of the plan
+abbrev pub run_of : Plan → History
+run_of p = lines_done p.topology (script_of p) new_history
+
+-- What is printed
+
 -- the line of what is unsettled, where it isn't quiet
 abbrev pub unsettled_line : Network → Mesh → List ℕ
 unsettled_line t s = if is_quiet t s then [] else unsettled_text (items_waiting t s) (mail_waiting t s) 0
 
--- the command of a line is posted, if it is one
-abbrev pub line_posted : Mesh → Option Line → Mesh
-line_posted s None = s
-line_posted s (Some (Post c)) = posted s c
-line_posted s (Some (Settle r)) = s
-line_posted s (Some Show) = s
+-- what a line prints of the state that it leads to
+abbrev pub Shows : Plan → Line → Mesh → List ℕ → Type 0
+Shows p (Post c) s text = text ≡ []
+Shows p (Settle r) s text = text ≡ unsettled_line p.topology s
+Shows p Show s text = (rows : TableRows) × IsTable p.topology s rows × (text ≡ table_text p rows)
 
--- the state that the run has settled in before the script, and after it
-abbrev pub first_state : Plan → Mesh
-first_state p = settled p.topology 1000 start
+-- nothing is printed once the run is stopped
+abbrev pub UnlessStopped : Option NodeId → Type 0 → List ℕ → Type 0
+UnlessStopped None shows text = shows
+UnlessStopped (Some n) shows text = text ≡ []
 
-abbrev pub last_state : Plan → Mesh
-last_state p = settled p.topology 1000 (line_posted (first_state p) (slice_get p.lines 0))
+-- what a line prints that leads to this history
+abbrev pub LinePrints : Plan → Line → History → List ℕ → Type 0
+LinePrints p line h text = UnlessStopped h.stopped (Shows p line (state_after p.topology h) text) text
 
--- what is printed, of one run of the machine that leads to the last state: what is unsettled before and after the script, and the table of the last state
-abbrev pub IsOutput : Plan → List ℕ → Type 0
-IsOutput p text =
-    Reaches p.topology start (last_state p)
-    × ((rows : TableRows) × IsTable p.topology (last_state p) rows
-    × (text ≡ unsettled_line p.topology (first_state p) ++ (unsettled_line p.topology (last_state p) ++ table_text p rows)))
+-- what these lines print, one after the other
+abbrev pub Prints : Plan → List Line → History → List ℕ → Type 0
+Prints p [] h text = text ≡ []
+Prints p (line ∷ lines) h text =
+    (first : List ℕ) × (others : List ℕ) × LinePrints p line (line_done p.topology h line) first
+    × Prints p lines (line_done p.topology h line) others × (text ≡ first ++ others)
 
--- the call numbers of all setups after it
-abbrev pub calls_after_line : List CallNo → Option Line → List CallNo
-calls_after_line before None = before
-calls_after_line before (Some (Post c)) = calls_after before c
-calls_after_line before (Some (Settle r)) = before
-calls_after_line before (Some Show) = before
+-- The run and its output
+
+-- these events lead through the history of each line
+abbrev pub LeadThrough : Network → List MeshEvent → List Line → History → Type 0
+LeadThrough t es [] h = h.events ≡ es
+LeadThrough t es (line ∷ lines) h = ((left : List MeshEvent) × (h.events ++ left ≡ es)) × LeadThrough t es lines (line_done t h line)
+
+-- one run of the machine leads through the whole script
+pub record IsOneRun (p : Plan) : Type 0 where
+  pub run : IsRun p.topology start (run_of p).events
+  pub leads : LeadThrough p.topology (run_of p).events (script_of p) new_history
+
+-- what is printed of a run that comes to the script's end
+pub record IsOutput (p : Plan) (text : List ℕ) : Type 0 where
+  pub one_run : IsOneRun p
+  pub ended : (run_of p).stopped ≡ None
+  pub printed : Prints p (script_of p) new_history text
+
+-- what is printed of a run that is stopped at this node's limit: that, and the line of the stop
+pub record IsStoppedOutput (p : Plan) (n : NodeId) (text : List ℕ) : Type 0 where
+  pub one_run : IsOneRun p
+  pub stopped : (run_of p).stopped ≡ Some n
+  pub printed : (told : List ℕ) × Prints p (script_of p) new_history told × (text ≡ told ++ stopped_text p n)

@@ -1,7 +1,7 @@
 -- The calls that a script sets up, each with its ingress, in order of number.
 use Rattle.std.specs.Prelude.{ℕ, ◌≤◌, length, List, [], ◌∷◌, ◌++◌, Option, Some, None, slice_get, unwrap_or}
 use Rattle.ason_base.specs.declared.ids.NodeId.{NodeId}
-use Rattle.ason_main.specs.PlanTexts.{place_of}
+use Rattle.table_text.specs.Names.{place_of}
 
 pub record CallList : Type 0 where
   pub names : List (List ℕ)

@@ -10,9 +10,10 @@ use Rattle.ason_main.specs.declared.plan.faults.PlanEntry.TheVariants.{Script}
 use Rattle.ason_main.specs.declared.plan.faults.PlanFault.{PlanFault}
 use Rattle.ason_main.specs.declared.plan.faults.PlanKind.{PlanKind}
 use Rattle.ason_main.specs.declared.plan.faults.PlanKind.TheVariants as kinds
-use Rattle.ason_main.specs.declared.plan.lines.Line.{Line}
-use Rattle.ason_main.specs.declared.plan.lines.Line.TheVariants.{Post, Settle, Show}
-use Rattle.ason_main.specs.PlanTexts.{same_text, is_name, has_name, place_of, node_named, words_of, word_at, is_number, are_numbers, number_up_to, are_link_ids, link_ids}
+use Rattle.table_text.specs.declared.lines.Line.{Line}
+use Rattle.table_text.specs.declared.lines.Line.TheVariants.{Post, Settle, Show}
+use Rattle.ason_main.specs.PlanTexts.{node_named, words_of, word_at, is_number, are_numbers, number_up_to, are_link_ids, link_ids}
+use Rattle.table_text.specs.Names.{same_text, is_name, has_name, place_of}
 use Rattle.ason_main.specs.PlanCalls.{CallList, ingress_of, no_node, with_call}
 use Rattle.ason_main.specs.PlanTables.{first_of, fault_at}
 

@@ -13,7 +13,8 @@ use Rattle.ason_main.specs.declared.plan.faults.PlanKind.{PlanKind}
 use Rattle.ason_main.specs.declared.plan.faults.PlanKind.TheVariants as kinds
 use Rattle.ason_main.specs.declared.plan.values.Shape.{Shape}
 use Rattle.ason_main.specs.declared.plan.values.Shape.TheVariants.{OfTop, OfNode, OfLink}
-use Rattle.ason_main.specs.PlanTexts.{same_text, is_name, has_name, node_named}
+use Rattle.ason_main.specs.PlanTexts.{node_named}
+use Rattle.table_text.specs.Names.{same_text, is_name, has_name}
 
 -- Faults
 

@@ -1,40 +1,11 @@
--- Names, words and numbers in the texts of a plan.
-use Rattle.std.specs.Prelude.{ℕ, ◌==◌, ◌&&◌, ◌||◌, nat_eq, nat_le, Bool, true, false, not, List, [], ◌∷◌, length, filter, map, Option, Some, None, slice_get, unwrap_or, position, is_some, if◌then◌else◌}
-use Rattle.std.specs.List.{list_all, list_any, slice_split}
-use Rattle.std.specs.Char.{is_ascii_alphabetic, is_ascii_alphanumeric, is_ascii_digit}
+-- Nodes by name, words and numbers in the texts of a plan.
+use Rattle.std.specs.Prelude.{ℕ, ◌==◌, ◌&&◌, ◌||◌, nat_le, Bool, true, false, not, List, [], ◌∷◌, filter, map, Option, Some, None, slice_get, unwrap_or, is_some, if◌then◌else◌}
+use Rattle.std.specs.List.{list_all, slice_split}
+use Rattle.std.specs.Char.{is_ascii_digit}
 use Rattle.std.specs.Str.Parse.{digits_value}
 use Rattle.ason_base.specs.declared.ids.NodeId.{NodeId}
 use Rattle.ason_base.specs.declared.network.NodeSpec.{NodeSpec}
-use lib.Pointwise.{pointwise}
-
--- the texts have the same bytes
-abbrev pub same_text : List ℕ → List ℕ → Bool
-same_text a b = pointwise nat_eq a b
-
--- Names
-
--- an ASCII letter, an ASCII digit, `_` or `-`
-unfoldable pub is_name_byte : ℕ → Bool
-is_name_byte b = is_ascii_alphanumeric b || (b == 95 || b == 45)
-
-abbrev pub are_name_bytes : List ℕ → Bool
-are_name_bytes bs = list_all is_name_byte bs
-
--- at most 15 such characters
-abbrev pub is_name_rest : List ℕ → Bool
-is_name_rest bs = nat_le (length bs) 15 && are_name_bytes bs
-
--- 1 to 16 characters, the first an ASCII letter, the others ASCII letters, digits, `_` or `-`
-abbrev pub is_name : List ℕ → Bool
-is_name [] = false
-is_name (b ∷ bs) = is_ascii_alphabetic b && is_name_rest bs
-
-abbrev pub has_name : List (List ℕ) → List ℕ → Bool
-has_name names name = list_any (λ n. same_text n name) names
-
--- the place of a name
-abbrev pub place_of : List (List ℕ) → List ℕ → Option ℕ
-place_of names name = position (λ n. same_text n name) names
+use Rattle.table_text.specs.Names.{place_of}
 
 abbrev pub id_at : Option NodeSpec → Option NodeId
 id_at None = None

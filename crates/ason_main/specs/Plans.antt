@@ -1,21 +1,22 @@
 -- What plan bytes spell, or their first fault.
-use Rattle.std.specs.Prelude.{◌≡◌, ◌⊎◌, ℕ, Bool, true, false, List, [], ◌∷◌, map, codes, Option, Some, None, Result, Ok, Err}
+use Rattle.std.specs.Prelude.{◌≡◌, ◌⊎◌, ℕ, true, false, List, [], ◌∷◌, map, codes, Option, Some, None, Result, Ok, Err}
 use Rattle.std.specs.Str.{IsUtf8}
 use Rattle.toml.specs.Data.{Data, Members, table}
 use Rattle.toml.specs.Parse.{parse_document}
 use Rattle.ason_base.specs.Network.{Network}
 use Rattle.ason_base.specs.declared.network.LinkSpec.{LinkSpec}
 use Rattle.ason_base.specs.declared.network.NodeSpec.{NodeSpec}
-use Rattle.ason_base.specs.declared.commands.Command.TheVariants.{Setup}
-use Rattle.mesh.specs.Commands.{is_valid}
+use Rattle.ason_base.specs.declared.ids.CallNo.{CallNo}
+use Rattle.mesh.specs.Commands.{is_valid, is_again}
+use Rattle.ason_main.specs.Kept.{calls_after}
 use Rattle.ason_main.specs.declared.plan.faults.PlanEntry.TheVariants.{Toml, Top}
 use Rattle.ason_main.specs.declared.plan.faults.PlanError.{PlanError}
 use Rattle.ason_main.specs.declared.plan.faults.PlanError.TheVariants.{Fault, OutOfMemory}
 use Rattle.ason_main.specs.declared.plan.faults.PlanFault.{PlanFault}
 use Rattle.ason_main.specs.declared.plan.faults.PlanKind.TheVariants.{Syntax}
-use Rattle.ason_main.specs.declared.plan.lines.Line.{Line}
-use Rattle.ason_main.specs.declared.plan.lines.Line.TheVariants.{Post, Settle, Show}
-use Rattle.ason_main.specs.declared.plan.Plan.{Plan}
+use Rattle.table_text.specs.declared.lines.Line.{Line}
+use Rattle.table_text.specs.declared.lines.Line.TheVariants.{Post, Settle, Show}
+use Rattle.table_text.specs.declared.plan.Plan.{Plan}
 use Rattle.ason_main.specs.PlanTables.{first_of, fault_at, elements_at, text_of, top_kind, name_of, node_of, nodes_fault, link_of, links_fault}
 use Rattle.ason_main.specs.PlanCalls.{no_calls}
 use Rattle.ason_main.specs.PlanScript.{script_fault, lines_of, calls_of}
@@ -88,27 +89,30 @@ Answers bs (Ok p) = PlanOf bs (Ok p)
 Answers bs (Err (Fault f)) = PlanOf bs (Err f)
 Answers bs (Err OutOfMemory) = Unit {0}
 
--- First plans
+-- Lines that can be posted
 
--- an empty script, or one setup
-abbrev pub is_first_script : List Line → Bool
-is_first_script [] = true
-is_first_script (Post (Setup call from to protected both via backup) ∷ []) = true
-is_first_script lines = false
+-- the call numbers of all setups after a line
+abbrev pub calls_after_line : List CallNo → Line → List CallNo
+calls_after_line before (Post c) = calls_after before c
+calls_after_line before (Settle r) = before
+calls_after_line before Show = before
 
--- the bytes are a plan without fault whose script is empty or one setup
-abbrev pub FirstPlanOf : List ℕ → Plan → Type 0
-FirstPlanOf bs p = PlanOf bs (Ok p) × (is_first_script p.lines ≡ true)
+-- the command of the line, if it posts one, is valid and no setup of a call number that was posted before
+abbrev pub IsPostable : Network → List CallNo → Line → Type 0
+IsPostable t before (Post c) = (is_valid t c ≡ true) × (is_again before c ≡ false)
+IsPostable t before (Settle r) = Unit {0}
+IsPostable t before Show = Unit {0}
 
--- what `read_first_plan` answers; want of memory may come at any time
-abbrev pub FirstAnswers : List ℕ → Result Plan PlanError → Type 0
-FirstAnswers bs (Ok p) = FirstPlanOf bs p
-FirstAnswers bs (Err (Fault f)) = (p : Plan) → ¬ FirstPlanOf bs p
-FirstAnswers bs (Err OutOfMemory) = Unit {0}
+abbrev pub ArePostable : Network → List CallNo → List Line → Type 0
+ArePostable t before [] = Unit {0}
+ArePostable t before (line ∷ lines) = IsPostable t before line × ArePostable t (calls_after_line before line) lines
 
 -- the command of the line, if it posts one, is valid
-abbrev pub IsPostableLine : Network → Option Line → Type 0
-IsPostableLine t None = Unit {0}
-IsPostableLine t (Some (Post c)) = is_valid t c ≡ true
-IsPostableLine t (Some (Settle r)) = Unit {0}
-IsPostableLine t (Some Show) = Unit {0}
+abbrev pub IsValidLine : Network → Line → Type 0
+IsValidLine t (Post c) = is_valid t c ≡ true
+IsValidLine t (Settle r) = Unit {0}
+IsValidLine t Show = Unit {0}
+
+abbrev pub AreValidLines : Network → List Line → Type 0
+AreValidLines t [] = Unit {0}
+AreValidLines t (line ∷ lines) = IsValidLine t line × AreValidLines t lines

@@ -4,7 +4,6 @@
 mod ason;
 mod plan;
 mod runner;
-mod table;
 mod table_rows;
 #[cfg(test)]
 mod tests;

@@ -1,46 +1,36 @@
 //! Plans: the network, the script of lines to be run over it, and the first fault of what is no plan.
 
-ghost use Rattle.std.specs.Prelude.{◌≡◌, ◌≤◌, codes, length, slice_get, IfErr, IfOk, OnOk, Ok, Err, Some, None};
+ghost use Rattle.std.specs.Prelude.{◌≡◌, ◌≤◌, codes, length, [], IfErr, IfOk, OnOk, Ok, Err, Some, None};
 ghost use Rattle.toml.specs.View.{view};
 ghost use Rattle.ason_base.specs.Network.{IsTopology};
-ghost use Rattle.ason_main.specs.Plans.{Answers, FirstAnswers, IsPostableLine, call_names_in, is_first_script, lines_in, links_fault_in, links_in, names_in, network_in, nodes_fault_in, nodes_in, plan_of, script_fault_in};
+ghost use Rattle.ason_main.specs.Plans.{Answers, ArePostable, call_names_in, lines_in, links_fault_in, links_in, names_in, network_in, nodes_fault_in, nodes_in, plan_of, script_fault_in};
 ghost use Rattle.ason_main.specs.PlanTables.{elements_at};
 ghost use Rattle.ason_main.specs.declared.plan.faults.PlanError.{PlanError};
 ghost use Rattle.ason_main.specs.declared.plan.faults.PlanFault.{PlanFault};
 
 mod calls;
+mod fault_text;
 mod faults;
 mod forms;
-mod lines;
 mod links;
-mod names;
 mod nodes;
 mod script;
 mod top;
 mod values;
 mod words;
 
-use ason_base::{Command, LinkSpec, NodeSpec, OutOfMemory, Topology, TopologyFault};
+use ason_base::{LinkSpec, NodeSpec, OutOfMemory, Topology, TopologyFault};
+pub use fault_text::refused_text;
 use faults::fault;
 pub use faults::{PlanEntry, PlanError, PlanFault, PlanKind};
-pub use lines::{Line, Lines};
 use links::read_links;
-pub use names::{Name, Names};
 use nodes::{Nodes, read_nodes};
 use script::{Script, read_script};
 use std::alloc::Global;
+use table_text::{Names, Plan};
 use toml::Value;
 use top::top_kind;
 use values::elements;
-
-/// A plan: the network, the names of its nodes and calls, each in order of number, and the script's lines.
-#[derive(Debug, Drop)]
-pub struct Plan {
-    pub topology: Topology,
-    pub node_names: Names,
-    pub call_names: Names,
-    pub lines: Lines,
-}
 
 // The topology of the nodes and links that were read.
 fn topology(alloc: Global, nodes: &[NodeSpec], links: &[LinkSpec]) -> Result<Topology, OutOfMemory>
@@ -117,34 +107,11 @@ fn read_table(alloc: Global, value: &Value) -> Result<Plan, PlanError>
 pub fn read_plan(alloc: Global, bytes: &[u8]) -> Result<Plan, PlanError>
     ensures plan { Answers bytes.now result }
     ensures valid { IfOk result (λ p. IsTopology p.topology) }
+    ensures postable { IfOk result (λ p. ArePostable p.topology [] p.lines) }
 {
     match toml::table_from_slice(alloc, bytes) {
         Ok(table) => read_table(alloc, &Value::Table(table)),
         Err(e) if e.is_memory() => Err(PlanError::OutOfMemory),
         Err(_) => Err(fault(PlanEntry::Toml, PlanKind::Syntax)),
-    }
-}
-
-fn is_first_script(lines: &[Line]) -> bool
-    ensures { result ≡ is_first_script lines.now }
-{
-    match lines {
-        [] => true,
-        [Line::Post(Command::Setup { .. })] => true,
-        _ => false,
-    }
-}
-
-/// Reads a plan whose script is empty or one setup, which is valid for its network. A fault comes exactly where the bytes are no such plan.
-pub fn read_first_plan(alloc: Global, bytes: &[u8]) -> Result<Plan, PlanError>
-    ensures plan { FirstAnswers bytes.now result }
-    ensures valid { IfOk result (λ p. IsTopology p.topology) }
-    ensures postable { IfOk result (λ p. IsPostableLine p.topology (slice_get p.lines 0)) }
-{
-    let plan = read_plan(alloc, bytes)?;
-    if is_first_script(plan.lines.items()) {
-        Ok(plan)
-    } else {
-        Err(fault(PlanEntry::Script(1), PlanKind::Unbuilt))
     }
 }

@@ -1,7 +1,13 @@
 //! Runs nodes over lists of messages, round by round, with one worker.
 
-pub mod first;
+pub mod hoods;
 pub mod lanes;
+pub mod posts;
 pub mod rounds;
-pub mod script;
+pub mod rows;
+pub mod run;
 pub mod seats;
+pub mod settling;
+pub mod steps;
+pub mod stops;
+pub mod waiting;

@@ -2,7 +2,7 @@
 
 ghost use Rattle.std.specs.Prelude.{◌≡◌, IfOk};
 ghost use Rattle.std.specs.List.Sorted.{IsNonDecreasingBy, IsPermutation, IsSortedBy};
-ghost use Rattle.ason_main.specs.TableText.{leg_before};
+ghost use Rattle.ason_main.specs.Outputs.{leg_before};
 
 use ason_base::{CallRow, CallRows, LegRow, LegRows, OutOfMemory, TableRows};
 use std::alloc::Global;

@@ -2,12 +2,12 @@
 
 ghost use Rattle.std.specs.Prelude.{◌≡◌, ◌<◌, length, IfSome, OnErr, OnOk};
 ghost use Rattle.ason_main.specs.PlanCalls.{ingress_at, ingress_of, no_calls, with_call};
-ghost use Rattle.ason_main.specs.PlanTexts.{has_name, place_of};
+ghost use Rattle.table_text.specs.Names.{has_name, place_of};
 
-use super::names::{Name, Names};
 use ason_base::{NodeId, OutOfMemory};
 use std::alloc::Global;
 use std::marker::Model;
+use table_text::{Name, Names};
 
 /// The most calls that a plan sets up.
 pub const MOST_CALLS: usize = 4_096;

@@ -1,40 +1,11 @@
-//! Names, words and numbers in texts.
+//! Words and numbers in texts.
 
 ghost use Rattle.std.specs.Prelude.{◌≡◌, [], length, map, slice_get, option_map, nat_le, if◌then◌else◌, Some, None, IsTrue, IfOk};
 ghost use Rattle.std.specs.Str.Parse.{digits_value};
-ghost use Rattle.ason_main.specs.PlanTexts.{are_digits, are_link_ids, are_name_bytes, are_numbers, is_name, is_name_byte, is_name_rest, is_number, link_id, link_ids, number_up_to, word_at, words_of};
+ghost use Rattle.ason_main.specs.PlanTexts.{are_digits, are_link_ids, are_numbers, is_number, link_id, link_ids, number_up_to, word_at, words_of};
 
 use ason_base::OutOfMemory;
 use std::alloc::{AllocError, Global};
-
-#[tactic(auto, unfolding(crate::specs::PlanTexts::is_name_byte))]
-fn is_name_byte(b: u8) -> bool
-    ensures { result ≡ is_name_byte b }
-{
-    b.is_ascii_alphanumeric() || b == b'_' || b == b'-'
-}
-
-fn are_name_bytes(text: &[u8]) -> bool
-    ensures { result ≡ are_name_bytes text.now }
-{
-    text.iter().all(|b| is_name_byte(*b))
-}
-
-fn is_name_rest(text: &[u8]) -> bool
-    ensures { result ≡ is_name_rest text.now }
-{
-    text.len() <= 15 && are_name_bytes(text)
-}
-
-/// Whether the text is a name: 1 to 16 characters, the first an ASCII letter, the others ASCII letters, digits, `_` or `-`.
-pub fn is_name(text: &[u8]) -> bool
-    ensures { result ≡ is_name text.now }
-{
-    match text {
-        [] => false,
-        [first, others @ ..] => first.is_ascii_alphabetic() && is_name_rest(others),
-    }
-}
 
 /// How many words the line has.
 pub fn count_words(line: &[u8]) -> usize

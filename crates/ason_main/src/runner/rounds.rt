@@ -1,72 +1,74 @@
 //! Rounds: each node in order ticks, handles its desk and takes its mail.
 
-ghost use Rattle.std.specs.Prelude.{◌≡◌, List, [], OnOk, fold};
-ghost use Rattle.std.specs.List.{list_all};
-ghost use Rattle.ason_base.specs.declared.ids.CallNo.{CallNo};
+ghost use Rattle.std.specs.Prelude.{◌≡◌, List, IfErr, OnOk, Some, fold, map};
+ghost use Rattle.ason_base.specs.declared.ids.NodeId.{NodeId};
 ghost use Rattle.mesh.specs.declared.events.MeshEvent.{MeshEvent};
-ghost use Rattle.mesh.specs.Events.{step};
-ghost use Rattle.ason_main.specs.Kept.{AreSeated, HasSeat, KeepsSeats, mesh_with};
-ghost use Rattle.ason_main.specs.Rounds.{desk_done, has_no_item, has_no_mail, is_between, is_neighbour, is_quiet, mail_done, neighbours, round, settled, turn};
+ghost use Rattle.ason_main.specs.declared.runner.stops.Stop.{Stop};
+ghost use Rattle.ason_main.specs.Histories.{History, made};
+ghost use Rattle.ason_main.specs.Kept.{AreSeated, HasSeat, KeepsSeats, StandsFor};
+ghost use Rattle.ason_main.specs.Rounds.{around, desk_done, mail_done, neighbours, round, turn};
 
-use crate::runner::lanes::{Lane, find_lane, is_empty_lane, mail_len, take_first};
-use crate::runner::seats::{Seat, desk_len, find_seat, give, is_empty_desk, take_item};
-use ason_base::{LinkSpec, NodeId, NodeSpec, OutOfMemory, Topology};
-use node_core::Input;
+use crate::runner::hoods::Hood;
+use crate::runner::lanes::{Lane, mail_len};
+use crate::runner::seats::{Seat, count_event, desk_len};
+use crate::runner::steps::{handle_item, take_message, tick};
+use crate::runner::stops::Stop;
+use ason_base::{NodeId, NodeSpec, Topology};
 use std::alloc::Global;
 
-// The node ticks.
-fn tick(
+// The node ticks, unless it is at its limit.
+fn count_tick(
     alloc: Global,
     t: &Topology,
     seats: &mut Vec<Seat>,
     lanes: &mut Vec<Lane>,
     n: NodeId,
-) -> Result<(), OutOfMemory>
+) -> Result<(), Stop>
     requires { HasSeat t.now seats.old.items n }
-    ensures mesh { OnOk result ((posted : List CallNo) → mesh_with seats.new.items lanes.new.items posted ≡ step t.now (mesh_with seats.old.items lanes.old.items posted) (MeshEvent.Tick n)) }
+    ensures on { OnOk result ((h : History) → StandsFor t.now seats.old.items lanes.old.items h → StandsFor t.now seats.new.items lanes.new.items (made n (MeshEvent.Tick n) h)) }
+    ensures stops { IfErr result (λ e. (k : NodeId) → e ≡ Stop.AtLimit k → (h : History) → StandsFor t.now seats.old.items lanes.old.items h → (made n (MeshEvent.Tick n) h).stopped ≡ Some k) }
     ensures seated { OnOk result (KeepsSeats seats.old.items seats.new.items) }
 {
-    let _ = t;
-    give(alloc, seats, lanes, n, &Input::Tick)
+    count_event(seats, n)?;
+    tick(alloc, t, seats, lanes, n)?;
+    Ok(())
 }
 
-// The first item of the node's desk is handled.
-fn handle_item(
+// The first item of the node's desk is handled, unless the node is at its limit.
+fn count_item(
     alloc: Global,
     t: &Topology,
     seats: &mut Vec<Seat>,
     lanes: &mut Vec<Lane>,
     n: NodeId,
-) -> Result<(), OutOfMemory>
+) -> Result<(), Stop>
     requires { HasSeat t.now seats.old.items n }
-    ensures mesh { OnOk result ((posted : List CallNo) → mesh_with seats.new.items lanes.new.items posted ≡ step t.now (mesh_with seats.old.items lanes.old.items posted) (MeshEvent.Desk n)) }
+    ensures on { OnOk result ((h : History) → StandsFor t.now seats.old.items lanes.old.items h → StandsFor t.now seats.new.items lanes.new.items (made n (MeshEvent.Desk n) h)) }
+    ensures stops { IfErr result (λ e. (k : NodeId) → e ≡ Stop.AtLimit k → (h : History) → StandsFor t.now seats.old.items lanes.old.items h → (made n (MeshEvent.Desk n) h).stopped ≡ Some k) }
     ensures seated { OnOk result (KeepsSeats seats.old.items seats.new.items) }
 {
-    let _ = t;
-    match take_item(seats, n) {
-        None => Ok(()),
-        Some(item) => give(alloc, seats, lanes, n, &Input::Desk(item)),
-    }
+    count_event(seats, n)?;
+    handle_item(alloc, t, seats, lanes, n)?;
+    Ok(())
 }
 
-// The first message from this neighbour is taken.
-fn take_message(
+// The first message from this neighbour is taken, unless the node is at its limit.
+fn count_message(
     alloc: Global,
     t: &Topology,
     seats: &mut Vec<Seat>,
     lanes: &mut Vec<Lane>,
     n: NodeId,
     from: NodeId,
-) -> Result<(), OutOfMemory>
+) -> Result<(), Stop>
     requires { HasSeat t.now seats.old.items n }
-    ensures mesh { OnOk result ((posted : List CallNo) → mesh_with seats.new.items lanes.new.items posted ≡ step t.now (mesh_with seats.old.items lanes.old.items posted) (MeshEvent.Take n from)) }
+    ensures on { OnOk result ((h : History) → StandsFor t.now seats.old.items lanes.old.items h → StandsFor t.now seats.new.items lanes.new.items (made n (MeshEvent.Take n from) h)) }
+    ensures stops { IfErr result (λ e. (k : NodeId) → e ≡ Stop.AtLimit k → (h : History) → StandsFor t.now seats.old.items lanes.old.items h → (made n (MeshEvent.Take n from) h).stopped ≡ Some k) }
     ensures seated { OnOk result (KeepsSeats seats.old.items seats.new.items) }
 {
-    let _ = t;
-    match take_first(lanes, from, n) {
-        None => Ok(()),
-        Some(msg) => give(alloc, seats, lanes, n, &Input::Message { from, msg }),
-    }
+    count_event(seats, n)?;
+    take_message(alloc, t, seats, lanes, n, from)?;
+    Ok(())
 }
 
 // All items of the node's desk are handled.
@@ -76,14 +78,15 @@ fn handle_desk(
     seats: &mut Vec<Seat>,
     lanes: &mut Vec<Lane>,
     n: NodeId,
-) -> Result<(), OutOfMemory>
+) -> Result<(), Stop>
     requires { HasSeat t.now seats.old.items n }
-    ensures mesh { OnOk result ((posted : List CallNo) → mesh_with seats.new.items lanes.new.items posted ≡ desk_done t.now n (mesh_with seats.old.items lanes.old.items posted)) }
+    ensures on { OnOk result ((h : History) → StandsFor t.now seats.old.items lanes.old.items h → StandsFor t.now seats.new.items lanes.new.items (desk_done t.now n h)) }
+    ensures stops { IfErr result (λ e. (k : NodeId) → e ≡ Stop.AtLimit k → (h : History) → StandsFor t.now seats.old.items lanes.old.items h → (desk_done t.now n h).stopped ≡ Some k) }
     ensures seated { OnOk result (KeepsSeats seats.old.items seats.new.items) }
 {
     let count = desk_len(seats, n);
     for _item in 0..count {
-        handle_item(alloc, t, seats, lanes, n)?;
+        count_item(alloc, t, seats, lanes, n)?;
     }
     Ok(())
 }
@@ -96,46 +99,35 @@ fn take_mail(
     lanes: &mut Vec<Lane>,
     n: NodeId,
     from: &NodeSpec,
-) -> Result<(), OutOfMemory>
+) -> Result<(), Stop>
     requires { HasSeat t.now seats.old.items n }
-    ensures mesh { OnOk result ((posted : List CallNo) → mesh_with seats.new.items lanes.new.items posted ≡ mail_done t.now n (mesh_with seats.old.items lanes.old.items posted) from.now) }
+    ensures on { OnOk result ((h : History) → StandsFor t.now seats.old.items lanes.old.items h → StandsFor t.now seats.new.items lanes.new.items (mail_done t.now n h from.now)) }
+    ensures stops { IfErr result (λ e. (k : NodeId) → e ≡ Stop.AtLimit k → (h : History) → StandsFor t.now seats.old.items lanes.old.items h → (mail_done t.now n h from.now).stopped ≡ Some k) }
     ensures seated { OnOk result (KeepsSeats seats.old.items seats.new.items) }
 {
     let count = mail_len(lanes, from.id, n);
     for _message in 0..count {
-        take_message(alloc, t, seats, lanes, n, from.id)?;
+        count_message(alloc, t, seats, lanes, n, from.id)?;
     }
     Ok(())
 }
 
-fn is_between(n: NodeId, m: NodeId, link: &LinkSpec) -> bool
-    ensures { result ≡ is_between n m link.now }
-{
-    (link.low == n && link.high == m) || (link.low == m && link.high == n)
-}
-
-pub(crate) fn is_neighbour(t: &Topology, n: NodeId, m: &NodeSpec) -> bool
-    ensures { result ≡ is_neighbour t.now n m.now }
-{
-    t.links().iter().any(|link| is_between(n, m.id, link))
-}
-
-// All messages from all neighbours are taken, in order of the neighbour's number.
+// All messages from these neighbours are taken, in order.
 fn take_all_mail(
     alloc: Global,
     t: &Topology,
     seats: &mut Vec<Seat>,
     lanes: &mut Vec<Lane>,
     n: NodeId,
-) -> Result<(), OutOfMemory>
+    near: &[NodeSpec],
+) -> Result<(), Stop>
     requires { HasSeat t.now seats.old.items n }
-    ensures mesh { OnOk result ((posted : List CallNo) → mesh_with seats.new.items lanes.new.items posted ≡ fold (mail_done t.now n) (mesh_with seats.old.items lanes.old.items posted) (neighbours t.now n)) }
+    ensures on { OnOk result ((h : History) → StandsFor t.now seats.old.items lanes.old.items h → StandsFor t.now seats.new.items lanes.new.items (fold (mail_done t.now n) h near.now)) }
+    ensures stops { IfErr result (λ e. (k : NodeId) → e ≡ Stop.AtLimit k → (h : History) → StandsFor t.now seats.old.items lanes.old.items h → (fold (mail_done t.now n) h near.now).stopped ≡ Some k) }
     ensures seated { OnOk result (KeepsSeats seats.old.items seats.new.items) }
 {
-    for from in t.nodes() {
-        if is_neighbour(t, n, from) {
-            take_mail(alloc, t, seats, lanes, n, from)?;
-        }
+    for from in near {
+        take_mail(alloc, t, seats, lanes, n, from)?;
     }
     Ok(())
 }
@@ -146,15 +138,18 @@ fn turn(
     t: &Topology,
     seats: &mut Vec<Seat>,
     lanes: &mut Vec<Lane>,
-    n: &NodeSpec,
-) -> Result<(), OutOfMemory>
-    requires { HasSeat t.now seats.old.items n.now.id }
-    ensures mesh { OnOk result ((posted : List CallNo) → mesh_with seats.new.items lanes.new.items posted ≡ turn t.now (mesh_with seats.old.items lanes.old.items posted) n.now) }
+    hood: &Hood,
+) -> Result<(), Stop>
+    requires seat { HasSeat t.now seats.old.items hood.now.id }
+    requires near { hood.now.near ≡ neighbours t.now hood.now.id }
+    ensures on { OnOk result ((h : History) → StandsFor t.now seats.old.items lanes.old.items h → StandsFor t.now seats.new.items lanes.new.items (turn t.now h hood.now.id)) }
+    ensures stops { IfErr result (λ e. (k : NodeId) → e ≡ Stop.AtLimit k → (h : History) → StandsFor t.now seats.old.items lanes.old.items h → (turn t.now h hood.now.id).stopped ≡ Some k) }
     ensures seated { OnOk result (KeepsSeats seats.old.items seats.new.items) }
 {
-    tick(alloc, t, seats, lanes, n.id)?;
-    handle_desk(alloc, t, seats, lanes, n.id)?;
-    take_all_mail(alloc, t, seats, lanes, n.id)
+    let n = hood.id();
+    count_tick(alloc, t, seats, lanes, n)?;
+    handle_desk(alloc, t, seats, lanes, n)?;
+    take_all_mail(alloc, t, seats, lanes, n, hood.near())
 }
 
 /// One round: each node has its turn, in order of number.
@@ -163,68 +158,16 @@ pub fn round(
     t: &Topology,
     seats: &mut Vec<Seat>,
     lanes: &mut Vec<Lane>,
-) -> Result<(), OutOfMemory>
-    requires { AreSeated t.now seats.old.items }
-    ensures mesh { OnOk result ((posted : List CallNo) → mesh_with seats.new.items lanes.new.items posted ≡ round t.now (mesh_with seats.old.items lanes.old.items posted)) }
+    hoods: &[Hood],
+) -> Result<(), Stop>
+    requires seats { AreSeated t.now seats.old.items }
+    requires hoods { hoods.now ≡ map (around t.now) t.now.nodes }
+    ensures on { OnOk result ((h : History) → StandsFor t.now seats.old.items lanes.old.items h → StandsFor t.now seats.new.items lanes.new.items (round t.now h)) }
+    ensures stops { IfErr result (λ e. (k : NodeId) → e ≡ Stop.AtLimit k → (h : History) → StandsFor t.now seats.old.items lanes.old.items h → (round t.now h).stopped ≡ Some k) }
     ensures seated { OnOk result (KeepsSeats seats.old.items seats.new.items) }
 {
-    for n in t.nodes() {
-        turn(alloc, t, seats, lanes, n)?;
-    }
-    Ok(())
-}
-
-fn has_no_item(seats: &[Seat], n: &NodeSpec) -> bool
-    ensures { result ≡ has_no_item (mesh_with seats.now [] []) n.now }
-{
-    is_empty_desk(find_seat(seats, n.id))
-}
-
-fn has_no_mail(t: &Topology, lanes: &[Lane], n: &NodeSpec) -> bool
-    ensures { result ≡ has_no_mail t.now (mesh_with [] lanes.now []) n.now }
-{
-    t.nodes()
-        .iter()
-        .filter(|from| is_neighbour(t, n.id, from))
-        .all(|from| is_empty_lane(find_lane(lanes, from.id, n.id)))
-}
-
-fn has_no_items(t: &Topology, seats: &[Seat]) -> bool
-    ensures { result ≡ list_all (has_no_item (mesh_with seats.now [] [])) t.now.nodes }
-{
-    t.nodes().iter().all(|n| has_no_item(seats, n))
-}
-
-fn has_no_mails(t: &Topology, lanes: &[Lane]) -> bool
-    ensures { result ≡ list_all (has_no_mail t.now (mesh_with [] lanes.now [])) t.now.nodes }
-{
-    t.nodes().iter().all(|n| has_no_mail(t, lanes, n))
-}
-
-/// Whether every desk and every list of messages is empty.
-pub fn is_quiet(t: &Topology, seats: &[Seat], lanes: &[Lane]) -> bool
-    ensures { result ≡ is_quiet t.now (mesh_with seats.now lanes.now []) }
-{
-    has_no_items(t, seats) && has_no_mails(t, lanes)
-}
-
-/// Makes rounds until all is quiet, at most so many.
-pub fn settle(
-    alloc: Global,
-    t: &Topology,
-    seats: &mut Vec<Seat>,
-    lanes: &mut Vec<Lane>,
-    rounds: u32,
-) -> Result<(), OutOfMemory>
-    requires { AreSeated t.now seats.old.items }
-    ensures mesh { OnOk result ((posted : List CallNo) → mesh_with seats.new.items lanes.new.items posted ≡ settled t.now rounds (mesh_with seats.old.items lanes.old.items posted)) }
-    ensures seated { OnOk result (KeepsSeats seats.old.items seats.new.items) }
-{
-    for _made in 0..rounds {
-        if is_quiet(t, seats, lanes) {
-            return Ok(());
-        }
-        round(alloc, t, seats, lanes)?;
+    for hood in hoods {
+        turn(alloc, t, seats, lanes, hood)?;
     }
     Ok(())
 }

@@ -1,14 +1,16 @@
 //! The nodes and their desks.
 
-ghost use Rattle.std.specs.Prelude.{◌≡◌, ◌<◌, ◌==◌, ◌++◌, ◌∷◌, ℕ, List, [], IfOk, MatchOption, OnOk, Some, drop, length, not, position, slice_get, slice_set, if◌then◌else◌};
+ghost use Rattle.std.specs.Prelude.{◌≡◌, ◌<◌, ◌==◌, ◌++◌, ◌∷◌, ℕ, List, [], IfErr, IfOk, MatchOption, OnOk, Some, drop, false, length, nat_lt, not, position, slice_get, slice_set, true, if◌then◌else◌};
 ghost use Rattle.std.specs.Option.{option_copied, option_map};
 ghost use Rattle.mesh.specs.Events.{has_first};
 ghost use Rattle.mesh.specs.Machine.{sent_to};
 ghost use Rattle.node_core.specs.Nodes.{answer_to};
 ghost use Rattle.ason_main.specs.declared.runner.seats.Seat.{Seat};
-ghost use Rattle.ason_main.specs.Kept.{answered, is_seat_of, mail_at, seat_answer, seat_at, seat_desk, with_less, with_more};
+ghost use Rattle.ason_main.specs.declared.runner.stops.Stop.{Stop};
+ghost use Rattle.ason_main.specs.Kept.{answered, counted, is_seat_of, mail_at, seat_answer, seat_at, seat_desk, seat_made, with_less, with_more};
 
 use crate::runner::lanes::{Lane, send_all};
+use crate::runner::stops::Stop;
 use ason_base::{DeskItem, NodeId, OutOfMemory, Outs};
 use node_core::{Input, Node};
 use std::alloc::Global;
@@ -65,17 +67,53 @@ impl Desk {
     }
 }
 
-/// A node with its desk.
+/// The most events that a node makes.
+const MOST_EVENTS: u32 = 50_000;
+
+/// A node with its desk, and the number of events that it has made.
 #[derive(Debug, Drop)]
 pub struct Seat {
     pub node: Node,
     pub desk: Desk,
+    pub made: u32,
 }
 
 fn place_of(seats: &[Seat], n: NodeId) -> Option<usize>
     ensures { result ≡ position (is_seat_of n.0) seats.now }
 {
     seats.iter().position(|seat| seat.node.id() == n)
+}
+
+// Counts one event more, where there may be one.
+fn count_at(seats: &mut Vec<Seat>, place: usize) -> bool
+    requires { place < length seats.old.items }
+    ensures below { (s : Seat) → slice_get seats.old.items place ≡ Some s → result ≡ nat_lt s.made 50000 }
+    ensures seats { result ≡ true → (s : Seat) → slice_get seats.old.items place ≡ Some s → seats.new.items ≡ slice_set seats.old.items place (counted s) }
+{
+    let seat = &mut seats[place];
+    if seat.made >= MOST_EVENTS {
+        return false;
+    }
+    seat.made += 1;
+    true
+}
+
+/// Counts one event more of the node, which is at its limit where it has made as many as it may.
+pub fn count_event(seats: &mut Vec<Seat>, n: NodeId) -> Result<(), Stop>
+    ensures seats { OnOk result ((m : ℕ) → seat_at seats.new.items m ≡ (if m == n.0 then option_map counted (seat_at seats.old.items m) else seat_at seats.old.items m)) }
+    ensures below { OnOk result (nat_lt (seat_made (seat_at seats.old.items n.0)) 50000 ≡ true) }
+    ensures limit { IfErr result (λ e. (e ≡ Stop.AtLimit n) × (nat_lt (seat_made (seat_at seats.old.items n.0)) 50000 ≡ false)) }
+{
+    match place_of(seats, n) {
+        None => Ok(()),
+        Some(place) => {
+            if count_at(seats, place) {
+                Ok(())
+            } else {
+                Err(Stop::AtLimit(n))
+            }
+        }
+    }
 }
 
 fn step_seat(

@@ -1,8 +1,0 @@
-use Rattle.std.proofs.Common.{◌≡◌, ◌++◌, take}
-use Rattle.std.specs.Prelude.{string_bytes}
-use Rattle.std.specs.List.{flat_map}
-use Rattle.ason_main.specs.TableText.{call_text}
-use Rattle.ason_main.proofs.table.push_calls.Given as goal
-
-abbrev pub invariant-loop-call : goal.invariant-loop-call
-invariant-loop-call l = string_bytes l.text ≡ string_bytes l.initial.text ++ flat_map (call_text l.plan) (take l.call-index l.calls)
