@@ -1,0 +1,6 @@
+pub mod Reading
+pub mod Lookups
+pub mod Subjects
+pub mod Eaches
+pub mod Sets
+pub mod Paths

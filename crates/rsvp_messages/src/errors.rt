@@ -1,0 +1,80 @@
+//! PathErr (RFC 2205, section 3.1.8; RFC 3473, section 4.4) and Notify (RFC 3473, section 4.3).
+
+ghost use Rattle.std.specs.Prelude.{◌≡◌, Some, IfSome};
+ghost use Rattle.ason_base.specs.declared.messages.Msg.{Msg};
+ghost use Rattle.rsvp_objects.specs.declared.error.ErrorSpec.{ErrorSpec};
+ghost use Rattle.rsvp_objects.specs.Bodies.{IsError};
+ghost use Rattle.rsvp_messages.specs.Messages.{HasError, SpellsMsg, is_removed};
+ghost use Rattle.rsvp_messages.specs.Packets.{type_of};
+ghost use Rattle.rsvp_messages.specs.Parts.{HasOne};
+ghost use Rattle.rsvp_messages.specs.Seen.{all_seen};
+
+use crate::classes::{ERROR_SPEC, SENDER_TEMPLATE};
+use crate::fields::read_subject;
+use crate::lookup::one;
+use crate::objects::RawObject;
+use ason_base::Msg;
+use rsvp_objects::{ErrorSpec, read_error, read_error_ipv4};
+
+/// The C-Types of an ERROR_SPEC without an interface and with one.
+const IPV4: u8 = 1;
+
+const IF_ID: u8 = 3;
+
+// The error of an ERROR_SPEC with an interface.
+fn error_with_interface(objects: &[RawObject]) -> Option<ErrorSpec>
+    ensures found { IfSome result (λ e. HasOne 6 3 (λ body. IsError body e) (all_seen objects.now)) }
+    ensures only { (e : ErrorSpec) → HasOne 6 3 (λ body. IsError body e) (all_seen objects.now) → result ≡ Some e }
+{
+    let body = one(objects, ERROR_SPEC, IF_ID)?;
+    read_error(body)
+}
+
+fn error(objects: &[RawObject]) -> Option<ErrorSpec>
+    ensures found { IfSome result (HasError (all_seen objects.now)) }
+    ensures only { (e : ErrorSpec) → HasError (all_seen objects.now) e → result ≡ Some e }
+{
+    match one(objects, ERROR_SPEC, IPV4) {
+        Some(body) => read_error_ipv4(body),
+        None => error_with_interface(objects),
+    }
+}
+
+fn is_removed(e: &ErrorSpec) -> bool
+    ensures { result ≡ is_removed e.now }
+{
+    e.flags / 4 % 2 == 1
+}
+
+/// The PathErr that the objects spell. None exactly where they spell none.
+pub(crate) fn read_path_err(objects: &[RawObject]) -> Option<Msg>
+    ensures found { IfSome result (λ m. (type_of (Some m) ≡ 3) × SpellsMsg (all_seen objects.now) m) }
+    ensures only { (m : Msg) → type_of (Some m) ≡ 3 → SpellsMsg (all_seen objects.now) m → result ≡ Some m }
+{
+    let subject = read_subject(objects, SENDER_TEMPLATE)?;
+    let error = error(objects)?;
+    Some(Msg::PathErr {
+        lsp: subject.lsp,
+        egress: subject.egress,
+        at: error.node,
+        removed: is_removed(&error),
+        code: error.code,
+    })
+}
+
+/// The Notify that the objects spell. None exactly where they spell none.
+pub(crate) fn read_notify(objects: &[RawObject]) -> Option<Msg>
+    ensures found { IfSome result (λ m. (type_of (Some m) ≡ 21) × SpellsMsg (all_seen objects.now) m) }
+    ensures only { (m : Msg) → type_of (Some m) ≡ 21 → SpellsMsg (all_seen objects.now) m → result ≡ Some m }
+{
+    let subject = read_subject(objects, SENDER_TEMPLATE)?;
+    let error = error_with_interface(objects)?;
+    let link = error.link?;
+    Some(Msg::Notify {
+        lsp: subject.lsp,
+        egress: subject.egress,
+        at: error.node,
+        link,
+        code: error.code,
+    })
+}

@@ -1,0 +1,38 @@
+//! The common header (RFC 2205, section 3.1.1).
+
+ghost use Rattle.std.specs.Prelude.{◌≡◌, ◌≤◌, ◌<◌, ℕ, Some, false, length, slice_index, IfSome, IsTrue};
+ghost use Rattle.rsvp_messages.specs.Headers.{HasChecksum, HasHeader};
+
+use byteorder::{BigEndian, ByteOrder};
+use wire_buf::internet_checksum;
+
+/// How many bytes the header takes.
+pub(crate) const HEADER: usize = 8;
+
+// A right field makes the checksum of the whole 0. So would 0xFFFF where 0 is right, which is no checksum of any message.
+fn has_checksum(bytes: &[u8]) -> bool
+    requires long { 4 ≤ length bytes.now }
+    requires some { 0 < slice_index bytes.now 0 }
+    ensures yes { IsTrue result → HasChecksum bytes.now }
+    ensures no { result ≡ false → ¬ HasChecksum bytes.now }
+{
+    let field = BigEndian::read_u16(&bytes[2..]);
+    field == 0 || (field != 0xFFFF && internet_checksum(bytes) == 0)
+}
+
+/// The type of a message by its header. None exactly where the header is none of these bytes: a version other than 1, a length
+/// other than the number of bytes, or a checksum that is neither 0 nor right.
+pub(crate) fn read_header(bytes: &[u8]) -> Option<u8>
+    ensures found { IfSome result (HasHeader bytes.now) }
+    ensures only { (kind : ℕ) → HasHeader bytes.now kind → result ≡ Some kind }
+{
+    if bytes.len() < HEADER || bytes[0] / 16 != 1 {
+        return None;
+    }
+    let len = usize::from(BigEndian::read_u16(&bytes[6..]));
+    if len == bytes.len() && has_checksum(bytes) {
+        Some(bytes[1])
+    } else {
+        None
+    }
+}
