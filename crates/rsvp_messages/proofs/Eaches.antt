@@ -2,7 +2,7 @@
 use Rattle.std.proofs.Common.{◌≡◌, ◌≢◌, ℕ, ◌+◌, ◌<◌, ◌≤◌, ◌==◌, Bool, true, false, cond, Option, Some, List, [], ◌∷◌, ◌++◌, length, take, drop, get_or, refl, ap, sym, subst, ◌∙◌, arith}
 use Rattle.std.proofs.lemmas.List.{append-nil, map-append, take-append-drop, take_all}
 use Rattle.std.proofs.lemmas.List.Elements.{filter-append}
-use Rattle.rsvp_messages.specs.declared.objects.RawObject.{RawObject}
+use Rattle.rsvp_messages.specs.declared.raw.RawObject.{RawObject}
 use Rattle.rsvp_messages.specs.Objects.{Object, of_class}
 use Rattle.rsvp_messages.specs.Parts.{AreEach}
 use Rattle.rsvp_messages.specs.Seen.{all_seen, seen}

@@ -4,3 +4,5 @@ pub mod Subjects
 pub mod Eaches
 pub mod Sets
 pub mod Paths
+pub mod Writing
+pub mod Lengths

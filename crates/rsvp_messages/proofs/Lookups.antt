@@ -3,7 +3,7 @@ use Rattle.std.proofs.Common.{◌≡◌, ◌≢◌, ◌≤◌, ℕ, ◌+◌, ◌
 use Rattle.std.proofs.lemmas.List.{map_more, map-append, take-append-drop}
 use Rattle.std.proofs.lemmas.List.Elements.{filter-append}
 use Rattle.std.specs.Option.{is_some, option_map, option_to_list}
-use Rattle.rsvp_messages.specs.declared.objects.RawObject.{RawObject}
+use Rattle.rsvp_messages.specs.declared.raw.RawObject.{RawObject}
 use Rattle.rsvp_messages.specs.Objects.{Object, of_class}
 use Rattle.rsvp_messages.specs.Parts.{HasAtMostOne, HasOne}
 use Rattle.rsvp_messages.specs.Seen.{all_seen, seen}

@@ -1,7 +1,7 @@
 -- Reading objects one after the other.
 use Rattle.std.proofs.Common.{◌≡◌, ℕ, ◌<◌, ◌≤◌, ◌==◌, Bool, true, false, List, [], ◌∷◌, ◌++◌, length, take, drop, map, refl, ap, sym, subst, ◌∙◌, arith, append_assoc}
 use Rattle.std.proofs.lemmas.List.{append-nil, map-append}
-use Rattle.rsvp_messages.specs.declared.objects.RawObject.{RawObject}
+use Rattle.rsvp_messages.specs.declared.raw.RawObject.{RawObject}
 use Rattle.rsvp_messages.specs.Objects.{Object, AreObjects, BeginsWith, size_of}
 use Rattle.rsvp_messages.specs.Seen.{all_seen, seen}
 

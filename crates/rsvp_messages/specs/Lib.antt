@@ -4,4 +4,6 @@ pub mod Parts
 pub mod Messages
 pub mod Packets
 pub mod Lines
+pub mod Written
+pub mod Writable
 pub mod Seen

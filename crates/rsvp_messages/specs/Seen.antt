@@ -1,6 +1,6 @@
 -- Objects without where they lie in memory.
 use Rattle.std.specs.Prelude.{List, map}
-use Rattle.rsvp_messages.specs.declared.objects.RawObject.{RawObject}
+use Rattle.rsvp_messages.specs.declared.raw.RawObject.{RawObject}
 use Rattle.rsvp_messages.specs.Objects.{Object}
 
 abbrev pub seen : RawObject → Object

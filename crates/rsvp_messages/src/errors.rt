@@ -1,6 +1,6 @@
 //! PathErr (RFC 2205, section 3.1.8; RFC 3473, section 4.4) and Notify (RFC 3473, section 4.3).
 
-ghost use Rattle.std.specs.Prelude.{◌≡◌, Some, IfSome};
+ghost use Rattle.std.specs.Prelude.{◌≡◌, ◌++◌, Some, IfSome, OnOk};
 ghost use Rattle.ason_base.specs.declared.messages.Msg.{Msg};
 ghost use Rattle.rsvp_objects.specs.declared.error.ErrorSpec.{ErrorSpec};
 ghost use Rattle.rsvp_objects.specs.Bodies.{IsError};
@@ -8,18 +8,22 @@ ghost use Rattle.rsvp_messages.specs.Messages.{HasError, SpellsMsg, is_removed};
 ghost use Rattle.rsvp_messages.specs.Packets.{type_of};
 ghost use Rattle.rsvp_messages.specs.Parts.{HasOne};
 ghost use Rattle.rsvp_messages.specs.Seen.{all_seen};
+ghost use Rattle.rsvp_messages.specs.Written.{all_bytes, bytes_of, error_object, flags_of, notify_objects, path_err_objects};
 
 use crate::classes::{ERROR_SPEC, SENDER_TEMPLATE};
-use crate::fields::read_subject;
+use crate::fields::{read_subject, write_lsp_sender, write_lsp_session};
 use crate::lookup::one;
-use crate::objects::RawObject;
-use ason_base::Msg;
-use rsvp_objects::{ErrorSpec, read_error, read_error_ipv4};
+use crate::raw::RawObject;
+use ason_base::{ErrCode, LinkId, Lsp, Msg, NodeId, OutOfMemory};
+use rsvp_objects::{ErrorSpec, read_error, read_error_ipv4, write_error};
 
 /// The C-Types of an ERROR_SPEC without an interface and with one.
 const IPV4: u8 = 1;
 
 const IF_ID: u8 = 3;
+
+/// The flag Path_State_Removed (RFC 3473, section 4.4).
+const PATH_STATE_REMOVED: u8 = 0x04;
 
 // The error of an ERROR_SPEC with an interface.
 fn error_with_interface(objects: &[RawObject]) -> Option<ErrorSpec>
@@ -77,4 +81,60 @@ pub(crate) fn read_notify(objects: &[RawObject]) -> Option<Msg>
         link,
         code: error.code,
     })
+}
+
+fn flags_of(removed: bool) -> u8
+    ensures { result ≡ flags_of removed }
+{
+    if removed { PATH_STATE_REMOVED } else { 0 }
+}
+
+fn write_error_of(
+    out: &mut Vec<u8>,
+    at: NodeId,
+    removed: bool,
+    code: ErrCode,
+    link: Option<LinkId>,
+) -> Result<(), OutOfMemory>
+    ensures { OnOk result (out.new.items ≡ out.old.items ++ bytes_of (error_object at (flags_of removed) code link)) }
+{
+    let error = ErrorSpec {
+        node: at,
+        flags: flags_of(removed),
+        code,
+        link,
+    };
+    write_error(out, &error)
+}
+
+/// Appends the objects of a PathErr.
+pub(crate) fn write_path_err(
+    out: &mut Vec<u8>,
+    lsp: &Lsp,
+    egress: NodeId,
+    at: NodeId,
+    removed: bool,
+    code: ErrCode,
+) -> Result<(), OutOfMemory>
+    ensures { OnOk result (out.new.items ≡ out.old.items ++ all_bytes (path_err_objects lsp.now egress at removed code)) }
+{
+    write_lsp_session(out, lsp, egress)?;
+    write_error_of(out, at, removed, code, None)?;
+    write_lsp_sender(out, lsp)
+}
+
+/// Appends the objects of a Notify.
+pub(crate) fn write_notify(
+    out: &mut Vec<u8>,
+    lsp: &Lsp,
+    egress: NodeId,
+    at: NodeId,
+    link: LinkId,
+    code: ErrCode,
+) -> Result<(), OutOfMemory>
+    ensures { OnOk result (out.new.items ≡ out.old.items ++ all_bytes (notify_objects lsp.now egress at link code)) }
+{
+    write_error_of(out, at, false, code, Some(link))?;
+    write_lsp_session(out, lsp, egress)?;
+    write_lsp_sender(out, lsp)
 }

@@ -1,6 +1,6 @@
 //! The objects that several messages read: what names the LSP, and the link that a message came over.
 
-ghost use Rattle.std.specs.Prelude.{◌≡◌, Some, IfSome};
+ghost use Rattle.std.specs.Prelude.{◌≡◌, ◌++◌, Some, IfSome, OnOk};
 ghost use Rattle.ason_base.specs.declared.ids.LinkId.{LinkId};
 ghost use Rattle.ason_base.specs.declared.ids.Lsp.{Lsp};
 ghost use Rattle.ason_base.specs.declared.ids.NodeId.{NodeId};
@@ -10,12 +10,16 @@ ghost use Rattle.rsvp_objects.specs.Bodies.{IsSenderRef, IsSession};
 ghost use Rattle.rsvp_messages.specs.Messages.{ComesOver, NamesLsp};
 ghost use Rattle.rsvp_messages.specs.Parts.{HasOne};
 ghost use Rattle.rsvp_messages.specs.Seen.{all_seen};
+ghost use Rattle.rsvp_messages.specs.Written.{bytes_of, hop_object, sender_object, session_object};
 
 use crate::classes::{FILTER_SPEC, RSVP_HOP, SESSION};
 use crate::lookup::one;
-use crate::objects::RawObject;
-use ason_base::{LinkId, Lsp, NodeId};
-use rsvp_objects::{SenderRef, Session, read_filter, read_hop, read_sender, read_session};
+use crate::raw::RawObject;
+use ason_base::{LinkId, Lsp, NodeId, OutOfMemory};
+use rsvp_objects::{
+    HopObject, SenderRef, Session, read_filter, read_hop, read_sender, read_session, write_filter,
+    write_hop, write_sender, write_session,
+};
 
 /// The C-Type of an LSP tunnel over IPv4, in SESSION, SENDER_TEMPLATE and FILTER_SPEC.
 const LSP_TUNNEL: u8 = 7;
@@ -76,4 +80,49 @@ pub(crate) fn link(objects: &[RawObject]) -> Option<LinkId>
     let body = one(objects, RSVP_HOP, IF_ID)?;
     let hop = read_hop(body)?;
     Some(hop.link)
+}
+
+/// Appends the SESSION of an LSP.
+pub(crate) fn write_lsp_session(
+    out: &mut Vec<u8>,
+    lsp: &Lsp,
+    egress: NodeId,
+) -> Result<(), OutOfMemory>
+    ensures { OnOk result (out.new.items ≡ out.old.items ++ bytes_of (session_object lsp.now egress)) }
+{
+    let session = Session {
+        endpoint: egress,
+        tunnel: lsp.tunnel,
+        extended: lsp.ingress.0,
+    };
+    write_session(out, &session)
+}
+
+/// Appends the SENDER_TEMPLATE of an LSP.
+pub(crate) fn write_lsp_sender(out: &mut Vec<u8>, lsp: &Lsp) -> Result<(), OutOfMemory>
+    ensures { OnOk result (out.new.items ≡ out.old.items ++ bytes_of (sender_object 11 lsp.now)) }
+{
+    let sender = SenderRef {
+        sender: lsp.ingress,
+        lsp: lsp.lsp,
+    };
+    write_sender(out, &sender)
+}
+
+/// Appends the FILTER_SPEC of an LSP.
+pub(crate) fn write_lsp_filter(out: &mut Vec<u8>, lsp: &Lsp) -> Result<(), OutOfMemory>
+    ensures { OnOk result (out.new.items ≡ out.old.items ++ bytes_of (sender_object 10 lsp.now)) }
+{
+    let sender = SenderRef {
+        sender: lsp.ingress,
+        lsp: lsp.lsp,
+    };
+    write_filter(out, &sender)
+}
+
+/// Appends the RSVP_HOP of a sender and the link that it sends over.
+pub(crate) fn write_link(out: &mut Vec<u8>, sender: NodeId, link: LinkId) -> Result<(), OutOfMemory>
+    ensures { OnOk result (out.new.items ≡ out.old.items ++ bytes_of (hop_object sender link)) }
+{
+    write_hop(out, &HopObject { sender, link })
 }

@@ -1,13 +1,21 @@
 //! The common header (RFC 2205, section 3.1.1).
 
-ghost use Rattle.std.specs.Prelude.{◌≡◌, ◌≤◌, ◌<◌, ℕ, Some, false, length, slice_index, IfSome, IsTrue};
+ghost use Rattle.std.specs.Prelude.{◌≡◌, ◌≤◌, ◌<◌, ◌^◌, ◌++◌, ℕ, List, Some, false, length, slice_index, IfOk, IfSome, IsTrue};
 ghost use Rattle.rsvp_messages.specs.Headers.{HasChecksum, HasHeader};
+ghost use Rattle.rsvp_messages.specs.Written.{header_bytes, message};
 
+use ason_base::OutOfMemory;
 use byteorder::{BigEndian, ByteOrder};
+use std::alloc::Global;
 use wire_buf::internet_checksum;
 
 /// How many bytes the header takes.
 pub(crate) const HEADER: usize = 8;
+
+/// The first byte that is written: version 1, flags 1.
+const VERSION_AND_FLAGS: u8 = 0x11;
+
+const SEND_TTL: u8 = 1;
 
 // A right field makes the checksum of the whole 0. So would 0xFFFF where 0 is right, which is no checksum of any message.
 fn has_checksum(bytes: &[u8]) -> bool
@@ -35,4 +43,23 @@ pub(crate) fn read_header(bytes: &[u8]) -> Option<u8>
     } else {
         None
     }
+}
+
+/// Begins a message of this type. Its checksum and length are 0 so far.
+pub(crate) fn begin(alloc: Global, kind: u8) -> Result<Vec<u8>, OutOfMemory>
+    ensures { IfOk result (λ out. out.items ≡ header_bytes kind 0 0) }
+{
+    Ok(Vec::from_slice(alloc, &[VERSION_AND_FLAGS, kind, 0, 0, SEND_TTL, 0, 0, 0])?)
+}
+
+/// Writes the length and the checksum of a message into its header.
+pub(crate) fn seal(out: &mut [u8])
+    requires long { 8 ≤ length out.old }
+    requires short { length out.old < 2 ^ 16 }
+    ensures { (kind : ℕ) (body : List ℕ) → out.old ≡ header_bytes kind 0 0 ++ body → out.new ≡ message kind body }
+{
+    let len = out.len() as u16;
+    BigEndian::write_u16(&mut out[6..8], len);
+    let checksum = internet_checksum(out);
+    BigEndian::write_u16(&mut out[2..4], checksum);
 }

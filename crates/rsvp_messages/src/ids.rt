@@ -1,17 +1,19 @@
 //! Numbers of messages and their acknowledgements (RFC 2961, sections 4.2 and 4.3).
 
-ghost use Rattle.std.specs.Prelude.{◌≡◌, List, Option, Some, IfOk, IfSome, IsErrOf};
+ghost use Rattle.std.specs.Prelude.{◌≡◌, ◌<◌, ◌^◌, ◌++◌, map, All, List, Option, Some, IfOk, IfSome, IsErrOf, OnOk};
 ghost use Rattle.ason_base.specs.declared.messages.MsgId.{MsgId};
 ghost use Rattle.rsvp_objects.specs.Bodies.{IsMsgId};
 ghost use Rattle.rsvp_messages.specs.Packets.{HasAcks};
 ghost use Rattle.rsvp_messages.specs.Parts.{HasAtMostOne, HasEach};
 ghost use Rattle.rsvp_messages.specs.Seen.{all_seen};
+ghost use Rattle.rsvp_messages.specs.Writable.{IsShort};
+ghost use Rattle.rsvp_messages.specs.Written.{ack_object, all_bytes, id_objects};
 
 use crate::classes::{MESSAGE_ID, MESSAGE_ID_ACK};
 use crate::lookup::optional;
-use crate::objects::RawObject;
-use ason_base::{DecodeError, Ids, MsgId};
-use rsvp_objects::{read_ack, read_id};
+use crate::raw::RawObject;
+use ason_base::{DecodeError, Ids, MsgId, OutOfMemory};
+use rsvp_objects::{read_ack, read_id, write_ack, write_id};
 use std::alloc::Global;
 
 /// The C-Type of both objects.
@@ -67,4 +69,26 @@ pub(crate) fn acks(alloc: Global, objects: &[RawObject]) -> Result<Ids, DecodeEr
         return Err(DecodeError::NotMessage);
     }
     Ok(acks)
+}
+
+/// Appends the MESSAGE_ID, if there is a number.
+pub(crate) fn write_message_id(out: &mut Vec<u8>, id: Option<MsgId>) -> Result<(), OutOfMemory>
+    requires { IfSome id IsShort }
+    ensures { OnOk result (out.new.items ≡ out.old.items ++ all_bytes (id_objects id)) }
+{
+    match id {
+        Some(id) => write_id(out, &id),
+        None => Ok(()),
+    }
+}
+
+/// Appends the MESSAGE_ID_ACKs.
+pub(crate) fn write_acks(out: &mut Vec<u8>, acks: &[MsgId]) -> Result<(), OutOfMemory>
+    requires { All IsShort acks.now }
+    ensures { OnOk result (out.new.items ≡ out.old.items ++ all_bytes (map ack_object acks.now)) }
+{
+    for ack in acks {
+        write_ack(out, ack)?;
+    }
+    Ok(())
 }

@@ -10,7 +10,7 @@ ghost use Rattle.rsvp_messages.specs.Seen.{all_seen};
 ghost use Rattle.std.specs.List.{list_any};
 
 use crate::classes::LABEL_SET;
-use crate::objects::RawObject;
+use crate::raw::RawObject;
 use ason_base::{DecodeError, Label, LabelSet};
 use rsvp_objects::{LabelSetObject, read_label_set};
 use std::alloc::Global;

@@ -2,16 +2,19 @@
 #![tactic(auto)]
 
 mod classes;
+pub mod encode;
 mod errors;
 mod fields;
+mod fixed;
 mod header;
 mod ids;
+mod kinds;
 mod label_sets;
 pub mod lines;
 mod lookup;
-mod objects;
 pub mod packet;
 mod path;
+mod raw;
 mod resv;
 mod roles;
 mod tear;

@@ -5,7 +5,7 @@ ghost use Rattle.std.specs.Option.{option_map, option_to_list};
 ghost use Rattle.rsvp_messages.specs.Objects.{of_class};
 ghost use Rattle.rsvp_messages.specs.Seen.{all_seen, seen};
 
-use crate::objects::RawObject;
+use crate::raw::RawObject;
 
 // The object of a class, if there is one. None exactly where there are two.
 fn at_most_one<'a>(objects: &[RawObject<'a>], class: u8) -> Option<Option<RawObject<'a>>>

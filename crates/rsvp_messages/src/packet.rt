@@ -1,4 +1,4 @@
-//! Whole messages: header, numbers and what the objects spell.
+//! Reading whole messages: header, numbers and what the objects spell.
 
 ghost use Rattle.std.specs.Prelude.{◌≡◌, ◌≢◌, List, Some, IfOk, IfSome, IsErrOf};
 ghost use Rattle.ason_base.specs.declared.messages.Msg.{Msg};
@@ -11,25 +11,13 @@ ghost use Rattle.rsvp_messages.specs.Seen.{all_seen};
 use crate::errors::{read_notify, read_path_err};
 use crate::header::{HEADER, read_header};
 use crate::ids::{acks, message_id};
-use crate::objects::{RawObject, read_objects};
+use crate::kinds::{ACK, NOTIFY, PATH, PATH_ERR, PATH_TEAR, RESV};
 use crate::path::read_path;
+use crate::raw::{RawObject, read_objects};
 use crate::resv::read_resv;
 use crate::tear::read_tear;
 use ason_base::{DecodeError, Msg, Packet};
 use std::alloc::Global;
-
-/// The types of messages.
-pub(crate) const PATH: u8 = 1;
-
-pub(crate) const RESV: u8 = 2;
-
-pub(crate) const PATH_ERR: u8 = 3;
-
-pub(crate) const PATH_TEAR: u8 = 5;
-
-pub(crate) const ACK: u8 = 13;
-
-pub(crate) const NOTIFY: u8 = 21;
 
 // The message of another type than Path that the objects spell.
 fn read_other(kind: u8, objects: &[RawObject]) -> Option<Msg>

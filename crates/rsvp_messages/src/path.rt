@@ -1,6 +1,6 @@
 //! Path (RFC 2205, section 3.1.3; RFC 3209; RFC 3473; RFC 4872).
 
-ghost use Rattle.std.specs.Prelude.{◌≡◌, ℕ, List, Option, Some, false, IfOk, IfSome, IsErrOf, IsTrue};
+ghost use Rattle.std.specs.Prelude.{◌≡◌, ◌≤◌, ◌++◌, ℕ, List, Option, Some, false, length, IfOk, IfSome, IsErrOf, IsTrue, OnOk};
 ghost use Rattle.ason_base.specs.declared.ids.LinkId.{LinkId};
 ghost use Rattle.ason_base.specs.declared.ids.Lsp.{Lsp};
 ghost use Rattle.ason_base.specs.declared.ids.NodeId.{NodeId};
@@ -11,15 +11,23 @@ ghost use Rattle.rsvp_messages.specs.Messages.{HasRoute, SpellsHead, SpellsMsg};
 ghost use Rattle.rsvp_messages.specs.Packets.{type_of};
 ghost use Rattle.rsvp_messages.specs.Parts.{HasAtMostOne, HasOne};
 ghost use Rattle.rsvp_messages.specs.Seen.{all_seen};
+ghost use Rattle.rsvp_messages.specs.Written.{all_bytes, bytes_of, path_end, path_head, protection_object, request_objects, route_objects, set_object, upstream_objects};
 
 use crate::classes::{EXPLICIT_ROUTE, LABEL_REQUEST, SENDER_TEMPLATE, UPSTREAM_LABEL};
-use crate::fields::{Subject, link, read_subject};
+use crate::fields::{Subject, link, read_subject, write_link, write_lsp_sender, write_lsp_session};
+use crate::fixed::{write_sender_tspec, write_time_values};
 use crate::label_sets::label_set;
 use crate::lookup::{one, optional};
-use crate::objects::RawObject;
-use crate::roles::role;
-use ason_base::{DecodeError, Label, LinkId, Msg, Steps};
-use rsvp_objects::{read_request, read_route, read_upstream};
+use crate::raw::RawObject;
+use crate::roles::{protection_of, role};
+use ason_base::{
+    DecodeError, Label, LabelSet, LinkId, Lsp, Msg, NodeId, OutOfMemory, PathRole, Steps,
+};
+use rsvp_objects::{
+    LabelRequest, LabelSetObject, read_request, read_route, read_upstream, write_label_set,
+    write_request, write_route, write_upstream,
+};
+use rsvp_recovery::write_protection;
 use std::alloc::Global;
 
 /// The C-Type of a generalized LABEL_REQUEST.
@@ -109,4 +117,82 @@ pub(crate) fn read_path(alloc: Global, objects: &[RawObject]) -> Result<Msg, Dec
         upstream: head.upstream,
         role,
     })
+}
+
+/// Appends what stands before the route in a Path.
+pub(crate) fn write_path_head(
+    out: &mut Vec<u8>,
+    sender: NodeId,
+    lsp: &Lsp,
+    egress: NodeId,
+    link: LinkId,
+) -> Result<(), OutOfMemory>
+    ensures { OnOk result (out.new.items ≡ out.old.items ++ all_bytes (path_head sender lsp.now egress link)) }
+{
+    write_lsp_session(out, lsp, egress)?;
+    write_link(out, sender, link)?;
+    write_time_values(out)
+}
+
+/// Appends the EXPLICIT_ROUTE of a route that isn't empty.
+pub(crate) fn write_path_route(out: &mut Vec<u8>, route: &Steps) -> Result<(), OutOfMemory>
+    requires { length route.now ≤ 64 }
+    ensures { OnOk result (out.new.items ≡ out.old.items ++ all_bytes (route_objects route.now)) }
+{
+    if route.items().is_empty() {
+        Ok(())
+    } else {
+        write_route(out, route)
+    }
+}
+
+fn write_path_upstream(out: &mut Vec<u8>, upstream: Option<Label>) -> Result<(), OutOfMemory>
+    ensures { OnOk result (out.new.items ≡ out.old.items ++ all_bytes (upstream_objects upstream)) }
+{
+    match upstream {
+        Some(label) => write_upstream(out, &label),
+        None => Ok(()),
+    }
+}
+
+fn write_protection_of(out: &mut Vec<u8>, role: &PathRole) -> Result<(), OutOfMemory>
+    ensures { OnOk result (out.new.items ≡ out.old.items ++ bytes_of (protection_object role.now)) }
+{
+    write_protection(out, &protection_of(role))
+}
+
+fn write_set(out: &mut Vec<u8>, set: &LabelSet) -> Result<(), OutOfMemory>
+    ensures { OnOk result (out.new.items ≡ out.old.items ++ bytes_of (set_object set.now)) }
+{
+    let labels = LabelSetObject {
+        include: true,
+        labels: set.copy(),
+    };
+    write_label_set(out, &labels)
+}
+
+/// Appends what stands behind the route in a Path, as far as its role.
+pub(crate) fn write_path_request(
+    out: &mut Vec<u8>,
+    set: &LabelSet,
+    role: &PathRole,
+) -> Result<(), OutOfMemory>
+    ensures { OnOk result (out.new.items ≡ out.old.items ++ all_bytes (request_objects set.now role.now)) }
+{
+    write_request(out, &LabelRequest)?;
+    write_protection_of(out, role)?;
+    write_set(out, set)
+}
+
+/// Appends the end of a Path.
+pub(crate) fn write_path_end(
+    out: &mut Vec<u8>,
+    lsp: &Lsp,
+    upstream: Option<Label>,
+) -> Result<(), OutOfMemory>
+    ensures { OnOk result (out.new.items ≡ out.old.items ++ all_bytes (path_end lsp.now upstream)) }
+{
+    write_lsp_sender(out, lsp)?;
+    write_sender_tspec(out)?;
+    write_path_upstream(out, upstream)
 }

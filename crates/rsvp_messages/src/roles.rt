@@ -1,6 +1,6 @@
 //! What a Path's LSP is for (RFC 4872, sections 14 to 16).
 
-ghost use Rattle.std.specs.Prelude.{◌≡◌, ℕ, List, Some, IfOk, IfSome, IsErrOf};
+ghost use Rattle.std.specs.Prelude.{◌≡◌, ◌++◌, ℕ, List, Some, IfOk, IfSome, IsErrOf, OnOk};
 ghost use Rattle.ason_base.specs.declared.messages.PathRole.{PathRole};
 ghost use Rattle.ason_base.specs.declared.steps.Step.{Step};
 ghost use Rattle.wire_buf.specs.Routes.{IsRoute};
@@ -8,12 +8,17 @@ ghost use Rattle.rsvp_recovery.specs.declared.protection.Protection.{Protection}
 ghost use Rattle.rsvp_messages.specs.Messages.{HasProtection, HasRole, Ties};
 ghost use Rattle.rsvp_messages.specs.Parts.{HasOne};
 ghost use Rattle.rsvp_messages.specs.Seen.{all_seen};
+ghost use Rattle.rsvp_messages.specs.Writable.{IsWritableRole};
+ghost use Rattle.rsvp_messages.specs.Written.{all_bytes, protection_of, role_objects};
 
 use crate::classes::{ASSOCIATION, PRIMARY_PATH_ROUTE, PROTECTION};
 use crate::lookup::{one, optional};
-use crate::objects::RawObject;
-use ason_base::{DecodeError, PathRole, Steps};
-use rsvp_recovery::{Protection, read_association, read_primary, read_protection};
+use crate::raw::RawObject;
+use ason_base::{DecodeError, Lsp, OutOfMemory, PathRole, Steps};
+use rsvp_recovery::{
+    Association, Protection, read_association, read_primary, read_protection, write_association,
+    write_primary,
+};
 use std::alloc::Global;
 
 /// The C-Type of PROTECTION for end-to-end recovery.
@@ -80,4 +85,33 @@ pub(crate) fn role(alloc: Global, objects: &[RawObject]) -> Result<PathRole, Dec
         work,
         primary,
     })
+}
+
+/// The protection of an LSP of this role.
+pub(crate) fn protection_of(role: &PathRole) -> Protection
+    ensures { result ≡ protection_of role.now }
+{
+    match role {
+        PathRole::Work { guard } => Protection::Work { guard: *guard },
+        PathRole::Back { active, .. } => Protection::Back { active: *active },
+    }
+}
+
+/// Appends a backup's ASSOCIATION and PRIMARY_PATH_ROUTE, and nothing for a working LSP.
+pub(crate) fn write_role(out: &mut Vec<u8>, lsp: &Lsp, role: &PathRole) -> Result<(), OutOfMemory>
+    requires { IsWritableRole role.now }
+    ensures { OnOk result (out.new.items ≡ out.old.items ++ all_bytes (role_objects lsp.now role.now)) }
+{
+    match role {
+        PathRole::Work { .. } => Ok(()),
+        PathRole::Back { work, primary, .. } => {
+            let association = Association {
+                kind: RECOVERY,
+                id: *work,
+                source: lsp.ingress.0,
+            };
+            write_association(out, &association)?;
+            write_primary(out, primary)
+        }
+    }
 }

@@ -1,7 +1,7 @@
 use Rattle.std.proofs.Common.{length}
 use Rattle.rsvp_messages.specs.Seen.{all_seen}
 use Rattle.rsvp_messages.proofs.Reading.{ReadSoFar}
-use Rattle.rsvp_messages.proofs.objects.read_objects.Given as goal
+use Rattle.rsvp_messages.proofs.raw.read_objects.Given as goal
 
 abbrev pub invariant-objects : goal.invariant-objects
 invariant-objects l = ReadSoFar l.bytes l.cursor (all_seen l.objects.items)

@@ -1,5 +1,5 @@
 use Rattle.rsvp_messages.proofs.Reading.{goes_on, stops, ends, same_objects, not_empty, is_empty}
-use Rattle.rsvp_messages.proofs.objects.read_objects.Goals as goal
+use Rattle.rsvp_messages.proofs.raw.read_objects.Goals as goal
 
 pub returns-in_default-clause-not_message : goal.returns-in_default-clause-not_message
 returns-in_default-clause-not_message c = λ e. stops _ _ _ (not_empty _ _ c.is_empty.ensures c.objects-test.true) (λ o is. cc (c.in_default.ensures.only o is)) c.objects.invariant
