@@ -59,9 +59,17 @@ end-few lsp (Some label) = omega arith
 
 msg-few : (sender : NodeId) (m : Msg) → IsWritableMsg m → length (all_bytes (msg_objects sender m)) ≤ 3000
 msg-few sender (Path lsp egress link route set upstream role) w =
-    omega (arith, length-apart (path_head sender lsp egress link) (route_objects route ++ (request_objects set role ++ (role_objects lsp role ++ path_end lsp upstream))),
-    length-apart (route_objects route) (request_objects set role ++ (role_objects lsp role ++ path_end lsp upstream)), length-apart (request_objects set role) (role_objects lsp role ++ path_end lsp upstream),
-    length-apart (role_objects lsp role) (path_end lsp upstream), route-few route w.1, request-few set role, role-few lsp role w.2, end-few lsp upstream)
+    omega (
+      arith,
+      length-apart (path_head sender lsp egress link) (route_objects route ++ (request_objects set role ++ (role_objects lsp role ++ path_end lsp upstream))),
+      length-apart (route_objects route) (request_objects set role ++ (role_objects lsp role ++ path_end lsp upstream)),
+      length-apart (request_objects set role) (role_objects lsp role ++ path_end lsp upstream),
+      length-apart (role_objects lsp role) (path_end lsp upstream),
+      route-few route w.1,
+      request-few set role,
+      role-few lsp role w.2,
+      end-few lsp upstream,
+    )
 msg-few sender (Resv lsp egress link label) w = omega arith
 msg-few sender (PathTear lsp egress link) w = omega arith
 msg-few sender (PathErr lsp egress at removed code) w = omega arith

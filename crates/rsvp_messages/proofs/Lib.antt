@@ -6,3 +6,7 @@ pub mod Sets
 pub mod Paths
 pub mod Writing
 pub mod Lengths
+pub mod Moves
+pub mod Whole
+pub mod Spelled
+pub mod Packed

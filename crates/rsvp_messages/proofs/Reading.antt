@@ -1,6 +1,8 @@
 -- Reading objects one after the other.
-use Rattle.std.proofs.Common.{◌≡◌, ℕ, ◌<◌, ◌≤◌, ◌==◌, Bool, true, false, List, [], ◌∷◌, ◌++◌, length, take, drop, map, refl, ap, sym, subst, ◌∙◌, arith, append_assoc}
+use Rattle.std.proofs.Common.{◌≡◌, ℕ, ◌<◌, ◌≤◌, ◌==◌, Bool, true, false, List, [], ◌∷◌, ◌++◌, length, take, drop, map, refl, ap, sym, subst, ◌∙◌, arith, append_assoc, length-drop, All, ◌^◌}
 use Rattle.std.proofs.lemmas.List.{append-nil, map-append}
+use Rattle.std.proofs.lemmas.List.Elements.{All-from_recursion, All-weaker}
+use Rattle.std.specs.List.{AllByRecursion}
 use Rattle.rsvp_messages.specs.declared.raw.RawObject.{RawObject}
 use Rattle.rsvp_messages.specs.Objects.{Object, AreObjects, BeginsWith, size_of}
 use Rattle.rsvp_messages.specs.Seen.{all_seen, seen}
@@ -72,3 +74,16 @@ not_empty bytes b is test = grind arith
 pub is_empty : (bytes : List ℕ) (b : Bool) → b ≡ (length bytes == 0) → b ≡ true → bytes ≡ []
 is_empty [] b is test = refl
 is_empty (x ∷ bytes) b is test = absurd (grind arith)
+
+-- no object is longer than all
+shorter : (bytes : List ℕ) (raws : List RawObject) (most : ℕ) → AreObjects bytes (all_seen raws) → length bytes ≤ most → AllByRecursion (λ o. size_of (seen o) ≤ most) raws
+shorter bytes [] most are few = tt
+shorter bytes (o ∷ os) most are few =
+    let within : size_of (seen o) ≤ length bytes = are.0.within in
+    (omega (arith, within), shorter (drop (size_of (seen o)) bytes) os most are.1 (omega (arith, length-drop (size_of (seen o)) bytes)))
+
+pub all_shorter : (bytes : List ℕ) (raws : List RawObject) → AreObjects bytes (all_seen raws) → All (λ o. size_of (seen o) ≤ length bytes) raws
+all_shorter bytes raws are = All-from_recursion (λ (o : RawObject). size_of (seen o) ≤ length bytes) raws (shorter bytes raws (length bytes) are (omega arith))
+
+pub all_short : (bytes rest : List ℕ) (raws : List RawObject) → length bytes < 2 ^ 16 → rest ≡ drop 8 bytes → All (λ o. size_of (seen o) ≤ length rest) raws → All (λ o. size_of (seen o) < 2 ^ 16) raws
+all_short bytes rest raws small e all = All-weaker (λ (o : RawObject). size_of (seen o) ≤ length rest) (λ (o : RawObject). size_of (seen o) < 2 ^ 16) (λ o h. omega (arith, ap length e, length-drop 8 bytes)) raws all

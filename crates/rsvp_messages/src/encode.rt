@@ -1,7 +1,7 @@
 //! Writing whole messages.
 
 ghost use Rattle.std.specs.Prelude.{◌≡◌, ◌++◌, IfOk, IfSome, OnOk};
-ghost use Rattle.rsvp_messages.specs.Packets.{type_of};
+ghost use Rattle.rsvp_messages.specs.Packets.{Spells, type_of};
 ghost use Rattle.rsvp_messages.specs.Writable.{IsWritable, IsWritableMsg};
 ghost use Rattle.rsvp_messages.specs.Written.{all_bytes, body_objects, msg_objects, written};
 
@@ -9,10 +9,12 @@ use crate::errors::{write_notify, write_path_err};
 use crate::header::{begin, seal};
 use crate::ids::{write_acks, write_message_id};
 use crate::kinds::{ACK, NOTIFY, PATH, PATH_ERR, PATH_TEAR, RESV};
+use crate::laws::packets_come_back;
 use crate::path::{write_path_end, write_path_head, write_path_request, write_path_route};
 use crate::resv::write_resv;
 use crate::roles::write_role;
 use crate::tear::write_tear;
+use crate::widths::{node_fits, packet_fits};
 use ason_base::{Msg, NodeId, OutOfMemory, Packet};
 use std::alloc::Global;
 
@@ -87,7 +89,12 @@ fn write_body(out: &mut Vec<u8>, sender: NodeId, body: &Option<Msg>) -> Result<(
 pub fn encode(alloc: Global, sender: NodeId, p: &Packet) -> Result<Vec<u8>, OutOfMemory>
     requires { IsWritable p.now }
     ensures written { IfOk result (λ bytes. bytes.items ≡ written sender p.now) }
+    // What is written is read as the packet again.
+    ensures spelled { IfOk result (λ bytes. Spells bytes.items p.now) }
 {
+    packets_come_back();
+    node_fits(sender);
+    packet_fits(p);
     let mut out = begin(alloc, kind_of(&p.body))?;
     write_message_id(&mut out, p.id)?;
     write_acks(&mut out, p.acks.items())?;

@@ -32,6 +32,7 @@ fn has_checksum(bytes: &[u8]) -> bool
 /// other than the number of bytes, or a checksum that is neither 0 nor right.
 pub(crate) fn read_header(bytes: &[u8]) -> Option<u8>
     ensures found { IfSome result (HasHeader bytes.now) }
+    ensures short { IfSome result (λ _. length bytes.now < 2 ^ 16) }
     ensures only { (kind : ℕ) → HasHeader bytes.now kind → result ≡ Some kind }
 {
     if bytes.len() < HEADER || bytes[0] / 16 != 1 {

@@ -1,12 +1,12 @@
 //! Reading whole messages: header, numbers and what the objects spell.
 
-ghost use Rattle.std.specs.Prelude.{◌≡◌, ◌≢◌, List, Some, IfOk, IfSome, IsErrOf};
+ghost use Rattle.std.specs.Prelude.{◌≡◌, ◌≢◌, ◌<◌, ◌^◌, List, Some, All, IfOk, IfSome, IsErrOf};
 ghost use Rattle.ason_base.specs.declared.messages.Msg.{Msg};
 ghost use Rattle.ason_base.specs.declared.messages.Packet.{Packet};
 ghost use Rattle.rsvp_messages.specs.Messages.{SpellsMsg};
-ghost use Rattle.rsvp_messages.specs.Objects.{Object};
+ghost use Rattle.rsvp_messages.specs.Objects.{Object, size_of};
 ghost use Rattle.rsvp_messages.specs.Packets.{SpelledBy, Spells, SpellsPacket, type_of};
-ghost use Rattle.rsvp_messages.specs.Seen.{all_seen};
+ghost use Rattle.rsvp_messages.specs.Seen.{all_seen, seen};
 
 use crate::errors::{read_notify, read_path_err};
 use crate::header::{HEADER, read_header};
@@ -105,6 +105,7 @@ pub(crate) struct Spelled<'a> {
 /// The objects of the message that the bytes spell, and its packet. NotMessage exactly where they spell none.
 pub(crate) fn read_message<'a>(alloc: Global, bytes: &'a [u8]) -> Result<Spelled<'a>, DecodeError>
     ensures found { IfOk result (λ s. SpelledBy bytes.now (all_seen s.objects.items) s.packet) }
+    ensures short { IfOk result (λ s. All (λ o. size_of (seen o) < 2 ^ 16) s.objects.items) }
     ensures only { (os : List Object) (p : Packet) → SpelledBy bytes.now os p → IfOk result (λ s. (all_seen s.objects.items ≡ os) × (s.packet ≡ p)) }
     ensures not_message { IsErrOf result DecodeError.NotMessage → (os : List Object) (p : Packet) → ¬ SpelledBy bytes.now os p }
 {

@@ -1,4 +1,4 @@
-use Rattle.rsvp_messages.proofs.Reading.{goes_on, stops, ends, same_objects, not_empty, is_empty}
+use Rattle.rsvp_messages.proofs.Reading.{all_shorter, goes_on, stops, ends, same_objects, not_empty, is_empty}
 use Rattle.rsvp_messages.proofs.raw.read_objects.Goals as goal
 
 pub returns-in_default-clause-not_message : goal.returns-in_default-clause-not_message
@@ -12,3 +12,6 @@ returns-clause-found c = ends _ _ _ (is_empty _ _ c.is_empty.ensures c.objects-t
 
 pub returns-clause-only : goal.returns-clause-only
 returns-clause-only c = λ os are. same_objects _ _ _ (ends _ _ _ (is_empty _ _ c.is_empty.ensures c.objects-test.false) c.objects.invariant) are
+
+pub returns-clause-short : goal.returns-clause-short
+returns-clause-short c = all_shorter _ _ (ends _ _ _ (is_empty _ _ c.is_empty.ensures c.objects-test.false) c.objects.invariant)
