@@ -12,8 +12,8 @@ use crate::classes::{
     LABEL_SET, MESSAGE_ID, MESSAGE_ID_ACK, PRIMARY_PATH_ROUTE, PROTECTION, RSVP_HOP,
     SENDER_TEMPLATE, SESSION, UPSTREAM_LABEL,
 };
-use crate::packet::read_message;
 use crate::raw::{RawObject, is_among};
+use crate::reading::read_message;
 use ason_base::{DecodeError, Msg, OutOfMemory, PathRole};
 use std::alloc::Global;
 

@@ -1,7 +1,7 @@
 use Rattle.ason_base.specs.declared.messages.Msg.TheVariants.{Path, Resv, PathErr, Notify}
 use Rattle.rsvp_messages.specs.Written.{path_end, path_head, request_objects, role_objects, route_objects}
 use Rattle.rsvp_messages.proofs.Writing.{as_msg, five}
-use Rattle.rsvp_messages.proofs.encode.write_msg.Goals as goal
+use Rattle.rsvp_messages.proofs.writing.write_msg.Goals as goal
 
 pub returns-in-Resv : goal.returns-in-Resv
 returns-in-Resv c = as_msg _ _ _ c.args.sender _ (Resv c.in-Resv.lsp c.in-Resv.egress c.in-Resv.link c.in-Resv.label) c.in-Resv.is c.write_resv.ensures

@@ -5,7 +5,7 @@ use Rattle.rsvp_messages.specs.Packets.{Spells}
 use Rattle.rsvp_messages.specs.Written.{ack_object, all_bytes, body_objects, header_bytes, id_objects, packet_objects}
 use Rattle.rsvp_messages.proofs.Lengths.{packet-short}
 use Rattle.rsvp_messages.proofs.Writing.{packet_bytes, sealed}
-use Rattle.rsvp_messages.proofs.encode.encode.Goals as goal
+use Rattle.rsvp_messages.proofs.writing.encode.Goals as goal
 
 pub seal-requires-clause-short : goal.seal-requires-clause-short
 seal-requires-clause-short c = let p = c.args.p.now in let e : c.write_body.new.out.items ≡ header_bytes c.kind_of.result 0 0 ++ all_bytes (packet_objects c.args.sender p) = packet_bytes _ _ _ _ _ (id_objects p.id) (map ack_object p.acks) (body_objects c.args.sender p.body) c.in_ok-out.ensures c.in_ok-write_message_id.ensures (c.in_ok-write_acks.ensures ∙ ap (λ (l : List MsgId). c.write_message_id.new.out.items ++ all_bytes (map ack_object l)) c.items.ensures) c.in_ok-write_body.ensures in packet-short c.args.sender p c.kind_of.result _ c.requires (c.deref_mut.ensures.value ∙ e)
