@@ -1,5 +1,5 @@
 -- How long a written packet is at most.
-use Rattle.std.proofs.Common.{◌≡◌, ◌≤◌, ◌<◌, ℕ, zero, suc, ◌+◌, ◌*◌, ◌^◌, Bool, true, false, cond, Option, None, Some, List, [], ◌∷◌, ◌++◌, length, map, filter, refl, ap, sym, ◌∙◌, arith, length-append}
+use Rattle.std.proofs.Common.{◌≡◌, ◌≤◌, ◌<◌, ℕ, zero, suc, ◌+◌, ◌*◌, ◌^◌, Bool, true, false, cond, Option, None, Some, List, [], ◌∷◌, ◌++◌, length, map, filter, refl, ap, ◌∙◌, arith, length-append}
 use Rattle.std.proofs.lemmas.List.Concat.{flat_map-append}
 use Rattle.ason_base.specs.declared.ids.Lsp.{Lsp}
 use Rattle.ason_base.specs.declared.ids.NodeId.{NodeId}
@@ -10,15 +10,15 @@ use Rattle.ason_base.specs.declared.messages.Packet.{Packet}
 use Rattle.ason_base.specs.declared.messages.PathRole.{PathRole}
 use Rattle.ason_base.specs.declared.messages.PathRole.TheVariants.{Work, Back}
 use Rattle.ason_base.specs.declared.steps.Step.{Step}
-use Rattle.ason_base.specs.Labels.{has, numbers_from, up_to}
+use Rattle.ason_base.specs.Labels.{has, numbers_from}
 use Rattle.wire_buf.specs.Routes.{route_bytes}
 use Rattle.wire_buf.proofs.Steps.{route_bytes-length}
 use Rattle.rsvp_objects.specs.Bodies.{request_bytes}
-use Rattle.rsvp_objects.specs.LabelSets.{among, label_set_bytes, labels_bytes, or_zero}
+use Rattle.rsvp_objects.specs.LabelSets.{among, label_set_bytes, or_zero}
 use Rattle.rsvp_objects.proofs.Labels.{labels_bytes-length}
 use Rattle.rsvp_messages.specs.Objects.{Object, size_of}
 use Rattle.rsvp_messages.specs.Writable.{IsWritable, IsWritableMsg, IsWritableRole, IsWritableBody}
-use Rattle.rsvp_messages.specs.Written.{ack_object, all_bytes, bytes_of, body_objects, header_bytes, id_objects, made, msg_objects, packet_objects, path_end, path_head, protection_object, request_objects, role_objects, route_objects, set_object, upstream_objects}
+use Rattle.rsvp_messages.specs.Written.{ack_object, all_bytes, bytes_of, body_objects, header_bytes, id_objects, made, msg_objects, packet_objects, path_end, path_head, protection_object, request_objects, role_objects, route_objects, set_object}
 
 pub length-apart : (xs ys : List Object) → length (all_bytes (xs ++ ys)) ≡ length (all_bytes xs) + length (all_bytes ys)
 length-apart xs ys = ap length (flat_map-append bytes_of xs ys) ∙ length-append (all_bytes xs) (all_bytes ys)

@@ -1,10 +1,10 @@
-pub mod Reading
+pub mod Scanning
 pub mod Lookups
 pub mod Subjects
 pub mod Eaches
 pub mod Sets
 pub mod Paths
-pub mod Writing
+pub mod Joining
 pub mod Lengths
 pub mod Moves
 pub mod Whole

@@ -13,7 +13,7 @@ use Rattle.rsvp_objects.specs.declared.error.ErrorSpec.{ErrorSpec}
 use Rattle.rsvp_objects.specs.Bodies.{IsMsgId}
 use Rattle.rsvp_objects.specs.LabelSets.{IsLabelSet}
 use Rattle.rsvp_recovery.specs.declared.protection.Protection.{Protection}
-use Rattle.rsvp_messages.specs.Messages.{HasError, HasProtection, HasRole, HasRoute, HasSet, NamesLsp, SpellsMsg}
+use Rattle.rsvp_messages.specs.Messages.{HasError, HasProtection, HasRole, HasRoute, NamesLsp, SpellsMsg}
 use Rattle.rsvp_messages.specs.Objects.{Object, of_class}
 use Rattle.rsvp_messages.specs.Packets.{SpellsBody, SpellsPacket}
 use Rattle.rsvp_messages.specs.Parts.{AreEach, HasAtMostOne, HasEach, HasOne}

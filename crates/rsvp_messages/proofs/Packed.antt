@@ -1,10 +1,9 @@
 -- The written form of a packet spells it.
-use Rattle.std.proofs.Common.{◌≡◌, ◌≢◌, ◌≤◌, ◌<◌, ℕ, ◌+◌, ◌*◌, ◌%◌, ◌^◌, ◌==◌, Bool, true, false, Option, None, Some, List, [], ◌∷◌, ◌++◌, length, map, All, refl, ap, sym, subst, ◌∙◌, arith, IfSome}
+use Rattle.std.proofs.Common.{◌≡◌, ◌≢◌, ◌≤◌, ◌<◌, ℕ, ◌+◌, ◌*◌, ◌%◌, ◌^◌, ◌==◌, true, false, Option, None, Some, List, [], ◌∷◌, ◌++◌, length, map, All, refl, ap, sym, subst, ◌∙◌, arith, IfSome}
 use Rattle.std.proofs.lemmas.List.{append-nil}
 use Rattle.std.proofs.lemmas.List.Elements.{All-head, All-tail}
 use Rattle.std.specs.List.{AllByRecursion}
 use Rattle.std.specs.Prelude.{IsTrue}
-use Rattle.ason_base.specs.declared.ids.LinkId.{LinkId}
 use Rattle.ason_base.specs.declared.ids.Lsp.{Lsp}
 use Rattle.ason_base.specs.declared.ids.NodeId.{NodeId}
 use Rattle.ason_base.specs.declared.messages.Msg.{Msg}
@@ -16,16 +15,16 @@ use Rattle.ason_base.specs.declared.messages.PathRole.TheVariants.{Work, Back}
 use Rattle.ason_base.specs.declared.steps.Step.{Step}
 use Rattle.wire_buf.specs.Routes.{route_bytes}
 use Rattle.wire_buf.proofs.Steps.{route_bytes-length}
-use Rattle.rsvp_objects.specs.Bodies.{IsMsgId, label_bytes, msg_id_bytes}
-use Rattle.rsvp_objects.specs.LabelSets.{among, label_set_bytes, or_zero}
+use Rattle.rsvp_objects.specs.Bodies.{IsMsgId, msg_id_bytes}
+use Rattle.rsvp_objects.specs.LabelSets.{label_set_bytes}
 use Rattle.rsvp_messages.specs.Objects.{Object, may_stand, of_class}
-use Rattle.rsvp_messages.specs.Packets.{HasAcks, SpelledBy, Spells, SpellsBody, type_of}
+use Rattle.rsvp_messages.specs.Packets.{HasAcks, Spells, SpellsBody, type_of}
 use Rattle.rsvp_messages.specs.Parts.{AreEach, HasAtMostOne}
 use Rattle.rsvp_messages.specs.Writable.{Fits, FitsId, FitsMsg, IsShort, IsWritable, IsWritableBody, IsWritableMsg, IsWritableRole}
-use Rattle.rsvp_messages.specs.Written.{ack_object, all_bytes, body_objects, id_objects, made, msg_objects, packet_objects, path_end, path_head, request_objects, role_objects, route_objects, sender_object, sender_tspec, upstream_objects, written}
+use Rattle.rsvp_messages.specs.Written.{ack_object, all_bytes, body_objects, id_objects, made, msg_objects, packet_objects, path_end, request_objects, role_objects, route_objects, written}
 use Rattle.rsvp_messages.proofs.Lengths.{packet-few, set-few, set-length}
 use Rattle.rsvp_messages.proofs.Moves.{SameOthers, move_msg}
-use Rattle.rsvp_messages.proofs.Spelled.{ComeBack, apart, msg_again, plain, skip_end, skip_role, skip_route}
+use Rattle.rsvp_messages.proofs.Spelled.{ComeBack, apart, msg_again, plain}
 use Rattle.rsvp_messages.proofs.Whole.{IsWhole, header_again, objects_again}
 
 -- each object that is written is whole

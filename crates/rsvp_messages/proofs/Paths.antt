@@ -1,5 +1,5 @@
 -- The parts of a Path: nothing else is spelled by them.
-use Rattle.std.proofs.Common.{◌≡◌, ◌≤◌, ℕ, Bool, true, false, Option, Some, None, Result, Ok, Err, List, [], ◌∷◌, length, inl, inr, refl, ap, sym, subst, ◌∙◌, arith, Bor, IfOk, IfSome, IsErrOf}
+use Rattle.std.proofs.Common.{◌≡◌, ℕ, Bool, true, false, Option, Some, None, Result, Ok, Err, List, [], ◌∷◌, length, inl, inr, refl, ap, sym, subst, ◌∙◌, arith, IfOk, IfSome, IsErrOf}
 use Rattle.ason_base.specs.declared.ids.LinkId.{LinkId}
 use Rattle.ason_base.specs.declared.ids.Lsp.{Lsp}
 use Rattle.ason_base.specs.declared.ids.NodeId.{NodeId}
@@ -21,7 +21,7 @@ use Rattle.rsvp_messages.specs.Objects.{Object, of_class}
 use Rattle.rsvp_messages.specs.Packets.{type_of}
 use Rattle.rsvp_messages.specs.Parts.{HasOne}
 use Rattle.rsvp_messages.proofs.Lookups.{means_here, of_list}
-use Rattle.rsvp_messages.proofs.Subjects.{none_is, some_is}
+use Rattle.rsvp_messages.proofs.Subjects.{some_is}
 use Rattle.std.specs.Option.{option_map, option_to_list}
 use Rattle.std.specs.Result.{IsErrAnd}
 

@@ -1,5 +1,5 @@
 -- The labels that LABEL_SETs allow, one by one.
-use Rattle.std.proofs.Common.{◌≡◌, ℕ, ◌+◌, ◌<◌, ◌≤◌, ◌&&◌, ◌||◌, ltb, eqb, cond, Bool, true, false, List, [], filter, refl, ap, sym, ◌∙◌, arith}
+use Rattle.std.proofs.Common.{◌≡◌, ℕ, ◌+◌, ◌≤◌, ◌&&◌, ◌||◌, ltb, eqb, cond, Bool, true, false, List, [], filter, refl, ap, ◌∙◌, arith}
 use Rattle.ason_base.specs.Labels.{has, numbers_from, up_to, with_label}
 use Rattle.ason_base.proofs.MaskMembers.{has-filter, filter-agree, has-bound}
 

@@ -1,8 +1,7 @@
 -- The written form of each message spells it.
-use Rattle.std.proofs.Common.{◌≡◌, ◌≢◌, ◌≤◌, ◌<◌, ℕ, ◌+◌, ◌*◌, ◌/◌, ◌%◌, ◌^◌, ◌==◌, ◌&&◌, ◌||◌, not, Bool, true, false, cond, Option, None, Some, List, [], ◌∷◌, ◌++◌, length, filter, All, inl, inr, refl, ap, sym, subst, ◌∙◌, arith, IfSome}
+use Rattle.std.proofs.Common.{◌≡◌, ◌≤◌, ◌<◌, ℕ, ◌^◌, ◌==◌, ◌&&◌, ◌||◌, Bool, true, false, Option, None, Some, List, [], ◌∷◌, ◌++◌, length, filter, All, inl, inr, refl, ap, sym, subst, ◌∙◌, arith, IfSome}
 use Rattle.std.proofs.lemmas.List.{append-nil}
 use Rattle.std.proofs.lemmas.List.Elements.{filter-append}
-use Rattle.ason_base.specs.declared.codes.ErrCode.{ErrCode}
 use Rattle.ason_base.specs.declared.ids.LinkId.{LinkId}
 use Rattle.ason_base.specs.declared.ids.Lsp.{Lsp}
 use Rattle.ason_base.specs.declared.ids.NodeId.{NodeId}
@@ -25,11 +24,11 @@ use Rattle.rsvp_objects.specs.LabelSets.{IsLabelSet, among, label_set_bytes}
 use Rattle.rsvp_recovery.specs.declared.association.Association.{Association}
 use Rattle.rsvp_recovery.specs.declared.protection.Protection.{Protection}
 use Rattle.rsvp_recovery.specs.Bodies.{IsAssociation, IsProtection, association_bytes, protection_bytes}
-use Rattle.rsvp_messages.specs.Messages.{HasRole, HasRoute, HasSet, NamesLsp, SpellsHead, SpellsMsg, allows, is_removed}
+use Rattle.rsvp_messages.specs.Messages.{HasRole, HasRoute, HasSet, NamesLsp, SpellsMsg, allows, is_removed}
 use Rattle.rsvp_messages.specs.Objects.{Object, of_class}
 use Rattle.rsvp_messages.specs.Parts.{AreEach, HasAtMostOne, HasOne}
 use Rattle.rsvp_messages.specs.Writable.{FitsLsp, FitsMsg, FitsRole, IsLabelNumber, IsWritableMsg, IsWritableRole}
-use Rattle.rsvp_messages.specs.Written.{error_object, flags_of, hop_object, made, msg_objects, path_end, path_head, protection_of, request_objects, role_objects, route_objects, sender_object, sender_tspec, session_object, set_object, upstream_objects}
+use Rattle.rsvp_messages.specs.Written.{flags_of, hop_object, made, msg_objects, path_end, protection_of, request_objects, role_objects, route_objects, sender_object, sender_tspec, session_object, upstream_objects}
 
 -- what the crates of objects say of each body that they write
 pub record ComeBack : Type 0 where

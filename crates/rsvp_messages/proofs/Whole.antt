@@ -1,14 +1,13 @@
 -- Bytes that are written as objects are those objects, and a sealed message has its header.
-use Rattle.std.proofs.Common.{◌≡◌, ◌≢◌, ◌≤◌, ◌<◌, ℕ, zero, suc, ◌+◌, ◌-◌, ◌*◌, ◌/◌, ◌%◌, ◌^◌, Bool, true, false, List, [], ◌∷◌, ◌++◌, length, take, drop, inl, inr, refl, ap, sym, subst, ◌∙◌, arith, length-append}
+use Rattle.std.proofs.Common.{◌≡◌, ◌<◌, ℕ, ◌+◌, ◌%◌, ◌^◌, List, [], ◌∷◌, ◌++◌, length, inr, refl, sym, subst, ◌∙◌, arith, length-append}
 use Rattle.std.proofs.Math.Seq.{take-append_seam}
 use Rattle.std.proofs.lemmas.List.{drop_at}
-use Rattle.std.specs.List.{AllByRecursion, flat_map}
-use Rattle.std.specs.Prelude.{IsTrue, sum}
-use Rattle.byteorder.specs.Endian.{big_bytes, big_number}
+use Rattle.std.specs.List.{AllByRecursion}
+use Rattle.std.specs.Prelude.{IsTrue}
+use Rattle.byteorder.specs.Endian.{big_bytes}
 use Rattle.byteorder.specs.Numbers.{big_number-reads_back}
-use Rattle.wire_buf.specs.Checksum.{checksum_of, ones_of, words}
-use Rattle.wire_buf.specs.Objects.{number_at}
-use Rattle.rsvp_messages.specs.Headers.{HasHeader, without_checksum}
+use Rattle.wire_buf.specs.Checksum.{checksum_of}
+use Rattle.rsvp_messages.specs.Headers.{HasHeader}
 use Rattle.rsvp_messages.specs.Objects.{AreObjects, BeginsWith, Object, may_stand, size_of}
 use Rattle.rsvp_messages.specs.Written.{all_bytes, bytes_of, header_bytes, message}
 

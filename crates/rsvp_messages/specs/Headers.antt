@@ -1,5 +1,5 @@
 -- The common header (RFC 2205, section 3.1.1): version and flags, type, checksum, Send_TTL, a reserved byte, length.
-use Rattle.std.specs.Prelude.{◌≡◌, ◌≤◌, ◌⊎◌, ℕ, ◌/◌, List, [], ◌∷◌, ◌++◌, length, take, drop}
+use Rattle.std.specs.Prelude.{◌≡◌, ◌≤◌, ◌⊎◌, ℕ, ◌/◌, List, ◌∷◌, ◌++◌, length, take, drop}
 use Rattle.wire_buf.specs.Objects.{number_at}
 use Rattle.wire_buf.specs.Checksum.{checksum_of}
 

@@ -16,7 +16,6 @@ use Rattle.ason_base.specs.declared.steps.Step.{Step}
 use Rattle.wire_buf.specs.Checksum.{checksum_of}
 use Rattle.wire_buf.specs.Objects.{object}
 use Rattle.wire_buf.specs.Routes.{route_bytes}
-use Rattle.rsvp_objects.specs.declared.error.ErrorSpec.{ErrorSpec}
 use Rattle.rsvp_objects.specs.Bodies.{error_bytes, hop_bytes, label_bytes, msg_id_bytes, request_bytes, sender_bytes, session_bytes}
 use Rattle.rsvp_objects.specs.LabelSets.{label_set_bytes}
 use Rattle.rsvp_recovery.specs.declared.protection.Protection.{Protection}

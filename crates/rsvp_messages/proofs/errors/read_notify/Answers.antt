@@ -1,4 +1,3 @@
-use Rattle.std.proofs.Common.{sym}
 use Rattle.rsvp_messages.proofs.Subjects.{none_is, no_link, notify_is, only_notify}
 use Rattle.rsvp_messages.proofs.errors.read_notify.Goals as goal
 

@@ -1,4 +1,4 @@
-use Rattle.rsvp_messages.proofs.Subjects.{none_is, same_subject}
+use Rattle.rsvp_messages.proofs.Subjects.{none_is}
 use Rattle.rsvp_messages.proofs.fields.read_subject.Goals as goal
 
 pub returns-in_err-session-clause-only : goal.returns-in_err-session-clause-only

@@ -1,5 +1,5 @@
 use Rattle.rsvp_objects.specs.Bodies.{IsMsgId}
-use Rattle.rsvp_messages.proofs.Eaches.{breaks, takes, all}
+use Rattle.rsvp_messages.proofs.Eaches.{breaks, takes}
 use Rattle.rsvp_messages.proofs.Subjects.{none_is}
 use Rattle.rsvp_messages.proofs.ids.all_acks.Goals as goal
 

@@ -1,4 +1,4 @@
-use Rattle.rsvp_messages.proofs.Writing.{acks_more}
+use Rattle.rsvp_messages.proofs.Joining.{acks_more}
 use Rattle.rsvp_messages.proofs.ids.write_acks.Goals as goal
 
 pub loop-ack-preserved : goal.loop-ack-preserved

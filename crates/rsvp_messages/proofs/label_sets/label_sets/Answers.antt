@@ -1,5 +1,5 @@
 use Rattle.rsvp_objects.specs.LabelSets.{IsLabelSet}
-use Rattle.rsvp_messages.proofs.Eaches.{breaks, takes, all}
+use Rattle.rsvp_messages.proofs.Eaches.{breaks, takes}
 use Rattle.rsvp_messages.proofs.Subjects.{none_is}
 use Rattle.rsvp_messages.proofs.label_sets.label_sets.Goals as goal
 

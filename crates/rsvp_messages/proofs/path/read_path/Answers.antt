@@ -1,6 +1,5 @@
 use Rattle.std.proofs.Common.{◌≡◌}
 use Rattle.rsvp_messages.specs.Seen.{all_seen}
-use Rattle.ason_base.specs.declared.messages.Msg.{Msg}
 use Rattle.rsvp_messages.proofs.Paths.{only_path, passed, path_is}
 use Rattle.rsvp_messages.proofs.Subjects.{none_is}
 use Rattle.rsvp_messages.proofs.path.read_path.Goals as goal

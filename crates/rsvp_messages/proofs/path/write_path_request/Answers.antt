@@ -1,6 +1,6 @@
 use Rattle.rsvp_objects.specs.Bodies.{request_bytes}
 use Rattle.rsvp_messages.specs.Written.{bytes_of, made, protection_object, set_object}
-use Rattle.rsvp_messages.proofs.Writing.{three}
+use Rattle.rsvp_messages.proofs.Joining.{three}
 use Rattle.rsvp_messages.proofs.path.write_path_request.Goals as goal
 
 pub returns : goal.returns

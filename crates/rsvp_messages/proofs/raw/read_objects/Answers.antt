@@ -1,4 +1,4 @@
-use Rattle.rsvp_messages.proofs.Reading.{all_shorter, goes_on, stops, ends, same_objects, not_empty, is_empty}
+use Rattle.rsvp_messages.proofs.Scanning.{all_shorter, goes_on, stops, ends, same_objects, not_empty, is_empty}
 use Rattle.rsvp_messages.proofs.raw.read_objects.Goals as goal
 
 pub returns-in_default-clause-not_message : goal.returns-in_default-clause-not_message

@@ -1,6 +1,6 @@
 use Rattle.std.proofs.Common.{length}
 use Rattle.rsvp_messages.specs.Seen.{all_seen}
-use Rattle.rsvp_messages.proofs.Reading.{ReadSoFar}
+use Rattle.rsvp_messages.proofs.Scanning.{ReadSoFar}
 use Rattle.rsvp_messages.proofs.raw.read_objects.Given as goal
 
 abbrev pub invariant-objects : goal.invariant-objects

@@ -1,7 +1,6 @@
 use Rattle.std.proofs.Common.{◌≡◌}
 use Rattle.rsvp_messages.specs.Seen.{all_seen}
-use Rattle.ason_base.specs.declared.messages.PathRole.{PathRole}
-use Rattle.rsvp_messages.proofs.Paths.{found_back, no_role, only_back, back_is, passed, work_is}
+use Rattle.rsvp_messages.proofs.Paths.{found_back, no_role, only_back, back_is, passed}
 use Rattle.rsvp_messages.proofs.Subjects.{none_is}
 use Rattle.rsvp_messages.proofs.roles.role.Goals as goal
 

@@ -4,7 +4,7 @@ use Rattle.ason_base.specs.declared.messages.MsgId.{MsgId}
 use Rattle.rsvp_messages.specs.Packets.{Spells}
 use Rattle.rsvp_messages.specs.Written.{ack_object, all_bytes, body_objects, header_bytes, id_objects, packet_objects}
 use Rattle.rsvp_messages.proofs.Lengths.{packet-short}
-use Rattle.rsvp_messages.proofs.Writing.{packet_bytes, sealed}
+use Rattle.rsvp_messages.proofs.Joining.{packet_bytes, sealed}
 use Rattle.rsvp_messages.proofs.writing.encode.Goals as goal
 
 pub seal-requires-clause-short : goal.seal-requires-clause-short

@@ -1,6 +1,6 @@
 use Rattle.ason_base.specs.declared.messages.Msg.TheVariants.{Path, Resv, PathErr, Notify}
 use Rattle.rsvp_messages.specs.Written.{path_end, path_head, request_objects, role_objects, route_objects}
-use Rattle.rsvp_messages.proofs.Writing.{as_msg, five}
+use Rattle.rsvp_messages.proofs.Joining.{as_msg, five}
 use Rattle.rsvp_messages.proofs.writing.write_msg.Goals as goal
 
 pub returns-in-Resv : goal.returns-in-Resv
