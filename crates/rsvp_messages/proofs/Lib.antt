@@ -1,0 +1,12 @@
+pub mod Scanning
+pub mod Lookups
+pub mod Subjects
+pub mod Eaches
+pub mod Sets
+pub mod Paths
+pub mod Joining
+pub mod Lengths
+pub mod Moves
+pub mod Whole
+pub mod Spelled
+pub mod Packed

@@ -1,0 +1,5 @@
+use Rattle.rsvp_messages.proofs.Lookups.{means_here}
+use Rattle.rsvp_messages.proofs.errors.error_with_interface.Goals as goal
+
+pub returns-clause-only : goal.returns-clause-only
+returns-clause-only c = λ e has. c.read_error.ensures.only e (means_here _ _ _ _ _ c.in_ok-body.ensures.found has)

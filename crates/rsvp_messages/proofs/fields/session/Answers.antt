@@ -1,0 +1,5 @@
+use Rattle.rsvp_messages.proofs.Lookups.{means_here}
+use Rattle.rsvp_messages.proofs.fields.session.Goals as goal
+
+pub returns-clause-only : goal.returns-clause-only
+returns-clause-only c = λ s has. c.read_session.ensures.only s (means_here _ _ _ _ _ c.in_ok-body.ensures.found has)

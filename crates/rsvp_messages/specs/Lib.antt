@@ -1,0 +1,9 @@
+pub mod Objects
+pub mod Headers
+pub mod Parts
+pub mod Messages
+pub mod Packets
+pub mod Lines
+pub mod Written
+pub mod Writable
+pub mod Seen

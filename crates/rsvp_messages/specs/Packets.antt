@@ -1,0 +1,42 @@
+-- What the bytes of a whole message spell.
+use Rattle.std.specs.Prelude.{◌≡◌, ◌≤◌, ℕ, List, length, drop, Option, None, Some}
+use Rattle.ason_base.specs.declared.messages.Msg.{Msg}
+use Rattle.ason_base.specs.declared.messages.Msg.TheVariants.{Path, Resv, PathTear, PathErr, Notify}
+use Rattle.ason_base.specs.declared.messages.MsgId.{MsgId}
+use Rattle.ason_base.specs.declared.messages.Packet.{Packet}
+use Rattle.rsvp_objects.specs.Bodies.{IsMsgId}
+use Rattle.rsvp_messages.specs.Headers.{HasHeader}
+use Rattle.rsvp_messages.specs.Messages.{SpellsMsg}
+use Rattle.rsvp_messages.specs.Objects.{AreObjects, Object}
+use Rattle.rsvp_messages.specs.Parts.{HasAtMostOne, HasEach}
+
+-- the types of messages (RFC 2205, section 3.1.1; RFC 2961, section 4.4; RFC 3473, section 4.3); without a message an Ack
+abbrev pub type_of : Option Msg → ℕ
+type_of (Some (Path lsp egress link route set upstream role)) = 1
+type_of (Some (Resv lsp egress link label)) = 2
+type_of (Some (PathErr lsp egress at removed code)) = 3
+type_of (Some (PathTear lsp egress link)) = 5
+type_of None = 13
+type_of (Some (Notify lsp egress at link code)) = 21
+
+-- every message has up to 64 MESSAGE_ID_ACKs
+abbrev pub HasAcks : List Object → List MsgId → Type 0
+HasAcks os acks = (length acks ≤ 64) × HasEach 24 1 IsMsgId os acks
+
+-- an Ack has at least one, and reads no MESSAGE_ID; every other message has at most one MESSAGE_ID
+abbrev pub SpellsBody : List Object → Option MsgId → List MsgId → Option Msg → Type 0
+SpellsBody os id acks None = (id ≡ None) × (1 ≤ length acks)
+SpellsBody os id acks (Some m) = HasAtMostOne 23 1 IsMsgId os id × SpellsMsg os m
+
+pub record SpellsPacket (os : List Object) (p : Packet) : Type 0 where
+  pub acks : HasAcks os p.acks
+  pub body : SpellsBody os p.id p.acks p.body
+
+-- a header, and objects to the end that spell the packet
+pub record SpelledBy (bytes : List ℕ) (os : List Object) (p : Packet) : Type 0 where
+  pub header : HasHeader bytes (type_of p.body)
+  pub objects : AreObjects (drop 8 bytes) os
+  pub packet : SpellsPacket os p
+
+abbrev pub Spells : List ℕ → Packet → Type 0
+Spells bytes p = (os : List Object) × SpelledBy bytes os p

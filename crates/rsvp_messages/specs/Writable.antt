@@ -1,0 +1,70 @@
+-- What has a written form.
+use Rattle.std.specs.Prelude.{◌≡◌, ◌≤◌, ◌<◌, ◌^◌, ℕ, List, length, All, Option, None, Some, IfSome}
+use Rattle.ason_base.specs.declared.codes.ErrCode.{ErrCode}
+use Rattle.ason_base.specs.declared.ids.Lsp.{Lsp}
+use Rattle.ason_base.specs.declared.messages.Msg.{Msg}
+use Rattle.ason_base.specs.declared.messages.Msg.TheVariants.{Path, Resv, PathTear, PathErr, Notify}
+use Rattle.ason_base.specs.declared.messages.MsgId.{MsgId}
+use Rattle.ason_base.specs.declared.messages.Packet.{Packet}
+use Rattle.ason_base.specs.declared.messages.PathRole.{PathRole}
+use Rattle.ason_base.specs.declared.messages.PathRole.TheVariants.{Work, Back}
+use Rattle.wire_buf.specs.Routes.{HasIds}
+use Rattle.rsvp_objects.specs.LabelSets.{among}
+
+abbrev pub IsShort : MsgId → Type 0
+IsShort m = m.epoch < 2 ^ 24
+
+-- the primary route of a backup isn't empty
+abbrev pub IsWritableRole : PathRole → Type 0
+IsWritableRole (Work guard) = Unit {0}
+IsWritableRole (Back active work primary) = (1 ≤ length primary) × (length primary ≤ 64)
+
+-- the set of labels isn't empty
+abbrev pub IsWritableMsg : Msg → Type 0
+IsWritableMsg (Path lsp egress link route set upstream role) = (1 ≤ length set) × (length route ≤ 64) × IsWritableRole role
+IsWritableMsg (Resv lsp egress link label) = Unit {0}
+IsWritableMsg (PathTear lsp egress link) = Unit {0}
+IsWritableMsg (PathErr lsp egress at removed code) = Unit {0}
+IsWritableMsg (Notify lsp egress at link code) = Unit {0}
+
+-- a packet without a body has no number and at least one acknowledgement
+abbrev pub IsWritableBody : Option MsgId → List MsgId → Option Msg → Type 0
+IsWritableBody id acks None = (id ≡ None) × (1 ≤ length acks)
+IsWritableBody id acks (Some m) = IsWritableMsg m
+
+pub record IsWritable (p : Packet) : Type 0 where
+  pub id : IfSome p.id IsShort
+  pub acks : All IsShort p.acks
+  pub few : length p.acks ≤ 64
+  pub body : IsWritableBody p.id p.acks p.body
+
+-- What the types of the program say of a packet: each number has its width, a label is one of 1 to 80, and a set of labels is
+-- the rising list of those that it has.
+abbrev pub FitsLsp : Lsp → Type 0
+FitsLsp l = (l.ingress.0 < 2 ^ 32) × (l.tunnel < 2 ^ 16) × (l.lsp < 2 ^ 16)
+
+abbrev pub FitsCode : ErrCode → Type 0
+FitsCode c = (c.code < 2 ^ 8) × (c.value < 2 ^ 16)
+
+abbrev pub IsLabelNumber : ℕ → Type 0
+IsLabelNumber l = (1 ≤ l) × (l ≤ 80)
+
+abbrev pub FitsRole : PathRole → Type 0
+FitsRole (Work guard) = Unit {0}
+FitsRole (Back active work primary) = (work < 2 ^ 16) × All HasIds primary
+
+abbrev pub FitsMsg : Msg → Type 0
+FitsMsg (Path lsp egress link route set upstream role) =
+    FitsLsp lsp × (egress.0 < 2 ^ 32) × (link.0 < 2 ^ 32) × All HasIds route × (set ≡ among set) × IfSome upstream IsLabelNumber × FitsRole role
+FitsMsg (Resv lsp egress link label) = FitsLsp lsp × (egress.0 < 2 ^ 32) × (link.0 < 2 ^ 32) × IsLabelNumber label
+FitsMsg (PathTear lsp egress link) = FitsLsp lsp × (egress.0 < 2 ^ 32) × (link.0 < 2 ^ 32)
+FitsMsg (PathErr lsp egress at removed code) = FitsLsp lsp × (egress.0 < 2 ^ 32) × (at.0 < 2 ^ 32) × FitsCode code
+FitsMsg (Notify lsp egress at link code) = FitsLsp lsp × (egress.0 < 2 ^ 32) × (at.0 < 2 ^ 32) × (link.0 < 2 ^ 32) × FitsCode code
+
+abbrev pub FitsId : MsgId → Type 0
+FitsId m = m.number < 2 ^ 32
+
+pub record Fits (p : Packet) : Type 0 where
+  pub id : IfSome p.id FitsId
+  pub acks : All FitsId p.acks
+  pub body : IfSome p.body FitsMsg

@@ -1,0 +1,94 @@
+//! Numbers of messages and their acknowledgements (RFC 2961, sections 4.2 and 4.3).
+
+ghost use Rattle.std.specs.Prelude.{◌≡◌, ◌<◌, ◌^◌, ◌++◌, map, All, List, Option, Some, IfOk, IfSome, IsErrOf, OnOk};
+ghost use Rattle.ason_base.specs.declared.messages.MsgId.{MsgId};
+ghost use Rattle.rsvp_objects.specs.Bodies.{IsMsgId};
+ghost use Rattle.rsvp_messages.specs.Packets.{HasAcks};
+ghost use Rattle.rsvp_messages.specs.Parts.{HasAtMostOne, HasEach};
+ghost use Rattle.rsvp_messages.specs.Seen.{all_seen};
+ghost use Rattle.rsvp_messages.specs.Writable.{IsShort};
+ghost use Rattle.rsvp_messages.specs.Written.{ack_object, all_bytes, id_objects};
+
+use crate::classes::{MESSAGE_ID, MESSAGE_ID_ACK};
+use crate::lookup::optional;
+use crate::raw::RawObject;
+use ason_base::{DecodeError, Ids, MsgId, OutOfMemory};
+use rsvp_objects::{read_ack, read_id, write_ack, write_id};
+use std::alloc::Global;
+
+/// The C-Type of both objects.
+const NUMBER: u8 = 1;
+
+/// The most acknowledgements of a message.
+const MOST_ACKS: usize = 64;
+
+/// The message's number, if it has one. None exactly where its MESSAGE_IDs spell none.
+pub(crate) fn message_id(objects: &[RawObject]) -> Option<Option<MsgId>>
+    ensures found { IfSome result (HasAtMostOne 23 1 IsMsgId (all_seen objects.now)) }
+    ensures only { (id : Option MsgId) → HasAtMostOne 23 1 IsMsgId (all_seen objects.now) id → result ≡ Some id }
+{
+    match optional(objects, MESSAGE_ID, NUMBER)? {
+        None => Some(None),
+        Some(body) => Some(Some(read_id(body)?)),
+    }
+}
+
+// The numbers of all MESSAGE_ID_ACKs, however many there are.
+fn all_acks(alloc: Global, objects: &[RawObject]) -> Result<Ids, DecodeError>
+    ensures found { IfOk result (HasEach 24 1 IsMsgId (all_seen objects.now)) }
+    ensures only { (acks : List MsgId) → HasEach 24 1 IsMsgId (all_seen objects.now) acks → IfOk result (λ read. read ≡ acks) }
+    ensures not_message { IsErrOf result DecodeError.NotMessage → (acks : List MsgId) → ¬ HasEach 24 1 IsMsgId (all_seen objects.now) acks }
+{
+    let mut acks = Ids::new(alloc);
+    'objects: for object in objects {
+        if object.class != MESSAGE_ID_ACK {
+            continue;
+        }
+        if object.ctype != NUMBER {
+            return Err(DecodeError::NotMessage);
+        }
+        let Some(id) = read_ack(object.body) else {
+            return Err(DecodeError::NotMessage);
+        };
+        match acks.push(id) {
+            Ok(()) => {}
+            Err(_) => return Err(DecodeError::OutOfMemory),
+        }
+    }
+    Ok(acks)
+}
+
+/// The acknowledgements. NotMessage exactly where the MESSAGE_ID_ACKs spell none, as where there are too many.
+pub(crate) fn acks(alloc: Global, objects: &[RawObject]) -> Result<Ids, DecodeError>
+    ensures found { IfOk result (HasAcks (all_seen objects.now)) }
+    ensures only { (acks : List MsgId) → HasAcks (all_seen objects.now) acks → IfOk result (λ read. read ≡ acks) }
+    ensures not_message { IsErrOf result DecodeError.NotMessage → (acks : List MsgId) → ¬ HasAcks (all_seen objects.now) acks }
+{
+    let acks = all_acks(alloc, objects)?;
+    if acks.items().len() > MOST_ACKS {
+        return Err(DecodeError::NotMessage);
+    }
+    Ok(acks)
+}
+
+/// Appends the MESSAGE_ID, if there is a number.
+pub(crate) fn write_message_id(out: &mut Vec<u8>, id: Option<MsgId>) -> Result<(), OutOfMemory>
+    requires { IfSome id IsShort }
+    ensures { OnOk result (out.new.items ≡ out.old.items ++ all_bytes (id_objects id)) }
+{
+    match id {
+        Some(id) => write_id(out, &id),
+        None => Ok(()),
+    }
+}
+
+/// Appends the MESSAGE_ID_ACKs.
+pub(crate) fn write_acks(out: &mut Vec<u8>, acks: &[MsgId]) -> Result<(), OutOfMemory>
+    requires { All IsShort acks.now }
+    ensures { OnOk result (out.new.items ≡ out.old.items ++ all_bytes (map ack_object acks.now)) }
+{
+    for ack in acks {
+        write_ack(out, ack)?;
+    }
+    Ok(())
+}

@@ -1,0 +1,43 @@
+//! Laws of whole messages.
+
+ghost use Rattle.std.specs.Prelude.{◌≡◌, ◌<◌, ◌^◌, ℕ, List};
+ghost use Rattle.ason_base.specs.declared.ids.NodeId.{NodeId};
+ghost use Rattle.ason_base.specs.declared.messages.Packet.{Packet};
+ghost use Rattle.rsvp_messages.specs.Objects.{Object, of_class};
+ghost use Rattle.rsvp_messages.specs.Packets.{Spells, SpellsPacket};
+ghost use Rattle.rsvp_messages.specs.Writable.{Fits, IsWritable};
+ghost use Rattle.rsvp_messages.specs.Written.{written};
+
+use rsvp_objects::error::errors_come_back;
+use rsvp_objects::hop::hops_come_back;
+use rsvp_objects::id::ids_come_back;
+use rsvp_objects::label::labels_come_back;
+use rsvp_objects::label_set::label_sets_come_back;
+use rsvp_objects::request::requests_come_back;
+use rsvp_objects::sender::senders_come_back;
+use rsvp_objects::session::sessions_come_back;
+use rsvp_recovery::association::associations_come_back;
+use rsvp_recovery::protection::protections_come_back;
+use wire_buf::routes::routes_come_back;
+
+/// The written form of a packet that can be written spells it.
+pub fn packets_come_back()
+    ensures { (sender : NodeId) (p : Packet) → sender.0 < 2 ^ 32 → IsWritable p → Fits p → Spells (written sender p) p }
+{
+    errors_come_back();
+    hops_come_back();
+    ids_come_back();
+    labels_come_back();
+    label_sets_come_back();
+    requests_come_back();
+    senders_come_back();
+    sessions_come_back();
+    associations_come_back();
+    protections_come_back();
+    routes_come_back();
+}
+
+/// Objects come in any order: those with the same objects of each class, in order, spell the same packets.
+pub fn order_of_classes_is_free()
+    ensures { (os others : List Object) (p : Packet) → ((class : ℕ) → of_class class os ≡ of_class class others) → SpellsPacket os p → SpellsPacket others p }
+{}

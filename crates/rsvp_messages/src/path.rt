@@ -1,0 +1,198 @@
+//! Path (RFC 2205, section 3.1.3; RFC 3209; RFC 3473; RFC 4872).
+
+ghost use Rattle.std.specs.Prelude.{◌≡◌, ◌≤◌, ◌++◌, ℕ, List, Option, Some, false, length, IfOk, IfSome, IsErrOf, IsTrue, OnOk};
+ghost use Rattle.ason_base.specs.declared.ids.LinkId.{LinkId};
+ghost use Rattle.ason_base.specs.declared.ids.Lsp.{Lsp};
+ghost use Rattle.ason_base.specs.declared.ids.NodeId.{NodeId};
+ghost use Rattle.ason_base.specs.declared.messages.Msg.{Msg};
+ghost use Rattle.ason_base.specs.declared.steps.Step.{Step};
+ghost use Rattle.rsvp_objects.specs.Bodies.{IsLabel, IsRequest};
+ghost use Rattle.rsvp_messages.specs.Messages.{HasRoute, SpellsHead, SpellsMsg};
+ghost use Rattle.rsvp_messages.specs.Packets.{type_of};
+ghost use Rattle.rsvp_messages.specs.Parts.{HasAtMostOne, HasOne};
+ghost use Rattle.rsvp_messages.specs.Seen.{all_seen};
+ghost use Rattle.rsvp_messages.specs.Written.{all_bytes, bytes_of, path_end, path_head, protection_object, request_objects, route_objects, set_object, upstream_objects};
+
+use crate::classes::{EXPLICIT_ROUTE, LABEL_REQUEST, SENDER_TEMPLATE, UPSTREAM_LABEL};
+use crate::fields::{Subject, link, read_subject, write_link, write_lsp_sender, write_lsp_session};
+use crate::fixed::{write_sender_tspec, write_time_values};
+use crate::label_sets::label_set;
+use crate::lookup::{one, optional};
+use crate::raw::RawObject;
+use crate::roles::{protection_of, role};
+use ason_base::{
+    DecodeError, Label, LabelSet, LinkId, Lsp, Msg, NodeId, OutOfMemory, PathRole, Steps,
+};
+use rsvp_objects::{
+    LabelRequest, LabelSetObject, read_request, read_route, read_upstream, write_label_set,
+    write_request, write_route, write_upstream,
+};
+use rsvp_recovery::write_protection;
+use std::alloc::Global;
+
+/// The C-Type of a generalized LABEL_REQUEST.
+const GENERALIZED_REQUEST: u8 = 4;
+
+/// The C-Type of a generalized UPSTREAM_LABEL.
+const GENERALIZED: u8 = 2;
+
+/// The C-Type of an EXPLICIT_ROUTE.
+const EXPLICIT: u8 = 1;
+
+fn requests(objects: &[RawObject]) -> bool
+    ensures yes { IsTrue result → HasOne 19 4 IsRequest (all_seen objects.now) }
+    ensures no { result ≡ false → ¬ HasOne 19 4 IsRequest (all_seen objects.now) }
+{
+    match one(objects, LABEL_REQUEST, GENERALIZED_REQUEST) {
+        Some(body) => read_request(body).is_some(),
+        None => false,
+    }
+}
+
+fn upstream(objects: &[RawObject]) -> Option<Option<Label>>
+    ensures found { IfSome result (HasAtMostOne 35 2 IsLabel (all_seen objects.now)) }
+    ensures only { (label : Option ℕ) → HasAtMostOne 35 2 IsLabel (all_seen objects.now) label → result ≡ Some label }
+{
+    match optional(objects, UPSTREAM_LABEL, GENERALIZED)? {
+        None => Some(None),
+        Some(body) => Some(Some(read_upstream(body)?)),
+    }
+}
+
+fn route(alloc: Global, objects: &[RawObject]) -> Result<Steps, DecodeError>
+    ensures found { IfOk result (HasRoute (all_seen objects.now)) }
+    ensures only { (route : List Step) → HasRoute (all_seen objects.now) route → IfOk result (λ read. read ≡ route) }
+    ensures not_message { IsErrOf result DecodeError.NotMessage → (route : List Step) → ¬ HasRoute (all_seen objects.now) route }
+{
+    match optional(objects, EXPLICIT_ROUTE, EXPLICIT) {
+        Some(Some(body)) => read_route(alloc, body),
+        Some(None) => Ok(Steps::new(alloc)),
+        None => Err(DecodeError::NotMessage),
+    }
+}
+
+/// The parts of a Path that aren't lists.
+#[derive(Clone, Copy)]
+struct Head {
+    subject: Subject,
+    link: LinkId,
+    upstream: Option<Label>,
+}
+
+fn read_head(objects: &[RawObject]) -> Option<Head>
+    ensures found { IfSome result (λ h. SpellsHead (all_seen objects.now) h.subject.lsp h.subject.egress h.link h.upstream) }
+    ensures only { (l : Lsp) (e : NodeId) (k : LinkId) (u : Option ℕ) → SpellsHead (all_seen objects.now) l e k u → result ≡ Some (record { subject = record { lsp = l; egress = e }; link = k; upstream = u }) }
+{
+    if !requests(objects) {
+        return None;
+    }
+    let subject = read_subject(objects, SENDER_TEMPLATE)?;
+    let link = link(objects)?;
+    let upstream = upstream(objects)?;
+    Some(Head {
+        subject,
+        link,
+        upstream,
+    })
+}
+
+/// The Path that the objects spell. NotMessage exactly where they spell none.
+pub(crate) fn read_path(alloc: Global, objects: &[RawObject]) -> Result<Msg, DecodeError>
+    ensures found { IfOk result (λ m. (type_of (Some m) ≡ 1) × SpellsMsg (all_seen objects.now) m) }
+    ensures only { (m : Msg) → type_of (Some m) ≡ 1 → SpellsMsg (all_seen objects.now) m → IfOk result (λ read. read ≡ m) }
+    ensures not_message { IsErrOf result DecodeError.NotMessage → (m : Msg) → type_of (Some m) ≡ 1 → ¬ SpellsMsg (all_seen objects.now) m }
+{
+    let Some(head) = read_head(objects) else {
+        return Err(DecodeError::NotMessage);
+    };
+    let route = route(alloc, objects)?;
+    let set = label_set(alloc, objects)?;
+    let role = role(alloc, objects)?;
+    Ok(Msg::Path {
+        lsp: head.subject.lsp,
+        egress: head.subject.egress,
+        link: head.link,
+        route,
+        set,
+        upstream: head.upstream,
+        role,
+    })
+}
+
+/// Appends what stands before the route in a Path.
+pub(crate) fn write_path_head(
+    out: &mut Vec<u8>,
+    sender: NodeId,
+    lsp: &Lsp,
+    egress: NodeId,
+    link: LinkId,
+) -> Result<(), OutOfMemory>
+    ensures { OnOk result (out.new.items ≡ out.old.items ++ all_bytes (path_head sender lsp.now egress link)) }
+{
+    write_lsp_session(out, lsp, egress)?;
+    write_link(out, sender, link)?;
+    write_time_values(out)
+}
+
+/// Appends the EXPLICIT_ROUTE of a route that isn't empty.
+pub(crate) fn write_path_route(out: &mut Vec<u8>, route: &Steps) -> Result<(), OutOfMemory>
+    requires { length route.now ≤ 64 }
+    ensures { OnOk result (out.new.items ≡ out.old.items ++ all_bytes (route_objects route.now)) }
+{
+    if route.items().is_empty() {
+        Ok(())
+    } else {
+        write_route(out, route)
+    }
+}
+
+fn write_path_upstream(out: &mut Vec<u8>, upstream: Option<Label>) -> Result<(), OutOfMemory>
+    ensures { OnOk result (out.new.items ≡ out.old.items ++ all_bytes (upstream_objects upstream)) }
+{
+    match upstream {
+        Some(label) => write_upstream(out, &label),
+        None => Ok(()),
+    }
+}
+
+fn write_protection_of(out: &mut Vec<u8>, role: &PathRole) -> Result<(), OutOfMemory>
+    ensures { OnOk result (out.new.items ≡ out.old.items ++ bytes_of (protection_object role.now)) }
+{
+    write_protection(out, &protection_of(role))
+}
+
+fn write_set(out: &mut Vec<u8>, set: &LabelSet) -> Result<(), OutOfMemory>
+    ensures { OnOk result (out.new.items ≡ out.old.items ++ bytes_of (set_object set.now)) }
+{
+    let labels = LabelSetObject {
+        include: true,
+        labels: set.copy(),
+    };
+    write_label_set(out, &labels)
+}
+
+/// Appends what stands behind the route in a Path, as far as its role.
+pub(crate) fn write_path_request(
+    out: &mut Vec<u8>,
+    set: &LabelSet,
+    role: &PathRole,
+) -> Result<(), OutOfMemory>
+    ensures { OnOk result (out.new.items ≡ out.old.items ++ all_bytes (request_objects set.now role.now)) }
+{
+    write_request(out, &LabelRequest)?;
+    write_protection_of(out, role)?;
+    write_set(out, set)
+}
+
+/// Appends the end of a Path.
+pub(crate) fn write_path_end(
+    out: &mut Vec<u8>,
+    lsp: &Lsp,
+    upstream: Option<Label>,
+) -> Result<(), OutOfMemory>
+    ensures { OnOk result (out.new.items ≡ out.old.items ++ all_bytes (path_end lsp.now upstream)) }
+{
+    write_lsp_sender(out, lsp)?;
+    write_sender_tspec(out)?;
+    write_path_upstream(out, upstream)
+}

@@ -1,0 +1,131 @@
+//! Reading whole messages: header, numbers and what the objects spell.
+
+ghost use Rattle.std.specs.Prelude.{◌≡◌, ◌≢◌, ◌<◌, ◌^◌, List, Some, All, IfOk, IfSome, IsErrOf};
+ghost use Rattle.ason_base.specs.declared.messages.Msg.{Msg};
+ghost use Rattle.ason_base.specs.declared.messages.Packet.{Packet};
+ghost use Rattle.rsvp_messages.specs.Messages.{SpellsMsg};
+ghost use Rattle.rsvp_messages.specs.Objects.{Object, size_of};
+ghost use Rattle.rsvp_messages.specs.Packets.{SpelledBy, Spells, SpellsPacket, type_of};
+ghost use Rattle.rsvp_messages.specs.Seen.{all_seen, seen};
+
+use crate::errors::{read_notify, read_path_err};
+use crate::header::{HEADER, read_header};
+use crate::ids::{acks, message_id};
+use crate::kinds::{ACK, NOTIFY, PATH, PATH_ERR, PATH_TEAR, RESV};
+use crate::path::read_path;
+use crate::raw::{RawObject, read_objects};
+use crate::resv::read_resv;
+use crate::tear::read_tear;
+use ason_base::{DecodeError, Msg, Packet};
+use std::alloc::Global;
+
+// The message of another type than Path that the objects spell.
+fn read_other(kind: u8, objects: &[RawObject]) -> Option<Msg>
+    requires { kind ≢ 1 }
+    ensures found { IfSome result (λ m. (type_of (Some m) ≡ kind) × SpellsMsg (all_seen objects.now) m) }
+    ensures only { (m : Msg) → type_of (Some m) ≡ kind → SpellsMsg (all_seen objects.now) m → result ≡ Some m }
+{
+    match kind {
+        RESV => read_resv(objects),
+        PATH_ERR => read_path_err(objects),
+        PATH_TEAR => read_tear(objects),
+        NOTIFY => read_notify(objects),
+        _ => None,
+    }
+}
+
+fn read_msg(alloc: Global, kind: u8, objects: &[RawObject]) -> Result<Msg, DecodeError>
+    ensures found { IfOk result (λ m. (type_of (Some m) ≡ kind) × SpellsMsg (all_seen objects.now) m) }
+    ensures only { (m : Msg) → type_of (Some m) ≡ kind → SpellsMsg (all_seen objects.now) m → IfOk result (λ read. read ≡ m) }
+    ensures not_message { IsErrOf result DecodeError.NotMessage → (m : Msg) → type_of (Some m) ≡ kind → ¬ SpellsMsg (all_seen objects.now) m }
+{
+    if kind == PATH {
+        return read_path(alloc, objects);
+    }
+    match read_other(kind, objects) {
+        Some(msg) => Ok(msg),
+        None => Err(DecodeError::NotMessage),
+    }
+}
+
+fn read_ack_message(alloc: Global, objects: &[RawObject]) -> Result<Packet, DecodeError>
+    ensures found { IfOk result (λ p. (type_of p.body ≡ 13) × SpellsPacket (all_seen objects.now) p) }
+    ensures only { (p : Packet) → type_of p.body ≡ 13 → SpellsPacket (all_seen objects.now) p → IfOk result (λ read. read ≡ p) }
+    ensures not_message { IsErrOf result DecodeError.NotMessage → (p : Packet) → type_of p.body ≡ 13 → ¬ SpellsPacket (all_seen objects.now) p }
+{
+    let acks = acks(alloc, objects)?;
+    if acks.items().is_empty() {
+        return Err(DecodeError::NotMessage);
+    }
+    Ok(Packet {
+        id: None,
+        acks,
+        body: None,
+    })
+}
+
+// What the objects of a message of this type, with a body, spell.
+fn read_body(alloc: Global, kind: u8, objects: &[RawObject]) -> Result<Packet, DecodeError>
+    requires { kind ≢ 13 }
+    ensures found { IfOk result (λ p. (type_of p.body ≡ kind) × SpellsPacket (all_seen objects.now) p) }
+    ensures only { (p : Packet) → type_of p.body ≡ kind → SpellsPacket (all_seen objects.now) p → IfOk result (λ read. read ≡ p) }
+    ensures not_message { IsErrOf result DecodeError.NotMessage → (p : Packet) → type_of p.body ≡ kind → ¬ SpellsPacket (all_seen objects.now) p }
+{
+    let Some(id) = message_id(objects) else {
+        return Err(DecodeError::NotMessage);
+    };
+    let acks = acks(alloc, objects)?;
+    let msg = read_msg(alloc, kind, objects)?;
+    Ok(Packet {
+        id,
+        acks,
+        body: Some(msg),
+    })
+}
+
+fn read_packet(alloc: Global, kind: u8, objects: &[RawObject]) -> Result<Packet, DecodeError>
+    ensures found { IfOk result (λ p. (type_of p.body ≡ kind) × SpellsPacket (all_seen objects.now) p) }
+    ensures only { (p : Packet) → type_of p.body ≡ kind → SpellsPacket (all_seen objects.now) p → IfOk result (λ read. read ≡ p) }
+    ensures not_message { IsErrOf result DecodeError.NotMessage → (p : Packet) → type_of p.body ≡ kind → ¬ SpellsPacket (all_seen objects.now) p }
+{
+    if kind == ACK {
+        read_ack_message(alloc, objects)
+    } else {
+        read_body(alloc, kind, objects)
+    }
+}
+
+/// A message's objects, and what they spell.
+#[derive(Drop)]
+pub(crate) struct Spelled<'a> {
+    pub objects: Vec<RawObject<'a>>,
+    pub packet: Packet,
+}
+
+/// The objects of the message that the bytes spell, and its packet. NotMessage exactly where they spell none.
+pub(crate) fn read_message<'a>(alloc: Global, bytes: &'a [u8]) -> Result<Spelled<'a>, DecodeError>
+    ensures found { IfOk result (λ s. SpelledBy bytes.now (all_seen s.objects.items) s.packet) }
+    ensures short { IfOk result (λ s. All (λ o. size_of (seen o) < 2 ^ 16) s.objects.items) }
+    ensures only { (os : List Object) (p : Packet) → SpelledBy bytes.now os p → IfOk result (λ s. (all_seen s.objects.items ≡ os) × (s.packet ≡ p)) }
+    ensures not_message { IsErrOf result DecodeError.NotMessage → (os : List Object) (p : Packet) → ¬ SpelledBy bytes.now os p }
+{
+    let Some(kind) = read_header(bytes) else {
+        return Err(DecodeError::NotMessage);
+    };
+    let (_, rest) = bytes.split_at(HEADER);
+    let objects = read_objects(alloc, rest)?;
+    let packet = read_packet(alloc, kind, &objects)?;
+    Ok(Spelled { objects, packet })
+}
+
+/// The packet that the bytes spell. NotMessage exactly where they spell none.
+pub fn decode(alloc: Global, bytes: &[u8]) -> Result<Packet, DecodeError>
+    // What is read is spelled so.
+    ensures found { IfOk result (Spells bytes.now) }
+    // What is spelled so is read, unless memory runs out.
+    ensures only { (p : Packet) → Spells bytes.now p → IfOk result (λ read. read ≡ p) }
+    ensures not_message { IsErrOf result DecodeError.NotMessage → (p : Packet) → ¬ Spells bytes.now p }
+{
+    let spelled = read_message(alloc, bytes)?;
+    Ok(spelled.packet)
+}

@@ -1,0 +1,65 @@
+//! Resv (RFC 2205, section 3.1.4; RFC 3473, section 2.3).
+
+ghost use Rattle.std.specs.Prelude.{◌≡◌, ◌++◌, ℕ, Some, IfSome, OnOk};
+ghost use Rattle.ason_base.specs.declared.messages.Msg.{Msg};
+ghost use Rattle.rsvp_objects.specs.Bodies.{IsLabel};
+ghost use Rattle.rsvp_messages.specs.Messages.{SpellsMsg};
+ghost use Rattle.rsvp_messages.specs.Packets.{type_of};
+ghost use Rattle.rsvp_messages.specs.Parts.{HasOne};
+ghost use Rattle.rsvp_messages.specs.Seen.{all_seen};
+ghost use Rattle.rsvp_messages.specs.Written.{all_bytes, msg_objects};
+
+use crate::classes::{FILTER_SPEC, LABEL};
+use crate::fields::{link, read_subject, write_link, write_lsp_filter, write_lsp_session};
+use crate::fixed::{write_flowspec, write_style, write_time_values};
+use crate::lookup::one;
+use crate::raw::RawObject;
+use ason_base::{Label, LinkId, Lsp, Msg, NodeId, OutOfMemory};
+use rsvp_objects::{read_label, write_label};
+
+/// The C-Type of a generalized label.
+const GENERALIZED: u8 = 2;
+
+fn label(objects: &[RawObject]) -> Option<Label>
+    ensures found { IfSome result (λ l. HasOne 16 2 (λ body. IsLabel body l) (all_seen objects.now)) }
+    ensures only { (l : ℕ) → HasOne 16 2 (λ body. IsLabel body l) (all_seen objects.now) → result ≡ Some l }
+{
+    let body = one(objects, LABEL, GENERALIZED)?;
+    read_label(body)
+}
+
+/// The Resv that the objects spell. None exactly where they spell none.
+pub(crate) fn read_resv(objects: &[RawObject]) -> Option<Msg>
+    ensures found { IfSome result (λ m. (type_of (Some m) ≡ 2) × SpellsMsg (all_seen objects.now) m) }
+    ensures only { (m : Msg) → type_of (Some m) ≡ 2 → SpellsMsg (all_seen objects.now) m → result ≡ Some m }
+{
+    let subject = read_subject(objects, FILTER_SPEC)?;
+    let link = link(objects)?;
+    let label = label(objects)?;
+    Some(Msg::Resv {
+        lsp: subject.lsp,
+        egress: subject.egress,
+        link,
+        label,
+    })
+}
+
+/// Appends the objects of a Resv.
+pub(crate) fn write_resv(
+    out: &mut Vec<u8>,
+    sender: NodeId,
+    lsp: &Lsp,
+    egress: NodeId,
+    link: LinkId,
+    label: &Label,
+) -> Result<(), OutOfMemory>
+    ensures { OnOk result (out.new.items ≡ out.old.items ++ all_bytes (msg_objects sender (Msg.Resv lsp.now egress link label.now))) }
+{
+    write_lsp_session(out, lsp, egress)?;
+    write_link(out, sender, link)?;
+    write_time_values(out)?;
+    write_style(out)?;
+    write_flowspec(out)?;
+    write_lsp_filter(out, lsp)?;
+    write_label(out, label)
+}

@@ -1,0 +1,42 @@
+//! PathTear (RFC 2205, section 3.1.5).
+
+ghost use Rattle.std.specs.Prelude.{◌≡◌, ◌++◌, [], ◌∷◌, Some, IfSome, OnOk};
+ghost use Rattle.ason_base.specs.declared.messages.Msg.{Msg};
+ghost use Rattle.rsvp_messages.specs.Messages.{SpellsMsg};
+ghost use Rattle.rsvp_messages.specs.Packets.{type_of};
+ghost use Rattle.rsvp_messages.specs.Seen.{all_seen};
+ghost use Rattle.rsvp_messages.specs.Written.{all_bytes, msg_objects};
+
+use crate::classes::SENDER_TEMPLATE;
+use crate::fields::{link, read_subject, write_link, write_lsp_sender, write_lsp_session};
+use crate::raw::RawObject;
+use ason_base::{LinkId, Lsp, Msg, NodeId, OutOfMemory};
+
+/// The PathTear that the objects spell. None exactly where they spell none.
+pub(crate) fn read_tear(objects: &[RawObject]) -> Option<Msg>
+    ensures found { IfSome result (λ m. (type_of (Some m) ≡ 5) × SpellsMsg (all_seen objects.now) m) }
+    ensures only { (m : Msg) → type_of (Some m) ≡ 5 → SpellsMsg (all_seen objects.now) m → result ≡ Some m }
+{
+    let subject = read_subject(objects, SENDER_TEMPLATE)?;
+    let link = link(objects)?;
+    Some(Msg::PathTear {
+        lsp: subject.lsp,
+        egress: subject.egress,
+        link,
+    })
+}
+
+/// Appends the objects of a PathTear.
+pub(crate) fn write_tear(
+    out: &mut Vec<u8>,
+    sender: NodeId,
+    lsp: &Lsp,
+    egress: NodeId,
+    link: LinkId,
+) -> Result<(), OutOfMemory>
+    ensures { OnOk result (out.new.items ≡ out.old.items ++ all_bytes (msg_objects sender (Msg.PathTear lsp.now egress link))) }
+{
+    write_lsp_session(out, lsp, egress)?;
+    write_link(out, sender, link)?;
+    write_lsp_sender(out, lsp)
+}

@@ -1,0 +1,104 @@
+//! Writing whole messages.
+
+ghost use Rattle.std.specs.Prelude.{◌≡◌, ◌++◌, IfOk, IfSome, OnOk};
+ghost use Rattle.rsvp_messages.specs.Packets.{Spells, type_of};
+ghost use Rattle.rsvp_messages.specs.Writable.{IsWritable, IsWritableMsg};
+ghost use Rattle.rsvp_messages.specs.Written.{all_bytes, body_objects, msg_objects, written};
+
+use crate::errors::{write_notify, write_path_err};
+use crate::header::{begin, seal};
+use crate::ids::{write_acks, write_message_id};
+use crate::kinds::{ACK, NOTIFY, PATH, PATH_ERR, PATH_TEAR, RESV};
+use crate::laws::packets_come_back;
+use crate::path::{write_path_end, write_path_head, write_path_request, write_path_route};
+use crate::resv::write_resv;
+use crate::roles::write_role;
+use crate::tear::write_tear;
+use crate::widths::{node_fits, packet_fits};
+use ason_base::{Msg, NodeId, OutOfMemory, Packet};
+use std::alloc::Global;
+
+fn kind_of(body: &Option<Msg>) -> u8
+    ensures { result ≡ type_of body.now }
+{
+    match body {
+        Some(Msg::Path { .. }) => PATH,
+        Some(Msg::Resv { .. }) => RESV,
+        Some(Msg::PathErr { .. }) => PATH_ERR,
+        Some(Msg::PathTear { .. }) => PATH_TEAR,
+        None => ACK,
+        Some(Msg::Notify { .. }) => NOTIFY,
+    }
+}
+
+fn write_msg(out: &mut Vec<u8>, sender: NodeId, msg: &Msg) -> Result<(), OutOfMemory>
+    requires { IsWritableMsg msg.now }
+    ensures { OnOk result (out.new.items ≡ out.old.items ++ all_bytes (msg_objects sender msg.now)) }
+{
+    match msg {
+        Msg::Path {
+            lsp,
+            egress,
+            link,
+            route,
+            set,
+            upstream,
+            role,
+        } => {
+            write_path_head(out, sender, lsp, *egress, *link)?;
+            write_path_route(out, route)?;
+            write_path_request(out, set, role)?;
+            write_role(out, lsp, role)?;
+            write_path_end(out, lsp, *upstream)
+        }
+        Msg::Resv {
+            lsp,
+            egress,
+            link,
+            label,
+        } => write_resv(out, sender, lsp, *egress, *link, label),
+        Msg::PathTear { lsp, egress, link } => write_tear(out, sender, lsp, *egress, *link),
+        Msg::PathErr {
+            lsp,
+            egress,
+            at,
+            removed,
+            code,
+        } => write_path_err(out, lsp, *egress, *at, *removed, *code),
+        Msg::Notify {
+            lsp,
+            egress,
+            at,
+            link,
+            code,
+        } => write_notify(out, lsp, *egress, *at, *link, *code),
+    }
+}
+
+fn write_body(out: &mut Vec<u8>, sender: NodeId, body: &Option<Msg>) -> Result<(), OutOfMemory>
+    requires { IfSome body.now IsWritableMsg }
+    ensures { OnOk result (out.new.items ≡ out.old.items ++ all_bytes (body_objects sender body.now)) }
+{
+    match body {
+        Some(msg) => write_msg(out, sender, msg),
+        None => Ok(()),
+    }
+}
+
+/// The written form of a packet, from this sender.
+pub fn encode(alloc: Global, sender: NodeId, p: &Packet) -> Result<Vec<u8>, OutOfMemory>
+    requires { IsWritable p.now }
+    ensures written { IfOk result (λ bytes. bytes.items ≡ written sender p.now) }
+    // What is written is read as the packet again.
+    ensures spelled { IfOk result (λ bytes. Spells bytes.items p.now) }
+{
+    packets_come_back();
+    node_fits(sender);
+    packet_fits(p);
+    let mut out = begin(alloc, kind_of(&p.body))?;
+    write_message_id(&mut out, p.id)?;
+    write_acks(&mut out, p.acks.items())?;
+    write_body(&mut out, sender, &p.body)?;
+    seal(&mut out);
+    Ok(out)
+}
