@@ -3,6 +3,7 @@ pub mod Complete
 pub mod Elements
 pub mod Finding
 pub mod HistoryRuns
+pub mod HexDigits
 pub mod Hoods
 pub mod Lines
 pub mod LaneMail

@@ -1,22 +1,28 @@
 -- What the program answers to its words and to its input.
-use Rattle.std.specs.Prelude.{◌≡◌, ◌<◌, ◌≤◌, ◌+◌, ◌⊎◌, ℕ, Bool, true, false, List, [], ◌∷◌, Option, Some, None, Ok, Err, bytes_eq, codes, length, take}
+use Rattle.std.specs.Prelude.{◌≡◌, ◌<◌, ◌≤◌, ◌+◌, ◌⊎◌, ℕ, Bool, true, false, List, [], ◌∷◌, Option, Some, None, Ok, Err, bytes_eq, codes, length, take, if◌then◌else◌}
 use Rattle.std.specs.Io.KnownBytes.{Appends}
 use Rattle.ason_io.specs.Faults.{Rose}
 use Rattle.ason_io.specs.Reading.{HasRead, WasReadToEnd}
 use Rattle.table_text.specs.declared.plan.Plan.{Plan}
 use Rattle.ason_main.specs.declared.ason.Reply.{Reply}
 use Rattle.ason_main.specs.declared.ason.Status.{Status}
+use Rattle.ason_main.specs.declared.ason.Task.{Task}
 use Rattle.ason_base.specs.declared.ids.NodeId.{NodeId}
 use Rattle.ason_main.specs.declared.plan.faults.PlanFault.{PlanFault}
+use Rattle.ason_main.specs.DecodeText.{IsDecodeText}
 use Rattle.ason_main.specs.FaultText.{refused_text}
 use Rattle.ason_main.specs.Outputs.{IsOutput, IsStoppedOutput, run_of}
 use Rattle.ason_main.specs.Plans.{PlanOf}
 
--- the words are the one word `run`
-abbrev pub is_run : List (List ℕ) → Bool
-is_run [] = false
-is_run (w ∷ []) = bytes_eq w (codes "run")
-is_run (w ∷ v ∷ ws) = false
+-- the words are this one word
+abbrev pub is_word : List (List ℕ) → List ℕ → Bool
+is_word [] word = false
+is_word (w ∷ []) word = bytes_eq w word
+is_word (w ∷ v ∷ ws) word = false
+
+-- what the words ask for: the one word `run` or the one word `decode`; all else has no meaning
+abbrev pub task_of : List (List ℕ) → Option Task
+task_of words = if is_word words (codes "run") then Some Task.Run else (if is_word words (codes "decode") then Some Task.Decode else None)
 
 abbrev pub status_of : Reply → Status
 status_of (Reply.Done text) = Status.Done
@@ -48,31 +54,51 @@ text_of_reply (Reply.EventLimit text) = text.items
 text_of_reply Reply.OutOfMemory = []
 text_of_reply Reply.TooLong = codes "refused input too long\n"
 
--- what the reply says of the bytes that were read to their end
-abbrev pub IsJudged : List ℕ → Reply → Type 0
-IsJudged bs (Reply.Done text) = (p : Plan) × PlanOf bs (Ok p) × IsOutput p text.items
-IsJudged bs (Reply.PlanRefused text) = (f : PlanFault) × PlanOf bs (Err f) × (text.items ≡ refused_text f)
-IsJudged bs (Reply.EventLimit text) = (p : Plan) × PlanOf bs (Ok p) × ((n : NodeId) × IsStoppedOutput p n text.items)
-IsJudged bs Reply.OutOfMemory = Unit {0}
-IsJudged bs Reply.Usage = ⊥
-IsJudged bs Reply.ReadFault = ⊥
-IsJudged bs Reply.TooLong = ⊥
+-- what the reply to `run` says of the bytes that were read to their end
+abbrev pub IsRunReply : List ℕ → Reply → Type 0
+IsRunReply bs (Reply.Done text) = (p : Plan) × PlanOf bs (Ok p) × IsOutput p text.items
+IsRunReply bs (Reply.PlanRefused text) = (f : PlanFault) × PlanOf bs (Err f) × (text.items ≡ refused_text f)
+IsRunReply bs (Reply.EventLimit text) = (p : Plan) × PlanOf bs (Ok p) × ((n : NodeId) × IsStoppedOutput p n text.items)
+IsRunReply bs Reply.OutOfMemory = Unit {0}
+IsRunReply bs Reply.Usage = ⊥
+IsRunReply bs Reply.ReadFault = ⊥
+IsRunReply bs Reply.TooLong = ⊥
 
-abbrev pub IsReadAndJudged : {S : Type 0} → (S → Option (List ℕ)) → (S → List ℕ → S → Type 0) → (S → Type 0) → S → S → Reply → Type 0
-IsReadAndJudged left handed ended old new r = (bs : List ℕ) × WasReadToEnd left handed ended old new bs × IsJudged bs r
+-- what the reply to `decode` says of them
+abbrev pub IsDecodeReply : List ℕ → Reply → Type 0
+IsDecodeReply bs (Reply.Done text) = IsDecodeText bs text.items
+IsDecodeReply bs (Reply.PlanRefused text) = ⊥
+IsDecodeReply bs (Reply.EventLimit text) = ⊥
+IsDecodeReply bs Reply.OutOfMemory = Unit {0}
+IsDecodeReply bs Reply.Usage = ⊥
+IsDecodeReply bs Reply.ReadFault = ⊥
+IsDecodeReply bs Reply.TooLong = ⊥
 
--- what the reply says of the words and the source: nothing is read where the words have no meaning
+abbrev pub IsJudged : Task → List ℕ → Reply → Type 0
+IsJudged Task.Run bs r = IsRunReply bs r
+IsJudged Task.Decode bs r = IsDecodeReply bs r
+
+abbrev pub IsReadAndJudged : {S : Type 0} → (S → Option (List ℕ)) → (S → List ℕ → S → Type 0) → (S → Type 0) → S → S → Task → Reply → Type 0
+IsReadAndJudged left handed ended old new k r = (bs : List ℕ) × WasReadToEnd left handed ended old new bs × IsJudged k bs r
+
+-- what the reply to this says of the source
+abbrev pub IsReplyFor : {S : Type 0} → (S → Option (List ℕ)) → (S → List ℕ → S → Type 0) → (S → Type 0) → (S → ℕ) → S → S → Task → Reply → Type 0
+IsReplyFor left handed ended faults old new k (Reply.Done text) = IsReadAndJudged left handed ended old new k (Reply.Done text)
+IsReplyFor left handed ended faults old new k Reply.Usage = ⊥
+IsReplyFor left handed ended faults old new k (Reply.PlanRefused text) = IsReadAndJudged left handed ended old new k (Reply.PlanRefused text)
+IsReplyFor left handed ended faults old new k Reply.ReadFault = Rose (faults old) (faults new)
+IsReplyFor left handed ended faults old new k (Reply.EventLimit text) = IsReadAndJudged left handed ended old new k (Reply.EventLimit text)
+IsReplyFor left handed ended faults old new k Reply.OutOfMemory = Unit {0}
+IsReplyFor left handed ended faults old new k Reply.TooLong = HasRead left handed old new (λ n. n ≡ 4194304 + 1)
+
+-- where the words have no meaning the reply is the usage, and nothing is read
+abbrev pub IsReplyTo : {S : Type 0} → (S → Option (List ℕ)) → (S → List ℕ → S → Type 0) → (S → Type 0) → (S → ℕ) → S → S → Reply → Option Task → Type 0
+IsReplyTo left handed ended faults old new r None = (r ≡ Reply.Usage) × (new ≡ old)
+IsReplyTo left handed ended faults old new r (Some k) = IsReplyFor left handed ended faults old new k r
+
+-- what the reply says of the words and the source
 abbrev pub IsReply : {S : Type 0} → (S → Option (List ℕ)) → (S → List ℕ → S → Type 0) → (S → Type 0) → (S → ℕ) → List (List ℕ) → S → S → Reply → Type 0
-IsReply left handed ended faults words old new (Reply.Done text) =
-    (is_run words ≡ true) × IsReadAndJudged left handed ended old new (Reply.Done text)
-IsReply left handed ended faults words old new Reply.Usage = (is_run words ≡ false) × (new ≡ old)
-IsReply left handed ended faults words old new (Reply.PlanRefused text) =
-    (is_run words ≡ true) × IsReadAndJudged left handed ended old new (Reply.PlanRefused text)
-IsReply left handed ended faults words old new Reply.ReadFault = (is_run words ≡ true) × Rose (faults old) (faults new)
-IsReply left handed ended faults words old new (Reply.EventLimit text) =
-    (is_run words ≡ true) × IsReadAndJudged left handed ended old new (Reply.EventLimit text)
-IsReply left handed ended faults words old new Reply.OutOfMemory = is_run words ≡ true
-IsReply left handed ended faults words old new Reply.TooLong = (is_run words ≡ true) × HasRead left handed old new (λ n. n ≡ 4194304 + 1)
+IsReply left handed ended faults words old new r = IsReplyTo left handed ended faults old new r (task_of words)
 
 -- the reply's status is answered and its text written, or the sink failed and only a part was written
 abbrev pub WasGiven : {K : Type 0} → (K → Option (List ℕ)) → (K → ℕ) → K → K → Reply → Status → Type 0
@@ -87,8 +113,13 @@ IsEnd p s =
     ⊎ (((s ≡ Status.EventLimit) × ((n : NodeId) × ((run_of p).stopped ≡ Some n)))
     ⊎ (s ≡ Status.OutOfMemory))
 
--- words with a meaning, a plan without fault and no end that fails: the status is done, the event limit or want of memory
+-- how the task ends on these bytes: `run` for a plan without fault, `decode` always
+abbrev pub EndsWell : Task → List ℕ → Status → Type 0
+EndsWell Task.Run bs s = (p : Plan) → PlanOf bs (Ok p) → IsEnd p s
+EndsWell Task.Decode bs s = (s ≡ Status.Done) ⊎ (s ≡ Status.OutOfMemory)
+
+-- words with a meaning, an input that isn't too long, and no end that fails
 abbrev pub IsComplete : {S K : Type 0} → (S → Option (List ℕ)) → (S → ℕ) → (K → ℕ) → List (List ℕ) → S → S → K → K → Status → Type 0
 IsComplete left faults sink_faults words old new sink_old sink_new s =
-    is_run words ≡ true → (bs : List ℕ) (p : Plan) → left old ≡ Some bs → length bs ≤ 4194304 → PlanOf bs (Ok p) →
-    ¬ Rose (faults old) (faults new) → ¬ Rose (sink_faults sink_old) (sink_faults sink_new) → IsEnd p s
+    (k : Task) → task_of words ≡ Some k → (bs : List ℕ) → left old ≡ Some bs → length bs ≤ 4194304 →
+    ¬ Rose (faults old) (faults new) → ¬ Rose (sink_faults sink_old) (sink_faults sink_new) → EndsWell k bs s

@@ -1,7 +1,10 @@
 pub mod Answers
+pub mod DecodeText
 pub mod FaultText
+pub mod Hex
 pub mod Histories
 pub mod Kept
+pub mod LinesLeft
 pub mod Outputs
 pub mod PlanCalls
 pub mod PlanScript

@@ -1,10 +1,11 @@
-//! The top call: reads a plan, runs it, and writes what the network came to.
+//! The top call: reads an input, and writes what a plan's network came to, or what messages say.
 
 ghost use Rattle.std.specs.Prelude.{◌≡◌, ℕ, List, [], Ok, Err, map, string_bytes};
 ghost use Rattle.ason_base.specs.Network.{IsTopology};
-ghost use Rattle.ason_main.specs.Answers.{IsComplete, IsJudged, IsReply, WasGiven, exit_status, is_run, status_of, text_of_reply};
+ghost use Rattle.ason_main.specs.Answers.{IsComplete, IsDecodeReply, IsJudged, IsReply, IsRunReply, WasGiven, exit_status, is_word, status_of, task_of, text_of_reply};
 ghost use Rattle.ason_main.specs.Plans.{ArePostable, PlanOf};
 
+use crate::decode::decode_text;
 use crate::plan::{PlanError, PlanFault, read_plan, refused_text};
 use crate::runner::run::{Ran, run_plan};
 use ason_base::OutOfMemory;
@@ -18,7 +19,7 @@ const LIMIT: usize = 4_194_304;
 /// How a command ended, with the process's exit status as its number.
 #[derive(Clone, Copy, Debug, PartialEq, Eq, Drop)]
 pub enum Status {
-    /// The plan was run and its table written: 0.
+    /// The plan was run and its tables written, or what the messages say was written: 0.
     Done,
     /// The words have no meaning; nothing was read: 2.
     Usage,
@@ -52,6 +53,15 @@ impl Status {
             Status::TooLong => 8,
         }
     }
+}
+
+// What the words ask for.
+#[derive(Clone, Copy, Debug, PartialEq, Eq, Drop)]
+enum Task {
+    // To run a plan.
+    Run,
+    // To tell what messages say.
+    Decode,
 }
 
 // What is to be answered, before it is written.
@@ -95,12 +105,25 @@ impl Reply {
     }
 }
 
-fn is_run(words: &[String]) -> bool
-    ensures { result ≡ is_run (map string_bytes words.now) }
+// Whether the words are this one word.
+fn is_word(words: &[String], word: &str) -> bool
+    ensures { result ≡ is_word (map string_bytes words.now) word.now }
 {
     match words {
-        [word] => word.as_str() == "run",
+        [only] => only.as_str() == word,
         _ => false,
+    }
+}
+
+fn task_of(words: &[String]) -> Option<Task>
+    ensures { result ≡ task_of (map string_bytes words.now) }
+{
+    if is_word(words, "run") {
+        Some(Task::Run)
+    } else if is_word(words, "decode") {
+        Some(Task::Decode)
+    } else {
+        None
     }
 }
 
@@ -108,7 +131,7 @@ fn is_run(words: &[String]) -> bool
 fn run(alloc: Global, plan: &Plan) -> Reply
     requires topology { IsTopology plan.now.topology }
     requires postable { ArePostable plan.now.topology [] plan.now.lines }
-    ensures { (bs : List ℕ) → PlanOf bs (Ok plan.now) → IsJudged bs result }
+    ensures { (bs : List ℕ) → PlanOf bs (Ok plan.now) → IsRunReply bs result }
 {
     match run_plan(alloc, plan) {
         Ok(Ran::Ended(text)) => Reply::Done(text),
@@ -119,7 +142,7 @@ fn run(alloc: Global, plan: &Plan) -> Reply
 
 // Tells the fault of what is no plan.
 fn refuse(alloc: Global, fault: PlanFault) -> Reply
-    ensures { (bs : List ℕ) → PlanOf bs (Err fault) → IsJudged bs result }
+    ensures { (bs : List ℕ) → PlanOf bs (Err fault) → IsRunReply bs result }
 {
     match refused_text(alloc, fault) {
         Ok(text) => Reply::PlanRefused(text),
@@ -127,9 +150,9 @@ fn refuse(alloc: Global, fault: PlanFault) -> Reply
     }
 }
 
-// What is answered of the input.
-fn judge(alloc: Global, bytes: &[u8]) -> Reply
-    ensures { IsJudged bytes.now result }
+// What `run` answers of the input.
+fn run_input(alloc: Global, bytes: &[u8]) -> Reply
+    ensures { IsRunReply bytes.now result }
 {
     match read_plan(alloc, bytes) {
         Ok(plan) => run(alloc, &plan),
@@ -138,14 +161,34 @@ fn judge(alloc: Global, bytes: &[u8]) -> Reply
     }
 }
 
+// What `decode` answers of the input.
+fn decode_input(alloc: Global, bytes: &[u8]) -> Reply
+    ensures { IsDecodeReply bytes.now result }
+{
+    match decode_text(alloc, bytes) {
+        Ok(text) => Reply::Done(text),
+        Err(OutOfMemory) => Reply::OutOfMemory,
+    }
+}
+
+// What is answered of the input.
+fn judge(alloc: Global, task: Task, bytes: &[u8]) -> Reply
+    ensures { IsJudged task bytes.now result }
+{
+    match task {
+        Task::Run => run_input(alloc, bytes),
+        Task::Decode => decode_input(alloc, bytes),
+    }
+}
+
 fn reply_to<S: Source>(alloc: Global, words: &[String], src: &mut S) -> Reply
     ensures { IsReply S.left S.handed S.ended S.faults (map string_bytes words.now) src.old src.new result }
 {
-    if !is_run(words) {
+    let Some(task) = task_of(words) else {
         return Reply::Usage;
-    }
+    };
     match read_all(alloc, src, LIMIT) {
-        Ok(bytes) => judge(alloc, &bytes),
+        Ok(bytes) => judge(alloc, task, &bytes),
         Err(ReadAllFault::Failed) => Reply::ReadFault,
         Err(ReadAllFault::OutOfMemory) => Reply::OutOfMemory,
         Err(ReadAllFault::TooLong) => Reply::TooLong,
@@ -153,7 +196,8 @@ fn reply_to<S: Source>(alloc: Global, words: &[String], src: &mut S) -> Reply
 }
 
 /// Answers the words, those after the program's name. `run` reads a plan, runs its script, and writes its tables, or tells the
-/// plan's first fault. If the sink fails the status is `WriteFault`.
+/// plan's first fault. `decode` reads lines of RSVP messages in hexadecimal and writes what each says. If the sink fails the
+/// status is `WriteFault`.
 pub fn ason<S: Source, K: Sink>(alloc: Global, words: &[String], src: &mut S, out: &mut K) -> Status
     ensures answer { (r : Reply) × IsReply S.left S.handed S.ended S.faults (map string_bytes words.now) src.old src.new r × WasGiven K.written K.faults out.old out.new r result }
     ensures complete { IsComplete S.left S.faults K.faults (map string_bytes words.now) src.old src.new out.old out.new result }

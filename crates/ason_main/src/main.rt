@@ -2,6 +2,7 @@
 #![tactic(auto)]
 
 mod ason;
+mod decode;
 mod plan;
 mod runner;
 mod table_rows;
