@@ -4,6 +4,7 @@ pub mod Elements
 pub mod Finding
 pub mod HistoryRuns
 pub mod HexDigits
+pub mod HexLines
 pub mod Hoods
 pub mod Lines
 pub mod LaneMail

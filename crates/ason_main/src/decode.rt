@@ -1,6 +1,6 @@
 //! The command `decode`: lines of RSVP messages in hexadecimal, and what they spell.
 
-ghost use Rattle.std.specs.Prelude.{◌≡◌, ◌≤◌, ◌++◌, ◌∷◌, List, ℕ, length, string_bytes, IfOk, OnOk};
+ghost use Rattle.std.specs.Prelude.{◌≡◌, ◌≤◌, ◌++◌, ◌∷◌, ◌==◌, position, List, ℕ, length, string_bytes, IfOk, OnOk};
 ghost use Rattle.ason_main.specs.DecodeText.{IsBytesText, IsDecodeText, IsMessageText, lines_of};
 ghost use Rattle.ason_main.specs.Hex.{hex_bytes};
 ghost use Rattle.ason_main.specs.LinesLeft.{lines_left, size_left};
@@ -45,12 +45,18 @@ fn push_line(alloc: Global, text: &mut String, line: &[u8]) -> Result<(), OutOfM
     }
 }
 
+fn newline(bytes: &[u8]) -> Option<usize>
+    ensures { result ≡ position (λ c. c == 10) bytes.now }
+{
+    bytes.iter().position(|c| *c == b'\n')
+}
+
 /// The first line, and what is behind its newline, if it ends with one.
 fn first_line(bytes: &[u8]) -> (&[u8], Option<&[u8]>)
     ensures lines { lines_of bytes.now ≡ result.0.now ∷ lines_left result.1 }
     ensures less { size_left result.1 ≤ length bytes.now }
 {
-    match bytes.iter().position(|c| *c == b'\n') {
+    match newline(bytes) {
         None => (bytes, None),
         Some(end) => (&bytes[..end], Some(&bytes[end + 1..])),
     }
