@@ -1,12 +1,13 @@
 //! The top call over sources and sinks in memory.
 
 use crate::ason::{Status, ason};
+use ason_base::OutOfMemory;
 use ason_io::{MemSink, MemSource};
 use std::alloc::Global;
 use std::test::Fail;
 
-const FIRST: &[u8] = b"script = [\"setup c1 a b unprotected via 1\"]
-[[node]]
+// Two nodes and one link with one label.
+const PAIR: &str = "[[node]]
 name = \"a\"
 id = 1
 convert = true
@@ -20,8 +21,8 @@ ends = [\"a\", \"b\"]
 labels = 1
 ";
 
-const IDLE: &[u8] = b"script = []
-[[node]]
+// Links from b to each of a, c and d, with one label each.
+const STAR: &str = "[[node]]
 name = \"a\"
 id = 1
 convert = true
@@ -29,60 +30,272 @@ convert = true
 name = \"b\"
 id = 2
 convert = true
+[[node]]
+name = \"c\"
+id = 3
+convert = true
+[[node]]
+name = \"d\"
+id = 4
+convert = true
 [[link]]
 id = 1
 ends = [\"a\", \"b\"]
 labels = 1
+[[link]]
+id = 2
+ends = [\"b\", \"c\"]
+labels = 1
+[[link]]
+id = 3
+ends = [\"b\", \"d\"]
+labels = 1
 ";
 
-const NO_ENDS: &[u8] = b"[[node]]
+const LOOPED: &str = "[[node]]
 name = \"a\"
 id = 1
 convert = true
 [[link]]
 id = 1
+ends = [\"a\", \"a\"]
 labels = 1
 ";
 
-const TABLE: &[u8] = b"calls 1 legs 2
+const USAGE: &str =
+    "usage: ason run [--workers N] [--stride T] [--trace] | check | decode | route FROM TO | load SEED NODES CALLS\n";
+
+const ONE_CALL: &str = "calls 1 legs 2
 call c1 a b bare a.1.1 - -
 leg a.1.1 a work live - 1/1
 leg a.1.1 b work live 1/1 -
 ";
 
-const USAGE: &[u8] =
-    b"usage: ason run [--workers N] [--stride T] [--trace] | check | decode | route FROM TO | load SEED NODES CALLS\n";
+// Words, a plan's script and network, which calls of the source fail; the status and what is written.
+type Row = (
+    &'static [&'static str],
+    &'static str,
+    &'static str,
+    &'static [u64],
+    Status,
+    &'static str,
+);
 
-// What is answered to a word and an input, and what is written.
+const RUN: &[&str] = &["run"];
+
+const ROWS: &[Row] = &[
+    (
+        RUN,
+        "\"setup c1 a b unprotected via 1\"",
+        PAIR,
+        &[],
+        Status::Done,
+        ONE_CALL,
+    ),
+    (RUN, "", PAIR, &[], Status::Done, "calls 0 legs 0\n"),
+    (RUN, "", PAIR, &[2], Status::ReadFault, ""),
+    (&["--help"], "", PAIR, &[], Status::Usage, USAGE),
+    (
+        &["run", "--workers", "0"],
+        "",
+        PAIR,
+        &[],
+        Status::Usage,
+        USAGE,
+    ),
+    (
+        RUN,
+        "\"show\", \"setup c1 a b unprotected via 1\", \"settle 1\", \"settle 1\"",
+        PAIR,
+        &[],
+        Status::Done,
+        "calls 0 legs 0
+unsettled desk 0 hop 1 flood 0
+calls 1 legs 2
+call c1 a b bare a.1.1 - -
+leg a.1.1 a work live - 1/1
+leg a.1.1 b work live 1/1 -
+",
+    ),
+    (
+        RUN,
+        "\"setup c1 a d unprotected via 1,3\", \"setup c2 a c unprotected via 1,2\"",
+        STAR,
+        &[],
+        Status::Done,
+        "calls 2 legs 3
+call c1 a d blocked - - label
+call c2 a c bare a.2.2 - -
+leg a.2.2 a work live - 1/1
+leg a.2.2 b work live 1/1 2/1
+leg a.2.2 c work live 2/1 -
+",
+    ),
+    (
+        RUN,
+        "\"setup c1 a d unprotected via 1,3\", \"setup c2 c d unprotected via 2,3\"",
+        STAR,
+        &[],
+        Status::Done,
+        "calls 2 legs 3
+call c1 a d bare a.1.1 - -
+call c2 c d blocked - - set
+leg a.1.1 a work live - 1/1
+leg a.1.1 b work live 1/1 3/1
+leg a.1.1 d work live 3/1 -
+",
+    ),
+    (
+        RUN,
+        "\"setup c1 a d unprotected via 1,3\", \"setup c2 c d unprotected via 2,3\", \"settle 100\", \"release c1\"",
+        STAR,
+        &[],
+        Status::Done,
+        "calls 1 legs 0
+call c2 c d blocked - - set
+",
+    ),
+    (
+        RUN,
+        "",
+        LOOPED,
+        &[],
+        Status::PlanRefused,
+        "refused plan link 1 ends\n",
+    ),
+    (
+        RUN,
+        "\"show\", \"settle 0\"",
+        PAIR,
+        &[],
+        Status::PlanRefused,
+        "refused plan script 2 range\n",
+    ),
+    (
+        RUN,
+        "\"fail link 1\"",
+        PAIR,
+        &[],
+        Status::PlanRefused,
+        "refused plan script 1 unbuilt\n",
+    ),
+    (
+        RUN,
+        "",
+        "[[node]]\n",
+        &[],
+        Status::PlanRefused,
+        "refused plan node 1 missing\n",
+    ),
+    (
+        RUN,
+        "",
+        "wait = 1\n",
+        &[],
+        Status::PlanRefused,
+        "refused plan top missing\n",
+    ),
+    (
+        RUN,
+        "\"",
+        PAIR,
+        &[],
+        Status::PlanRefused,
+        "refused plan toml syntax\n",
+    ),
+];
+
+fn plan(alloc: Global, script: &str, network: &str) -> Result<Vec<u8>, OutOfMemory> {
+    let text = format!(in alloc; "script = [{script}]\n{network}")?;
+    let bytes = text.as_bytes().to_vec(alloc)?;
+    Ok(bytes)
+}
+
+// What is answered to words and an input, and what is written.
 fn told(
     alloc: Global,
-    word: &str,
-    input: &[u8],
+    words: &[&str],
+    input: Vec<u8>,
     failing: &[u64],
 ) -> Result<(Status, Vec<u8>), Fail> {
-    let words = [word.to_string(alloc)?];
-    let mut src = MemSource::new(input.to_vec(alloc)?, failing.to_vec(alloc)?);
+    let mut texts = Vec::new(alloc);
+    for word in words {
+        texts.push(word.to_string(alloc)?)?;
+    }
+    let mut src = MemSource::new(input, failing.to_vec(alloc)?);
     let mut out = MemSink::new(alloc, 7, Vec::new(alloc));
     out.reserve(alloc, 4096)?;
-    let status = ason(alloc, &words, &mut src, &mut out);
+    let status = ason(alloc, &texts, &mut src, &mut out);
     Ok((status, out.written().to_vec(alloc)?))
 }
 
 #[test]
 fn each_status_has_its_text(rt: HostRuntime) -> Result<(), Fail> {
     let alloc = rt.alloc();
-    let rows: [(&str, &[u8], &[u64], Status, &[u8]); 5] = [
-        ("run", FIRST, &[], Status::Done, TABLE),
-        ("run", IDLE, &[], Status::Done, b"calls 0 legs 0\n"),
-        ("run", NO_ENDS, &[], Status::PlanRefused, b"refused plan\n"),
-        ("run", FIRST, &[2], Status::ReadFault, b""),
-        ("--help", FIRST, &[], Status::Usage, USAGE),
-    ];
-    for (word, input, failing, status, text) in rows {
-        let answer = told(alloc, word, input, failing)?;
-        assert_eq!(rt; answer.0, status);
-        assert_eq!(rt; answer.1.as_slice(), text);
+    for (words, script, network, failing, status, text) in ROWS {
+        let answer = told(alloc, words, plan(alloc, script, network)?, failing)?;
+        assert_eq!(rt; answer.0, *status);
+        assert_eq!(rt; answer.1.as_slice(), text.as_bytes());
     }
+    Ok(())
+}
+
+#[test]
+fn an_input_has_its_greatest_length(rt: HostRuntime) -> Result<(), Fail> {
+    let alloc = rt.alloc();
+    let longest = told(alloc, RUN, vec![in alloc; b'#'; 4_194_304]?, &[])?;
+    assert_eq!(rt; longest.0, Status::PlanRefused);
+    assert_eq!(rt;
+        longest.1.as_slice(),
+        b"refused plan top missing\n".as_slice()
+    );
+    let longer = told(alloc, RUN, vec![in alloc; b'#'; 4_194_305]?, &[])?;
+    assert_eq!(rt; longer.0, Status::TooLong);
+    assert_eq!(rt; longer.1.as_slice(), b"refused input too long\n".as_slice());
+    Ok(())
+}
+
+// A row of 16 nodes, and calls from the last to the first, each set up and released before the next. A message takes a round
+// for each link towards the first node, so that every node makes many events.
+fn long_plan(alloc: Global) -> Result<Vec<u8>, OutOfMemory> {
+    let mut text = "script = [\"show\",\n".to_string(alloc)?;
+    for call in 0u32..1400 {
+        write!(
+            text,
+            "\"setup c{call} n16 n1 unprotected via 15,14,13,12,11,10,9,8,7,6,5,4,3,2,1\",\n"
+        )?;
+        write!(
+            text,
+            "\"settle 1000\", \"release c{call}\", \"settle 1000\",\n"
+        )?;
+    }
+    text.push_str("]\n")?;
+    for node in 1u32..17 {
+        write!(
+            text,
+            "[[node]]\nname = \"n{node}\"\nid = {node}\nconvert = true\n"
+        )?;
+    }
+    for link in 1u32..16 {
+        let next = link + 1;
+        write!(
+            text,
+            "[[link]]\nid = {link}\nends = [\"n{link}\", \"n{next}\"]\nlabels = 1\n"
+        )?;
+    }
+    let bytes = text.as_bytes().to_vec(alloc)?;
+    Ok(bytes)
+}
+
+#[test]
+fn a_run_ends_at_the_limit_of_a_node(rt: HostRuntime) -> Result<(), Fail> {
+    let alloc = rt.alloc();
+    let answer = told(alloc, RUN, long_plan(alloc)?, &[])?;
+    assert_eq!(rt; answer.0, Status::EventLimit);
+    assert_eq!(rt;
+        answer.1.as_slice(),
+        b"calls 0 legs 0\nstopped at limit n5\n".as_slice()
+    );
     Ok(())
 }
 
@@ -90,7 +303,8 @@ fn each_status_has_its_text(rt: HostRuntime) -> Result<(), Fail> {
 fn a_sink_that_fails_has_a_prefix(rt: HostRuntime) -> Result<(), Fail> {
     let alloc = rt.alloc();
     let words = ["run".to_string(alloc)?];
-    let mut src = MemSource::new(FIRST.to_vec(alloc)?, Vec::new(alloc));
+    let input = plan(alloc, "\"setup c1 a b unprotected via 1\"", PAIR)?;
+    let mut src = MemSource::new(input, Vec::new(alloc));
     let mut out = MemSink::new(alloc, 5, [2].to_vec(alloc)?);
     out.reserve(alloc, 4096)?;
     let status = ason(alloc, &words, &mut src, &mut out);
