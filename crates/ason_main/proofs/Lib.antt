@@ -4,7 +4,9 @@ pub mod Elements
 pub mod Finding
 pub mod HistoryRuns
 pub mod Hoods
+pub mod Limits
 pub mod Lines
+pub mod Keeping
 pub mod LaneMail
 pub mod Leading
 pub mod LegOrder
