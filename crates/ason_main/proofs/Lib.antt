@@ -6,7 +6,9 @@ pub mod HistoryRuns
 pub mod HexDigits
 pub mod HexLines
 pub mod Hoods
+pub mod Limits
 pub mod Lines
+pub mod Keeping
 pub mod LaneMail
 pub mod Leading
 pub mod LegOrder

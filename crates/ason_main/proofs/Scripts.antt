@@ -14,6 +14,7 @@ use Rattle.ason_main.specs.Plans.{ArePostable, AreValidLines, IsValidLine, calls
 use Rattle.ason_main.specs.Running.{AreCut, AreDone, IsCut, IsDone, StandsNow}
 use Rattle.ason_main.proofs.HistoryRuns.{lines_run}
 use Rattle.ason_main.proofs.Leading.{lead_through}
+use Rattle.ason_main.proofs.Limits.{full_where_stopped}
 use Rattle.ason_main.proofs.Printing.{cut_append, cut_early, cut_one, done_append, done_one}
 
 -- Lines that can be posted
@@ -115,5 +116,6 @@ pub stopped_output_of : (p : Plan) (old new : Run) (n : NodeId) (text : List ℕ
 stopped_output_of p old new n text topology postable none are is = record {
   one_run = one_run p topology postable;
   stopped = are.stopped;
+  full = full_where_stopped p n are.stopped;
   printed = (are.printed.0, are.printed.2, is ∙ ap (λ xs. xs ++ stopped_text p n) (from_nothing p old new none are.printed.0 are.printed.1));
 }

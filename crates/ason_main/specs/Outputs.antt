@@ -16,7 +16,7 @@ use Rattle.table_text.specs.declared.lines.Line.{Line}
 use Rattle.table_text.specs.declared.lines.Line.TheVariants.{Post, Settle, Show}
 use Rattle.table_text.specs.declared.plan.Plan.{Plan}
 use Rattle.table_text.specs.TableText.{stopped_text, table_text, unsettled_text}
-use Rattle.ason_main.specs.Histories.{History, new_history, state_after, with_event}
+use Rattle.ason_main.specs.Histories.{History, events_of, new_history, state_after, with_event}
 use Rattle.ason_main.specs.Rounds.{is_quiet, items_waiting, mail_waiting, settled}
 
 -- The table
@@ -104,8 +104,9 @@ pub record IsOutput (p : Plan) (text : List ℕ) : Type 0 where
   pub ended : (run_of p).stopped ≡ None
   pub printed : Prints p (script_of p) new_history text
 
--- what is printed of a run that is stopped at this node's limit: that, and the line of the stop
+-- what is printed of a run that is stopped at the limit of this node, which has made 50,000 events: that, and the line of the stop
 pub record IsStoppedOutput (p : Plan) (n : NodeId) (text : List ℕ) : Type 0 where
   pub one_run : IsOneRun p
   pub stopped : (run_of p).stopped ≡ Some n
+  pub full : events_of n.0 (run_of p).events ≡ 50000
   pub printed : (told : List ℕ) × Prints p (script_of p) new_history told × (text ≡ told ++ stopped_text p n)
