@@ -240,6 +240,46 @@ fn each_status_has_its_text(rt: HostRuntime) -> Result<(), Fail> {
     Ok(())
 }
 
+// Lines of messages, and what is told of them.
+const FRAMES: [(&str, &str); 4] = [
+    (
+        "1\n00\n\n11 0D D5 CB 01 00 00 14 00 0C 18 01 00 00 00 01 00 00 00 05",
+        "not hex
+not a message
+Ack id - acks 5 lsp - egress -
+ 24/1 12 read
+",
+    ),
+    (
+        "110dd5cb 01000014 000c1801 00000001 000000\n11 0D D5 CC 01 00 00 14 00 0C 18 01 00 00 00 01 00 00 00 05\n",
+        "not a message
+not a message
+",
+    ),
+    (
+        "11 05 C6 3F 01 00 00 48 00 0C 17 01 01 00 00 01 00 00 00 05 00 10 01 07 00 00 00 03 00 00 00 01 00 00 00 01 \
+00 18 03 03 00 00 00 01 00 00 00 00 00 03 00 0C 00 00 00 01 00 00 00 02 00 0C 0B 07 00 00 00 01 00 00 00 02",
+        "PathTear id 5 acks - lsp 1.1.2 egress 3
+ 23/1 12 read
+ 1/7 16 read
+ 3/3 24 read
+ 11/7 12 read
+",
+    ),
+    ("", ""),
+];
+
+#[test]
+fn each_line_of_a_message_is_told(rt: HostRuntime) -> Result<(), Fail> {
+    let alloc = rt.alloc();
+    for (lines, text) in FRAMES {
+        let answer = told(alloc, &["decode"], lines.as_bytes().to_vec(alloc)?, &[])?;
+        assert_eq!(rt; answer.0, Status::Done);
+        assert_eq!(rt; answer.1.as_slice(), text.as_bytes());
+    }
+    Ok(())
+}
+
 #[test]
 fn an_input_has_its_greatest_length(rt: HostRuntime) -> Result<(), Fail> {
     let alloc = rt.alloc();
