@@ -19,10 +19,12 @@ mod resv;
 mod roles;
 mod tear;
 mod widths;
+pub mod writable;
 pub mod writing;
 
 pub use lines::{Fate, ObjectLine, objects};
 pub use reading::decode;
+pub use writable::is_writable;
 pub use writing::encode;
 
 #[cfg(test)]

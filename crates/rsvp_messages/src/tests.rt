@@ -70,7 +70,8 @@ const NOTIFY: [u8; 72] = [
 // What is read of the bytes, written again by this node: none where they are no message.
 fn again(alloc: Global, sender: u32, bytes: &[u8]) -> Result<Option<Vec<u8>>, Fail> {
     match decode(alloc, bytes) {
-        Ok(packet) => Ok(Some(encode(alloc, NodeId(sender), &packet)?)),
+        Ok(packet) if is_writable(&packet) => Ok(Some(encode(alloc, NodeId(sender), &packet)?)),
+        Ok(_) => Err("it can't be written".into()),
         Err(DecodeError::NotMessage) => Ok(None),
         Err(DecodeError::OutOfMemory) => Err("memory ran out".into()),
     }
