@@ -1,5 +1,5 @@
 -- Words with a meaning, a plan without fault and no end that fails.
-use Rattle.std.proofs.Common.{◌≡◌, ◌∙◌, ◌≤◌, ◌<◌, ◌+◌, ℕ, List, inl, inr, true, length, sym, ap, subst, arith, length-append, take, refl, []}
+use Rattle.std.proofs.Common.{◌≡◌, ◌∙◌, ◌≤◌, ◌<◌, ◌+◌, ℕ, List, inl, inr, length, sym, ap, subst, arith, length-append, take, refl, []}
 use Rattle.std.specs.Prelude.{Option, Some, None, IfSome, Ok}
 use Rattle.std.specs.Io.KnownBytes.{Appends, Consumes}
 use Rattle.ason_io.specs.Faults.{Rose}

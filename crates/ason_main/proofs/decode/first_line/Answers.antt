@@ -1,4 +1,4 @@
-use Rattle.std.proofs.Common.{◌∙◌, ap, sym}
+use Rattle.std.proofs.Common.{◌∙◌, sym}
 use Rattle.ason_main.proofs.HexLines.{no_newline, to_newline, to_the_end}
 use Rattle.ason_main.proofs.decode.first_line.Goals as goal
 
