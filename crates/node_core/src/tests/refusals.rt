@@ -5,6 +5,7 @@ use crate::{Input, Node};
 use ason_base::codes::{FULL, LABEL, ROUTE, SET};
 use ason_base::{
     CallState, Cause, ErrCode, Label, LabelSet, LinkId, Lsp, Msg, NodeId, Outs, PathRole, Phase,
+    Topology,
 };
 use std::alloc::Global;
 use std::test::Fail;
@@ -93,7 +94,7 @@ fn last_call(alloc: Global, node: &Node) -> Result<Option<(CallState, Cause)>, F
 // A Path at b: its egress, its steps, whether it has labels, and the code that refuses it.
 type Refused = (NodeId, &'static [(u32, u32)], bool, ErrCode);
 
-const REFUSED: [Refused; 8] = [
+const REFUSED: &[Refused] = &[
     (C, &[], true, ROUTE),
     (B, &[(2, 2)], true, ROUTE),
     (C, &[(3, 2)], true, ROUTE),
@@ -104,16 +105,54 @@ const REFUSED: [Refused; 8] = [
     (B, &[], false, SET),
 ];
 
+// How b refuses a Path over link 1, and how many legs it has then.
+fn asked_of_b(
+    alloc: Global,
+    t: &Topology,
+    egress: NodeId,
+    hops: &[(u32, u32)],
+    has_labels: bool,
+) -> Result<(Option<ErrCode>, usize), Fail> {
+    let mut node = node_of(alloc, t, B)?;
+    let set = LabelSet::upto(if has_labels { 1 } else { 0 });
+    let outs = node.step(alloc, &path(alloc, 1, egress, A, 1, hops, set)?)?;
+    Ok((refusal(&outs, A, B), phases(alloc, &node)?.len()))
+}
+
 #[test]
 fn a_path_that_leads_nowhere_makes_no_leg(rt: HostRuntime) -> Result<(), Fail> {
     let alloc = rt.alloc();
     let t = line(alloc, 1, 1)?;
     for (egress, hops, has_labels, code) in REFUSED {
-        let mut node = node_of(alloc, &t, B)?;
-        let set = LabelSet::upto(if has_labels { 1 } else { 0 });
-        let outs = node.step(alloc, &path(alloc, 1, egress, A, 1, hops, set)?)?;
-        assert_eq!(rt; refusal(&outs, A, B), Some(code));
-        assert!(rt; phases(alloc, &node)?.is_empty());
+        let answer = asked_of_b(alloc, &t, *egress, hops, *has_labels)?;
+        assert_eq!(rt; answer, (Some(*code), 0));
+    }
+    Ok(())
+}
+
+// So many Paths towards c come to b, each of another LSP.
+fn ask(alloc: Global, node: &mut Node, count: u16) -> Result<(), Fail> {
+    for number in 1..=count {
+        let input = path(alloc, number, C, A, 1, &[(2, 2)], LabelSet::upto(1))?;
+        node.step(alloc, &input)?;
+    }
+    Ok(())
+}
+
+// So many calls are set up at a.
+fn set_up(alloc: Global, node: &mut Node, count: u16) -> Result<(), Fail> {
+    for number in 1..=count {
+        node.step(alloc, &setup(alloc, number)?)?;
+    }
+    Ok(())
+}
+
+// A call is set up at a, refused by b and released, so many times.
+fn use_up(alloc: Global, node: &mut Node, count: u16) -> Result<(), Fail> {
+    for number in 1..=count {
+        node.step(alloc, &setup(alloc, 1)?)?;
+        node.step(alloc, &path_err(number, B, SET))?;
+        node.step(alloc, &release(1))?;
     }
     Ok(())
 }
@@ -124,11 +163,8 @@ fn a_transit_node_has_at_most_4096_legs(rt: HostRuntime) -> Result<(), Fail> {
     let alloc = rt.alloc();
     let t = line(alloc, 1, 1)?;
     let mut node = node_of(alloc, &t, B)?;
-    for number in 1..4097u16 {
-        let input = path(alloc, number, C, A, 1, &[(2, 2)], LabelSet::upto(1))?;
-        let outs = node.step(alloc, &input)?;
-        assert_eq!(rt; refusal(&outs, A, B), None);
-    }
+    ask(alloc, &mut node, 4096)?;
+    assert_eq!(rt; phases(alloc, &node)?.len(), 4096);
     let outs = node.step(alloc, &path(alloc, 4097, C, A, 1, &[], LabelSet::upto(1))?)?;
     assert_eq!(rt; refusal(&outs, A, B), Some(FULL));
     assert_eq!(rt; phases(alloc, &node)?.len(), 4096);
@@ -140,15 +176,11 @@ fn an_ingress_has_at_most_4096_legs(rt: HostRuntime) -> Result<(), Fail> {
     let alloc = rt.alloc();
     let t = line(alloc, 1, 1)?;
     let mut node = node_of(alloc, &t, A)?;
-    for number in 1..4097u16 {
-        node.step(alloc, &setup(alloc, number)?)?;
-    }
+    set_up(alloc, &mut node, 4096)?;
     let outs = node.step(alloc, &setup(alloc, 4097)?)?;
     assert!(rt; outs.items().is_empty());
-    assert_eq!(rt;
-        last_call(alloc, &node)?,
-        Some((CallState::Blocked, Cause::Full))
-    );
+    let last = last_call(alloc, &node)?;
+    assert_eq!(rt; last, Some((CallState::Blocked, Cause::Full)));
     Ok(())
 }
 
@@ -157,23 +189,41 @@ fn an_ingress_has_at_most_4096_legs(rt: HostRuntime) -> Result<(), Fail> {
 fn an_ingress_numbers_65535_lsps(rt: HostRuntime) -> Result<(), Fail> {
     let alloc = rt.alloc();
     let t = line(alloc, 1, 1)?;
-    let mut ingress = node_of(alloc, &t, A)?;
-    for number in 1..=65535u16 {
-        ingress.step(alloc, &setup(alloc, 1)?)?;
-        ingress.step(alloc, &path_err(number, B, SET))?;
-        assert_eq!(rt;
-            last_call(alloc, &ingress)?,
-            Some((CallState::Blocked, Cause::Code(SET)))
-        );
-        ingress.step(alloc, &release(1))?;
-    }
-    let outs = ingress.step(alloc, &setup(alloc, 1)?)?;
+    let mut node = node_of(alloc, &t, A)?;
+    use_up(alloc, &mut node, 65535)?;
+    assert!(rt; phases(alloc, &node)?.is_empty());
+    let outs = node.step(alloc, &setup(alloc, 1)?)?;
     assert!(rt; outs.items().is_empty());
-    assert_eq!(rt;
-        last_call(alloc, &ingress)?,
-        Some((CallState::Blocked, Cause::Spent))
-    );
+    let last = last_call(alloc, &node)?;
+    assert_eq!(rt; last, Some((CallState::Blocked, Cause::Spent)));
     Ok(())
+}
+
+// The nodes that messages go to, in order.
+fn receivers(alloc: Global, outs: &Outs) -> Result<Vec<NodeId>, Fail> {
+    let mut nodes = Vec::new(alloc);
+    for out in outs.items() {
+        nodes.push(out.to)?;
+    }
+    Ok(nodes)
+}
+
+// The code of the first PathErr.
+fn code_of(outs: &Outs) -> Option<ErrCode> {
+    for out in outs.items() {
+        if let Msg::PathErr { code, .. } = &out.msg {
+            return Some(*code);
+        }
+    }
+    None
+}
+
+// The Resv of c with this label.
+fn answer(alloc: Global, node: &mut Node, number: u16, label: u8) -> Result<Outs, Fail> {
+    match Label::new(label) {
+        None => Err(Fail::new("no such label")),
+        Some(label) => Ok(node.step(alloc, &resv(number, C, 2, label))?),
+    }
 }
 
 // Two LSPs are asked for over one label of link 1: the Resv of the second finds none, and its leg closes.
@@ -182,53 +232,39 @@ fn a_resv_finds_no_label(rt: HostRuntime) -> Result<(), Fail> {
     let alloc = rt.alloc();
     let t = line(alloc, 1, 2)?;
     let mut node = node_of(alloc, &t, B)?;
-    for number in 1..3u16 {
-        node.step(
-            alloc,
-            &path(alloc, number, C, A, 1, &[(2, 2)], LabelSet::upto(1))?,
-        )?;
-    }
-    for number in 1..3u8 {
-        let label = Label::new(number).ok_or("a label")?;
-        let outs = node.step(alloc, &resv(u16::from(number), C, 2, label))?;
-        let sent: &[NodeId] = if number == 1 { &[A] } else { &[C, A] };
-        assert!(rt;
-            outs.items()
-                .iter()
-                .map(|out| out.to)
-                .eq(sent.iter().copied())
-        );
-        if number == 2 {
-            let code = outs.items().iter().find_map(|out| match &out.msg {
-                Msg::PathErr { code, .. } => Some(*code),
-                _ => None,
-            });
-            assert_eq!(rt; code, Some(LABEL));
-        }
-    }
+    ask(alloc, &mut node, 2)?;
+    let first = answer(alloc, &mut node, 1, 1)?;
+    assert_eq!(rt; receivers(alloc, &first)?.as_slice(), [A].as_slice());
+    let second = answer(alloc, &mut node, 2, 2)?;
+    assert_eq!(rt; receivers(alloc, &second)?.as_slice(), [C, A].as_slice());
+    assert_eq!(rt; code_of(&second), Some(LABEL));
+    let standing = phases(alloc, &node)?;
     assert_eq!(rt;
-        phases(alloc, &node)?.as_slice(),
+        standing.as_slice(),
         [Phase::Live, Phase::Closing].as_slice()
     );
     // the next node has let go
     let outs = node.step(alloc, &path_err(2, C, LABEL))?;
     assert!(rt; outs.items().is_empty());
-    assert_eq!(rt; phases(alloc, &node)?.as_slice(), [Phase::Live].as_slice());
+    let left = phases(alloc, &node)?;
+    assert_eq!(rt; left.as_slice(), [Phase::Live].as_slice());
     Ok(())
 }
 
-// A refusal of a later node is passed back as it came, and the leg goes.
+// A refusal of a later node is passed back as it came, and the leg goes. At the ingress its code is the call's cause.
 #[test]
 fn a_refusal_is_passed_back(rt: HostRuntime) -> Result<(), Fail> {
     let alloc = rt.alloc();
     let t = line(alloc, 1, 1)?;
     let mut node = node_of(alloc, &t, B)?;
-    node.step(
-        alloc,
-        &path(alloc, 1, C, A, 1, &[(2, 2)], LabelSet::upto(1))?,
-    )?;
+    ask(alloc, &mut node, 1)?;
     let outs = node.step(alloc, &path_err(1, C, SET))?;
     assert_eq!(rt; refusal(&outs, A, C), Some(SET));
     assert!(rt; phases(alloc, &node)?.is_empty());
+    let mut ingress = node_of(alloc, &t, A)?;
+    set_up(alloc, &mut ingress, 1)?;
+    ingress.step(alloc, &path_err(1, B, SET))?;
+    let last = last_call(alloc, &ingress)?;
+    assert_eq!(rt; last, Some((CallState::Blocked, Cause::Code(SET))));
     Ok(())
 }
