@@ -1,5 +1,4 @@
-//! Nodes over messages that are carried by hand.
+//! A node over inputs that are given to it by hand.
 
-mod closing;
-mod line;
-mod refusals;
+mod cases;
+mod inputs;
