@@ -9,11 +9,11 @@ use Rattle.ason_base.specs.declared.ids.CallNo.{CallNo}
 use Rattle.ason_base.specs.declared.ids.NodeId.{NodeId}
 use Rattle.ason_base.specs.declared.network.NodeSpec.{NodeSpec}
 use Rattle.ason_base.specs.Network.{Network, IsTopology, is_node_id}
-use Rattle.mesh.specs.declared.events.MeshEvent.{MeshEvent}
-use Rattle.mesh.specs.declared.events.MeshEvent.TheVariants as event
-use Rattle.mesh.specs.Machine.{Mesh, start}
-use Rattle.mesh.specs.Events.{IsRun, after, has_first, is_enabled, posted, step}
-use Rattle.mesh.specs.Commands.{is_again, is_valid}
+use Rattle.mesh_rules.specs.declared.events.MeshEvent.{MeshEvent}
+use Rattle.mesh_rules.specs.declared.events.MeshEvent.TheVariants as event
+use Rattle.mesh_rules.specs.Machine.{Mesh, start}
+use Rattle.mesh_rules.specs.Events.{IsRun, after, has_first, is_enabled, posted, step}
+use Rattle.mesh_rules.specs.Commands.{is_again, is_valid}
 use Rattle.table_text.specs.declared.lines.Line.{Line}
 use Rattle.table_text.specs.declared.lines.Line.TheVariants.{Post, Settle, Show}
 use Rattle.ason_main.specs.Histories.{History, events_of, made, state_after, stopped_at, with_event}

@@ -5,7 +5,7 @@ use Rattle.std.proofs.lemmas.List.Folds.{fold-map}
 use Rattle.ason_base.specs.declared.ids.NodeId.{NodeId}
 use Rattle.ason_base.specs.declared.network.NodeSpec.{NodeSpec}
 use Rattle.ason_base.specs.Network.{Network, is_node_id}
-use Rattle.mesh.specs.declared.events.MeshEvent.TheVariants.{Tick}
+use Rattle.mesh_rules.specs.declared.events.MeshEvent.TheVariants.{Tick}
 use Rattle.ason_main.specs.Histories.{History, made}
 use Rattle.ason_main.specs.Rounds.{Around, around, desk_done, mail_done, neighbours, round, turn}
 

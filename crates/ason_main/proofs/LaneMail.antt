@@ -3,7 +3,7 @@ use Rattle.std.proofs.Common.{◌≡◌, ℕ, Bool, true, false, cond, nat_eq, n
 use Rattle.std.proofs.lemmas.List.{map-append}
 use Rattle.std.proofs.lemmas.List.Elements.{filter-append}
 use Rattle.ason_base.specs.declared.tables.Out.{Out}
-use Rattle.mesh.specs.Machine.{sent_to}
+use Rattle.mesh_rules.specs.Machine.{sent_to}
 use Rattle.std.specs.Prelude.{◌&&◌, filter, find, map, position, slice_get, Option, Some, None}
 use Rattle.std.specs.List.{position_or_len}
 use Rattle.ason_base.specs.declared.ids.NodeId.{NodeId}

@@ -4,8 +4,8 @@ use Rattle.std.specs.Prelude.{is_some}
 use Rattle.ason_base.specs.declared.commands.Command.{Command}
 use Rattle.ason_base.specs.declared.ids.NodeId.{NodeId}
 use Rattle.ason_base.specs.Network.{Network}
-use Rattle.mesh.specs.declared.events.MeshEvent.{MeshEvent}
-use Rattle.mesh.specs.declared.events.MeshEvent.TheVariants as event
+use Rattle.mesh_rules.specs.declared.events.MeshEvent.{MeshEvent}
+use Rattle.mesh_rules.specs.declared.events.MeshEvent.TheVariants as event
 use Rattle.table_text.specs.declared.lines.Line.{Line}
 use Rattle.ason_main.specs.Histories.{History, made, with_event}
 use Rattle.ason_main.specs.Outputs.{LeadThrough, line_done, lines_done}

@@ -3,8 +3,8 @@ use Rattle.std.proofs.Common.{◌≡◌, ◌≤◌, ◌<◌, ◌+◌, ℕ, Bool,
 use Rattle.std.specs.Prelude.{Option, Some, None, is_some}
 use Rattle.ason_base.specs.declared.commands.Command.{Command}
 use Rattle.ason_base.specs.declared.ids.NodeId.{NodeId}
-use Rattle.mesh.specs.declared.events.MeshEvent.{MeshEvent}
-use Rattle.mesh.specs.declared.events.MeshEvent.TheVariants as event
+use Rattle.mesh_rules.specs.declared.events.MeshEvent.{MeshEvent}
+use Rattle.mesh_rules.specs.declared.events.MeshEvent.TheVariants as event
 use Rattle.table_text.specs.declared.plan.Plan.{Plan}
 use Rattle.ason_main.specs.Histories.{History, events_of, is_event_of, made, new_history, stopped_at, with_event}
 use Rattle.ason_main.specs.Outputs.{run_of, script_of}

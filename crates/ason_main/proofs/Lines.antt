@@ -6,8 +6,8 @@ use Rattle.ason_base.specs.declared.commands.Command.{Command}
 use Rattle.ason_base.specs.declared.ids.CallNo.{CallNo}
 use Rattle.ason_base.specs.declared.ids.NodeId.{NodeId}
 use Rattle.ason_base.specs.Network.{Network}
-use Rattle.mesh.specs.declared.events.MeshEvent.TheVariants as event
-use Rattle.mesh.specs.Events.{posted}
+use Rattle.mesh_rules.specs.declared.events.MeshEvent.TheVariants as event
+use Rattle.mesh_rules.specs.Events.{posted}
 use Rattle.table_text.specs.declared.lines.Line.{Line}
 use Rattle.table_text.specs.declared.lines.Line.TheVariants.{Post}
 use Rattle.table_text.specs.declared.plan.Plan.{Plan}

@@ -10,11 +10,11 @@ use Rattle.ason_base.specs.declared.commands.Command.TheVariants.{Setup, Release
 use Rattle.ason_base.specs.declared.commands.DeskItem.{DeskItem}
 use Rattle.ason_base.specs.declared.commands.DeskItem.TheVariants.{Order}
 use Rattle.ason_base.specs.Network.{Network, find_node, is_node_id}
-use Rattle.mesh.specs.Sites.{site_of}
-use Rattle.mesh.specs.Commands.{is_valid}
-use Rattle.mesh.specs.Events.{posted}
-use Rattle.mesh.specs.Machine.{new_node, start, with_item, with_posted}
-use Rattle.mesh.proofs.SiteLemmas.{and_first}
+use Rattle.mesh_rules.specs.Sites.{site_of}
+use Rattle.mesh_rules.specs.Commands.{is_valid}
+use Rattle.mesh_rules.specs.Events.{posted}
+use Rattle.mesh_rules.specs.Machine.{new_node, start, with_item, with_posted}
+use Rattle.mesh_rules.proofs.SiteLemmas.{and_first}
 use Rattle.ason_main.specs.declared.runner.lanes.Lane.{Lane}
 use Rattle.ason_main.specs.declared.runner.seats.Seat.{Seat}
 use Rattle.ason_main.specs.Histories.{new_history}

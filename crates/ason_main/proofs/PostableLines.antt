@@ -9,7 +9,7 @@ use Rattle.ason_base.specs.Network.{Network, is_node_id}
 use Rattle.ason_base.specs.declared.ids.CallNo.{CallNo}
 use Rattle.ason_base.specs.declared.ids.NodeId.{NodeId}
 use Rattle.ason_base.specs.declared.network.NodeSpec.{NodeSpec}
-use Rattle.mesh.specs.Commands.{is_valid, makes_route}
+use Rattle.mesh_rules.specs.Commands.{is_valid, makes_route}
 use Rattle.table_text.specs.Names.{has_name, is_name, place_of, same_text}
 use Rattle.table_text.specs.declared.lines.Line.TheVariants.{Post, Settle, Show}
 use Rattle.table_text.specs.declared.plan.Plan.{Plan}

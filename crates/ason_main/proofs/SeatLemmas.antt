@@ -1,7 +1,7 @@
 -- The seats after one of them has changed.
 use Rattle.std.proofs.Common.{◌≡◌, ℕ, Bool, true, false, cond, nat_eq, nat_lt, List, [], ◌++◌, length, set, refl, sym, ap, ◌∙◌, subst, arith, append-nil}
 use Rattle.ason_base.specs.declared.messages.Msg.{Msg}
-use Rattle.mesh.specs.Machine.{sent_to}
+use Rattle.mesh_rules.specs.Machine.{sent_to}
 use Rattle.node_core.specs.declared.inputs.Input.{Input}
 use Rattle.std.specs.Prelude.{find, position, slice_get, Some, None}
 use Rattle.std.specs.Option.{option_map}

@@ -2,10 +2,10 @@
 use Rattle.std.specs.Prelude.{ℕ, ◌==◌, nat_lt, Bool, false, List, [], ◌∷◌, ◌++◌, Option, Some, None, is_some, count_by, if◌then◌else◌}
 use Rattle.ason_base.specs.declared.ids.NodeId.{NodeId}
 use Rattle.ason_base.specs.Network.{Network}
-use Rattle.mesh.specs.declared.events.MeshEvent.{MeshEvent}
-use Rattle.mesh.specs.declared.events.MeshEvent.TheVariants.{Take, Desk, Tick, Learn, Post}
-use Rattle.mesh.specs.Machine.{Mesh, start}
-use Rattle.mesh.specs.Events.{after}
+use Rattle.mesh_rules.specs.declared.events.MeshEvent.{MeshEvent}
+use Rattle.mesh_rules.specs.declared.events.MeshEvent.TheVariants.{Take, Desk, Tick, Learn, Post}
+use Rattle.mesh_rules.specs.Machine.{Mesh, start}
+use Rattle.mesh_rules.specs.Events.{after}
 
 pub record History : Type 0 where
   pub events : List MeshEvent

@@ -4,8 +4,8 @@ use Rattle.ason_base.specs.declared.ids.NodeId.{NodeId}
 use Rattle.ason_base.specs.Network.{Network, is_node_id}
 use Rattle.node_core.specs.declared.inputs.Input.{Input}
 use Rattle.node_core.specs.Nodes.{answer_to, stepped}
-use Rattle.mesh.specs.Changes.{Answer, nothing}
-use Rattle.mesh.specs.Sites.{Place, site_of}
+use Rattle.mesh_rules.specs.Changes.{Answer, nothing}
+use Rattle.mesh_rules.specs.Sites.{Place, site_of}
 use Rattle.ason_base.specs.declared.ids.CallNo.{CallNo}
 use Rattle.ason_base.specs.declared.commands.Command.{Command}
 use Rattle.ason_base.specs.declared.commands.Command.TheVariants.{Setup, Release, Protect, Retry, Revert, Fail, Repair}
@@ -14,8 +14,8 @@ use Rattle.ason_base.specs.declared.network.NodeSpec.{NodeSpec}
 use Rattle.ason_base.specs.declared.messages.Msg.{Msg}
 use Rattle.ason_main.specs.declared.runner.lanes.Lane.{Lane}
 use Rattle.ason_main.specs.declared.runner.seats.Seat.{Seat}
-use Rattle.mesh.specs.CallRules.{NodeState}
-use Rattle.mesh.specs.Machine.{Mesh, new_node}
+use Rattle.mesh_rules.specs.CallRules.{NodeState}
+use Rattle.mesh_rules.specs.Machine.{Mesh, new_node}
 use Rattle.ason_main.specs.Histories.{History, events_of, state_after}
 
 -- one seat a node, one lane an ordered pair of nodes, and the call numbers of all setups so far

@@ -7,11 +7,11 @@ use Rattle.ason_base.specs.declared.commands.Command.{Command}
 use Rattle.ason_base.specs.declared.ids.NodeId.{NodeId}
 use Rattle.ason_base.specs.Lsps.{same_lsp, lsp_before}
 use Rattle.ason_base.specs.Network.{Network}
-use Rattle.mesh.specs.declared.events.MeshEvent.{MeshEvent}
-use Rattle.mesh.specs.declared.events.MeshEvent.TheVariants as event
-use Rattle.mesh.specs.Machine.{Mesh, start}
-use Rattle.mesh.specs.Events.{IsRun}
-use Rattle.mesh.specs.Rows.{all_call_rows, all_leg_rows}
+use Rattle.mesh_rules.specs.declared.events.MeshEvent.{MeshEvent}
+use Rattle.mesh_rules.specs.declared.events.MeshEvent.TheVariants as event
+use Rattle.mesh_rules.specs.Machine.{Mesh, start}
+use Rattle.mesh_rules.specs.Events.{IsRun}
+use Rattle.mesh_rules.specs.Rows.{all_call_rows, all_leg_rows}
 use Rattle.table_text.specs.declared.lines.Line.{Line}
 use Rattle.table_text.specs.declared.lines.Line.TheVariants.{Post, Settle, Show}
 use Rattle.table_text.specs.declared.plan.Plan.{Plan}

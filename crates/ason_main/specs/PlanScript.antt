@@ -5,7 +5,7 @@ use Rattle.ason_base.specs.declared.ids.NodeId.{NodeId}
 use Rattle.ason_base.specs.declared.steps.Step.{Step}
 use Rattle.ason_base.specs.declared.commands.Command.{Command}
 use Rattle.ason_base.specs.declared.commands.Command.TheVariants.{Setup, Release}
-use Rattle.mesh.specs.Commands.{across, makes_route}
+use Rattle.mesh_rules.specs.Commands.{across, makes_route}
 use Rattle.ason_main.specs.declared.plan.faults.PlanEntry.TheVariants.{Script}
 use Rattle.ason_main.specs.declared.plan.faults.PlanFault.{PlanFault}
 use Rattle.ason_main.specs.declared.plan.faults.PlanKind.{PlanKind}

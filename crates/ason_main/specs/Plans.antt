@@ -7,7 +7,7 @@ use Rattle.ason_base.specs.Network.{Network}
 use Rattle.ason_base.specs.declared.network.LinkSpec.{LinkSpec}
 use Rattle.ason_base.specs.declared.network.NodeSpec.{NodeSpec}
 use Rattle.ason_base.specs.declared.ids.CallNo.{CallNo}
-use Rattle.mesh.specs.Commands.{is_valid, is_again}
+use Rattle.mesh_rules.specs.Commands.{is_valid, is_again}
 use Rattle.ason_main.specs.Kept.{calls_after}
 use Rattle.ason_main.specs.declared.plan.faults.PlanEntry.TheVariants.{Toml, Top}
 use Rattle.ason_main.specs.declared.plan.faults.PlanError.{PlanError}

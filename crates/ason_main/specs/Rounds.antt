@@ -5,10 +5,10 @@ use Rattle.ason_base.specs.declared.ids.NodeId.{NodeId}
 use Rattle.ason_base.specs.declared.network.LinkSpec.{LinkSpec}
 use Rattle.ason_base.specs.declared.network.NodeSpec.{NodeSpec}
 use Rattle.ason_base.specs.Network.{Network}
-use Rattle.mesh.specs.declared.events.MeshEvent.{MeshEvent}
-use Rattle.mesh.specs.declared.events.MeshEvent.TheVariants.{Take, Desk, Tick}
-use Rattle.mesh.specs.Machine.{Mesh}
-use Rattle.mesh.specs.Events.{has_first}
+use Rattle.mesh_rules.specs.declared.events.MeshEvent.{MeshEvent}
+use Rattle.mesh_rules.specs.declared.events.MeshEvent.TheVariants.{Take, Desk, Tick}
+use Rattle.mesh_rules.specs.Machine.{Mesh}
+use Rattle.mesh_rules.specs.Events.{has_first}
 use Rattle.ason_main.specs.Histories.{History, made, state_after}
 
 -- Neighbours

@@ -11,16 +11,16 @@ use Rattle.ason_base.specs.declared.commands.DeskItem.{DeskItem}
 use Rattle.ason_base.specs.declared.messages.Msg.{Msg}
 use Rattle.ason_base.specs.declared.tables.Out.{Out}
 use Rattle.ason_base.specs.Network.{Network}
-use Rattle.mesh.specs.declared.events.MeshEvent.TheVariants.{Take, Desk, Tick}
+use Rattle.mesh_rules.specs.declared.events.MeshEvent.TheVariants.{Take, Desk, Tick}
 use Rattle.mesh.specs.declared.seats.Seat.{Seat}
 use Rattle.mesh.specs.declared.queues.Waiting.{Waiting}
 use Rattle.mesh.specs.declared.queues.Sent.{Sent}
-use Rattle.mesh.specs.Changes.{Answer}
-use Rattle.mesh.specs.Sites.{site_of}
-use Rattle.mesh.specs.CallRules.{on_item, on_tick}
-use Rattle.mesh.specs.MessageRules.{on_message}
-use Rattle.mesh.specs.Machine.{changed, commit, sent_to, without_first, without_item, with_item}
-use Rattle.mesh.specs.Events.{on_first, on_first_item, step}
+use Rattle.mesh_rules.specs.Changes.{Answer}
+use Rattle.mesh_rules.specs.Sites.{site_of}
+use Rattle.mesh_rules.specs.CallRules.{on_item, on_tick}
+use Rattle.mesh_rules.specs.MessageRules.{on_message}
+use Rattle.mesh_rules.specs.Machine.{changed, commit, sent_to, without_first, without_item, with_item}
+use Rattle.mesh_rules.specs.Events.{on_first, on_first_item, step}
 use Rattle.mesh.specs.Kept.{Kept, desk_of, is_between, is_waiting, mail_of, mesh_of, seated, sent_by, tables_at}
 use Rattle.mesh.proofs.Firsts.{filter-other, first_of}
 use Rattle.mesh.proofs.SeatPlaces.{tables_at-seated}

@@ -6,13 +6,13 @@ use Rattle.ason_base.specs.declared.commands.DeskItem.{DeskItem}
 use Rattle.ason_base.specs.declared.messages.Msg.{Msg}
 use Rattle.ason_base.specs.declared.tables.Out.{Out}
 use Rattle.ason_base.specs.Network.{Network}
-use Rattle.mesh.specs.declared.events.StepFault.{StepFault}
-use Rattle.mesh.specs.declared.events.StepFault.TheVariants.{NotEnabled, OutOfMemory}
+use Rattle.mesh_rules.specs.declared.events.StepFault.{StepFault}
+use Rattle.mesh_rules.specs.declared.events.StepFault.TheVariants.{NotEnabled, OutOfMemory}
 use Rattle.mesh.specs.declared.seats.Seat.{Seat}
 use Rattle.mesh.specs.declared.queues.Waiting.{Waiting}
 use Rattle.mesh.specs.declared.queues.Sent.{Sent}
-use Rattle.mesh.specs.CallRules.{NodeState}
-use Rattle.mesh.specs.Machine.{Mesh, new_node}
+use Rattle.mesh_rules.specs.CallRules.{NodeState}
+use Rattle.mesh_rules.specs.Machine.{Mesh, new_node}
 
 -- the network, the tables of the nodes that have any, the items of all desks and all messages under way, each in order, and
 -- the call numbers of the setups that were posted

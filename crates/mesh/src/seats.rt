@@ -2,12 +2,12 @@
 
 ghost use Rattle.std.specs.Prelude.{◌≡◌, ◌∷◌, ◌++◌, [], IfOk, OnErr, OnOk, find, position};
 ghost use Rattle.std.specs.Option.{option_copied};
-ghost use Rattle.mesh.specs.Machine.{changed, new_node};
+ghost use Rattle.mesh_rules.specs.Machine.{changed, new_node};
 ghost use Rattle.mesh.specs.Kept.{is_seat, seated, tables_at};
 
-use crate::changes::Change;
-use crate::tables::Tables;
 use ason_base::{NodeId, OutOfMemory, Outs};
+use node_core::changes::Change;
+use node_core::tables::Tables;
 use std::alloc::Global;
 
 /// The tables of one node.

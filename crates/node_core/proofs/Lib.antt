@@ -1,0 +1,2 @@
+pub mod FreeLabels
+pub mod Places

@@ -3,20 +3,22 @@
 ghost use Rattle.std.specs.Prelude.{◌≡◌, IfOk, IsSome, OnErr, OnOk, map};
 ghost use Rattle.std.specs.Option.{option_copied};
 ghost use Rattle.ason_base.specs.Network.{find_node};
-ghost use Rattle.mesh.specs.Machine.{new_node};
-ghost use Rattle.mesh.specs.Rows.{call_row, call_rows, if_stands, leg_row, leg_rows, link_of, standing};
-ghost use Rattle.mesh.specs.Sites.{site_of};
+ghost use Rattle.mesh_rules.specs.Machine.{new_node};
+ghost use Rattle.mesh_rules.specs.Rows.{call_row, call_rows, if_stands, leg_row, leg_rows, link_of, standing};
+ghost use Rattle.mesh_rules.specs.Sites.{site_of};
 ghost use Rattle.node_core.specs.Nodes.{answer_to, stepped};
 
+use crate::call_rules::{on_item, on_tick};
+use crate::changes::Change;
 use crate::inputs::Input;
+use crate::legs::find_leg;
+use crate::message_rules::on_message;
+use crate::sites::Site;
+use crate::tables::Tables;
 use ason_base::{
     CallRec, CallRow, CallRows, Fibre, Leg, LegRow, LegRows, LinkId, Lsp, NodeId, OutOfMemory,
     Outs, TableRows, Topology,
 };
-use mesh::call_rules::{on_item, on_tick};
-use mesh::legs::find_leg;
-use mesh::message_rules::on_message;
-use mesh::{Change, Site, Tables};
 use std::alloc::Global;
 use std::marker::Model;
 

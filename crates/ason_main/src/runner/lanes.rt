@@ -2,9 +2,9 @@
 
 ghost use Rattle.std.specs.Prelude.{◌≡◌, ◌+◌, ◌<◌, ◌==◌, ◌&&◌, ◌++◌, ◌∷◌, ℕ, [], MatchOption, OnOk, Some, drop, find, length, not, position, slice_get, slice_set, if◌then◌else◌};
 ghost use Rattle.std.specs.Option.{option_copied};
-ghost use Rattle.mesh.specs.Machine.{sent_to};
+ghost use Rattle.mesh_rules.specs.Machine.{sent_to};
 ghost use Rattle.ason_main.specs.declared.runner.lanes.Lane.{Lane};
-ghost use Rattle.mesh.specs.Events.{has_first};
+ghost use Rattle.mesh_rules.specs.Events.{has_first};
 ghost use Rattle.ason_main.specs.Kept.{is_lane, lane_mail, mail_at};
 
 use ason_base::{Msg, NodeId, Out, OutOfMemory, Outs};

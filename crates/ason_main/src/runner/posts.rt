@@ -3,8 +3,8 @@
 ghost use Rattle.std.specs.Prelude.{◌≡◌, ℕ, List, IfOk, IsTrue, OnOk, map};
 ghost use Rattle.ason_base.specs.declared.ids.CallNo.{CallNo};
 ghost use Rattle.ason_base.specs.Network.{is_node_id};
-ghost use Rattle.mesh.specs.Commands.{is_valid};
-ghost use Rattle.mesh.specs.Events.{posted};
+ghost use Rattle.mesh_rules.specs.Commands.{is_valid};
+ghost use Rattle.mesh_rules.specs.Events.{posted};
 ghost use Rattle.ason_main.specs.declared.runner.lanes.Lane.{Lane};
 ghost use Rattle.ason_main.specs.Kept.{AreSeated, KeepsSeats, calls_after, ingress, mesh_with, new_seat, seat_at, seat_made};
 

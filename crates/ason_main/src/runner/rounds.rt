@@ -2,7 +2,7 @@
 
 ghost use Rattle.std.specs.Prelude.{◌≡◌, List, IfErr, OnOk, Some, fold, map};
 ghost use Rattle.ason_base.specs.declared.ids.NodeId.{NodeId};
-ghost use Rattle.mesh.specs.declared.events.MeshEvent.{MeshEvent};
+ghost use Rattle.mesh_rules.specs.declared.events.MeshEvent.{MeshEvent};
 ghost use Rattle.ason_main.specs.declared.runner.stops.Stop.{Stop};
 ghost use Rattle.ason_main.specs.Histories.{History, made};
 ghost use Rattle.ason_main.specs.Kept.{AreSeated, HasSeat, KeepsSeats, StandsFor};

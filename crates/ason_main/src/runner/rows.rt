@@ -1,7 +1,7 @@
 //! The rows of all nodes.
 
 ghost use Rattle.std.specs.Prelude.{◌≡◌, ◌++◌, [], IfOk, OnOk};
-ghost use Rattle.mesh.specs.Rows.{all_call_rows, all_leg_rows, call_rows, leg_rows};
+ghost use Rattle.mesh_rules.specs.Rows.{all_call_rows, all_leg_rows, call_rows, leg_rows};
 ghost use Rattle.ason_main.specs.Kept.{AreSeated, HasSeat, mesh_with, seat_at, seat_state};
 ghost use Rattle.ason_main.specs.Outputs.{IsTable};
 

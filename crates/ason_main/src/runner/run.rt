@@ -3,7 +3,7 @@
 ghost use Rattle.std.specs.Prelude.{◌≡◌, ◌++◌, List, [], IfErr, IfOk, IsTrue, OnOk, map};
 ghost use Rattle.ason_base.specs.declared.ids.NodeId.{NodeId};
 ghost use Rattle.ason_base.specs.Network.{IsTopology};
-ghost use Rattle.mesh.specs.Commands.{is_valid};
+ghost use Rattle.mesh_rules.specs.Commands.{is_valid};
 ghost use Rattle.table_text.specs.TableText.{stopped_text};
 ghost use Rattle.table_text.specs.declared.lines.Line.TheVariants as said;
 ghost use Rattle.ason_main.specs.declared.runner.stops.Stop.{Stop};

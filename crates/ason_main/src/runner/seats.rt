@@ -2,8 +2,8 @@
 
 ghost use Rattle.std.specs.Prelude.{◌≡◌, ◌<◌, ◌==◌, ◌++◌, ◌∷◌, ℕ, List, [], IfErr, IfOk, MatchOption, OnOk, Some, drop, false, length, nat_lt, not, position, slice_get, slice_set, true, if◌then◌else◌};
 ghost use Rattle.std.specs.Option.{option_copied, option_map};
-ghost use Rattle.mesh.specs.Events.{has_first};
-ghost use Rattle.mesh.specs.Machine.{sent_to};
+ghost use Rattle.mesh_rules.specs.Events.{has_first};
+ghost use Rattle.mesh_rules.specs.Machine.{sent_to};
 ghost use Rattle.node_core.specs.Nodes.{answer_to};
 ghost use Rattle.ason_main.specs.declared.runner.seats.Seat.{Seat};
 ghost use Rattle.ason_main.specs.declared.runner.stops.Stop.{Stop};

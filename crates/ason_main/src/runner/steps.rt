@@ -2,8 +2,8 @@
 
 ghost use Rattle.std.specs.Prelude.{◌≡◌, ℕ, List, OnOk};
 ghost use Rattle.ason_base.specs.declared.ids.CallNo.{CallNo};
-ghost use Rattle.mesh.specs.declared.events.MeshEvent.{MeshEvent};
-ghost use Rattle.mesh.specs.Events.{step};
+ghost use Rattle.mesh_rules.specs.declared.events.MeshEvent.{MeshEvent};
+ghost use Rattle.mesh_rules.specs.Events.{step};
 ghost use Rattle.ason_main.specs.Kept.{HasSeat, KeepsSeats, mesh_with, seat_at, seat_made};
 
 use crate::runner::lanes::{Lane, take_first};

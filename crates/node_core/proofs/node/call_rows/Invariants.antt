@@ -1,6 +1,6 @@
 use Rattle.std.proofs.Common.{◌≡◌, take}
 use Rattle.std.specs.Prelude.{map}
-use Rattle.mesh.specs.Rows.{call_row}
+use Rattle.mesh_rules.specs.Rows.{call_row}
 use Rattle.node_core.proofs.node.call_rows.Given as goal
 
 abbrev pub invariant-loop-call : goal.invariant-loop-call

@@ -1,6 +1,6 @@
 use Rattle.std.proofs.Common.{◌≡◌, take}
 use Rattle.std.specs.Prelude.{map}
-use Rattle.mesh.specs.Rows.{leg_row}
+use Rattle.mesh_rules.specs.Rows.{leg_row}
 use Rattle.node_core.proofs.node.leg_rows.Given as goal
 
 abbrev pub invariant-loop-leg : goal.invariant-loop-leg

@@ -1,5 +1,5 @@
 use Rattle.std.proofs.Common.{◌≡◌, ℕ, cond, nat_eq, ◌++◌}
-use Rattle.mesh.specs.Machine.{sent_to}
+use Rattle.mesh_rules.specs.Machine.{sent_to}
 use Rattle.ason_main.specs.Kept.{mail_at}
 use Rattle.ason_main.proofs.runner.lanes.send_all.Given as goal
 

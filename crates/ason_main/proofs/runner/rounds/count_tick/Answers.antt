@@ -1,5 +1,5 @@
 use Rattle.std.proofs.Common.{refl}
-use Rattle.mesh.specs.declared.events.MeshEvent.TheVariants as event
+use Rattle.mesh_rules.specs.declared.events.MeshEvent.TheVariants as event
 use Rattle.ason_main.proofs.Standing.{stands_on}
 use Rattle.ason_main.proofs.runner.rounds.count_tick.Goals as goal
 

@@ -1,5 +1,5 @@
 use Rattle.std.proofs.Common.{sym, ◌∙◌, ap, refl, length, arith}
-use Rattle.mesh.specs.declared.events.MeshEvent.TheVariants as event
+use Rattle.mesh_rules.specs.declared.events.MeshEvent.TheVariants as event
 use Rattle.ason_main.specs.Kept.{StandsFor, seat_at, seat_desk}
 use Rattle.ason_main.specs.Rounds.{repeated}
 use Rattle.ason_main.proofs.Results.{passed_on}

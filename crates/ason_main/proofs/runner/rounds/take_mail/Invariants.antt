@@ -1,5 +1,5 @@
 use Rattle.std.proofs.Common.{◌≤◌}
-use Rattle.mesh.specs.declared.events.MeshEvent.TheVariants as event
+use Rattle.mesh_rules.specs.declared.events.MeshEvent.TheVariants as event
 use Rattle.ason_main.specs.Histories.{History}
 use Rattle.ason_main.specs.Kept.{KeepsSeats, StandsFor}
 use Rattle.ason_main.specs.Rounds.{repeated}

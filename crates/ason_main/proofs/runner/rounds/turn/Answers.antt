@@ -1,5 +1,5 @@
 use Rattle.std.proofs.Common.{◌≡◌, sym, ◌∙◌, subst, Some}
-use Rattle.mesh.specs.declared.events.MeshEvent.TheVariants as event
+use Rattle.mesh_rules.specs.declared.events.MeshEvent.TheVariants as event
 use Rattle.ason_main.specs.Histories.{History, made}
 use Rattle.ason_main.specs.Kept.{StandsFor}
 use Rattle.ason_main.specs.Rounds.{desk_done, turn}

@@ -1,6 +1,6 @@
 use Rattle.std.proofs.Common.{◌≡◌, take}
 use Rattle.std.specs.Prelude.{flat_map}
-use Rattle.mesh.specs.Rows.{call_rows, leg_rows}
+use Rattle.mesh_rules.specs.Rows.{call_rows, leg_rows}
 use Rattle.ason_main.specs.Kept.{seat_at, seat_state}
 use Rattle.ason_main.proofs.runner.rows.gather.Given as goal
 

@@ -1,6 +1,6 @@
 use Rattle.std.proofs.Common.{◌≡◌, ◌++◌, cond, nat_eq, sym, ◌∙◌, ap, refl}
 use Rattle.std.specs.Prelude.{position, Some}
-use Rattle.mesh.specs.Machine.{sent_to}
+use Rattle.mesh_rules.specs.Machine.{sent_to}
 use Rattle.ason_main.specs.Kept.{answered, is_seat_of, mail_at, seat_answer, seat_at}
 use Rattle.ason_main.proofs.SeatLemmas.{nothing_sent, seat_changed, seat_found, seat_nowhere}
 use Rattle.ason_main.proofs.Results.{on_ok, on_ok_always}

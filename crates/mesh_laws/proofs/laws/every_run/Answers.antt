@@ -1,0 +1,16 @@
+use Rattle.mesh_laws.proofs.hops.Laws.{every_hop}
+use Rattle.mesh_laws.proofs.hops.Safe.{every_run_safe}
+use Rattle.mesh_laws.proofs.nodes.Laws.{every_call, every_label}
+use Rattle.mesh_laws.proofs.laws.every_run.Goals as goal
+
+pub returns-clause-labels : goal.returns-clause-labels
+returns-clause-labels c = every_label
+
+pub returns-clause-calls : goal.returns-clause-calls
+returns-clause-calls c = every_call
+
+pub returns-clause-hops : goal.returns-clause-hops
+returns-clause-hops c = every_hop
+
+pub returns-clause-safe : goal.returns-clause-safe
+returns-clause-safe c = every_run_safe

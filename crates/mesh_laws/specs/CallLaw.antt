@@ -1,0 +1,70 @@
+-- In every state of every run the state of a call fits its legs at the ingress, and each leg there is of one call.
+use Rattle.std.specs.Prelude.{◌≡◌, ◌<◌, ◌==◌, ◌&&◌, ℕ, Bool, true, false, not, List, [], Option, Some, None, IsTrue, All, IfSome}
+use Rattle.std.specs.List.{AllPairs, count_by}
+use Rattle.ason_base.specs.declared.ids.NodeId.{NodeId}
+use Rattle.ason_base.specs.declared.ids.Lsp.{Lsp}
+use Rattle.ason_base.specs.declared.calls.CallState.{CallState}
+use Rattle.ason_base.specs.declared.calls.CallState.TheVariants.{Asking, Bare, Blocked}
+use Rattle.ason_base.specs.declared.calls.Phase.{Phase}
+use Rattle.ason_base.specs.declared.calls.Phase.TheVariants.{Asked, Live}
+use Rattle.ason_base.specs.declared.calls.Role.{Role}
+use Rattle.ason_base.specs.declared.calls.Role.TheVariants.{Work, Back}
+use Rattle.ason_base.specs.declared.tables.CallRec.{CallRec}
+use Rattle.ason_base.specs.declared.tables.Leg.{Leg}
+use Rattle.ason_base.specs.Lsps.{is_lsp}
+use Rattle.ason_base.specs.Network.{Network}
+use Rattle.mesh_rules.specs.declared.events.MeshEvent.{MeshEvent}
+use Rattle.mesh_rules.specs.Legs.{find_leg, is_closing}
+use Rattle.mesh_rules.specs.CallRules.{NodeState, leg_of}
+use Rattle.mesh_rules.specs.Machine.{start}
+use Rattle.mesh_rules.specs.Events.{IsRun, after}
+
+-- The state of a call
+
+-- the phase of a leg, where it stands
+abbrev pub phase_of : Option Leg → Option Phase
+phase_of None = None
+phase_of (Some g) = Some g.phase
+
+-- The state of a call with the phases of its working and its backup leg, none where no leg stands. These are all that the
+-- rules give: no call has a backup leg, and none is in another state.
+abbrev pub fits : CallState → Option Phase → Option Phase → Bool
+fits Asking (Some Asked) None = true
+fits Bare (Some Live) None = true
+fits Blocked None None = true
+fits state work back = false
+
+-- an LSP that a call names: it begins at this node, its number was given out, and its leg stands here
+pub record IsNamed (n : ℕ) (next : ℕ) (legs : List Leg) (role : Role) (egress : NodeId) (l : Lsp) : Type 0 where
+  pub ingress : l.ingress.0 ≡ n
+  pub number : l.lsp < next
+  pub leg : (g : Leg) × (find_leg l legs ≡ Some g) × (g.role ≡ role) × (g.egress ≡ egress)
+
+-- the state of a call fits its legs at its ingress n, and no fibre of them is reported down
+pub record FitsLegs (n : ℕ) (next : ℕ) (legs : List Leg) (c : CallRec) : Type 0 where
+  pub state : IsTrue (fits c.state (phase_of (leg_of c.work legs)) (phase_of (leg_of c.back legs)))
+  pub work : IfSome c.work (IsNamed n next legs Work c.egress)
+  pub back : IfSome c.back (IsNamed n next legs Back c.egress)
+  pub work_reports : c.work_reports ≡ []
+  pub back_reports : c.back_reports ≡ []
+
+-- The legs of a call
+
+-- the LSP begins at this node, and its leg isn't torn
+abbrev pub wants_call : ℕ → Leg → Bool
+wants_call n g = g.lsp.ingress.0 == n && not (is_closing g.phase)
+
+-- the leg's LSP is the working LSP of just one call
+abbrev pub IsOfOneCall : List CallRec → Leg → Type 0
+IsOfOneCall calls g = count_by (λ c. is_lsp c.work g.lsp) calls ≡ 1
+
+-- At one node: the calls stand in order of number, no number twice; each fits its legs; and each leg that begins here and isn't
+-- torn is of just one call.
+pub record CallsFit (n : ℕ) (s : NodeState) : Type 0 where
+  pub rising : AllPairs (λ c d. c.call.0 < d.call.0) s.calls
+  pub calls : All (FitsLegs n s.lsp s.legs) s.calls
+  pub legs : All (λ g. IsTrue (wants_call n g) → IsOfOneCall s.calls g) s.legs
+
+-- over every network and every run, at each node
+abbrev pub EveryCallFitsItsLegs : Type 0
+EveryCallFitsItsLegs = (t : Network) (events : List MeshEvent) → IsRun t start events → (n : ℕ) → CallsFit n ((after t start events).nodes n)

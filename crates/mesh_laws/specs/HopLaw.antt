@@ -1,0 +1,108 @@
+-- What holds of each LSP, and of each hop of its route, in every state of every run.
+use Rattle.std.specs.Prelude.{◌≡◌, ◌≢◌, ◌<◌, ℕ, ◌⊎◌, List, [], ◌∷◌, map, filter, length, slice_get, Option, Some, None, IsTrue}
+use Rattle.std.specs.List.{Contains}
+use Rattle.ason_base.specs.declared.ids.NodeId.{NodeId}
+use Rattle.ason_base.specs.declared.ids.Lsp.{Lsp}
+use Rattle.ason_base.specs.declared.steps.Step.{Step}
+use Rattle.ason_base.specs.declared.network.LinkSpec.{LinkSpec}
+use Rattle.ason_base.specs.declared.calls.Phase.TheVariants.{Live}
+use Rattle.ason_base.specs.declared.calls.Role.TheVariants.{Work}
+use Rattle.ason_base.specs.declared.messages.Msg.{Msg}
+use Rattle.ason_base.specs.declared.messages.Msg.TheVariants.{Path, Resv, PathTear, PathErr, Notify}
+use Rattle.ason_base.specs.declared.tables.Leg.{Leg}
+use Rattle.ason_base.specs.Labels.{has}
+use Rattle.ason_base.specs.Lsps.{same_lsp}
+use Rattle.ason_base.specs.Network.{Network, find_link}
+use Rattle.mesh_rules.specs.declared.events.MeshEvent.{MeshEvent}
+use Rattle.mesh_rules.specs.Sites.{other_end, fibre_in, fibre_out}
+use Rattle.mesh_rules.specs.Legs.{find_leg, is_beyond_asked}
+use Rattle.mesh_rules.specs.Commands.{makes_route}
+use Rattle.mesh_rules.specs.Machine.{Mesh, start}
+use Rattle.mesh_rules.specs.Events.{IsRun, after, route_of}
+use Rattle.mesh_laws.specs.HopShapes.{Shape, leg_kind, msg_kind}
+
+-- The legs and messages of one LSP
+
+abbrev pub lsp_of : Msg → Lsp
+lsp_of (Path l e k route set up r) = l
+lsp_of (Resv l e k x) = l
+lsp_of (PathTear l e k) = l
+lsp_of (PathErr l e at gone code) = l
+lsp_of (Notify l e at k code) = l
+
+abbrev pub messages_of : Lsp → List Msg → List Msg
+messages_of l ms = filter (λ m. same_lsp (lsp_of m) l) ms
+
+abbrev pub leg_at : Mesh → Lsp → NodeId → Option Leg
+leg_at s l n = find_leg l (s.nodes n.0).legs
+
+-- from the first node to the second, the oldest first
+abbrev pub mail_between : Mesh → Lsp → NodeId → NodeId → List Msg
+mail_between s l u d = messages_of l (s.mail u.0 d.0)
+
+-- the label of each Resv among these messages
+abbrev pub EachLabel : (ℕ → Type 0) → List Msg → Type 0
+EachLabel Q [] = Unit {0}
+EachLabel Q (Path l e k route set up r ∷ ms) = EachLabel Q ms
+EachLabel Q (Resv l e k x ∷ ms) = Q x × EachLabel Q ms
+EachLabel Q (PathTear l e k ∷ ms) = EachLabel Q ms
+EachLabel Q (PathErr l e at gone code ∷ ms) = EachLabel Q ms
+EachLabel Q (Notify l e at k code ∷ ms) = EachLabel Q ms
+
+-- One hop of an LSP, over a link from u to d. Up are the messages from d to u.
+pub record HopFits (s : Mesh) (l : Lsp) (link : LinkSpec) (u d : NodeId) : Type 0 where
+  pub shape : Shape Work (leg_kind (leg_at s l u)) (leg_kind (leg_at s l d)) (map msg_kind (mail_between s l u d)) (map msg_kind (mail_between s l d u))
+  -- no message of an LSP comes down to its ingress
+  pub onward : d.0 ≢ l.ingress.0
+  -- the fibre out at u is the fibre in at d
+  pub fibre : fibre_out link u ≡ fibre_in link d
+  pub out_fibre : (g : Leg) → leg_at s l u ≡ Some g → g.out_fibre ≡ Some (fibre_out link u)
+  pub in_fibre : (h : Leg) → leg_at s l d ≡ Some h → h.in_fibre ≡ Some (fibre_in link d)
+  -- where u has a label out and d a label in, they are one
+  pub labels : (g h : Leg) (x y : ℕ) → leg_at s l u ≡ Some g → leg_at s l d ≡ Some h → g.out_label ≡ Some x → h.in_label ≡ Some y → x ≡ y
+  -- while d is beyond Asked, a Resv on its way up has d's label in, and u sent that label on
+  pub answers : (g h : Leg) → leg_at s l u ≡ Some g → leg_at s l d ≡ Some h → IsTrue (is_beyond_asked h.phase) → EachLabel (λ x. (h.in_label ≡ Some x) × IsTrue (has g.sent x)) (mail_between s l d u)
+
+-- The hop of one step of a route: its link is there, and the LSP's legs and messages at its ends fit.
+pub record StepFits (t : Network) (s : Mesh) (l : Lsp) (hop : Step) : Type 0 where
+  pub link : LinkSpec
+  pub found : find_link t hop.link ≡ Some link
+  pub fits : HopFits s l link hop.node (other_end link hop.node)
+
+-- the two nodes are the ends of a step of the route, in one order or the other
+pub record IsHop (t : Network) (route : List Step) (a b : NodeId) : Type 0 where
+  pub place : ℕ
+  pub hop : Step
+  pub link : LinkSpec
+  pub there : slice_get route place ≡ Some hop
+  pub found : find_link t hop.link ≡ Some link
+  pub ends : ((a ≡ hop.node) × (b ≡ other_end link hop.node)) ⊎ ((a ≡ other_end link hop.node) × (b ≡ hop.node))
+
+-- An LSP with this route, which ends at e
+pub record RouteFits (t : Network) (s : Mesh) (l : Lsp) (route : List Step) (e : NodeId) : Type 0 where
+  pub long : 0 < length route
+  pub leads : IsTrue (makes_route t l.ingress e route)
+  pub hops : (i : ℕ) (hop : Step) → slice_get route i ≡ Some hop → StepFits t s l hop
+  -- its leg at the egress is Live from the first
+  pub egress : (g : Leg) → leg_at s l e ≡ Some g → g.phase ≡ Live
+  -- legs stand at the nodes of the route alone, and messages are on its hops alone
+  pub legs : (n : NodeId) (g : Leg) → leg_at s l n ≡ Some g → (n ≡ e) ⊎ ((i : ℕ) × (hop : Step) × (slice_get route i ≡ Some hop) × (n ≡ hop.node))
+  pub work : (n : NodeId) (g : Leg) → leg_at s l n ≡ Some g → g.role ≡ Work
+  pub mail : (a b : NodeId) → (mail_between s l a b ≡ []) ⊎ IsHop t route a b
+
+-- nothing of the LSP is anywhere
+pub record IsBlank (s : Mesh) (l : Lsp) : Type 0 where
+  pub legs : (n : NodeId) → leg_at s l n ≡ None
+  pub mail : (a b : NodeId) → mail_between s l a b ≡ []
+
+abbrev pub LspFits : Network → Mesh → Lsp → Option (List Step) → Type 0
+LspFits t s l None = IsBlank s l
+LspFits t s l (Some route) = (e : NodeId) × RouteFits t s l route e
+
+-- a node has at most one leg of an LSP: each of its legs is the one that is found
+abbrev pub HasOneLegEach : Mesh → Type 0
+HasOneLegEach s = (n : NodeId) (g : Leg) → Contains (s.nodes n.0).legs g → leg_at s g.lsp n ≡ Some g
+
+-- each hop of each LSP has a shape of the table, and what was never sent from its ingress is nowhere
+abbrev pub EveryHopHasAShape : Type 0
+EveryHopHasAShape = (t : Network) (events : List MeshEvent) → IsRun t start events → HasOneLegEach (after t start events) × ((l : Lsp) → LspFits t (after t start events) l (route_of t start events l))

@@ -1,0 +1,5 @@
+pub mod CallLaw
+pub mod HopLaw
+pub mod HopShapes
+pub mod LabelLaw
+pub mod SafeLaw

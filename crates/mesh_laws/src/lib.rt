@@ -1,0 +1,6 @@
+//! The laws of the mesh over every run.
+#![tactic(auto)]
+
+pub mod laws;
+
+pub use laws::every_run;

@@ -1,0 +1,135 @@
+-- The legs of one node, in order of LSP, and the labels that they take.
+use Rattle.std.specs.Prelude.{ℕ, ◌==◌, ◌&&◌, ◌||◌, Bool, true, false, not, List, [], ◌∷◌, find, filter, Option, Some, None, if◌then◌else◌}
+use Rattle.std.specs.List.{list_any}
+use Rattle.ason_base.specs.declared.ids.NodeId.{NodeId}
+use Rattle.ason_base.specs.declared.ids.LinkId.{LinkId}
+use Rattle.ason_base.specs.declared.ids.Fibre.{Fibre}
+use Rattle.ason_base.specs.declared.ids.Lsp.{Lsp}
+use Rattle.ason_base.specs.declared.calls.Phase.{Phase}
+use Rattle.ason_base.specs.declared.calls.Phase.TheVariants.{Asked, Held, Armed, Live, Closing, Falling}
+use Rattle.ason_base.specs.declared.calls.Role.{Role}
+use Rattle.ason_base.specs.declared.calls.Role.TheVariants.{Work, Back}
+use Rattle.ason_base.specs.declared.tables.Leg.{Leg}
+use Rattle.ason_base.specs.Labels.{up_to}
+use Rattle.ason_base.specs.Lsps.{same_lsp, lsp_before, same_fibre}
+use Rattle.mesh_rules.specs.declared.changes.LegChange.{LegChange}
+use Rattle.mesh_rules.specs.declared.changes.LegChange.TheVariants.{Goes, Stands}
+use Rattle.mesh_rules.specs.declared.neighbours.Neighbour.{Neighbour}
+use Rattle.mesh_rules.specs.Sites.{Place, own_link, labels_of}
+
+-- The list
+
+abbrev pub find_leg : Lsp → List Leg → Option Leg
+find_leg l legs = find (λ g. same_lsp g.lsp l) legs
+
+-- without the leg of this LSP
+abbrev pub without_leg : Lsp → List Leg → List Leg
+without_leg l legs = filter (λ g. not (same_lsp g.lsp l)) legs
+
+-- a leg of this LSP, or of a later one
+abbrev pub stands_at : Lsp → Leg → Bool
+stands_at l h = same_lsp h.lsp l || lsp_before l h.lsp
+
+abbrev pub has_lsp : Option Leg → Lsp → Bool
+has_lsp None l = false
+has_lsp (Some g) l = same_lsp g.lsp l
+
+-- with this leg, in place of the one of its LSP or before the later ones
+abbrev pub with_leg : Leg → List Leg → List Leg
+with_leg g [] = g ∷ []
+with_leg g (h ∷ legs) =
+    if same_lsp h.lsp g.lsp then g ∷ legs else (if lsp_before g.lsp h.lsp then g ∷ h ∷ legs else h ∷ with_leg g legs)
+
+abbrev pub leg_changed : LegChange → List Leg → List Leg
+leg_changed (Goes l) legs = without_leg l legs
+leg_changed (Stands g) legs = with_leg g legs
+
+-- the legs after these changes, one after the other
+abbrev pub legs_changed : List LegChange → List Leg → List Leg
+legs_changed [] legs = legs
+legs_changed (c ∷ cs) legs = legs_changed cs (leg_changed c legs)
+
+-- Phases
+
+abbrev pub is_asked : Phase → Bool
+is_asked Asked = true
+is_asked _ = false
+
+-- torn, and waiting for the next node
+abbrev pub is_closing : Phase → Bool
+is_closing Closing = true
+is_closing Falling = true
+is_closing _ = false
+
+-- the label is reserved
+abbrev pub is_beyond_asked : Phase → Bool
+is_beyond_asked Held = true
+is_beyond_asked Armed = true
+is_beyond_asked Live = true
+is_beyond_asked _ = false
+
+-- a torn leg's phase: a backup that was Armed or Live falls
+abbrev pub closing_phase : Phase → Role → Phase
+closing_phase Armed Back = Falling
+closing_phase Live Back = Falling
+closing_phase p r = Closing
+
+abbrev pub is_work : Role → Bool
+is_work Work = true
+is_work Back = false
+
+-- A torn leg gives up its label in. It keeps its fibres and its label out.
+abbrev pub closed : Leg → Leg
+closed g = record g { phase = closing_phase g.phase g.role; in_label = None }
+
+-- The leg of a Resv: the label out is the one that came, the label in the one that goes back.
+abbrev pub connected : Leg → Option ℕ → ℕ → Leg
+connected g label x = record g { phase = Live; in_label = label; out_label = Some x }
+
+-- Neighbours of a leg
+
+abbrev pub neighbour_over : Option NodeId → Option Fibre → Option Neighbour
+neighbour_over None f = None
+neighbour_over (Some n) None = None
+neighbour_over (Some n) (Some f) = Some (record { node = n; fibre = f })
+
+abbrev pub previous : Leg → Option Neighbour
+previous g = neighbour_over g.prev g.in_fibre
+
+abbrev pub following : Leg → Option Neighbour
+following g = neighbour_over g.next g.out_fibre
+
+abbrev pub is_node : Option Neighbour → NodeId → Bool
+is_node None n = false
+is_node (Some h) n = h.node.0 == n.0
+
+-- this node, over this link
+abbrev pub is_over : Option Neighbour → NodeId → LinkId → Bool
+is_over None n k = false
+is_over (Some h) n k = h.node.0 == n.0 && h.fibre.link.0 == k.0
+
+-- Labels
+
+abbrev pub is_on : Option Fibre → Fibre → Bool
+is_on None f = false
+is_on (Some g) f = same_fibre g f
+
+abbrev pub is_label : Option ℕ → ℕ → Bool
+is_label None x = false
+is_label (Some y) x = y == x
+
+-- the label in of a leg beyond Asked on this fibre
+abbrev pub label_on : Fibre → Leg → Option ℕ
+label_on f g = if is_beyond_asked g.phase && is_on g.in_fibre f then g.in_label else None
+
+-- the leg takes this label of this fibre
+abbrev pub takes : Fibre → ℕ → Leg → Bool
+takes f x g = is_label (label_on f g) x
+
+-- no leg takes the label
+abbrev pub is_free : List Leg → Fibre → ℕ → Bool
+is_free legs f x = not (list_any (takes f x) legs)
+
+-- the labels of a fibre that a working leg may take: those that are free
+abbrev pub usable : Place → List Leg → Fibre → List ℕ
+usable p legs f = filter (is_free legs f) (up_to (labels_of (own_link p f.link)))

@@ -1,0 +1,10 @@
+pub mod CallRules
+pub mod Calls
+pub mod Changes
+pub mod Commands
+pub mod Events
+pub mod Legs
+pub mod Machine
+pub mod MessageRules
+pub mod Rows
+pub mod Sites

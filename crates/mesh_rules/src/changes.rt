@@ -1,0 +1,28 @@
+//! What becomes of a leg, of a call, and of the numbers that an ingress gives out.
+
+use ason_base::{CallNo, CallRec, Leg, Lsp};
+
+/// What becomes of one leg.
+#[derive(Debug, Drop)]
+pub enum LegChange {
+    /// The leg of this LSP goes.
+    Goes(Lsp),
+    /// This leg stands, in place of the one of its LSP.
+    Stands(Leg),
+}
+
+/// What becomes of one call.
+#[derive(Debug, Drop)]
+pub enum CallChange {
+    /// The call of this number goes.
+    Goes(CallNo),
+    /// This call stands, in place of the one of its number.
+    Stands(CallRec),
+}
+
+/// The tunnel and LSP numbers that an ingress gives out next.
+#[derive(Clone, Copy, Debug, PartialEq, Eq, Drop)]
+pub struct NextNumbers {
+    pub tunnel: u32,
+    pub lsp: u32,
+}

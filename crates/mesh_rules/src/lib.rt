@@ -1,0 +1,15 @@
+//! The rules of the mesh: what controllers keep of LSPs and calls, what each message, order and event does, and runs of events.
+//! The definitions stand in specs/; here are the types that they speak of.
+#![tactic(auto)]
+
+pub mod arrivals;
+pub mod changes;
+pub mod commands;
+pub mod events;
+pub mod links;
+pub mod neighbours;
+
+pub use arrivals::Arrival;
+pub use changes::{CallChange, LegChange, NextNumbers};
+pub use events::{MeshEvent, StepFault};
+pub use neighbours::Neighbour;
