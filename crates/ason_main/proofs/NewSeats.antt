@@ -13,7 +13,8 @@ use Rattle.ason_base.specs.Network.{Network, find_node, is_node_id}
 use Rattle.mesh_rules.specs.Sites.{site_of}
 use Rattle.mesh_rules.specs.Commands.{is_valid}
 use Rattle.mesh_rules.specs.Events.{posted}
-use Rattle.mesh_rules.specs.Machine.{new_node, start, with_item, with_posted}
+use Rattle.mesh_rules.specs.State.{new_node}
+use Rattle.mesh_rules.specs.Machine.{start, with_item, with_posted}
 use Rattle.mesh_rules.proofs.SiteLemmas.{and_first}
 use Rattle.ason_main.specs.declared.runner.lanes.Lane.{Lane}
 use Rattle.ason_main.specs.declared.runner.seats.Seat.{Seat}

@@ -8,11 +8,11 @@ use Rattle.ason_base.specs.declared.commands.DeskItem.{DeskItem}
 use Rattle.ason_base.specs.declared.messages.Msg.{Msg}
 use Rattle.ason_base.specs.Network.{Network}
 use Rattle.mesh_rules.specs.declared.events.MeshEvent.TheVariants as event
-use Rattle.mesh_rules.specs.Changes.{Answer}
+use Rattle.mesh_rules.specs.Changes.{Answer, changed}
 use Rattle.mesh_rules.specs.Sites.{site_of}
-use Rattle.mesh_rules.specs.CallRules.{on_item}
-use Rattle.mesh_rules.specs.MessageRules.{on_message}
-use Rattle.mesh_rules.specs.Machine.{changed, sent_to}
+use Rattle.mesh_rules.specs.Orders.{on_item}
+use Rattle.mesh_rules.specs.Messages.{on_message}
+use Rattle.mesh_rules.specs.Machine.{sent_to}
 use Rattle.mesh_rules.specs.Events.{on_first, on_first_item, step}
 use Rattle.node_core.specs.declared.inputs.Input.TheVariants.{Message, Desk}
 use Rattle.node_core.specs.Nodes.{answer_to}

@@ -14,8 +14,8 @@ use Rattle.ason_base.specs.declared.network.NodeSpec.{NodeSpec}
 use Rattle.ason_base.specs.declared.messages.Msg.{Msg}
 use Rattle.ason_main.specs.declared.runner.lanes.Lane.{Lane}
 use Rattle.ason_main.specs.declared.runner.seats.Seat.{Seat}
-use Rattle.mesh_rules.specs.CallRules.{NodeState}
-use Rattle.mesh_rules.specs.Machine.{Mesh, new_node}
+use Rattle.mesh_rules.specs.State.{NodeState, new_node}
+use Rattle.mesh_rules.specs.Machine.{Mesh}
 use Rattle.ason_main.specs.Histories.{History, events_of, state_after}
 
 -- one seat a node, one lane an ordered pair of nodes, and the call numbers of all setups so far

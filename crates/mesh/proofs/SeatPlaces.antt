@@ -5,9 +5,8 @@ use Rattle.std.specs.List.{position_or_len}
 use Rattle.std.proofs.lemmas.List.Quantifiers.{position-Some}
 use Rattle.ason_base.specs.declared.ids.NodeId.{NodeId}
 use Rattle.mesh.specs.declared.seats.Seat.{Seat}
-use Rattle.mesh_rules.specs.Changes.{Answer}
-use Rattle.mesh_rules.specs.CallRules.{NodeState}
-use Rattle.mesh_rules.specs.Machine.{changed, new_node}
+use Rattle.mesh_rules.specs.Changes.{Answer, changed}
+use Rattle.mesh_rules.specs.State.{NodeState, new_node}
 use Rattle.mesh.specs.Kept.{is_seat, seated, tables_at}
 use Rattle.node_core.proofs.Places.{position-nowhere}
 

@@ -15,11 +15,11 @@ use Rattle.mesh_rules.specs.declared.events.MeshEvent.TheVariants.{Take, Desk, T
 use Rattle.mesh.specs.declared.seats.Seat.{Seat}
 use Rattle.mesh.specs.declared.queues.Waiting.{Waiting}
 use Rattle.mesh.specs.declared.queues.Sent.{Sent}
-use Rattle.mesh_rules.specs.Changes.{Answer}
+use Rattle.mesh_rules.specs.Changes.{Answer, changed}
 use Rattle.mesh_rules.specs.Sites.{site_of}
-use Rattle.mesh_rules.specs.CallRules.{on_item, on_tick}
-use Rattle.mesh_rules.specs.MessageRules.{on_message}
-use Rattle.mesh_rules.specs.Machine.{changed, commit, sent_to, without_first, without_item, with_item}
+use Rattle.mesh_rules.specs.Orders.{on_item, on_tick}
+use Rattle.mesh_rules.specs.Messages.{on_message}
+use Rattle.mesh_rules.specs.Machine.{commit, sent_to, without_first, without_item, with_item}
 use Rattle.mesh_rules.specs.Events.{on_first, on_first_item, step}
 use Rattle.mesh.specs.Kept.{Kept, desk_of, is_between, is_waiting, mail_of, mesh_of, seated, sent_by, tables_at}
 use Rattle.mesh.proofs.Firsts.{filter-other, first_of}

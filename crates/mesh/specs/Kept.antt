@@ -11,8 +11,8 @@ use Rattle.mesh_rules.specs.declared.events.StepFault.TheVariants.{NotEnabled, O
 use Rattle.mesh.specs.declared.seats.Seat.{Seat}
 use Rattle.mesh.specs.declared.queues.Waiting.{Waiting}
 use Rattle.mesh.specs.declared.queues.Sent.{Sent}
-use Rattle.mesh_rules.specs.CallRules.{NodeState}
-use Rattle.mesh_rules.specs.Machine.{Mesh, new_node}
+use Rattle.mesh_rules.specs.State.{NodeState, new_node}
+use Rattle.mesh_rules.specs.Machine.{Mesh}
 
 -- the network, the tables of the nodes that have any, the items of all desks and all messages under way, each in order, and
 -- the call numbers of the setups that were posted

@@ -2,7 +2,8 @@
 
 ghost use Rattle.std.specs.Prelude.{◌≡◌, ◌∷◌, ◌++◌, [], IfOk, OnErr, OnOk, find, position};
 ghost use Rattle.std.specs.Option.{option_copied};
-ghost use Rattle.mesh_rules.specs.Machine.{changed, new_node};
+ghost use Rattle.mesh_rules.specs.Changes.{changed};
+ghost use Rattle.mesh_rules.specs.State.{new_node};
 ghost use Rattle.mesh.specs.Kept.{is_seat, seated, tables_at};
 
 use ason_base::{NodeId, OutOfMemory, Outs};

@@ -14,8 +14,8 @@ use Rattle.ason_base.specs.declared.tables.Leg.{Leg}
 use Rattle.ason_base.specs.Lsps.{is_lsp}
 use Rattle.ason_base.specs.Network.{Network}
 use Rattle.mesh_rules.specs.declared.events.MeshEvent.{MeshEvent}
-use Rattle.mesh_rules.specs.Legs.{find_leg, is_closing}
-use Rattle.mesh_rules.specs.CallRules.{NodeState, leg_of}
+use Rattle.mesh_rules.specs.Legs.{find_leg, is_closing, leg_of}
+use Rattle.mesh_rules.specs.State.{NodeState}
 use Rattle.mesh_rules.specs.Machine.{start}
 use Rattle.mesh_rules.specs.Events.{IsRun, after}
 

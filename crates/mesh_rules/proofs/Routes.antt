@@ -11,7 +11,7 @@ use Rattle.ason_base.specs.declared.ids.LinkId.{LinkId}
 use Rattle.ason_base.specs.declared.network.LinkSpec.{LinkSpec}
 use Rattle.ason_base.specs.Network.{Network, is_distinct}
 use Rattle.mesh_rules.specs.Commands.{nodes_of, routes_share_node}
-use Rattle.mesh_rules.specs.CallRules.{is_link_there}
+use Rattle.mesh_rules.specs.Sites.{is_link_there}
 use Rattle.mesh_rules.specs.Sites.{touches}
 use Rattle.mesh_rules.specs.Events.{knows}
 

@@ -9,7 +9,7 @@ use Rattle.ason_base.specs.declared.calls.Cause.TheVariants.{Unset}
 use Rattle.ason_base.specs.declared.tables.CallRec.{CallRec}
 use Rattle.ason_base.specs.Lsps.{is_lsp}
 use Rattle.mesh_rules.specs.declared.changes.CallChange.{CallChange}
-use Rattle.mesh_rules.specs.declared.changes.CallChange.TheVariants.{Goes, Stands}
+use Rattle.mesh_rules.specs.declared.changes.CallChange.TheVariants.{Goes, Put}
 
 abbrev pub find_call : CallNo → List CallRec → Option CallRec
 find_call n calls = find (λ c. c.call.0 == n.0) calls
@@ -22,8 +22,8 @@ abbrev pub without_call : CallNo → List CallRec → List CallRec
 without_call n calls = filter (λ c. not (c.call.0 == n.0)) calls
 
 -- a call of this number, or of a greater one
-abbrev pub call_stands_at : CallNo → CallRec → Bool
-call_stands_at n d = nat_le n.0 d.call.0
+abbrev pub is_call_at_or_after : CallNo → CallRec → Bool
+is_call_at_or_after n d = nat_le n.0 d.call.0
 
 abbrev pub has_number : Option CallRec → CallNo → Bool
 has_number None n = false
@@ -37,7 +37,7 @@ with_call c (d ∷ calls) =
 
 abbrev pub call_changed : CallChange → List CallRec → List CallRec
 call_changed (Goes n) calls = without_call n calls
-call_changed (Stands c) calls = with_call c calls
+call_changed (Put c) calls = with_call c calls
 
 -- the calls after these changes, one after the other
 abbrev pub calls_changed : List CallChange → List CallRec → List CallRec

@@ -17,9 +17,10 @@ use Rattle.ason_base.specs.Lsps.{same_lsp}
 use Rattle.mesh_rules.specs.declared.events.MeshEvent.{MeshEvent}
 use Rattle.mesh_rules.specs.declared.events.MeshEvent.TheVariants.{Take, Desk, Tick, Learn, Post}
 use Rattle.mesh_rules.specs.Changes.{Answer, nothing}
-use Rattle.mesh_rules.specs.Sites.{Place, site_of, touches, other_end, own_link}
-use Rattle.mesh_rules.specs.MessageRules.{on_message}
-use Rattle.mesh_rules.specs.CallRules.{NodeState, is_link_there, on_item, on_tick}
+use Rattle.mesh_rules.specs.State.{NodeState}
+use Rattle.mesh_rules.specs.Sites.{Place, site_of, touches, other_end, own_link, is_link_there}
+use Rattle.mesh_rules.specs.Messages.{on_message}
+use Rattle.mesh_rules.specs.Orders.{on_item, on_tick}
 use Rattle.mesh_rules.specs.Commands.{is_valid, is_again}
 use Rattle.mesh_rules.specs.Machine.{Mesh, commit, without_first, without_item, with_item, with_posted}
 
@@ -45,7 +46,7 @@ is_enabled t s (Post c) = is_valid t c && not (is_again s.posted c)
 -- the rule of the first message of a list
 abbrev pub on_first : Place → NodeState → NodeId → List Msg → Answer
 on_first p s u [] = nothing
-on_first p s u (m ∷ ms) = on_message p s.legs s.calls u m
+on_first p s u (m ∷ ms) = on_message p s u m
 
 -- the rule of the first item of a desk
 abbrev pub on_first_item : Place → NodeState → List DeskItem → Answer

@@ -13,7 +13,7 @@ use Rattle.ason_base.specs.declared.tables.Leg.{Leg}
 use Rattle.ason_base.specs.Labels.{up_to}
 use Rattle.ason_base.specs.Lsps.{same_lsp, lsp_before, same_fibre}
 use Rattle.mesh_rules.specs.declared.changes.LegChange.{LegChange}
-use Rattle.mesh_rules.specs.declared.changes.LegChange.TheVariants.{Goes, Stands}
+use Rattle.mesh_rules.specs.declared.changes.LegChange.TheVariants.{Goes, Put}
 use Rattle.mesh_rules.specs.declared.neighbours.Neighbour.{Neighbour}
 use Rattle.mesh_rules.specs.Sites.{Place, own_link, labels_of}
 
@@ -27,8 +27,13 @@ abbrev pub without_leg : Lsp → List Leg → List Leg
 without_leg l legs = filter (λ g. not (same_lsp g.lsp l)) legs
 
 -- a leg of this LSP, or of a later one
-abbrev pub stands_at : Lsp → Leg → Bool
-stands_at l h = same_lsp h.lsp l || lsp_before l h.lsp
+abbrev pub is_at_or_after : Lsp → Leg → Bool
+is_at_or_after l h = same_lsp h.lsp l || lsp_before l h.lsp
+
+-- the leg of an LSP that a call names
+abbrev pub leg_of : Option Lsp → List Leg → Option Leg
+leg_of None legs = None
+leg_of (Some l) legs = find_leg l legs
 
 abbrev pub has_lsp : Option Leg → Lsp → Bool
 has_lsp None l = false
@@ -42,7 +47,7 @@ with_leg g (h ∷ legs) =
 
 abbrev pub leg_changed : LegChange → List Leg → List Leg
 leg_changed (Goes l) legs = without_leg l legs
-leg_changed (Stands g) legs = with_leg g legs
+leg_changed (Put g) legs = with_leg g legs
 
 -- the legs after these changes, one after the other
 abbrev pub legs_changed : List LegChange → List Leg → List Leg

@@ -10,7 +10,7 @@ use Rattle.ason_base.specs.declared.tables.CallRec.{CallRec}
 use Rattle.ason_base.specs.declared.tables.Leg.{Leg}
 use Rattle.ason_base.specs.Network.{Network}
 use Rattle.mesh_rules.specs.Legs.{find_leg}
-use Rattle.mesh_rules.specs.CallRules.{NodeState}
+use Rattle.mesh_rules.specs.State.{NodeState}
 use Rattle.mesh_rules.specs.Machine.{Mesh}
 
 -- Rows

@@ -1,5 +1,5 @@
 -- What a node knows of itself.
-use Rattle.std.specs.Prelude.{ℕ, ◌==◌, ◌||◌, ◌&&◌, nat_le, Bool, false, List, find, filter, Option, Some, None, if◌then◌else◌}
+use Rattle.std.specs.Prelude.{ℕ, ◌==◌, ◌||◌, ◌&&◌, nat_le, Bool, true, false, List, find, filter, Option, Some, None, if◌then◌else◌}
 use Rattle.std.specs.List.{AllPass}
 use Rattle.ason_base.specs.declared.ids.NodeId.{NodeId}
 use Rattle.ason_base.specs.declared.ids.LinkId.{LinkId}
@@ -26,6 +26,10 @@ site_of t n = record { id = n; convert = converts (find_node t n); own = filter 
 
 abbrev pub own_link : Place → LinkId → Option LinkSpec
 own_link p k = find (λ l. l.id.0 == k.0) p.own
+
+abbrev pub is_link_there : Option LinkSpec → Bool
+is_link_there None = false
+is_link_there (Some l) = true
 
 -- no link has more labels than a label set holds
 abbrev pub AllNarrow : List LinkSpec → Type 0

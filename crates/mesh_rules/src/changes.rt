@@ -7,8 +7,8 @@ use ason_base::{CallNo, CallRec, Leg, Lsp};
 pub enum LegChange {
     /// The leg of this LSP goes.
     Goes(Lsp),
-    /// This leg stands, in place of the one of its LSP.
-    Stands(Leg),
+    /// This leg is put in the place of the one of its LSP.
+    Put(Leg),
 }
 
 /// What becomes of one call.
@@ -16,8 +16,8 @@ pub enum LegChange {
 pub enum CallChange {
     /// The call of this number goes.
     Goes(CallNo),
-    /// This call stands, in place of the one of its number.
-    Stands(CallRec),
+    /// This call is put in the place of the one of its number.
+    Put(CallRec),
 }
 
 /// The tunnel and LSP numbers that an ingress gives out next.

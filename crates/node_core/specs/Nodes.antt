@@ -1,11 +1,11 @@
 -- One node: what it knows of itself, and what it keeps.
 use Rattle.node_core.specs.declared.inputs.Input.{Input}
 use Rattle.node_core.specs.declared.inputs.Input.TheVariants.{Message, Desk, Tick, Learn}
-use Rattle.mesh_rules.specs.Changes.{Answer, nothing}
+use Rattle.mesh_rules.specs.Changes.{Answer, nothing, changed}
 use Rattle.mesh_rules.specs.Sites.{Place}
-use Rattle.mesh_rules.specs.MessageRules.{on_message}
-use Rattle.mesh_rules.specs.CallRules.{NodeState, on_item, on_tick}
-use Rattle.mesh_rules.specs.Machine.{changed}
+use Rattle.mesh_rules.specs.Messages.{on_message}
+use Rattle.mesh_rules.specs.State.{NodeState}
+use Rattle.mesh_rules.specs.Orders.{on_item, on_tick}
 
 pub record NodeView : Type 0 where
   pub place : Place

@@ -4,9 +4,14 @@ ghost use Rattle.std.specs.Prelude.{◌≡◌, ◌∷◌, ◌++◌, ◌+◌, ◌
 ghost use Rattle.std.specs.Option.{option_copied};
 ghost use Rattle.ason_base.specs.declared.ids.NodeId.{NodeId};
 ghost use Rattle.ason_base.specs.declared.tables.Leg.{Leg};
-ghost use Rattle.mesh_rules.specs.Legs.{find_leg, following};
+ghost use Rattle.mesh_rules.specs.Legs.{find_leg, following, leg_of};
 ghost use Rattle.mesh_rules.specs.Calls.{find_call};
-ghost use Rattle.mesh_rules.specs.CallRules.{Wish, admitted, begins, call_record, first_leg, first_link, given_up, is_followable, is_link_there, is_spent, leg_closes, leg_of, new_call, next_lsp, on_item, on_order, on_release, on_setup, on_tick, over_first, refused_setup, tear_of, tear_to};
+ghost use Rattle.mesh_rules.specs.CallRules.{Wish, given_up, leg_closes, tear_of};
+ghost use Rattle.mesh_rules.specs.Paths.{admitted};
+ghost use Rattle.mesh_rules.specs.Setups.{begins, call_record, first_leg, first_link, is_followable, is_spent, new_call, next_lsp, on_setup, over_first, refused_setup};
+ghost use Rattle.mesh_rules.specs.Sites.{is_link_there};
+ghost use Rattle.mesh_rules.specs.Orders.{on_item, on_order, on_tick};
+ghost use Rattle.mesh_rules.specs.Releases.{on_release, tear_to};
 
 use crate::calls::find_call;
 use crate::changes::Change;

@@ -1,8 +1,8 @@
 //! What a rule answers: the legs and calls after it, and the messages that it sends.
 
 ghost use Rattle.std.specs.Prelude.{◌≡◌, [], ◌∷◌, IfOk};
-ghost use Rattle.mesh_rules.specs.Changes.{nothing};
-ghost use Rattle.mesh_rules.specs.MessageRules.{stands, to_node};
+ghost use Rattle.mesh_rules.specs.Changes.{nothing, to_node};
+ghost use Rattle.mesh_rules.specs.MessageRules.{stands};
 
 use ason_base::{Leg, Lsp, Msg, NodeId, Out, OutOfMemory, Outs};
 use mesh_rules::{CallChange, LegChange, NextNumbers};

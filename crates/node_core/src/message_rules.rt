@@ -5,7 +5,12 @@ ghost use Rattle.std.specs.Option.{option_copied};
 ghost use Rattle.ason_base.specs.Labels.{has, least, meet};
 ghost use Rattle.mesh_rules.specs.Legs.{find_leg, following, previous, usable};
 ghost use Rattle.mesh_rules.specs.Calls.{call_of};
-ghost use Rattle.mesh_rules.specs.MessageRules.{answered, call_falls, call_stands, err_passed, is_expected, label_back, on_message, on_path_err, on_resv, on_tear, passed_back, removed, to_node, torn};
+ghost use Rattle.mesh_rules.specs.Resvs.{answered, is_expected, label_back, on_resv, passed_back};
+ghost use Rattle.mesh_rules.specs.MessageRules.{call_falls, call_stands};
+ghost use Rattle.mesh_rules.specs.PathErrs.{err_passed, on_path_err, removed};
+ghost use Rattle.mesh_rules.specs.Messages.{on_message};
+ghost use Rattle.mesh_rules.specs.Tears.{on_tear, torn};
+ghost use Rattle.mesh_rules.specs.Changes.{to_node};
 
 use crate::calls::{bare, blocked, call_of, is_asking};
 use crate::changes::Change;

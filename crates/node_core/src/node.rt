@@ -3,7 +3,7 @@
 ghost use Rattle.std.specs.Prelude.{◌≡◌, IfOk, IsSome, OnErr, OnOk, map};
 ghost use Rattle.std.specs.Option.{option_copied};
 ghost use Rattle.ason_base.specs.Network.{find_node};
-ghost use Rattle.mesh_rules.specs.Machine.{new_node};
+ghost use Rattle.mesh_rules.specs.State.{new_node};
 ghost use Rattle.mesh_rules.specs.Rows.{call_row, call_rows, if_stands, leg_row, leg_rows, link_of, standing};
 ghost use Rattle.mesh_rules.specs.Sites.{site_of};
 ghost use Rattle.node_core.specs.Nodes.{answer_to, stepped};

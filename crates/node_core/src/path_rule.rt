@@ -5,7 +5,8 @@ ghost use Rattle.std.specs.Option.{option_copied};
 ghost use Rattle.ason_base.specs.Labels.{least};
 ghost use Rattle.mesh_rules.specs.Sites.{fibre_in, fibre_out, leads, other_end, own_link};
 ghost use Rattle.mesh_rules.specs.Legs.{find_leg};
-ghost use Rattle.mesh_rules.specs.MessageRules.{along, at_egress, egress_leg, in_transit, new_path, offered_labels, on_path, over_link, refusal, set_on, transit_leg, with_room};
+ghost use Rattle.mesh_rules.specs.MessageRules.{along, new_path, over_link, refusal, with_room};
+ghost use Rattle.mesh_rules.specs.Paths.{at_egress, egress_leg, in_transit, offered_labels, on_path, set_on, transit_leg};
 
 use crate::changes::Change;
 use crate::legs::{find_leg, usable};

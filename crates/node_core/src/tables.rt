@@ -4,7 +4,8 @@ ghost use Rattle.std.specs.Prelude.{◌≡◌, ◌<◌, ◌+◌, ◌≤◌, IfOk
 ghost use Rattle.std.specs.List.{position_or_len};
 ghost use Rattle.mesh_rules.specs.Legs.{has_lsp, legs_changed, stands_at, with_leg, without_leg};
 ghost use Rattle.mesh_rules.specs.Calls.{call_stands_at, calls_changed, has_number, with_call, without_call};
-ghost use Rattle.mesh_rules.specs.Machine.{changed, new_node};
+ghost use Rattle.mesh_rules.specs.Changes.{changed};
+ghost use Rattle.mesh_rules.specs.State.{new_node};
 
 use crate::changes::Change;
 use ason_base::{CallNo, CallRec, Leg, Lsp, OutOfMemory, Outs};
@@ -21,7 +22,7 @@ pub struct Tables {
 }
 
 impl Model for Tables {
-    ghost use Rattle.mesh_rules.specs.CallRules.{NodeState};
+    ghost use Rattle.mesh_rules.specs.State.{NodeState};
 
     ghost Value = { NodeState };
 

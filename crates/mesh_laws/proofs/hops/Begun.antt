@@ -18,11 +18,13 @@ use Rattle.ason_base.specs.declared.messages.Msg.TheVariants.{Path}
 use Rattle.ason_base.specs.declared.tables.CallRec.{CallRec}
 use Rattle.ason_base.specs.declared.tables.Leg.{Leg}
 use Rattle.ason_base.specs.declared.tables.Out.{Out}
-use Rattle.mesh_rules.specs.Changes.{Answer, nothing}
+use Rattle.mesh_rules.specs.Changes.{Answer, nothing, changed}
 use Rattle.mesh_rules.specs.Sites.{site_of, own_link, other_end, fibre_out}
-use Rattle.mesh_rules.specs.CallRules.{Wish, refused_setup, first_leg, next_lsp, begins, is_spent, admitted, is_followable, over_first, new_call, on_setup}
+use Rattle.mesh_rules.specs.CallRules.{Wish}
+use Rattle.mesh_rules.specs.Setups.{refused_setup, first_leg, next_lsp, begins, is_spent, is_followable, over_first, new_call, on_setup}
+use Rattle.mesh_rules.specs.Paths.{admitted}
 use Rattle.mesh_rules.specs.Commands.{makes_route}
-use Rattle.mesh_rules.specs.Machine.{Mesh, changed, commit}
+use Rattle.mesh_rules.specs.Machine.{Mesh, commit}
 use Rattle.mesh_rules.specs.Events.{first_route, or_route}
 use Rattle.mesh_laws.specs.HopLaw.{leg_at, mail_between, IsBlank}
 use Rattle.mesh_laws.proofs.hops.Plans.{Plan, hops, plan, node_at, fibre_at, IsRoute, Leads, route_made, distinct, same, same_node, lt_true, own_near, fibre_out_is}

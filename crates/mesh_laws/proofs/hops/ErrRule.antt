@@ -12,10 +12,11 @@ use Rattle.ason_base.specs.declared.tables.Leg.{Leg}
 use Rattle.ason_base.specs.declared.tables.CallRec.{CallRec}
 use Rattle.mesh_rules.specs.declared.changes.CallChange.{CallChange}
 use Rattle.mesh_rules.specs.declared.changes.LegChange.TheVariants as leg
-use Rattle.mesh_rules.specs.Changes.{Answer}
+use Rattle.mesh_rules.specs.Changes.{Answer, to_node}
 use Rattle.mesh_rules.specs.Legs.{previous}
 use Rattle.mesh_rules.specs.Calls.{call_of}
-use Rattle.mesh_rules.specs.MessageRules.{call_falls, err_passed, removed, on_path_err, to_node}
+use Rattle.mesh_rules.specs.MessageRules.{call_falls}
+use Rattle.mesh_rules.specs.PathErrs.{err_passed, removed, on_path_err}
 use Rattle.mesh_rules.specs.Machine.{Mesh}
 use Rattle.mesh_laws.specs.HopShapes.{leg_kind, IsAsked, IsTorn}
 use Rattle.mesh_laws.specs.HopLaw.{messages_of, leg_at, mail_between}

@@ -4,7 +4,7 @@ use Rattle.std.specs.Prelude.{Some}
 use Rattle.ason_base.specs.Labels.{has, meet, least}
 use Rattle.ason_base.proofs.MaskMembers.{has-filter}
 use Rattle.mesh_rules.specs.Sites.{Place}
-use Rattle.mesh_rules.specs.MessageRules.{only, label_back}
+use Rattle.mesh_rules.specs.Resvs.{only, label_back}
 use Rattle.mesh_rules.proofs.SiteLemmas.{and_first}
 
 pub has_least : (labels : List ℕ) (x : ℕ) → least labels ≡ Some x → has labels x ≡ true

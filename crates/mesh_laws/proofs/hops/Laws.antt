@@ -16,8 +16,8 @@ use Rattle.ason_base.specs.declared.commands.DeskItem.TheVariants.{Order, Alarm,
 use Rattle.ason_base.specs.declared.tables.CallRec.{CallRec}
 use Rattle.ason_base.specs.declared.tables.Leg.{Leg}
 use Rattle.mesh_rules.specs.declared.events.MeshEvent.{MeshEvent}
-use Rattle.mesh_rules.specs.Legs.{find_leg, is_closing}
-use Rattle.mesh_rules.specs.CallRules.{NodeState, leg_of}
+use Rattle.mesh_rules.specs.Legs.{find_leg, is_closing, leg_of}
+use Rattle.mesh_rules.specs.State.{NodeState}
 use Rattle.mesh_rules.specs.Machine.{Mesh, start}
 use Rattle.mesh_rules.specs.Events.{IsRun, after, route_of}
 use Rattle.mesh_laws.specs.CallLaw.{fits, phase_of, IsNamed}

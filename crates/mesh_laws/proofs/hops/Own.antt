@@ -21,10 +21,15 @@ use Rattle.mesh_rules.specs.declared.arrivals.Arrival.{Arrival}
 use Rattle.mesh_rules.specs.declared.changes.LegChange.{LegChange}
 use Rattle.mesh_rules.specs.declared.changes.LegChange.TheVariants.{Goes, Stands}
 use Rattle.mesh_rules.specs.declared.neighbours.Neighbour.{Neighbour}
-use Rattle.mesh_rules.specs.Changes.{Answer, nothing}
+use Rattle.mesh_rules.specs.Changes.{Answer, nothing, to_node}
 use Rattle.mesh_rules.specs.Sites.{Place, own_link, leads}
 use Rattle.mesh_rules.specs.Legs.{find_leg, is_asked, is_closing, previous, following, is_node, is_over, usable}
-use Rattle.mesh_rules.specs.MessageRules.{refusal, at_egress, in_transit, over_link, along, offered_labels, new_path, on_path, is_expected, label_back, passed_back, answered, on_resv, err_passed, removed, on_path_err, torn, on_tear, on_message, to_node}
+use Rattle.mesh_rules.specs.MessageRules.{refusal, over_link, along, new_path}
+use Rattle.mesh_rules.specs.Paths.{at_egress, in_transit, offered_labels, on_path}
+use Rattle.mesh_rules.specs.Resvs.{is_expected, label_back, passed_back, answered, on_resv}
+use Rattle.mesh_rules.specs.PathErrs.{err_passed, removed, on_path_err}
+use Rattle.mesh_rules.specs.Tears.{torn, on_tear}
+use Rattle.mesh_rules.specs.Messages.{on_message}
 use Rattle.mesh_rules.specs.Machine.{Mesh, commit, sent_to}
 use Rattle.mesh_rules.specs.Events.{whole_route, first_route}
 use Rattle.mesh_laws.specs.HopLaw.{lsp_of, messages_of, leg_at, mail_between}

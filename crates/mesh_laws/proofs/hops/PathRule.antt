@@ -16,7 +16,9 @@ use Rattle.ason_base.specs.declared.messages.Msg.TheVariants.{Path, Resv, PathTe
 use Rattle.mesh_rules.specs.declared.arrivals.Arrival.{Arrival}
 use Rattle.mesh_rules.specs.Changes.{Answer}
 use Rattle.mesh_rules.specs.Sites.{site_of, own_link, fibre_in}
-use Rattle.mesh_rules.specs.MessageRules.{refusal, egress_leg, transit_leg, at_egress, in_transit, over_link, along, set_on, offered_labels, on_message}
+use Rattle.mesh_rules.specs.MessageRules.{refusal, over_link, along}
+use Rattle.mesh_rules.specs.Paths.{egress_leg, transit_leg, at_egress, in_transit, set_on, offered_labels}
+use Rattle.mesh_rules.specs.Messages.{on_message}
 use Rattle.mesh_rules.specs.Machine.{Mesh}
 use Rattle.mesh_laws.specs.HopShapes.{MsgKind, Tear, msg_kind, path_kind, leg_kind, IsAsked}
 use Rattle.mesh_laws.specs.HopLaw.{messages_of, leg_at, mail_between}

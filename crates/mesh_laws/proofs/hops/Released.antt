@@ -13,8 +13,10 @@ use Rattle.ason_base.specs.declared.tables.Leg.{Leg}
 use Rattle.mesh_rules.specs.declared.neighbours.Neighbour.{Neighbour}
 use Rattle.mesh_rules.specs.Changes.{Answer, nothing}
 use Rattle.mesh_rules.specs.Sites.{site_of}
-use Rattle.mesh_rules.specs.Legs.{find_leg, closed, following, is_closing}
-use Rattle.mesh_rules.specs.CallRules.{NodeState, leg_of, given_up, on_release, tear_to}
+use Rattle.mesh_rules.specs.Legs.{find_leg, closed, following, is_closing, leg_of}
+use Rattle.mesh_rules.specs.State.{NodeState}
+use Rattle.mesh_rules.specs.CallRules.{given_up}
+use Rattle.mesh_rules.specs.Releases.{on_release, tear_to}
 use Rattle.mesh_rules.specs.Machine.{Mesh, commit}
 use Rattle.mesh_rules.specs.Events.{first_route}
 use Rattle.mesh_laws.specs.HopLaw.{leg_at, mail_between}

@@ -14,12 +14,13 @@ use Rattle.ason_base.specs.declared.tables.Leg.{Leg}
 use Rattle.ason_base.specs.declared.tables.CallRec.{CallRec}
 use Rattle.mesh_rules.specs.declared.changes.CallChange.{CallChange}
 use Rattle.mesh_rules.specs.declared.changes.LegChange.TheVariants as leg
-use Rattle.mesh_rules.specs.Changes.{Answer, nothing}
+use Rattle.mesh_rules.specs.Changes.{Answer, nothing, to_node}
 use Rattle.mesh_rules.specs.declared.arrivals.Arrival.{Arrival}
 use Rattle.mesh_rules.specs.Sites.{Place, site_of}
 use Rattle.mesh_rules.specs.Legs.{closed, connected, previous, usable}
 use Rattle.mesh_rules.specs.Calls.{call_of}
-use Rattle.mesh_rules.specs.MessageRules.{is_expected, call_stands, label_back, passed_back, answered, on_resv, to_node}
+use Rattle.mesh_rules.specs.Resvs.{is_expected, label_back, passed_back, answered, on_resv}
+use Rattle.mesh_rules.specs.MessageRules.{call_stands}
 use Rattle.mesh_rules.specs.Machine.{Mesh}
 use Rattle.mesh_laws.specs.HopShapes.{leg_kind, IsAsked, IsTorn}
 use Rattle.mesh_laws.specs.HopLaw.{messages_of, leg_at, mail_between}

@@ -16,7 +16,8 @@ use Rattle.mesh_rules.specs.declared.events.MeshEvent.TheVariants.{Take, Desk, T
 use Rattle.mesh_rules.specs.Changes.{Answer}
 use Rattle.mesh_rules.specs.Sites.{site_of}
 use Rattle.mesh_rules.specs.Calls.{find_call}
-use Rattle.mesh_rules.specs.CallRules.{on_order, on_item, on_release}
+use Rattle.mesh_rules.specs.Orders.{on_order, on_item}
+use Rattle.mesh_rules.specs.Releases.{on_release}
 use Rattle.mesh_rules.specs.Commands.{is_valid, makes_route, is_given_route}
 use Rattle.mesh_rules.specs.Machine.{Mesh, commit, without_item}
 use Rattle.mesh_rules.specs.Events.{is_enabled, on_first_item, posted, step, IsRun, after, first_route, or_route, sent_at_ingress, route_of}

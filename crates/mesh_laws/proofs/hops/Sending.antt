@@ -7,8 +7,7 @@ use Rattle.ason_base.specs.declared.ids.NodeId.{NodeId}
 use Rattle.ason_base.specs.declared.messages.Msg.{Msg}
 use Rattle.ason_base.specs.declared.tables.Leg.{Leg}
 use Rattle.ason_base.specs.declared.tables.Out.{Out}
-use Rattle.mesh_rules.specs.Changes.{Answer}
-use Rattle.mesh_rules.specs.MessageRules.{to_node}
+use Rattle.mesh_rules.specs.Changes.{Answer, to_node}
 use Rattle.mesh_rules.specs.Machine.{Mesh, commit, without_first, sent_to}
 use Rattle.mesh_laws.specs.HopLaw.{lsp_of, messages_of, leg_at, mail_between}
 use Rattle.mesh_laws.proofs.hops.Plans.{Plan, hops, node_at, IsRoute, distinct, same, other}

@@ -9,10 +9,10 @@ use Rattle.ason_base.specs.declared.ids.LinkId.{LinkId}
 use Rattle.ason_base.specs.declared.messages.Msg.{Msg}
 use Rattle.ason_base.specs.declared.messages.Msg.TheVariants.{PathTear, PathErr}
 use Rattle.ason_base.specs.declared.tables.Leg.{Leg}
-use Rattle.mesh_rules.specs.Changes.{Answer, nothing}
+use Rattle.mesh_rules.specs.Changes.{Answer, nothing, to_node}
 use Rattle.mesh_rules.specs.Sites.{site_of}
 use Rattle.mesh_rules.specs.Legs.{is_closing, closed, previous, following, is_over}
-use Rattle.mesh_rules.specs.MessageRules.{torn, on_tear, to_node}
+use Rattle.mesh_rules.specs.Tears.{torn, on_tear}
 use Rattle.mesh_rules.specs.Machine.{Mesh}
 use Rattle.mesh_laws.specs.HopShapes.{leg_kind, NoLeg, IsAsked, IsTorn}
 use Rattle.mesh_laws.specs.HopLaw.{messages_of, leg_at, mail_between}

@@ -10,12 +10,12 @@ use Rattle.ason_base.specs.declared.messages.PathRole.TheVariants.{Work, Back}
 use Rattle.ason_base.specs.declared.messages.Msg.{Msg}
 use Rattle.ason_base.specs.declared.messages.Msg.TheVariants.{Path, Resv, PathTear, PathErr, Notify}
 use Rattle.mesh_rules.specs.declared.events.MeshEvent.TheVariants.{Take}
-use Rattle.mesh_rules.specs.Changes.{Answer}
+use Rattle.mesh_rules.specs.Changes.{Answer, changed}
 use Rattle.mesh_rules.specs.Sites.{site_of}
 use Rattle.mesh_rules.specs.Legs.{find_leg}
-use Rattle.mesh_rules.specs.MessageRules.{on_message}
+use Rattle.mesh_rules.specs.Messages.{on_message}
 use Rattle.mesh_rules.specs.Commands.{makes_route}
-use Rattle.mesh_rules.specs.Machine.{Mesh, commit, changed, without_first}
+use Rattle.mesh_rules.specs.Machine.{Mesh, commit, without_first}
 use Rattle.mesh_rules.specs.Events.{has_first, on_first, first_route, or_route, sent_at_ingress}
 use Rattle.mesh_laws.specs.HopLaw.{lsp_of, messages_of, leg_at, mail_between, IsBlank}
 use Rattle.mesh_laws.proofs.hops.Plans.{Plan, hops, plan, node_at, IsRoute, same_node}

@@ -20,8 +20,11 @@ use Rattle.mesh_rules.specs.declared.neighbours.Neighbour.{Neighbour}
 use Rattle.mesh_rules.specs.Sites.{Place}
 use Rattle.mesh_rules.specs.Legs.{find_leg, is_asked, is_closing, is_work, closed, connected, previous, following, neighbour_over, is_node, is_over, usable}
 use Rattle.mesh_rules.specs.Calls.{call_of, is_asking}
-use Rattle.mesh_rules.specs.CallRules.{NodeState}
-use Rattle.mesh_rules.specs.MessageRules.{is_expected, call_stands, label_back, passed_back, answered, on_resv, call_falls, err_passed, removed, on_path_err, torn, on_tear}
+use Rattle.mesh_rules.specs.State.{NodeState}
+use Rattle.mesh_rules.specs.Resvs.{is_expected, label_back, passed_back, answered, on_resv}
+use Rattle.mesh_rules.specs.MessageRules.{call_stands, call_falls}
+use Rattle.mesh_rules.specs.PathErrs.{err_passed, removed, on_path_err}
+use Rattle.mesh_rules.specs.Tears.{torn, on_tear}
 use Rattle.mesh_laws.proofs.nodes.Cases.{if_cases, both_left, both_right, not-true}
 use Rattle.mesh_laws.proofs.nodes.Facts.{LegFacts, NodeFacts}
 use Rattle.mesh_laws.proofs.nodes.LegList.{found-lsp}

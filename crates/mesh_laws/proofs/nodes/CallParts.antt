@@ -8,9 +8,8 @@ use Rattle.ason_base.specs.declared.calls.Role.{Role}
 use Rattle.ason_base.specs.declared.tables.CallRec.{CallRec}
 use Rattle.ason_base.specs.declared.tables.Leg.{Leg}
 use Rattle.ason_base.specs.Lsps.{is_lsp, same_lsp}
-use Rattle.mesh_rules.specs.Legs.{find_leg, is_closing}
+use Rattle.mesh_rules.specs.Legs.{find_leg, is_closing, leg_of}
 use Rattle.mesh_rules.specs.Calls.{find_call}
-use Rattle.mesh_rules.specs.CallRules.{leg_of}
 use Rattle.mesh_laws.specs.CallLaw.{IsNamed}
 use Rattle.mesh_laws.proofs.nodes.Facts.{CallFacts, CallsRise, HasCall}
 use Rattle.mesh_laws.proofs.nodes.LegList.{same_lsp-refl, same_lsp-eq}

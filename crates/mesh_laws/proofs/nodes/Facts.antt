@@ -17,7 +17,7 @@ use Rattle.ason_base.specs.Lsps.{is_lsp, lsp_before}
 use Rattle.ason_base.specs.Network.{Network}
 use Rattle.mesh_rules.specs.Legs.{find_leg, is_closing, takes}
 use Rattle.mesh_rules.specs.Calls.{find_call}
-use Rattle.mesh_rules.specs.CallRules.{NodeState}
+use Rattle.mesh_rules.specs.State.{NodeState}
 use Rattle.mesh_rules.specs.Commands.{is_valid}
 use Rattle.mesh_rules.specs.Machine.{Mesh}
 use Rattle.mesh_laws.specs.CallLaw.{FitsLegs}

@@ -10,7 +10,7 @@ use Rattle.ason_base.specs.declared.tables.CallRec.{CallRec}
 use Rattle.ason_base.specs.declared.tables.Leg.{Leg}
 use Rattle.ason_base.specs.Lsps.{is_lsp, lsp_before, same_lsp}
 use Rattle.mesh_rules.specs.Legs.{find_leg, is_closing, takes}
-use Rattle.mesh_rules.specs.CallRules.{NodeState}
+use Rattle.mesh_rules.specs.State.{NodeState}
 use Rattle.mesh_laws.specs.LabelLaw.{EveryLabelHasOneLeg, LabelsHaveOneLeg, TakeNoLabelTwice}
 use Rattle.mesh_laws.specs.CallLaw.{CallsFit, EveryCallFitsItsLegs, FitsLegs, IsOfOneCall, wants_call}
 use Rattle.mesh_laws.proofs.nodes.Cases.{both_left, both_right, not-true}

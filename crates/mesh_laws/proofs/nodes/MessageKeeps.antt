@@ -5,8 +5,8 @@ use Rattle.ason_base.specs.declared.messages.Msg.TheVariants.{Path, Resv, PathTe
 use Rattle.std.proofs.Common.{refl}
 use Rattle.mesh_rules.specs.Legs.{find_leg}
 use Rattle.mesh_rules.specs.Sites.{Place}
-use Rattle.mesh_rules.specs.CallRules.{NodeState}
-use Rattle.mesh_rules.specs.MessageRules.{on_message}
+use Rattle.mesh_rules.specs.State.{NodeState}
+use Rattle.mesh_rules.specs.Messages.{on_message}
 use Rattle.mesh_laws.proofs.nodes.Facts.{NodeFacts}
 use Rattle.mesh_laws.proofs.nodes.PathKeeps.{Keeps, keeps-on_path}
 use Rattle.mesh_laws.proofs.nodes.AnswerKeeps.{keeps-on_resv, keeps-on_path_err, keeps-on_tear}

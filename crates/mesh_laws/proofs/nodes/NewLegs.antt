@@ -17,8 +17,9 @@ use Rattle.mesh_rules.specs.declared.arrivals.Arrival.{Arrival}
 use Rattle.mesh_rules.specs.declared.neighbours.Neighbour.{Neighbour}
 use Rattle.mesh_rules.specs.Sites.{Place, own_link, labels_of, fibre_in}
 use Rattle.mesh_rules.specs.Legs.{is_free, usable, closed, closing_phase, connected, neighbour_over}
-use Rattle.mesh_rules.specs.CallRules.{first_leg}
-use Rattle.mesh_rules.specs.MessageRules.{egress_leg, transit_leg, label_back, only, offered_labels}
+use Rattle.mesh_rules.specs.Setups.{first_leg}
+use Rattle.mesh_rules.specs.Paths.{egress_leg, transit_leg, offered_labels}
+use Rattle.mesh_rules.specs.Resvs.{label_back, only}
 use Rattle.mesh_laws.proofs.nodes.Cases.{both_left, both_right}
 use Rattle.mesh_laws.proofs.nodes.Facts.{FitsPhase, LegFacts}
 use Rattle.mesh_laws.proofs.nodes.LegParts.{MayStand}

@@ -21,11 +21,16 @@ use Rattle.ason_base.specs.declared.tables.Leg.{Leg}
 use Rattle.ason_base.specs.Lsps.{is_lsp}
 use Rattle.ason_base.specs.Network.{Network}
 use Rattle.mesh_rules.specs.Sites.{Place}
-use Rattle.mesh_rules.specs.Legs.{find_leg, is_closing, closed, closing_phase, with_leg}
+use Rattle.mesh_rules.specs.Legs.{find_leg, is_closing, closed, closing_phase, with_leg, leg_of}
 use Rattle.mesh_rules.specs.Calls.{find_call, with_call, without_call}
 use Rattle.mesh_rules.specs.Commands.{is_given_backup}
-use Rattle.mesh_rules.specs.CallRules.{NodeState, Wish, call_record, refused_setup, first_leg, next_lsp, begins, is_spent, admitted, first_link, is_followable, over_first, new_call, on_setup, leg_of, given_up, on_release, on_order, on_item}
-use Rattle.mesh_rules.specs.Machine.{changed}
+use Rattle.mesh_rules.specs.State.{NodeState}
+use Rattle.mesh_rules.specs.CallRules.{Wish, given_up}
+use Rattle.mesh_rules.specs.Setups.{call_record, refused_setup, first_leg, next_lsp, begins, is_spent, first_link, is_followable, over_first, new_call, on_setup}
+use Rattle.mesh_rules.specs.Paths.{admitted}
+use Rattle.mesh_rules.specs.Releases.{on_release}
+use Rattle.mesh_rules.specs.Orders.{on_order, on_item}
+use Rattle.mesh_rules.specs.Changes.{changed}
 use Rattle.mesh_laws.specs.CallLaw.{fits, phase_of}
 use Rattle.mesh_laws.proofs.nodes.Cases.{if_cases, both_left, both_right, neither_left, neither_right}
 use Rattle.mesh_laws.proofs.nodes.Facts.{CallFacts, FitsDesk, LegFacts, NodeFacts}

@@ -10,10 +10,10 @@ use Rattle.ason_base.specs.declared.calls.CallState.TheVariants.{Asking, Bare, P
 use Rattle.ason_base.specs.declared.tables.CallRec.{CallRec}
 use Rattle.ason_base.specs.declared.tables.Leg.{Leg}
 use Rattle.mesh_rules.specs.declared.changes.LegChange.TheVariants as leg
-use Rattle.mesh_rules.specs.Legs.{find_leg, is_closing, with_leg, without_leg}
-use Rattle.mesh_rules.specs.CallRules.{NodeState, leg_of}
+use Rattle.mesh_rules.specs.Legs.{find_leg, is_closing, with_leg, without_leg, leg_of}
+use Rattle.mesh_rules.specs.State.{NodeState}
 use Rattle.mesh_rules.specs.MessageRules.{stands}
-use Rattle.mesh_rules.specs.Machine.{changed}
+use Rattle.mesh_rules.specs.Changes.{changed}
 use Rattle.mesh_laws.specs.CallLaw.{IsNamed, fits, phase_of}
 use Rattle.mesh_laws.proofs.nodes.Facts.{CallFacts, NodeFacts}
 use Rattle.mesh_laws.proofs.nodes.LegList.{find-with_leg, find-without_leg}

@@ -8,11 +8,11 @@ use Rattle.ason_base.specs.declared.messages.PathRole.{PathRole}
 use Rattle.ason_base.specs.declared.messages.PathRole.TheVariants.{Work, Back}
 use Rattle.ason_base.specs.declared.tables.Leg.{Leg}
 use Rattle.mesh_rules.specs.declared.arrivals.Arrival.{Arrival}
-use Rattle.mesh_rules.specs.Changes.{Answer}
+use Rattle.mesh_rules.specs.Changes.{Answer, changed}
 use Rattle.mesh_rules.specs.Sites.{Place, own_link, leads}
-use Rattle.mesh_rules.specs.CallRules.{NodeState}
-use Rattle.mesh_rules.specs.Machine.{changed}
-use Rattle.mesh_rules.specs.MessageRules.{egress_leg, transit_leg, at_egress, set_on, in_transit, over_link, along, offered_labels, with_room, new_path, on_path}
+use Rattle.mesh_rules.specs.State.{NodeState}
+use Rattle.mesh_rules.specs.Paths.{egress_leg, transit_leg, at_egress, set_on, in_transit, offered_labels, on_path}
+use Rattle.mesh_rules.specs.MessageRules.{over_link, along, with_room, new_path}
 use Rattle.mesh_laws.proofs.nodes.Cases.{if_cases, both_right, neither_left, not-true}
 use Rattle.mesh_laws.proofs.nodes.Facts.{NodeFacts}
 use Rattle.mesh_laws.proofs.nodes.NewLegs.{least-has, egress-stands, transit-stands}

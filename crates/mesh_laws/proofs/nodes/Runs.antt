@@ -9,11 +9,12 @@ use Rattle.ason_base.specs.declared.messages.Msg.{Msg}
 use Rattle.ason_base.specs.Network.{Network}
 use Rattle.mesh_rules.specs.declared.events.MeshEvent.{MeshEvent}
 use Rattle.mesh_rules.specs.declared.events.MeshEvent.TheVariants.{Take, Desk, Tick, Learn, Post}
-use Rattle.mesh_rules.specs.Changes.{Answer}
+use Rattle.mesh_rules.specs.Changes.{Answer, changed}
 use Rattle.mesh_rules.specs.Sites.{Place, site_of}
-use Rattle.mesh_rules.specs.CallRules.{NodeState, on_tick}
+use Rattle.mesh_rules.specs.State.{NodeState, new_node}
+use Rattle.mesh_rules.specs.Orders.{on_tick}
 use Rattle.mesh_rules.specs.Commands.{is_again, is_valid}
-use Rattle.mesh_rules.specs.Machine.{Mesh, changed, commit, new_node, start, without_first, without_item}
+use Rattle.mesh_rules.specs.Machine.{Mesh, commit, start, without_first, without_item}
 use Rattle.mesh_rules.specs.Events.{IsRun, after, is_enabled, on_first, on_first_item, posted, step}
 use Rattle.mesh_laws.proofs.nodes.Cases.{both_left, if_cases}
 use Rattle.mesh_laws.proofs.nodes.Facts.{DeskFits, FitsDesk, MeshFacts, NodeFacts}

@@ -1,6 +1,6 @@
 use Rattle.std.proofs.Common.{◌≡◌, ◌∙◌, ap}
 use Rattle.mesh_rules.specs.Sites.{site_of}
-use Rattle.mesh_rules.specs.CallRules.{on_item}
+use Rattle.mesh_rules.specs.Orders.{on_item}
 use Rattle.mesh.specs.Kept.{tables_at}
 use Rattle.mesh.proofs.Steps.{mesh_of-handle}
 use Rattle.mesh.proofs.state.handle_at.Goals as goal

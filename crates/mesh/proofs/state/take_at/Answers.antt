@@ -1,6 +1,6 @@
 use Rattle.std.proofs.Common.{◌≡◌, ◌∙◌, ap}
 use Rattle.mesh_rules.specs.Sites.{site_of}
-use Rattle.mesh_rules.specs.MessageRules.{on_message}
+use Rattle.mesh_rules.specs.Messages.{on_message}
 use Rattle.mesh.specs.Kept.{tables_at}
 use Rattle.mesh.proofs.Steps.{mesh_of-take}
 use Rattle.mesh.proofs.state.take_at.Goals as goal

@@ -1,0 +1,28 @@
+-- Every message: the rule of its kind, over the leg of its LSP. p is the node, s is what it keeps, u is the sender.
+use Rattle.std.specs.Prelude.{}
+use Rattle.ason_base.specs.declared.ids.LinkId.{LinkId}
+use Rattle.ason_base.specs.declared.ids.Lsp.{Lsp}
+use Rattle.ason_base.specs.declared.ids.NodeId.{NodeId}
+use Rattle.ason_base.specs.declared.messages.Msg.{Msg}
+use Rattle.ason_base.specs.declared.messages.Msg.TheVariants.{Path, Resv, PathTear, PathErr, Notify}
+use Rattle.mesh_rules.specs.declared.arrivals.Arrival.{Arrival}
+use Rattle.mesh_rules.specs.State.{NodeState}
+use Rattle.mesh_rules.specs.Changes.{Answer, nothing}
+use Rattle.mesh_rules.specs.Sites.{Place}
+use Rattle.mesh_rules.specs.Legs.{find_leg}
+use Rattle.mesh_rules.specs.Paths.{on_path}
+use Rattle.mesh_rules.specs.Resvs.{on_resv}
+use Rattle.mesh_rules.specs.PathErrs.{on_path_err}
+use Rattle.mesh_rules.specs.Tears.{on_tear}
+
+abbrev pub arrival : Lsp → NodeId → NodeId → LinkId → Arrival
+arrival l e u k = record { lsp = l; egress = e; from = u; link = k }
+
+abbrev pub on_message : Place → NodeState → NodeId → Msg → Answer
+on_message p s u (Path l e k route set up r) =
+    on_path p s (record { arrival = arrival l e u k; route = route; set = set; role = r }) (find_leg l s.legs)
+on_message p s u (Resv l e k x) = on_resv p s (arrival l e u k) x (find_leg l s.legs)
+on_message p s u (PathTear l e k) = on_tear p (arrival l e u k) (find_leg l s.legs)
+on_message p s u (PathErr l e at gone code) =
+    on_path_err s u (record { msg = PathErr l e at gone code; removed = gone; code = code }) (find_leg l s.legs)
+on_message p s u (Notify l e at k code) = nothing

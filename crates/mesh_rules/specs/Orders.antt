@@ -1,0 +1,32 @@
+-- Orders, desk items and ticks (ITU-T G.8080, call control). p is the node; s is what it keeps.
+use Rattle.std.specs.Prelude.{}
+use Rattle.ason_base.specs.declared.commands.Command.{Command}
+use Rattle.ason_base.specs.declared.commands.Command.TheVariants.{Setup, Release, Protect, Retry, Revert, Fail, Repair}
+use Rattle.ason_base.specs.declared.commands.DeskItem.{DeskItem}
+use Rattle.ason_base.specs.declared.commands.DeskItem.TheVariants.{Order, Alarm, Clear}
+use Rattle.mesh_rules.specs.State.{NodeState}
+use Rattle.mesh_rules.specs.Changes.{Answer, nothing}
+use Rattle.mesh_rules.specs.Sites.{Place}
+use Rattle.mesh_rules.specs.Calls.{find_call}
+use Rattle.mesh_rules.specs.Setups.{on_setup}
+use Rattle.mesh_rules.specs.Releases.{on_release}
+
+abbrev pub on_order : Place → NodeState → Command → Answer
+on_order p s (Setup n from to protected both via backup) =
+    on_setup p s
+    (record { call = n; from = from; egress = to; protected = protected; both = both; via = via; backup = backup })
+    (find_call n s.calls)
+on_order p s (Release n from) = on_release p s from (find_call n s.calls)
+on_order p s (Protect n from) = nothing
+on_order p s (Retry n from) = nothing
+on_order p s (Revert n from) = nothing
+on_order p s (Fail g) = nothing
+on_order p s (Repair g) = nothing
+
+abbrev pub on_item : Place → NodeState → DeskItem → Answer
+on_item p s (Order c) = on_order p s c
+on_item p s (Alarm f) = nothing
+on_item p s (Clear f) = nothing
+
+abbrev pub on_tick : Place → NodeState → Answer
+on_tick p s = nothing

@@ -1,0 +1,39 @@
+-- A PathErr with Path_State_Removed (RFC 3473, section 4.4).
+use Rattle.std.specs.Prelude.{◌&&◌, Bool, List, [], ◌∷◌, Option, Some, None, if◌then◌else◌}
+use Rattle.ason_base.specs.declared.ids.NodeId.{NodeId}
+use Rattle.ason_base.specs.declared.codes.ErrCode.{ErrCode}
+use Rattle.ason_base.specs.declared.messages.Msg.{Msg}
+use Rattle.ason_base.specs.declared.calls.Cause.TheVariants.{Code}
+use Rattle.ason_base.specs.declared.tables.CallRec.{CallRec}
+use Rattle.ason_base.specs.declared.tables.Leg.{Leg}
+use Rattle.mesh_rules.specs.declared.changes.CallChange.TheVariants as call
+use Rattle.mesh_rules.specs.declared.neighbours.Neighbour.{Neighbour}
+use Rattle.mesh_rules.specs.State.{NodeState}
+use Rattle.mesh_rules.specs.Changes.{Answer, nothing, removes, changes_calls, followed_by, to_node}
+use Rattle.mesh_rules.specs.Legs.{is_asked, is_closing, previous, following, is_node}
+use Rattle.mesh_rules.specs.Calls.{call_of, is_asking, blocked}
+
+-- a PathErr of an LSP: the message, whether it removes the leg, and why it came
+pub record PathFailure : Type 0 where
+  pub msg : Msg
+  pub removed : Bool
+  pub code : ErrCode
+
+-- a call that was asked for is refused; no other call is touched
+abbrev pub call_refused : ErrCode → Option CallRec → Answer
+call_refused code None = nothing
+call_refused code (Some c) = if is_asking c.state then changes_calls (call.Put (blocked c (Code code)) ∷ []) else nothing
+
+-- at the ingress the call follows, elsewhere it is passed back unchanged
+abbrev pub err_passed : NodeState → Leg → PathFailure → Option Neighbour → Answer
+err_passed s g e None = followed_by (removes g.lsp []) (call_refused e.code (call_of g.lsp s.calls))
+err_passed s g e (Some h) = removes g.lsp (to_node h.node e.msg ∷ [])
+
+-- an Asked leg goes and the PathErr is passed back; a torn leg goes, since the next node has let go
+abbrev pub removed : NodeState → Leg → PathFailure → Answer
+removed s g e =
+    if is_asked g.phase then err_passed s g e (previous g) else (if is_closing g.phase then removes g.lsp [] else nothing)
+
+abbrev pub on_path_err : NodeState → NodeId → PathFailure → Option Leg → Answer
+on_path_err s u e None = nothing
+on_path_err s u e (Some g) = if e.removed && is_node (following g) u then removed s g e else nothing

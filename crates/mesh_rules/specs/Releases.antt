@@ -1,0 +1,32 @@
+-- The release of a call at its ingress (RFC 2205, section 3.1.5).
+use Rattle.std.specs.Prelude.{◌==◌, List, [], ◌∷◌, Option, Some, None, if◌then◌else◌}
+use Rattle.ason_base.specs.declared.ids.NodeId.{NodeId}
+use Rattle.ason_base.specs.declared.ids.CallNo.{CallNo}
+use Rattle.ason_base.specs.declared.messages.Msg.TheVariants.{PathTear}
+use Rattle.ason_base.specs.declared.tables.CallRec.{CallRec}
+use Rattle.ason_base.specs.declared.tables.Leg.{Leg}
+use Rattle.ason_base.specs.declared.tables.Out.{Out}
+use Rattle.mesh_rules.specs.declared.changes.CallChange.TheVariants as call
+use Rattle.mesh_rules.specs.declared.neighbours.Neighbour.{Neighbour}
+use Rattle.mesh_rules.specs.State.{NodeState}
+use Rattle.mesh_rules.specs.Changes.{Answer, nothing, puts, changes_calls, followed_by, to_node}
+use Rattle.mesh_rules.specs.Sites.{Place}
+use Rattle.mesh_rules.specs.Legs.{leg_of, closed, following}
+
+abbrev pub tear_to : Leg → Option Neighbour → List Out
+tear_to g None = []
+tear_to g (Some h) = to_node h.node (PathTear g.lsp g.egress h.fibre.link) ∷ []
+
+-- an LSP is torn where a leg stands: its leg closes, and the next node is told
+abbrev pub tears : Option Leg → Answer
+tears None = nothing
+tears (Some g) = puts (closed g) (tear_to g (following g))
+
+-- the working LSP is torn, then the backup, and the call goes
+abbrev pub releases : NodeState → CallRec → Answer
+releases s c =
+    followed_by (tears (leg_of c.work s.legs)) (followed_by (tears (leg_of c.back s.legs)) (changes_calls (call.Goes c.call ∷ [])))
+
+abbrev pub on_release : Place → NodeState → NodeId → Option CallRec → Answer
+on_release p s from None = nothing
+on_release p s from (Some c) = if from.0 == p.id.0 then releases s c else nothing

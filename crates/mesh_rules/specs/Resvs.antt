@@ -1,0 +1,49 @@
+-- A Resv (RFC 2205, section 3.1.4; RFC 3473, section 2).
+use Rattle.std.specs.Prelude.{ℕ, ◌&&◌, Bool, true, false, not, List, [], ◌∷◌, Option, Some, None, if◌then◌else◌}
+use Rattle.ason_base.specs.Codes.{label_code}
+use Rattle.ason_base.specs.Labels.{has, meet, least}
+use Rattle.ason_base.specs.declared.messages.Msg.TheVariants.{Resv, PathTear, PathErr}
+use Rattle.ason_base.specs.declared.tables.CallRec.{CallRec}
+use Rattle.ason_base.specs.declared.tables.Leg.{Leg}
+use Rattle.mesh_rules.specs.declared.arrivals.Arrival.{Arrival}
+use Rattle.mesh_rules.specs.declared.changes.CallChange.TheVariants as call
+use Rattle.mesh_rules.specs.declared.neighbours.Neighbour.{Neighbour}
+use Rattle.mesh_rules.specs.State.{NodeState}
+use Rattle.mesh_rules.specs.Changes.{Answer, nothing, puts, changes_calls, followed_by, to_node}
+use Rattle.mesh_rules.specs.Sites.{Place}
+use Rattle.mesh_rules.specs.Legs.{is_asked, is_work, closed, connected, previous, following, is_over, usable}
+use Rattle.mesh_rules.specs.Calls.{call_of, is_asking, bare}
+
+-- a Resv is taken by an Asked leg, from its next node, over its outgoing link, with a label of the set that was sent on
+abbrev pub is_expected : Arrival → ℕ → Leg → Bool
+is_expected a x g = is_asked g.phase && (is_work g.role && (is_over (following g) a.from a.link && has g.sent x))
+
+-- a call without protection that was asked for stands; no other call is touched
+abbrev pub call_connected : Option CallRec → Answer
+call_connected None = nothing
+call_connected (Some c) = if is_asking c.state && not c.protected then changes_calls (call.Put (bare c) ∷ []) else nothing
+
+-- this label, if it is one of them
+abbrev pub only : ℕ → Bool → Option ℕ
+only x true = Some x
+only x false = None
+
+-- the label that goes back: the least that was offered and is usable now, at a node that doesn't convert the one that came
+abbrev pub label_back : Place → List ℕ → ℕ → Option ℕ
+label_back p labels x = if p.convert then least labels else only x (has labels x)
+
+-- no label is left: the LSP is torn towards the egress, and the ingress is told
+abbrev pub passed_back : Place → Arrival → Leg → Neighbour → ℕ → Option ℕ → Answer
+passed_back p a g h x None =
+    puts (closed g)
+    (to_node a.from (PathTear g.lsp g.egress a.link) ∷ to_node h.node (PathErr g.lsp g.egress p.id true label_code) ∷ [])
+passed_back p a g h x (Some y) = puts (connected g (Some y) x) (to_node h.node (Resv g.lsp g.egress h.fibre.link y) ∷ [])
+
+-- at the ingress the call follows
+abbrev pub answered : Place → NodeState → Arrival → ℕ → Leg → Option Neighbour → Answer
+answered p s a x g None = followed_by (puts (connected g None x) []) (call_connected (call_of g.lsp s.calls))
+answered p s a x g (Some h) = passed_back p a g h x (label_back p (meet g.offered (usable p s.legs h.fibre)) x)
+
+abbrev pub on_resv : Place → NodeState → Arrival → ℕ → Option Leg → Answer
+on_resv p s a x None = nothing
+on_resv p s a x (Some g) = if is_expected a x g then answered p s a x g (previous g) else nothing

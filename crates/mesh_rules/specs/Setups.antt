@@ -1,0 +1,127 @@
+-- A setup at its ingress (ITU-T G.8080, call control). p is the node; s is what it keeps.
+use Rattle.std.specs.Prelude.{ℕ, ◌+◌, ◌==◌, ◌&&◌, ◌||◌, nat_lt, nat_le, Bool, true, false, not, List, [], ◌∷◌, length, drop, Option, Some, None, if◌then◌else◌}
+use Rattle.ason_base.specs.Labels.{up_to}
+use Rattle.ason_base.specs.declared.ids.NodeId.{NodeId}
+use Rattle.ason_base.specs.declared.ids.CallNo.{CallNo}
+use Rattle.ason_base.specs.declared.ids.Lsp.{Lsp}
+use Rattle.ason_base.specs.declared.steps.Step.{Step}
+use Rattle.ason_base.specs.declared.network.LinkSpec.{LinkSpec}
+use Rattle.ason_base.specs.declared.messages.PathRole.TheVariants as path_role
+use Rattle.ason_base.specs.declared.messages.Msg.TheVariants.{Path}
+use Rattle.ason_base.specs.declared.calls.CallState.{CallState}
+use Rattle.ason_base.specs.declared.calls.CallState.TheVariants.{Asking, Blocked}
+use Rattle.ason_base.specs.declared.calls.Cause.{Cause}
+use Rattle.ason_base.specs.declared.calls.Cause.TheVariants.{Unset, Spent, Full}
+use Rattle.ason_base.specs.declared.calls.Phase.TheVariants.{Asked}
+use Rattle.ason_base.specs.declared.calls.Role.TheVariants as role
+use Rattle.ason_base.specs.declared.tables.CallRec.{CallRec}
+use Rattle.ason_base.specs.declared.tables.Leg.{Leg}
+use Rattle.mesh_rules.specs.declared.limits.TheConstants.{LAST_NUMBER, MOST_LEGS, MOST_LINKS_OF_ROUTE}
+use Rattle.mesh_rules.specs.declared.changes.CallChange.TheVariants as call
+use Rattle.mesh_rules.specs.declared.changes.LegChange.TheVariants as leg
+use Rattle.mesh_rules.specs.State.{NodeState}
+use Rattle.mesh_rules.specs.Changes.{Answer, nothing, changes_calls, to_node}
+use Rattle.mesh_rules.specs.Sites.{Place, own_link, is_link_there, other_end, fibre_out}
+
+-- what a setup asks for
+pub record SetupRequest : Type 0 where
+  pub call : CallNo
+  pub from : NodeId
+  pub egress : NodeId
+  pub protected : Bool
+  pub both : Bool
+  pub via : Option (List Step)
+  pub backup : Option (List Step)
+
+abbrev pub call_record : SetupRequest → CallState → Option Lsp → Cause → CallRec
+call_record w state work cause = record {
+  call = w.call;
+  egress = w.egress;
+  protected = false;
+  backup = w.backup;
+  state = state;
+  work = work;
+  back = None;
+  work_reports = [];
+  back_reports = [];
+  cause = cause;
+  ticks = 0;
+}
+
+-- the call stands and is refused
+abbrev pub refused_setup : SetupRequest → Cause → Answer
+refused_setup w cause = changes_calls (call.Put (call_record w Blocked None cause) ∷ [])
+
+abbrev pub first_leg : Place → Lsp → NodeId → LinkSpec → List Step → Leg
+first_leg p l e out route = record {
+  lsp = l;
+  egress = e;
+  role = role.Work;
+  prev = None;
+  next = Some (other_end out p.id);
+  in_fibre = None;
+  out_fibre = Some (fibre_out out p.id);
+  offered = [];
+  sent = up_to out.labels;
+  route = route;
+  path_role = path_role.Work false;
+  risks = [];
+  phase = Asked;
+  in_label = None;
+  out_label = None;
+  back_in = None;
+  back_out = None;
+}
+
+abbrev pub next_lsp : Place → NodeState → Lsp
+next_lsp p s = record { ingress = p.id; tunnel = s.tunnel; lsp = s.lsp }
+
+-- a new LSP is asked for: a leg, a Path with every label of the first link, and a call that waits
+abbrev pub begins : Place → NodeState → SetupRequest → LinkSpec → List Step → Answer
+begins p s w out route = record nothing {
+  legs = leg.Put (first_leg p (next_lsp p s) w.egress out route) ∷ [];
+  calls = call.Put (call_record w Asking (Some (next_lsp p s)) Unset) ∷ [];
+  numbers = Some (record { tunnel = s.tunnel + 1; lsp = s.lsp + 1 });
+  sent = to_node (other_end out p.id) (Path (next_lsp p s) w.egress out.id route (up_to out.labels) None (path_role.Work false)) ∷ [];
+}
+
+-- no number is left: a tunnel's number is never above the LSP's
+abbrev pub is_spent : NodeState → Bool
+is_spent s = nat_lt LAST_NUMBER s.lsp || nat_lt LAST_NUMBER s.tunnel
+
+abbrev pub is_full : NodeState → Bool
+is_full s = nat_le MOST_LEGS (length s.legs)
+
+abbrev pub admitted_setup : Place → NodeState → SetupRequest → LinkSpec → List Step → Answer
+admitted_setup p s w out route =
+    if is_spent s then refused_setup w Spent else (if is_full s then refused_setup w Full else begins p s w out route)
+
+-- a given route has 1 to 63 links, and its first step names this node and a link of it
+abbrev pub first_link : Place → List Step → Option LinkSpec
+first_link p [] = None
+first_link p (hop ∷ route) =
+    if hop.node.0 == p.id.0 && nat_lt (length route) MOST_LINKS_OF_ROUTE then own_link p hop.link else None
+
+-- a route that is given may be followed from here
+abbrev pub is_followable : Place → Option (List Step) → Bool
+is_followable p None = true
+is_followable p (Some route) = is_link_there (first_link p route)
+
+abbrev pub over_first : Place → NodeState → SetupRequest → List Step → Option LinkSpec → Answer
+over_first p s w route None = nothing
+over_first p s w route (Some out) = admitted_setup p s w out (drop 1 route)
+
+-- without a given route nothing is set up
+abbrev pub new_call : Place → NodeState → SetupRequest → Option (List Step) → Answer
+new_call p s w None = nothing
+new_call p s w (Some route) = over_first p s w route (first_link p route)
+
+-- it comes from this ingress to another node, is neither protected nor two-way, and its backup route can be followed from here
+abbrev pub is_order_here : Place → SetupRequest → Bool
+is_order_here p w =
+    w.from.0 == p.id.0 && (not (w.egress.0 == p.id.0) && (not w.protected && (not w.both && is_followable p w.backup)))
+
+-- a setup whose call number is known changes nothing, nor does one that isn't an order for this node
+abbrev pub on_setup : Place → NodeState → SetupRequest → Option CallRec → Answer
+on_setup p s w (Some c) = nothing
+on_setup p s w None = if is_order_here p w then new_call p s w w.via else nothing

@@ -1,0 +1,23 @@
+-- A PathTear (RFC 2205, section 3.1.5), which the node confirms by a PathErr with Path_State_Removed.
+use Rattle.std.specs.Prelude.{◌&&◌, true, not, List, [], ◌∷◌, Option, Some, None, if◌then◌else◌}
+use Rattle.ason_base.specs.Codes.{torn_code}
+use Rattle.ason_base.specs.declared.messages.Msg.TheVariants.{PathTear, PathErr}
+use Rattle.ason_base.specs.declared.tables.Leg.{Leg}
+use Rattle.ason_base.specs.declared.tables.Out.{Out}
+use Rattle.mesh_rules.specs.declared.arrivals.Arrival.{Arrival}
+use Rattle.mesh_rules.specs.declared.neighbours.Neighbour.{Neighbour}
+use Rattle.mesh_rules.specs.Changes.{Answer, nothing, puts, removes, to_node}
+use Rattle.mesh_rules.specs.Sites.{Place}
+use Rattle.mesh_rules.specs.Legs.{is_closing, closed, previous, following, is_over}
+
+-- the previous node has its answer; the next node is told, and the leg waits for it; at the egress the leg goes at once
+abbrev pub torn : Leg → Out → Option Neighbour → Answer
+torn g answer None = removes g.lsp (answer ∷ [])
+torn g answer (Some h) = puts (closed g) (answer ∷ to_node h.node (PathTear g.lsp g.egress h.fibre.link) ∷ [])
+
+abbrev pub on_tear : Place → Arrival → Option Leg → Answer
+on_tear p a None = nothing
+on_tear p a (Some g) =
+    if not (is_closing g.phase) && is_over (previous g) a.from a.link
+    then torn g (to_node a.from (PathErr g.lsp g.egress p.id true torn_code)) (following g)
+    else nothing
