@@ -1,2 +1,3 @@
+pub mod EveryRun
 pub mod hops
 pub mod nodes

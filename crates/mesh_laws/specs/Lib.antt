@@ -2,4 +2,5 @@ pub mod CallLaw
 pub mod HopLaw
 pub mod HopShapes
 pub mod LabelLaw
+pub mod Laws
 pub mod SafeLaw

@@ -1,3 +1,4 @@
+use Rattle.mesh_laws.proofs.EveryRun.{laws_hold}
 use Rattle.mesh_laws.proofs.hops.Laws.{every_hop}
 use Rattle.mesh_laws.proofs.hops.Safe.{every_run_safe}
 use Rattle.mesh_laws.proofs.nodes.Laws.{every_call, every_label}
@@ -14,3 +15,6 @@ returns-clause-hops c = every_hop
 
 pub returns-clause-safe : goal.returns-clause-safe
 returns-clause-safe c = every_run_safe
+
+pub returns-clause-together : goal.returns-clause-together
+returns-clause-together c = laws_hold
