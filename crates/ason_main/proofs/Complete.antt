@@ -4,14 +4,14 @@ use Rattle.std.specs.Prelude.{Option, Some, None, IfSome, Ok}
 use Rattle.std.specs.Io.KnownBytes.{Appends, Consumes}
 use Rattle.ason_io.specs.Faults.{Rose}
 use Rattle.ason_io.specs.Reading.{WasReadToEnd}
-use Rattle.table_text.specs.declared.plan.Plan.{Plan}
+use Rattle.plan_reader.specs.declared.plan.Plan.{Plan}
 use Rattle.ason_main.specs.declared.ason.Reply.{Reply}
 use Rattle.ason_main.specs.declared.ason.Status.{Status}
 use Rattle.ason_main.specs.declared.ason.Task.{Task}
 use Rattle.ason_main.specs.Answers.{EndsWell, IsComplete, IsDecodeReply, IsEnd, IsJudged, IsReadAndJudged, IsReply, IsReplyFor, IsReplyTo, IsRunReply, WasGiven, status_of, task_of, text_of_reply}
 use Rattle.ason_main.specs.Outputs.{run_of}
-use Rattle.ason_main.specs.Plans.{PlanOf}
-use Rattle.ason_main.proofs.Agree.{no_plan, one_plan}
+use Rattle.plan_reader.specs.Plans.{PlanOf}
+use Rattle.plan_reader.proofs.Agree.{no_plan, one_plan}
 
 -- no more is consumed than was there
 consumed : (all bs : List ℕ) (rest : Option (List ℕ)) → Consumes (Some all) rest bs → length bs ≤ length all

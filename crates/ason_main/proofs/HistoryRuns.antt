@@ -14,12 +14,11 @@ use Rattle.mesh_rules.specs.declared.events.MeshEvent.TheVariants as event
 use Rattle.mesh_rules.specs.Machine.{Mesh, start}
 use Rattle.mesh_rules.specs.Events.{IsRun, after, has_first, is_enabled, posted, step}
 use Rattle.mesh_rules.specs.Commands.{is_again, is_valid}
-use Rattle.table_text.specs.declared.lines.Line.{Line}
-use Rattle.table_text.specs.declared.lines.Line.TheVariants.{Post, Settle, Show}
+use Rattle.plan_reader.specs.declared.lines.Line.{Line}
+use Rattle.plan_reader.specs.declared.lines.Line.TheVariants.{Post, Settle, Show}
 use Rattle.ason_main.specs.Histories.{History, events_of, made, state_after, stopped_at, with_event}
-use Rattle.ason_main.specs.Kept.{calls_after}
 use Rattle.ason_main.specs.Outputs.{line_done, lines_done}
-use Rattle.ason_main.specs.Plans.{ArePostable, IsPostable, calls_after_line}
+use Rattle.plan_reader.specs.Plans.{ArePostable, IsPostable, calls_after, calls_after_line}
 use Rattle.ason_main.specs.Rounds.{desk_done, is_quiet, mail_done, neighbours, repeated, round, settled, turn}
 use Rattle.ason_main.proofs.Neighbours.{is_known, is_other, neighbours_apart, nodes_known}
 use Rattle.ason_main.proofs.Standing.{state_with}

@@ -7,8 +7,8 @@ use Rattle.ason_base.specs.declared.network.NodeSpec.{NodeSpec}
 use Rattle.ason_base.specs.Network.{Network}
 use Rattle.mesh_rules.specs.declared.events.MeshEvent.{MeshEvent}
 use Rattle.mesh_rules.specs.declared.events.MeshEvent.TheVariants.{Take, Desk, Tick}
-use Rattle.table_text.specs.declared.lines.Line.{Line}
-use Rattle.table_text.specs.declared.lines.Line.TheVariants.{Post, Settle, Show}
+use Rattle.plan_reader.specs.declared.lines.Line.{Line}
+use Rattle.plan_reader.specs.declared.lines.Line.TheVariants.{Post, Settle, Show}
 use Rattle.ason_main.specs.Histories.{History, made, state_after}
 use Rattle.ason_main.specs.Outputs.{line_done, lines_done, posted_on}
 use Rattle.ason_main.specs.Rounds.{desk_done, is_quiet, mail_done, neighbours, repeated, round, settled, turn}

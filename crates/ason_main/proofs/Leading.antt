@@ -6,7 +6,7 @@ use Rattle.ason_base.specs.declared.ids.NodeId.{NodeId}
 use Rattle.ason_base.specs.Network.{Network}
 use Rattle.mesh_rules.specs.declared.events.MeshEvent.{MeshEvent}
 use Rattle.mesh_rules.specs.declared.events.MeshEvent.TheVariants as event
-use Rattle.table_text.specs.declared.lines.Line.{Line}
+use Rattle.plan_reader.specs.declared.lines.Line.{Line}
 use Rattle.ason_main.specs.Histories.{History, made, with_event}
 use Rattle.ason_main.specs.Outputs.{LeadThrough, line_done, lines_done}
 use Rattle.ason_main.proofs.HistoryRuns.{made_cases}

@@ -1,10 +1,6 @@
-pub mod Agree
 pub mod Complete
-pub mod Elements
 pub mod Finding
 pub mod HistoryRuns
-pub mod HexDigits
-pub mod HexLines
 pub mod Hoods
 pub mod Limits
 pub mod Lines
@@ -14,16 +10,11 @@ pub mod Leading
 pub mod LegOrder
 pub mod Neighbours
 pub mod NewSeats
-pub mod Numbers
-pub mod PostableLines
 pub mod Printing
-pub mod Reading
 pub mod Results
 pub mod RoundSteps
 pub mod Scripts
 pub mod SeatLemmas
 pub mod Settling
-pub mod SoundTables
 pub mod Standing
 pub mod Stopping
-pub mod Texts

@@ -5,7 +5,7 @@ use Rattle.ason_base.specs.declared.commands.Command.{Command}
 use Rattle.ason_base.specs.declared.ids.NodeId.{NodeId}
 use Rattle.mesh_rules.specs.declared.events.MeshEvent.{MeshEvent}
 use Rattle.mesh_rules.specs.declared.events.MeshEvent.TheVariants as event
-use Rattle.table_text.specs.declared.plan.Plan.{Plan}
+use Rattle.plan_reader.specs.declared.plan.Plan.{Plan}
 use Rattle.ason_main.specs.Histories.{History, events_of, is_event_of, made, new_history, stopped_at, with_event}
 use Rattle.ason_main.specs.Outputs.{run_of, script_of}
 use Rattle.ason_main.proofs.Keeping.{IsKept, lines_keep}

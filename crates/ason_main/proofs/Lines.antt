@@ -8,13 +8,14 @@ use Rattle.ason_base.specs.declared.ids.NodeId.{NodeId}
 use Rattle.ason_base.specs.Network.{Network}
 use Rattle.mesh_rules.specs.declared.events.MeshEvent.TheVariants as event
 use Rattle.mesh_rules.specs.Events.{posted}
-use Rattle.table_text.specs.declared.lines.Line.{Line}
-use Rattle.table_text.specs.declared.lines.Line.TheVariants.{Post}
-use Rattle.table_text.specs.declared.plan.Plan.{Plan}
+use Rattle.plan_reader.specs.declared.lines.Line.{Line}
+use Rattle.plan_reader.specs.declared.lines.Line.TheVariants.{Post}
+use Rattle.plan_reader.specs.declared.plan.Plan.{Plan}
 use Rattle.ason_main.specs.declared.runner.lanes.Lane.{Lane}
 use Rattle.ason_main.specs.declared.runner.seats.Seat.{Seat}
 use Rattle.ason_main.specs.Histories.{History, events_of, is_event_of, state_after, with_event}
-use Rattle.ason_main.specs.Kept.{StandsFor, calls_after, mesh_with, seat_at, seat_made}
+use Rattle.ason_main.specs.Kept.{StandsFor, mesh_with, seat_at, seat_made}
+use Rattle.plan_reader.specs.Plans.{calls_after}
 use Rattle.ason_main.specs.Outputs.{IsTable, LinePrints, Shows, UnlessStopped, line_done, unsettled_line}
 use Rattle.ason_main.proofs.Standing.{count_more, state_with}
 

@@ -19,7 +19,8 @@ use Rattle.mesh_rules.proofs.SiteLemmas.{and_first}
 use Rattle.ason_main.specs.declared.runner.lanes.Lane.{Lane}
 use Rattle.ason_main.specs.declared.runner.seats.Seat.{Seat}
 use Rattle.ason_main.specs.Histories.{new_history}
-use Rattle.ason_main.specs.Kept.{AreSeated, HasSeat, StandsFor, calls_after, ingress, mesh_with, new_seat, seat_at, seat_desk, seat_made, seat_place, seat_state, with_more}
+use Rattle.ason_main.specs.Kept.{AreSeated, HasSeat, StandsFor, ingress, mesh_with, new_seat, seat_at, seat_desk, seat_made, seat_place, seat_state, with_more}
+use Rattle.plan_reader.specs.Plans.{calls_after}
 use Rattle.ason_main.proofs.RoundSteps.{some_site}
 
 -- Nodes of a topology

@@ -3,8 +3,8 @@ use Rattle.std.proofs.Common.{◌≡◌, ◌<◌, ◌+◌, ℕ, List, [], ◌∷
 use Rattle.std.proofs.lemmas.List.{take-append-drop, take_more}
 use Rattle.std.proofs.lemmas.List.Sums.{fold-append}
 use Rattle.ason_base.specs.declared.ids.NodeId.{NodeId}
-use Rattle.table_text.specs.declared.lines.Line.{Line}
-use Rattle.table_text.specs.declared.plan.Plan.{Plan}
+use Rattle.plan_reader.specs.declared.lines.Line.{Line}
+use Rattle.plan_reader.specs.declared.plan.Plan.{Plan}
 use Rattle.ason_main.specs.declared.runner.run.Run.{Run}
 use Rattle.ason_main.specs.Histories.{History, state_after}
 use Rattle.ason_main.specs.Outputs.{LinePrints, Prints, Shows, UnlessStopped, line_done, lines_done}

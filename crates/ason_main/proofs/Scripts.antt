@@ -3,14 +3,14 @@ use Rattle.std.proofs.Common.{◌≡◌, ◌<◌, ℕ, zero, suc, List, [], ◌�
 use Rattle.ason_base.specs.declared.ids.CallNo.{CallNo}
 use Rattle.ason_base.specs.declared.ids.NodeId.{NodeId}
 use Rattle.ason_base.specs.Network.{Network, IsTopology}
-use Rattle.table_text.specs.declared.lines.Line.{Line}
-use Rattle.table_text.specs.declared.lines.Line.TheVariants.{Post, Settle, Show}
-use Rattle.table_text.specs.declared.plan.Plan.{Plan}
+use Rattle.plan_reader.specs.declared.lines.Line.{Line}
+use Rattle.plan_reader.specs.declared.lines.Line.TheVariants.{Post, Settle, Show}
+use Rattle.plan_reader.specs.declared.plan.Plan.{Plan}
 use Rattle.table_text.specs.TableText.{stopped_text}
 use Rattle.ason_main.specs.declared.runner.run.Run.{Run}
 use Rattle.ason_main.specs.Histories.{History, new_history}
 use Rattle.ason_main.specs.Outputs.{IsOneRun, IsOutput, IsStoppedOutput, Prints, script_of, settling_script}
-use Rattle.ason_main.specs.Plans.{ArePostable, AreValidLines, IsValidLine, calls_after_line}
+use Rattle.plan_reader.specs.Plans.{ArePostable, AreValidLines, IsValidLine, calls_after_line}
 use Rattle.ason_main.specs.Running.{AreCut, AreDone, IsCut, IsDone, StandsNow}
 use Rattle.ason_main.proofs.HistoryRuns.{lines_run}
 use Rattle.ason_main.proofs.Leading.{lead_through}

@@ -3,16 +3,16 @@ use Rattle.std.specs.Prelude.{◌≡◌, ◌<◌, ◌≤◌, ◌+◌, ◌⊎◌,
 use Rattle.std.specs.Io.KnownBytes.{Appends}
 use Rattle.ason_io.specs.Faults.{Rose}
 use Rattle.ason_io.specs.Reading.{HasRead, WasReadToEnd}
-use Rattle.table_text.specs.declared.plan.Plan.{Plan}
+use Rattle.plan_reader.specs.declared.plan.Plan.{Plan}
 use Rattle.ason_main.specs.declared.ason.Reply.{Reply}
 use Rattle.ason_main.specs.declared.ason.Status.{Status}
 use Rattle.ason_main.specs.declared.ason.Task.{Task}
 use Rattle.ason_base.specs.declared.ids.NodeId.{NodeId}
-use Rattle.ason_main.specs.declared.plan.faults.PlanFault.{PlanFault}
-use Rattle.ason_main.specs.DecodeText.{IsDecodeText}
-use Rattle.ason_main.specs.FaultText.{refused_text}
+use Rattle.plan_reader.specs.declared.faults.PlanFault.{PlanFault}
+use Rattle.message_text.specs.DecodeText.{IsDecodeText}
+use Rattle.table_text.specs.FaultText.{refused_text}
 use Rattle.ason_main.specs.Outputs.{IsOutput, IsStoppedOutput, run_of}
-use Rattle.ason_main.specs.Plans.{PlanOf}
+use Rattle.plan_reader.specs.Plans.{PlanOf}
 
 -- the words are this one word
 abbrev pub is_word : List (List ℕ) → List ℕ → Bool

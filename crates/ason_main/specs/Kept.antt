@@ -120,13 +120,3 @@ ingress (Retry n from) = Some from
 ingress (Revert n from) = Some from
 ingress (Fail g) = None
 ingress (Repair g) = None
-
--- the call numbers of all setups after a post
-abbrev pub calls_after : List CallNo → Command → List CallNo
-calls_after before (Setup n from to protected both via backup) = before ++ n ∷ []
-calls_after before (Release n from) = before
-calls_after before (Protect n from) = before
-calls_after before (Retry n from) = before
-calls_after before (Revert n from) = before
-calls_after before (Fail g) = before
-calls_after before (Repair g) = before

@@ -1,15 +1,6 @@
 pub mod Answers
-pub mod DecodeText
-pub mod FaultText
-pub mod Hex
 pub mod Histories
 pub mod Kept
-pub mod LinesLeft
 pub mod Outputs
-pub mod PlanCalls
-pub mod PlanScript
-pub mod PlanTables
-pub mod PlanTexts
-pub mod Plans
 pub mod Rounds
 pub mod Running

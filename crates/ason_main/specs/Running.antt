@@ -2,8 +2,8 @@
 use Rattle.std.specs.Prelude.{◌≡◌, ℕ, List, ◌++◌, Some, map}
 use Rattle.ason_base.specs.declared.ids.NodeId.{NodeId}
 use Rattle.ason_base.specs.Network.{Network}
-use Rattle.table_text.specs.declared.lines.Line.{Line}
-use Rattle.table_text.specs.declared.plan.Plan.{Plan}
+use Rattle.plan_reader.specs.declared.lines.Line.{Line}
+use Rattle.plan_reader.specs.declared.plan.Plan.{Plan}
 use Rattle.ason_main.specs.declared.runner.run.Ran.{Ran}
 use Rattle.ason_main.specs.declared.runner.run.Run.{Run}
 use Rattle.ason_main.specs.Histories.{History}

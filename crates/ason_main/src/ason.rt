@@ -3,15 +3,15 @@
 ghost use Rattle.std.specs.Prelude.{◌≡◌, ℕ, List, [], Ok, Err, map, string_bytes};
 ghost use Rattle.ason_base.specs.Network.{IsTopology};
 ghost use Rattle.ason_main.specs.Answers.{IsComplete, IsDecodeReply, IsJudged, IsReply, IsRunReply, WasGiven, exit_status, is_word, status_of, task_of, text_of_reply};
-ghost use Rattle.ason_main.specs.Plans.{ArePostable, PlanOf};
+ghost use Rattle.plan_reader.specs.Plans.{ArePostable, PlanOf};
 
-use crate::decode::decode_text;
-use crate::plan::{PlanError, PlanFault, read_plan, refused_text};
 use crate::runner::run::{Ran, run_plan};
 use ason_base::OutOfMemory;
 use ason_io::{ReadAllFault, Sink, Source, read_all, write_all};
+use message_text::decode_text;
+use plan_reader::{Plan, PlanError, PlanFault, read_plan};
 use std::alloc::Global;
-use table_text::Plan;
+use table_text::refused_text;
 
 /// The most bytes of an input.
 const LIMIT: usize = 4_194_304;

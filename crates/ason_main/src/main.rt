@@ -2,8 +2,6 @@
 #![tactic(auto)]
 
 mod ason;
-mod decode;
-mod plan;
 mod runner;
 mod table_rows;
 #[cfg(test)]

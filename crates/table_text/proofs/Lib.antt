@@ -1,2 +1,1 @@
 pub mod TextParts
-pub mod Texts

@@ -19,7 +19,7 @@ use Rattle.ason_base.specs.declared.calls.CallRow.{CallRow}
 use Rattle.ason_base.specs.declared.calls.LegRow.{LegRow}
 use Rattle.ason_base.specs.declared.calls.TableRows.{TableRows}
 use Rattle.ason_base.specs.Codes.{busy_code, full_code, down_code, torn_code, label_code, set_code, route_code, primary_code}
-use Rattle.table_text.specs.declared.plan.Plan.{Plan}
+use Rattle.plan_reader.specs.declared.plan.Plan.{Plan}
 
 -- Names; a number without a name gives no text
 

@@ -1,13 +1,9 @@
-//! The table of calls and legs as text, by the names of a plan.
+//! What is printed of a plan: the table of calls and legs by the plan's names, and its first fault.
 #![tactic(auto)]
 
-pub mod lines;
-pub mod names;
-pub mod plan;
+pub mod fault_text;
 pub mod table;
 pub mod words;
 
-pub use lines::{Line, Lines};
-pub use names::{Name, Names, is_name};
-pub use plan::Plan;
+pub use fault_text::refused_text;
 pub use table::{write_stopped, write_table, write_unsettled};

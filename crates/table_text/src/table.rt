@@ -4,12 +4,11 @@ ghost use Rattle.std.specs.Prelude.{◌≡◌, ◌==◌, ◌++◌, IfOk, OnErr, 
 ghost use Rattle.std.specs.List.{flat_map};
 ghost use Rattle.table_text.specs.TableText.{back_label_text, back_text, call_name, call_text, cause_text, code_name, head_text, label_or_dash, label_text, leg_labels, leg_place, leg_text, lsp_or_dash, lsp_text, name_at, named_or_decimal, node_name, phase_word, role_word, state_word, stopped_text, table_text, unsettled_text};
 
-use crate::names::Name;
-use crate::plan::Plan;
 use crate::words::{code_name, phase_word, role_word, state_word};
 use ason_base::{
     CallNo, CallRow, Cause, ErrCode, Label, LegRow, LinkId, Lsp, NodeId, OutOfMemory, TableRows,
 };
+use plan_reader::{Name, Plan};
 use std::alloc::Global;
 
 /// Appends the table: a line of both counts, then a line for each call and each leg. After want of memory nothing is appended.
@@ -301,14 +300,12 @@ fn name_at(names: &[Name], place: usize) -> &str
 #[cfg(test)]
 mod tests {
     use super::{write_table, write_unsettled};
-    use crate::lines::Lines;
-    use crate::names::{Name, Names};
-    use crate::plan::Plan;
     use ason_base::codes::LABEL;
     use ason_base::{
         CallNo, CallRow, CallRows, CallState, Cause, Label, LegRow, LegRows, LinkId, Lsp, NodeId,
         NodeSpec, OutOfMemory, Phase, Role, TableRows, Topology,
     };
+    use plan_reader::{Lines, Name, Names, Plan};
     use std::alloc::Global;
     use std::test::Fail;
 
@@ -329,7 +326,7 @@ mod tests {
         Ok(names)
     }
 
-    #[tactic(auto, unfolding(crate::specs::Names::is_name_byte))]
+    #[tactic(auto, unfolding(plan_reader::specs::Names::is_name_byte))]
     fn call_names(alloc: Global) -> Result<Names, OutOfMemory> {
         let mut names = Names::new(alloc);
         names.push(Name::new(alloc, b"c1")?)?;

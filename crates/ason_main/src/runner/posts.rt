@@ -6,7 +6,8 @@ ghost use Rattle.ason_base.specs.Network.{is_node_id};
 ghost use Rattle.mesh_rules.specs.Commands.{is_valid};
 ghost use Rattle.mesh_rules.specs.Events.{posted};
 ghost use Rattle.ason_main.specs.declared.runner.lanes.Lane.{Lane};
-ghost use Rattle.ason_main.specs.Kept.{AreSeated, KeepsSeats, calls_after, ingress, mesh_with, new_seat, seat_at, seat_made};
+ghost use Rattle.ason_main.specs.Kept.{AreSeated, KeepsSeats, ingress, mesh_with, new_seat, seat_at, seat_made};
+ghost use Rattle.plan_reader.specs.Plans.{calls_after};
 
 use crate::runner::seats::{Desk, Seat, put_item};
 use ason_base::{Command, DeskItem, NodeId, NodeSpec, OutOfMemory, Topology};

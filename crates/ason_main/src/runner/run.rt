@@ -5,12 +5,12 @@ ghost use Rattle.ason_base.specs.declared.ids.NodeId.{NodeId};
 ghost use Rattle.ason_base.specs.Network.{IsTopology};
 ghost use Rattle.mesh_rules.specs.Commands.{is_valid};
 ghost use Rattle.table_text.specs.TableText.{stopped_text};
-ghost use Rattle.table_text.specs.declared.lines.Line.TheVariants as said;
+ghost use Rattle.plan_reader.specs.declared.lines.Line.TheVariants as said;
 ghost use Rattle.ason_main.specs.declared.runner.stops.Stop.{Stop};
 ghost use Rattle.ason_main.specs.Histories.{History, new_history};
 ghost use Rattle.ason_main.specs.Kept.{mesh_with};
 ghost use Rattle.ason_main.specs.Outputs.{settling_script, unsettled_line};
-ghost use Rattle.ason_main.specs.Plans.{ArePostable, AreValidLines, IsValidLine};
+ghost use Rattle.plan_reader.specs.Plans.{ArePostable, AreValidLines, IsValidLine};
 ghost use Rattle.ason_main.specs.Rounds.{around};
 ghost use Rattle.ason_main.specs.Running.{AreCut, AreDone, IsCut, IsDone, IsRan, IsReady, StandsNow};
 
@@ -23,8 +23,9 @@ use crate::runner::settling::{is_quiet, settle};
 use crate::runner::stops::Stop;
 use crate::runner::waiting::{items_waiting, mail_waiting};
 use ason_base::{Command, NodeId, OutOfMemory, Topology};
+use plan_reader::{Line, Plan};
 use std::alloc::Global;
-use table_text::{Line, Plan, write_stopped, write_table, write_unsettled};
+use table_text::{write_stopped, write_table, write_unsettled};
 
 /// The most rounds before the script and after it.
 const ROUNDS: u32 = 1000;

@@ -1,5 +1,5 @@
 use Rattle.std.proofs.Common.{sym, refl, append-nil, []}
-use Rattle.table_text.specs.declared.lines.Line.TheVariants.{Post}
+use Rattle.plan_reader.specs.declared.lines.Line.TheVariants.{Post}
 use Rattle.ason_main.specs.Kept.{StandsFor}
 use Rattle.ason_main.specs.Outputs.{line_done}
 use Rattle.ason_main.proofs.Lines.{printed, stands_posted}

@@ -1,7 +1,7 @@
 use Rattle.std.proofs.Common.{sym, ◌∙◌, subst, take}
 use Rattle.std.proofs.lemmas.List.{take_all}
 use Rattle.ason_main.specs.Outputs.{lines_done}
-use Rattle.ason_main.specs.Plans.{IsValidLine}
+use Rattle.plan_reader.specs.Plans.{IsValidLine}
 use Rattle.ason_main.specs.Running.{AreDone, IsCut, IsDone}
 use Rattle.ason_main.proofs.Printing.{cut_at, done_more, done_none}
 use Rattle.ason_main.proofs.Results.{passed_on}

@@ -1,5 +1,5 @@
 use Rattle.std.proofs.Common.{sym, ◌∙◌, subst}
-use Rattle.ason_main.specs.Plans.{AreValidLines}
+use Rattle.plan_reader.specs.Plans.{AreValidLines}
 use Rattle.ason_main.specs.Running.{AreCut, AreDone}
 use Rattle.ason_main.proofs.Results.{if_err, on_ok, passed_on}
 use Rattle.ason_main.proofs.Scripts.{CutsAll, DoesAll, cut_first, cut_last, cut_lines, cut_show, does_script}

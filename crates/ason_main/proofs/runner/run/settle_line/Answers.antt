@@ -1,5 +1,5 @@
 use Rattle.std.proofs.Common.{◌∙◌, ◌++◌, ap, []}
-use Rattle.table_text.specs.declared.lines.Line.TheVariants.{Settle}
+use Rattle.plan_reader.specs.declared.lines.Line.TheVariants.{Settle}
 use Rattle.ason_main.specs.Kept.{StandsFor, mesh_with}
 use Rattle.ason_main.specs.Outputs.{unsettled_line}
 use Rattle.ason_main.specs.Rounds.{settled}

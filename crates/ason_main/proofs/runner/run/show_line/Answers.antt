@@ -1,6 +1,6 @@
 use Rattle.std.proofs.Common.{refl, subst}
 use Rattle.table_text.specs.TableText.{table_text}
-use Rattle.table_text.specs.declared.lines.Line.TheVariants.{Show}
+use Rattle.plan_reader.specs.declared.lines.Line.TheVariants.{Show}
 use Rattle.ason_main.specs.Kept.{mesh_with}
 use Rattle.ason_main.specs.Outputs.{IsTable}
 use Rattle.std.proofs.Common.{[]}

@@ -1,9 +1,0 @@
-use Rattle.std.proofs.Common.{◌∙◌, sym}
-use Rattle.ason_main.proofs.HexLines.{no_newline, to_newline, to_the_end}
-use Rattle.ason_main.proofs.decode.first_line.Goals as goal
-
-pub returns-in-None-clause-lines : goal.returns-in-None-clause-lines
-returns-in-None-clause-lines c = no_newline c.args.bytes.now (sym c.in-None.ensures)
-
-pub returns-in-Some-clause-lines : goal.returns-in-Some-clause-lines
-returns-in-Some-clause-lines c = to_newline c.args.bytes.now c.in-Some.end (sym c.in-Some.ensures) ∙ to_the_end c.args.bytes.now c.in-Some.end

@@ -1,6 +1,0 @@
-use Rattle.std.proofs.Common.{◌≡◌, ◌++◌, drop}
-use Rattle.ason_main.specs.PlanScript.{steps_over}
-use Rattle.ason_main.proofs.plan.script.steps_over.Given as goal
-
-abbrev pub invariant-going : goal.invariant-going
-invariant-going l = l.steps ++ steps_over l.t l.node (drop l.i l.ids) ≡ steps_over l.t l.fn.from l.ids

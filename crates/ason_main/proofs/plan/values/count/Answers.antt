@@ -1,7 +1,0 @@
-use Rattle.std.proofs.Common.{◌∙◌, ap, sym, length}
-use Rattle.std.proofs.lemmas.List.{length-map}
-use Rattle.toml.specs.View.{view}
-use Rattle.ason_main.proofs.plan.values.count.Goals as goal
-
-pub returns : goal.returns
-returns c = sym (length-map c.elements.result.now (λ v. view v)) ∙ ap length c.elements.ensures

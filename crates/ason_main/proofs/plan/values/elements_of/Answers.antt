@@ -1,7 +1,0 @@
-use Rattle.std.proofs.Common.{sym}
-use Rattle.toml.proofs.Views.{view-Array}
-use Rattle.ason_main.proofs.Elements.{listed-view}
-use Rattle.ason_main.proofs.plan.values.elements_of.Goals as goal
-
-pub returns-in-Array : goal.returns-in-Array
-returns-in-Array c = rw (c.as_slice.ensures.value, c.in-Array.is, view-Array c.in-Array.values) (sym (listed-view c.in-Array.values.items))

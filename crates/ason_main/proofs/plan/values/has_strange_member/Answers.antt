@@ -1,6 +1,0 @@
-use Rattle.std.proofs.Common.{not, ap, ◌∙◌}
-use Rattle.ason_main.proofs.Elements.{known_keys, not-not}
-use Rattle.ason_main.proofs.plan.values.has_strange_member.Goals as goal
-
-pub returns : goal.returns
-returns c = ap not (c.knows_all.ensures ∙ known_keys c.args.shape c.args.table.now.entries) ∙ not-not _

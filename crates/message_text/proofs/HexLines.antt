@@ -1,0 +1,69 @@
+-- Lines, one after the other.
+use Rattle.std.proofs.Common.{◌≡◌, ◌<◌, ℕ, suc, ◌+◌, ◌-◌, ◌==◌, Option, None, Some, Bool, true, false, cond, ltb, Result, Ok, Err, OnOk, List, [], ◌∷◌, ◌++◌, length, take, drop, get_or, map, inl, refl, ap, sym, subst, ◌∙◌, arith, append_assoc, All, length-drop}
+use Rattle.std.proofs.lemmas.Bool.{ltb-false}
+use Rattle.std.proofs.lemmas.List.{append-nil, get_or-take, length-take, take_all}
+use Rattle.std.proofs.lemmas.List.Elements.{All-from_get_or}
+use Rattle.std.proofs.lemmas.List.Quantifiers.{position-Some}
+use Rattle.std.proofs.lemmas.List.Splits.{slice_split_at, slice_split_none}
+use Rattle.std.proofs.lemmas.List.Sums.{fails_before_first}
+use Rattle.std.proofs.Math.Seq.{split_at}
+use Rattle.std.specs.Prelude.{position}
+use Rattle.std.specs.List.{flat_map, position_or_len}
+use Rattle.std.specs.Borrow.{Bor}
+use Rattle.ason_base.specs.declared.messages.Packet.{Packet}
+use Rattle.rsvp_messages.specs.declared.lines.ObjectLine.{ObjectLine}
+use Rattle.rsvp_messages.specs.Lines.{line_of}
+use Rattle.rsvp_messages.specs.Objects.{Object}
+use Rattle.rsvp_messages.specs.Packets.{SpelledBy}
+use Rattle.message_text.specs.DecodeText.{AreTexts, IsBytesText, IsMessageText, head_text, lines_of, object_text}
+use Rattle.message_text.specs.Hex.{hex_bytes}
+use Rattle.message_text.specs.LinesLeft.{lines_left}
+
+pub no_newline : (bytes : List ℕ) → position (λ c. c == 10) bytes ≡ None → lines_of bytes ≡ bytes ∷ []
+no_newline bytes none = slice_split_none (λ c. c == 10) bytes (All-from_get_or (λ x. (x == 10) ≡ false) bytes 0 (λ i within. fails_before_first (λ c. c == 10) bytes i 0 (before (position_or_len (λ c. c == 10) bytes) (length bytes) i within none))) where
+  before : (place len i : ℕ) → i < len → cond (ltb place len) (Some place) None ≡ None → i < place
+  before place len i within e = elim (ltb place len) as (λ b. ltb place len ≡ b → cond b (Some place) None ≡ None → i < place) [ true ↦ λ t f. absurd cc | false ↦ λ t f. let past = ltb-false _ _ t in omega arith ] refl e
+
+splits : (bytes : List ℕ) (end : ℕ) → end < length bytes → (get_or bytes end 0 == 10) ≡ true → bytes ≡ take end bytes ++ 10 ∷ drop (end + 1) bytes
+splits bytes end within here =
+    let newline : get_or bytes end 0 ≡ 10 = grind arith in
+    split_at bytes end 0 within ∙ (λ i. take end bytes ++ newline i ∷ drop (suc end) bytes) ∙ (let e : suc end ≡ end + 1 = omega arith in ap (λ (n : ℕ). take end bytes ++ 10 ∷ drop n bytes) e)
+
+front_is : (bytes : List ℕ) (end : ℕ) → end < length bytes → ((k : ℕ) → k < end → (get_or bytes k 0 == 10) ≡ false) → All (λ x. (x == 10) ≡ false) (take end bytes)
+front_is bytes end within none =
+    All-from_get_or (λ x. (x == 10) ≡ false) (take end bytes) 0 (λ i lt. let low : i < end = omega (arith, lt, length-take end bytes) in ap (λ (x : ℕ). x == 10) (get_or-take end bytes i 0 low) ∙ none i low)
+
+pub to_newline : (bytes : List ℕ) (end : ℕ) → position (λ c. c == 10) bytes ≡ Some end → lines_of bytes ≡ take end bytes ∷ lines_of (drop (end + 1) bytes)
+to_newline bytes end some =
+    let found = position-Some (λ c. c == 10) bytes end 0 some in
+    ap lines_of (splits bytes end found.0 found.1) ∙ slice_split_at (λ c. c == 10) (take end bytes) 10 (drop (end + 1) bytes) (front_is bytes end found.0 found.2) refl
+
+pub not_none : (len count : ℕ) (b : Bool) → count ≡ len → b ≡ (len == 0) → b ≡ false → (count == 0) ≡ false
+not_none len count b e is test = ap (λ (n : ℕ). n == 0) e ∙ sym is ∙ test
+
+-- a slice to the end
+pub to_the_end : (bytes : List ℕ) (end : ℕ) → take end bytes ∷ lines_of (drop (end + 1) bytes) ≡ take end bytes ∷ lines_of (take (length bytes - (end + 1)) (drop (end + 1) bytes))
+to_the_end bytes end = ap (λ (l : List ℕ). take end bytes ∷ lines_of l) (sym (take_all (length bytes - (end + 1)) (drop (end + 1) bytes) (omega (arith, length-drop (end + 1) bytes))))
+
+pub packet_printed : {T E : Type 0} (r : Result T E) (bytes old new : List ℕ) (os : List Object) (p : Packet) (lines shown : List ObjectLine) → SpelledBy bytes os p → lines ≡ map (line_of p.body) os → shown ≡ lines →
+    OnOk r (new ≡ old ++ (head_text p ++ flat_map object_text shown)) → OnOk r ((t : List ℕ) × IsMessageText bytes t × (new ≡ old ++ t))
+packet_printed (Err e) bytes old new os p lines shown spelled are same printed = tt
+packet_printed (Ok x) bytes old new os p lines shown spelled are same printed =
+    (head_text p ++ flat_map object_text shown, inl (os, p, spelled, ap (λ (l : List ObjectLine). head_text p ++ flat_map object_text l) (same ∙ are)), printed)
+
+pub line_printed : {T E : Type 0} (r : Result T E) (o : Option (List ℕ)) (bytes old new : List ℕ) → Some bytes ≡ o → (length bytes == 0) ≡ false → OnOk r ((t : List ℕ) × IsMessageText bytes t × (new ≡ old ++ t)) →
+    OnOk r ((t : List ℕ) × IsBytesText o t × (new ≡ old ++ t))
+line_printed (Err e) o bytes old new is some printed = tt
+line_printed (Ok x) o [] old new is some printed = absurd (cc some)
+line_printed (Ok x) o (b ∷ bytes) old new is some printed = (printed.0, subst (λ (q : Option (List ℕ)). IsBytesText q printed.0) is printed.1, printed.2)
+
+-- the texts so far, and those of the lines left
+pub next_line : (bytes old new t line : List ℕ) (rest : Option (Bor (List ℕ))) (all : List (List ℕ)) → all ≡ line ∷ lines_left rest → IsBytesText (hex_bytes line) t → new ≡ old ++ t →
+    ((others : List ℕ) → AreTexts all others → AreTexts (lines_of bytes) (old ++ others)) → (others : List ℕ) → AreTexts (lines_left rest) others → AreTexts (lines_of bytes) (new ++ others)
+next_line bytes old new t line rest all is text appended so_far others are =
+    subst (AreTexts (lines_of bytes)) (sym (append_assoc old t others) ∙ ap (λ (l : List ℕ). l ++ others) (sym appended))
+    (so_far (t ++ others) (subst (λ (ls : List (List ℕ)). AreTexts ls (t ++ others)) (sym is) (t, others, text, are, refl)))
+
+pub all_printed : (bytes text out : List ℕ) (left : Option (Bor (List ℕ))) → left ≡ None → ((others : List ℕ) → AreTexts (lines_left left) others → AreTexts (lines_of bytes) (text ++ others)) → out ≡ text → AreTexts (lines_of bytes) out
+all_printed bytes text out None none so_far is = subst (AreTexts (lines_of bytes)) (append-nil text ∙ sym is) (so_far [] refl)
+all_printed bytes text out (Some b) none so_far is = absurd cc

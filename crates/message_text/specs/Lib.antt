@@ -1,0 +1,3 @@
+pub mod DecodeText
+pub mod Hex
+pub mod LinesLeft

@@ -1,0 +1,78 @@
+//! What `decode` prints: lines of RSVP messages in hexadecimal, and what they spell.
+#![tactic(auto)]
+
+ghost use Rattle.std.specs.Prelude.{◌≡◌, ◌≤◌, ◌++◌, ◌∷◌, ◌==◌, position, List, ℕ, length, string_bytes, IfOk, OnOk};
+ghost use Rattle.message_text.specs.DecodeText.{IsBytesText, IsDecodeText, IsMessageText, lines_of};
+ghost use Rattle.message_text.specs.Hex.{hex_bytes};
+ghost use Rattle.message_text.specs.LinesLeft.{lines_left, size_left};
+
+mod hex;
+mod text;
+
+use ason_base::{DecodeError, OutOfMemory};
+use rsvp_messages::{decode, objects};
+use std::alloc::Global;
+
+/// Appends what is printed of the bytes of a line.
+fn push_message(alloc: Global, text: &mut String, bytes: &[u8]) -> Result<(), OutOfMemory>
+    ensures { OnOk result ((t : List ℕ) × IsMessageText bytes.now t × (string_bytes text.new ≡ string_bytes text.old ++ t)) }
+{
+    match decode(alloc, bytes) {
+        Ok(packet) => {
+            let Ok(lines) = objects(alloc, bytes) else {
+                return Err(OutOfMemory);
+            };
+            text::push_packet(text, &packet, &lines)
+        }
+        Err(DecodeError::NotMessage) => {
+            text.push_str("not a message\n")?;
+            Ok(())
+        }
+        Err(DecodeError::OutOfMemory) => Err(OutOfMemory),
+    }
+}
+
+/// Appends what is printed of a line.
+fn push_line(alloc: Global, text: &mut String, line: &[u8]) -> Result<(), OutOfMemory>
+    ensures { OnOk result ((t : List ℕ) × IsBytesText (hex_bytes line.now) t × (string_bytes text.new ≡ string_bytes text.old ++ t)) }
+{
+    match hex::bytes_of(alloc, line)? {
+        None => {
+            text.push_str("not hex\n")?;
+            Ok(())
+        }
+        Some(bytes) if bytes.is_empty() => Ok(()),
+        Some(bytes) => push_message(alloc, text, &bytes),
+    }
+}
+
+fn newline(bytes: &[u8]) -> Option<usize>
+    ensures { result ≡ position (λ c. c == 10) bytes.now }
+{
+    bytes.iter().position(|c| *c == b'\n')
+}
+
+/// The first line, and what is behind its newline, if it ends with one.
+fn first_line(bytes: &[u8]) -> (&[u8], Option<&[u8]>)
+    ensures lines { lines_of bytes.now ≡ result.0.now ∷ lines_left result.1 }
+    ensures less { size_left result.1 ≤ length bytes.now }
+{
+    match newline(bytes) {
+        None => (bytes, None),
+        Some(end) => (&bytes[..end], Some(&bytes[end + 1..])),
+    }
+}
+
+/// What is printed of the lines.
+pub fn decode_text(alloc: Global, bytes: &[u8]) -> Result<Vec<u8>, OutOfMemory>
+    ensures { IfOk result (λ text. IsDecodeText bytes.now text.items) }
+{
+    let mut text = String::new(alloc);
+    let mut left = Some(bytes);
+    'lines: while let Some(rest) = left {
+        let (line, after) = first_line(rest);
+        push_line(alloc, &mut text, line)?;
+        left = after;
+    }
+    Ok(text.into_bytes())
+}

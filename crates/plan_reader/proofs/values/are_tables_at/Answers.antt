@@ -1,0 +1,11 @@
+use Rattle.std.proofs.Common.{◌∙◌, ap, sym}
+use Rattle.std.specs.List.{list_all}
+use Rattle.std.proofs.lemmas.List.Folds.{list_all-map}
+use Rattle.toml.specs.View.{view}
+use Rattle.plan_reader.specs.PlanTables.{is_table}
+use Rattle.plan_reader.proofs.values.are_tables_at.Goals as goal
+
+pub returns-then-is_array_at : goal.returns-then-is_array_at
+returns-then-is_array_at c =
+    rw (← c.is_array_at.ensures, c.if-is_array_at.true)
+    (c.are_tables.ensures ∙ (sym (list_all-map is_table (λ v. view v) c.elements.result.now) ∙ ap (list_all is_table) c.elements.ensures))

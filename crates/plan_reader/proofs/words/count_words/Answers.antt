@@ -1,0 +1,12 @@
+use Rattle.std.proofs.Common.{◌==◌, not, rules, tests}
+use Rattle.std.proofs.lemmas.Iterator.Consumers.{YieldsList-at, count_from_yields_List, YieldsList-from_filter}
+use Rattle.std.proofs.lemmas.Iterator.Splits.{YieldsList-from_slice_split}
+use Rattle.plan_reader.specs.PlanTexts.{is_empty}
+use Rattle.plan_reader.proofs.words.count_words.Goals as goal
+
+pub returns : goal.returns
+returns c =
+    count_from_yields_List c.filter.result c.count.result c.count.ensures.ran
+    (YieldsList-from_filter _ (λ w. not (is_empty w))
+    (YieldsList-at c.filter.ensures.source (YieldsList-from_slice_split _ (λ b. b == 32) c.args.line.now c.split.ensures.rest c.split.ensures.done c.split.ensures.closure (λ x r q k. search (rules, tests))))
+    c.filter.ensures.closure (λ x r q k. search (rules, tests)))

@@ -1,0 +1,66 @@
+-- Nodes by name, words and numbers in the texts of a plan.
+use Rattle.std.specs.Prelude.{ℕ, ◌==◌, ◌&&◌, ◌||◌, nat_le, Bool, true, false, not, List, [], ◌∷◌, filter, map, Option, Some, None, slice_get, unwrap_or, is_some, if◌then◌else◌}
+use Rattle.std.specs.List.{list_all, slice_split}
+use Rattle.std.specs.Char.{is_ascii_digit}
+use Rattle.std.specs.Str.Parse.{digits_value}
+use Rattle.ason_base.specs.declared.ids.NodeId.{NodeId}
+use Rattle.ason_base.specs.declared.network.NodeSpec.{NodeSpec}
+use Rattle.plan_reader.specs.Names.{place_of}
+
+abbrev pub id_at : Option NodeSpec → Option NodeId
+id_at None = None
+id_at (Some n) = Some n.id
+
+abbrev pub id_at_place : List NodeSpec → Option ℕ → Option NodeId
+id_at_place nodes None = None
+id_at_place nodes (Some k) = id_at (slice_get nodes k)
+
+-- the node of this name, where names and nodes stand in the same order
+abbrev pub node_named : List (List ℕ) → List NodeSpec → List ℕ → Option NodeId
+node_named names nodes name = id_at_place nodes (place_of names name)
+
+-- Words
+
+abbrev pub is_empty : List ℕ → Bool
+is_empty [] = true
+is_empty (b ∷ bs) = false
+
+-- the words of a line, apart by one or more spaces
+abbrev pub words_of : List ℕ → List (List ℕ)
+words_of line = filter (λ w. not (is_empty w)) (slice_split (λ b. b == 32) line)
+
+-- the word at a place, from 0
+abbrev pub word_at : List (List ℕ) → ℕ → List ℕ
+word_at words k = unwrap_or (slice_get words k) []
+
+-- Numbers
+
+abbrev pub are_digits : List ℕ → Bool
+are_digits bs = list_all is_ascii_digit bs
+
+-- decimal digits without a leading zero
+abbrev pub is_number : List ℕ → Bool
+is_number [] = false
+is_number (b ∷ bs) = is_ascii_digit b && (are_digits bs && (not (b == 48) || is_empty bs))
+
+-- the number that the word writes, where it is one and is at most this
+abbrev pub number_up_to : ℕ → List ℕ → Option ℕ
+number_up_to most word = if is_number word && nat_le (digits_value 10 word) most then Some (digits_value 10 word) else None
+
+-- the parts of a word between its commas
+abbrev pub parts_of : List ℕ → List (List ℕ)
+parts_of word = slice_split (λ b. b == 44) word
+
+-- numbers with commas between them
+abbrev pub are_numbers : List ℕ → Bool
+are_numbers word = list_all is_number (parts_of word)
+
+abbrev pub link_id : List ℕ → Option ℕ
+link_id part = number_up_to 4294967295 part
+
+-- each number is a link id within reach
+abbrev pub are_link_ids : List ℕ → Bool
+are_link_ids word = list_all (λ p. is_some (link_id p)) (parts_of word)
+
+abbrev pub link_ids : List ℕ → List ℕ
+link_ids word = map (λ p. unwrap_or (link_id p) 0) (parts_of word)

@@ -1,0 +1,114 @@
+//! Why bytes are no plan.
+
+ghost use Rattle.std.specs.Prelude.{◌≡◌};
+ghost use Rattle.plan_reader.specs.declared.faults.PlanError.{PlanError};
+
+use ason_base::OutOfMemory;
+use std::alloc::{AllocError, AllocFailed};
+
+/// What part of a plan is at fault. Parts count from 1.
+#[derive(Clone, Copy, Debug, PartialEq, Eq, Drop)]
+pub enum PlanEntry {
+    /// The text as a whole.
+    Toml,
+    /// The top table.
+    Top,
+    /// A table of `node`.
+    Node(u32),
+    /// A table of `link`.
+    Link(u32),
+    /// A line of `script`.
+    Script(u32),
+}
+
+/// What is wrong with a part of a plan.
+#[derive(Clone, Copy, Debug, PartialEq, Eq, Drop)]
+pub enum PlanKind {
+    /// The bytes aren't UTF-8, or no TOML.
+    Syntax,
+    /// A table has an unknown key.
+    Key,
+    /// A key is missing.
+    Missing,
+    /// A value has another TOML type.
+    Kind,
+    /// There are too few or too many of something.
+    Count,
+    /// A number is outside its range.
+    Range,
+    /// A name is no name.
+    Name,
+    /// An id isn't above the one before.
+    Order,
+    /// A name or an SRLG is there twice.
+    Twice,
+    /// An end of a link is unknown, or both are the same.
+    Ends,
+    /// The words are no line.
+    Words,
+    /// A node is unknown.
+    Node,
+    /// A call's ends are the same.
+    Same,
+    /// A setup has a used name, or another command a name that no setup has.
+    Call,
+    /// Links are unknown or make no route.
+    Route,
+    /// A backup route isn't beside its working route.
+    Backup,
+    /// No link is of that group.
+    Group,
+    /// Two nodes aren't neighbours.
+    Channel,
+    /// Bytes aren't hexadecimal.
+    Hex,
+    /// Noise spells a frame.
+    Spells,
+    /// This form isn't built.
+    Unbuilt,
+}
+
+/// The first fault of a plan.
+#[derive(Clone, Copy, Debug, PartialEq, Eq, Drop)]
+pub struct PlanFault {
+    pub entry: PlanEntry,
+    pub kind: PlanKind,
+}
+
+/// Why there is no plan.
+#[derive(Clone, Copy, Debug, PartialEq, Eq, Drop)]
+pub enum PlanError {
+    Fault(PlanFault),
+    OutOfMemory,
+}
+
+impl From<OutOfMemory> for PlanError {
+    ghost from_gives = { λ _ error. error ≡ PlanError.OutOfMemory };
+
+    fn from(_: OutOfMemory) -> PlanError {
+        PlanError::OutOfMemory
+    }
+}
+
+impl From<AllocError> for PlanError {
+    ghost from_gives = { λ _ error. error ≡ PlanError.OutOfMemory };
+
+    fn from(_: AllocError) -> PlanError {
+        PlanError::OutOfMemory
+    }
+}
+
+impl<T: Drop> From<AllocFailed<T>> for PlanError {
+    ghost from_gives = { λ _ error. error ≡ PlanError.OutOfMemory };
+
+    fn from(_: AllocFailed<T>) -> PlanError {
+        PlanError::OutOfMemory
+    }
+}
+
+/// The error that tells this fault.
+pub fn fault(entry: PlanEntry, kind: PlanKind) -> PlanError
+    ensures { result ≡ PlanError.Fault (record { entry = entry; kind = kind }) }
+{
+    PlanError::Fault(PlanFault { entry, kind })
+}

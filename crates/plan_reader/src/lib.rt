@@ -1,0 +1,22 @@
+//! Plans: the network, the script of lines to be run over it, and the first fault of what is no plan.
+#![tactic(auto)]
+
+mod calls;
+pub mod faults;
+mod forms;
+pub mod lines;
+mod links;
+pub mod names;
+mod nodes;
+pub mod plan;
+pub mod reader;
+mod script;
+mod top;
+mod values;
+mod words;
+
+pub use faults::{PlanEntry, PlanError, PlanFault, PlanKind};
+pub use lines::{Line, Lines};
+pub use names::{Name, Names, is_name};
+pub use plan::Plan;
+pub use reader::read_plan;

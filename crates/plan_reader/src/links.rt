@@ -1,0 +1,254 @@
+//! The links of a plan.
+
+ghost use Rattle.std.specs.Prelude.{◌≡◌, ◌≤◌, map, length, IfErr, IfOk, OnOk, None, Some, unwrap_or, is_some};
+ghost use Rattle.std.specs.List.{list_all};
+ghost use Rattle.toml.specs.View.{view};
+ghost use Rattle.ason_base.specs.Network.{is_distinct};
+ghost use Rattle.plan_reader.specs.PlanTexts.{node_named};
+ghost use Rattle.plan_reader.specs.PlanTables.{are_srlgs_within, end_ids, end_name, ends_of, has_link_counts, has_link_kinds, is_link_within, labels_in, lacks_link_key, link_kind, link_of, link_value_kind, links_fault, metric_in, srlg_in, srlgs_of};
+ghost use Rattle.plan_reader.specs.declared.faults.PlanError.{PlanError};
+ghost use Rattle.plan_reader.specs.declared.faults.PlanFault.{PlanFault};
+
+use crate::faults::{PlanEntry, PlanError, PlanKind, fault};
+use crate::names::Names;
+use crate::nodes::{id, id_number};
+use crate::values::{
+    Shape, are_integers_at, are_texts_at, count, elements, has_strange, is_integer_at, lacks,
+    number, number_of, number_or, text_of,
+};
+use ason_base::{LinkId, LinkSpec, NodeId, NodeSpec, Numbers, OutOfMemory};
+use std::alloc::Global;
+use toml::Value;
+
+/// The node of this name, where names and nodes stand in the same order.
+pub fn node_named(names: &Names, nodes: &[NodeSpec], name: &[u8]) -> Option<NodeId>
+    ensures { result ≡ node_named names.now nodes.now name.now }
+{
+    match names.place(name) {
+        None => None,
+        Some(place) => match nodes.get(place) {
+            None => None,
+            Some(node) => Some(node.id),
+        },
+    }
+}
+
+fn end_name(value: &Value, k: usize) -> &[u8]
+    ensures { result.now ≡ end_name (view value.now) k }
+{
+    match elements(value, "ends").get(k) {
+        None => &[],
+        Some(end) => text_of(end),
+    }
+}
+
+fn end_ids(a: Option<NodeId>, b: Option<NodeId>) -> Option<(NodeId, NodeId)>
+    ensures { result ≡ end_ids a b }
+{
+    match (a, b) {
+        (Some(a), Some(b)) => {
+            if a < b {
+                Some((a, b))
+            } else if b < a {
+                Some((b, a))
+            } else {
+                None
+            }
+        }
+        _ => None,
+    }
+}
+
+// The two ends of a link, the lesser first: none where one is unknown or they are the same.
+fn ends(value: &Value, names: &Names, nodes: &[NodeSpec]) -> Option<(NodeId, NodeId)>
+    ensures { result ≡ ends_of names.now nodes.now (view value.now) }
+{
+    let first = node_named(names, nodes, end_name(value, 0));
+    let second = node_named(names, nodes, end_name(value, 1));
+    end_ids(first, second)
+}
+
+fn labels(value: &Value) -> Option<u32>
+    ensures { result ≡ labels_in (view value.now) }
+{
+    number(value, "labels", 1, 80)
+}
+
+fn metric(value: &Value) -> Option<u32>
+    ensures { result ≡ metric_in (view value.now) }
+{
+    number_or(value, "metric", 1, 1, 65_535)
+}
+
+fn srlg(value: &Value) -> Option<u32>
+    ensures { result ≡ srlg_in (view value.now) }
+{
+    number_of(value, 0, u32::MAX)
+}
+
+fn have_srlgs(values: &[Value]) -> bool
+    ensures { result ≡ list_all (λ v. is_some (srlg_in (view v))) values.now }
+{
+    values.iter().all(|value| srlg(value).is_some())
+}
+
+fn are_srlgs_within(value: &Value) -> bool
+    ensures { result ≡ are_srlgs_within (view value.now) }
+{
+    have_srlgs(elements(value, "srlg"))
+}
+
+fn srlgs(alloc: Global, value: &Value) -> Result<Numbers, OutOfMemory>
+    ensures { IfOk result (λ s. s ≡ srlgs_of (view value.now)) }
+{
+    let values = elements(value, "srlg");
+    let mut numbers = Numbers::new(alloc);
+    'reading: for i in 0..values.len() {
+        numbers.push(srlg(&values[i]).unwrap_or(0))?;
+    }
+    Ok(numbers)
+}
+
+fn is_distinct(numbers: &[u32]) -> bool
+    ensures { result ≡ is_distinct numbers.now }
+{
+    match numbers {
+        [] => true,
+        [first, others @ ..] => !others.contains(first) && is_distinct(others),
+    }
+}
+
+fn has_kinds(value: &Value) -> bool
+    ensures { result ≡ has_link_kinds (view value.now) }
+{
+    is_integer_at(value, "id")
+        && are_texts_at(value, "ends")
+        && is_integer_at(value, "labels")
+        && is_integer_at(value, "metric")
+        && are_integers_at(value, "srlg")
+}
+
+fn has_counts(value: &Value) -> bool
+    ensures { result ≡ has_link_counts (view value.now) }
+{
+    count(value, "ends") == 2 && count(value, "srlg") <= 16
+}
+
+fn is_within(value: &Value) -> bool
+    ensures { result ≡ is_link_within (view value.now) }
+{
+    id(value).is_some()
+        && labels(value).is_some()
+        && metric(value).is_some()
+        && are_srlgs_within(value)
+}
+
+fn lacks_key(value: &Value) -> bool
+    ensures { result ≡ lacks_link_key (view value.now) }
+{
+    lacks(value, "id") || lacks(value, "ends") || lacks(value, "labels")
+}
+
+fn value_kind(
+    value: &Value,
+    names: &Names,
+    nodes: &[NodeSpec],
+    last: u32,
+    srlgs: &[u32],
+) -> Option<PlanKind>
+    requires { srlgs.now ≡ srlgs_of (view value.now) }
+    ensures { result ≡ link_value_kind names.now nodes.now last (view value.now) }
+{
+    if !is_within(value) {
+        return Some(PlanKind::Range);
+    }
+    if last >= id_number(value) {
+        return Some(PlanKind::Order);
+    }
+    if ends(value, names, nodes).is_none() {
+        return Some(PlanKind::Ends);
+    }
+    if !is_distinct(srlgs) {
+        return Some(PlanKind::Twice);
+    }
+    if !lacks(value, "srlg") {
+        return Some(PlanKind::Unbuilt);
+    }
+    None
+}
+
+// The first fault of a link after links of which the last has this id.
+fn link_kind(
+    value: &Value,
+    names: &Names,
+    nodes: &[NodeSpec],
+    last: u32,
+    srlgs: &[u32],
+) -> Option<PlanKind>
+    requires { srlgs.now ≡ srlgs_of (view value.now) }
+    ensures { result ≡ link_kind names.now nodes.now last (view value.now) }
+{
+    if has_strange(Shape::OfLink, value) {
+        return Some(PlanKind::Key);
+    }
+    if lacks_key(value) {
+        return Some(PlanKind::Missing);
+    }
+    if !has_kinds(value) {
+        return Some(PlanKind::Kind);
+    }
+    if !has_counts(value) {
+        return Some(PlanKind::Count);
+    }
+    value_kind(value, names, nodes, last, srlgs)
+}
+
+fn label_count(value: &Value) -> u8
+    ensures { result ≡ unwrap_or (labels_in (view value.now)) 0 }
+{
+    match labels(value) {
+        None => 0,
+        Some(n) => n as u8,
+    }
+}
+
+fn link(value: &Value, names: &Names, nodes: &[NodeSpec], srlgs: Numbers) -> LinkSpec
+    requires { srlgs ≡ srlgs_of (view value.now) }
+    ensures { result ≡ link_of names.now nodes.now (view value.now) }
+{
+    let (low, high) = ends(value, names, nodes).unwrap_or((NodeId(0), NodeId(0)));
+    LinkSpec {
+        id: LinkId(id_number(value)),
+        low,
+        high,
+        labels: label_count(value),
+        metric: metric(value).unwrap_or(0),
+        srlgs,
+    }
+}
+
+/// Reads the links, or gives the first fault.
+pub fn read_links(
+    alloc: Global,
+    names: &Names,
+    nodes: &[NodeSpec],
+    values: &[Value],
+) -> Result<Vec<LinkSpec>, PlanError>
+    requires { length values.now ≤ 256 }
+    ensures links { IfOk result (λ r. r.items ≡ map (link_of names.now nodes.now) (map (λ v. view v) values.now)) }
+    ensures sound { OnOk result (links_fault names.now nodes.now 1 0 (map (λ v. view v) values.now) ≡ None) }
+    ensures fault { IfErr result (λ e. (f : PlanFault) → e ≡ PlanError.Fault f → links_fault names.now nodes.now 1 0 (map (λ v. view v) values.now) ≡ Some f) }
+{
+    let mut links = Vec::new(alloc);
+    let mut last = 0;
+    'reading: for i in 0..values.len() {
+        let value = &values[i];
+        let srlgs = srlgs(alloc, value)?;
+        if let Some(kind) = link_kind(value, names, nodes, last, srlgs.items()) {
+            return Err(fault(PlanEntry::Link(i as u32 + 1), kind));
+        }
+        links.push(link(value, names, nodes, srlgs))?;
+        last = id_number(value);
+    }
+    Ok(links)
+}

@@ -1,0 +1,353 @@
+//! The script of a plan.
+
+ghost use Rattle.std.specs.Prelude.{◌≡◌, ◌<◌, ◌≤◌, map, length, IfErr, IfNone, IfOk, IsTrue, OnOk, None, Some};
+ghost use Rattle.toml.specs.View.{view};
+ghost use Rattle.plan_reader.specs.PlanCalls.{no_calls, with_call};
+ghost use Rattle.plan_reader.specs.PlanTables.{text_of};
+ghost use Rattle.plan_reader.specs.PlanTexts.{word_at, words_of};
+ghost use Rattle.plan_reader.specs.Names.{is_name};
+ghost use Rattle.plan_reader.specs.PlanScript.{are_same, call_of, calls_after, calls_of, from_node, from_of, line_kind, line_of, lines_of, next_node, other_kind, other_line, release_kind, release_of, rounds_of, route_of, script_fault, settle_kind, setup_call_kind, setup_ends_kind, setup_kind, setup_of, steps_over, to_node, to_of};
+ghost use Rattle.plan_reader.specs.declared.faults.PlanError.{PlanError};
+ghost use Rattle.plan_reader.specs.declared.faults.PlanFault.{PlanFault};
+ghost use Rattle.plan_reader.specs.declared.faults.PlanKind.{PlanKind};
+ghost use Rattle.plan_reader.specs.declared.script.LineError.{LineError};
+
+use crate::calls::{Calls, MOST_CALLS};
+use crate::faults::{PlanEntry, PlanError, PlanKind, fault};
+use crate::forms::{is_given_setup, is_release, is_settle, is_show, is_unbuilt};
+use crate::lines::{Line, Lines};
+use crate::links::node_named;
+use crate::names::{Name, Names, is_name};
+use crate::values::text_of;
+use crate::words::{are_link_ids, link_ids, number, word};
+use ason_base::{CallNo, Command, LinkId, NodeId, OutOfMemory, Step, Steps, Topology};
+use mesh_rules::commands::makes_route;
+use std::alloc::Global;
+use toml::Value;
+
+// Routes
+
+fn next_node(t: &Topology, n: NodeId, k: u32) -> NodeId
+    ensures { result ≡ next_node t.now n k }
+{
+    match t.link(LinkId(k)) {
+        None => n,
+        Some(link) => {
+            if link.low == n {
+                link.high
+            } else if link.high == n {
+                link.low
+            } else {
+                n
+            }
+        }
+    }
+}
+
+// The steps over these links from a node.
+fn steps_over(alloc: Global, t: &Topology, from: NodeId, ids: &[u32]) -> Result<Steps, OutOfMemory>
+    ensures { IfOk result (λ s. s ≡ steps_over t.now from ids.now) }
+{
+    let mut steps = Steps::new(alloc);
+    let mut node = from;
+    'going: for i in 0..ids.len() {
+        let id = ids[i];
+        let link = LinkId(id);
+        steps.push(Step { node, link })?;
+        node = next_node(t, node, id);
+    }
+    Ok(steps)
+}
+
+// Setups
+
+fn from(t: &Topology, names: &Names, line: &[u8]) -> Option<NodeId>
+    ensures { result ≡ from_of t.now names.now (words_of line.now) }
+{
+    node_named(names, t.nodes(), word(line, 2))
+}
+
+fn to(t: &Topology, names: &Names, line: &[u8]) -> Option<NodeId>
+    ensures { result ≡ to_of t.now names.now (words_of line.now) }
+{
+    node_named(names, t.nodes(), word(line, 3))
+}
+
+fn from_node(t: &Topology, names: &Names, line: &[u8]) -> NodeId
+    ensures { result ≡ from_node t.now names.now (words_of line.now) }
+{
+    from(t, names, line).unwrap_or(NodeId(0))
+}
+
+fn to_node(t: &Topology, names: &Names, line: &[u8]) -> NodeId
+    ensures { result ≡ to_node t.now names.now (words_of line.now) }
+{
+    to(t, names, line).unwrap_or(NodeId(0))
+}
+
+fn are_same(t: &Topology, names: &Names, line: &[u8]) -> bool
+    ensures { result ≡ are_same t.now names.now (words_of line.now) }
+{
+    from_node(t, names, line) == to_node(t, names, line)
+}
+
+fn route(alloc: Global, t: &Topology, names: &Names, line: &[u8]) -> Result<Steps, OutOfMemory>
+    ensures { IfOk result (λ s. s ≡ route_of t.now names.now (words_of line.now)) }
+{
+    let ids = link_ids(alloc, word(line, 6))?;
+    steps_over(alloc, t, from_node(t, names, line), &ids)
+}
+
+fn call_kind(
+    t: &Topology,
+    names: &Names,
+    calls: &Calls,
+    line: &[u8],
+    route: &[Step],
+) -> Option<PlanKind>
+    requires { route.now ≡ route_of t.now names.now (words_of line.now) }
+    ensures first { result ≡ setup_call_kind t.now names.now calls.now (words_of line.now) }
+    ensures few { IfNone result (length calls.now.names < 4096) }
+{
+    if calls.has(word(line, 1)) {
+        return Some(PlanKind::Call);
+    }
+    if calls.count() >= MOST_CALLS {
+        return Some(PlanKind::Count);
+    }
+    if !makes_route(t, from_node(t, names, line), to_node(t, names, line), route) {
+        return Some(PlanKind::Route);
+    }
+    None
+}
+
+fn ends_kind(
+    t: &Topology,
+    names: &Names,
+    calls: &Calls,
+    line: &[u8],
+    route: &[Step],
+) -> Option<PlanKind>
+    requires { route.now ≡ route_of t.now names.now (words_of line.now) }
+    ensures first { result ≡ setup_ends_kind t.now names.now calls.now (words_of line.now) }
+    ensures few { IfNone result (length calls.now.names < 4096) }
+{
+    if from(t, names, line).is_none() || to(t, names, line).is_none() {
+        return Some(PlanKind::Node);
+    }
+    if are_same(t, names, line) {
+        return Some(PlanKind::Same);
+    }
+    call_kind(t, names, calls, line, route)
+}
+
+// The first fault of a setup.
+fn setup_kind(
+    t: &Topology,
+    names: &Names,
+    calls: &Calls,
+    line: &[u8],
+    route: &[Step],
+) -> Option<PlanKind>
+    requires { route.now ≡ route_of t.now names.now (words_of line.now) }
+    ensures first { result ≡ setup_kind t.now names.now calls.now (words_of line.now) }
+    ensures few { IfNone result (length calls.now.names < 4096) }
+    ensures named { IfNone result (IsTrue (is_name (word_at (words_of line.now) 1))) }
+{
+    if !are_link_ids(word(line, 6)) {
+        return Some(PlanKind::Range);
+    }
+    if !is_name(word(line, 1)) {
+        return Some(PlanKind::Name);
+    }
+    ends_kind(t, names, calls, line, route)
+}
+
+fn setup(t: &Topology, names: &Names, calls: &Calls, line: &[u8], route: Steps) -> Command
+    requires route { route ≡ route_of t.now names.now (words_of line.now) }
+    requires few { length calls.now.names < 4096 }
+    ensures { result ≡ setup_of t.now names.now calls.now (words_of line.now) }
+{
+    Command::Setup {
+        call: CallNo(calls.count() as u16),
+        from: from_node(t, names, line),
+        to: to_node(t, names, line),
+        protected: false,
+        both: false,
+        via: Some(route),
+        backup: None,
+    }
+}
+
+// Other lines
+
+fn release_kind(calls: &Calls, line: &[u8]) -> Option<PlanKind>
+    ensures { result ≡ release_kind calls.now (words_of line.now) }
+{
+    if !is_name(word(line, 1)) {
+        return Some(PlanKind::Name);
+    }
+    if !calls.has(word(line, 1)) {
+        return Some(PlanKind::Call);
+    }
+    None
+}
+
+fn call(calls: &Calls, line: &[u8]) -> u16
+    ensures { result ≡ call_of calls.now (words_of line.now) }
+{
+    match calls.place(word(line, 1)) {
+        None => 0,
+        Some(place) => place as u16,
+    }
+}
+
+fn release(calls: &Calls, line: &[u8]) -> Command
+    ensures { result ≡ release_of calls.now (words_of line.now) }
+{
+    Command::Release {
+        call: CallNo(call(calls, line)),
+        from: calls.ingress(word(line, 1)),
+    }
+}
+
+fn rounds(line: &[u8]) -> u32
+    ensures { result ≡ rounds_of (words_of line.now) }
+{
+    number(word(line, 1), 1000).unwrap_or(0)
+}
+
+fn settle_kind(line: &[u8]) -> Option<PlanKind>
+    ensures { result ≡ settle_kind (words_of line.now) }
+{
+    if rounds(line) >= 1 {
+        None
+    } else {
+        Some(PlanKind::Range)
+    }
+}
+
+// The first fault of a line that is no setup over a given route.
+fn other_kind(calls: &Calls, line: &[u8]) -> Option<PlanKind>
+    ensures { result ≡ other_kind calls.now (words_of line.now) }
+{
+    if is_release(line) {
+        release_kind(calls, line)
+    } else if is_settle(line) {
+        settle_kind(line)
+    } else if is_show(line) {
+        None
+    } else if is_unbuilt(line) {
+        Some(PlanKind::Unbuilt)
+    } else {
+        Some(PlanKind::Words)
+    }
+}
+
+fn other_line(calls: &Calls, line: &[u8]) -> Line
+    ensures { result ≡ other_line calls.now (words_of line.now) }
+{
+    if is_release(line) {
+        Line::Post(release(calls, line))
+    } else if is_settle(line) {
+        Line::Settle(rounds(line))
+    } else {
+        Line::Show
+    }
+}
+
+// Lines
+
+/// Why a line isn't read.
+#[derive(Clone, Copy, Debug, PartialEq, Eq, Drop)]
+enum LineError {
+    Fault(PlanKind),
+    OutOfMemory,
+}
+
+impl From<OutOfMemory> for LineError {
+    ghost from_gives = { λ _ error. error ≡ LineError.OutOfMemory };
+
+    fn from(_: OutOfMemory) -> LineError {
+        LineError::OutOfMemory
+    }
+}
+
+fn read_setup(
+    alloc: Global,
+    t: &Topology,
+    names: &Names,
+    calls: &mut Calls,
+    line: &[u8],
+) -> Result<Command, LineError>
+    ensures command { IfOk result (λ c. c ≡ setup_of t.now names.now calls.old (words_of line.now)) }
+    ensures calls { OnOk result (calls.new ≡ with_call calls.old (word_at (words_of line.now) 1) (from_node t.now names.now (words_of line.now))) }
+    ensures sound { OnOk result (setup_kind t.now names.now calls.old (words_of line.now) ≡ None) }
+    ensures fault { IfErr result (λ e. (k : PlanKind) → e ≡ LineError.Fault k → setup_kind t.now names.now calls.old (words_of line.now) ≡ Some k) }
+{
+    let route = route(alloc, t, names, line)?;
+    if let Some(kind) = setup_kind(t, names, calls, line, route.items()) {
+        return Err(LineError::Fault(kind));
+    }
+    let command = setup(t, names, calls, line, route);
+    let name = Name::new(alloc, word(line, 1))?;
+    calls.push(name, from_node(t, names, line))?;
+    Ok(command)
+}
+
+fn read_line(
+    alloc: Global,
+    t: &Topology,
+    names: &Names,
+    calls: &mut Calls,
+    line: &[u8],
+) -> Result<Line, LineError>
+    ensures line { IfOk result (λ l. l ≡ line_of t.now names.now calls.old (words_of line.now)) }
+    ensures calls { OnOk result (calls.new ≡ calls_after t.now names.now calls.old (words_of line.now)) }
+    ensures sound { OnOk result (line_kind t.now names.now calls.old (words_of line.now) ≡ None) }
+    ensures fault { IfErr result (λ e. (k : PlanKind) → e ≡ LineError.Fault k → line_kind t.now names.now calls.old (words_of line.now) ≡ Some k) }
+{
+    if is_given_setup(line) {
+        let command = read_setup(alloc, t, names, calls, line)?;
+        return Ok(Line::Post(command));
+    }
+    match other_kind(calls, line) {
+        Some(kind) => Err(LineError::Fault(kind)),
+        None => Ok(other_line(calls, line)),
+    }
+}
+
+/// The calls and the lines of a script.
+#[derive(Debug, Drop)]
+pub struct Script {
+    pub call_names: Names,
+    pub lines: Lines,
+}
+
+/// Reads the lines, or gives the first fault.
+pub fn read_script(
+    alloc: Global,
+    t: &Topology,
+    names: &Names,
+    values: &[Value],
+) -> Result<Script, PlanError>
+    requires { length values.now ≤ 10000 }
+    ensures calls { IfOk result (λ s. s.call_names ≡ (calls_of t.now names.now no_calls (map text_of (map (λ v. view v) values.now))).names) }
+    ensures lines { IfOk result (λ s. s.lines ≡ lines_of t.now names.now no_calls (map text_of (map (λ v. view v) values.now))) }
+    ensures sound { OnOk result (script_fault t.now names.now 1 no_calls (map text_of (map (λ v. view v) values.now)) ≡ None) }
+    ensures fault { IfErr result (λ e. (f : PlanFault) → e ≡ PlanError.Fault f → script_fault t.now names.now 1 no_calls (map text_of (map (λ v. view v) values.now)) ≡ Some f) }
+{
+    let mut calls = Calls::new(alloc);
+    let mut lines = Lines::new(alloc);
+    'reading: for i in 0..values.len() {
+        match read_line(alloc, t, names, &mut calls, text_of(&values[i])) {
+            Ok(line) => lines.push(line)?,
+            Err(LineError::Fault(kind)) => return Err(fault(PlanEntry::Script(i as u32 + 1), kind)),
+            Err(LineError::OutOfMemory) => return Err(PlanError::OutOfMemory),
+        }
+    }
+    Ok(Script {
+        call_names: calls.into_names(),
+        lines,
+    })
+}

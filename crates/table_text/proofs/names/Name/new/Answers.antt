@@ -1,5 +1,0 @@
-use Rattle.table_text.proofs.Texts.{utf8_name}
-use Rattle.table_text.proofs.names.Name.new.Goals as goal
-
-pub unreachable-requires : goal.unreachable-requires
-unreachable-requires c = c.in_default.ensures.cases.0 (utf8_name c.args.text.now c.requires)
