@@ -9,7 +9,6 @@ use Rattle.mesh_rules.specs.declared.arrivals.Arrival.{Arrival}
 use Rattle.mesh_rules.specs.State.{NodeState}
 use Rattle.mesh_rules.specs.Changes.{Answer, nothing}
 use Rattle.mesh_rules.specs.Sites.{Place}
-use Rattle.mesh_rules.specs.Legs.{find_leg}
 use Rattle.mesh_rules.specs.Paths.{on_path}
 use Rattle.mesh_rules.specs.Resvs.{on_resv}
 use Rattle.mesh_rules.specs.PathErrs.{on_path_err}
@@ -20,9 +19,9 @@ arrival l e u k = record { lsp = l; egress = e; from = u; link = k }
 
 abbrev pub on_message : Place → NodeState → NodeId → Msg → Answer
 on_message p s u (Path l e k route set up r) =
-    on_path p s (record { arrival = arrival l e u k; route = route; set = set; role = r }) (find_leg l s.legs)
-on_message p s u (Resv l e k x) = on_resv p s (arrival l e u k) x (find_leg l s.legs)
-on_message p s u (PathTear l e k) = on_tear p (arrival l e u k) (find_leg l s.legs)
+    on_path p s (record { arrival = arrival l e u k; route = route; set = set; role = r })
+on_message p s u (Resv l e k x) = on_resv p s (arrival l e u k) x
+on_message p s u (PathTear l e k) = on_tear p s (arrival l e u k)
 on_message p s u (PathErr l e at gone code) =
-    on_path_err s u (record { msg = PathErr l e at gone code; removed = gone; code = code }) (find_leg l s.legs)
+    on_path_err s u (record { lsp = l; msg = PathErr l e at gone code; removed = gone; code = code })
 on_message p s u (Notify l e at k code) = nothing

@@ -7,7 +7,6 @@ use Rattle.ason_base.specs.declared.commands.DeskItem.TheVariants.{Order, Alarm,
 use Rattle.mesh_rules.specs.State.{NodeState}
 use Rattle.mesh_rules.specs.Changes.{Answer, nothing}
 use Rattle.mesh_rules.specs.Sites.{Place}
-use Rattle.mesh_rules.specs.Calls.{find_call}
 use Rattle.mesh_rules.specs.Setups.{on_setup}
 use Rattle.mesh_rules.specs.Releases.{on_release}
 
@@ -15,8 +14,7 @@ abbrev pub on_order : Place → NodeState → Command → Answer
 on_order p s (Setup n from to protected both via backup) =
     on_setup p s
     (record { call = n; from = from; egress = to; protected = protected; both = both; via = via; backup = backup })
-    (find_call n s.calls)
-on_order p s (Release n from) = on_release p s from (find_call n s.calls)
+on_order p s (Release n from) = on_release p s n from
 on_order p s (Protect n from) = nothing
 on_order p s (Retry n from) = nothing
 on_order p s (Revert n from) = nothing

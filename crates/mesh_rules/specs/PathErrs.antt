@@ -1,5 +1,6 @@
 -- A PathErr with Path_State_Removed (RFC 3473, section 4.4).
 use Rattle.std.specs.Prelude.{◌&&◌, Bool, List, [], ◌∷◌, Option, Some, None, if◌then◌else◌}
+use Rattle.ason_base.specs.declared.ids.Lsp.{Lsp}
 use Rattle.ason_base.specs.declared.ids.NodeId.{NodeId}
 use Rattle.ason_base.specs.declared.codes.ErrCode.{ErrCode}
 use Rattle.ason_base.specs.declared.messages.Msg.{Msg}
@@ -10,11 +11,12 @@ use Rattle.mesh_rules.specs.declared.changes.CallChange.TheVariants as call
 use Rattle.mesh_rules.specs.declared.neighbours.Neighbour.{Neighbour}
 use Rattle.mesh_rules.specs.State.{NodeState}
 use Rattle.mesh_rules.specs.Changes.{Answer, nothing, removes, changes_calls, followed_by, to_node}
-use Rattle.mesh_rules.specs.Legs.{is_asked, is_closing, previous, following, is_node}
+use Rattle.mesh_rules.specs.Legs.{find_leg, is_asked, is_closing, previous, following, is_node}
 use Rattle.mesh_rules.specs.Calls.{call_of, is_asking, blocked}
 
--- a PathErr of an LSP: the message, whether it removes the leg, and why it came
+-- a PathErr: its LSP, the message, whether it removes the leg, and why it came
 pub record PathFailure : Type 0 where
+  pub lsp : Lsp
   pub msg : Msg
   pub removed : Bool
   pub code : ErrCode
@@ -25,8 +27,11 @@ call_refused code None = nothing
 call_refused code (Some c) = if is_asking c.state then changes_calls (call.Put (blocked c (Code code)) ∷ []) else nothing
 
 -- at the ingress the call follows, elsewhere it is passed back unchanged
+abbrev pub refused_here : NodeState → Leg → ErrCode → Answer
+refused_here s g code = followed_by (removes g.lsp []) (call_refused code (call_of g.lsp s.calls))
+
 abbrev pub err_passed : NodeState → Leg → PathFailure → Option Neighbour → Answer
-err_passed s g e None = followed_by (removes g.lsp []) (call_refused e.code (call_of g.lsp s.calls))
+err_passed s g e None = refused_here s g e.code
 err_passed s g e (Some h) = removes g.lsp (to_node h.node e.msg ∷ [])
 
 -- an Asked leg goes and the PathErr is passed back; a torn leg goes, since the next node has let go
@@ -34,6 +39,9 @@ abbrev pub removed : NodeState → Leg → PathFailure → Answer
 removed s g e =
     if is_asked g.phase then err_passed s g e (previous g) else (if is_closing g.phase then removes g.lsp [] else nothing)
 
-abbrev pub on_path_err : NodeState → NodeId → PathFailure → Option Leg → Answer
-on_path_err s u e None = nothing
-on_path_err s u e (Some g) = if e.removed && is_node (following g) u then removed s g e else nothing
+abbrev pub path_err_with : NodeState → NodeId → PathFailure → Option Leg → Answer
+path_err_with s u e None = nothing
+path_err_with s u e (Some g) = if e.removed && is_node (following g) u then removed s g e else nothing
+
+abbrev pub on_path_err : NodeState → NodeId → PathFailure → Answer
+on_path_err s u e = path_err_with s u e (find_leg e.lsp s.legs)

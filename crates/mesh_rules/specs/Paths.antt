@@ -18,7 +18,7 @@ use Rattle.mesh_rules.specs.declared.arrivals.Arrival.{Arrival}
 use Rattle.mesh_rules.specs.State.{NodeState}
 use Rattle.mesh_rules.specs.Changes.{Answer, nothing, sends, puts, to_node}
 use Rattle.mesh_rules.specs.Sites.{Place, own_link, is_link_there, leads, other_end, fibre_in, fibre_out}
-use Rattle.mesh_rules.specs.Legs.{usable}
+use Rattle.mesh_rules.specs.Legs.{find_leg, usable}
 
 -- what a Path asks for: of which LSP and from where it came, over which steps from here, with which labels, and for what
 pub record PathRequest : Type 0 where
@@ -142,6 +142,9 @@ first_path p s m (Some link) =
     else nothing
 
 -- a Path of an LSP that has a leg here changes nothing
-abbrev pub on_path : Place → NodeState → PathRequest → Option Leg → Answer
-on_path p s m None = first_path p s m (own_link p m.arrival.link)
-on_path p s m (Some g) = nothing
+abbrev pub path_with : Place → NodeState → PathRequest → Option Leg → Answer
+path_with p s m None = first_path p s m (own_link p m.arrival.link)
+path_with p s m (Some g) = nothing
+
+abbrev pub on_path : Place → NodeState → PathRequest → Answer
+on_path p s m = path_with p s m (find_leg m.arrival.lsp s.legs)

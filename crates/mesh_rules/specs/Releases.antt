@@ -10,6 +10,7 @@ use Rattle.mesh_rules.specs.declared.changes.CallChange.TheVariants as call
 use Rattle.mesh_rules.specs.declared.neighbours.Neighbour.{Neighbour}
 use Rattle.mesh_rules.specs.State.{NodeState}
 use Rattle.mesh_rules.specs.Changes.{Answer, nothing, puts, changes_calls, followed_by, to_node}
+use Rattle.mesh_rules.specs.Calls.{find_call}
 use Rattle.mesh_rules.specs.Sites.{Place}
 use Rattle.mesh_rules.specs.Legs.{leg_of, closed, following}
 
@@ -27,6 +28,9 @@ abbrev pub releases : NodeState → CallRec → Answer
 releases s c =
     followed_by (tears (leg_of c.work s.legs)) (followed_by (tears (leg_of c.back s.legs)) (changes_calls (call.Goes c.call ∷ [])))
 
-abbrev pub on_release : Place → NodeState → NodeId → Option CallRec → Answer
-on_release p s from None = nothing
-on_release p s from (Some c) = if from.0 == p.id.0 then releases s c else nothing
+abbrev pub release_with : Place → NodeState → NodeId → Option CallRec → Answer
+release_with p s from None = nothing
+release_with p s from (Some c) = if from.0 == p.id.0 then releases s c else nothing
+
+abbrev pub on_release : Place → NodeState → CallNo → NodeId → Answer
+on_release p s n from = release_with p s from (find_call n s.calls)

@@ -11,7 +11,7 @@ use Rattle.mesh_rules.specs.declared.neighbours.Neighbour.{Neighbour}
 use Rattle.mesh_rules.specs.State.{NodeState}
 use Rattle.mesh_rules.specs.Changes.{Answer, nothing, puts, changes_calls, followed_by, to_node}
 use Rattle.mesh_rules.specs.Sites.{Place}
-use Rattle.mesh_rules.specs.Legs.{is_asked, is_work, closed, connected, previous, following, is_over, usable}
+use Rattle.mesh_rules.specs.Legs.{find_leg, is_asked, is_work, closed, connected, previous, following, is_over, usable}
 use Rattle.mesh_rules.specs.Calls.{call_of, is_asking, bare}
 
 -- a Resv is taken by an Asked leg, from its next node, over its outgoing link, with a label of the set that was sent on
@@ -33,17 +33,34 @@ abbrev pub label_back : Place → List ℕ → ℕ → Option ℕ
 label_back p labels x = if p.convert then least labels else only x (has labels x)
 
 -- no label is left: the LSP is torn towards the egress, and the ingress is told
-abbrev pub passed_back : Place → Arrival → Leg → Neighbour → ℕ → Option ℕ → Answer
-passed_back p a g h x None =
+abbrev pub torn_both_ways : Place → Arrival → Leg → Neighbour → Answer
+torn_both_ways p a g h =
     puts (closed g)
     (to_node a.from (PathTear g.lsp g.egress a.link) ∷ to_node h.node (PathErr g.lsp g.egress p.id true label_code) ∷ [])
-passed_back p a g h x (Some y) = puts (connected g (Some y) x) (to_node h.node (Resv g.lsp g.egress h.fibre.link y) ∷ [])
+
+-- the label x came, and y goes back
+abbrev pub label_passed : Leg → Neighbour → ℕ → ℕ → Answer
+label_passed g h x y = puts (connected g (Some y) x) (to_node h.node (Resv g.lsp g.egress h.fibre.link y) ∷ [])
+
+abbrev pub passed_back : Place → Arrival → Leg → Neighbour → ℕ → Option ℕ → Answer
+passed_back p a g h x None = torn_both_ways p a g h
+passed_back p a g h x (Some y) = label_passed g h x y
 
 -- at the ingress the call follows
-abbrev pub answered : Place → NodeState → Arrival → ℕ → Leg → Option Neighbour → Answer
-answered p s a x g None = followed_by (puts (connected g None x) []) (call_connected (call_of g.lsp s.calls))
-answered p s a x g (Some h) = passed_back p a g h x (label_back p (meet g.offered (usable p s.legs h.fibre)) x)
+abbrev pub connected_here : NodeState → ℕ → Leg → Answer
+connected_here s x g = followed_by (puts (connected g None x) []) (call_connected (call_of g.lsp s.calls))
 
-abbrev pub on_resv : Place → NodeState → Arrival → ℕ → Option Leg → Answer
-on_resv p s a x None = nothing
-on_resv p s a x (Some g) = if is_expected a x g then answered p s a x g (previous g) else nothing
+-- the labels that may go back: those that were offered and are usable now
+abbrev pub labels_left : Place → NodeState → Leg → Neighbour → List ℕ
+labels_left p s g h = meet g.offered (usable p s.legs h.fibre)
+
+abbrev pub answered : Place → NodeState → Arrival → ℕ → Leg → Option Neighbour → Answer
+answered p s a x g None = connected_here s x g
+answered p s a x g (Some h) = passed_back p a g h x (label_back p (labels_left p s g h) x)
+
+abbrev pub resv_with : Place → NodeState → Arrival → ℕ → Option Leg → Answer
+resv_with p s a x None = nothing
+resv_with p s a x (Some g) = if is_expected a x g then answered p s a x g (previous g) else nothing
+
+abbrev pub on_resv : Place → NodeState → Arrival → ℕ → Answer
+on_resv p s a x = resv_with p s a x (find_leg a.lsp s.legs)

@@ -21,6 +21,7 @@ use Rattle.mesh_rules.specs.declared.changes.CallChange.TheVariants as call
 use Rattle.mesh_rules.specs.declared.changes.LegChange.TheVariants as leg
 use Rattle.mesh_rules.specs.State.{NodeState}
 use Rattle.mesh_rules.specs.Changes.{Answer, nothing, changes_calls, to_node}
+use Rattle.mesh_rules.specs.Calls.{find_call}
 use Rattle.mesh_rules.specs.Sites.{Place, own_link, is_link_there, other_end, fibre_out}
 
 -- what a setup asks for
@@ -122,6 +123,9 @@ is_order_here p w =
     w.from.0 == p.id.0 && (not (w.egress.0 == p.id.0) && (not w.protected && (not w.both && is_followable p w.backup)))
 
 -- a setup whose call number is known changes nothing, nor does one that isn't an order for this node
-abbrev pub on_setup : Place → NodeState → SetupRequest → Option CallRec → Answer
-on_setup p s w (Some c) = nothing
-on_setup p s w None = if is_order_here p w then new_call p s w w.via else nothing
+abbrev pub setup_with : Place → NodeState → SetupRequest → Option CallRec → Answer
+setup_with p s w (Some c) = nothing
+setup_with p s w None = if is_order_here p w then new_call p s w w.via else nothing
+
+abbrev pub on_setup : Place → NodeState → SetupRequest → Answer
+on_setup p s w = setup_with p s w (find_call w.call s.calls)
