@@ -13,7 +13,7 @@ pub record NodeView : Type 0 where
 
 -- the rule of an input; a node learns nothing of other links
 abbrev pub answer_to : NodeView → Input → Answer
-answer_to n (Message u m) = on_message n.place n.state.legs n.state.calls u m
+answer_to n (Message u m) = on_message n.place n.state u m
 answer_to n (Desk item) = on_item n.place n.state item
 answer_to n Tick = on_tick n.place n.state
 answer_to n (Learn row) = nothing

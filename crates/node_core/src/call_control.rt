@@ -1,43 +1,87 @@
-//! What orders, desk items and ticks do at an ingress (ITU-T G.8080, call control).
+//! What setups and releases do at an ingress, and what becomes of a call after its LSP (ITU-T G.8080, call control).
 
-ghost use Rattle.std.specs.Prelude.{◌≡◌, ◌∷◌, ◌++◌, ◌+◌, ◌≤◌, [], IfOk, IfSome, None, OnOk, Some, drop};
+ghost use Rattle.std.specs.Prelude.{◌≡◌, ◌≤◌, IfOk, IfSome, OnOk, Some, drop};
 ghost use Rattle.std.specs.Option.{option_copied};
-ghost use Rattle.ason_base.specs.declared.ids.NodeId.{NodeId};
-ghost use Rattle.ason_base.specs.declared.tables.Leg.{Leg};
-ghost use Rattle.mesh_rules.specs.Legs.{find_leg, following, leg_of};
-ghost use Rattle.mesh_rules.specs.Calls.{find_call};
-ghost use Rattle.mesh_rules.specs.CallRules.{Wish, given_up, leg_closes, tear_of};
-ghost use Rattle.mesh_rules.specs.Paths.{admitted};
-ghost use Rattle.mesh_rules.specs.Setups.{begins, call_record, first_leg, first_link, is_followable, is_spent, new_call, next_lsp, on_setup, over_first, refused_setup};
-ghost use Rattle.mesh_rules.specs.Sites.{is_link_there};
-ghost use Rattle.mesh_rules.specs.Orders.{on_item, on_order, on_tick};
-ghost use Rattle.mesh_rules.specs.Releases.{on_release, tear_to};
+ghost use Rattle.mesh_rules.specs.Changes.{followed_by};
+ghost use Rattle.mesh_rules.specs.PathErrs as path_errs;
+ghost use Rattle.mesh_rules.specs.Resvs as resvs;
+ghost use Rattle.mesh_rules.specs.Setups.{admitted_setup, begins, call_record, first_leg, first_link, is_followable, is_order_here, is_spent, new_call, next_lsp, on_setup, refused_setup};
+ghost use Rattle.mesh_rules.specs.Releases.{on_release, tears};
 
-use crate::calls::find_call;
+use crate::calls::{bare, blocked, is_asking};
 use crate::changes::Change;
-use crate::legs::{closed, find_leg, following};
-use crate::path_rule::MOST_LEGS;
+use crate::legs::{closed, following};
+use crate::node::Node;
 use crate::sites::Site;
-use crate::tables::Tables;
 use ason_base::{
-    CallNo, CallRec, CallState, Cause, Command, DeskItem, Fibres, LabelSet, Leg, LinkSpec, Lsp,
-    Msg, NodeId, Out, OutOfMemory, Outs, PathRole, Phase, RiskSet, Role, Steps,
+    CallNo, CallRec, CallState, Cause, ErrCode, Fibres, LabelSet, Leg, LinkSpec, Lsp, Msg, NodeId,
+    OutOfMemory, PathRole, Phase, RiskSet, Role, Steps,
 };
+use mesh_rules::NextNumbers;
+use mesh_rules::limits::{LAST_NUMBER, MOST_LEGS, MOST_LINKS_OF_ROUTE};
 use mesh_rules::links::{fibre_out, other_end};
-use mesh_rules::{CallChange, LegChange, NextNumbers};
 use std::alloc::Global;
 use std::marker::Model;
 
-/// The most steps of a given route.
-pub const MOST_STEPS: usize = 63;
+// What becomes of a call after its LSP
 
-/// The greatest tunnel or LSP number.
-pub const LAST_NUMBER: u32 = 65_535;
+/// A call without protection that was asked for stands.
+pub(crate) fn call_connected(
+    alloc: Global,
+    change: &mut Change,
+    call: Option<&CallRec>,
+) -> Result<(), OutOfMemory>
+    ensures { OnOk result (change.new ≡ followed_by change.old (resvs.call_connected (option_copied call.entry))) }
+{
+    match call {
+        Some(call) if is_asking(call.state) && !call.protected => {
+            change.put_call(bare(alloc, call)?)
+        }
+        _ => Ok(()),
+    }
+}
+
+/// A call that was asked for is refused.
+pub(crate) fn call_refused(
+    alloc: Global,
+    change: &mut Change,
+    code: ErrCode,
+    call: Option<&CallRec>,
+) -> Result<(), OutOfMemory>
+    ensures { OnOk result (change.new ≡ followed_by change.old (path_errs.call_refused code (option_copied call.entry))) }
+{
+    match call {
+        Some(call) if is_asking(call.state) => {
+            change.put_call(blocked(alloc, call, Cause::Code(code))?)
+        }
+        _ => Ok(()),
+    }
+}
 
 // Setup
 
-fn copy_route(alloc: Global, route: Option<&Steps>) -> Result<Option<Steps>, OutOfMemory>
-    ensures { IfOk result (λ r. r ≡ option_copied route.entry) }
+/// What a setup asks for.
+#[derive(Drop)]
+pub(crate) struct SetupRequest<'a> {
+    pub(crate) call: CallNo,
+    pub(crate) from: NodeId,
+    pub(crate) egress: NodeId,
+    pub(crate) protected: bool,
+    pub(crate) both: bool,
+    pub(crate) via: &'a Option<Steps>,
+    pub(crate) backup: &'a Option<Steps>,
+}
+
+impl<'a> Model for SetupRequest<'a> {
+    ghost use Rattle.mesh_rules.specs.Setups as setups;
+
+    ghost Value = { setups.SetupRequest };
+
+    ghost view = { λ r. record { call = r.call; from = r.from; egress = r.egress; protected = r.protected; both = r.both; via = r.via.now; backup = r.backup.now } };
+}
+
+fn copy_route(alloc: Global, route: &Option<Steps>) -> Result<Option<Steps>, OutOfMemory>
+    ensures { IfOk result (λ r. r ≡ route.now) }
 {
     match route {
         None => Ok(None),
@@ -48,32 +92,16 @@ fn copy_route(alloc: Global, route: Option<&Steps>) -> Result<Option<Steps>, Out
     }
 }
 
-/// What a setup asks for.
-#[derive(Debug, Drop)]
-struct Request {
-    call: CallNo,
-    egress: NodeId,
-    backup: Option<Steps>,
-}
-
-impl Model for Request {
-    ghost use Rattle.mesh_rules.specs.CallRules.{Wish};
-
-    ghost Value = { Wish };
-
-    ghost view = { λ r. record { call = r.call; egress = r.egress; backup = r.backup } };
-}
-
 fn call_record(
     alloc: Global,
-    request: &Request,
+    request: &SetupRequest<'_>,
     state: CallState,
     work: Option<Lsp>,
     cause: Cause,
 ) -> Result<CallRec, OutOfMemory>
     ensures { IfOk result (λ c. c ≡ call_record request.now state work cause) }
 {
-    let backup = copy_route(alloc, request.backup.as_ref())?;
+    let backup = copy_route(alloc, request.backup)?;
     Ok(CallRec {
         call: request.call,
         egress: request.egress,
@@ -89,12 +117,15 @@ fn call_record(
     })
 }
 
-fn refuse_setup(alloc: Global, request: &Request, cause: Cause) -> Result<Change, OutOfMemory>
+fn refuse_setup(
+    alloc: Global,
+    request: &SetupRequest<'_>,
+    cause: Cause,
+) -> Result<Change, OutOfMemory>
     ensures { IfOk result (λ c. c ≡ refused_setup request.now cause) }
 {
-    let call = call_record(alloc, request, CallState::Blocked, None, cause)?;
     let mut change = Change::nothing(alloc);
-    change.calls.push(CallChange::Stands(call))?;
+    change.put_call(call_record(alloc, request, CallState::Blocked, None, cause)?)?;
     Ok(change)
 }
 
@@ -133,25 +164,21 @@ fn first_leg(
 // The LSP begins: a tunnel and an LSP number are left.
 fn begin(
     alloc: Global,
-    site: &Site,
-    tables: &Tables,
-    request: &Request,
+    node: &Node,
+    request: &SetupRequest<'_>,
     out: &LinkSpec,
     route: Steps,
 ) -> Result<Change, OutOfMemory>
     requires narrow { out.now.labels ≤ 80 }
-    requires tunnel { tables.now.tunnel ≤ 65535 }
-    requires lsp { tables.now.lsp ≤ 65535 }
-    ensures { IfOk result (λ c. c ≡ begins site.now tables.now request.now out.now route) }
+    requires tunnel { node.now.state.tunnel ≤ 65535 }
+    requires lsp { node.now.state.lsp ≤ 65535 }
+    ensures { IfOk result (λ c. c ≡ begins node.now.place node.now.state request.now out.now route) }
 {
-    let NextNumbers {
-        tunnel,
-        lsp: number,
-    } = tables.numbers();
+    let next = node.numbers();
     let lsp = Lsp {
-        ingress: site.id(),
-        tunnel: tunnel as u16,
-        lsp: number as u16,
+        ingress: node.id(),
+        tunnel: next.tunnel as u16,
+        lsp: next.lsp as u16,
     };
     let msg = Msg::Path {
         lsp,
@@ -162,35 +189,40 @@ fn begin(
         upstream: None,
         role: PathRole::Work { guard: false },
     };
-    let leg = first_leg(alloc, site, lsp, request.egress, out, route);
+    let leg = first_leg(alloc, node.site(), lsp, request.egress, out, route);
     let call = call_record(alloc, request, CallState::Asking, Some(lsp), Cause::Unset)?;
-    let mut change = Change::stands(alloc, leg, other_end(out, site.id()), msg)?;
-    change.calls.push(CallChange::Stands(call))?;
+    let mut change = Change::puts(alloc, leg, other_end(out, node.id()), msg)?;
+    change.put_call(call)?;
     change.numbers = Some(NextNumbers {
-        tunnel: tunnel + 1,
-        lsp: number + 1,
+        tunnel: next.tunnel + 1,
+        lsp: next.lsp + 1,
     });
     Ok(change)
 }
 
+fn is_spent(node: &Node) -> bool
+    ensures spent { result ≡ is_spent node.now.state }
+{
+    let next = node.numbers();
+    next.lsp > LAST_NUMBER || next.tunnel > LAST_NUMBER
+}
+
 fn admit(
     alloc: Global,
-    site: &Site,
-    tables: &Tables,
-    request: &Request,
+    node: &Node,
+    request: &SetupRequest<'_>,
     out: &LinkSpec,
     route: Steps,
 ) -> Result<Change, OutOfMemory>
     requires { out.now.labels ≤ 80 }
-    ensures { IfOk result (λ c. c ≡ admitted site.now tables.now request.now out.now route) }
+    ensures { IfOk result (λ c. c ≡ admitted_setup node.now.place node.now.state request.now out.now route) }
 {
-    let next = tables.numbers();
-    if next.lsp > LAST_NUMBER || next.tunnel > LAST_NUMBER {
+    if is_spent(node) {
         refuse_setup(alloc, request, Cause::Spent)
-    } else if tables.legs().len() >= MOST_LEGS {
+    } else if node.legs().len() >= MOST_LEGS {
         refuse_setup(alloc, request, Cause::Full)
     } else {
-        begin(alloc, site, tables, request, out, route)
+        begin(alloc, node, request, out, route)
     }
 }
 
@@ -202,7 +234,7 @@ fn first_link<'a>(site: &'a Site, route: &Steps) -> Option<&'a LinkSpec>
     match route.items() {
         [] => None,
         [hop, others @ ..] => {
-            if hop.node == site.id() && others.len() < MOST_STEPS {
+            if hop.node == site.id() && others.len() < MOST_LINKS_OF_ROUTE {
                 site.own(hop.link)
             } else {
                 None
@@ -211,8 +243,8 @@ fn first_link<'a>(site: &'a Site, route: &Steps) -> Option<&'a LinkSpec>
     }
 }
 
-fn is_followable(site: &Site, route: Option<&Steps>) -> bool
-    ensures { result ≡ is_followable site.now (option_copied route.entry) }
+fn is_followable(site: &Site, route: &Option<Steps>) -> bool
+    ensures { result ≡ is_followable site.now route.now }
 {
     match route {
         None => true,
@@ -220,71 +252,55 @@ fn is_followable(site: &Site, route: Option<&Steps>) -> bool
     }
 }
 
+fn is_order_here(site: &Site, request: &SetupRequest<'_>) -> bool
+    ensures { result ≡ is_order_here site.now request.now }
+{
+    request.from == site.id()
+        && request.egress != site.id()
+        && !request.protected
+        && !request.both
+        && is_followable(site, request.backup)
+}
+
 fn new_call(
     alloc: Global,
-    site: &Site,
-    tables: &Tables,
-    request: &Request,
-    via: Option<&Steps>,
+    node: &Node,
+    request: &SetupRequest<'_>,
 ) -> Result<Change, OutOfMemory>
-    ensures { IfOk result (λ c. c ≡ new_call site.now tables.now request.now (option_copied via.entry)) }
+    ensures { IfOk result (λ c. c ≡ new_call node.now.place node.now.state request.now request.now.via) }
 {
-    let Some(route) = via else {
+    let Some(route) = request.via else {
         return Ok(Change::nothing(alloc));
     };
-    match first_link(site, route) {
+    match first_link(node.site(), route) {
         None => Ok(Change::nothing(alloc)),
         Some(out) => {
             let rest = route.copy_from(alloc, 1)?;
-            admit(alloc, site, tables, request, out, rest)
+            admit(alloc, node, request, out, rest)
         }
     }
 }
 
-fn set_up(
+/// What a setup does: an LSP is asked for, or the call is refused.
+pub(crate) fn set_up(
     alloc: Global,
-    site: &Site,
-    tables: &Tables,
-    request: &Request,
-    from: NodeId,
-    protected: bool,
-    both: bool,
-    via: Option<&Steps>,
+    node: &Node,
+    request: &SetupRequest<'_>,
 ) -> Result<Change, OutOfMemory>
-    ensures { IfOk result (λ c. c ≡ on_setup site.now tables.now request.now from protected both (option_copied via.entry) (find_call request.now.call tables.now.calls)) }
+    ensures { IfOk result (λ c. c ≡ on_setup node.now.place node.now.state request.now) }
 {
-    if find_call(tables.calls(), request.call).is_some() {
-        return Ok(Change::nothing(alloc));
-    }
-    if from != site.id()
-        || request.egress == site.id()
-        || protected
-        || both
-        || !is_followable(site, request.backup.as_ref())
-    {
-        Ok(Change::nothing(alloc))
+    if node.call(request.call).is_none() && is_order_here(node.site(), request) {
+        new_call(alloc, node, request)
     } else {
-        new_call(alloc, site, tables, request, via)
+        Ok(Change::nothing(alloc))
     }
 }
 
 // Release
 
-fn leg_of(legs: &[Leg], lsp: Option<Lsp>) -> Option<&Leg>
-    ensures { option_copied result ≡ leg_of lsp legs.now }
-{
-    match lsp {
-        None => None,
-        Some(lsp) => find_leg(legs, lsp),
-    }
-}
-
 // Tears the LSP of this leg, if it stands.
 fn tear(alloc: Global, change: &mut Change, leg: Option<&Leg>) -> Result<(), OutOfMemory>
-    ensures legs { OnOk result (change.new.legs ≡ change.old.legs ++ leg_closes (option_copied leg.entry)) }
-    ensures sent { OnOk result (change.new.sent ≡ change.old.sent ++ tear_of (option_copied leg.entry)) }
-    ensures calls { change.new.calls ≡ change.old.calls }
-    ensures numbers { change.new.numbers ≡ change.old.numbers }
+    ensures { OnOk result (change.new ≡ followed_by change.old (tears (option_copied leg.entry))) }
 {
     let Some(leg) = leg else {
         return Ok(());
@@ -295,98 +311,29 @@ fn tear(alloc: Global, change: &mut Change, leg: Option<&Leg>) -> Result<(), Out
             egress: leg.egress,
             link: next.fibre.link,
         };
-        change.sent.push(Out { to: next.node, msg })?;
+        change.send(next.node, msg)?;
     }
-    let torn = closed(alloc, leg)?;
-    change.legs.push(LegChange::Stands(torn))?;
-    Ok(())
+    change.put(closed(alloc, leg)?)
 }
 
-fn release(
+/// What a release does: the LSPs of the call are torn, and the call goes.
+pub(crate) fn release(
     alloc: Global,
-    site: &Site,
-    tables: &Tables,
+    node: &Node,
     number: CallNo,
     from: NodeId,
 ) -> Result<Change, OutOfMemory>
-    ensures { IfOk result (λ c. c ≡ on_release site.now tables.now number from (find_call number tables.now.calls)) }
+    ensures { IfOk result (λ c. c ≡ on_release node.now.place node.now.state number from) }
 {
     let mut change = Change::nothing(alloc);
-    let Some(call) = find_call(tables.calls(), number) else {
+    if from != node.id() {
+        return Ok(change);
+    }
+    let Some(call) = node.call(number) else {
         return Ok(change);
     };
-    if from != site.id() {
-        return Ok(change);
-    }
-    tear(alloc, &mut change, leg_of(tables.legs(), call.work))?;
-    tear(alloc, &mut change, leg_of(tables.legs(), call.back))?;
-    change.calls.push(CallChange::Goes(number))?;
+    tear(alloc, &mut change, node.leg_of(call.work))?;
+    tear(alloc, &mut change, node.leg_of(call.back))?;
+    change.remove_call(call.call)?;
     Ok(change)
-}
-
-/// What an order does at this node.
-pub fn on_order(
-    alloc: Global,
-    site: &Site,
-    tables: &Tables,
-    command: &Command,
-) -> Result<Change, OutOfMemory>
-    ensures { IfOk result (λ c. c ≡ on_order site.now tables.now command.now) }
-{
-    match command {
-        Command::Setup {
-            call,
-            from,
-            to,
-            protected,
-            both,
-            via,
-            backup,
-        } => {
-            let backup = copy_route(alloc, backup.as_ref())?;
-            let request = Request {
-                call: *call,
-                egress: *to,
-                backup,
-            };
-            set_up(
-                alloc,
-                site,
-                tables,
-                &request,
-                *from,
-                *protected,
-                *both,
-                via.as_ref(),
-            )
-        }
-        Command::Release { call, from } => release(alloc, site, tables, *call, *from),
-        Command::Protect { .. }
-        | Command::Retry { .. }
-        | Command::Revert { .. }
-        | Command::Fail { .. }
-        | Command::Repair { .. } => Ok(Change::nothing(alloc)),
-    }
-}
-
-/// What an item of the desk does at this node.
-pub fn on_item(
-    alloc: Global,
-    site: &Site,
-    tables: &Tables,
-    item: &DeskItem,
-) -> Result<Change, OutOfMemory>
-    ensures { IfOk result (λ c. c ≡ on_item site.now tables.now item.now) }
-{
-    match item {
-        DeskItem::Order(command) => on_order(alloc, site, tables, command),
-        DeskItem::Alarm(_) | DeskItem::Clear(_) => Ok(Change::nothing(alloc)),
-    }
-}
-
-/// What a tick does at this node.
-pub fn on_tick(alloc: Global, _site: &Site, _tables: &Tables) -> Change
-    ensures { result ≡ on_tick _site.now _tables.now }
-{
-    Change::nothing(alloc)
 }

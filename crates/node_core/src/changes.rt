@@ -1,10 +1,10 @@
-//! What a rule answers: the legs and calls after it, and the messages that it sends.
+//! What a rule answers: the legs and calls that change, and the messages that are sent.
 
-ghost use Rattle.std.specs.Prelude.{◌≡◌, [], ◌∷◌, IfOk};
-ghost use Rattle.mesh_rules.specs.Changes.{nothing, to_node};
-ghost use Rattle.mesh_rules.specs.MessageRules.{stands};
+ghost use Rattle.std.specs.Prelude.{◌≡◌, [], ◌∷◌, IfOk, OnOk};
+ghost use Rattle.mesh_rules.specs.declared.changes.CallChange.TheVariants as calls;
+ghost use Rattle.mesh_rules.specs.Changes.{changes_calls, followed_by, nothing, puts, removes, sends, to_node};
 
-use ason_base::{Leg, Lsp, Msg, NodeId, Out, OutOfMemory, Outs};
+use ason_base::{CallNo, CallRec, Leg, Lsp, Msg, NodeId, Out, OutOfMemory, Outs};
 use mesh_rules::{CallChange, LegChange, NextNumbers};
 use std::alloc::Global;
 use std::marker::Model;
@@ -19,11 +19,12 @@ pub struct Change {
 }
 
 impl Model for Change {
+    ghost use Rattle.std.specs.Prelude.{None};
     ghost use Rattle.mesh_rules.specs.Changes.{Answer};
 
     ghost Value = { Answer };
 
-    ghost view = { λ c. record { legs = c.legs.items; calls = c.calls.items; numbers = c.numbers; sent = c.sent } };
+    ghost view = { λ c. record { legs = c.legs.items; calls = c.calls.items; numbers = c.numbers; down = None; sent = c.sent } };
 }
 
 impl Change {
@@ -39,90 +40,80 @@ impl Change {
         }
     }
 
-    /// Nothing changes, and one message is sent.
+    /// One message is sent.
     pub(crate) fn sends(alloc: Global, to: NodeId, msg: Msg) -> Result<Change, OutOfMemory>
-        ensures { IfOk result (λ c. c ≡ record { legs = []; calls = []; numbers = None; sent = to_node to msg ∷ [] }) }
+        ensures { IfOk result (λ c. c ≡ sends (to_node to msg ∷ [])) }
     {
-        let mut sent = Outs::new(alloc);
-        sent.push(Out { to, msg })?;
-        Ok(Change {
-            legs: Vec::new(alloc),
-            calls: Vec::new(alloc),
-            numbers: None,
-            sent,
-        })
+        let mut change = Change::nothing(alloc);
+        change.send(to, msg)?;
+        Ok(change)
     }
 
-    /// The leg stands, and one message is sent.
-    pub(crate) fn stands(
+    /// The leg is put in its place, and one message is sent.
+    pub(crate) fn puts(
         alloc: Global,
         leg: Leg,
         to: NodeId,
         msg: Msg,
     ) -> Result<Change, OutOfMemory>
-        ensures { IfOk result (λ c. c ≡ stands leg (to_node to msg ∷ [])) }
+        ensures { IfOk result (λ c. c ≡ puts leg (to_node to msg ∷ [])) }
     {
         let mut change = Change::sends(alloc, to, msg)?;
-        change.legs.push(LegChange::Stands(leg))?;
+        change.put(leg)?;
         Ok(change)
-    }
-
-    /// The leg stands, and two messages are sent.
-    pub(crate) fn stands_with(
-        alloc: Global,
-        leg: Leg,
-        first: NodeId,
-        msg: Msg,
-        second: NodeId,
-        then: Msg,
-    ) -> Result<Change, OutOfMemory>
-        ensures { IfOk result (λ c. c ≡ stands leg (to_node first msg ∷ to_node second then ∷ [])) }
-    {
-        let mut change = Change::stands(alloc, leg, first, msg)?;
-        change.sent.push(Out {
-            to: second,
-            msg: then,
-        })?;
-        Ok(change)
-    }
-
-    /// A leg and calls change, and nothing is sent.
-    pub(crate) fn of_call(
-        alloc: Global,
-        leg: LegChange,
-        calls: Vec<CallChange>,
-    ) -> Result<Change, OutOfMemory>
-        ensures { IfOk result (λ c. c ≡ record { legs = leg ∷ []; calls = calls.items; numbers = None; sent = [] }) }
-    {
-        let mut legs = Vec::new(alloc);
-        legs.push(leg)?;
-        Ok(Change {
-            legs,
-            calls,
-            numbers: None,
-            sent: Outs::new(alloc),
-        })
-    }
-
-    /// The leg of this LSP goes, and nothing is sent.
-    pub(crate) fn goes(alloc: Global, lsp: Lsp) -> Result<Change, OutOfMemory>
-        ensures { IfOk result (λ c. c ≡ record { legs = LegChange.Goes lsp ∷ []; calls = []; numbers = None; sent = [] }) }
-    {
-        Change::of_call(alloc, LegChange::Goes(lsp), Vec::new(alloc))
     }
 
     /// The leg of this LSP goes, and one message is sent.
-    pub(crate) fn goes_with(
+    pub(crate) fn removes(
         alloc: Global,
         lsp: Lsp,
         to: NodeId,
         msg: Msg,
     ) -> Result<Change, OutOfMemory>
-        ensures { IfOk result (λ c. c ≡ record { legs = LegChange.Goes lsp ∷ []; calls = []; numbers = None; sent = to_node to msg ∷ [] }) }
+        ensures { IfOk result (λ c. c ≡ removes lsp (to_node to msg ∷ [])) }
     {
         let mut change = Change::sends(alloc, to, msg)?;
-        change.legs.push(LegChange::Goes(lsp))?;
+        change.remove(lsp)?;
         Ok(change)
+    }
+
+    /// Then a message is sent.
+    pub(crate) fn send(&mut self, to: NodeId, msg: Msg) -> Result<(), OutOfMemory>
+        ensures { OnOk result (self.new ≡ followed_by self.old (sends (to_node to msg ∷ []))) }
+    {
+        self.sent.push(Out { to, msg })
+    }
+
+    /// Then the leg is put in its place.
+    pub(crate) fn put(&mut self, leg: Leg) -> Result<(), OutOfMemory>
+        ensures { OnOk result (self.new ≡ followed_by self.old (puts leg [])) }
+    {
+        self.legs.push(LegChange::Put(leg))?;
+        Ok(())
+    }
+
+    /// Then the leg of this LSP goes.
+    pub(crate) fn remove(&mut self, lsp: Lsp) -> Result<(), OutOfMemory>
+        ensures { OnOk result (self.new ≡ followed_by self.old (removes lsp [])) }
+    {
+        self.legs.push(LegChange::Goes(lsp))?;
+        Ok(())
+    }
+
+    /// Then the call is put in its place.
+    pub(crate) fn put_call(&mut self, call: CallRec) -> Result<(), OutOfMemory>
+        ensures { OnOk result (self.new ≡ followed_by self.old (changes_calls (calls.Put call ∷ []))) }
+    {
+        self.calls.push(CallChange::Put(call))?;
+        Ok(())
+    }
+
+    /// Then the call of this number goes.
+    pub(crate) fn remove_call(&mut self, number: CallNo) -> Result<(), OutOfMemory>
+        ensures { OnOk result (self.new ≡ followed_by self.old (changes_calls (calls.Goes number ∷ []))) }
+    {
+        self.calls.push(CallChange::Goes(number))?;
+        Ok(())
     }
 
     /// The messages that are sent, in order.

@@ -1,24 +1,28 @@
 //! The node.
 
-ghost use Rattle.std.specs.Prelude.{◌≡◌, IfOk, IsSome, OnErr, OnOk, map};
+ghost use Rattle.std.specs.Prelude.{◌≡◌, IfOk, IfSome, IsSome, OnErr, OnOk, map};
 ghost use Rattle.std.specs.Option.{option_copied};
 ghost use Rattle.ason_base.specs.Network.{find_node};
-ghost use Rattle.mesh_rules.specs.State.{new_node};
-ghost use Rattle.mesh_rules.specs.Rows.{call_row, call_rows, if_stands, leg_row, leg_rows, link_of, standing};
+ghost use Rattle.mesh_rules.specs.Calls.{call_of, find_call};
+ghost use Rattle.mesh_rules.specs.Changes.{changed};
+ghost use Rattle.mesh_rules.specs.Legs.{find_leg, leg_of};
+ghost use Rattle.mesh_rules.specs.Rows.{call_row, call_rows, leg_row, leg_rows, link_of, standing};
 ghost use Rattle.mesh_rules.specs.Sites.{site_of};
+ghost use Rattle.mesh_rules.specs.State.{new_node};
 ghost use Rattle.node_core.specs.Nodes.{answer_to, stepped};
 
-use crate::call_rules::{on_item, on_tick};
+use crate::calls::{call_of, find_call};
 use crate::changes::Change;
 use crate::inputs::Input;
 use crate::legs::find_leg;
-use crate::message_rules::on_message;
+use crate::rules::{on_item, on_message, on_tick};
 use crate::sites::Site;
 use crate::tables::Tables;
 use ason_base::{
-    CallRec, CallRow, CallRows, Fibre, Leg, LegRow, LegRows, LinkId, Lsp, NodeId, OutOfMemory,
-    Outs, TableRows, Topology,
+    CallNo, CallRec, CallRow, CallRows, Fibre, Leg, LegRow, LegRows, LinkId, Lsp, NodeId,
+    OutOfMemory, Outs, TableRows, Topology,
 };
+use mesh_rules::NextNumbers;
 use std::alloc::Global;
 use std::marker::Model;
 
@@ -35,24 +39,6 @@ impl Model for Node {
     ghost Value = { NodeView };
 
     ghost view = { λ n. record { place = n.site; state = n.tables } };
-}
-
-fn answer_to(
-    alloc: Global,
-    site: &Site,
-    tables: &Tables,
-    input: &Input,
-) -> Result<Change, OutOfMemory>
-    ensures { IfOk result (λ c. c ≡ answer_to (record { place = site.now; state = tables.now }) input.now) }
-{
-    match input {
-        Input::Message { from, msg } => {
-            on_message(alloc, site, tables.legs(), tables.calls(), *from, msg)
-        }
-        Input::Desk(item) => on_item(alloc, site, tables, item),
-        Input::Tick => Ok(on_tick(alloc, site, tables)),
-        Input::Learn(_) => Ok(Change::nothing(alloc)),
-    }
 }
 
 impl Node {
@@ -84,6 +70,28 @@ impl Node {
         self.site.id()
     }
 
+    /// What the rule of an input would change and send. It changes nothing.
+    pub fn answer(&self, alloc: Global, input: &Input) -> Result<Change, OutOfMemory>
+        ensures { IfOk result (λ c. c ≡ answer_to self.now input.now) }
+    {
+        match input {
+            Input::Message { from, msg } => on_message(alloc, self, *from, msg),
+            Input::Desk(item) => on_item(alloc, self, item),
+            Input::Tick => Ok(on_tick(alloc, self)),
+            Input::Learn(_) => Ok(Change::nothing(alloc)),
+        }
+    }
+
+    /// Carries an answer out, and hands back what is to be sent, in order. After want of memory the node is unchanged.
+    pub fn carry_out(&mut self, change: Change) -> Result<Outs, OutOfMemory>
+        ensures place { self.new.place ≡ self.old.place }
+        ensures ok { OnOk result (self.new.state ≡ changed self.old.state change) }
+        ensures sent { IfOk result (λ outs. outs ≡ change.sent) }
+        ensures err { OnErr result (self.new ≡ self.old) }
+    {
+        self.tables.carry_out(change)
+    }
+
     /// Takes one input by the rules of the mesh, and hands back what is to be sent, in order. After want of memory the node is
     /// unchanged.
     pub fn step(&mut self, alloc: Global, input: &Input) -> Result<Outs, OutOfMemory>
@@ -91,8 +99,61 @@ impl Node {
         ensures sent { IfOk result (λ outs. outs ≡ (answer_to self.old input.now).sent) }
         ensures err { OnErr result (self.new ≡ self.old) }
     {
-        let change = answer_to(alloc, &self.site, &self.tables, input)?;
-        self.tables.carry_out(change)
+        let change = self.answer(alloc, input)?;
+        self.carry_out(change)
+    }
+
+    /// What the node knows of itself.
+    pub(crate) fn site(&self) -> &Site
+        ensures { result.now ≡ self.now.place }
+    {
+        &self.site
+    }
+
+    /// The legs, in order of LSP.
+    pub(crate) fn legs(&self) -> &[Leg]
+        ensures { result.now ≡ self.now.state.legs }
+    {
+        self.tables.legs()
+    }
+
+    /// The leg of this LSP: none exactly where none stands.
+    pub(crate) fn leg(&self, lsp: Lsp) -> Option<&Leg>
+        ensures { option_copied result ≡ find_leg lsp self.now.state.legs }
+    {
+        find_leg(self.tables.legs(), lsp)
+    }
+
+    /// The leg of an LSP that a call names.
+    pub(crate) fn leg_of(&self, lsp: Option<Lsp>) -> Option<&Leg>
+        ensures { option_copied result ≡ leg_of lsp self.now.state.legs }
+    {
+        match lsp {
+            None => None,
+            Some(lsp) => self.leg(lsp),
+        }
+    }
+
+    /// The call of this number: none exactly where none stands.
+    pub(crate) fn call(&self, number: CallNo) -> Option<&CallRec>
+        ensures { option_copied result ≡ find_call number self.now.state.calls }
+    {
+        find_call(self.tables.calls(), number)
+    }
+
+    /// The call whose working LSP this is: none exactly where there is none.
+    pub(crate) fn call_of(&self, lsp: Lsp) -> Option<&CallRec>
+        ensures { option_copied result ≡ call_of lsp self.now.state.calls }
+    {
+        call_of(self.tables.calls(), lsp)
+    }
+
+    /// The tunnel and LSP numbers that are given out next.
+    pub(crate) fn numbers(&self) -> NextNumbers
+        ensures tunnel { result.tunnel ≡ self.now.state.tunnel }
+        ensures lsp { result.lsp ≡ self.now.state.lsp }
+    {
+        self.tables.numbers()
     }
 
     /// What a table shows of the node: its calls in order of number, its legs in order of LSP.

@@ -1,30 +1,22 @@
-//! The rules of Resv, PathErr and PathTear (RFC 2205, section 3.1; RFC 3473, sections 2 and 4.4), and of every message.
+//! A Resv, and a PathErr with Path_State_Removed (RFC 2205, section 3.1.4; RFC 3473, sections 2 and 4.4).
 
-ghost use Rattle.std.specs.Prelude.{◌≡◌, ◌∷◌, [], IfOk, None};
-ghost use Rattle.std.specs.Option.{option_copied};
-ghost use Rattle.ason_base.specs.Labels.{has, least, meet};
-ghost use Rattle.mesh_rules.specs.Legs.{find_leg, following, previous, usable};
-ghost use Rattle.mesh_rules.specs.Calls.{call_of};
-ghost use Rattle.mesh_rules.specs.Resvs.{answered, is_expected, label_back, on_resv, passed_back};
-ghost use Rattle.mesh_rules.specs.MessageRules.{call_falls, call_stands};
+ghost use Rattle.std.specs.Prelude.{◌≡◌, IfOk};
+ghost use Rattle.mesh_rules.specs.Legs.{previous};
+ghost use Rattle.mesh_rules.specs.Resvs.{answered, connected_here, is_expected, label_back, label_passed, labels_left, on_resv, passed_back, torn_both_ways};
 ghost use Rattle.mesh_rules.specs.PathErrs.{err_passed, on_path_err, removed};
-ghost use Rattle.mesh_rules.specs.Messages.{on_message};
-ghost use Rattle.mesh_rules.specs.Tears.{on_tear, torn};
-ghost use Rattle.mesh_rules.specs.Changes.{to_node};
 
-use crate::calls::{bare, blocked, call_of, is_asking};
+use crate::call_control::{call_connected, call_refused};
 use crate::changes::Change;
 use crate::legs::{
-    closed, connected, find_leg, following, is_asked, is_closing, is_node, is_over, is_work,
-    previous, usable,
+    closed, connected, following, is_asked, is_closing, is_node, is_over, is_work, previous, usable,
 };
-use crate::path_rule::on_path;
+use crate::node::Node;
 use crate::sites::Site;
-use ason_base::{
-    CallRec, Cause, ErrCode, Label, LabelSet, Leg, Lsp, Msg, NodeId, OutOfMemory, codes,
-};
-use mesh_rules::{Arrival, CallChange, LegChange, Neighbour};
+use ason_base::codes::LABEL;
+use ason_base::{ErrCode, Label, LabelSet, Leg, Lsp, Msg, NodeId, OutOfMemory};
+use mesh_rules::{Arrival, Neighbour};
 use std::alloc::Global;
+use std::marker::Model;
 
 // Resv
 
@@ -35,19 +27,6 @@ fn expects(arrival: Arrival, label: Label, leg: &Leg) -> bool
         && is_work(leg.role)
         && is_over(following(leg), arrival.from, arrival.link)
         && leg.sent.has(label)
-}
-
-fn call_stands(alloc: Global, call: Option<&CallRec>) -> Result<Vec<CallChange>, OutOfMemory>
-    ensures { IfOk result (λ v. v.items ≡ call_stands (option_copied call.entry)) }
-{
-    let mut changes = Vec::new(alloc);
-    if let Some(call) = call {
-        if is_asking(call.state) && !call.protected {
-            let stands = bare(alloc, call)?;
-            changes.push(CallChange::Stands(stands))?;
-        }
-    }
-    Ok(changes)
 }
 
 fn label_back(site: &Site, labels: &LabelSet, label: Label) -> Option<Label>
@@ -62,284 +41,184 @@ fn label_back(site: &Site, labels: &LabelSet, label: Label) -> Option<Label>
     }
 }
 
+// No label is left: the LSP is torn towards the egress, and the ingress is told.
+fn tear_both_ways(
+    alloc: Global,
+    node: &Node,
+    arrival: Arrival,
+    leg: &Leg,
+    back: Neighbour,
+) -> Result<Change, OutOfMemory>
+    ensures { IfOk result (λ c. c ≡ torn_both_ways node.now.place arrival leg.now back) }
+{
+    let (lsp, egress) = (leg.lsp, leg.egress);
+    let link = arrival.link;
+    let tear = Msg::PathTear { lsp, egress, link };
+    let err = Msg::PathErr {
+        lsp,
+        egress,
+        at: node.id(),
+        removed: true,
+        code: LABEL,
+    };
+    let mut change = Change::puts(alloc, closed(alloc, leg)?, arrival.from, tear)?;
+    change.send(back.node, err)?;
+    Ok(change)
+}
+
+fn pass_label(
+    alloc: Global,
+    leg: &Leg,
+    back: Neighbour,
+    label: Label,
+    chosen: Label,
+) -> Result<Change, OutOfMemory>
+    ensures { IfOk result (λ c. c ≡ label_passed leg.now back label chosen) }
+{
+    let live = connected(alloc, leg, Some(chosen), label)?;
+    let msg = Msg::Resv {
+        lsp: leg.lsp,
+        egress: leg.egress,
+        link: back.fibre.link,
+        label: chosen,
+    };
+    Change::puts(alloc, live, back.node, msg)
+}
+
+// The labels that may go back: those that were offered and are usable now.
+fn labels_left(node: &Node, leg: &Leg, back: Neighbour) -> LabelSet
+    ensures { result ≡ labels_left node.now.place node.now.state leg.now back }
+{
+    leg.offered
+        .meet(&usable(node.site(), node.legs(), back.fibre))
+}
+
 fn pass_back(
     alloc: Global,
-    site: &Site,
+    node: &Node,
     arrival: Arrival,
     leg: &Leg,
     back: Neighbour,
     label: Label,
-    chosen: Option<Label>,
 ) -> Result<Change, OutOfMemory>
-    ensures { IfOk result (λ c. c ≡ passed_back site.now arrival leg.now back label chosen) }
+    ensures { IfOk result (λ c. c ≡ passed_back node.now.place arrival leg.now back label (label_back node.now.place (labels_left node.now.place node.now.state leg.now back) label)) }
 {
-    let lsp = leg.lsp;
-    let egress = leg.egress;
-    match chosen {
-        None => {
-            let link = arrival.link;
-            let tear = Msg::PathTear { lsp, egress, link };
-            let at = site.id();
-            let code = codes::LABEL;
-            let err = Msg::PathErr {
-                lsp,
-                egress,
-                at,
-                removed: true,
-                code,
-            };
-            let torn = closed(alloc, leg)?;
-            Change::stands_with(alloc, torn, arrival.from, tear, back.node, err)
-        }
-        Some(chosen) => {
-            let live = connected(alloc, leg, Some(chosen), label)?;
-            let msg = Msg::Resv {
-                lsp,
-                egress,
-                link: back.fibre.link,
-                label: chosen,
-            };
-            Change::stands(alloc, live, back.node, msg)
-        }
+    let labels = labels_left(node, leg, back);
+    match label_back(node.site(), &labels, label) {
+        None => tear_both_ways(alloc, node, arrival, leg, back),
+        Some(chosen) => pass_label(alloc, leg, back, label, chosen),
     }
+}
+
+// At the ingress the call follows.
+fn connect_call(alloc: Global, node: &Node, leg: &Leg, label: Label) -> Result<Change, OutOfMemory>
+    ensures { IfOk result (λ c. c ≡ connected_here node.now.state label leg.now) }
+{
+    let mut change = Change::nothing(alloc);
+    change.put(connected(alloc, leg, None, label)?)?;
+    call_connected(alloc, &mut change, node.call_of(leg.lsp))?;
+    Ok(change)
 }
 
 fn answer(
     alloc: Global,
-    site: &Site,
-    legs: &[Leg],
-    calls: &[CallRec],
+    node: &Node,
     arrival: Arrival,
     label: Label,
     leg: &Leg,
 ) -> Result<Change, OutOfMemory>
-    ensures { IfOk result (λ c. c ≡ answered site.now legs.now calls.now arrival label leg.now (previous leg.now)) }
+    ensures { IfOk result (λ c. c ≡ answered node.now.place node.now.state arrival label leg.now (previous leg.now)) }
 {
     match previous(leg) {
-        None => {
-            let live = connected(alloc, leg, None, label)?;
-            let changes = call_stands(alloc, call_of(calls, leg.lsp))?;
-            Change::of_call(alloc, LegChange::Stands(live), changes)
-        }
-        Some(back) => {
-            let labels = leg.offered.meet(&usable(site, legs, back.fibre));
-            let chosen = label_back(site, &labels, label);
-            pass_back(alloc, site, arrival, leg, back, label, chosen)
-        }
+        None => connect_call(alloc, node, leg, label),
+        Some(back) => pass_back(alloc, node, arrival, leg, back, label),
     }
 }
 
 /// What a Resv does: the leg that waits for it is cross-connected and the Resv goes back, or the LSP is torn.
-pub fn on_resv(
+pub(crate) fn resv(
     alloc: Global,
-    site: &Site,
-    legs: &[Leg],
-    calls: &[CallRec],
+    node: &Node,
     arrival: Arrival,
     label: Label,
 ) -> Result<Change, OutOfMemory>
-    ensures { IfOk result (λ c. c ≡ on_resv site.now legs.now calls.now arrival label (find_leg arrival.lsp legs.now)) }
+    ensures { IfOk result (λ c. c ≡ on_resv node.now.place node.now.state arrival label) }
 {
-    match find_leg(legs, arrival.lsp) {
-        None => Ok(Change::nothing(alloc)),
-        Some(leg) => {
-            if expects(arrival, label, leg) {
-                answer(alloc, site, legs, calls, arrival, label, leg)
-            } else {
-                Ok(Change::nothing(alloc))
-            }
-        }
+    match node.leg(arrival.lsp) {
+        Some(leg) if expects(arrival, label, leg) => answer(alloc, node, arrival, label, leg),
+        _ => Ok(Change::nothing(alloc)),
     }
 }
 
 // PathErr
 
-fn call_falls(
-    alloc: Global,
-    code: ErrCode,
-    call: Option<&CallRec>,
-) -> Result<Vec<CallChange>, OutOfMemory>
-    ensures { IfOk result (λ v. v.items ≡ call_falls code (option_copied call.entry)) }
-{
-    let mut changes = Vec::new(alloc);
-    if let Some(call) = call {
-        if is_asking(call.state) {
-            let refused = blocked(alloc, call, Cause::Code(code))?;
-            changes.push(CallChange::Stands(refused))?;
-        }
-    }
-    Ok(changes)
+/// A PathErr of an LSP: the message, whether it removes the leg, and why it came.
+#[derive(Drop)]
+pub(crate) struct PathFailure<'a> {
+    pub(crate) lsp: Lsp,
+    pub(crate) msg: &'a Msg,
+    pub(crate) removed: bool,
+    pub(crate) code: ErrCode,
+}
+
+impl<'a> Model for PathFailure<'a> {
+    ghost use Rattle.mesh_rules.specs.PathErrs as path_errs;
+
+    ghost Value = { path_errs.PathFailure };
+
+    ghost view = { λ e. record { lsp = e.lsp; msg = e.msg.now; removed = e.removed; code = e.code } };
 }
 
 fn pass_err(
     alloc: Global,
-    calls: &[CallRec],
+    node: &Node,
     leg: &Leg,
-    msg: &Msg,
-    code: ErrCode,
+    failure: &PathFailure<'_>,
 ) -> Result<Change, OutOfMemory>
-    ensures { IfOk result (λ c. c ≡ err_passed calls.now leg.now msg.now code (previous leg.now)) }
+    ensures { IfOk result (λ c. c ≡ err_passed node.now.state leg.now failure.now (previous leg.now)) }
 {
     match previous(leg) {
         None => {
-            let changes = call_falls(alloc, code, call_of(calls, leg.lsp))?;
-            Change::of_call(alloc, LegChange::Goes(leg.lsp), changes)
+            let mut change = Change::nothing(alloc);
+            change.remove(leg.lsp)?;
+            call_refused(alloc, &mut change, failure.code, node.call_of(leg.lsp))?;
+            Ok(change)
         }
-        Some(back) => {
-            let msg = msg.copy(alloc)?;
-            Change::goes_with(alloc, leg.lsp, back.node, msg)
-        }
+        Some(back) => Change::removes(alloc, leg.lsp, back.node, failure.msg.copy(alloc)?),
     }
 }
 
 fn remove(
     alloc: Global,
-    calls: &[CallRec],
+    node: &Node,
     leg: &Leg,
-    msg: &Msg,
-    code: ErrCode,
+    failure: &PathFailure<'_>,
 ) -> Result<Change, OutOfMemory>
-    ensures { IfOk result (λ c. c ≡ removed calls.now leg.now msg.now code) }
+    ensures { IfOk result (λ c. c ≡ removed node.now.state leg.now failure.now) }
 {
     if is_asked(leg.phase) {
-        pass_err(alloc, calls, leg, msg, code)
-    } else if is_closing(leg.phase) {
-        Change::goes(alloc, leg.lsp)
-    } else {
-        Ok(Change::nothing(alloc))
+        return pass_err(alloc, node, leg, failure);
     }
+    let mut change = Change::nothing(alloc);
+    if is_closing(leg.phase) {
+        change.remove(leg.lsp)?;
+    }
+    Ok(change)
 }
 
 /// What a PathErr does: one that tells that the state was removed takes an Asked or a torn leg away.
-pub fn on_path_err(
+pub(crate) fn path_err(
     alloc: Global,
-    legs: &[Leg],
-    calls: &[CallRec],
+    node: &Node,
     from: NodeId,
-    msg: &Msg,
-    lsp: Lsp,
-    gone: bool,
-    code: ErrCode,
+    failure: &PathFailure<'_>,
 ) -> Result<Change, OutOfMemory>
-    ensures { IfOk result (λ c. c ≡ on_path_err calls.now from msg.now gone code (find_leg lsp legs.now)) }
+    ensures { IfOk result (λ c. c ≡ on_path_err node.now.state from failure.now) }
 {
-    match find_leg(legs, lsp) {
-        None => Ok(Change::nothing(alloc)),
-        Some(leg) => {
-            if gone && is_node(following(leg), from) {
-                remove(alloc, calls, leg, msg, code)
-            } else {
-                Ok(Change::nothing(alloc))
-            }
+    match node.leg(failure.lsp) {
+        Some(leg) if failure.removed && is_node(following(leg), from) => {
+            remove(alloc, node, leg, failure)
         }
-    }
-}
-
-// PathTear
-
-fn tear_on(alloc: Global, leg: &Leg, to: NodeId, reply: Msg) -> Result<Change, OutOfMemory>
-    ensures { IfOk result (λ c. c ≡ torn leg.now (to_node to reply) (following leg.now)) }
-{
-    match following(leg) {
-        None => Change::goes_with(alloc, leg.lsp, to, reply),
-        Some(next) => {
-            let tear = Msg::PathTear {
-                lsp: leg.lsp,
-                egress: leg.egress,
-                link: next.fibre.link,
-            };
-            let torn = closed(alloc, leg)?;
-            Change::stands_with(alloc, torn, to, reply, next.node, tear)
-        }
-    }
-}
-
-/// What a PathTear does: it is answered and goes on, and the leg waits for the next node's answer.
-pub fn on_tear(
-    alloc: Global,
-    site: &Site,
-    legs: &[Leg],
-    arrival: Arrival,
-) -> Result<Change, OutOfMemory>
-    ensures { IfOk result (λ c. c ≡ on_tear site.now arrival (find_leg arrival.lsp legs.now)) }
-{
-    match find_leg(legs, arrival.lsp) {
-        None => Ok(Change::nothing(alloc)),
-        Some(leg) => {
-            if !is_closing(leg.phase) && is_over(previous(leg), arrival.from, arrival.link) {
-                let reply = Msg::PathErr {
-                    lsp: leg.lsp,
-                    egress: leg.egress,
-                    at: site.id(),
-                    removed: true,
-                    code: codes::TORN,
-                };
-                tear_on(alloc, leg, arrival.from, reply)
-            } else {
-                Ok(Change::nothing(alloc))
-            }
-        }
-    }
-}
-
-/// What a message from a neighbour does at a node that keeps these legs and calls.
-pub fn on_message(
-    alloc: Global,
-    site: &Site,
-    legs: &[Leg],
-    calls: &[CallRec],
-    from: NodeId,
-    msg: &Msg,
-) -> Result<Change, OutOfMemory>
-    ensures { IfOk result (λ c. c ≡ on_message site.now legs.now calls.now from msg.now) }
-{
-    match msg {
-        Msg::Path {
-            lsp,
-            egress,
-            link,
-            route,
-            set,
-            role,
-            ..
-        } => {
-            let arrival = Arrival {
-                lsp: *lsp,
-                egress: *egress,
-                from,
-                link: *link,
-            };
-            on_path(alloc, site, legs, arrival, route, set, role)
-        }
-        Msg::Resv {
-            lsp,
-            egress,
-            link,
-            label,
-        } => {
-            let arrival = Arrival {
-                lsp: *lsp,
-                egress: *egress,
-                from,
-                link: *link,
-            };
-            on_resv(alloc, site, legs, calls, arrival, *label)
-        }
-        Msg::PathTear { lsp, egress, link } => {
-            let arrival = Arrival {
-                lsp: *lsp,
-                egress: *egress,
-                from,
-                link: *link,
-            };
-            on_tear(alloc, site, legs, arrival)
-        }
-        Msg::PathErr {
-            lsp,
-            removed,
-            code,
-            ..
-        } => on_path_err(alloc, legs, calls, from, msg, *lsp, *removed, *code),
-        Msg::Notify { .. } => Ok(Change::nothing(alloc)),
+        _ => Ok(Change::nothing(alloc)),
     }
 }

@@ -2,8 +2,8 @@
 
 ghost use Rattle.std.specs.Prelude.{◌≡◌, ◌<◌, ◌+◌, ◌≤◌, IfOk, OnErr, OnOk, insert, length, position, slice_get, slice_set, true, vec_capacity, vec_len};
 ghost use Rattle.std.specs.List.{position_or_len};
-ghost use Rattle.mesh_rules.specs.Legs.{has_lsp, legs_changed, stands_at, with_leg, without_leg};
-ghost use Rattle.mesh_rules.specs.Calls.{call_stands_at, calls_changed, has_number, with_call, without_call};
+ghost use Rattle.mesh_rules.specs.Legs.{has_lsp, legs_changed, is_at_or_after, with_leg, without_leg};
+ghost use Rattle.mesh_rules.specs.Calls.{is_call_at_or_after, calls_changed, has_number, with_call, without_call};
 ghost use Rattle.mesh_rules.specs.Changes.{changed};
 ghost use Rattle.mesh_rules.specs.State.{new_node};
 
@@ -22,11 +22,13 @@ pub struct Tables {
 }
 
 impl Model for Tables {
+    ghost use Rattle.std.specs.Prelude.{[]};
     ghost use Rattle.mesh_rules.specs.State.{NodeState};
 
     ghost Value = { NodeState };
 
-    ghost view = { λ t. record { legs = t.legs.items; calls = t.calls.items; tunnel = t.numbers.tunnel; lsp = t.numbers.lsp } };
+    // No rule learns a row or takes a fibre to be down.
+    ghost view = { λ t. record { legs = t.legs.items; calls = t.calls.items; tunnel = t.numbers.tunnel; lsp = t.numbers.lsp; learnt = []; down = [] } };
 }
 
 impl Tables {
@@ -165,21 +167,21 @@ fn is_call_at(calls: &[CallRec], place: usize, number: CallNo) -> bool
     }
 }
 
-fn stands_at(leg: &Leg, lsp: Lsp) -> bool
-    ensures { result ≡ stands_at lsp leg.now }
+fn is_at_or_after(leg: &Leg, lsp: Lsp) -> bool
+    ensures { result ≡ is_at_or_after lsp leg.now }
 {
     leg.lsp == lsp || lsp < leg.lsp
 }
 
 fn first_place(legs: &[Leg], lsp: Lsp) -> Option<usize>
-    ensures { result ≡ position (stands_at lsp) legs.now }
+    ensures { result ≡ position (is_at_or_after lsp) legs.now }
 {
-    legs.iter().position(|leg| stands_at(leg, lsp))
+    legs.iter().position(|leg| is_at_or_after(leg, lsp))
 }
 
 // The place of the first leg of this LSP or a later one.
 fn place_of(legs: &[Leg], lsp: Lsp) -> usize
-    ensures place { result ≡ position_or_len (stands_at lsp) legs.now }
+    ensures place { result ≡ position_or_len (is_at_or_after lsp) legs.now }
     ensures within { result ≤ length legs.now }
 {
     match first_place(legs, lsp) {
@@ -219,26 +221,26 @@ fn change_legs(legs: &mut Vec<Leg>, changes: Vec<LegChange>)
     for change in changes {
         match change {
             LegChange::Goes(lsp) => drop_leg(legs, lsp),
-            LegChange::Stands(leg) => put_leg(legs, leg),
+            LegChange::Put(leg) => put_leg(legs, leg),
         }
     }
 }
 
-fn call_stands_at(call: &CallRec, number: CallNo) -> bool
-    ensures { result ≡ call_stands_at number call.now }
+fn is_call_at_or_after(call: &CallRec, number: CallNo) -> bool
+    ensures { result ≡ is_call_at_or_after number call.now }
 {
     number <= call.call
 }
 
 fn first_call_place(calls: &[CallRec], number: CallNo) -> Option<usize>
-    ensures { result ≡ position (call_stands_at number) calls.now }
+    ensures { result ≡ position (is_call_at_or_after number) calls.now }
 {
-    calls.iter().position(|call| call_stands_at(call, number))
+    calls.iter().position(|call| is_call_at_or_after(call, number))
 }
 
 // The place of the first call of this number or a greater one.
 fn place_of_call(calls: &[CallRec], number: CallNo) -> usize
-    ensures place { result ≡ position_or_len (call_stands_at number) calls.now }
+    ensures place { result ≡ position_or_len (is_call_at_or_after number) calls.now }
     ensures within { result ≤ length calls.now }
 {
     match first_call_place(calls, number) {
@@ -278,7 +280,7 @@ fn change_calls(calls: &mut Vec<CallRec>, changes: Vec<CallChange>)
     for change in changes {
         match change {
             CallChange::Goes(number) => drop_call(calls, number),
-            CallChange::Stands(call) => put_call(calls, call),
+            CallChange::Put(call) => put_call(calls, call),
         }
     }
 }
