@@ -1,3 +1,7 @@
+pub mod Bridges
 pub mod MaskMembers
+pub mod Ordered
 pub mod RiskOrder
 pub mod RiskUnion
+pub mod RisingNumbers
+pub mod RouteNodes

@@ -1,5 +1,5 @@
 -- The order of risks: `is_below` is what the comparison of risks says.
-use Rattle.std.proofs.Common.{inl, inr, ◌⊎◌, ◌↔◌, ◌≡◌, ◌≢◌, ℕ, ◌+◌, ◌<◌, ◌≤◌, true, IsTrue, List, [], ◌∷◌, length, get_or, refl, sym, ◌∙◌, ap, subst, arith, Less, Equal, Greater}
+use Rattle.std.proofs.Common.{inl, inr, ◌⊎◌, ◌↔◌, ◌≡◌, ◌≢◌, ℕ, ◌+◌, ◌<◌, ◌≤◌, Bool, true, false, not, IsTrue, List, [], ◌∷◌, length, get_or, refl, sym, ◌∙◌, ap, subst, arith, Less, Equal, Greater}
 use Rattle.std.specs.List.{Contains, dedup}
 use Rattle.std.specs.List.Sorted.{IsPermutation, IsSorted, IsStrictlySortedBy}
 use Rattle.std.specs.Ordering.{eq_by_cmp}
@@ -7,7 +7,8 @@ use Rattle.std.proofs.lemmas.List.{get_or_default}
 use Rattle.std.proofs.lemmas.List.Elements.{All-from_recursion, All-weaker, Contains-get_or}
 use Rattle.std.proofs.lemmas.List.Kept.{AllPairs-cons, Contains-dedup, Contains-from_dedup, IsStrictlySortedBy-dedup}
 use Rattle.std.proofs.lemmas.List.Sorted.{Contains-permutation, IsPermutation-sym}
-use Rattle.ason_base.specs.Risks.{is_below, AreDisjoint, AreRising}
+use Rattle.ason_base.specs.Risks.{is_below, same_risk, has_risk, have_common, AreDisjoint, AreRising}
+use Rattle.ason_base.proofs.Ordered.{IsOrder, any-there, there-any}
 use Rattle.ason_base.specs.declared.risks.Risk.{Risk}
 use Rattle.ason_base.specs.declared.risks.Risk.TheVariants.{Srlg, Link}
 use Rattle.ason_base.specs.contracts.risks.RiskOrd.TheImpl.{ghosts}
@@ -125,3 +126,47 @@ ordered_same xs ys r moved = (
   (λ h. Contains-permutation ys xs r (IsPermutation-sym xs ys moved) (Contains-from_dedup equality.eq ys r h)),
   (λ h. Contains-dedup laws-law same-eq ys r (Contains-permutation xs ys r moved h)),
 )
+
+below-total : (a b : Risk) → is_below a b ≡ false → is_below b a ≡ false → a ≡ b
+below-total (Srlg a) (Srlg b) h k = let e : a ≡ b = grind arith in ap Srlg e
+below-total (Srlg a) (Link b) h k = cc
+below-total (Link a) (Srlg b) h k = cc
+below-total (Link a) (Link b) h k = let e : a.0 ≡ b.0 = grind arith in λ i. Link (record { 0 = e i })
+
+pub risk_order : IsOrder is_below
+risk_order = record { irreflexive = not-below-itself; transitive = below-trans; total = below-total }
+
+-- One risk, and common ones
+
+same_risk-eq : (a b : Risk) → same_risk a b ≡ true → a ≡ b
+same_risk-eq (Srlg a) (Srlg b) h = let e : a ≡ b = grind arith in ap Srlg e
+same_risk-eq (Srlg a) (Link b) h = cc
+same_risk-eq (Link a) (Srlg b) h = cc
+same_risk-eq (Link a) (Link b) h = let e : a.0 ≡ b.0 = grind arith in λ i. Link (record { 0 = e i })
+
+same_risk-refl : (a : Risk) → same_risk a a ≡ true
+same_risk-refl (Srlg a) = grind arith
+same_risk-refl (Link a) = grind arith
+
+pub has_risk-contains : (risks : List Risk) (r : Risk) → has_risk risks r ≡ true → Contains risks r
+has_risk-contains risks r h =
+    let there = any-there (same_risk r) risks h in
+    subst (λ x. Contains risks x) (sym (same_risk-eq r there.0 there.2)) there.1
+
+pub contains-has_risk : (risks : List Risk) (r : Risk) → Contains risks r → has_risk risks r ≡ true
+contains-has_risk risks r there = there-any (same_risk r) risks r there (same_risk-refl r)
+
+pub common-there : (xs ys : List Risk) → have_common xs ys ≡ true → (r : Risk) × Contains xs r × Contains ys r
+common-there xs ys h = let there = any-there (has_risk ys) xs h in (there.0, there.1, has_risk-contains ys there.0 there.2)
+
+pub there-common : (xs ys : List Risk) (r : Risk) → Contains xs r → Contains ys r → have_common xs ys ≡ true
+there-common xs ys r in_xs in_ys = there-any (has_risk ys) xs r in_xs (contains-has_risk ys r in_ys)
+
+pub apart-exact : (b : Bool) (xs ys : List Risk) → (IsTrue b ↔ AreDisjoint xs ys) → b ≡ not (have_common xs ys)
+apart-exact b xs ys says = go b (have_common xs ys) says refl
+  where
+    go : (b common : Bool) → (IsTrue b ↔ AreDisjoint xs ys) → have_common xs ys ≡ common → b ≡ not common
+    go true true says e = let there = common-there xs ys e in absurd (says.0 refl there.0 there.1 there.2)
+    go true false says e = refl
+    go false true says e = refl
+    go false false says e = says.1 (λ r in_xs in_ys. absurd (cc (e, there-common xs ys r in_xs in_ys)))

@@ -1,6 +1,9 @@
 pub mod Codes
+pub mod InOrder
 pub mod Labels
 pub mod Lsps
 pub mod Network
 pub mod Risks
+pub mod Routes
 pub mod Walks
+pub mod Writable

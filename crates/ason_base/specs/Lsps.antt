@@ -1,5 +1,6 @@
 -- LSPs in their order (by ingress, tunnel, number), and fibres.
-use Rattle.std.specs.Prelude.{◌==◌, ◌&&◌, ◌||◌, nat_lt, Bool, true, false, not, Option, Some, None}
+use Rattle.std.specs.Prelude.{◌==◌, ◌&&◌, ◌||◌, nat_lt, Bool, true, false, not, List, filter, Option, Some, None}
+use Rattle.std.specs.List.{list_any}
 use Rattle.ason_base.specs.declared.ids.Lsp.{Lsp}
 use Rattle.ason_base.specs.declared.ids.Fibre.{Fibre}
 
@@ -24,3 +25,9 @@ same_fibre f g = f.link.0 == g.link.0 && same_bool f.forward g.forward
 
 abbrev pub is_other_fibre : Fibre → Fibre → Bool
 is_other_fibre f g = not (same_fibre f g)
+
+abbrev pub has_fibre : List Fibre → Fibre → Bool
+has_fibre fibres f = list_any (same_fibre f) fibres
+
+abbrev pub without_fibre : Fibre → List Fibre → List Fibre
+without_fibre f fibres = filter (is_other_fibre f) fibres

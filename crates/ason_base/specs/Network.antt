@@ -6,6 +6,8 @@ use Rattle.ason_base.specs.declared.ids.LinkId.{LinkId}
 use Rattle.ason_base.specs.declared.ids.Fibre.{Fibre}
 use Rattle.ason_base.specs.declared.network.NodeSpec.{NodeSpec}
 use Rattle.ason_base.specs.declared.network.LinkSpec.{LinkSpec}
+use Rattle.ason_base.specs.declared.network.TeRow.{TeRow}
+use Rattle.ason_base.specs.InOrder.{in_order}
 use Rattle.ason_base.specs.declared.network.TopologyFault.{TopologyFault}
 use Rattle.ason_base.specs.declared.network.TopologyFault.TheVariants.{Count, Node, Link, OutOfMemory}
 
@@ -83,13 +85,33 @@ find_node t n = find (λ m. m.id.0 == n.0) t.nodes
 abbrev pub find_link : Network → LinkId → Option LinkSpec
 find_link t k = find (λ l. l.id.0 == k.0) t.links
 
+-- the two ends are these nodes, whichever of them is the low one
+abbrev pub are_ends : NodeId → NodeId → NodeId → NodeId → Bool
+are_ends low high a b = (low.0 == a.0 && high.0 == b.0) || (low.0 == b.0 && high.0 == a.0)
+
 abbrev pub has_ends : Option LinkSpec → NodeId → NodeId → Bool
 has_ends None a b = false
-has_ends (Some l) a b = (l.low.0 == a.0 && l.high.0 == b.0) || (l.low.0 == b.0 && l.high.0 == a.0)
+has_ends (Some l) a b = are_ends l.low l.high a b
+
+-- the link, as routing knows it
+abbrev pub row_of : LinkSpec → TeRow
+row_of l = record { link = l.id; low = l.low; high = l.high; metric = l.metric; srlgs = in_order nat_lt l.srlgs }
 
 -- the link joins these two nodes
 abbrev pub joins : Network → LinkId → NodeId → NodeId → Bool
 joins t k a b = has_ends (find_link t k) a b
+
+-- the node is an end of the link
+abbrev pub touches : NodeId → LinkSpec → Bool
+touches n l = l.low.0 == n.0 || l.high.0 == n.0
+
+-- of two ends, the one that isn't the node
+abbrev pub end_beside : NodeId → NodeId → NodeId → NodeId
+end_beside low high n = if low.0 == n.0 then high else low
+
+-- the other end of a link of n
+abbrev pub other_end : LinkSpec → NodeId → NodeId
+other_end l n = end_beside l.low l.high n
 
 -- the end that a fibre leads to, forward from the low end to the high one
 abbrev pub far_end : Option LinkSpec → Bool → Option NodeId

@@ -1,6 +1,7 @@
 -- Risks in their order, SRLGs before links, each by number; the risks of links and of routes.
-use Rattle.std.specs.Prelude.{◌≡◌, ◌==◌, Bool, true, false, not, nat_lt, IsTrue, List, [], ◌∷◌, ◌++◌, map, Option}
-use Rattle.std.specs.List.{AllPairs, Contains, find, list_any}
+use Rattle.std.specs.Prelude.{◌≡◌, ◌==◌, Bool, true, false, not, nat_lt, IsTrue, List, [], ◌∷◌, ◌++◌, map, filter, Option}
+use Rattle.std.specs.List.{AllPairs, Contains, find, flat_map, list_any}
+use Rattle.ason_base.specs.InOrder.{in_order}
 use Rattle.ason_base.specs.declared.ids.LinkId.{LinkId}
 use Rattle.ason_base.specs.declared.network.TeRow.{TeRow}
 use Rattle.ason_base.specs.declared.risks.Risk.{Risk}
@@ -21,6 +22,19 @@ AreRising risks = AllPairs (λ x y. IsTrue (is_below x y)) risks
 abbrev pub AreDisjoint : List Risk → List Risk → Type 0
 AreDisjoint xs ys = (r : Risk) → Contains xs r → ¬ Contains ys r
 
+-- one risk, and lists that have one in common
+abbrev pub same_risk : Risk → Risk → Bool
+same_risk (Srlg a) (Srlg b) = a == b
+same_risk (Srlg a) (Link b) = false
+same_risk (Link a) (Srlg b) = false
+same_risk (Link a) (Link b) = a.0 == b.0
+
+abbrev pub has_risk : List Risk → Risk → Bool
+has_risk risks r = list_any (same_risk r) risks
+
+abbrev pub have_common : List Risk → List Risk → Bool
+have_common xs ys = list_any (has_risk ys) xs
+
 -- the declared SRLGs of a link, and the link itself
 abbrev pub risks_of : TeRow → List Risk
 risks_of row = map Srlg row.srlgs ++ (Link row.link ∷ [])
@@ -28,6 +42,13 @@ risks_of row = map Srlg row.srlgs ++ (Link row.link ∷ [])
 -- the risk is one of a link of the route
 abbrev pub HasRisk : List TeRow → List Step → Risk → Type 0
 HasRisk rows route r = (row : TeRow) × (s : Step) × Contains rows row × Contains route s × (row.link ≡ s.link) × Contains (risks_of row) r
+
+abbrev pub passes : List Step → LinkId → Bool
+passes route l = list_any (λ s. s.link.0 == l.0) route
+
+-- the risks of the route's links, rising, each once
+abbrev pub route_risks : List TeRow → List Step → List Risk
+route_risks rows route = in_order is_below (flat_map risks_of (filter (λ row. passes route row.link) rows))
 
 -- no risk is one of both routes
 abbrev pub AreRiskDisjoint : List TeRow → List Step → List Step → Type 0

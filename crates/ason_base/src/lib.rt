@@ -10,6 +10,7 @@ pub mod lists;
 pub mod messages;
 pub mod network;
 pub mod risks;
+pub mod routes;
 pub mod steps;
 pub mod tables;
 

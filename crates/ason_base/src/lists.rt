@@ -1,6 +1,8 @@
 //! Lists of plain numbers.
 
-ghost use Rattle.std.specs.Prelude.{◌≡◌, ◌<◌, [], ◌∷◌, ◌++◌, All, IfOk, OnErr, OnOk};
+ghost use Rattle.std.specs.Prelude.{◌≡◌, ◌↔◌, ◌<◌, ℕ, nat_lt, [], ◌∷◌, ◌++◌, All, Contains, IfOk, OnErr, OnOk};
+ghost use Rattle.std.specs.List.Sorted.{IsStrictlyIncreasing};
+ghost use Rattle.ason_base.specs.InOrder.{in_order};
 
 use crate::ids::OutOfMemory;
 use std::alloc::Global;
@@ -43,6 +45,20 @@ impl Bytes {
         ensures { result.now ≡ self.now }
     {
         &self.bytes
+    }
+
+    /// These bytes.
+    pub fn from_vec(bytes: Vec<u8>) -> Bytes
+        ensures { result ≡ bytes.items }
+    {
+        Bytes { bytes }
+    }
+
+    /// The bytes, as a vector.
+    pub fn into_vec(self) -> Vec<u8>
+        ensures { result.items ≡ self }
+    {
+        self.bytes
     }
 
     /// The same bytes again.
@@ -110,10 +126,13 @@ pub struct Srlgs {
 
 impl Model for Srlgs {
     ghost use Rattle.std.specs.Prelude.{List, ℕ};
+    ghost use Rattle.std.specs.List.Sorted.{IsStrictlyIncreasing};
 
     ghost Value = { List ℕ };
 
     ghost view = { λ s. s.numbers.items };
+
+    ghost invariant = { λ s. IsStrictlyIncreasing s.numbers.items };
 }
 
 impl Srlgs {
@@ -124,6 +143,18 @@ impl Srlgs {
         Srlgs {
             numbers: Vec::new(alloc),
         }
+    }
+
+    /// The SRLGs of these numbers, each once.
+    pub fn of(alloc: Global, numbers: &[u32]) -> Result<Srlgs, OutOfMemory>
+        ensures exact { IfOk result (λ s. s ≡ in_order nat_lt numbers.now) }
+        ensures rising { IfOk result IsStrictlyIncreasing }
+        ensures same { IfOk result (λ s. (n : ℕ) → Contains s n ↔ Contains numbers.now n) }
+    {
+        let mut rising = Vec::from_slice(alloc, numbers)?;
+        rising.sort_unstable();
+        rising.dedup();
+        Ok(Srlgs { numbers: rising })
     }
 
     /// Adds an SRLG above all that are there.
@@ -140,6 +171,13 @@ impl Srlgs {
         ensures { result.now ≡ self.now }
     {
         &self.numbers
+    }
+
+    /// Law: the numbers rise.
+    pub fn rises(&self)
+        ensures { IsStrictlyIncreasing self.now }
+    {
+        let _numbers = &self.numbers;
     }
 
     /// The same SRLGs again.

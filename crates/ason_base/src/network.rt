@@ -2,7 +2,7 @@
 
 ghost use Rattle.std.specs.Prelude.{◌≡◌, ◌<◌, IfErr, IfNone, IfOk, IfSome, length, false};
 ghost use Rattle.std.specs.Option.{option_copied};
-ghost use Rattle.ason_base.specs.Network.{AreLinks, AreNodes, FaultOf, IsTopology, find_link, find_node, is_after, is_distinct, is_link, is_link_at, is_node_at, is_node_id, joins, receiver_of, sender_of};
+ghost use Rattle.ason_base.specs.Network.{AreLinks, AreNodes, FaultOf, IsTopology, find_link, find_node, is_after, is_distinct, is_link, is_link_at, is_node_at, is_node_id, joins, receiver_of, row_of, sender_of};
 
 use crate::ids::{Fibre, LinkId, NodeId, OutOfMemory};
 use crate::lists::{Numbers, Srlgs};
@@ -64,6 +64,20 @@ pub struct TeRow {
 }
 
 impl TeRow {
+    /// The row of a link: its SRLGs rise.
+    pub fn of(alloc: Global, link: &LinkSpec) -> Result<TeRow, OutOfMemory>
+        ensures { IfOk result (λ r. r ≡ row_of link.now) }
+    {
+        let srlgs = Srlgs::of(alloc, link.srlgs.items())?;
+        Ok(TeRow {
+            link: link.id,
+            low: link.low,
+            high: link.high,
+            metric: link.metric,
+            srlgs,
+        })
+    }
+
     /// The same row again.
     pub fn copy(&self, alloc: Global) -> Result<TeRow, OutOfMemory>
         ensures { IfOk result (λ r. r ≡ self.now) }

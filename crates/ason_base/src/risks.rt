@@ -1,8 +1,8 @@
 //! What may fail: shared risk link groups and links.
 
-ghost use Rattle.std.specs.Prelude.{◌≡◌, [], ◌∷◌, ◌++◌, ◌↔◌, None, Some, All, IfErr, IfOk, OnErr, OnOk, IsTrue};
+ghost use Rattle.std.specs.Prelude.{◌≡◌, [], ◌∷◌, ◌++◌, ◌↔◌, None, Some, All, IfErr, IfOk, OnErr, OnOk, IsTrue, not};
 ghost use Rattle.std.specs.List.{Contains};
-ghost use Rattle.ason_base.specs.Risks.{is_below, AreDisjoint, AreRising, HasRisk, has_row, risks_of, unknown_link};
+ghost use Rattle.ason_base.specs.Risks.{is_below, AreDisjoint, AreRising, HasRisk, has_row, have_common, risks_of, route_risks, unknown_link};
 ghost use Rattle.ason_base.specs.declared.ids.LinkId.{LinkId};
 ghost use Rattle.ason_base.specs.declared.risks.Risk.{Risk};
 ghost use Rattle.ason_base.specs.declared.steps.Step.{Step};
@@ -94,6 +94,7 @@ impl RiskSet {
 
     /// The risks of a route: of each of its links the declared SRLGs and the link itself.
     pub fn of(alloc: Global, rows: &[TeRow], route: &Steps) -> Result<RiskSet, RiskFault>
+        ensures exact { IfOk result (λ set. set ≡ route_risks rows.now route.now) }
         ensures risks { IfOk result (λ set. (r : Risk) → Contains set r ↔ HasRisk rows.now route.now r) }
         ensures rising { IfOk result (λ set. AreRising set) }
         ensures known { OnOk result (unknown_link rows.now route.now ≡ None) }
@@ -109,7 +110,8 @@ impl RiskSet {
 
     /// Whether no risk is in both sets.
     pub fn disjoint(&self, other: &RiskSet) -> bool
-        ensures { IsTrue result ↔ AreDisjoint self.now other.now }
+        ensures apart { IsTrue result ↔ AreDisjoint self.now other.now }
+        ensures exact { result ≡ not (have_common self.now other.now) }
     {
         are_disjoint(&self.risks, &other.risks)
     }

@@ -1,7 +1,7 @@
 //! What a node keeps of LSPs and calls, and what it sends.
 
 ghost use Rattle.std.specs.Prelude.{◌≡◌, [], ◌∷◌, ◌++◌, All, IfOk, IsTrue, OnErr, OnOk};
-ghost use Rattle.ason_base.specs.Lsps.{is_other_fibre};
+ghost use Rattle.ason_base.specs.Lsps.{has_fibre, is_other_fibre, without_fibre};
 
 use crate::calls::{CallState, Cause, Phase, Role};
 use crate::commands::copy_route;
@@ -12,6 +12,12 @@ use crate::risks::RiskSet;
 use crate::steps::Steps;
 use std::alloc::Global;
 use std::marker::Model;
+
+fn is_other_fibre(f: Fibre, g: Fibre) -> bool
+    ensures { result ≡ is_other_fibre f g }
+{
+    f != g
+}
 
 /// A list of distinct fibres.
 #[derive(Debug, Drop)]
@@ -52,6 +58,20 @@ impl Fibres {
         ensures { result.now ≡ self.now }
     {
         &self.fibres
+    }
+
+    /// Whether the fibre is there.
+    pub fn has(&self, f: Fibre) -> bool
+        ensures { result ≡ has_fibre self.now f }
+    {
+        self.fibres.iter().any(|g| f == *g)
+    }
+
+    /// Takes the fibre off, where it is there.
+    pub fn remove(&mut self, f: Fibre)
+        ensures { self.new ≡ without_fibre f self.old }
+    {
+        self.fibres.retain(|g| is_other_fibre(f, *g));
     }
 
     /// The same fibres again.
