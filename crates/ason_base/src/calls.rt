@@ -1,12 +1,12 @@
 //! Calls and legs as tables show them.
 
-ghost use Rattle.std.specs.Prelude.{◌≡◌, [], ◌∷◌, ◌++◌, IfOk, OnErr, OnOk};
+ghost use Rattle.std.specs.Prelude.{◌≡◌, IfOk};
 
 use crate::codes::ErrCode;
 use crate::ids::{CallNo, LinkId, Lsp, NodeId, OutOfMemory};
+use crate::items::Items;
 use crate::labels::Label;
 use std::alloc::Global;
-use std::marker::Model;
 
 /// What an LSP is for.
 #[derive(Clone, Copy, Debug, PartialEq, Eq, Drop)]
@@ -99,102 +99,10 @@ pub struct LegRow {
 }
 
 /// A list of calls.
-#[derive(Debug, Drop)]
-pub struct CallRows {
-    rows: Vec<CallRow>,
-}
-
-impl Model for CallRows {
-    ghost use Rattle.std.specs.Prelude.{List};
-    ghost use Rattle.ason_base.specs.declared.calls.CallRow.{CallRow};
-
-    ghost Value = { List CallRow };
-
-    ghost view = { λ s. s.rows.items };
-}
-
-impl CallRows {
-    /// No call.
-    pub fn new(alloc: Global) -> CallRows
-        ensures { result ≡ [] }
-    {
-        CallRows {
-            rows: Vec::new(alloc),
-        }
-    }
-
-    /// Adds a call at the end.
-    pub fn push(&mut self, item: CallRow) -> Result<(), OutOfMemory>
-        ensures ok { OnOk result (self.new ≡ self.old ++ item ∷ []) }
-        ensures err { OnErr result (self.new ≡ self.old) }
-    {
-        self.rows.push(item)?;
-        Ok(())
-    }
-
-    pub fn items(&self) -> &[CallRow]
-        ensures { result.now ≡ self.now }
-    {
-        &self.rows
-    }
-
-    /// The same calls again.
-    pub fn copy(&self, alloc: Global) -> Result<CallRows, OutOfMemory>
-        ensures { IfOk result (λ r. r ≡ self.now) }
-    {
-        let rows = Vec::from_slice(alloc, &self.rows)?;
-        Ok(CallRows { rows })
-    }
-}
+pub type CallRows = Items<CallRow>;
 
 /// A list of legs.
-#[derive(Debug, Drop)]
-pub struct LegRows {
-    rows: Vec<LegRow>,
-}
-
-impl Model for LegRows {
-    ghost use Rattle.std.specs.Prelude.{List};
-    ghost use Rattle.ason_base.specs.declared.calls.LegRow.{LegRow};
-
-    ghost Value = { List LegRow };
-
-    ghost view = { λ s. s.rows.items };
-}
-
-impl LegRows {
-    /// No leg.
-    pub fn new(alloc: Global) -> LegRows
-        ensures { result ≡ [] }
-    {
-        LegRows {
-            rows: Vec::new(alloc),
-        }
-    }
-
-    /// Adds a leg at the end.
-    pub fn push(&mut self, item: LegRow) -> Result<(), OutOfMemory>
-        ensures ok { OnOk result (self.new ≡ self.old ++ item ∷ []) }
-        ensures err { OnErr result (self.new ≡ self.old) }
-    {
-        self.rows.extend_from_slice(&[item])?;
-        Ok(())
-    }
-
-    pub fn items(&self) -> &[LegRow]
-        ensures { result.now ≡ self.now }
-    {
-        &self.rows
-    }
-
-    /// The same legs again.
-    pub fn copy(&self, alloc: Global) -> Result<LegRows, OutOfMemory>
-        ensures { IfOk result (λ r. r ≡ self.now) }
-    {
-        let rows = Vec::from_slice(alloc, &self.rows)?;
-        Ok(LegRows { rows })
-    }
-}
+pub type LegRows = Items<LegRow>;
 
 /// The calls and legs of one node, or of a network.
 #[derive(Debug, Drop)]

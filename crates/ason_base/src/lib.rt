@@ -5,6 +5,7 @@ pub mod calls;
 pub mod codes;
 pub mod commands;
 pub mod ids;
+pub mod items;
 pub mod labels;
 pub mod lists;
 pub mod messages;
@@ -18,6 +19,7 @@ pub use calls::{CallRow, CallRows, CallState, Cause, LegRow, LegRows, Phase, Rol
 pub use codes::ErrCode;
 pub use commands::{Command, DeskItem, Disturb, DisturbKind, Entry, Event, Group};
 pub use ids::{CallNo, Fibre, LinkId, Lsp, NodeId, OutOfMemory};
+pub use items::Items;
 pub use labels::{Label, LabelSet};
 pub use lists::{Bytes, Numbers, Srlgs};
 pub use messages::{DecodeError, Ids, Msg, MsgId, Packet, PathRole};

@@ -5,118 +5,15 @@ ghost use Rattle.std.specs.List.Sorted.{IsStrictlyIncreasing};
 ghost use Rattle.ason_base.specs.InOrder.{in_order};
 
 use crate::ids::OutOfMemory;
+use crate::items::Items;
 use std::alloc::Global;
 use std::marker::Model;
 
 /// A list of bytes.
-#[derive(Debug, Drop)]
-pub struct Bytes {
-    bytes: Vec<u8>,
-}
-
-impl Model for Bytes {
-    ghost use Rattle.std.specs.Prelude.{List, ℕ};
-
-    ghost Value = { List ℕ };
-
-    ghost view = { λ s. s.bytes.items };
-}
-
-impl Bytes {
-    /// No byte.
-    pub fn new(alloc: Global) -> Bytes
-        ensures { result ≡ [] }
-    {
-        Bytes {
-            bytes: Vec::new(alloc),
-        }
-    }
-
-    /// Adds a byte at the end.
-    pub fn push(&mut self, item: u8) -> Result<(), OutOfMemory>
-        ensures ok { OnOk result (self.new ≡ self.old ++ item ∷ []) }
-        ensures err { OnErr result (self.new ≡ self.old) }
-    {
-        self.bytes.push(item)?;
-        Ok(())
-    }
-
-    pub fn items(&self) -> &[u8]
-        ensures { result.now ≡ self.now }
-    {
-        &self.bytes
-    }
-
-    /// These bytes.
-    pub fn from_vec(bytes: Vec<u8>) -> Bytes
-        ensures { result ≡ bytes.items }
-    {
-        Bytes { bytes }
-    }
-
-    /// The bytes, as a vector.
-    pub fn into_vec(self) -> Vec<u8>
-        ensures { result.items ≡ self }
-    {
-        self.bytes
-    }
-
-    /// The same bytes again.
-    pub fn copy(&self, alloc: Global) -> Result<Bytes, OutOfMemory>
-        ensures { IfOk result (λ r. r ≡ self.now) }
-    {
-        let bytes = Vec::from_slice(alloc, &self.bytes)?;
-        Ok(Bytes { bytes })
-    }
-}
+pub type Bytes = Items<u8>;
 
 /// A list of numbers.
-#[derive(Debug, Drop)]
-pub struct Numbers {
-    numbers: Vec<u32>,
-}
-
-impl Model for Numbers {
-    ghost use Rattle.std.specs.Prelude.{List, ℕ};
-
-    ghost Value = { List ℕ };
-
-    ghost view = { λ s. s.numbers.items };
-}
-
-impl Numbers {
-    /// No number.
-    pub fn new(alloc: Global) -> Numbers
-        ensures { result ≡ [] }
-    {
-        Numbers {
-            numbers: Vec::new(alloc),
-        }
-    }
-
-    /// Adds a number at the end.
-    pub fn push(&mut self, item: u32) -> Result<(), OutOfMemory>
-        ensures ok { OnOk result (self.new ≡ self.old ++ item ∷ []) }
-        ensures err { OnErr result (self.new ≡ self.old) }
-    {
-        self.numbers.push(item)?;
-        Ok(())
-    }
-
-    pub fn items(&self) -> &[u32]
-        ensures { result.now ≡ self.now }
-    {
-        &self.numbers
-    }
-
-    /// The same numbers again.
-    pub fn copy(&self, alloc: Global) -> Result<Numbers, OutOfMemory>
-        ensures { IfOk result (λ r. r ≡ self.now) }
-    {
-        let numbers = Vec::from_slice(alloc, &self.numbers)?;
-        Ok(Numbers { numbers })
-    }
-}
+pub type Numbers = Items<u32>;
 
 /// A list of SRLG numbers, rising (RFC 4203, section 1.3).
 #[derive(Debug, Drop)]

@@ -1,13 +1,13 @@
 //! Messages of RSVP-TE (RFC 2205, RFC 3473, RFC 4872) as nodes understand them, and the packets that carry them.
 
-ghost use Rattle.std.specs.Prelude.{◌≡◌, [], ◌∷◌, ◌++◌, IfOk, OnErr, OnOk};
+ghost use Rattle.std.specs.Prelude.{◌≡◌, IfOk};
 
 use crate::codes::ErrCode;
 use crate::ids::{LinkId, Lsp, NodeId, OutOfMemory};
+use crate::items::Items;
 use crate::labels::{Label, LabelSet};
 use crate::steps::Steps;
 use std::alloc::Global;
-use std::marker::Model;
 
 /// What the LSP of a Path is for (PROTECTION, RFC 4872, section 14).
 #[derive(Debug, Drop)]
@@ -172,53 +172,7 @@ pub struct MsgId {
 }
 
 /// A list of message numbers.
-#[derive(Debug, Drop)]
-pub struct Ids {
-    ids: Vec<MsgId>,
-}
-
-impl Model for Ids {
-    ghost use Rattle.std.specs.Prelude.{List};
-    ghost use Rattle.ason_base.specs.declared.messages.MsgId.{MsgId};
-
-    ghost Value = { List MsgId };
-
-    ghost view = { λ s. s.ids.items };
-}
-
-impl Ids {
-    /// No number.
-    pub fn new(alloc: Global) -> Ids
-        ensures { result ≡ [] }
-    {
-        Ids {
-            ids: Vec::new(alloc),
-        }
-    }
-
-    /// Adds a number at the end.
-    pub fn push(&mut self, item: MsgId) -> Result<(), OutOfMemory>
-        ensures ok { OnOk result (self.new ≡ self.old ++ item ∷ []) }
-        ensures err { OnErr result (self.new ≡ self.old) }
-    {
-        self.ids.push(item)?;
-        Ok(())
-    }
-
-    pub fn items(&self) -> &[MsgId]
-        ensures { result.now ≡ self.now }
-    {
-        &self.ids
-    }
-
-    /// The same numbers again.
-    pub fn copy(&self, alloc: Global) -> Result<Ids, OutOfMemory>
-        ensures { IfOk result (λ r. r ≡ self.now) }
-    {
-        let ids = Vec::from_slice(alloc, &self.ids)?;
-        Ok(Ids { ids })
-    }
-}
+pub type Ids = Items<MsgId>;
 
 /// What one frame carries: a message with its number, or none, and acknowledgements (RFC 2961, section 4).
 #[derive(Debug, Drop)]

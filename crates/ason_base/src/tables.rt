@@ -6,6 +6,7 @@ ghost use Rattle.ason_base.specs.Lsps.{has_fibre, is_other_fibre, without_fibre}
 use crate::calls::{CallState, Cause, Phase, Role};
 use crate::commands::copy_route;
 use crate::ids::{CallNo, Fibre, Lsp, NodeId, OutOfMemory};
+use crate::items::Items;
 use crate::labels::{Label, LabelSet};
 use crate::messages::{Msg, PathRole};
 use crate::risks::RiskSet;
@@ -194,49 +195,4 @@ pub struct Out {
 }
 
 /// The messages of a step, in order.
-#[derive(Debug, Drop)]
-pub struct Outs {
-    outs: Vec<Out>,
-}
-
-impl Model for Outs {
-    ghost use Rattle.std.specs.Prelude.{List};
-    ghost use Rattle.ason_base.specs.declared.tables.Out.{Out};
-
-    ghost Value = { List Out };
-
-    ghost view = { λ s. s.outs.items };
-}
-
-impl Outs {
-    /// No message.
-    pub fn new(alloc: Global) -> Outs
-        ensures { result ≡ [] }
-    {
-        Outs {
-            outs: Vec::new(alloc),
-        }
-    }
-
-    /// Adds a message at the end.
-    pub fn push(&mut self, item: Out) -> Result<(), OutOfMemory>
-        ensures ok { OnOk result (self.new ≡ self.old ++ item ∷ []) }
-        ensures err { OnErr result (self.new ≡ self.old) }
-    {
-        self.outs.push(item)?;
-        Ok(())
-    }
-
-    pub fn items(&self) -> &[Out]
-        ensures { result.now ≡ self.now }
-    {
-        &self.outs
-    }
-
-    /// The messages, to be sent one by one.
-    pub fn into_vec(self) -> Vec<Out>
-        ensures { result.items ≡ self }
-    {
-        self.outs
-    }
-}
+pub type Outs = Items<Out>;
