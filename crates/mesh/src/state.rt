@@ -2,9 +2,9 @@
 
 ghost use Rattle.std.specs.Prelude.{◌≡◌, ◌==◌, ◌&&◌, ◌∷◌, ◌++◌, IfErr, IfOk, IsTrue, List, OnErr, OnOk, Some, map, not, position};
 ghost use Rattle.std.specs.List.{list_any};
-ghost use Rattle.ason_base.specs.Network.{Network, is_node_id};
+ghost use Rattle.ason_base.specs.Network.{Network, is_node_id, other_end, touches};
 ghost use Rattle.ason_base.specs.declared.ids.CallNo.{CallNo};
-ghost use Rattle.mesh_rules.specs.Sites.{other_end, site_of, touches};
+ghost use Rattle.mesh_rules.specs.Sites.{site_of};
 ghost use Rattle.mesh_rules.specs.Messages.{on_message};
 ghost use Rattle.mesh_rules.specs.Orders.{on_item, on_tick};
 ghost use Rattle.mesh_rules.specs.Commands.{is_again, is_valid};
@@ -21,7 +21,7 @@ use crate::queues::{Sent, Waiting, first_item, first_message, order, send};
 use crate::seats::{Seat, carry_out_at, tables_at};
 use ason_base::{CallNo, Command, DeskItem, LinkId, Msg, NodeId, OutOfMemory, Topology};
 use mesh_rules::commands::{has_node, is_again, is_valid};
-use mesh_rules::links::{other_end, touches};
+use ason_base::routes::{other_end, touches};
 use mesh_rules::{MeshEvent, StepFault};
 use node_core::call_rules::{on_item, on_tick};
 use node_core::changes::Change;

@@ -12,11 +12,11 @@ use Rattle.ason_base.specs.declared.messages.Msg.TheVariants.{Path, Resv, PathTe
 use Rattle.ason_base.specs.declared.tables.Leg.{Leg}
 use Rattle.ason_base.specs.Labels.{has}
 use Rattle.ason_base.specs.Lsps.{same_lsp}
-use Rattle.ason_base.specs.Network.{Network, find_link}
+use Rattle.ason_base.specs.Network.{Network, find_link, other_end}
 use Rattle.mesh_rules.specs.declared.events.MeshEvent.{MeshEvent}
-use Rattle.mesh_rules.specs.Sites.{other_end, fibre_in, fibre_out}
+use Rattle.mesh_rules.specs.Sites.{fibre_in, fibre_out}
 use Rattle.mesh_rules.specs.Legs.{find_leg, is_beyond_asked}
-use Rattle.mesh_rules.specs.Commands.{makes_route}
+use Rattle.ason_base.specs.Routes.{makes_route}
 use Rattle.mesh_rules.specs.Machine.{Mesh, start}
 use Rattle.mesh_rules.specs.Events.{IsRun, after, route_of}
 use Rattle.mesh_laws.specs.HopShapes.{Shape, leg_kind, msg_kind}

@@ -1,2 +1,2 @@
-pub mod Routes
+pub mod KnownLinks
 pub mod SiteLemmas

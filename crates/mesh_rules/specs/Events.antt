@@ -12,13 +12,13 @@ use Rattle.ason_base.specs.declared.commands.DeskItem.TheVariants.{Order}
 use Rattle.ason_base.specs.declared.messages.Msg.{Msg}
 use Rattle.ason_base.specs.declared.messages.Msg.TheVariants.{Path, Resv, PathTear, PathErr, Notify}
 use Rattle.ason_base.specs.declared.tables.Out.{Out}
-use Rattle.ason_base.specs.Network.{Network, is_node_id}
+use Rattle.ason_base.specs.Network.{Network, is_node_id, touches, other_end}
 use Rattle.ason_base.specs.Lsps.{same_lsp}
 use Rattle.mesh_rules.specs.declared.events.MeshEvent.{MeshEvent}
 use Rattle.mesh_rules.specs.declared.events.MeshEvent.TheVariants.{Take, Desk, Tick, Learn, Post}
 use Rattle.mesh_rules.specs.Changes.{Answer, nothing}
 use Rattle.mesh_rules.specs.State.{NodeState}
-use Rattle.mesh_rules.specs.Sites.{Place, site_of, touches, other_end, own_link, is_link_there}
+use Rattle.mesh_rules.specs.Sites.{Place, site_of, own_link, is_link_there}
 use Rattle.mesh_rules.specs.Messages.{on_message}
 use Rattle.mesh_rules.specs.Orders.{on_item, on_tick}
 use Rattle.mesh_rules.specs.Commands.{is_valid, is_again}

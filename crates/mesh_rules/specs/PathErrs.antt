@@ -1,5 +1,5 @@
 -- A PathErr with Path_State_Removed (RFC 3473, section 4.4).
-use Rattle.std.specs.Prelude.{◌&&◌, Bool, List, [], ◌∷◌, Option, Some, None, if◌then◌else◌}
+use Rattle.std.specs.Prelude.{◌&&◌, Bool, [], ◌∷◌, Option, Some, None, if◌then◌else◌}
 use Rattle.ason_base.specs.declared.ids.Lsp.{Lsp}
 use Rattle.ason_base.specs.declared.ids.NodeId.{NodeId}
 use Rattle.ason_base.specs.declared.codes.ErrCode.{ErrCode}

@@ -17,7 +17,8 @@ use Rattle.mesh_rules.specs.declared.limits.TheConstants.{MOST_LEGS}
 use Rattle.mesh_rules.specs.declared.arrivals.Arrival.{Arrival}
 use Rattle.mesh_rules.specs.State.{NodeState}
 use Rattle.mesh_rules.specs.Changes.{Answer, nothing, sends, puts, to_node}
-use Rattle.mesh_rules.specs.Sites.{Place, own_link, is_link_there, leads, other_end, fibre_in, fibre_out}
+use Rattle.ason_base.specs.Network.{other_end}
+use Rattle.mesh_rules.specs.Sites.{Place, own_link, is_link_there, leads, fibre_in, fibre_out}
 use Rattle.mesh_rules.specs.Legs.{find_leg, usable}
 
 -- what a Path asks for: of which LSP and from where it came, over which steps from here, with which labels, and for what

@@ -1,5 +1,5 @@
 -- A setup at its ingress (ITU-T G.8080, call control). p is the node; s is what it keeps.
-use Rattle.std.specs.Prelude.{ℕ, ◌+◌, ◌==◌, ◌&&◌, ◌||◌, nat_lt, nat_le, Bool, true, false, not, List, [], ◌∷◌, length, drop, Option, Some, None, if◌then◌else◌}
+use Rattle.std.specs.Prelude.{◌+◌, ◌==◌, ◌&&◌, ◌||◌, nat_lt, nat_le, Bool, true, false, not, List, [], ◌∷◌, length, drop, Option, Some, None, if◌then◌else◌}
 use Rattle.ason_base.specs.Labels.{up_to}
 use Rattle.ason_base.specs.declared.ids.NodeId.{NodeId}
 use Rattle.ason_base.specs.declared.ids.CallNo.{CallNo}
@@ -22,7 +22,8 @@ use Rattle.mesh_rules.specs.declared.changes.LegChange.TheVariants as leg
 use Rattle.mesh_rules.specs.State.{NodeState}
 use Rattle.mesh_rules.specs.Changes.{Answer, nothing, changes_calls, to_node}
 use Rattle.mesh_rules.specs.Calls.{find_call}
-use Rattle.mesh_rules.specs.Sites.{Place, own_link, is_link_there, other_end, fibre_out}
+use Rattle.ason_base.specs.Network.{other_end}
+use Rattle.mesh_rules.specs.Sites.{Place, own_link, is_link_there, fibre_out}
 
 -- what a setup asks for
 pub record SetupRequest : Type 0 where

@@ -1,12 +1,12 @@
 -- What a node knows of itself.
-use Rattle.std.specs.Prelude.{ℕ, ◌==◌, ◌||◌, ◌&&◌, nat_le, Bool, true, false, List, find, filter, Option, Some, None, if◌then◌else◌}
+use Rattle.std.specs.Prelude.{ℕ, ◌==◌, ◌||◌, ◌&&◌, nat_le, Bool, true, false, List, find, filter, Option, Some, None}
 use Rattle.std.specs.List.{AllPass}
 use Rattle.ason_base.specs.declared.ids.NodeId.{NodeId}
 use Rattle.ason_base.specs.declared.ids.LinkId.{LinkId}
 use Rattle.ason_base.specs.declared.ids.Fibre.{Fibre}
 use Rattle.ason_base.specs.declared.network.NodeSpec.{NodeSpec}
 use Rattle.ason_base.specs.declared.network.LinkSpec.{LinkSpec}
-use Rattle.ason_base.specs.Network.{Network, find_node}
+use Rattle.ason_base.specs.Network.{Network, find_node, touches}
 
 -- a node's number, whether it converts, and its own links, in order of number
 pub record Place : Type 0 where
@@ -17,9 +17,6 @@ pub record Place : Type 0 where
 abbrev pub converts : Option NodeSpec → Bool
 converts None = false
 converts (Some n) = n.convert
-
-abbrev pub touches : NodeId → LinkSpec → Bool
-touches n l = l.low.0 == n.0 || l.high.0 == n.0
 
 abbrev pub site_of : Network → NodeId → Place
 site_of t n = record { id = n; convert = converts (find_node t n); own = filter (touches n) t.links }
@@ -43,10 +40,6 @@ labels_of (Some l) = l.labels
 abbrev pub leads : Option LinkSpec → NodeId → NodeId → Bool
 leads None u n = false
 leads (Some l) u n = (l.low.0 == u.0 && l.high.0 == n.0) || (l.low.0 == n.0 && l.high.0 == u.0)
-
--- the other end of a link of n
-abbrev pub other_end : LinkSpec → NodeId → NodeId
-other_end l n = if l.low.0 == n.0 then l.high else l.low
 
 -- the fibre of a link that comes in at n, and the one that goes out
 abbrev pub fibre_in : LinkSpec → NodeId → Fibre

@@ -1,5 +1,5 @@
 -- A PathTear (RFC 2205, section 3.1.5), which the node confirms by a PathErr with Path_State_Removed.
-use Rattle.std.specs.Prelude.{◌&&◌, true, not, List, [], ◌∷◌, Option, Some, None, if◌then◌else◌}
+use Rattle.std.specs.Prelude.{◌&&◌, true, not, [], ◌∷◌, Option, Some, None, if◌then◌else◌}
 use Rattle.ason_base.specs.Codes.{torn_code}
 use Rattle.ason_base.specs.declared.messages.Msg.TheVariants.{PathTear, PathErr}
 use Rattle.ason_base.specs.declared.tables.Leg.{Leg}

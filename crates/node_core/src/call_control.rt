@@ -19,7 +19,8 @@ use ason_base::{
 };
 use mesh_rules::NextNumbers;
 use mesh_rules::limits::{LAST_NUMBER, MOST_LEGS, MOST_LINKS_OF_ROUTE};
-use mesh_rules::links::{fibre_out, other_end};
+use ason_base::routes::other_end;
+use mesh_rules::links::fibre_out;
 use std::alloc::Global;
 use std::marker::Model;
 

@@ -19,7 +19,8 @@ use ason_base::{
 };
 use mesh_rules::Arrival;
 use mesh_rules::limits::MOST_LEGS;
-use mesh_rules::links::{fibre_in, fibre_out, leads, other_end};
+use ason_base::routes::other_end;
+use mesh_rules::links::{fibre_in, fibre_out, leads};
 use std::alloc::Global;
 use std::marker::Model;
 

@@ -2,11 +2,11 @@
 
 ghost use Rattle.std.specs.Prelude.{◌≡◌, ◌≤◌, ◌==◌, ◌||◌, IfOk, IfSome, filter};
 ghost use Rattle.std.specs.Option.{option_copied};
-ghost use Rattle.ason_base.specs.Network.{find_node};
-ghost use Rattle.mesh_rules.specs.Sites.{converts, own_link, site_of, touches};
+ghost use Rattle.ason_base.specs.Network.{find_node, touches};
+ghost use Rattle.mesh_rules.specs.Sites.{converts, own_link, site_of};
 
 use ason_base::{LinkId, LinkSpec, NodeId, NodeSpec, OutOfMemory, Topology};
-use mesh_rules::links::touches;
+use ason_base::routes::touches;
 use std::alloc::Global;
 use std::marker::Model;
 

@@ -9,7 +9,8 @@ use Rattle.ason_base.specs.Network.{Network, is_node_id}
 use Rattle.ason_base.specs.declared.ids.CallNo.{CallNo}
 use Rattle.ason_base.specs.declared.ids.NodeId.{NodeId}
 use Rattle.ason_base.specs.declared.network.NodeSpec.{NodeSpec}
-use Rattle.mesh_rules.specs.Commands.{is_valid, makes_route}
+use Rattle.ason_base.specs.Routes.{makes_route}
+use Rattle.mesh_rules.specs.Commands.{is_valid}
 use Rattle.plan_reader.specs.Names.{has_name, is_name, place_of, same_text}
 use Rattle.plan_reader.specs.declared.lines.Line.TheVariants.{Post, Settle, Show}
 use Rattle.plan_reader.specs.declared.plan.Plan.{Plan}

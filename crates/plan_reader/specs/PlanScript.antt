@@ -5,7 +5,7 @@ use Rattle.ason_base.specs.declared.ids.NodeId.{NodeId}
 use Rattle.ason_base.specs.declared.steps.Step.{Step}
 use Rattle.ason_base.specs.declared.commands.Command.{Command}
 use Rattle.ason_base.specs.declared.commands.Command.TheVariants.{Setup, Release}
-use Rattle.mesh_rules.specs.Commands.{across, makes_route}
+use Rattle.ason_base.specs.Routes.{across, makes_route}
 use Rattle.plan_reader.specs.declared.faults.PlanEntry.TheVariants.{Script}
 use Rattle.plan_reader.specs.declared.faults.PlanFault.{PlanFault}
 use Rattle.plan_reader.specs.declared.faults.PlanKind.{PlanKind}

@@ -21,7 +21,7 @@ use crate::names::{Name, Names, is_name};
 use crate::values::text_of;
 use crate::words::{are_link_ids, link_ids, number, word};
 use ason_base::{CallNo, Command, LinkId, NodeId, OutOfMemory, Step, Steps, Topology};
-use mesh_rules::commands::makes_route;
+use ason_base::routes::makes_route;
 use std::alloc::Global;
 use toml::Value;
 

@@ -2,7 +2,7 @@
 use Rattle.std.proofs.Common.{◌≡◌, ◌≢◌, ◌<◌, ◌≤◌, ℕ, suc, Bool, true, false, cond, not, nat_eq, nat_lt, List, [], ◌∷◌, length, refl, sym, ap, ◌∙◌, subst, arith, inl, inr}
 use Rattle.std.specs.Prelude.{◌⊎◌, ◌&&◌, ◌||◌, nat_le, Option, Some, None}
 use Rattle.ason_base.specs.Labels.{up_to}
-use Rattle.ason_base.specs.Network.{Network}
+use Rattle.ason_base.specs.Network.{Network, other_end}
 use Rattle.ason_base.specs.Lsps.{same_lsp}
 use Rattle.ason_base.specs.declared.ids.LinkId.{LinkId}
 use Rattle.ason_base.specs.declared.ids.Lsp.{Lsp}
@@ -19,11 +19,11 @@ use Rattle.ason_base.specs.declared.tables.CallRec.{CallRec}
 use Rattle.ason_base.specs.declared.tables.Leg.{Leg}
 use Rattle.ason_base.specs.declared.tables.Out.{Out}
 use Rattle.mesh_rules.specs.Changes.{Answer, nothing, changed}
-use Rattle.mesh_rules.specs.Sites.{site_of, own_link, other_end, fibre_out}
+use Rattle.mesh_rules.specs.Sites.{site_of, own_link, fibre_out}
 use Rattle.mesh_rules.specs.CallRules.{Wish}
 use Rattle.mesh_rules.specs.Setups.{refused_setup, first_leg, next_lsp, begins, is_spent, is_followable, over_first, new_call, on_setup}
 use Rattle.mesh_rules.specs.Paths.{admitted}
-use Rattle.mesh_rules.specs.Commands.{makes_route}
+use Rattle.ason_base.specs.Routes.{makes_route}
 use Rattle.mesh_rules.specs.Machine.{Mesh, commit}
 use Rattle.mesh_rules.specs.Events.{first_route, or_route}
 use Rattle.mesh_laws.specs.HopLaw.{leg_at, mail_between, IsBlank}

@@ -7,10 +7,10 @@ use Rattle.ason_base.specs.declared.ids.LinkId.{LinkId}
 use Rattle.ason_base.specs.declared.ids.Fibre.{Fibre}
 use Rattle.ason_base.specs.declared.steps.Step.{Step}
 use Rattle.ason_base.specs.declared.network.LinkSpec.{LinkSpec}
-use Rattle.ason_base.specs.Network.{Network, find_link, is_distinct}
-use Rattle.mesh_rules.specs.Sites.{touches, site_of, own_link, leads, other_end, fibre_in, fibre_out}
+use Rattle.ason_base.specs.Network.{Network, find_link, is_distinct, touches, other_end}
+use Rattle.mesh_rules.specs.Sites.{site_of, own_link, leads, fibre_in, fibre_out}
 use Rattle.mesh_rules.proofs.SiteLemmas.{and_first, and_second}
-use Rattle.mesh_rules.specs.Commands.{across, one_step, route_end, is_end, nodes_of, makes_route}
+use Rattle.ason_base.specs.Routes.{across, one_step, route_end, is_end, nodes_of, makes_route}
 
 pub record Plan : Type 0 where
   pub egress : NodeId

@@ -18,7 +18,8 @@ use Rattle.mesh_rules.specs.Sites.{site_of}
 use Rattle.mesh_rules.specs.Calls.{find_call}
 use Rattle.mesh_rules.specs.Orders.{on_order, on_item}
 use Rattle.mesh_rules.specs.Releases.{on_release}
-use Rattle.mesh_rules.specs.Commands.{is_valid, makes_route, is_given_route}
+use Rattle.ason_base.specs.Routes.{makes_route, is_given_route}
+use Rattle.mesh_rules.specs.Commands.{is_valid}
 use Rattle.mesh_rules.specs.Machine.{Mesh, commit, without_item}
 use Rattle.mesh_rules.specs.Events.{is_enabled, on_first_item, posted, step, IsRun, after, first_route, or_route, sent_at_ingress, route_of}
 use Rattle.mesh_rules.proofs.SiteLemmas.{and_first, and_second}

@@ -14,7 +14,7 @@ use Rattle.mesh_rules.specs.Changes.{Answer, changed}
 use Rattle.mesh_rules.specs.Sites.{site_of}
 use Rattle.mesh_rules.specs.Legs.{find_leg}
 use Rattle.mesh_rules.specs.Messages.{on_message}
-use Rattle.mesh_rules.specs.Commands.{makes_route}
+use Rattle.ason_base.specs.Routes.{makes_route}
 use Rattle.mesh_rules.specs.Machine.{Mesh, commit, without_first}
 use Rattle.mesh_rules.specs.Events.{has_first, on_first, first_route, or_route, sent_at_ingress}
 use Rattle.mesh_laws.specs.HopLaw.{lsp_of, messages_of, leg_at, mail_between, IsBlank}

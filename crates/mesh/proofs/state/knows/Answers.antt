@@ -1,5 +1,5 @@
 use Rattle.std.proofs.Common.{◌∙◌}
-use Rattle.mesh_rules.proofs.Routes.{knows_link}
+use Rattle.mesh_rules.proofs.KnownLinks.{knows_link}
 use Rattle.mesh.proofs.state.knows.Goals as goal
 
 pub returns : goal.returns

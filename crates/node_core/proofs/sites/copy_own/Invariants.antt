@@ -1,6 +1,6 @@
 use Rattle.std.proofs.Common.{◌≡◌, take}
 use Rattle.std.specs.Prelude.{filter}
-use Rattle.mesh_rules.specs.Sites.{touches}
+use Rattle.ason_base.specs.Network.{touches}
 use Rattle.node_core.proofs.sites.copy_own.Given as goal
 
 abbrev pub invariant-loop-link : goal.invariant-loop-link

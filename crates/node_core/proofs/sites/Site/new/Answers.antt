@@ -1,4 +1,4 @@
-use Rattle.mesh_rules.specs.Sites.{touches}
+use Rattle.ason_base.specs.Network.{touches}
 use Rattle.mesh_rules.proofs.SiteLemmas.{narrow_filter, narrow_links}
 use Rattle.node_core.proofs.sites.Site.new.Goals as goal
 
