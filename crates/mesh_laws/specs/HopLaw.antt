@@ -1,11 +1,12 @@
 -- What holds of each LSP, and of each hop of its route, in every state of every run.
-use Rattle.std.specs.Prelude.{◌≡◌, ◌≢◌, ◌<◌, ℕ, ◌⊎◌, List, [], ◌∷◌, map, filter, length, slice_get, Option, Some, None, IsTrue}
+use Rattle.std.specs.Prelude.{◌≡◌, ◌≢◌, ◌<◌, ◌&&◌, ℕ, Bool, true, false, not, ◌⊎◌, List, [], ◌∷◌, map, filter, length, slice_get, Option, Some, None, IsTrue}
 use Rattle.std.specs.List.{Contains}
 use Rattle.ason_base.specs.declared.ids.NodeId.{NodeId}
 use Rattle.ason_base.specs.declared.ids.Lsp.{Lsp}
 use Rattle.ason_base.specs.declared.steps.Step.{Step}
 use Rattle.ason_base.specs.declared.network.LinkSpec.{LinkSpec}
 use Rattle.ason_base.specs.declared.calls.Phase.TheVariants.{Live}
+use Rattle.ason_base.specs.declared.calls.Role.{Role}
 use Rattle.ason_base.specs.declared.calls.Role.TheVariants.{Work}
 use Rattle.ason_base.specs.declared.messages.Msg.{Msg}
 use Rattle.ason_base.specs.declared.messages.Msg.TheVariants.{Path, Resv, PathTear, PathErr, Notify}
@@ -30,8 +31,25 @@ lsp_of (PathTear l e k) = l
 lsp_of (PathErr l e at gone code) = l
 lsp_of (Notify l e at k code) = l
 
+abbrev pub is_notice : Msg → Bool
+is_notice (Path l e k route set up r) = false
+is_notice (Resv l e k x) = false
+is_notice (PathTear l e k) = false
+is_notice (PathErr l e at gone code) = false
+is_notice (Notify l e at k code) = true
+
+-- a message of this LSP, Notifies aside
+abbrev pub is_message_of : Lsp → Msg → Bool
+is_message_of l m = not (is_notice m) && same_lsp (lsp_of m) l
+
+abbrev pub is_notice_of : Lsp → Msg → Bool
+is_notice_of l m = is_notice m && same_lsp (lsp_of m) l
+
 abbrev pub messages_of : Lsp → List Msg → List Msg
-messages_of l ms = filter (λ m. same_lsp (lsp_of m) l) ms
+messages_of l ms = filter (is_message_of l) ms
+
+abbrev pub notices_of : Lsp → List Msg → List Msg
+notices_of l ms = filter (is_notice_of l) ms
 
 abbrev pub leg_at : Mesh → Lsp → NodeId → Option Leg
 leg_at s l n = find_leg l (s.nodes n.0).legs
@@ -39,6 +57,9 @@ leg_at s l n = find_leg l (s.nodes n.0).legs
 -- from the first node to the second, the oldest first
 abbrev pub mail_between : Mesh → Lsp → NodeId → NodeId → List Msg
 mail_between s l u d = messages_of l (s.mail u.0 d.0)
+
+abbrev pub notices_between : Mesh → Lsp → NodeId → NodeId → List Msg
+notices_between s l u d = notices_of l (s.mail u.0 d.0)
 
 -- the label of each Resv among these messages
 abbrev pub EachLabel : (ℕ → Type 0) → List Msg → Type 0
@@ -49,9 +70,15 @@ EachLabel Q (PathTear l e k ∷ ms) = EachLabel Q ms
 EachLabel Q (PathErr l e at gone code ∷ ms) = EachLabel Q ms
 EachLabel Q (Notify l e at k code ∷ ms) = EachLabel Q ms
 
--- One hop of an LSP, over a link from u to d. Up are the messages from d to u.
-pub record HopFits (s : Mesh) (l : Lsp) (link : LinkSpec) (u d : NodeId) : Type 0 where
-  pub shape : Shape Work (leg_kind (leg_at s l u)) (leg_kind (leg_at s l d)) (map msg_kind (mail_between s l u d)) (map msg_kind (mail_between s l d u))
+-- the legs of an LSP of this role at two neighbours, and its messages between them, have a shape of the table
+abbrev pub HasShape : Mesh → Role → Lsp → NodeId → NodeId → Type 0
+HasShape s r l u d =
+    Shape r (leg_kind (leg_at s l u)) (leg_kind (leg_at s l d))
+    (map msg_kind (mail_between s l u d)) (map msg_kind (mail_between s l d u))
+
+-- One hop of an LSP of this role, over a link from u to d. Up are the messages from d to u.
+pub record HopFits (s : Mesh) (r : Role) (l : Lsp) (link : LinkSpec) (u d : NodeId) : Type 0 where
+  pub shape : HasShape s r l u d
   -- no message of an LSP comes down to its ingress
   pub onward : d.0 ≢ l.ingress.0
   -- the fibre out at u is the fibre in at d
@@ -59,15 +86,17 @@ pub record HopFits (s : Mesh) (l : Lsp) (link : LinkSpec) (u d : NodeId) : Type 
   pub out_fibre : (g : Leg) → leg_at s l u ≡ Some g → g.out_fibre ≡ Some (fibre_out link u)
   pub in_fibre : (h : Leg) → leg_at s l d ≡ Some h → h.in_fibre ≡ Some (fibre_in link d)
   -- where u has a label out and d a label in, they are one
-  pub labels : (g h : Leg) (x y : ℕ) → leg_at s l u ≡ Some g → leg_at s l d ≡ Some h → g.out_label ≡ Some x → h.in_label ≡ Some y → x ≡ y
+  pub labels : (g h : Leg) (x y : ℕ) → leg_at s l u ≡ Some g → leg_at s l d ≡ Some h →
+      g.out_label ≡ Some x → h.in_label ≡ Some y → x ≡ y
   -- while d is beyond Asked, a Resv on its way up has d's label in, and u sent that label on
-  pub answers : (g h : Leg) → leg_at s l u ≡ Some g → leg_at s l d ≡ Some h → IsTrue (is_beyond_asked h.phase) → EachLabel (λ x. (h.in_label ≡ Some x) × IsTrue (has g.sent x)) (mail_between s l d u)
+  pub answers : (g h : Leg) → leg_at s l u ≡ Some g → leg_at s l d ≡ Some h → IsTrue (is_beyond_asked h.phase) →
+      EachLabel (λ x. (h.in_label ≡ Some x) × IsTrue (has g.sent x)) (mail_between s l d u)
 
 -- The hop of one step of a route: its link is there, and the LSP's legs and messages at its ends fit.
-pub record StepFits (t : Network) (s : Mesh) (l : Lsp) (hop : Step) : Type 0 where
+pub record StepFits (t : Network) (s : Mesh) (r : Role) (l : Lsp) (hop : Step) : Type 0 where
   pub link : LinkSpec
   pub found : find_link t hop.link ≡ Some link
-  pub fits : HopFits s l link hop.node (other_end link hop.node)
+  pub fits : HopFits s r l link hop.node (other_end link hop.node)
 
 -- the two nodes are the ends of a step of the route, in one order or the other
 pub record IsHop (t : Network) (route : List Step) (a b : NodeId) : Type 0 where
@@ -78,26 +107,36 @@ pub record IsHop (t : Network) (route : List Step) (a b : NodeId) : Type 0 where
   pub found : find_link t hop.link ≡ Some link
   pub ends : ((a ≡ hop.node) × (b ≡ other_end link hop.node)) ⊎ ((a ≡ other_end link hop.node) × (b ≡ hop.node))
 
--- An LSP with this route, which ends at e
-pub record RouteFits (t : Network) (s : Mesh) (l : Lsp) (route : List Step) (e : NodeId) : Type 0 where
+-- a step of the route begins at this node
+abbrev pub IsOnRoute : List Step → NodeId → Type 0
+IsOnRoute route n = (i : ℕ) × (hop : Step) × (slice_get route i ≡ Some hop) × (n ≡ hop.node)
+
+-- An LSP of this role with this route, which ends at e
+pub record RouteFits (t : Network) (s : Mesh) (r : Role) (l : Lsp) (route : List Step) (e : NodeId) : Type 0 where
   pub long : 0 < length route
   pub leads : IsTrue (makes_route t l.ingress e route)
-  pub hops : (i : ℕ) (hop : Step) → slice_get route i ≡ Some hop → StepFits t s l hop
+  pub hops : (i : ℕ) (hop : Step) → slice_get route i ≡ Some hop → StepFits t s r l hop
   -- its leg at the egress is Live from the first
   pub egress : (g : Leg) → leg_at s l e ≡ Some g → g.phase ≡ Live
   -- legs stand at the nodes of the route alone, and messages are on its hops alone
-  pub legs : (n : NodeId) (g : Leg) → leg_at s l n ≡ Some g → (n ≡ e) ⊎ ((i : ℕ) × (hop : Step) × (slice_get route i ≡ Some hop) × (n ≡ hop.node))
-  pub work : (n : NodeId) (g : Leg) → leg_at s l n ≡ Some g → g.role ≡ Work
+  pub legs : (n : NodeId) (g : Leg) → leg_at s l n ≡ Some g → (n ≡ e) ⊎ IsOnRoute route n
   pub mail : (a b : NodeId) → (mail_between s l a b ≡ []) ⊎ IsHop t route a b
+  -- each leg has the LSP's role, and names the end of the route as its egress
+  pub roles : (n : NodeId) (g : Leg) → leg_at s l n ≡ Some g → g.role ≡ r
+  pub ends : (n : NodeId) (g : Leg) → leg_at s l n ≡ Some g → g.egress ≡ e
+  -- no Notify is under way
+  pub notices : (a b : NodeId) → notices_between s l a b ≡ []
 
 -- nothing of the LSP is anywhere
 pub record IsBlank (s : Mesh) (l : Lsp) : Type 0 where
   pub legs : (n : NodeId) → leg_at s l n ≡ None
   pub mail : (a b : NodeId) → mail_between s l a b ≡ []
+  pub notices : (a b : NodeId) → notices_between s l a b ≡ []
 
+-- each LSP that was asked for is a working one
 abbrev pub LspFits : Network → Mesh → Lsp → Option (List Step) → Type 0
 LspFits t s l None = IsBlank s l
-LspFits t s l (Some route) = (e : NodeId) × RouteFits t s l route e
+LspFits t s l (Some route) = (e : NodeId) × RouteFits t s Work l route e
 
 -- a node has at most one leg of an LSP: each of its legs is the one that is found
 abbrev pub HasOneLegEach : Mesh → Type 0
@@ -105,4 +144,6 @@ HasOneLegEach s = (n : NodeId) (g : Leg) → Contains (s.nodes n.0).legs g → l
 
 -- each hop of each LSP has a shape of the table, and what was never sent from its ingress is nowhere
 abbrev pub EveryHopHasAShape : Type 0
-EveryHopHasAShape = (t : Network) (events : List MeshEvent) → IsRun t start events → HasOneLegEach (after t start events) × ((l : Lsp) → LspFits t (after t start events) l (route_of t start events l))
+EveryHopHasAShape =
+    (t : Network) (events : List MeshEvent) → IsRun t start events →
+    HasOneLegEach (after t start events) × ((l : Lsp) → LspFits t (after t start events) l (route_of t start events l))

@@ -7,6 +7,7 @@ use Rattle.ason_base.specs.Network.{Network, find_link, other_end}
 use Rattle.ason_base.specs.declared.ids.Lsp.{Lsp}
 use Rattle.ason_base.specs.declared.ids.NodeId.{NodeId}
 use Rattle.ason_base.specs.declared.steps.Step.{Step}
+use Rattle.ason_base.specs.declared.calls.Role.TheVariants.{Work}
 use Rattle.ason_base.specs.declared.calls.Phase.{Phase}
 use Rattle.ason_base.specs.declared.calls.Phase.TheVariants.{Asked, Held, Armed, Live, Closing, Falling}
 use Rattle.ason_base.specs.declared.messages.Msg.{Msg}
@@ -14,51 +15,58 @@ use Rattle.ason_base.specs.declared.messages.Msg.TheVariants.{Path, Resv, PathTe
 use Rattle.ason_base.specs.declared.tables.Leg.{Leg}
 use Rattle.mesh_rules.specs.Legs.{is_beyond_asked}
 use Rattle.mesh_rules.specs.Machine.{Mesh}
-use Rattle.mesh_laws.specs.HopShapes.{IsLive, leg_kind, phase_kind}
-use Rattle.mesh_laws.specs.HopLaw.{leg_at, mail_between, EachLabel, HopFits, StepFits, IsHop, RouteFits, LspFits}
+use Rattle.mesh_laws.specs.HopShapes.{leg_kind, phase_kind}
+use Rattle.mesh_laws.specs.HopLaw.{leg_at, mail_between, notices_between, EachLabel, HopFits, StepFits, IsHop, RouteFits, LspFits}
 use Rattle.mesh_laws.proofs.hops.Plans.{Plan, hops, plan, node_at, link_at, IsRoute, distinct, same_node, lt_true, joined, fibre_in_is, fibre_out_is}
-use Rattle.mesh_laws.proofs.hops.Chain.{LegFits, PhaseFits, Each, AnswerFits, LabelsMeet, IsPlace, OnRoute, Chain, below_or_not}
-use Rattle.mesh_laws.proofs.hops.Traced.{Planned, Follows}
+use Rattle.mesh_laws.proofs.hops.Rows.{is_reserved}
+use Rattle.mesh_laws.proofs.hops.Rest.{Carries, Each, AnswerFits, LabelsMeet}
+use Rattle.mesh_laws.proofs.hops.Chain.{LegFits, PhaseFits, IsPlace, OnRoute, Chain, below_or_not}
+use Rattle.mesh_laws.proofs.hops.Planned.{Planned, Follows}
 
 meets : (a b : Option ℕ) (x y : ℕ) → LabelsMeet a b → a ≡ Some x → b ≡ Some y → x ≡ y
 meets None b x y h e f = cc
 meets (Some v) None x y h e f = cc
 meets (Some v) (Some w) x y h e f = let p : v ≡ x = cc in let q : w ≡ y = cc in sym p ∙ h ∙ q
 
-live_kind : (f : Phase) (i n : ℕ) (x y : Option ℕ) → PhaseFits f i n x y → is_beyond_asked f ≡ true → phase_kind f ≡ IsLive
-live_kind Asked i n x y fits e = cc
-live_kind Held i n x y fits e = absurd fits
-live_kind Armed i n x y fits e = absurd fits
-live_kind Live i n x y fits e = refl
-live_kind Closing i n x y fits e = cc
-live_kind Falling i n x y fits e = absurd fits
+beyond_reserved : (f : Phase) → is_beyond_asked f ≡ true → is_reserved (phase_kind f) ≡ true
+beyond_reserved Asked e = cc
+beyond_reserved Held e = refl
+beyond_reserved Armed e = refl
+beyond_reserved Live e = refl
+beyond_reserved Closing e = cc
+beyond_reserved Falling e = cc
 
-each_label : (g h : Leg) (ms : List Msg) → leg_kind (Some h) ≡ IsLive → Each (AnswerFits (Some g) (Some h)) ms → EachLabel (λ x. (h.in_label ≡ Some x) × (has g.sent x ≡ true)) ms
-each_label g h [] live all = tt
-each_label g h (Path l e k route set up r ∷ ms) live all = each_label g h ms live all.1
-each_label g h (Resv l e k x ∷ ms) live all = (all.0 live, each_label g h ms live all.1)
-each_label g h (PathTear l e k ∷ ms) live all = each_label g h ms live all.1
-each_label g h (PathErr l e at gone code ∷ ms) live all = each_label g h ms live all.1
-each_label g h (Notify l e at k code ∷ ms) live all = each_label g h ms live all.1
+each_label : (g h : Leg) (ms : List Msg) → is_reserved (leg_kind (Some h)) ≡ true →
+    Each (AnswerFits (Some g) (Some h)) ms →
+    EachLabel (λ x. (h.in_label ≡ Some x) × (has g.sent x ≡ true)) ms
+each_label g h [] reserved all = tt
+each_label g h (Path l e k route set up r ∷ ms) reserved all = each_label g h ms reserved all.1
+each_label g h (Resv l e k x ∷ ms) reserved all = (all.0 reserved, each_label g h ms reserved all.1)
+each_label g h (PathTear l e k ∷ ms) reserved all = each_label g h ms reserved all.1
+each_label g h (PathErr l e at gone code ∷ ms) reserved all = each_label g h ms reserved all.1
+each_label g h (Notify l e at k code ∷ ms) reserved all = each_label g h ms reserved all.1
 
-module _ (t : Network) (s : Mesh) (l : Lsp) (p : Plan) (route : IsRoute t l.ingress p) (chain : Chain t l p (leg_at s l) (mail_between s l)) where
-  fits_at : (i : ℕ) (g : Leg) → i ≤ hops p → leg_at s l (node_at p i) ≡ Some g → LegFits t l p i g
+module _ (t : Network) (s : Mesh) (l : Lsp) (p : Plan) (route : IsRoute t l.ingress p) (chain : Chain t Carries l p (leg_at s l) (mail_between s l)) where
+  fits_at : (i : ℕ) (g : Leg) → i ≤ hops p → leg_at s l (node_at p i) ≡ Some g → LegFits t Carries l p i g
   fits_at i g small here = rw here at (chain.fits i small)
 
-  hop_fits : (i : ℕ) (below : i < hops p) → HopFits s l (route.links i below).link (node_at p i) (node_at p (suc i))
+  hop_fits : (i : ℕ) (below : i < hops p) →
+      HopFits s Work l (route.links i below).link (node_at p i) (node_at p (suc i))
   hop_fits i below =
       let far = distinct t l.ingress p route i (suc i) (omega arith) (omega arith) (omega arith) in
       let over = route.links i below in
       let hop = chain.each i below in
       record {
         shape = hop.shape;
-        onward = λ e. distinct t l.ingress p route (suc i) 0 (omega arith) (omega arith) (omega arith) (e ∙ ap (λ n. n.0) (sym route.first));
+        onward =
+            λ e. distinct t l.ingress p route (suc i) 0 (omega arith) (omega arith) (omega arith) (e ∙ ap (λ n. n.0) (sym route.first));
         fibre = (joined t (link_at p i) (node_at p i) (node_at p (suc i)) far over).fibre;
-        out_fibre = λ g here. (fits_at i g (omega arith) here).out_fibre ∙ rw (lt_true below) (ap Some (sym (fibre_out_is t p i far over)));
+        out_fibre =
+            λ g here. (fits_at i g (omega arith) here).out_fibre ∙ rw (lt_true below) (ap Some (sym (fibre_out_is t p i far over)));
         in_fibre = λ h here. (fits_at (suc i) h below here).in_fibre ∙ ap Some (sym (fibre_in_is t p i over));
-        labels = λ g h x y near there e f. meets g.out_label h.in_label x y (rw (near, there) at hop.labels) e f;
+        labels = λ g h x y near there e f. meets g.out_label h.in_label x y (rw (near, there) at hop.rest.labels) e f;
         answers = λ g h near there beyond. each_label g h (mail_between s l (node_at p (suc i)) (node_at p i))
-            (live_kind h.phase (suc i) (hops p) h.in_label h.out_label (fits_at (suc i) h below there).phase beyond) (rw (near, there) at hop.answers);
+            (beyond_reserved h.phase beyond) (rw (near, there) at hop.rest.answers);
       }
 
 step_at : (route : List Step) (i : ℕ) → i < length route → (hop : Step) × (slice_get route i ≡ Some hop)
@@ -70,7 +78,8 @@ module _ (t : Network) (s : Mesh) (l : Lsp) (steps : List Step) (e : NodeId) (pl
   last_is : node_at (plan steps e) (length steps) ≡ e
   last_is = rw (slice_get_past steps (length steps) (omega arith)) refl
 
-  link_there : (i : ℕ) (hop : Step) (there : slice_get steps i ≡ Some hop) (below : i < length steps) → find_link t hop.link ≡ Some (pl.route.links i below).link
+  link_there : (i : ℕ) (hop : Step) (there : slice_get steps i ≡ Some hop) (below : i < length steps) →
+      find_link t hop.link ≡ Some (pl.route.links i below).link
   link_there i hop there below =
       let is : link_at (plan steps e) i ≡ hop.link = rw there refl in
       ap (find_link t) (sym is) ∙ (pl.route.links i below).found
@@ -78,30 +87,33 @@ module _ (t : Network) (s : Mesh) (l : Lsp) (steps : List Step) (e : NodeId) (pl
   node_is : (i : ℕ) (hop : Step) → slice_get steps i ≡ Some hop → node_at (plan steps e) i ≡ hop.node
   node_is i hop there = rw there refl
 
-  far_is : (i : ℕ) (hop : Step) (there : slice_get steps i ≡ Some hop) (below : i < length steps) → node_at (plan steps e) (suc i) ≡ other_end (pl.route.links i below).link hop.node
-  far_is i hop there below = sym (pl.route.links i below).far ∙ ap (other_end (pl.route.links i below).link) (node_is i hop there)
+  far_is : (i : ℕ) (hop : Step) (there : slice_get steps i ≡ Some hop) (below : i < length steps) →
+      node_at (plan steps e) (suc i) ≡ other_end (pl.route.links i below).link hop.node
+  far_is i hop there below =
+      sym (pl.route.links i below).far ∙ ap (other_end (pl.route.links i below).link) (node_is i hop there)
 
-  step_fits : (i : ℕ) (hop : Step) → slice_get steps i ≡ Some hop → StepFits t s l hop
+  step_fits : (i : ℕ) (hop : Step) → slice_get steps i ≡ Some hop → StepFits t s Work l hop
   step_fits i hop there =
       let below : i < length steps = slice_get_within steps i hop there in
       record {
         link = (pl.route.links i below).link;
         found = link_there i hop there below;
-        fits = subst (λ n. HopFits s l (pl.route.links i below).link hop.node n) (far_is i hop there below)
-            (subst (λ n. HopFits s l (pl.route.links i below).link n (node_at (plan steps e) (suc i))) (node_is i hop there)
+        fits = subst (λ n. HopFits s Work l (pl.route.links i below).link hop.node n) (far_is i hop there below)
+            (subst (λ n. HopFits s Work l (pl.route.links i below).link n (node_at (plan steps e) (suc i))) (node_is i hop there)
             (hop_fits t s l (plan steps e) pl.route pl.chain i below));
       }
 
   place_of : (n : NodeId) (g : Leg) → leg_at s l n ≡ Some g → IsPlace (plan steps e) n
   place_of n g here = elim (pl.chain.legs n) [ inl none ↦ absurd (cc (none, here)) | inr place ↦ place ]
 
-  fits_place : (n : NodeId) (g : Leg) → leg_at s l n ≡ Some g → (i : ℕ) → i ≤ length steps → n ≡ node_at (plan steps e) i → LegFits t l (plan steps e) i g
+  fits_place : (n : NodeId) (g : Leg) → leg_at s l n ≡ Some g → (i : ℕ) → i ≤ length steps →
+      n ≡ node_at (plan steps e) i → LegFits t Carries l (plan steps e) i g
   fits_place n g here i small is = fits_at t s l (plan steps e) pl.route pl.chain i g small (rw (← is) here)
 
-  end_live : (g : Leg) → LegFits t l (plan steps e) (length steps) g → g.phase ≡ Live
+  end_live : (g : Leg) → LegFits t Carries l (plan steps e) (length steps) g → g.phase ≡ Live
   end_live g fits = go g.phase fits.phase
     where
-      go : (f : Phase) → PhaseFits f (length steps) (length steps) g.in_label g.out_label → f ≡ Live
+      go : (f : Phase) → PhaseFits Carries f (length steps) (length steps) g.in_label g.out_label → f ≡ Live
       go Asked fits = (let less : length steps < length steps = fits.0 in absurd (omega arith))
       go Held fits = absurd fits
       go Armed fits = absurd fits
@@ -109,9 +121,12 @@ module _ (t : Network) (s : Mesh) (l : Lsp) (steps : List Step) (e : NodeId) (pl
       go Closing fits = (let less : length steps < length steps = fits.0 in absurd (omega arith))
       go Falling fits = absurd fits
 
-  on_step : (n : NodeId) → (i : ℕ) → i ≤ length steps → n ≡ node_at (plan steps e) i → (i < length steps) ⊎ (length steps ≤ i) → (n ≡ e) ⊎ ((i : ℕ) × (hop : Step) × (slice_get steps i ≡ Some hop) × (n ≡ hop.node))
+  on_step : (n : NodeId) → (i : ℕ) → i ≤ length steps → n ≡ node_at (plan steps e) i →
+      (i < length steps) ⊎ (length steps ≤ i) →
+      (n ≡ e) ⊎ ((i : ℕ) × (hop : Step) × (slice_get steps i ≡ Some hop) × (n ≡ hop.node))
   on_step n i small is (inl below) = let st = step_at steps i below in inr (i, st.0, st.1, is ∙ node_is i st.0 st.1)
-  on_step n i small is (inr end) = let at_end : i ≡ length steps = omega arith in inl (is ∙ ap (node_at (plan steps e)) at_end ∙ last_is)
+  on_step n i small is (inr end) =
+      let at_end : i ≡ length steps = omega arith in inl (is ∙ ap (node_at (plan steps e)) at_end ∙ last_is)
 
   on_hop : (a b : NodeId) → OnRoute (plan steps e) a b → IsHop t steps a b
   on_hop a b (i, below, ends) =
@@ -128,17 +143,28 @@ module _ (t : Network) (s : Mesh) (l : Lsp) (steps : List Step) (e : NodeId) (pl
         ];
       }
 
-  pub route_fits : RouteFits t s l steps e
-  route_fits = record {
+  place_fits : (n : NodeId) (g : Leg) → leg_at s l n ≡ Some g → (i : ℕ) × LegFits t Carries l (plan steps e) i g
+  place_fits n g here =
+      let at_place = place_of n g here in
+      (at_place.0, fits_place n g here at_place.0 at_place.1 (same_node n _ at_place.2))
+
+  pub route_fits : ((a b : NodeId) → notices_between s l a b ≡ []) → RouteFits t s Work l steps e
+  route_fits notices = record {
     long = pl.route.long;
     leads = pl.made;
     hops = step_fits;
     egress = λ g here. end_live g (fits_place e g here (length steps) (omega arith) (sym last_is));
-    legs = λ n g here. (let at_place = place_of n g here in on_step n at_place.0 at_place.1 (same_node n _ at_place.2) (below_or_not at_place.0 (length steps)));
-    work = λ n g here. (let at_place = place_of n g here in (fits_place n g here at_place.0 at_place.1 (same_node n _ at_place.2)).work);
+    legs = λ n g here.
+        (let at_place = place_of n g here in
+        on_step n at_place.0 at_place.1 (same_node n _ at_place.2) (below_or_not at_place.0 (length steps)));
     mail = λ a b. elim (pl.chain.ways a b) [ inl none ↦ inl none | inr on ↦ inr (on_hop a b on) ];
+    roles = λ n g here. (place_fits n g here).1.role;
+    ends = λ n g here. (place_fits n g here).1.egress;
+    notices = notices;
   }
 
-pub lsp_fits : (t : Network) (s : Mesh) (l : Lsp) (o : Option (List Step)) → Follows t s l o → LspFits t s l o
-lsp_fits t s l None f = f
-lsp_fits t s l (Some steps) f = (f.0, route_fits t s l steps f.0 f.1)
+pub lsp_fits : (t : Network) (s : Mesh) (l : Lsp) (o : Option (List Step)) →
+    ((a b : NodeId) → notices_between s l a b ≡ []) →
+    Follows t s l o → LspFits t s l o
+lsp_fits t s l None notices f = record { legs = f.legs; mail = f.mail; notices = notices }
+lsp_fits t s l (Some steps) notices f = (f.0, route_fits t s l steps f.0 f.1 notices)

@@ -25,13 +25,15 @@ use Rattle.mesh_laws.specs.HopLaw.{HasOneLegEach, EveryHopHasAShape}
 use Rattle.mesh_laws.proofs.nodes.Facts.{CallFacts, DeskFits, FitsDesk, LegsRise, MeshFacts}
 use Rattle.mesh_laws.proofs.nodes.LegList.{all-found, found-lsp}
 use Rattle.mesh_laws.proofs.nodes.Runs.{facts-start, facts-step, facts-hold}
-use Rattle.mesh_laws.proofs.hops.Traced.{Follows}
+use Rattle.mesh_laws.proofs.hops.Planned.{Follows}
+use Rattle.mesh_laws.proofs.hops.Notices.{no_notices}
 use Rattle.mesh_laws.proofs.hops.Released.{CallStands}
 use Rattle.mesh_laws.proofs.hops.Run.{ItemFits, StepFacts, follows_run}
 use Rattle.mesh_laws.proofs.hops.Law.{lsp_fits}
 
 -- the working leg of a call isn't torn
-never_torn : (state : CallState) (f : Phase) (back : Option Phase) → fits state (Some f) back ≡ true → is_closing f ≡ false
+never_torn : (state : CallState) (f : Phase) (back : Option Phase) → fits state (Some f) back ≡ true →
+    is_closing f ≡ false
 never_torn state Asked back e = refl
 never_torn state Held back e = refl
 never_torn state Armed back e = refl
@@ -53,10 +55,12 @@ never_torn Turned Falling back e = cc
 never_torn Stuck Falling back e = cc
 never_torn Blocked Falling back e = cc
 
-work_stands : (n : ℕ) (s : NodeState) (c : CallRec) → CallFacts n s.lsp s.legs c → (l : Lsp) (g : Leg) → c.work ≡ Some l → find_leg l s.legs ≡ Some g → (l.ingress.0 ≡ n) × (is_closing g.phase ≡ false)
+work_stands : (n : ℕ) (s : NodeState) (c : CallRec) → CallFacts n s.lsp s.legs c → (l : Lsp) (g : Leg) →
+    c.work ≡ Some l → find_leg l s.legs ≡ Some g → (l.ingress.0 ≡ n) × (is_closing g.phase ≡ false)
 work_stands n s c facts l g is here =
     let named : IfSome (Some l) (IsNamed n s.lsp s.legs Work c.egress) = rw is at facts.fits.work in
-    let state : fits c.state (phase_of (find_leg l s.legs)) (phase_of (leg_of c.back s.legs)) ≡ true = rw is at facts.fits.state in
+    let state : fits c.state (phase_of (find_leg l s.legs)) (phase_of (leg_of c.back s.legs)) ≡ true =
+    rw is at facts.fits.state in
     let state' : fits c.state (Some g.phase) (phase_of (leg_of c.back s.legs)) ≡ true = rw here at state in
     (named.ingress, never_torn c.state g.phase (phase_of (leg_of c.back s.legs)) state')
 
@@ -81,9 +85,14 @@ step_facts t s facts = record {
 }
 
 -- each LSP with its route, in every state of every run
-pub follows : (t : Network) (events : List MeshEvent) → IsRun t start events → (l : Lsp) → Follows t (after t start events) l (route_of t start events l)
+pub follows : (t : Network) (events : List MeshEvent) → IsRun t start events → (l : Lsp) →
+    Follows t (after t start events) l (route_of t start events l)
 follows t events run l =
-    follows_run t (MeshFacts t) (step_facts t) (facts-step t) start events run (facts-start t) l None (record { legs = λ n. refl; mail = λ a b. refl })
+    follows_run t (MeshFacts t) (step_facts t) (facts-step t) start events run (facts-start t) l None (record {
+      legs =
+          λ n. refl;
+      mail = λ a b. refl;
+    })
 
 pub found_of : (legs : List Leg) → LegsRise legs → (g : Leg) → Contains legs g → find_leg g.lsp legs ≡ Some g
 found_of legs rise g has =
@@ -95,4 +104,8 @@ pub one_leg_each : (t : Network) (s : Mesh) → MeshFacts t s → HasOneLegEach 
 one_leg_each t s facts n g has = found_of (s.nodes n.0).legs (facts.node n.0).legs_rise g has
 
 pub every_hop : EveryHopHasAShape
-every_hop t events run = (one_leg_each t (after t start events) (facts-hold t events run), λ l. lsp_fits t (after t start events) l (route_of t start events l) (follows t events run l))
+every_hop t events run =
+    let s : Mesh = after t start events in (
+      one_leg_each t s (facts-hold t events run),
+      λ l. lsp_fits t s l (route_of t start events l) (no_notices t events l) (follows t events run l),
+    )

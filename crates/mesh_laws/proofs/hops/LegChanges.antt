@@ -1,82 +1,198 @@
--- A leg of a route that closes or is connected, and its neighbours.
-use Rattle.std.proofs.Common.{◌≡◌, ◌<◌, ◌≤◌, ℕ, zero, suc, false, refl, inl, inr}
+-- A leg of a route that closes or is connected, its kind, and its neighbours.
+use Rattle.std.proofs.Common.{◌≡◌, ◌<◌, ◌≤◌, ℕ, zero, suc, true, false, refl, inl, inr}
 use Rattle.std.specs.Prelude.{◌⊎◌, Option, Some, None}
+use Rattle.ason_base.specs.Lsps.{same_lsp}
 use Rattle.ason_base.specs.Network.{Network}
 use Rattle.ason_base.specs.declared.ids.Lsp.{Lsp}
 use Rattle.ason_base.specs.declared.calls.Phase.{Phase}
 use Rattle.ason_base.specs.declared.calls.Phase.TheVariants.{Asked, Held, Armed, Live, Closing, Falling}
+use Rattle.ason_base.specs.declared.calls.Role.{Role}
+use Rattle.ason_base.specs.declared.calls.Role.TheVariants as role
 use Rattle.ason_base.specs.declared.tables.Leg.{Leg}
-use Rattle.mesh_rules.specs.Legs.{closed, connected, previous, following, is_closing}
+use Rattle.mesh_rules.specs.Legs.{closed, closing_phase, connected, previous, following, is_asked, is_closing}
+use Rattle.mesh_laws.specs.HopShapes.{NoLeg, AskedLeg, LiveLeg, IsTorn, Closes, Falls, leg_kind, phase_kind}
+use Rattle.mesh_laws.proofs.nodes.LegList.{same_lsp-refl}
 use Rattle.mesh_laws.proofs.hops.Plans.{Plan, hops, node_at, fibre_at, lt_true, lt_false}
-use Rattle.mesh_laws.proofs.hops.Chain.{LegFits, LiveIn, PhaseFits}
-use Rattle.mesh_laws.proofs.hops.Sentences.{closing_work}
+use Rattle.mesh_laws.proofs.hops.Rest.{Purpose, Carries, Guards, role_of}
+use Rattle.mesh_laws.proofs.hops.Rows.{Stands, AskedStands, HeldStands, ArmedStands, LiveStands, torn_leg}
+use Rattle.mesh_laws.proofs.hops.Chain.{LegFits, HasIn, PhaseFits}
 
-pub closed_fits : (t : Network) (l : Lsp) (p : Plan) (i : ℕ) (g : Leg) → LegFits t l p i g → i < hops p → LegFits t l p i (closed g)
-closed_fits t l p i g fits small = record {
+pub same_of : (k l : Lsp) → k ≡ l → same_lsp k l ≡ true
+same_of k l is = rw is (same_lsp-refl l)
+
+-- Kinds
+
+pub gone_none : (o : Option Leg) → leg_kind o ≡ NoLeg → o ≡ None
+gone_none None h = refl
+gone_none (Some g) h = go g.phase h
+  where
+    go : (f : Phase) → phase_kind f ≡ NoLeg → Some g ≡ None
+    go Asked h = cc
+    go Held h = cc
+    go Armed h = cc
+    go Live h = cc
+    go Closing h = cc
+    go Falling h = cc
+
+pub asked_phase : (f : Phase) → phase_kind f ≡ AskedLeg → f ≡ Asked
+asked_phase Asked e = refl
+asked_phase Held e = absurd cc
+asked_phase Armed e = absurd cc
+asked_phase Live e = absurd cc
+asked_phase Closing e = absurd cc
+asked_phase Falling e = absurd cc
+
+pub live_phase : (f : Phase) → phase_kind f ≡ LiveLeg → f ≡ Live
+live_phase Asked e = absurd cc
+live_phase Held e = absurd cc
+live_phase Armed e = absurd cc
+live_phase Live e = refl
+live_phase Closing e = absurd cc
+live_phase Falling e = absurd cc
+
+-- there is a Live leg where the kind says so
+pub live_leg : (o : Option Leg) → leg_kind o ≡ LiveLeg → (g : Leg) × (o ≡ Some g) × (g.phase ≡ Live)
+live_leg None e = absurd cc
+live_leg (Some g) e = (g, refl, live_phase g.phase e)
+
+pub phase_stands : (f : Phase) → is_closing f ≡ false → Stands (phase_kind f)
+phase_stands Asked e = AskedStands
+phase_stands Held e = HeldStands
+phase_stands Armed e = ArmedStands
+phase_stands Live e = LiveStands
+phase_stands Closing e = absurd cc
+phase_stands Falling e = absurd cc
+
+-- a torn leg is in one of two phases
+pub torn_is_closing : (r : Role) (f : Phase) → IsTorn r (phase_kind f) → is_closing f ≡ true
+torn_is_closing r Closing torn = refl
+torn_is_closing r Falling torn = refl
+torn_is_closing r Asked torn = elim torn [ ]
+torn_is_closing r Held torn = elim torn [ ]
+torn_is_closing r Armed torn = elim torn [ ]
+torn_is_closing r Live torn = elim torn [ ]
+
+pub torn_not_asked : (r : Role) (f : Phase) → IsTorn r (phase_kind f) → is_asked f ≡ false
+torn_not_asked r Closing torn = refl
+torn_not_asked r Falling torn = refl
+torn_not_asked r Asked torn = elim torn [ ]
+torn_not_asked r Held torn = refl
+torn_not_asked r Armed torn = refl
+torn_not_asked r Live torn = refl
+
+closing_kind : (f : Phase) (r : Role) → phase_kind (closing_phase f r) ≡ torn_leg r (phase_kind f)
+closing_kind Asked role.Work = refl
+closing_kind Asked role.Back = refl
+closing_kind Held role.Work = refl
+closing_kind Held role.Back = refl
+closing_kind Armed role.Work = refl
+closing_kind Armed role.Back = refl
+closing_kind Live role.Work = refl
+closing_kind Live role.Back = refl
+closing_kind Closing role.Work = refl
+closing_kind Closing role.Back = refl
+closing_kind Falling role.Work = refl
+closing_kind Falling role.Back = refl
+
+module _ (t : Network) (q : Purpose) (l : Lsp) (p : Plan) where
+  -- the kind of a leg that closes
+  pub closed_kind : (i : ℕ) (g : Leg) → LegFits t q l p i g →
+      leg_kind (Some (closed g)) ≡ torn_leg (role_of q) (leg_kind (Some g))
+  closed_kind i g fits = rw fits.role (closing_kind g.phase (role_of q))
+
+  -- it is torn
+  pub torn_of : (i : ℕ) (g : Leg) → LegFits t q l p i g → is_closing g.phase ≡ true →
+      IsTorn (role_of q) (leg_kind (Some g))
+  torn_of i g fits e = go q g.phase fits.phase e
+    where
+      go : (q : Purpose) (f : Phase) → PhaseFits q f i (hops p) g.in_label g.out_label → is_closing f ≡ true →
+          IsTorn (role_of q) (phase_kind f)
+      go q Closing phase e = Closes
+      go Carries Falling phase e = absurd phase
+      go (Guards w r) Falling phase e = Falls
+      go q Asked phase e = absurd cc
+      go q Held phase e = absurd cc
+      go q Armed phase e = absurd cc
+      go q Live phase e = absurd cc
+
+  pub closed_torn : (i : ℕ) (g : Leg) → LegFits t q l p i g → IsTorn (role_of q) (leg_kind (Some (closed g)))
+  closed_torn i g fits = rw fits.role (go q g.phase)
+    where
+      go : (q : Purpose) (f : Phase) → IsTorn (role_of q) (phase_kind (closing_phase f (role_of q)))
+      go Carries Asked = Closes
+      go Carries Held = Closes
+      go Carries Armed = Closes
+      go Carries Live = Closes
+      go Carries Closing = Closes
+      go Carries Falling = Closes
+      go (Guards w r) Asked = Closes
+      go (Guards w r) Held = Closes
+      go (Guards w r) Armed = Falls
+      go (Guards w r) Live = Falls
+      go (Guards w r) Closing = Closes
+      go (Guards w r) Falling = Closes
+
+  pub closed_fits : (i : ℕ) (g : Leg) → LegFits t q l p i g → i < hops p → LegFits t q l p i (closed g)
+  closed_fits i g fits small = record {
+    own = fits.own;
+    egress = fits.egress;
+    role = fits.role;
+    tells = fits.tells;
+    prev = fits.prev;
+    in_fibre = fits.in_fibre;
+    next = fits.next;
+    out_fibre = fits.out_fibre;
+    route = fits.route;
+    phase = rw fits.role (go q g.phase fits.phase);
+  }
+    where
+      go : (q : Purpose) (f : Phase) → PhaseFits q f i (hops p) g.in_label g.out_label →
+          PhaseFits q (closing_phase f (role_of q)) i (hops p) None g.out_label
+      go Carries Asked phase = (small, refl)
+      go Carries Held phase = absurd phase
+      go Carries Armed phase = absurd phase
+      go Carries Live phase = (small, refl)
+      go Carries Closing phase = (small, refl)
+      go Carries Falling phase = absurd phase
+      go (Guards w r) Asked phase = (small, refl)
+      go (Guards w r) Held phase = (small, refl)
+      go (Guards w r) Armed phase = (small, refl, phase.2)
+      go (Guards w r) Live phase = (small, refl, phase.1)
+      go (Guards w r) Closing phase = (small, refl)
+      go (Guards w r) Falling phase = (small, refl)
+
+  -- Neighbours
+
+  pub previous_is : (i : ℕ) (g : Leg) → LegFits t q l p (suc i) g →
+      previous g ≡ Some (record { node = node_at p i; fibre = fibre_at t p i })
+  previous_is i g fits = rw (fits.prev, fits.in_fibre) refl
+
+  pub previous_none : (g : Leg) → LegFits t q l p zero g → previous g ≡ None
+  previous_none g fits = rw fits.prev refl
+
+  pub following_is : (i : ℕ) (g : Leg) → LegFits t q l p i g → i < hops p →
+      following g ≡ Some (record { node = node_at p (suc i); fibre = fibre_at t p i })
+  following_is i g fits small = rw (fits.next, fits.out_fibre, lt_true small) refl
+
+  pub following_none : (i : ℕ) (g : Leg) → LegFits t q l p i g → hops p ≤ i → following g ≡ None
+  following_none i g fits end = rw (fits.next, lt_false end) refl
+
+-- the working leg of a Resv
+pub connected_fits : (t : Network) (l : Lsp) (p : Plan) (i : ℕ) (g : Leg) (label : Option ℕ) (x : ℕ) →
+    LegFits t Carries l p i g →
+    HasIn i label → LegFits t Carries l p i (connected g label x)
+connected_fits t l p i g label x fits enters = record {
   own = fits.own;
   egress = fits.egress;
-  work = fits.work;
+  role = fits.role;
+  tells = fits.tells;
   prev = fits.prev;
   in_fibre = fits.in_fibre;
   next = fits.next;
   out_fibre = fits.out_fibre;
   route = fits.route;
-  phase = rw (closing_work g.phase g.role fits.work) (small, refl);
+  phase = (enters, λ small. (x, refl));
 }
-
-pub connected_fits : (t : Network) (l : Lsp) (p : Plan) (i : ℕ) (g : Leg) (label : Option ℕ) (x : ℕ) → LegFits t l p i g → LiveIn i label → LegFits t l p i (connected g label x)
-connected_fits t l p i g label x fits live = record {
-  own = fits.own;
-  egress = fits.egress;
-  work = fits.work;
-  prev = fits.prev;
-  in_fibre = fits.in_fibre;
-  next = fits.next;
-  out_fibre = fits.out_fibre;
-  route = fits.route;
-  phase = live;
-}
-
--- a leg that isn't torn is Asked, with no label out, or Live
-pub stands_bare : (t : Network) (l : Lsp) (p : Plan) (i : ℕ) (g : Leg) → LegFits t l p i g → is_closing g.phase ≡ false → ((g.phase ≡ Asked) × (g.out_label ≡ None)) ⊎ (g.phase ≡ Live)
-stands_bare t l p i g fits e = go g.phase refl fits.phase e
-  where
-    go : (f : Phase) → g.phase ≡ f → PhaseFits f i (hops p) g.in_label g.out_label → is_closing f ≡ false → ((g.phase ≡ Asked) × (g.out_label ≡ None)) ⊎ (g.phase ≡ Live)
-    go Asked is fits e = inl (is, fits.2)
-    go Held is fits e = absurd fits
-    go Armed is fits e = absurd fits
-    go Live is fits e = inr is
-    go Closing is fits e = absurd cc
-    go Falling is fits e = absurd fits
-
--- the phases that a working leg has
-pub record PhaseCase (f : Phase) : Type 0 where
-  pub which : (f ≡ Asked) ⊎ ((f ≡ Live) ⊎ (f ≡ Closing))
-
-pub phase_case : (t : Network) (l : Lsp) (p : Plan) (i : ℕ) (g : Leg) → LegFits t l p i g → PhaseCase g.phase
-phase_case t l p i g fits = go g.phase fits.phase
-  where
-    go : (f : Phase) → PhaseFits f i (hops p) g.in_label g.out_label → PhaseCase f
-    go Asked fits = record { which = inl refl }
-    go Held fits = absurd fits
-    go Armed fits = absurd fits
-    go Live fits = record { which = inr (inl refl) }
-    go Closing fits = record { which = inr (inr refl) }
-    go Falling fits = absurd fits
-
--- Neighbours
-
-pub previous_is : (t : Network) (l : Lsp) (p : Plan) (i : ℕ) (g : Leg) → LegFits t l p (suc i) g → previous g ≡ Some (record { node = node_at p i; fibre = fibre_at t p i })
-previous_is t l p i g fits = rw (fits.prev, fits.in_fibre) refl
-
-pub previous_none : (t : Network) (l : Lsp) (p : Plan) (g : Leg) → LegFits t l p zero g → previous g ≡ None
-previous_none t l p g fits = rw fits.prev refl
-
-pub following_is : (t : Network) (l : Lsp) (p : Plan) (i : ℕ) (g : Leg) → LegFits t l p i g → i < hops p → following g ≡ Some (record { node = node_at p (suc i); fibre = fibre_at t p i })
-following_is t l p i g fits small = rw (fits.next, fits.out_fibre, lt_true small) refl
-
-pub following_none : (t : Network) (l : Lsp) (p : Plan) (i : ℕ) (g : Leg) → LegFits t l p i g → hops p ≤ i → following g ≡ None
-following_none t l p i g fits end = rw (fits.next, lt_false end) refl
 
 -- the place before, if there is one
 abbrev pub Before : ℕ → Type 0

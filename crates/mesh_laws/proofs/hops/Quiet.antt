@@ -1,18 +1,13 @@
 -- A rule's answer that changes no leg and sends nothing leaves every LSP as it was.
-use Rattle.std.proofs.Common.{◌≡◌, Bool, true, false, nat_eq, [], refl, ◌∙◌, arith, append-nil}
-use Rattle.std.specs.Prelude.{None}
+use Rattle.std.proofs.Common.{◌≡◌, Bool, true, false, nat_eq, refl, ◌∙◌, arith, append-nil}
 use Rattle.ason_base.specs.declared.ids.Lsp.{Lsp}
 use Rattle.ason_base.specs.declared.ids.NodeId.{NodeId}
 use Rattle.mesh_rules.specs.Changes.{Answer}
 use Rattle.mesh_rules.specs.Machine.{Mesh, commit}
 use Rattle.mesh_laws.specs.HopLaw.{leg_at, mail_between}
 use Rattle.mesh_laws.proofs.hops.Views.{leg-here, mail-from}
-use Rattle.mesh_laws.proofs.hops.Traced.{SameOf, next_same}
-
-pub record IsQuiet (a : Answer) : Type 0 where
-  pub legs : a.legs ≡ []
-  pub sent : a.sent ≡ []
-  pub numbers : a.numbers ≡ None
+use Rattle.mesh_laws.proofs.hops.Own.{IsQuiet}
+use Rattle.mesh_laws.proofs.hops.Planned.{SameOf, next_same}
 
 pub same_quiet : (s : Mesh) (n : NodeId) (a : Answer) (l : Lsp) → IsQuiet a → SameOf s (commit s n.0 a) l
 same_quiet s n a l quiet = record {

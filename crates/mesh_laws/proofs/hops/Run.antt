@@ -11,21 +11,22 @@ use Rattle.ason_base.specs.declared.commands.Command.TheVariants.{Setup, Release
 use Rattle.ason_base.specs.declared.commands.DeskItem.{DeskItem}
 use Rattle.ason_base.specs.declared.commands.DeskItem.TheVariants.{Order, Alarm, Clear}
 use Rattle.ason_base.specs.declared.tables.CallRec.{CallRec}
+use Rattle.ason_base.specs.Routes.{makes_route, is_given_route}
 use Rattle.mesh_rules.specs.declared.events.MeshEvent.{MeshEvent}
 use Rattle.mesh_rules.specs.declared.events.MeshEvent.TheVariants.{Take, Desk, Tick, Learn, Post}
 use Rattle.mesh_rules.specs.Changes.{Answer}
 use Rattle.mesh_rules.specs.Sites.{site_of}
 use Rattle.mesh_rules.specs.Calls.{find_call}
 use Rattle.mesh_rules.specs.Orders.{on_order, on_item}
-use Rattle.mesh_rules.specs.Releases.{on_release}
-use Rattle.ason_base.specs.Routes.{makes_route, is_given_route}
+use Rattle.mesh_rules.specs.Releases.{release_with}
 use Rattle.mesh_rules.specs.Commands.{is_valid}
 use Rattle.mesh_rules.specs.Machine.{Mesh, commit, without_item}
 use Rattle.mesh_rules.specs.Events.{is_enabled, on_first_item, posted, step, IsRun, after, first_route, or_route, sent_at_ingress, route_of}
 use Rattle.mesh_rules.proofs.SiteLemmas.{and_first, and_second}
-use Rattle.mesh_laws.proofs.hops.Traced.{Follows, SameOf, follows_same, or_none, traced_take}
+use Rattle.mesh_laws.proofs.hops.Planned.{Follows, SameOf, follows_same, or_none}
+use Rattle.mesh_laws.proofs.hops.Traced.{traced_take}
 use Rattle.mesh_laws.proofs.hops.Begun.{Stepped, stepped_none, stepped_nothing, setup_stepped}
-use Rattle.mesh_laws.proofs.hops.Released.{CallStands, released}
+use Rattle.mesh_laws.proofs.hops.Released.{CallStands, release_leaves}
 
 -- What a step needs to know: of the calls of each node, and of the items on each desk
 
@@ -44,14 +45,17 @@ given : (t : Network) (from to : NodeId) (via : Option (List Step)) → is_given
 given t from to None e route q = cc
 given t from to (Some r) e route q = let is : r ≡ route = cc in rw (← is) e
 
-release_stepped : (t : Network) (s : Mesh) (n from : NodeId) (l : Lsp) (k : CallNo) (o : Option (List Step)) → Follows t s l o → StepFacts t s → Stepped t s n l o (on_release (site_of t n) (s.nodes n.0) k from (find_call k (s.nodes n.0).calls))
+release_stepped : (t : Network) (s : Mesh) (n from : NodeId) (l : Lsp) (k : CallNo) (o : Option (List Step)) → Follows t s l o →
+    StepFacts t s → Stepped t s n l o (release_with (site_of t n) (s.nodes n.0) from (find_call k (s.nodes n.0).calls))
 release_stepped t s n from l k o f facts =
-    let r = released t s n from l k o f (find_call k (s.nodes n.0).calls) (λ d e. facts.call n.0 k d e) in
+    let r = release_leaves t s n from l o f (find_call k (s.nodes n.0).calls) (λ d e. facts.call n.0 k d e) in
     stepped_none t s n l o _ r.follows r.none
 
 order_stepped : (t : Network) (s : Mesh) (n : NodeId) (l : Lsp) (o : Option (List Step)) (c : Command) → Follows t s l o → StepFacts t s → is_valid t c ≡ true → Stepped t s n l o (on_order (site_of t n) (s.nodes n.0) c)
 order_stepped t s n l o (Setup k from to protected both via backup) f facts valid =
-    setup_stepped t s n from l o (record { call = k; egress = to; backup = backup }) protected both via f (given t from to via (and_second _ _ (and_first _ _ valid))) (find_call k (s.nodes n.0).calls)
+    setup_stepped t s n l o f
+    (record { call = k; from = from; egress = to; protected = protected; both = both; via = via; backup = backup })
+    (given t from to via (and_second _ _ (and_first _ _ valid))) (find_call k (s.nodes n.0).calls)
 order_stepped t s n l o (Release k from) f facts valid = release_stepped t s n from l k o f facts
 order_stepped t s n l o (Protect k from) f facts valid = stepped_nothing t s n l o f
 order_stepped t s n l o (Retry k from) f facts valid = stepped_nothing t s n l o f

@@ -8,22 +8,23 @@ use Rattle.ason_base.specs.declared.ids.Lsp.{Lsp}
 use Rattle.ason_base.specs.declared.ids.NodeId.{NodeId}
 use Rattle.ason_base.specs.declared.steps.Step.{Step}
 use Rattle.ason_base.specs.declared.network.LinkSpec.{LinkSpec}
-use Rattle.ason_base.specs.declared.calls.Phase.{Phase}
-use Rattle.ason_base.specs.declared.calls.Phase.TheVariants.{Asked, Held, Armed, Live, Closing, Falling}
+use Rattle.ason_base.specs.declared.calls.Phase.TheVariants.{Live}
+use Rattle.ason_base.specs.declared.calls.Role.TheVariants as role
 use Rattle.ason_base.specs.declared.tables.Leg.{Leg}
 use Rattle.mesh_rules.specs.Sites.{leads}
 use Rattle.mesh_rules.specs.Legs.{takes}
 use Rattle.mesh_rules.specs.Machine.{Mesh, start}
 use Rattle.mesh_rules.specs.Events.{after, route_of}
-use Rattle.mesh_laws.specs.HopShapes.{IsLive, leg_kind, phase_kind}
 use Rattle.mesh_laws.specs.HopLaw.{leg_at, mail_between, HasOneLegEach}
 use Rattle.mesh_laws.specs.SafeLaw.{StandsAt, EveryRunIsSafe}
 use Rattle.mesh_laws.proofs.nodes.Facts.{MeshFacts}
 use Rattle.mesh_laws.proofs.nodes.Runs.{facts-hold}
 use Rattle.mesh_laws.proofs.hops.Plans.{Plan, hops, plan, node_at, link_at, fibre_at, IsRoute, Leads, distinct, same, same_node, lt_true, lt_false, joined}
-use Rattle.mesh_laws.proofs.hops.Kinds.{closes_live}
-use Rattle.mesh_laws.proofs.hops.Chain.{LegFits, Hop, LabelsMeet, Chain, out_fibre_at, below_or_not}
-use Rattle.mesh_laws.proofs.hops.Traced.{Follows}
+use Rattle.mesh_laws.proofs.hops.Rows.{live_upstream}
+use Rattle.mesh_laws.proofs.hops.Rest.{Carries, LabelsMeet}
+use Rattle.mesh_laws.proofs.hops.Chain.{LegFits, HasOut, Hop, Chain, out_fibre_at, below_or_not}
+use Rattle.mesh_laws.proofs.hops.LegChanges.{live_leg}
+use Rattle.mesh_laws.proofs.hops.Planned.{Follows}
 use Rattle.mesh_laws.proofs.hops.Laws.{follows, one_leg_each}
 
 -- at the node into which the fibre leads a Live leg of the LSP has the label in
@@ -81,37 +82,26 @@ out_below t p i f e = go (below_or_not i (hops p)) e
     go (inl small) e = let is : Some (fibre_at t p i) ≡ Some f = rw (lt_true small) at e in (small, cc is)
     go (inr end) e = let is : ◌≡◌ {A = Option Fibre} None (Some f) = rw (lt_false end) at e in absurd (cc is)
 
-live_leg : (o : Option Leg) → leg_kind o ≡ IsLive → (g : Leg) × (o ≡ Some g) × (g.phase ≡ Live)
-live_leg None e = absurd cc
-live_leg (Some g) e = (g, refl, go g.phase e)
-  where
-    go : (f : Phase) → phase_kind f ≡ IsLive → f ≡ Live
-    go Asked e = absurd cc
-    go Held e = absurd cc
-    go Armed e = absurd cc
-    go Live e = refl
-    go Closing e = absurd cc
-    go Falling e = absurd cc
-
-module _ (t : Network) (s : Mesh) (l : Lsp) (p : Plan) (route : IsRoute t l.ingress p) (chain : Chain t l p (leg_at s l) (mail_between s l)) (f : Fibre) (x : ℕ) (g : Leg) (live : g.phase ≡ Live) (leaves : g.out_fibre ≡ Some f) (label : g.out_label ≡ Some x) where
+module _ (t : Network) (s : Mesh) (l : Lsp) (p : Plan) (route : IsRoute t l.ingress p) (chain : Chain t Carries l p (leg_at s l) (mail_between s l)) (f : Fibre) (x : ℕ) (g : Leg) (live : g.phase ≡ Live) (leaves : g.out_fibre ≡ Some f) (label : g.out_label ≡ Some x) where
   -- at place i of its route
   owner_at : (i : ℕ) → leg_at s l (node_at p i) ≡ Some g → i ≤ hops p → Owner t s f x l
   owner_at i here small =
-      let fits : LegFits t l p i g = rw here at (chain.fits i small) in
+      let fits : LegFits t Carries l p i g = rw here at (chain.fits i small) in
       let out = out_below t p i f (sym fits.out_fibre ∙ leaves) in
-      let hop : Hop p i (Some g) (leg_at s l (node_at p (suc i))) (mail_between s l (node_at p i) (node_at p (suc i))) (mail_between s l (node_at p (suc i)) (node_at p i)) = rw here at (chain.each i out.0) in
-      let next = live_leg (leg_at s l (node_at p (suc i))) (closes_live _ _ _ (rw live at hop.shape)).live in
+      let hop : Hop Carries p i (Some g) (leg_at s l (node_at p (suc i))) (mail_between s l (node_at p i) (node_at p (suc i))) (mail_between s l (node_at p (suc i)) (node_at p i)) = rw here at (chain.each i out.0) in
+      let next = live_leg (leg_at s l (node_at p (suc i))) (live_upstream role.Work _ _ _ (rw live at hop.shape)).live in
       owned i here out.0 out.1 next.0 next.1 next.2 hop
     where
       in_label : (i y : ℕ) (h : Leg) → LabelsMeet g.out_label h.in_label → h.in_label ≡ Some y → h.in_label ≡ Some x
       in_label i y h meets e = let same_label : x ≡ y = rw (label, e) at meets in rw same_label e
 
       owned : (i : ℕ) → leg_at s l (node_at p i) ≡ Some g → i < hops p → fibre_at t p i ≡ f → (h : Leg) → leg_at s l (node_at p (suc i)) ≡ Some h → h.phase ≡ Live →
-          Hop p i (Some g) (leg_at s l (node_at p (suc i))) (mail_between s l (node_at p i) (node_at p (suc i))) (mail_between s l (node_at p (suc i)) (node_at p i)) → Owner t s f x l
+          Hop Carries p i (Some g) (leg_at s l (node_at p (suc i))) (mail_between s l (node_at p i) (node_at p (suc i))) (mail_between s l (node_at p (suc i)) (node_at p i)) → Owner t s f x l
       owned i here small is h there there_live hop =
-          let fits : LegFits t l p (suc i) h = rw there at (chain.fits (suc i) small) in
-          let enters : (y : ℕ) × (h.in_label ≡ Some y) = rw there_live at fits.phase in
-          let meets : LabelsMeet g.out_label h.in_label = rw there at hop.labels in
+          let fits : LegFits t Carries l p (suc i) h = rw there at (chain.fits (suc i) small) in
+          let phase : ((y : ℕ) × (h.in_label ≡ Some y)) × HasOut (suc i) (hops p) h.out_label = rw there_live at fits.phase in
+          let enters : (y : ℕ) × (h.in_label ≡ Some y) = phase.0 in
+          let meets : LabelsMeet g.out_label h.in_label = rw there at hop.rest.labels in
           let far = distinct t l.ingress p route i (suc i) (omega arith) (omega arith) (omega arith) in
           record {
             node = node_at p (suc i);

@@ -2,6 +2,7 @@
 use Rattle.std.proofs.Common.{◌≡◌, ◌<◌, ◌≤◌, ℕ, suc, Bool, true, false, cond, not, List, [], ◌∷◌, refl, arith, inl, inr, append-nil}
 use Rattle.std.specs.Prelude.{◌⊎◌, ◌&&◌, Option, Some, None}
 use Rattle.ason_base.specs.Codes.{torn_code}
+use Rattle.ason_base.specs.Lsps.{same_lsp}
 use Rattle.ason_base.specs.Network.{Network}
 use Rattle.ason_base.specs.declared.ids.Lsp.{Lsp}
 use Rattle.ason_base.specs.declared.ids.NodeId.{NodeId}
@@ -9,83 +10,113 @@ use Rattle.ason_base.specs.declared.ids.LinkId.{LinkId}
 use Rattle.ason_base.specs.declared.messages.Msg.{Msg}
 use Rattle.ason_base.specs.declared.messages.Msg.TheVariants.{PathTear, PathErr}
 use Rattle.ason_base.specs.declared.tables.Leg.{Leg}
+use Rattle.mesh_rules.specs.declared.neighbours.Neighbour.{Neighbour}
 use Rattle.mesh_rules.specs.Changes.{Answer, nothing, to_node}
 use Rattle.mesh_rules.specs.Sites.{site_of}
 use Rattle.mesh_rules.specs.Legs.{is_closing, closed, previous, following, is_over}
-use Rattle.mesh_rules.specs.Tears.{torn, on_tear}
+use Rattle.mesh_rules.specs.Tears.{torn, tear_with}
+use Rattle.mesh_rules.specs.Messages.{arrival}
 use Rattle.mesh_rules.specs.Machine.{Mesh}
-use Rattle.mesh_laws.specs.HopShapes.{leg_kind, NoLeg, IsAsked, IsTorn}
-use Rattle.mesh_laws.specs.HopLaw.{messages_of, leg_at, mail_between}
+use Rattle.mesh_laws.specs.HopShapes.{HasLetGo, NothingLeft, StillWaits, leg_kind}
+use Rattle.mesh_laws.specs.HopLaw.{is_message_of, messages_of, leg_at, mail_between}
 use Rattle.mesh_laws.proofs.hops.Plans.{Plan, hops, node_at, link_at, fibre_at, IsRoute, same}
-use Rattle.mesh_laws.proofs.hops.Kinds.{tear_last}
 use Rattle.mesh_laws.proofs.nodes.LegList.{same_lsp-refl}
-use Rattle.mesh_laws.proofs.hops.Chain.{LegFits, Fits, Hop, starts_with_path, Chain, out_label_of, below_or_not}
+use Rattle.mesh_laws.proofs.hops.Rows.{tear_last}
+use Rattle.mesh_laws.proofs.hops.Rest.{Purpose, role_of, has_path, no_kinds}
+use Rattle.mesh_laws.proofs.hops.Chain.{LegFits, Fits, Hop, Chain, below_or_not}
 use Rattle.mesh_laws.proofs.hops.Sending.{sends_none, sends_back, sends_back_on}
-use Rattle.mesh_laws.proofs.hops.Sentences.{no_kinds, asked_bare, closed_torn, standing, torn_kind}
-use Rattle.mesh_laws.proofs.hops.LegChanges.{closed_fits, stands_bare, previous_is, following_is, following_none}
-use Rattle.mesh_laws.proofs.hops.Farther.{tear_gone, tear_torn, tear_kept}
-use Rattle.mesh_laws.proofs.hops.Nearer.{leg_closes}
-use Rattle.mesh_laws.proofs.hops.Taken.{KeepsDown, down_hop, down_taken, no_path_append}
+use Rattle.mesh_laws.proofs.hops.LegChanges.{same_of, phase_stands, closed_kind, closed_torn, torn_of, closed_fits, previous_is, following_is, following_none}
+use Rattle.mesh_laws.proofs.hops.Downstream.{tear_lets_go, tear_kept}
+use Rattle.mesh_laws.proofs.hops.Upstream.{leg_closes}
+use Rattle.mesh_laws.proofs.hops.Taken.{KeepsDown, down_hop, down_taken, path_before}
 
-module _ (t : Network) (s : Mesh) (l : Lsp) (p : Plan) (i : ℕ) (route : IsRoute t l.ingress p) (chain : Chain t l p (leg_at s l) (mail_between s l)) (below : i < hops p)
+module _ (t : Network) (q : Purpose) (s : Mesh) (l : Lsp) (p : Plan) (i : ℕ) (route : IsRoute t l.ingress p)
+    (chain : Chain t q l p (leg_at s l) (mail_between s l)) (below : i < hops p)
     (e : NodeId) (k : LinkId) (rest : List Msg) (was : s.mail (node_at p i).0 (node_at p (suc i)).0 ≡ PathTear l e k ∷ rest) where
-  abbrev Keeps : Answer → Type 0
-  Keeps a = KeepsDown t s l p i route chain below (PathTear l e k) rest was refl a
+  abbrev u : NodeId
+  u = node_at p i
 
-  hop_here : Hop p i (leg_at s l (node_at p i)) (leg_at s l (node_at p (suc i))) (PathTear l e k ∷ messages_of l rest) (mail_between s l (node_at p (suc i)) (node_at p i))
-  hop_here = down_hop t s l p i route chain below (PathTear l e k) rest was refl
+  abbrev d : NodeId
+  d = node_at p (suc i)
+
+  pub own : is_message_of l (PathTear l e k) ≡ true
+  own = same_lsp-refl l
+
+  abbrev Keeps : Answer → Type 0
+  Keeps a = KeepsDown t q s l p i route chain below (PathTear l e k) rest was own a
+
+  hop : Hop q p i (leg_at s l u) (leg_at s l d) (PathTear l e k ∷ messages_of l rest) (mail_between s l d u)
+  hop = down_hop t q s l p i route chain below (PathTear l e k) rest was own
 
   over : k ≡ link_at p i
-  over = hop_here.going_down.0
+  over = hop.rest.going_down.0
 
-  bare : leg_kind (leg_at s l (node_at p i)) ≡ IsAsked → out_label_of (leg_at s l (node_at p i)) ≡ None
-  bare = asked_bare t l p i (leg_at s l (node_at p i)) (chain.fits i (omega arith))
-
-  last : starts_with_path (messages_of l rest) ≡ true → ⊥
-  last path = let empty = no_kinds (messages_of l rest) (tear_last _ _ _ _ hop_here.shape) in let path' : false ≡ true = rw empty at path in cc
+  no_path_after : has_path (messages_of l rest) ≡ true → ⊥
+  no_path_after path =
+      let empty = no_kinds (messages_of l rest) (tear_last (role_of q) _ _ _ _ hop.shape) in
+      let never : false ≡ true = rw empty at path in
+      cc
 
   -- nothing changes
-  kept : (o : Option Leg) → leg_at s l (node_at p (suc i)) ≡ o → Fits t l p (suc i) o → (leg_kind o ≡ NoLeg) ⊎ (leg_kind o ≡ IsTorn) → Keeps nothing
-  kept o here fits late =
-      down_taken t s l p i route chain below (PathTear l e k) rest was refl nothing o [] [] here (sends_none l p (suc i)) fits
-      (tear_kept p i _ bare l e k (messages_of l rest) _ l e e torn_code o late (rw here at hop_here))
+  kept : (o : Option Leg) → leg_at s l (node_at p (suc i)) ≡ o → Fits t q l p (suc i) o →
+      HasLetGo (role_of q) (leg_kind o) → Keeps nothing
+  kept o here fits gone =
+      down_taken t q s l p i route chain below (PathTear l e k) rest was own nothing o [] [] here (sends_none l p (suc i)) fits
+      (tear_kept q p i (leg_at s l u) l e k (messages_of l rest) _ o gone (rw here at hop))
       (λ small. rw append-nil (rw here at (chain.each (suc i) small)))
-      last
-      (λ small path. chain.fresh (suc i) small (rw append-nil at path))
+      (λ _. no_path_after)
+      (λ small none path. chain.fresh (suc i) small (record { gone = none; path = rw append-nil at path }))
 
-  ends : (g : Leg) → leg_at s l (node_at p (suc i)) ≡ Some g → LegFits t l p (suc i) g → is_closing g.phase ≡ false → hops p ≤ suc i → Keeps (torn g (to_node (node_at p i) (PathErr g.lsp g.egress (node_at p (suc i)) true torn_code)) None)
-  ends g here fits stands end =
-      down_taken t s l p i route chain below (PathTear l e k) rest was refl
-      (torn g (to_node (node_at p i) (PathErr g.lsp g.egress (node_at p (suc i)) true torn_code)) None) None (PathErr g.lsp g.egress (node_at p (suc i)) true torn_code ∷ []) []
-      (rw (fits.own, same_lsp-refl l) refl) (sends_back t l l.ingress p route i (PathErr g.lsp g.egress (node_at p (suc i)) true torn_code) below fits.own) tt
-      (tear_gone p i _ bare l e k (messages_of l rest) _ g.lsp g.egress (node_at p (suc i)) torn_code g (standing g.phase (suc i) (hops p) g.in_label g.out_label fits.phase stands) (rw here at hop_here))
-      (λ small. absurd (omega arith))
-      last
-      (λ small. absurd (omega arith))
+  module _ (g : Leg) (here : leg_at s l (node_at p (suc i)) ≡ Some g) (fits : LegFits t q l p (suc i) g)
+      (stands : is_closing g.phase ≡ false) where
+    abbrev answer : Msg
+    answer = PathErr g.lsp g.egress d true torn_code
 
-  goes_on : (g : Leg) → leg_at s l (node_at p (suc i)) ≡ Some g → LegFits t l p (suc i) g → is_closing g.phase ≡ false → suc i < hops p →
-      Keeps (torn g (to_node (node_at p i) (PathErr g.lsp g.egress (node_at p (suc i)) true torn_code)) (Some (record { node = node_at p (suc (suc i)); fibre = fibre_at t p (suc i) })))
-  goes_on g here fits stands small =
-      down_taken t s l p i route chain below (PathTear l e k) rest was refl
-      (torn g (to_node (node_at p i) (PathErr g.lsp g.egress (node_at p (suc i)) true torn_code)) (Some (record { node = node_at p (suc (suc i)); fibre = fibre_at t p (suc i) })))
-      (Some (closed g)) (PathErr g.lsp g.egress (node_at p (suc i)) true torn_code ∷ []) (PathTear g.lsp g.egress (link_at p (suc i)) ∷ [])
-      (rw (fits.own, same_lsp-refl l) refl)
-      (sends_back_on t l l.ingress p route i (PathErr g.lsp g.egress (node_at p (suc i)) true torn_code) (PathTear g.lsp g.egress (link_at p (suc i))) small fits.own fits.own)
-      (closed_fits t l p (suc i) g fits small)
-      (tear_torn p i _ bare l e k (messages_of l rest) _ g.lsp g.egress (node_at p (suc i)) torn_code g (closed g) (standing g.phase (suc i) (hops p) g.in_label g.out_label fits.phase stands) (closed_torn g) refl (rw here at hop_here))
-      (λ _. leg_closes p (suc i) _ _ _ g g.lsp g.egress (link_at p (suc i)) (stands_bare t l p (suc i) g fits stands) refl (rw here at (chain.each (suc i) small)))
-      last
-      (λ _ path. chain.fresh (suc i) small (no_path_append _ (PathTear g.lsp g.egress (link_at p (suc i)) ∷ []) refl path))
+    mine : same_lsp g.lsp l ≡ true
+    mine = same_of g.lsp l fits.own
 
-  tears : (g : Leg) → leg_at s l (node_at p (suc i)) ≡ Some g → LegFits t l p (suc i) g → is_closing g.phase ≡ false → (suc i < hops p) ⊎ (hops p ≤ suc i) → Keeps (torn g (to_node (node_at p i) (PathErr g.lsp g.egress (node_at p (suc i)) true torn_code)) (following g))
-  tears g here fits stands (inl small) = rw (following_is t l p (suc i) g fits small) (goes_on g here fits stands small)
-  tears g here fits stands (inr end) = rw (following_none t l p (suc i) g fits end) (ends g here fits stands end)
+    ends : hops p ≤ suc i → Keeps (torn g (to_node u answer) None)
+    ends end =
+        down_taken t q s l p i route chain below (PathTear l e k) rest was own
+        (torn g (to_node u answer) None) None (answer ∷ []) []
+        (rw mine refl) (sends_back t l l.ingress p route i answer below mine) tt
+        (tear_lets_go q p i (leg_at s l u) l e k (messages_of l rest) _ g None g.lsp g.egress d torn_code
+        (phase_stands g.phase stands) NothingLeft refl (rw here at hop))
+        (λ small. absurd (omega arith))
+        (λ _. no_path_after)
+        (λ small. absurd (omega arith))
 
-  pub tear_keeps : (o : Option Leg) → leg_at s l (node_at p (suc i)) ≡ o → Keeps (on_tear (site_of t (node_at p (suc i))) (record { lsp = l; egress = e; from = node_at p i; link = k }) o)
-  tear_keeps None here = kept None here tt (inl refl)
+    goes_on : suc i < hops p →
+        Keeps (torn g (to_node u answer) (Some (record { node = node_at p (suc (suc i)); fibre = fibre_at t p (suc i) })))
+    goes_on small =
+        let next : Neighbour = record { node = node_at p (suc (suc i)); fibre = fibre_at t p (suc i) } in
+        let tear : Msg = PathTear g.lsp g.egress (link_at p (suc i)) in
+        down_taken t q s l p i route chain below (PathTear l e k) rest was own
+        (torn g (to_node u answer) (Some next)) (Some (closed g)) (answer ∷ []) (tear ∷ [])
+        (rw mine refl) (sends_back_on t l l.ingress p route i answer tear small mine mine)
+        (closed_fits t q l p (suc i) g fits small)
+        (tear_lets_go q p i (leg_at s l u) l e k (messages_of l rest) _ g (Some (closed g)) g.lsp g.egress d torn_code
+        (phase_stands g.phase stands) (StillWaits (closed_torn t q l p (suc i) g fits)) refl (rw here at hop))
+        (λ _. leg_closes q p (suc i) _ _ _ g (closed g) g.lsp g.egress (link_at p (suc i))
+        (phase_stands g.phase stands) (closed_kind t q l p (suc i) g fits) refl refl refl (rw here at (chain.each (suc i) small)))
+        (λ gone. absurd cc)
+        (λ _ none path. chain.fresh (suc i) small (record {
+          gone = none;
+          path = path_before (mail_between s l d (node_at p (suc (suc i)))) (tear ∷ []) refl path;
+        }))
+
+    tears : (suc i < hops p) ⊎ (hops p ≤ suc i) → Keeps (torn g (to_node u answer) (following g))
+    tears (inl small) = rw (following_is t q l p (suc i) g fits small) (goes_on small)
+    tears (inr end) = rw (following_none t q l p (suc i) g fits end) (ends end)
+
+  pub tear_keeps : (o : Option Leg) → leg_at s l (node_at p (suc i)) ≡ o →
+      Keeps (tear_with (site_of t (node_at p (suc i))) (arrival l e (node_at p i) k) o)
+  tear_keeps None here = kept None here tt NothingLeft
   tear_keeps (Some g) here = by_phase (rw here at (chain.fits (suc i) (omega arith))) (is_closing g.phase) refl
     where
-      by_phase : LegFits t l p (suc i) g → (b : Bool) → is_closing g.phase ≡ b →
-          Keeps (cond (not b && is_over (previous g) (node_at p i) k) (torn g (to_node (node_at p i) (PathErr g.lsp g.egress (node_at p (suc i)) true torn_code)) (following g)) nothing)
-      by_phase fits true q = kept (Some g) here fits (inr (torn_kind g.phase q))
-      by_phase fits false q = rw (previous_is t l p i g fits, over, same (node_at p i).0, same (link_at p i).0) (tears g here fits q (below_or_not (suc i) (hops p)))
+      by_phase : LegFits t q l p (suc i) g → (b : Bool) → is_closing g.phase ≡ b →
+          Keeps (cond (not b && is_over (previous g) u k) (torn g (to_node u (PathErr g.lsp g.egress d true torn_code)) (following g)) nothing)
+      by_phase fits true torn = kept (Some g) here fits (StillWaits (torn_of t q l p (suc i) g fits torn))
+      by_phase fits false stands =
+          rw (previous_is t q l p i g fits, over, same (node_at p i).0, same (link_at p i).0)
+          (tears g here fits stands (below_or_not (suc i) (hops p)))

@@ -5,10 +5,9 @@ use Rattle.std.proofs.lemmas.List.Elements.{filter-append}
 use Rattle.ason_base.specs.declared.ids.Lsp.{Lsp}
 use Rattle.ason_base.specs.declared.ids.NodeId.{NodeId}
 use Rattle.ason_base.specs.declared.messages.Msg.{Msg}
-use Rattle.ason_base.specs.Lsps.{same_lsp}
 use Rattle.mesh_rules.specs.Changes.{Answer}
 use Rattle.mesh_rules.specs.Machine.{Mesh, commit, without_first, sent_to}
-use Rattle.mesh_laws.specs.HopLaw.{lsp_of, messages_of, leg_at, mail_between}
+use Rattle.mesh_laws.specs.HopLaw.{is_message_of, messages_of, leg_at, mail_between}
 use Rattle.mesh_laws.proofs.hops.Plans.{same, other}
 use Rattle.mesh_laws.proofs.hops.Tables.{leg_after, find-changed}
 
@@ -16,34 +15,42 @@ use Rattle.mesh_laws.proofs.hops.Tables.{leg_after, find-changed}
 abbrev pub sent_of : Lsp → Answer → NodeId → List Msg
 sent_of l a b = messages_of l (sent_to b.0 a.sent)
 
-pub leg-here : (s : Mesh) (n : NodeId) (l : Lsp) (a : Answer) → leg_at (commit s n.0 a) l n ≡ leg_after l a.legs (leg_at s l n)
+pub leg-here : (s : Mesh) (n : NodeId) (l : Lsp) (a : Answer) →
+    leg_at (commit s n.0 a) l n ≡ leg_after l a.legs (leg_at s l n)
 leg-here s n l a = rw (same n.0) (find-changed l a.legs (s.nodes n.0).legs)
 
-pub leg-there : (s : Mesh) (n m : NodeId) (l : Lsp) (a : Answer) → m.0 ≢ n.0 → leg_at (commit s n.0 a) l m ≡ leg_at s l m
+pub leg-there : (s : Mesh) (n m : NodeId) (l : Lsp) (a : Answer) → m.0 ≢ n.0 →
+    leg_at (commit s n.0 a) l m ≡ leg_at s l m
 leg-there s n m l a apart = rw (other m.0 n.0 apart) refl
 
-pub mail-from : (s : Mesh) (n b : NodeId) (l : Lsp) (a : Answer) → mail_between (commit s n.0 a) l n b ≡ mail_between s l n b ++ sent_of l a b
+pub mail-from : (s : Mesh) (n b : NodeId) (l : Lsp) (a : Answer) →
+    mail_between (commit s n.0 a) l n b ≡ mail_between s l n b ++ sent_of l a b
 mail-from s n b l a = rw (same n.0) (filter-append _ (s.mail n.0 b.0) (sent_to b.0 a.sent))
 
-pub mail-else : (s : Mesh) (n u d : NodeId) (l : Lsp) (a : Answer) → u.0 ≢ n.0 → mail_between (commit s n.0 a) l u d ≡ mail_between s l u d
+pub mail-else : (s : Mesh) (n u d : NodeId) (l : Lsp) (a : Answer) → u.0 ≢ n.0 →
+    mail_between (commit s n.0 a) l u d ≡ mail_between s l u d
 mail-else s n u d l a apart = rw (other u.0 n.0 apart) refl
 
-pub without-here : (s : Mesh) (u d : NodeId) (l : Lsp) (m : Msg) (rest : List Msg) → s.mail u.0 d.0 ≡ m ∷ rest → mail_between (without_first s u.0 d.0) l u d ≡ messages_of l rest
+pub without-here : (s : Mesh) (u d : NodeId) (l : Lsp) (m : Msg) (rest : List Msg) → s.mail u.0 d.0 ≡ m ∷ rest →
+    mail_between (without_first s u.0 d.0) l u d ≡ messages_of l rest
 without-here s u d l m rest was = rw (same u.0, same d.0, was) refl
 
-and_false : (x : Bool) → (x && false) ≡ false
+pub and_false : (x : Bool) → (x && false) ≡ false
 and_false true = refl
 and_false false = refl
 
-pub without-else : (s : Mesh) (u d a b : NodeId) (l : Lsp) → (a.0 ≢ u.0) ⊎ (b.0 ≢ d.0) → mail_between (without_first s u.0 d.0) l a b ≡ mail_between s l a b
+pub without-else : (s : Mesh) (u d a b : NodeId) (l : Lsp) → (a.0 ≢ u.0) ⊎ (b.0 ≢ d.0) →
+    mail_between (without_first s u.0 d.0) l a b ≡ mail_between s l a b
 without-else s u d a b l (inl h) = rw (other a.0 u.0 h) refl
 without-else s u d a b l (inr h) = rw (other b.0 d.0 h, and_false (nat_eq a.0 u.0)) refl
 
--- to take a message of one LSP leaves those of another
-pub without-other : (s : Mesh) (u d a b : NodeId) (m : Msg) (rest : List Msg) (l : Lsp) → s.mail u.0 d.0 ≡ m ∷ rest → same_lsp (lsp_of m) l ≡ false → mail_between (without_first s u.0 d.0) l a b ≡ mail_between s l a b
+-- to take a message of another LSP, or a Notify, leaves those of this one
+pub without-other : (s : Mesh) (u d a b : NodeId) (m : Msg) (rest : List Msg) (l : Lsp) → s.mail u.0 d.0 ≡ m ∷ rest →
+    is_message_of l m ≡ false → mail_between (without_first s u.0 d.0) l a b ≡ mail_between s l a b
 without-other s u d a b m rest l was apart = go (nat_eq a.0 u.0) (nat_eq b.0 d.0) refl refl
   where
-    go : (x y : Bool) → nat_eq a.0 u.0 ≡ x → nat_eq b.0 d.0 ≡ y → messages_of l (cond (x && y) (drop 1 (s.mail a.0 b.0)) (s.mail a.0 b.0)) ≡ messages_of l (s.mail a.0 b.0)
+    go : (x y : Bool) → nat_eq a.0 u.0 ≡ x → nat_eq b.0 d.0 ≡ y →
+        messages_of l (cond (x && y) (drop 1 (s.mail a.0 b.0)) (s.mail a.0 b.0)) ≡ messages_of l (s.mail a.0 b.0)
     go true true e f = let p : a.0 ≡ u.0 = grind arith in let q : b.0 ≡ d.0 = grind arith in rw (p, q, was, apart) refl
     go true false e f = refl
     go false y e f = refl

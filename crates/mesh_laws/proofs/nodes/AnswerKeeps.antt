@@ -1,13 +1,11 @@
 -- A Resv, a PathErr and a PathTear keep the facts of a node.
-use Rattle.std.proofs.Common.{◌≡◌, ℕ, Bool, true, false, not, nat_eq, [], ◌∷◌, refl, sym, ap, subst, ◌∙◌, arith}
+use Rattle.std.proofs.Common.{◌≡◌, ℕ, true, false, not, nat_eq, [], refl, sym, ap, subst, ◌∙◌, arith}
 use Rattle.std.specs.Prelude.{◌&&◌, Option, Some, None, is_some}
 use Rattle.ason_base.specs.Labels.{has, meet}
 use Rattle.ason_base.specs.declared.ids.LinkId.{LinkId}
 use Rattle.ason_base.specs.declared.ids.Lsp.{Lsp}
 use Rattle.ason_base.specs.declared.ids.Fibre.{Fibre}
 use Rattle.ason_base.specs.declared.ids.NodeId.{NodeId}
-use Rattle.ason_base.specs.declared.codes.ErrCode.{ErrCode}
-use Rattle.ason_base.specs.declared.messages.Msg.{Msg}
 use Rattle.ason_base.specs.declared.calls.Phase.{Phase}
 use Rattle.ason_base.specs.declared.calls.Phase.TheVariants.{Asked, Held, Armed, Live, Closing, Falling}
 use Rattle.ason_base.specs.declared.calls.Cause.TheVariants.{Code}
@@ -15,16 +13,15 @@ use Rattle.ason_base.specs.declared.tables.CallRec.{CallRec}
 use Rattle.ason_base.specs.declared.tables.Leg.{Leg}
 use Rattle.ason_base.specs.declared.tables.Out.{Out}
 use Rattle.mesh_rules.specs.declared.arrivals.Arrival.{Arrival}
-use Rattle.mesh_rules.specs.declared.changes.LegChange.TheVariants as leg
 use Rattle.mesh_rules.specs.declared.neighbours.Neighbour.{Neighbour}
 use Rattle.mesh_rules.specs.Sites.{Place}
 use Rattle.mesh_rules.specs.Legs.{find_leg, is_asked, is_closing, is_work, closed, connected, previous, following, neighbour_over, is_node, is_over, usable}
 use Rattle.mesh_rules.specs.Calls.{call_of, is_asking}
 use Rattle.mesh_rules.specs.State.{NodeState}
-use Rattle.mesh_rules.specs.Resvs.{is_expected, label_back, passed_back, answered, on_resv}
-use Rattle.mesh_rules.specs.MessageRules.{call_stands, call_falls}
-use Rattle.mesh_rules.specs.PathErrs.{err_passed, removed, on_path_err}
-use Rattle.mesh_rules.specs.Tears.{torn, on_tear}
+use Rattle.mesh_rules.specs.Resvs.{is_expected, call_connected, label_back, passed_back, answered, resv_with}
+use Rattle.mesh_rules.specs.Changes.{puts, removes, followed_by}
+use Rattle.mesh_rules.specs.PathErrs.{PathFailure, call_refused, err_passed, removed, path_err_with}
+use Rattle.mesh_rules.specs.Tears.{torn, tear_with}
 use Rattle.mesh_laws.proofs.nodes.Cases.{if_cases, both_left, both_right, not-true}
 use Rattle.mesh_laws.proofs.nodes.Facts.{LegFacts, NodeFacts}
 use Rattle.mesh_laws.proofs.nodes.LegList.{found-lsp}
@@ -36,7 +33,8 @@ use Rattle.mesh_laws.proofs.nodes.PathKeeps.{Keeps}
 -- What a leg's neighbours tell
 
 -- a leg with a previous node is away from its ingress
-has_previous-away : (n next : ℕ) (g : Leg) (h : Neighbour) → LegFacts n next g → previous g ≡ Some h → nat_eq g.lsp.ingress.0 n ≡ false
+has_previous-away : (n next : ℕ) (g : Leg) (h : Neighbour) → LegFacts n next g → previous g ≡ Some h →
+    nat_eq g.lsp.ingress.0 n ≡ false
 has_previous-away n next g h facts is =
     let node : is_some g.prev ≡ true = ap is_some (beside g.prev g.in_fibre h is).node in
     not-true (nat_eq g.lsp.ingress.0 n) (sym facts.prev ∙ node)
@@ -48,7 +46,8 @@ no_previous-here n next g facts none =
     let test : not (nat_eq g.lsp.ingress.0 n) ≡ false = sym facts.prev ∙ no in
     grind arith
 
-over-some : (o : Option NodeId) (f : Option Fibre) (n : NodeId) (k : LinkId) → is_over (neighbour_over o f) n k ≡ true → is_some o ≡ true
+over-some : (o : Option NodeId) (f : Option Fibre) (n : NodeId) (k : LinkId) →
+    is_over (neighbour_over o f) n k ≡ true → is_some o ≡ true
 over-some None f n k e = absurd (cc e)
 over-some (Some m) f n k e = refl
 
@@ -69,7 +68,8 @@ asked-is Falling e = absurd (cc e)
 phase_answered : (f : Phase) → is_asked f ≡ true → is_closing f ≡ false
 phase_answered f e = ap is_closing (asked-is f e)
 
-keeps-passed_back : (p : Place) (s : NodeState) (a : Arrival) (g : Leg) (h : Neighbour) (x : ℕ) (o : Option ℕ) → NodeFacts p.id.0 s → LegFacts p.id.0 s.lsp g → previous g ≡ Some h → is_some g.next ≡ true → has g.sent x ≡ true →
+keeps-passed_back : (p : Place) (s : NodeState) (a : Arrival) (g : Leg) (h : Neighbour) (x : ℕ) (o : Option ℕ) →
+    NodeFacts p.id.0 s → LegFacts p.id.0 s.lsp g → previous g ≡ Some h → is_some g.next ≡ true → has g.sent x ≡ true →
     label_back p (meet g.offered (usable p s.legs h.fibre)) x ≡ o → Keeps p s (passed_back p a g h x o)
 keeps-passed_back p s a g h x None facts leg is goes_on sent looked =
     keeps-leg p.id.0 s (closed g) (has_previous-away p.id.0 s.lsp g h leg is) (closed-stands p.id.0 s.lsp s.legs g goes_on leg) facts
@@ -77,14 +77,17 @@ keeps-passed_back p s a g h x (Some y) facts leg is goes_on sent looked =
     keeps-leg p.id.0 s (connected g (Some y) x) (has_previous-away p.id.0 s.lsp g h leg is)
     (connected-stands p s.lsp s.legs g h x y leg (beside g.prev g.in_fibre h is).fibre goes_on sent (back-has p (meet g.offered (usable p s.legs h.fibre)) x y looked)) facts
 
-keeps-answered : (p : Place) (s : NodeState) (a : Arrival) (x : ℕ) (g : Leg) (o : Option Neighbour) → NodeFacts p.id.0 s → find_leg g.lsp s.legs ≡ Some g → g.phase ≡ Asked → is_some g.next ≡ true → has g.sent x ≡ true → previous g ≡ o →
-    Keeps p s (answered p s.legs s.calls a x g o)
+keeps-answered : (p : Place) (s : NodeState) (a : Arrival) (x : ℕ) (g : Leg) (o : Option Neighbour) →
+    NodeFacts p.id.0 s → find_leg g.lsp s.legs ≡ Some g → g.phase ≡ Asked → is_some g.next ≡ true →
+    has g.sent x ≡ true → previous g ≡ o →
+    Keeps p s (answered p s a x g o)
 keeps-answered p s a x g None facts here asked goes_on sent is = go (call_of g.lsp s.calls) refl
   where
     mine : LegFacts p.id.0 s.lsp g
     mine = facts.leg g.lsp g here
 
-    go : (o : Option CallRec) → call_of g.lsp s.calls ≡ o → Keeps p s (record { legs = leg.Stands (connected g None x) ∷ []; calls = call_stands o; numbers = None; sent = [] })
+    go : (o : Option CallRec) → call_of g.lsp s.calls ≡ o →
+        Keeps p s (followed_by (puts (connected g None x) []) (call_connected o))
     go None none = absurd (must_have_call p.id.0 s g facts here asked (no_previous-here p.id.0 s.lsp g mine is) none)
     go (Some c) called =
         let asking = asking_call p.id.0 s g c facts here asked called in
@@ -94,13 +97,16 @@ keeps-answered p s a x g None facts here asked goes_on sent is = go (call_of g.l
 keeps-answered p s a x g (Some h) facts here asked goes_on sent is =
     keeps-passed_back p s a g h x (label_back p (meet g.offered (usable p s.legs h.fibre)) x) facts (facts.leg g.lsp g here) is goes_on sent refl
 
-pub keeps-on_resv : (p : Place) (s : NodeState) (a : Arrival) (x : ℕ) (o : Option Leg) → NodeFacts p.id.0 s → find_leg a.lsp s.legs ≡ o → Keeps p s (on_resv p s.legs s.calls a x o)
+pub keeps-on_resv : (p : Place) (s : NodeState) (a : Arrival) (x : ℕ) (o : Option Leg) → NodeFacts p.id.0 s →
+    find_leg a.lsp s.legs ≡ o → Keeps p s (resv_with p s a x o)
 keeps-on_resv p s a x None facts is = facts
 keeps-on_resv p s a x (Some g) facts is =
     if_cases (Keeps p s) (is_expected a x g) _ _
     (λ e.
-    let here : find_leg g.lsp s.legs ≡ Some g = subst (λ l. find_leg l s.legs ≡ Some g) (sym (found-lsp a.lsp s.legs g is)) is in
-    let test : (is_work g.role && (is_over (following g) a.from a.link && has g.sent x)) ≡ true = both_right (is_asked g.phase) _ e in
+    let here : find_leg g.lsp s.legs ≡ Some g =
+    subst (λ l. find_leg l s.legs ≡ Some g) (sym (found-lsp a.lsp s.legs g is)) is in
+    let test : (is_work g.role && (is_over (following g) a.from a.link && has g.sent x)) ≡ true =
+    both_right (is_asked g.phase) _ e in
     let test' : (is_over (following g) a.from a.link && has g.sent x) ≡ true = both_right (is_work g.role) _ test in
     keeps-answered p s a x g (previous g) facts here (asked-is g.phase (both_left (is_asked g.phase) _ e))
     (over-some g.next g.out_fibre a.from a.link (both_left _ _ test')) (both_right (is_over (following g) a.from a.link) _ test') refl)
@@ -108,47 +114,65 @@ keeps-on_resv p s a x (Some g) facts is =
 
 -- PathErr
 
-keeps-err_passed : (p : Place) (s : NodeState) (g : Leg) (m : Msg) (code : ErrCode) (o : Option Neighbour) → NodeFacts p.id.0 s → find_leg g.lsp s.legs ≡ Some g → g.phase ≡ Asked → previous g ≡ o → Keeps p s (err_passed s.calls g m code o)
-keeps-err_passed p s g m code None facts here asked is = go (call_of g.lsp s.calls) refl
+keeps-err_passed : (p : Place) (s : NodeState) (g : Leg) (e : PathFailure) (o : Option Neighbour) → NodeFacts p.id.0 s →
+    find_leg g.lsp s.legs ≡ Some g → g.phase ≡ Asked → previous g ≡ o → Keeps p s (err_passed s g e o)
+keeps-err_passed p s g e None facts here asked is = go (call_of g.lsp s.calls) refl
   where
-    go : (o : Option CallRec) → call_of g.lsp s.calls ≡ o → Keeps p s (record { legs = leg.Goes g.lsp ∷ []; calls = call_falls code o; numbers = None; sent = [] })
-    go None none = absurd (must_have_call p.id.0 s g facts here asked (no_previous-here p.id.0 s.lsp g (facts.leg g.lsp g here) is) none)
+    go : (o : Option CallRec) → call_of g.lsp s.calls ≡ o →
+        Keeps p s (followed_by (removes g.lsp []) (call_refused e.code o))
+    go None none =
+        absurd (must_have_call p.id.0 s g facts here asked (no_previous-here p.id.0 s.lsp g (facts.leg g.lsp g here) is) none)
     go (Some c) called =
         let asking = asking_call p.id.0 s g c facts here asked called in
         let test : is_asking c.state ≡ true = rw asking.state refl in
-        rw test (keeps-blocked p.id.0 s g c (Code code) facts asking)
-keeps-err_passed p s g m code (Some h) facts here asked is =
-    keeps-gone p.id.0 s g.lsp (unnamed-away p.id.0 s.lsp s.legs s.calls g.lsp (has_previous-away p.id.0 s.lsp g h (facts.leg g.lsp g here) is) (call_part p.id.0 s facts)) facts
+        rw test (keeps-blocked p.id.0 s g c (Code e.code) facts asking)
+keeps-err_passed p s g e (Some h) facts here asked is =
+    keeps-gone p.id.0 s g.lsp
+    (unnamed-away p.id.0 s.lsp s.legs s.calls g.lsp (has_previous-away p.id.0 s.lsp g h (facts.leg g.lsp g here) is) (call_part p.id.0 s facts))
+    facts
 
-keeps-removed : (p : Place) (s : NodeState) (g : Leg) (m : Msg) (code : ErrCode) → NodeFacts p.id.0 s → find_leg g.lsp s.legs ≡ Some g → Keeps p s (removed s.calls g m code)
-keeps-removed p s g m code facts here =
-    if_cases (Keeps p s) (is_asked g.phase) _ _ (λ e. keeps-err_passed p s g m code (previous g) facts here (asked-is g.phase e) refl)
-    (λ e. if_cases (Keeps p s) (is_closing g.phase) _ _ (λ f. keeps-gone p.id.0 s g.lsp (unnamed-torn p.id.0 s.lsp s.legs s.calls g.lsp g here f (call_part p.id.0 s facts)) facts) (λ f. facts))
+keeps-removed : (p : Place) (s : NodeState) (g : Leg) (e : PathFailure) → NodeFacts p.id.0 s →
+    find_leg g.lsp s.legs ≡ Some g →
+    Keeps p s (removed s g e)
+keeps-removed p s g e facts here =
+    if_cases (Keeps p s) (is_asked g.phase) _ _ (λ h. keeps-err_passed p s g e (previous g) facts here (asked-is g.phase h) refl) (λ h.
+    if_cases (Keeps p s) (is_closing g.phase) _ _
+    (λ f. keeps-gone p.id.0 s g.lsp (unnamed-torn p.id.0 s.lsp s.legs s.calls g.lsp g here f (call_part p.id.0 s facts)) facts) (λ f. facts))
 
-pub keeps-on_path_err : (p : Place) (s : NodeState) (u : NodeId) (l : Lsp) (m : Msg) (gone : Bool) (code : ErrCode) (o : Option Leg) → NodeFacts p.id.0 s → find_leg l s.legs ≡ o → Keeps p s (on_path_err s.calls u m gone code o)
-keeps-on_path_err p s u l m gone code None facts is = facts
-keeps-on_path_err p s u l m gone code (Some g) facts is =
-    let here : find_leg g.lsp s.legs ≡ Some g = subst (λ k. find_leg k s.legs ≡ Some g) (sym (found-lsp l s.legs g is)) is in
-    if_cases (Keeps p s) (gone && is_node (following g) u) _ _ (λ e. keeps-removed p s g m code facts here) (λ e. facts)
+pub keeps-on_path_err : (p : Place) (s : NodeState) (u : NodeId) (l : Lsp) (e : PathFailure) (o : Option Leg) →
+    NodeFacts p.id.0 s →
+    find_leg l s.legs ≡ o → Keeps p s (path_err_with s u e o)
+keeps-on_path_err p s u l e None facts is = facts
+keeps-on_path_err p s u l e (Some g) facts is =
+    let here : find_leg g.lsp s.legs ≡ Some g =
+    subst (λ k. find_leg k s.legs ≡ Some g) (sym (found-lsp l s.legs g is)) is in
+    if_cases (Keeps p s) (e.removed && is_node (following g) u) _ _ (λ h. keeps-removed p s g e facts here) (λ h. facts)
 
 -- PathTear
 
 following-some : (o : Option NodeId) (f : Option Fibre) (h : Neighbour) → neighbour_over o f ≡ Some h → is_some o ≡ true
 following-some o f h e = ap is_some (beside o f h e).node
 
-keeps-torn : (p : Place) (s : NodeState) (g : Leg) (answer : Out) (o : Option Neighbour) → NodeFacts p.id.0 s → find_leg g.lsp s.legs ≡ Some g → nat_eq g.lsp.ingress.0 p.id.0 ≡ false → following g ≡ o → Keeps p s (torn g answer o)
-keeps-torn p s g answer None facts here away is = keeps-gone p.id.0 s g.lsp (unnamed-away p.id.0 s.lsp s.legs s.calls g.lsp away (call_part p.id.0 s facts)) facts
+keeps-torn : (p : Place) (s : NodeState) (g : Leg) (answer : Out) (o : Option Neighbour) → NodeFacts p.id.0 s →
+    find_leg g.lsp s.legs ≡ Some g → nat_eq g.lsp.ingress.0 p.id.0 ≡ false → following g ≡ o →
+    Keeps p s (torn g answer o)
+keeps-torn p s g answer None facts here away is =
+    keeps-gone p.id.0 s g.lsp (unnamed-away p.id.0 s.lsp s.legs s.calls g.lsp away (call_part p.id.0 s facts)) facts
 keeps-torn p s g answer (Some h) facts here away is =
     keeps-leg p.id.0 s (closed g) away (closed-stands p.id.0 s.lsp s.legs g (following-some g.next g.out_fibre h is) (facts.leg g.lsp g here)) facts
 
 -- a leg to which a message comes from its previous node is away from its ingress
-previous-away : (n next : ℕ) (g : Leg) (u : NodeId) (k : LinkId) → LegFacts n next g → is_over (previous g) u k ≡ true → nat_eq g.lsp.ingress.0 n ≡ false
-previous-away n next g u k facts over = not-true (nat_eq g.lsp.ingress.0 n) (sym facts.prev ∙ over-some g.prev g.in_fibre u k over)
+previous-away : (n next : ℕ) (g : Leg) (u : NodeId) (k : LinkId) → LegFacts n next g →
+    is_over (previous g) u k ≡ true → nat_eq g.lsp.ingress.0 n ≡ false
+previous-away n next g u k facts over =
+    not-true (nat_eq g.lsp.ingress.0 n) (sym facts.prev ∙ over-some g.prev g.in_fibre u k over)
 
-pub keeps-on_tear : (p : Place) (s : NodeState) (a : Arrival) (o : Option Leg) → NodeFacts p.id.0 s → find_leg a.lsp s.legs ≡ o → Keeps p s (on_tear p a o)
+pub keeps-on_tear : (p : Place) (s : NodeState) (a : Arrival) (o : Option Leg) → NodeFacts p.id.0 s →
+    find_leg a.lsp s.legs ≡ o → Keeps p s (tear_with p a o)
 keeps-on_tear p s a None facts is = facts
 keeps-on_tear p s a (Some g) facts is =
-    let here : find_leg g.lsp s.legs ≡ Some g = subst (λ l. find_leg l s.legs ≡ Some g) (sym (found-lsp a.lsp s.legs g is)) is in
+    let here : find_leg g.lsp s.legs ≡ Some g =
+    subst (λ l. find_leg l s.legs ≡ Some g) (sym (found-lsp a.lsp s.legs g is)) is in
     if_cases (Keeps p s) (not (is_closing g.phase) && is_over (previous g) a.from a.link) _ _
     (λ e. keeps-torn p s g _ (following g) facts here (previous-away p.id.0 s.lsp g a.from a.link (facts.leg g.lsp g here) (both_right (not (is_closing g.phase)) _ e)) refl)
     (λ e. facts)

@@ -12,11 +12,10 @@ use Rattle.ason_base.specs.declared.tables.CallRec.{CallRec}
 use Rattle.ason_base.specs.declared.tables.Leg.{Leg}
 use Rattle.ason_base.specs.Lsps.{is_lsp}
 use Rattle.mesh_rules.specs.declared.changes.CallChange.TheVariants as call
-use Rattle.mesh_rules.specs.declared.changes.LegChange.TheVariants as leg
 use Rattle.mesh_rules.specs.Legs.{find_leg, is_closing, connected, with_leg, without_leg, leg_of}
 use Rattle.mesh_rules.specs.Calls.{find_call, call_of, bare, blocked, with_call}
 use Rattle.mesh_rules.specs.State.{NodeState}
-use Rattle.mesh_rules.specs.Changes.{changed}
+use Rattle.mesh_rules.specs.Changes.{puts, removes, changes_calls, followed_by, changed}
 use Rattle.mesh_laws.specs.CallLaw.{IsNamed, fits, phase_of}
 use Rattle.mesh_laws.proofs.nodes.Facts.{CallFacts, NodeFacts}
 use Rattle.mesh_laws.proofs.nodes.LegList.{same_lsp-refl, find-with_leg, find-without_leg}
@@ -103,13 +102,13 @@ named-egress n next legs c l g facts work found =
     subst (λ x. x.egress ≡ c.egress) one leg.3
 
 pub keeps-bare : (n : ℕ) (s : NodeState) (g : Leg) (c : CallRec) (x : ℕ) → NodeFacts n s → find_leg g.lsp s.legs ≡ Some g → AskingCall n s g.lsp c → MayStand n s.lsp s.legs (connected g None x) →
-    NodeFacts n (changed s (record { legs = leg.Stands (connected g None x) ∷ []; calls = call.Stands (bare c) ∷ []; numbers = None; sent = [] }))
+    NodeFacts n (changed s (followed_by (puts (connected g None x) []) (changes_calls (call.Put (bare c) ∷ []))))
 keeps-bare n s g c x facts here asking may =
     let legs' = with_leg (connected g None x) s.legs in
     let old = facts.call c.call c asking.found in
     let work = lsp-is c.work g.lsp asking.work in
     let found : find_leg g.lsp legs' ≡ Some (connected g None x) = rw (find-with_leg (connected g None x) s.legs g.lsp, same_lsp-refl g.lsp) refl in
-    node_facts n (changed s (record { legs = leg.Stands (connected g None x) ∷ []; calls = call.Stands (bare c) ∷ []; numbers = None; sent = [] }))
+    node_facts n (changed s (followed_by (puts (connected g None x) []) (changes_calls (call.Put (bare c) ∷ []))))
     (part-with_leg n s.lsp s.lsp (connected g None x) s.legs (omega arith) (leg_part n s facts) may)
     (together-part n s.lsp s.lsp g.lsp c.call (Some (connected g None x)) (Some (bare c)) s.legs legs' s.calls (with_call (bare c) s.calls) (omega arith)
     (rise-with_call (bare c) s.calls facts.calls_rise) (find-with_leg (connected g None x) s.legs) (find-with_call (bare c) s.calls)
@@ -121,11 +120,11 @@ keeps-bare n s g c x facts here asking may =
 -- The PathErr came: the leg goes and its call is blocked
 
 pub keeps-blocked : (n : ℕ) (s : NodeState) (g : Leg) (c : CallRec) (cause : Cause) → NodeFacts n s → AskingCall n s g.lsp c →
-    NodeFacts n (changed s (record { legs = leg.Goes g.lsp ∷ []; calls = call.Stands (blocked c cause) ∷ []; numbers = None; sent = [] }))
+    NodeFacts n (changed s (followed_by (removes g.lsp []) (changes_calls (call.Put (blocked c cause) ∷ []))))
 keeps-blocked n s g c cause facts asking =
     let legs' = without_leg g.lsp s.legs in
     let old = facts.call c.call c asking.found in
-    node_facts n (changed s (record { legs = leg.Goes g.lsp ∷ []; calls = call.Stands (blocked c cause) ∷ []; numbers = None; sent = [] }))
+    node_facts n (changed s (followed_by (removes g.lsp []) (changes_calls (call.Put (blocked c cause) ∷ []))))
     (part-without_leg n s.lsp g.lsp s.legs (leg_part n s facts))
     (together-part n s.lsp s.lsp g.lsp c.call None (Some (blocked c cause)) s.legs legs' s.calls (with_call (blocked c cause) s.calls) (omega arith)
     (rise-with_call (blocked c cause) s.calls facts.calls_rise) (find-without_leg g.lsp s.legs) (find-with_call (blocked c cause) s.calls)

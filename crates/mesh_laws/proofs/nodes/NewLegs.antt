@@ -8,17 +8,16 @@ use Rattle.ason_base.specs.declared.ids.Lsp.{Lsp}
 use Rattle.ason_base.specs.declared.ids.NodeId.{NodeId}
 use Rattle.ason_base.specs.declared.steps.Step.{Step}
 use Rattle.ason_base.specs.declared.network.LinkSpec.{LinkSpec}
-use Rattle.ason_base.specs.declared.messages.PathRole.{PathRole}
 use Rattle.ason_base.specs.declared.calls.Phase.{Phase}
 use Rattle.ason_base.specs.declared.calls.Phase.TheVariants.{Asked, Held, Armed, Live, Closing, Falling}
 use Rattle.ason_base.specs.declared.calls.Role.TheVariants.{Work}
 use Rattle.ason_base.specs.declared.tables.Leg.{Leg}
-use Rattle.mesh_rules.specs.declared.arrivals.Arrival.{Arrival}
 use Rattle.mesh_rules.specs.declared.neighbours.Neighbour.{Neighbour}
 use Rattle.mesh_rules.specs.Sites.{Place, own_link, labels_of, fibre_in}
 use Rattle.mesh_rules.specs.Legs.{is_free, usable, closed, closing_phase, connected, neighbour_over}
 use Rattle.mesh_rules.specs.Setups.{first_leg}
-use Rattle.mesh_rules.specs.Paths.{egress_leg, transit_leg, offered_labels}
+use Rattle.mesh_rules.specs.State.{NodeState}
+use Rattle.mesh_rules.specs.Paths.{PathRequest, egress_leg, transit_leg, offered_labels}
 use Rattle.mesh_rules.specs.Resvs.{label_back, only}
 use Rattle.mesh_laws.proofs.nodes.Cases.{both_left, both_right}
 use Rattle.mesh_laws.proofs.nodes.Facts.{FitsPhase, LegFacts}
@@ -37,7 +36,8 @@ pub has-right : (a b : List ℕ) (x : ℕ) → has (meet a b) x ≡ true → has
 has-right a b x h = both_right (has a x) (has b x) (sym (has-filter (has b) a x) ∙ h)
 
 -- a usable label is free
-pub usable-free : (p : Place) (legs : List Leg) (f : Fibre) (x : ℕ) → has (usable p legs f) x ≡ true → is_free legs f x ≡ true
+pub usable-free : (p : Place) (legs : List Leg) (f : Fibre) (x : ℕ) → has (usable p legs f) x ≡ true →
+    is_free legs f x ≡ true
 usable-free p legs f x h =
     let all = up_to (labels_of (own_link p f.link)) in
     both_right (has all x) (is_free legs f x) (sym (has-filter (is_free legs f) all x) ∙ h)
@@ -57,26 +57,28 @@ back-has p labels x y e = go p.convert e
 -- A leg that takes no label
 
 pub no_label : (n next : ℕ) (legs : List Leg) (g : Leg) → g.in_label ≡ None → LegFacts n next g → MayStand n next legs g
-no_label n next legs g none facts = record { facts = facts; free = λ f x taken. let label = taken.label in absurd (cc (none, label)) }
+no_label n next legs g none facts =
+    record { facts = facts; free = λ f x taken. let label = taken.label in absurd (cc (none, label)) }
 
 -- At the ingress
 
 pub first-stands : (p : Place) (l : Lsp) (e : NodeId) (out : LinkSpec) (route : List Step) (next : ℕ) (legs : List Leg) → nat_eq l.ingress.0 p.id.0 ≡ true → nat_eq e.0 p.id.0 ≡ false → l.lsp < next →
     MayStand p.id.0 next legs (first_leg p l e out route)
-first-stands p l e out route next legs here away small = no_label p.id.0 next legs (first_leg p l e out route) refl (record {
-  role = refl;
-  prev = rw here refl;
-  in_fibre = refl;
-  next_node = rw away refl;
-  out_fibre = refl;
-  one_end = refl;
-  number = λ e. small;
-  phase = (refl, refl, refl);
-  offered = tt;
-  sent = tt;
-  back_in = refl;
-  back_out = refl;
-})
+first-stands p l e out route next legs here away small =
+    no_label p.id.0 next legs (first_leg p l e out route) refl (record {
+      role = refl;
+      prev = rw here refl;
+      in_fibre = refl;
+      next_node = rw away refl;
+      out_fibre = refl;
+      one_end = refl;
+      number = λ e. small;
+      phase = (refl, refl, refl);
+      offered = tt;
+      sent = tt;
+      back_in = refl;
+      back_out = refl;
+    })
 
 -- Away from the ingress
 
@@ -86,49 +88,55 @@ away a n P e f = let same : nat_eq a n ≡ true = grind arith in absurd (cc (e, 
 some : {X : Type 0} (x y : X) → Some x ≡ Some y → x ≡ y
 some x y e = cc e
 
-pub egress-stands : (p : Place) (a : Arrival) (link : LinkSpec) (r : PathRole) (legs : List Leg) (set : List ℕ) (x : ℕ) (next : ℕ) → nat_eq a.lsp.ingress.0 p.id.0 ≡ false → nat_eq a.egress.0 p.id.0 ≡ true →
-    has (offered_labels p legs link set) x ≡ true → MayStand p.id.0 next legs (egress_leg p a link r (offered_labels p legs link set) x)
-egress-stands p a link r legs set x next far here offered = record {
-  facts = record {
-    role = refl;
-    prev = rw far refl;
-    in_fibre = refl;
-    next_node = rw here refl;
-    out_fibre = refl;
-    one_end = refl;
-    number = away a.lsp.ingress.0 p.id.0 (a.lsp.lsp < next) far;
-    phase = (refl, refl);
-    offered = offered;
-    sent = tt;
-    back_in = refl;
-    back_out = refl;
-  };
-  free = λ f y taken.
-      let fibre : fibre_in link p.id ≡ f = some (fibre_in link p.id) f taken.fibre in
-      let label : x ≡ y = some x y taken.label in
-      subst (λ z. is_free legs f z ≡ true) label (subst (λ z. is_free legs z x ≡ true) fibre (usable-free p legs (fibre_in link p.id) x (has-right set (usable p legs (fibre_in link p.id)) x offered)));
-}
+module _ (p : Place) (s : NodeState) (m : PathRequest) (link : LinkSpec) (next : ℕ) (far : nat_eq m.arrival.lsp.ingress.0 p.id.0 ≡ false) where
+  pub egress-stands : (x : ℕ) → nat_eq m.arrival.egress.0 p.id.0 ≡ true → has (offered_labels p s m link) x ≡ true →
+      MayStand p.id.0 next s.legs (egress_leg p m link (offered_labels p s m link) x)
+  egress-stands x here offered = record {
+    facts = record {
+      role = refl;
+      prev = rw far refl;
+      in_fibre = refl;
+      next_node = rw here refl;
+      out_fibre = refl;
+      one_end = refl;
+      number = away m.arrival.lsp.ingress.0 p.id.0 (m.arrival.lsp.lsp < next) far;
+      phase = (refl, refl);
+      offered = offered;
+      sent = tt;
+      back_in = refl;
+      back_out = refl;
+    };
+    free = λ f y taken.
+        let fibre : fibre_in link p.id ≡ f = some (fibre_in link p.id) f taken.fibre in
+        let label : x ≡ y = some x y taken.label in
+        let usable_here : List ℕ = usable p s.legs (fibre_in link p.id) in
+        subst (λ z. is_free s.legs f z ≡ true) label (subst (λ z. is_free s.legs z x ≡ true) fibre
+        (usable-free p s.legs (fibre_in link p.id) x (has-right m.set usable_here x offered)));
+  }
 
-pub transit-stands : (p : Place) (a : Arrival) (link out : LinkSpec) (route : List Step) (r : PathRole) (offered sent : List ℕ) (legs : List Leg) (next : ℕ) → nat_eq a.lsp.ingress.0 p.id.0 ≡ false → nat_eq a.egress.0 p.id.0 ≡ false →
-    MayStand p.id.0 next legs (transit_leg p a link out route r offered sent)
-transit-stands p a link out route r offered sent legs next far on = no_label p.id.0 next legs (transit_leg p a link out route r offered sent) refl (record {
-  role = refl;
-  prev = rw far refl;
-  in_fibre = refl;
-  next_node = rw on refl;
-  out_fibre = refl;
-  one_end = refl;
-  number = away a.lsp.ingress.0 p.id.0 (a.lsp.lsp < next) far;
-  phase = (refl, refl, refl);
-  offered = tt;
-  sent = tt;
-  back_in = refl;
-  back_out = refl;
-})
+  pub transit-stands : (out : LinkSpec) (route : List Step) (offered : List ℕ) →
+      nat_eq m.arrival.egress.0 p.id.0 ≡ false →
+      MayStand p.id.0 next s.legs (transit_leg p m link out route offered)
+  transit-stands out route offered on =
+      no_label p.id.0 next s.legs (transit_leg p m link out route offered) refl (record {
+        role = refl;
+        prev = rw far refl;
+        in_fibre = refl;
+        next_node = rw on refl;
+        out_fibre = refl;
+        one_end = refl;
+        number = away m.arrival.lsp.ingress.0 p.id.0 (m.arrival.lsp.lsp < next) far;
+        phase = (refl, refl, refl);
+        offered = tt;
+        sent = tt;
+        back_in = refl;
+        back_out = refl;
+      })
 
 -- A torn leg
 
-phase_closed : (f : Phase) (g : Leg) → FitsPhase f g → IsTrue (is_some g.next) → FitsPhase (closing_phase f Work) (closed g)
+phase_closed : (f : Phase) (g : Leg) → FitsPhase f g → IsTrue (is_some g.next) →
+    FitsPhase (closing_phase f Work) (closed g)
 phase_closed Asked g fits next = (refl, next)
 phase_closed Held g fits next = absurd fits
 phase_closed Armed g fits next = absurd fits
@@ -136,7 +144,8 @@ phase_closed Live g fits next = (refl, next)
 phase_closed Closing g fits next = (refl, next)
 phase_closed Falling g fits next = absurd fits
 
-pub closed-stands : (n next : ℕ) (legs : List Leg) (g : Leg) → IsTrue (is_some g.next) → LegFacts n next g → MayStand n next legs (closed g)
+pub closed-stands : (n next : ℕ) (legs : List Leg) (g : Leg) → IsTrue (is_some g.next) → LegFacts n next g →
+    MayStand n next legs (closed g)
 closed-stands n next legs g goes_on facts = no_label n next legs (closed g) refl (record {
   role = facts.role;
   prev = facts.prev;
@@ -145,7 +154,8 @@ closed-stands n next legs g goes_on facts = no_label n next legs (closed g) refl
   out_fibre = facts.out_fibre;
   one_end = facts.one_end;
   number = facts.number;
-  phase = subst (λ r. FitsPhase (closing_phase g.phase r) (closed g)) (sym facts.role) (phase_closed g.phase g facts.phase goes_on);
+  phase =
+      subst (λ r. FitsPhase (closing_phase g.phase r) (closed g)) (sym facts.role) (phase_closed g.phase g facts.phase goes_on);
   offered = tt;
   sent = facts.sent;
   back_in = facts.back_in;
@@ -180,7 +190,9 @@ is_some-of : {X : Type 0} (o : Option X) (x : X) → o ≡ Some x → is_some o 
 is_some-of o x e = ap is_some e
 
 -- the labels as they should be, in any leg that is otherwise this one
-pub connected-facts : (n next : ℕ) (g : Leg) (label : Option ℕ) (x : ℕ) → LegFacts n next g → is_some label ≡ is_some g.in_fibre → is_some g.next ≡ true → IfSome label (λ y. IsTrue (has g.offered y)) → has g.sent x ≡ true →
+pub connected-facts : (n next : ℕ) (g : Leg) (label : Option ℕ) (x : ℕ) → LegFacts n next g →
+    is_some label ≡ is_some g.in_fibre → is_some g.next ≡ true → IfSome label (λ y. IsTrue (has g.offered y)) →
+    has g.sent x ≡ true →
     LegFacts n next (connected g label x)
 connected-facts n next g label x facts fits goes_on offered sent = record {
   role = facts.role;
@@ -197,16 +209,19 @@ connected-facts n next g label x facts fits goes_on offered sent = record {
   back_out = facts.back_out;
 }
 
-pub connected-stands : (p : Place) (next : ℕ) (legs : List Leg) (g : Leg) (h : Neighbour) (x y : ℕ) → LegFacts p.id.0 next g → g.in_fibre ≡ Some h.fibre → is_some g.next ≡ true → has g.sent x ≡ true →
+pub connected-stands : (p : Place) (next : ℕ) (legs : List Leg) (g : Leg) (h : Neighbour) (x y : ℕ) →
+    LegFacts p.id.0 next g → g.in_fibre ≡ Some h.fibre → is_some g.next ≡ true → has g.sent x ≡ true →
     has (meet g.offered (usable p legs h.fibre)) y ≡ true → MayStand p.id.0 next legs (connected g (Some y) x)
 connected-stands p next legs g h x y facts fibre goes_on sent looked = record {
-  facts = connected-facts p.id.0 next g (Some y) x facts (sym (is_some-of g.in_fibre h.fibre fibre)) goes_on (has-left g.offered (usable p legs h.fibre) y looked) sent;
+  facts =
+      connected-facts p.id.0 next g (Some y) x facts (sym (is_some-of g.in_fibre h.fibre fibre)) goes_on (has-left g.offered (usable p legs h.fibre) y looked) sent;
   free = λ f z taken.
       let on : h.fibre ≡ f = some h.fibre f (sym fibre ∙ taken.fibre) in
       let label : y ≡ z = some y z taken.label in
       subst (λ w. is_free legs f w ≡ true) label (subst (λ w. is_free legs w y ≡ true) on (usable-free p legs h.fibre y (has-right g.offered (usable p legs h.fibre) y looked)));
 }
 
-pub ingress-stands : (n next : ℕ) (legs : List Leg) (g : Leg) (x : ℕ) → LegFacts n next g → g.in_fibre ≡ None → is_some g.next ≡ true → has g.sent x ≡ true → MayStand n next legs (connected g None x)
+pub ingress-stands : (n next : ℕ) (legs : List Leg) (g : Leg) (x : ℕ) → LegFacts n next g → g.in_fibre ≡ None →
+    is_some g.next ≡ true → has g.sent x ≡ true → MayStand n next legs (connected g None x)
 ingress-stands n next legs g x facts none goes_on sent =
     no_label n next legs (connected g None x) refl (connected-facts n next g None x facts (sym (ap is_some none)) goes_on tt sent)

@@ -1,5 +1,5 @@
 -- The facts of a node after a rule changed one of its legs.
-use Rattle.std.proofs.Common.{◌≡◌, ℕ, true, false, nat_eq, List, [], ◌∷◌, subst, arith}
+use Rattle.std.proofs.Common.{◌≡◌, ℕ, true, false, nat_eq, List, [], subst, arith}
 use Rattle.std.specs.Prelude.{Some, None, IfSome}
 use Rattle.ason_base.specs.declared.ids.Lsp.{Lsp}
 use Rattle.ason_base.specs.declared.calls.Phase.{Phase}
@@ -9,11 +9,9 @@ use Rattle.ason_base.specs.declared.calls.CallState.{CallState}
 use Rattle.ason_base.specs.declared.calls.CallState.TheVariants.{Asking, Bare, Pairing, Guarded, Turning, Turned, Stuck, Blocked}
 use Rattle.ason_base.specs.declared.tables.CallRec.{CallRec}
 use Rattle.ason_base.specs.declared.tables.Leg.{Leg}
-use Rattle.mesh_rules.specs.declared.changes.LegChange.TheVariants as leg
 use Rattle.mesh_rules.specs.Legs.{find_leg, is_closing, with_leg, without_leg, leg_of}
 use Rattle.mesh_rules.specs.State.{NodeState}
-use Rattle.mesh_rules.specs.MessageRules.{stands}
-use Rattle.mesh_rules.specs.Changes.{changed}
+use Rattle.mesh_rules.specs.Changes.{puts, removes, changed}
 use Rattle.mesh_laws.specs.CallLaw.{IsNamed, fits, phase_of}
 use Rattle.mesh_laws.proofs.nodes.Facts.{CallFacts, NodeFacts}
 use Rattle.mesh_laws.proofs.nodes.LegList.{find-with_leg, find-without_leg}
@@ -92,16 +90,16 @@ unnamed-torn n next legs calls l g here torn part k c found names =
 -- One leg changes, and no call, whatever is sent
 
 -- away from its ingress a leg comes or changes
-pub keeps-leg : (n : ℕ) (s : NodeState) (g : Leg) → nat_eq g.lsp.ingress.0 n ≡ false → MayStand n s.lsp s.legs g → NodeFacts n s → NodeFacts n (changed s (stands g []))
+pub keeps-leg : (n : ℕ) (s : NodeState) (g : Leg) → nat_eq g.lsp.ingress.0 n ≡ false → MayStand n s.lsp s.legs g → NodeFacts n s → NodeFacts n (changed s (puts g []))
 keeps-leg n s g away may facts =
-    node_facts n (changed s (stands g []))
+    node_facts n (changed s (puts g []))
     (part-with_leg n s.lsp s.lsp g s.legs (omega arith) (leg_part n s facts) may)
     (unnamed-part n s.lsp g.lsp (Some g) s.legs (with_leg g s.legs) s.calls (find-with_leg g s.legs) (unnamed-away n s.lsp s.legs s.calls g.lsp away (call_part n s facts))
     (λ h is here stands. let same : nat_eq g.lsp.ingress.0 n ≡ true = grind arith in cc (away, same)) (call_part n s facts))
 
 -- a leg without a call goes
-pub keeps-gone : (n : ℕ) (s : NodeState) (l : Lsp) → Unnamed s.calls l → NodeFacts n s → NodeFacts n (changed s (record { legs = leg.Goes l ∷ []; calls = []; numbers = None; sent = [] }))
+pub keeps-gone : (n : ℕ) (s : NodeState) (l : Lsp) → Unnamed s.calls l → NodeFacts n s → NodeFacts n (changed s (removes l []))
 keeps-gone n s l unnamed facts =
-    node_facts n (changed s (record { legs = leg.Goes l ∷ []; calls = []; numbers = None; sent = [] }))
+    node_facts n (changed s (removes l []))
     (part-without_leg n s.lsp l s.legs (leg_part n s facts))
     (unnamed-part n s.lsp l None s.legs (without_leg l s.legs) s.calls (find-without_leg l s.legs) unnamed (λ h is here stands. cc is) (call_part n s facts))

@@ -1,19 +1,17 @@
 -- A Path keeps the facts of a node.
-use Rattle.std.proofs.Common.{◌≡◌, ℕ, true, false, not, nat_eq, List, [], ◌∷◌, length, refl, arith}
-use Rattle.std.specs.Prelude.{◌||◌, ◌&&◌, nat_le, Option, Some, None}
+use Rattle.std.proofs.Common.{◌≡◌, ℕ, Bool, true, false, cond, not, nat_eq, List, [], ◌∷◌, refl, arith}
+use Rattle.std.specs.Prelude.{◌&&◌, Option, Some, None}
 use Rattle.ason_base.specs.Labels.{least}
+use Rattle.ason_base.specs.declared.codes.ErrCode.{ErrCode}
 use Rattle.ason_base.specs.declared.steps.Step.{Step}
 use Rattle.ason_base.specs.declared.network.LinkSpec.{LinkSpec}
-use Rattle.ason_base.specs.declared.messages.PathRole.{PathRole}
-use Rattle.ason_base.specs.declared.messages.PathRole.TheVariants.{Work, Back}
 use Rattle.ason_base.specs.declared.tables.Leg.{Leg}
-use Rattle.mesh_rules.specs.declared.arrivals.Arrival.{Arrival}
 use Rattle.mesh_rules.specs.Changes.{Answer, changed}
 use Rattle.mesh_rules.specs.Sites.{Place, own_link, leads}
 use Rattle.mesh_rules.specs.State.{NodeState}
-use Rattle.mesh_rules.specs.Paths.{egress_leg, transit_leg, at_egress, set_on, in_transit, offered_labels, on_path}
-use Rattle.mesh_rules.specs.MessageRules.{over_link, along, with_room, new_path}
-use Rattle.mesh_laws.proofs.nodes.Cases.{if_cases, both_right, neither_left, not-true}
+use Rattle.mesh_rules.specs.Paths.{PathRequest, Check, is_for_work, leads_on, first_failure, checks, offered_labels, egress_leg, transit_leg}
+use Rattle.mesh_rules.specs.Paths.{at_egress, in_transit, admitted, judged, first_path, path_with}
+use Rattle.mesh_laws.proofs.nodes.Cases.{if_cases, both_left, both_right, not-true}
 use Rattle.mesh_laws.proofs.nodes.Facts.{NodeFacts}
 use Rattle.mesh_laws.proofs.nodes.NewLegs.{least-has, egress-stands, transit-stands}
 use Rattle.mesh_laws.proofs.nodes.Parts.{keeps-leg}
@@ -22,48 +20,65 @@ use Rattle.mesh_laws.proofs.nodes.Parts.{keeps-leg}
 abbrev pub Keeps : Place → NodeState → Answer → Type 0
 Keeps p s a = NodeFacts p.id.0 (changed s a)
 
-keeps-at_egress : (p : Place) (s : NodeState) (a : Arrival) (link : LinkSpec) (r : PathRole) (set : List ℕ) (o : Option ℕ) → nat_eq a.lsp.ingress.0 p.id.0 ≡ false → nat_eq p.id.0 a.egress.0 ≡ true → least (offered_labels p s.legs link set) ≡ o → NodeFacts p.id.0 s →
-    Keeps p s (at_egress p a link r (offered_labels p s.legs link set) o)
-keeps-at_egress p s a link r set None far here is facts = facts
-keeps-at_egress p s a link r set (Some x) far here is facts =
-    let last : nat_eq a.egress.0 p.id.0 ≡ true = grind arith in
-    keeps-leg p.id.0 s (egress_leg p a link r (offered_labels p s.legs link set) x) far
-    (egress-stands p a link r s.legs set x s.lsp far last (least-has (offered_labels p s.legs link set) x is)) facts
+-- Where no check fails
 
-keeps-in_transit : (p : Place) (s : NodeState) (a : Arrival) (link out : LinkSpec) (route : List Step) (r : PathRole) (offered : List ℕ) (o : Option ℕ) → nat_eq a.lsp.ingress.0 p.id.0 ≡ false → nat_eq a.egress.0 p.id.0 ≡ false → NodeFacts p.id.0 s →
-    Keeps p s (in_transit p a link out route r offered o)
-keeps-in_transit p s a link out route r offered None far on facts = facts
-keeps-in_transit p s a link out route r offered (Some x) far on facts =
-    keeps-leg p.id.0 s (transit_leg p a link out route r offered (set_on p out offered)) far (transit-stands p a link out route r offered (set_on p out offered) s.legs s.lsp far on) facts
+abbrev pub NoneFails : List Check → Type 0
+NoneFails [] = Unit {0}
+NoneFails (c ∷ cs) = (c.fails ≡ false) × NoneFails cs
 
-keeps-over_link : (p : Place) (s : NodeState) (a : Arrival) (link : LinkSpec) (route : List Step) (r : PathRole) (offered : List ℕ) (o : Option LinkSpec) → nat_eq a.lsp.ingress.0 p.id.0 ≡ false → nat_eq a.egress.0 p.id.0 ≡ false → NodeFacts p.id.0 s →
-    Keeps p s (over_link p a link route r offered o)
-keeps-over_link p s a link route r offered None far on facts = facts
-keeps-over_link p s a link route r offered (Some out) far on facts = keeps-in_transit p s a link out route r offered (least offered) far on facts
+pub none_fails : (cs : List Check) → first_failure cs ≡ None → NoneFails cs
+none_fails [] none = tt
+none_fails (c ∷ cs) none = go c.fails refl none (none_fails cs)
+  where
+    go : (b : Bool) → c.fails ≡ b → cond b (Some c.code) (first_failure cs) ≡ None →
+        (first_failure cs ≡ None → NoneFails cs) →
+        NoneFails (c ∷ cs)
+    go true is none others = absurd cc
+    go false is none others = (is, others none)
 
-keeps-along : (p : Place) (s : NodeState) (a : Arrival) (link : LinkSpec) (r : PathRole) (set : List ℕ) (route : List Step) → nat_eq a.lsp.ingress.0 p.id.0 ≡ false → NodeFacts p.id.0 s →
-    Keeps p s (along p a link r (offered_labels p s.legs link set) route)
-keeps-along p s a link r set [] far facts =
-    if_cases (Keeps p s) (nat_eq p.id.0 a.egress.0) _ _ (λ e. keeps-at_egress p s a link r set (least (offered_labels p s.legs link set)) far e refl facts) (λ e. facts)
-keeps-along p s a link r set (hop ∷ route) far facts =
-    if_cases (Keeps p s) (nat_eq p.id.0 a.egress.0 || (not (nat_eq hop.node.0 p.id.0) || nat_eq hop.link.0 a.link.0)) _ _ (λ e. facts)
-    (λ e.
-    let away : nat_eq p.id.0 a.egress.0 ≡ false = neither_left _ _ e in
-    let on : nat_eq a.egress.0 p.id.0 ≡ false = grind arith in
-    keeps-over_link p s a link route r (offered_labels p s.legs link set) (own_link p hop.link) far on facts)
+not-false : (b : Bool) → not b ≡ false → b ≡ true
+not-false true e = refl
+not-false false e = cc
 
-keeps-with_room : (p : Place) (s : NodeState) (a : Arrival) (route : List Step) (set : List ℕ) (r : PathRole) (link : LinkSpec) → nat_eq a.lsp.ingress.0 p.id.0 ≡ false → NodeFacts p.id.0 s → Keeps p s (with_room p s.legs a route set r link)
-keeps-with_room p s a route set r link far facts =
-    if_cases (Keeps p s) (nat_le 4096 (length s.legs)) _ _ (λ e. facts) (λ e. keeps-along p s a link r set route far facts)
+module _ (p : Place) (s : NodeState) (m : PathRequest) (facts : NodeFacts p.id.0 s) where
+  module _ (link : LinkSpec) (far : nat_eq m.arrival.lsp.ingress.0 p.id.0 ≡ false) where
+    keeps-at_egress : (o : Option ℕ) → nat_eq p.id.0 m.arrival.egress.0 ≡ true → least (offered_labels p s m link) ≡ o →
+        Keeps p s (at_egress p m link (offered_labels p s m link) o)
+    keeps-at_egress None here is = facts
+    keeps-at_egress (Some x) here is =
+        let last : nat_eq m.arrival.egress.0 p.id.0 ≡ true = grind arith in
+        keeps-leg p.id.0 s (egress_leg p m link (offered_labels p s m link) x) far
+        (egress-stands p s m link s.lsp far x last (least-has (offered_labels p s m link) x is)) facts
 
-keeps-new_path : (p : Place) (s : NodeState) (a : Arrival) (route : List Step) (set : List ℕ) (r : PathRole) (o : Option LinkSpec) → NodeFacts p.id.0 s → Keeps p s (new_path p s.legs a route set r o)
-keeps-new_path p s a route set r None facts = facts
-keeps-new_path p s a route set r (Some link) facts =
-    if_cases (Keeps p s) (leads (Some link) a.from p.id && not (nat_eq a.lsp.ingress.0 p.id.0)) _ _
-    (λ e. keeps-with_room p s a route set r link (not-true _ (both_right (leads (Some link) a.from p.id) _ e)) facts)
-    (λ e. facts)
+    keeps-in_transit : (route : List Step) (offered : List ℕ) (o : Option LinkSpec) →
+        nat_eq m.arrival.egress.0 p.id.0 ≡ false →
+        Keeps p s (in_transit p m link route offered o)
+    keeps-in_transit route offered None on = facts
+    keeps-in_transit route offered (Some out) on =
+        keeps-leg p.id.0 s (transit_leg p m link out route offered) far (transit-stands p s m link s.lsp far out route offered on) facts
 
-pub keeps-on_path : (p : Place) (s : NodeState) (a : Arrival) (route : List Step) (set : List ℕ) (r : PathRole) (o : Option Leg) → NodeFacts p.id.0 s → Keeps p s (on_path p s.legs a route set r o)
-keeps-on_path p s a route set (Back active work primary) o facts = facts
-keeps-on_path p s a route set (Work guard) (Some g) facts = facts
-keeps-on_path p s a route set (Work guard) None facts = keeps-new_path p s a route set (Work guard) (own_link p a.link) facts
+    keeps-admitted : (route : List Step) → leads_on p m.arrival route ≡ true →
+        Keeps p s (admitted p m link (offered_labels p s m link) route)
+    keeps-admitted [] on = keeps-at_egress (least (offered_labels p s m link)) on refl
+    keeps-admitted (hop ∷ route) on =
+        let apart : nat_eq p.id.0 m.arrival.egress.0 ≡ false =
+        not-true _ (both_left (not (nat_eq p.id.0 m.arrival.egress.0)) _ on) in
+        let away : nat_eq m.arrival.egress.0 p.id.0 ≡ false = grind arith in
+        keeps-in_transit route (offered_labels p s m link) (own_link p hop.link) away
+
+    keeps-judged : (o : Option ErrCode) → first_failure (checks p s m link) ≡ o → Keeps p s (judged p s m link o)
+    keeps-judged (Some code) is = facts
+    keeps-judged None is = keeps-admitted m.route (not-false _ (none_fails (checks p s m link) is).1.0)
+
+  keeps-first_path : (o : Option LinkSpec) → Keeps p s (first_path p s m o)
+  keeps-first_path None = facts
+  keeps-first_path (Some link) =
+      if_cases (Keeps p s) (is_for_work m.role && (leads (Some link) m.arrival.from p.id && not (nat_eq m.arrival.lsp.ingress.0 p.id.0))) _ _
+      (λ h.
+      let away = both_right (leads (Some link) m.arrival.from p.id) _ (both_right (is_for_work m.role) _ h) in
+      keeps-judged link (not-true (nat_eq m.arrival.lsp.ingress.0 p.id.0) away) (first_failure (checks p s m link)) refl)
+      (λ h. facts)
+
+  pub keeps-on_path : (o : Option Leg) → Keeps p s (path_with p s m o)
+  keeps-on_path None = keeps-first_path (own_link p m.arrival.link)
+  keeps-on_path (Some g) = facts

@@ -1,0 +1,172 @@
+-- No Notify is under way: no rule sends one.
+use Rattle.std.proofs.Common.{◌≡◌, ℕ, Bool, true, false, cond, nat_eq, List, [], ◌∷◌, ◌++◌, drop, refl}
+use Rattle.std.specs.Prelude.{◌&&◌, filter, map, Option, Some, None}
+use Rattle.ason_base.specs.Network.{Network}
+use Rattle.ason_base.specs.declared.ids.Lsp.{Lsp}
+use Rattle.ason_base.specs.declared.ids.NodeId.{NodeId}
+use Rattle.ason_base.specs.declared.steps.Step.{Step}
+use Rattle.ason_base.specs.declared.network.LinkSpec.{LinkSpec}
+use Rattle.ason_base.specs.declared.commands.Command.{Command}
+use Rattle.ason_base.specs.declared.commands.Command.TheVariants.{Setup, Release, Protect, Retry, Revert, Fail, Repair}
+use Rattle.ason_base.specs.declared.commands.DeskItem.{DeskItem}
+use Rattle.ason_base.specs.declared.commands.DeskItem.TheVariants.{Order, Alarm, Clear}
+use Rattle.ason_base.specs.declared.messages.Msg.{Msg}
+use Rattle.ason_base.specs.declared.tables.CallRec.{CallRec}
+use Rattle.ason_base.specs.declared.tables.Leg.{Leg}
+use Rattle.ason_base.specs.declared.tables.Out.{Out}
+use Rattle.mesh_rules.specs.declared.neighbours.Neighbour.{Neighbour}
+use Rattle.mesh_rules.specs.declared.events.MeshEvent.{MeshEvent}
+use Rattle.mesh_rules.specs.declared.events.MeshEvent.TheVariants.{Take, Desk, Tick, Learn, Post}
+use Rattle.mesh_rules.specs.State.{NodeState}
+use Rattle.mesh_rules.specs.Changes.{Answer, nothing}
+use Rattle.mesh_rules.specs.Sites.{Place, site_of}
+use Rattle.mesh_rules.specs.Legs.{following, leg_of}
+use Rattle.mesh_rules.specs.Calls.{find_call}
+use Rattle.mesh_rules.specs.Setups.{SetupRequest, is_spent, is_full, first_link, is_order_here, over_first, new_call, setup_with}
+use Rattle.mesh_rules.specs.Releases.{tear_to, tears, release_with}
+use Rattle.mesh_rules.specs.Orders.{on_order}
+use Rattle.mesh_rules.specs.Machine.{Mesh, start, sent_to}
+use Rattle.mesh_rules.specs.Events.{on_first, on_first_item, posted, step, after}
+use Rattle.mesh_laws.specs.HopLaw.{lsp_of, is_notice, notices_of, notices_between}
+use Rattle.mesh_laws.proofs.nodes.Cases.{if_cases}
+use Rattle.mesh_laws.proofs.hops.Own.{AllSent, own-on_message}
+
+-- none of these messages is a Notify
+abbrev NoNotice : List Msg → Type 0
+NoNotice [] = Unit {0}
+NoNotice (m ∷ ms) = (is_notice m ≡ false) × NoNotice ms
+
+abbrev SendsNoNotice : List Out → Type 0
+SendsNoNotice [] = Unit {0}
+SendsNoNotice (o ∷ outs) = (is_notice o.msg ≡ false) × SendsNoNotice outs
+
+record IsPlain (a : Answer) : Type 0 where
+  sent : SendsNoNotice a.sent
+
+sends-append : (a b : List Out) → SendsNoNotice a → SendsNoNotice b → SendsNoNotice (a ++ b)
+sends-append [] b h k = k
+sends-append (o ∷ a) b h k = (h.0, sends-append a b h.1 k)
+
+-- Rules
+
+sent-plain : (l : Lsp) (outs : List Out) → AllSent l outs → SendsNoNotice outs
+sent-plain l [] own = tt
+sent-plain l (o ∷ outs) own = (own.1, sent-plain l outs own.2)
+
+first-plain : (p : Place) (s : NodeState) (u : NodeId) (ms : List Msg) → IsPlain (on_first p s u ms)
+first-plain p s u [] = record { sent = tt }
+first-plain p s u (m ∷ ms) = record { sent = sent-plain (lsp_of m) _ (own-on_message p s u m).sent }
+
+over-plain : (p : Place) (s : NodeState) (w : SetupRequest) (route : List Step) (o : Option LinkSpec) →
+    IsPlain (over_first p s w route o)
+over-plain p s w route None = record { sent = tt }
+over-plain p s w route (Some out) =
+    if_cases IsPlain (is_spent s) _ _ (λ h. record { sent = tt }) (λ h.
+    if_cases IsPlain (is_full s) _ _ (λ f. record { sent = tt }) (λ f. record { sent = (refl, tt) }))
+
+via-plain : (p : Place) (s : NodeState) (w : SetupRequest) (via : Option (List Step)) → IsPlain (new_call p s w via)
+via-plain p s w None = record { sent = tt }
+via-plain p s w (Some route) = over-plain p s w route (first_link p route)
+
+setup-plain : (p : Place) (s : NodeState) (w : SetupRequest) (c : Option CallRec) → IsPlain (setup_with p s w c)
+setup-plain p s w (Some c) = record { sent = tt }
+setup-plain p s w None =
+    if_cases IsPlain (is_order_here p w) _ _ (λ h. via-plain p s w w.via) (λ h. record { sent = tt })
+
+tears-plain : (o : Option Leg) → SendsNoNotice (tears o).sent
+tears-plain None = tt
+tears-plain (Some g) = to_next (following g)
+  where
+    to_next : (o : Option Neighbour) → SendsNoNotice (tear_to g o)
+    to_next None = tt
+    to_next (Some h) = (refl, tt)
+
+release-plain : (p : Place) (s : NodeState) (from : NodeId) (c : Option CallRec) → IsPlain (release_with p s from c)
+release-plain p s from None = record { sent = tt }
+release-plain p s from (Some c) =
+    if_cases IsPlain (nat_eq from.0 p.id.0) _ _
+    (λ h. record {
+      sent = sends-append (tears (leg_of c.work s.legs)).sent _ (tears-plain (leg_of c.work s.legs))
+          (sends-append (tears (leg_of c.back s.legs)).sent [] (tears-plain (leg_of c.back s.legs)) tt);
+    })
+    (λ h. record { sent = tt })
+
+order-plain : (p : Place) (s : NodeState) (c : Command) → IsPlain (on_order p s c)
+order-plain p s (Setup n from to protected both via backup) =
+    setup-plain p s
+    (record { call = n; from = from; egress = to; protected = protected; both = both; via = via; backup = backup })
+    (find_call n s.calls)
+order-plain p s (Release n from) = release-plain p s from (find_call n s.calls)
+order-plain p s (Protect n from) = record { sent = tt }
+order-plain p s (Retry n from) = record { sent = tt }
+order-plain p s (Revert n from) = record { sent = tt }
+order-plain p s (Fail g) = record { sent = tt }
+order-plain p s (Repair g) = record { sent = tt }
+
+item-plain : (p : Place) (s : NodeState) (items : List DeskItem) → IsPlain (on_first_item p s items)
+item-plain p s [] = record { sent = tt }
+item-plain p s (Order c ∷ items) = order-plain p s c
+item-plain p s (Alarm f ∷ items) = record { sent = tt }
+item-plain p s (Clear f ∷ items) = record { sent = tt }
+
+-- Steps
+
+none-append : (xs ys : List Msg) → NoNotice xs → NoNotice ys → NoNotice (xs ++ ys)
+none-append [] ys h k = k
+none-append (m ∷ xs) ys h k = (h.0, none-append xs ys h.1 k)
+
+none-drop : (ms : List Msg) → NoNotice ms → NoNotice (drop 1 ms)
+none-drop [] h = tt
+none-drop (m ∷ ms) h = h.1
+
+none-sent : (d : ℕ) (outs : List Out) → SendsNoNotice outs → NoNotice (sent_to d outs)
+none-sent d [] h = tt
+none-sent d (o ∷ outs) h =
+    elim (nat_eq o.to.0 d) as (λ c. NoNotice (map (λ o. o.msg) (cond c (o ∷ filter (λ o. nat_eq o.to.0 d) outs) (filter (λ o. nat_eq o.to.0 d) outs)))) [
+      | true ↦ (h.0, none-sent d outs h.1)
+      | false ↦ none-sent d outs h.1
+    ]
+
+committed : (ms : List Msg) (d : ℕ) (a : Answer) (b : Bool) → NoNotice ms → IsPlain a →
+    NoNotice (cond b (ms ++ sent_to d a.sent) ms)
+committed ms d a true h plain = none-append ms (sent_to d a.sent) h (none-sent d a.sent plain.sent)
+committed ms d a false h plain = h
+
+without : (ms : List Msg) (b : Bool) → NoNotice ms → NoNotice (cond b (drop 1 ms) ms)
+without ms true h = none-drop ms h
+without ms false h = h
+
+abbrev NoNotices : Mesh → Type 0
+NoNotices s = (u d : ℕ) → NoNotice (s.mail u d)
+
+posted-quiet : (s : Mesh) (c : Command) → NoNotices s → NoNotices (posted s c)
+posted-quiet s (Setup k from to protected both via backup) h = h
+posted-quiet s (Release k from) h = h
+posted-quiet s (Protect k from) h = h
+posted-quiet s (Retry k from) h = h
+posted-quiet s (Revert k from) h = h
+posted-quiet s (Fail g) h = h
+posted-quiet s (Repair g) h = h
+
+step-quiet : (t : Network) (s : Mesh) (e : MeshEvent) → NoNotices s → NoNotices (step t s e)
+step-quiet t s (Take d u) h = λ a b.
+    committed _ b (on_first (site_of t d) (s.nodes d.0) u (s.mail u.0 d.0)) (nat_eq a d.0)
+    (without (s.mail a b) (nat_eq a u.0 && nat_eq b d.0) (h a b)) (first-plain (site_of t d) (s.nodes d.0) u (s.mail u.0 d.0))
+step-quiet t s (Desk n) h = λ a b.
+    committed (s.mail a b) b (on_first_item (site_of t n) (s.nodes n.0) (s.desks n.0)) (nat_eq a n.0) (h a b)
+    (item-plain (site_of t n) (s.nodes n.0) (s.desks n.0))
+step-quiet t s (Tick n) h = λ a b. committed (s.mail a b) b nothing (nat_eq a n.0) (h a b) (record { sent = tt })
+step-quiet t s (Learn n k) h = h
+step-quiet t s (Post c) h = posted-quiet s c h
+
+run-quiet : (t : Network) (s : Mesh) (events : List MeshEvent) → NoNotices s → NoNotices (after t s events)
+run-quiet t s [] h = h
+run-quiet t s (e ∷ es) h = run-quiet t (step t s e) es (step-quiet t s e h)
+
+none-of : (l : Lsp) (ms : List Msg) → NoNotice ms → notices_of l ms ≡ []
+none-of l [] h = refl
+none-of l (m ∷ ms) h = rw h.0 (none-of l ms h.1)
+
+pub no_notices : (t : Network) (events : List MeshEvent) (l : Lsp) (a b : NodeId) →
+    notices_between (after t start events) l a b ≡ []
+no_notices t events l a b = none-of l _ (run-quiet t start events (λ u d. tt) a.0 b.0)

@@ -1,0 +1,429 @@
+-- What is said of a hop beside its row: labels, sets and routes; and what each small change of a hop leaves of it.
+-- u is the leg at the upstream node, d the one at the downstream node.
+use Rattle.std.proofs.Common.{◌≡◌, ℕ, suc, Bool, true, false, List, [], ◌∷◌, ◌++◌, drop, refl, inl, inr}
+use Rattle.std.specs.Prelude.{◌⊎◌, map, Option, Some, None}
+use Rattle.ason_base.specs.Labels.{has}
+use Rattle.ason_base.specs.declared.calls.Phase.TheVariants.{Asked}
+use Rattle.ason_base.specs.declared.calls.Role.{Role}
+use Rattle.ason_base.specs.declared.calls.Role.TheVariants as role
+use Rattle.ason_base.specs.declared.messages.PathRole.{PathRole}
+use Rattle.ason_base.specs.declared.messages.PathRole.TheVariants.{Work, Back}
+use Rattle.ason_base.specs.declared.messages.Msg.{Msg}
+use Rattle.ason_base.specs.declared.messages.Msg.TheVariants.{Path, Resv, PathTear, PathErr, Notify}
+use Rattle.ason_base.specs.declared.steps.Step.{Step}
+use Rattle.ason_base.specs.declared.tables.Leg.{Leg}
+use Rattle.mesh_laws.specs.HopShapes.{LegKind, NoLeg, AskedLeg, HasLetGo, MsgKind, Tear, leg_kind, msg_kind, path_kind}
+use Rattle.mesh_laws.proofs.hops.Plans.{Plan, link_at}
+use Rattle.mesh_laws.proofs.hops.Rows.{is_reserved, let_go_free, let_go_not_asked}
+
+-- What an LSP is for: it carries a call, or it guards the working LSP of this number, which has this whole route.
+pub data Purpose : Type 0 where
+  Carries : Purpose
+  Guards : ℕ → List Step → Purpose
+
+abbrev pub role_of : Purpose → Role
+role_of Carries = role.Work
+role_of (Guards work route) = role.Back
+
+-- the role that a Path or a leg tells is this purpose's
+abbrev pub Tells : Purpose → PathRole → Type 0
+Tells Carries (Work guard) = Unit {0}
+Tells Carries (Back active work primary) = ⊥
+Tells (Guards w route) (Work guard) = ⊥
+Tells (Guards w route) (Back active work primary) = (work ≡ w) × (primary ≡ route)
+
+-- Messages
+
+abbrev pub Each : (Msg → Type 0) → List Msg → Type 0
+Each Q [] = Unit {0}
+Each Q (m ∷ ms) = Q m × Each Q ms
+
+each-append : (Q : Msg → Type 0) (xs ys : List Msg) → Each Q xs → Each Q ys → Each Q (xs ++ ys)
+each-append Q [] ys h k = k
+each-append Q (x ∷ xs) ys h k = (h.0, each-append Q xs ys h.1 k)
+
+each-map : (P Q : Msg → Type 0) (xs : List Msg) → ((m : Msg) → P m → Q m) → Each P xs → Each Q xs
+each-map P Q [] f h = tt
+each-map P Q (x ∷ xs) f h = (f x h.0, each-map P Q xs f h.1)
+
+each-any : (Q : Msg → Type 0) (xs : List Msg) → ((m : Msg) → Q m) → Each Q xs
+each-any Q [] f = tt
+each-any Q (x ∷ xs) f = (f x, each-any Q xs f)
+
+-- what a message down the hop has
+abbrev pub DownFits : Purpose → Plan → ℕ → Msg → Type 0
+DownFits q p i (Path l e k route set up r) =
+    (e ≡ p.egress) × (k ≡ link_at p i) × (route ≡ drop (suc i) p.route) × Tells q r
+DownFits q p i (Resv l e k x) = Unit {0}
+DownFits q p i (PathTear l e k) = k ≡ link_at p i
+DownFits q p i (PathErr l e at gone code) = Unit {0}
+DownFits q p i (Notify l e at k code) = Unit {0}
+
+-- and up
+abbrev pub UpFits : Plan → ℕ → Msg → Type 0
+UpFits p i (Path l e k route set up r) = Unit {0}
+UpFits p i (Resv l e k x) = k ≡ link_at p i
+UpFits p i (PathTear l e k) = Unit {0}
+UpFits p i (PathErr l e at gone code) = Unit {0}
+UpFits p i (Notify l e at k code) = Unit {0}
+
+abbrev pub is_path : Msg → Bool
+is_path (Path l e k route set up r) = true
+is_path (Resv l e k x) = false
+is_path (PathTear l e k) = false
+is_path (PathErr l e at gone code) = false
+is_path (Notify l e at k code) = false
+
+abbrev pub has_path : List Msg → Bool
+has_path [] = false
+has_path (Path l e k route set up r ∷ ms) = true
+has_path (Resv l e k x ∷ ms) = has_path ms
+has_path (PathTear l e k ∷ ms) = has_path ms
+has_path (PathErr l e at gone code ∷ ms) = has_path ms
+has_path (Notify l e at k code ∷ ms) = has_path ms
+
+-- Labels over a hop
+
+abbrev pub out_label_of : Option Leg → Option ℕ
+out_label_of None = None
+out_label_of (Some g) = g.out_label
+
+abbrev pub in_label_of : Option Leg → Option ℕ
+in_label_of None = None
+in_label_of (Some g) = g.in_label
+
+abbrev pub LabelsMeet : Option ℕ → Option ℕ → Type 0
+LabelsMeet None y = Unit {0}
+LabelsMeet (Some x) None = Unit {0}
+LabelsMeet (Some x) (Some y) = x ≡ y
+
+-- the label is in the set that was sent on
+abbrev pub SentOn : Option Leg → ℕ → Type 0
+SentOn None x = Unit {0}
+SentOn (Some g) x = has g.sent x ≡ true
+
+-- while d is Asked, what it was offered was sent on
+abbrev pub OfferSent : Option Leg → Option Leg → Type 0
+OfferSent None d = Unit {0}
+OfferSent (Some g) None = Unit {0}
+OfferSent (Some g) (Some h) = h.phase ≡ Asked → (x : ℕ) → has h.offered x ≡ true → has g.sent x ≡ true
+
+abbrev pub HasSet : List ℕ → Msg → Type 0
+HasSet sent (Path l e k route set up r) = set ≡ sent
+HasSet sent (Resv l e k x) = Unit {0}
+HasSet sent (PathTear l e k) = Unit {0}
+HasSet sent (PathErr l e at gone code) = Unit {0}
+HasSet sent (Notify l e at k code) = Unit {0}
+
+-- the set of a Path down is the one that was sent on
+abbrev pub SetSent : Option Leg → Msg → Type 0
+SetSent None m = Unit {0}
+SetSent (Some g) m = HasSet g.sent m
+
+-- the label of a Resv up is d's label in, while d is beyond Asked, and was sent on
+abbrev pub AnswerFits : Option Leg → Option Leg → Msg → Type 0
+AnswerFits u d (Path l e k route set up r) = Unit {0}
+AnswerFits u d (Resv l e k x) = is_reserved (leg_kind d) ≡ true → (in_label_of d ≡ Some x) × SentOn u x
+AnswerFits u d (PathTear l e k) = Unit {0}
+AnswerFits u d (PathErr l e at gone code) = Unit {0}
+AnswerFits u d (Notify l e at k code) = Unit {0}
+
+-- d hasn't answered yet: the first Path is on the hop, or d is Asked
+abbrev pub IsPending : LegKind → List Msg → Type 0
+IsPending d down = ((d ≡ NoLeg) × (has_path down ≡ true)) ⊎ (d ≡ AskedLeg)
+
+pub record Rest (q : Purpose) (p : Plan) (i : ℕ) (u d : Option Leg) (down up : List Msg) : Type 0 where
+  pub going_down : Each (DownFits q p i) down
+  pub going_up : Each (UpFits p i) up
+  pub labels : LabelsMeet (out_label_of u) (in_label_of d)
+  pub answers : Each (AnswerFits u d) up
+  pub offer : OfferSent u d
+  pub sets : Each (SetSent u) down
+  -- until d answers, u has no label out
+  pub bare : IsPending (leg_kind d) down → out_label_of u ≡ None
+
+-- Messages of a kind
+
+pub no_kinds : (ms : List Msg) → map msg_kind ms ≡ [] → ms ≡ []
+no_kinds [] e = refl
+no_kinds (m ∷ ms) e = cc
+
+path_is_no_tear : (r : PathRole) (kinds : List MsgKind) → path_kind r ∷ kinds ≡ Tear ∷ [] → ⊥
+path_is_no_tear (Work guard) kinds e = cc
+path_is_no_tear (Back true work primary) kinds e = cc
+path_is_no_tear (Back false work primary) kinds e = cc
+
+tear_has_no_path : (ms : List Msg) → map msg_kind ms ≡ Tear ∷ [] → has_path ms ≡ false
+tear_has_no_path [] e = refl
+tear_has_no_path (Path l e k route set up r ∷ ms) is = absurd (path_is_no_tear r (map msg_kind ms) is)
+tear_has_no_path (Resv l e k x ∷ ms) is = absurd cc
+tear_has_no_path (PathTear l e k ∷ ms) is =
+    let last = no_kinds ms (let q : map msg_kind ms ≡ [] = cc in q) in rw last refl
+tear_has_no_path (PathErr l e at true code ∷ ms) is = absurd cc
+tear_has_no_path (PathErr l e at false code ∷ ms) is = absurd cc
+tear_has_no_path (Notify l e at k code ∷ ms) is = absurd cc
+
+-- where nothing is on its way, or a PathTear alone, no Path is
+pub no_path_down : (ms : List Msg) → (map msg_kind ms ≡ []) ⊎ (map msg_kind ms ≡ Tear ∷ []) → has_path ms ≡ false
+no_path_down ms (inl none) = rw (no_kinds ms none) refl
+no_path_down ms (inr tear) = tear_has_no_path ms tear
+
+-- Small facts
+
+meets_none : (x : Option ℕ) → LabelsMeet x None
+meets_none None = tt
+meets_none (Some x) = tt
+
+path-later : (m : Msg) (ms : List Msg) → has_path ms ≡ true → has_path (m ∷ ms) ≡ true
+path-later (Path l e k route set up r) ms h = refl
+path-later (Resv l e k x) ms h = h
+path-later (PathTear l e k) ms h = h
+path-later (PathErr l e at gone code) ms h = h
+path-later (Notify l e at k code) ms h = h
+
+pub path-append : (ms : List Msg) (m : Msg) → is_path m ≡ false → has_path (ms ++ m ∷ []) ≡ true → has_path ms ≡ true
+path-append [] (Path l e k route set up r) other h = absurd (cc other)
+path-append [] (Resv l e k x) other h = h
+path-append [] (PathTear l e k) other h = h
+path-append [] (PathErr l e at gone code) other h = h
+path-append [] (Notify l e at k code) other h = h
+path-append (Path l e k route set up r ∷ ms) m other h = refl
+path-append (Resv l e k x ∷ ms) m other h = path-append ms m other h
+path-append (PathTear l e k ∷ ms) m other h = path-append ms m other h
+path-append (PathErr l e at gone code ∷ ms) m other h = path-append ms m other h
+path-append (Notify l e at k code ∷ ms) m other h = path-append ms m other h
+
+not_asked : (k : LegKind) → is_reserved k ≡ true → k ≡ AskedLeg → ⊥
+not_asked k reserved asked = let never : false ≡ true = rw asked at reserved in cc
+
+not_gone : (k : LegKind) → is_reserved k ≡ true → k ≡ NoLeg → ⊥
+not_gone k reserved gone = let never : false ≡ true = rw gone at reserved in cc
+
+never_pending : (k : LegKind) (down : List Msg) → is_reserved k ≡ true → IsPending k down → ⊥
+never_pending k down reserved (inl first) = not_gone k reserved first.0
+never_pending k down reserved (inr asked) = not_asked k reserved asked
+
+offer_idle : (u d : Option Leg) → (leg_kind d ≡ AskedLeg → ⊥) → OfferSent u d
+offer_idle None d never = tt
+offer_idle (Some g) None never = tt
+offer_idle (Some g) (Some h) never = λ asked. absurd (never (rw asked refl))
+
+answer_idle : (u d : Option Leg) (m : Msg) → is_reserved (leg_kind d) ≡ false → AnswerFits u d m
+answer_idle u d (Path l e k route set up r) never = tt
+answer_idle u d (Resv l e k x) never = λ reserved. absurd (cc (never, reserved))
+answer_idle u d (PathTear l e k) never = tt
+answer_idle u d (PathErr l e at gone code) never = tt
+answer_idle u d (Notify l e at k code) never = tt
+
+answer_far : (u : Option Leg) (g g' : Leg) (m : Msg) → g'.in_label ≡ g.in_label →
+    is_reserved (leg_kind (Some g)) ≡ true →
+    AnswerFits u (Some g) m → AnswerFits u (Some g') m
+answer_far u g g' (Path l e k route set up r) is was h = tt
+answer_far u g g' (Resv l e k x) is was h = λ reserved. (rw is (h was).0, (h was).1)
+answer_far u g g' (PathTear l e k) is was h = tt
+answer_far u g g' (PathErr l e at gone code) is was h = tt
+answer_far u g g' (Notify l e at k code) is was h = tt
+
+answer_near : (g g' : Leg) (d : Option Leg) (m : Msg) → g'.sent ≡ g.sent → AnswerFits (Some g) d m →
+    AnswerFits (Some g') d m
+answer_near g g' d (Path l e k route set up r) is h = tt
+answer_near g g' d (Resv l e k x) is h = λ reserved. ((h reserved).0, rw is (h reserved).1)
+answer_near g g' d (PathTear l e k) is h = tt
+answer_near g g' d (PathErr l e at gone code) is h = tt
+answer_near g g' d (Notify l e at k code) is h = tt
+
+answer_gone : (g : Leg) (d : Option Leg) (m : Msg) → AnswerFits (Some g) d m → AnswerFits None d m
+answer_gone g d (Path l e k route set up r) h = tt
+answer_gone g d (Resv l e k x) h = λ reserved. ((h reserved).0, tt)
+answer_gone g d (PathTear l e k) h = tt
+answer_gone g d (PathErr l e at gone code) h = tt
+answer_gone g d (Notify l e at k code) h = tt
+
+offer_near : (g g' : Leg) (d : Option Leg) → g'.sent ≡ g.sent → OfferSent (Some g) d → OfferSent (Some g') d
+offer_near g g' None is h = tt
+offer_near g g' (Some d) is h = λ asked x offered. rw is (h asked x offered)
+
+set_near : (g g' : Leg) (m : Msg) → g'.sent ≡ g.sent → SetSent (Some g) m → SetSent (Some g') m
+set_near g g' (Path l e k route set up r) is h = rw is h
+set_near g g' (Resv l e k x) is h = tt
+set_near g g' (PathTear l e k) is h = tt
+set_near g g' (PathErr l e at gone code) is h = tt
+set_near g g' (Notify l e at k code) is h = tt
+
+-- The eleven changes
+
+module _ (q : Purpose) (p : Plan) (i : ℕ) where
+  -- 1. the first message down is taken
+  pub down_taken : (u d : Option Leg) (m : Msg) (down up : List Msg) → Rest q p i u d (m ∷ down) up →
+      Rest q p i u d down up
+  down_taken u d m down up h = record {
+    going_down = h.going_down.1;
+    going_up = h.going_up;
+    labels = h.labels;
+    answers = h.answers;
+    offer = h.offer;
+    sets = h.sets.1;
+    bare = λ pending. h.bare (elim pending [
+      | inl first ↦ inl (first.0, path-later m down first.1)
+      | inr asked ↦ inr asked
+    ]);
+  }
+
+  -- 2. the first message up is taken
+  pub up_taken : (u d : Option Leg) (m : Msg) (down up : List Msg) → Rest q p i u d down (m ∷ up) →
+      Rest q p i u d down up
+  up_taken u d m down up h = record {
+    going_down = h.going_down;
+    going_up = h.going_up.1;
+    labels = h.labels;
+    answers = h.answers.1;
+    offer = h.offer;
+    sets = h.sets;
+    bare = h.bare;
+  }
+
+  -- 3. a message is sent down
+  pub down_sent : (u d : Option Leg) (m : Msg) (down up : List Msg) → DownFits q p i m → SetSent u m →
+      (leg_kind d ≡ NoLeg → is_path m ≡ false) → Rest q p i u d down up → Rest q p i u d (down ++ m ∷ []) up
+  down_sent u d m down up fits set later h = record {
+    going_down = each-append (DownFits q p i) down _ h.going_down (fits, tt);
+    going_up = h.going_up;
+    labels = h.labels;
+    answers = h.answers;
+    offer = h.offer;
+    sets = each-append (SetSent u) down _ h.sets (set, tt);
+    bare = λ pending. h.bare (elim pending [
+      | inl first ↦ inl (first.0, path-append down m (later first.0) first.1)
+      | inr asked ↦ inr asked
+    ]);
+  }
+
+  -- 4. a message is sent up
+  pub up_sent : (u d : Option Leg) (m : Msg) (down up : List Msg) → UpFits p i m → AnswerFits u d m →
+      Rest q p i u d down up → Rest q p i u d down (up ++ m ∷ [])
+  up_sent u d m down up fits answer h = record {
+    going_down = h.going_down;
+    going_up = each-append (UpFits p i) up _ h.going_up (fits, tt);
+    labels = h.labels;
+    answers = each-append (AnswerFits u d) up _ h.answers (answer, tt);
+    offer = h.offer;
+    sets = h.sets;
+    bare = h.bare;
+  }
+
+  -- 5. d keeps its label: it is Held, Armed or Live before and after
+  pub far_keeps : (u : Option Leg) (g g' : Leg) (down up : List Msg) → g'.in_label ≡ g.in_label →
+      is_reserved (leg_kind (Some g)) ≡ true → is_reserved (leg_kind (Some g')) ≡ true →
+      Rest q p i u (Some g) down up → Rest q p i u (Some g') down up
+  far_keeps u g g' down up is was reserved h = record {
+    going_down = h.going_down;
+    going_up = h.going_up;
+    labels = rw is h.labels;
+    answers = each-map (AnswerFits u (Some g)) (AnswerFits u (Some g')) up (λ m. answer_far u g g' m is was) h.answers;
+    offer = offer_idle u (Some g') (not_asked (leg_kind (Some g')) reserved);
+    sets = h.sets;
+    bare = λ pending. absurd (never_pending (leg_kind (Some g')) down reserved pending);
+  }
+
+  -- 6. d goes or closes, and no Path is on the hop
+  pub far_lets_go : (u d d' : Option Leg) (down up : List Msg) → HasLetGo (role_of q) (leg_kind d') →
+      in_label_of d' ≡ None → has_path down ≡ false → Rest q p i u d down up → Rest q p i u d' down up
+  far_lets_go u d d' down up gone none no_path h = record {
+    going_down = h.going_down;
+    going_up = h.going_up;
+    labels = rw none (meets_none (out_label_of u));
+    answers = each-any (AnswerFits u d') up (λ m. answer_idle u d' m (let_go_free (role_of q) (leg_kind d') gone));
+    offer = offer_idle u d' (let_go_not_asked (role_of q) (leg_kind d') gone);
+    sets = h.sets;
+    bare = λ pending. elim pending [
+      | inl first ↦ (let path = first.1 in absurd (cc (no_path, path)))
+      | inr asked ↦ absurd (let_go_not_asked (role_of q) (leg_kind d') gone asked)
+    ];
+  }
+
+  -- 7. d takes its label, while u has none and no answer is under way
+  pub far_takes : (u d : Option Leg) (g' : Leg) (down : List Msg) → out_label_of u ≡ None →
+      is_reserved (leg_kind (Some g')) ≡ true → Rest q p i u d down [] → Rest q p i u (Some g') down []
+  far_takes u d g' down bare reserved h = record {
+    going_down = h.going_down;
+    going_up = tt;
+    labels = rw bare tt;
+    answers = tt;
+    offer = offer_idle u (Some g') (not_asked (leg_kind (Some g')) reserved);
+    sets = h.sets;
+    bare = λ pending. bare;
+  }
+
+  -- 8. d is Asked, with labels that u sent on
+  pub far_asks : (u d : Option Leg) (g' : Leg) (down : List Msg) → out_label_of u ≡ None → OfferSent u (Some g') →
+      Rest q p i u d down [] → Rest q p i u (Some g') down []
+  far_asks u d g' down bare offer h = record {
+    going_down = h.going_down;
+    going_up = tt;
+    labels = rw bare tt;
+    answers = tt;
+    offer = offer;
+    sets = h.sets;
+    bare = λ pending. bare;
+  }
+
+  -- 9. u keeps its label out and the set that it sent on: it is Armed, Held or Live, or closes
+  pub near_keeps : (g g' : Leg) (d : Option Leg) (down up : List Msg) → g'.out_label ≡ g.out_label → g'.sent ≡ g.sent →
+      Rest q p i (Some g) d down up → Rest q p i (Some g') d down up
+  near_keeps g g' d down up out sent h = record {
+    going_down = h.going_down;
+    going_up = h.going_up;
+    labels = rw out h.labels;
+    answers = each-map (AnswerFits (Some g) d) (AnswerFits (Some g') d) up (λ m. answer_near g g' d m sent) h.answers;
+    offer = offer_near g g' d sent h.offer;
+    sets = each-map (SetSent (Some g)) (SetSent (Some g')) down (λ m. set_near g g' m sent) h.sets;
+    bare = λ pending. still (h.bare pending);
+  }
+    where
+      still : g.out_label ≡ None → g'.out_label ≡ None
+      still none = rw out none
+
+  -- 10. u takes the label of a Resv, which is d's
+  pub near_connects : (g g' : Leg) (d : Option Leg) (down up : List Msg) (x : ℕ) → g'.out_label ≡ Some x →
+      in_label_of d ≡ Some x → g'.sent ≡ g.sent → is_reserved (leg_kind d) ≡ true →
+      Rest q p i (Some g) d down up → Rest q p i (Some g') d down up
+  near_connects g g' d down up x out into sent reserved h = record {
+    going_down = h.going_down;
+    going_up = h.going_up;
+    labels = rw (out, into) refl;
+    answers = each-map (AnswerFits (Some g) d) (AnswerFits (Some g') d) up (λ m. answer_near g g' d m sent) h.answers;
+    offer = offer_near g g' d sent h.offer;
+    sets = each-map (SetSent (Some g)) (SetSent (Some g')) down (λ m. set_near g g' m sent) h.sets;
+    bare = λ pending. absurd (never_pending (leg_kind d) down reserved pending);
+  }
+
+  -- 11. u goes
+  pub near_goes : (g : Leg) (d : Option Leg) (down up : List Msg) → Rest q p i (Some g) d down up →
+      Rest q p i None d down up
+  near_goes g d down up h = record {
+    going_down = h.going_down;
+    going_up = h.going_up;
+    labels = tt;
+    answers = each-map (AnswerFits (Some g) d) (AnswerFits None d) up (answer_gone g d) h.answers;
+    offer = tt;
+    sets = each-any (SetSent None) down (λ m. tt);
+    bare = λ pending. refl;
+  }
+
+-- What was sent on
+
+-- the labels that a Path offers were sent on, so those that are taken of them were
+pub offer_path : (u : Option Leg) (g : Leg) (set : List ℕ) (m : Msg) → ((sent : List ℕ) → HasSet sent m → set ≡ sent) →
+    SetSent u m → ((x : ℕ) → has g.offered x ≡ true → has set x ≡ true) → OfferSent u (Some g)
+offer_path None g set m is sent within = tt
+offer_path (Some v) g set m is sent within = λ asked x offered. rw (← is v.sent sent) (within x offered)
+
+pub sent_path : (u : Option Leg) (set : List ℕ) (x : ℕ) (m : Msg) → ((sent : List ℕ) → HasSet sent m → set ≡ sent) →
+    SetSent u m → has set x ≡ true → SentOn u x
+sent_path None set x m is sent here = tt
+sent_path (Some v) set x m is sent here = rw (← is v.sent sent) here
+
+pub sent_offer : (u : Option Leg) (g : Leg) (x : ℕ) → g.phase ≡ Asked → OfferSent u (Some g) →
+    has g.offered x ≡ true → SentOn u x
+sent_offer None g x asked offer here = tt
+sent_offer (Some v) g x asked offer here = offer asked x here
