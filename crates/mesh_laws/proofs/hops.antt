@@ -26,3 +26,4 @@ pub mod Run
 pub mod Law
 pub mod Laws
 pub mod Safe
+pub mod Joined

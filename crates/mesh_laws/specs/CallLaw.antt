@@ -26,7 +26,8 @@ abbrev pub phase_of : Option Leg → Option Phase
 phase_of None = None
 phase_of (Some g) = Some g.phase
 
--- The state of a call with the phases of its working and its backup leg, none where no leg stands. These are all that the
+-- The state of a call with the phases of its working and its backup leg, none where no leg stands. These are all that
+-- the
 -- rules give: no call has a backup leg, and none is in another state.
 abbrev pub fits : CallState → Option Phase → Option Phase → Bool
 fits Asking (Some Asked) None = true
@@ -58,7 +59,8 @@ wants_call n g = g.lsp.ingress.0 == n && not (is_closing g.phase)
 abbrev pub IsOfOneCall : List CallRec → Leg → Type 0
 IsOfOneCall calls g = count_by (λ c. is_lsp c.work g.lsp) calls ≡ 1
 
--- At one node: the calls stand in order of number, no number twice; each fits its legs; and each leg that begins here and isn't
+-- At one node: the calls stand in order of number, no number twice; each fits its legs; and each leg that begins here
+-- and isn't
 -- torn is of just one call.
 pub record CallsFit (n : ℕ) (s : NodeState) : Type 0 where
   pub rising : AllPairs (λ c d. c.call.0 < d.call.0) s.calls
@@ -67,4 +69,6 @@ pub record CallsFit (n : ℕ) (s : NodeState) : Type 0 where
 
 -- over every network and every run, at each node
 abbrev pub EveryCallFitsItsLegs : Type 0
-EveryCallFitsItsLegs = (t : Network) (events : List MeshEvent) → IsRun t start events → (n : ℕ) → CallsFit n ((after t start events).nodes n)
+EveryCallFitsItsLegs =
+    (t : Network) (events : List MeshEvent) → IsRun t start events → (n : ℕ) →
+    CallsFit n ((after t start events).nodes n)

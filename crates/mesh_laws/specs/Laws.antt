@@ -7,19 +7,23 @@ use Rattle.mesh_rules.specs.Machine.{start}
 use Rattle.mesh_rules.specs.Events.{IsRun, after, route_of}
 use Rattle.mesh_laws.specs.CallLaw.{CallsFit}
 use Rattle.mesh_laws.specs.HopLaw.{HasOneLegEach, LspFits}
-use Rattle.mesh_laws.specs.LabelLaw.{LabelsHaveOneLeg}
+use Rattle.mesh_laws.specs.JoinedLaw.{CallsAreJoined}
+use Rattle.mesh_laws.specs.LabelLaw.{LabelsHaveOneLeg, LiveLegsAreLabelled}
 use Rattle.mesh_laws.specs.SafeLaw.{IsSafe}
 
 -- what holds of the state to which these events lead from the start
 pub record LawsHold (t : Network) (events : List MeshEvent) : Type 0 where
-  -- at each node: no label of a fibre is taken by two legs, and each call fits its legs
+  -- at each node: no label of a fibre is taken by two legs, a Live leg has its labels, and each call fits its legs
   pub labels : (n : ℕ) → LabelsHaveOneLeg ((after t start events).nodes n).legs
+  pub labelled : (n : ℕ) → LiveLegsAreLabelled ((after t start events).nodes n).legs
   pub calls : (n : ℕ) → CallsFit n ((after t start events).nodes n)
   -- each hop of each LSP has a shape of the table
   pub one_leg : HasOneLegEach (after t start events)
   pub hops : (l : Lsp) → LspFits t (after t start events) l (route_of t start events l)
   -- no label of a fibre is cross-connected for two LSPs
   pub safe : IsSafe t (after t start events)
+  -- each call that stands is cross-connected from end to end
+  pub joined : CallsAreJoined t events
 
 -- over every network and every run
 abbrev pub EveryRunKeepsTheLaws : Type 0

@@ -1,6 +1,7 @@
 pub mod CallLaw
 pub mod HopLaw
 pub mod HopShapes
+pub mod JoinedLaw
 pub mod LabelLaw
 pub mod Laws
 pub mod SafeLaw

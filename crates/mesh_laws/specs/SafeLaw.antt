@@ -15,7 +15,8 @@ abbrev pub StandsAt : Mesh → Option NodeId → Leg → Type 0
 StandsAt s None g = ⊥
 StandsAt s (Some n) g = Contains (s.nodes n.0).legs g
 
--- A Live leg has this label of this fibre: as its label in at the node into which the fibre leads, or as its label out at the
+-- A Live leg has this label of this fibre: as its label in at the node into which the fibre leads, or as its label out
+-- at the
 -- node from which it leads.
 pub record Connects (t : Network) (s : Mesh) (f : Fibre) (x : ℕ) (g : Leg) : Type 0 where
   pub live : g.phase ≡ Live

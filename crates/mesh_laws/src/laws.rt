@@ -2,18 +2,23 @@
 
 ghost use Rattle.mesh_laws.specs.CallLaw.{EveryCallFitsItsLegs};
 ghost use Rattle.mesh_laws.specs.HopLaw.{EveryHopHasAShape};
-ghost use Rattle.mesh_laws.specs.LabelLaw.{EveryLabelHasOneLeg};
+ghost use Rattle.mesh_laws.specs.JoinedLaw.{EveryCallIsJoined};
+ghost use Rattle.mesh_laws.specs.LabelLaw.{EveryLabelHasOneLeg, EveryLiveLegIsLabelled};
 ghost use Rattle.mesh_laws.specs.Laws.{EveryRunKeepsTheLaws};
 ghost use Rattle.mesh_laws.specs.SafeLaw.{EveryRunIsSafe};
 
-/// In each state of each run, at each node: at most one leg takes a label of a fibre; and the state of each call that begins
-/// there fits its legs, each of which is of one call. Each hop of each LSP, its legs at both ends with the messages between
-/// them, has a shape of the table. No label of a fibre is cross-connected for two LSPs. The last clause says all of it in one
-/// word, of one state.
+/// In each state of each run, at each node: at most one leg takes a label of a fibre; a Live leg has a label in exactly where
+/// it has a fibre in, and a label out exactly where it has a fibre out; and the state of each call that begins there fits its
+/// legs, each of which is of one call. Each hop of each LSP, its legs at both ends with the messages between them, has a shape
+/// of the table, and each leg names the end of its LSP's route as its egress. No label of a fibre is cross-connected for two
+/// LSPs. Each call that is neither asking nor blocked is joined: its working LSP is Live at each node of its route, each label
+/// out being the next node's label in. The last clause says all of it of one state, in one word.
 pub fn every_run()
     ensures labels { EveryLabelHasOneLeg }
+    ensures labelled { EveryLiveLegIsLabelled }
     ensures calls { EveryCallFitsItsLegs }
     ensures hops { EveryHopHasAShape }
     ensures safe { EveryRunIsSafe }
+    ensures joined { EveryCallIsJoined }
     ensures together { EveryRunKeepsTheLaws }
 {}

@@ -78,16 +78,16 @@ module _ (t : Network) (s : Mesh) (l : Lsp) (steps : List Step) (e : NodeId) (pl
   last_is : node_at (plan steps e) (length steps) ≡ e
   last_is = rw (slice_get_past steps (length steps) (omega arith)) refl
 
-  link_there : (i : ℕ) (hop : Step) (there : slice_get steps i ≡ Some hop) (below : i < length steps) →
+  pub link_there : (i : ℕ) (hop : Step) (there : slice_get steps i ≡ Some hop) (below : i < length steps) →
       find_link t hop.link ≡ Some (pl.route.links i below).link
   link_there i hop there below =
       let is : link_at (plan steps e) i ≡ hop.link = rw there refl in
       ap (find_link t) (sym is) ∙ (pl.route.links i below).found
 
-  node_is : (i : ℕ) (hop : Step) → slice_get steps i ≡ Some hop → node_at (plan steps e) i ≡ hop.node
+  pub node_is : (i : ℕ) (hop : Step) → slice_get steps i ≡ Some hop → node_at (plan steps e) i ≡ hop.node
   node_is i hop there = rw there refl
 
-  far_is : (i : ℕ) (hop : Step) (there : slice_get steps i ≡ Some hop) (below : i < length steps) →
+  pub far_is : (i : ℕ) (hop : Step) (there : slice_get steps i ≡ Some hop) (below : i < length steps) →
       node_at (plan steps e) (suc i) ≡ other_end (pl.route.links i below).link hop.node
   far_is i hop there below =
       sym (pl.route.links i below).far ∙ ap (other_end (pl.route.links i below).link) (node_is i hop there)

@@ -6,15 +6,17 @@ use Rattle.std.proofs.lemmas.List.Elements.{All-from_recursion}
 use Rattle.std.proofs.lemmas.List.Kept.{AllPairs-cons}
 use Rattle.ason_base.specs.declared.ids.Fibre.{Fibre}
 use Rattle.ason_base.specs.declared.ids.Lsp.{Lsp}
+use Rattle.ason_base.specs.declared.calls.Phase.{Phase}
+use Rattle.ason_base.specs.declared.calls.Phase.TheVariants.{Asked, Held, Armed, Live, Closing, Falling}
 use Rattle.ason_base.specs.declared.tables.CallRec.{CallRec}
 use Rattle.ason_base.specs.declared.tables.Leg.{Leg}
 use Rattle.ason_base.specs.Lsps.{is_lsp, lsp_before, same_lsp}
 use Rattle.mesh_rules.specs.Legs.{find_leg, is_closing, takes}
 use Rattle.mesh_rules.specs.State.{NodeState}
-use Rattle.mesh_laws.specs.LabelLaw.{EveryLabelHasOneLeg, LabelsHaveOneLeg, TakeNoLabelTwice}
+use Rattle.mesh_laws.specs.LabelLaw.{EveryLabelHasOneLeg, EveryLiveLegIsLabelled, IsLabelled, LabelsHaveOneLeg, TakeNoLabelTwice}
 use Rattle.mesh_laws.specs.CallLaw.{CallsFit, EveryCallFitsItsLegs, FitsLegs, IsOfOneCall, wants_call}
 use Rattle.mesh_laws.proofs.nodes.Cases.{both_left, both_right, not-true}
-use Rattle.mesh_laws.proofs.nodes.Facts.{CallsRise, LegsRise, NodeFacts}
+use Rattle.mesh_laws.proofs.nodes.Facts.{CallsRise, FitsPhase, LegsRise, NodeFacts}
 use Rattle.mesh_laws.proofs.nodes.LegList.{all-found, before-apart, found-all, found-lsp, same_lsp-refl}
 use Rattle.mesh_laws.proofs.nodes.CallList.{all-calls_found, one-count}
 use Rattle.mesh_laws.proofs.nodes.Runs.{facts-hold}
@@ -45,6 +47,22 @@ pub every_label : EveryLabelHasOneLeg
 every_label t events run n =
     let facts = (facts-hold t events run).node n in
     one_leg-pairs _ facts.legs_rise facts.one_leg
+
+-- a Live leg's labels are those of its fibres
+live-labelled : (f : Phase) (g : Leg) → FitsPhase f g → f ≡ Live → IsLabelled g
+live-labelled Asked g fits e = absurd cc
+live-labelled Held g fits e = absurd fits
+live-labelled Armed g fits e = absurd fits
+live-labelled Live g fits e = record { enters = fits.0; leaves = fits.1 }
+live-labelled Closing g fits e = absurd cc
+live-labelled Falling g fits e = absurd fits
+
+pub every_live : EveryLiveLegIsLabelled
+every_live t events run n =
+    let facts = (facts-hold t events run).node n in
+    All-from_recursion (λ g. g.phase ≡ Live → IsLabelled g) _
+    (all-found (λ g. g.phase ≡ Live → IsLabelled g) _ facts.legs_rise
+    (λ l g found live. live-labelled g.phase g (facts.leg l g found).phase live))
 
 -- Calls
 

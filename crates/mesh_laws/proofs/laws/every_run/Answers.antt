@@ -1,11 +1,15 @@
 use Rattle.mesh_laws.proofs.EveryRun.{laws_hold}
+use Rattle.mesh_laws.proofs.hops.Joined.{every_call_joined}
 use Rattle.mesh_laws.proofs.hops.Laws.{every_hop}
 use Rattle.mesh_laws.proofs.hops.Safe.{every_run_safe}
-use Rattle.mesh_laws.proofs.nodes.Laws.{every_call, every_label}
+use Rattle.mesh_laws.proofs.nodes.Laws.{every_call, every_label, every_live}
 use Rattle.mesh_laws.proofs.laws.every_run.Goals as goal
 
 pub returns-clause-labels : goal.returns-clause-labels
 returns-clause-labels c = every_label
+
+pub returns-clause-labelled : goal.returns-clause-labelled
+returns-clause-labelled c = every_live
 
 pub returns-clause-calls : goal.returns-clause-calls
 returns-clause-calls c = every_call
@@ -15,6 +19,9 @@ returns-clause-hops c = every_hop
 
 pub returns-clause-safe : goal.returns-clause-safe
 returns-clause-safe c = every_run_safe
+
+pub returns-clause-joined : goal.returns-clause-joined
+returns-clause-joined c = every_call_joined
 
 pub returns-clause-together : goal.returns-clause-together
 returns-clause-together c = laws_hold

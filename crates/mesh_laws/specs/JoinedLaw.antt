@@ -1,0 +1,66 @@
+-- In every state of every run a call that stands is cross-connected from its ingress to its egress.
+use Rattle.std.specs.Prelude.{◌≡◌, ℕ, List, Option, Some, None, IsTrue, All, slice_get}
+use Rattle.ason_base.specs.declared.ids.Lsp.{Lsp}
+use Rattle.ason_base.specs.declared.ids.NodeId.{NodeId}
+use Rattle.ason_base.specs.declared.steps.Step.{Step}
+use Rattle.ason_base.specs.declared.network.LinkSpec.{LinkSpec}
+use Rattle.ason_base.specs.declared.calls.CallState.{CallState}
+use Rattle.ason_base.specs.declared.calls.CallState.TheVariants.{Asking, Bare, Pairing, Guarded, Turning, Turned, Stuck, Blocked}
+use Rattle.ason_base.specs.declared.calls.Phase.TheVariants.{Live}
+use Rattle.ason_base.specs.declared.tables.CallRec.{CallRec}
+use Rattle.ason_base.specs.declared.tables.Leg.{Leg}
+use Rattle.ason_base.specs.Network.{Network, find_link, other_end}
+use Rattle.ason_base.specs.Routes.{makes_route}
+use Rattle.mesh_rules.specs.declared.events.MeshEvent.{MeshEvent}
+use Rattle.mesh_rules.specs.Sites.{fibre_in, fibre_out}
+use Rattle.mesh_rules.specs.Machine.{Mesh, start}
+use Rattle.mesh_rules.specs.Events.{IsRun, after, route_of}
+use Rattle.mesh_laws.specs.HopLaw.{leg_at}
+
+-- Over the link of this step the LSP is joined: its legs at both ends are Live, and the label out of the one is the
+-- label in
+-- of the other, on the link's fibre.
+pub record HopIsJoined (t : Network) (s : Mesh) (l : Lsp) (hop : Step) : Type 0 where
+  pub link : LinkSpec
+  pub found : find_link t hop.link ≡ Some link
+  pub from : Leg
+  pub to : Leg
+  pub from_there : leg_at s l hop.node ≡ Some from
+  pub to_there : leg_at s l (other_end link hop.node) ≡ Some to
+  pub from_live : from.phase ≡ Live
+  pub to_live : to.phase ≡ Live
+  pub label : ℕ
+  pub leaves : from.out_label ≡ Some label
+  pub enters : to.in_label ≡ Some label
+  pub out_fibre : from.out_fibre ≡ Some (fibre_out link hop.node)
+  pub in_fibre : to.in_fibre ≡ Some (fibre_in link (other_end link hop.node))
+
+-- The LSP is joined from its ingress to the node e, over the route that its ingress sent it on.
+pub record LspIsJoined (t : Network) (events : List MeshEvent) (e : NodeId) (l : Lsp) : Type 0 where
+  pub route : List Step
+  pub sent : route_of t start events l ≡ Some route
+  pub leads : IsTrue (makes_route t l.ingress e route)
+  pub hops : (i : ℕ) (hop : Step) → slice_get route i ≡ Some hop → HopIsJoined t (after t start events) l hop
+
+abbrev pub IsJoined : Network → List MeshEvent → NodeId → Option Lsp → Type 0
+IsJoined t events e None = ⊥
+IsJoined t events e (Some l) = LspIsJoined t events e l
+
+-- which LSPs of a call are joined, in each of its states
+abbrev pub CallIsJoined : Network → List MeshEvent → CallRec → CallState → Type 0
+CallIsJoined t events c Asking = Unit {0}
+CallIsJoined t events c Bare = IsJoined t events c.egress c.work
+CallIsJoined t events c Pairing = IsJoined t events c.egress c.work
+CallIsJoined t events c Guarded = IsJoined t events c.egress c.work
+CallIsJoined t events c Turning = IsJoined t events c.egress c.work
+CallIsJoined t events c Turned = IsJoined t events c.egress c.work
+CallIsJoined t events c Stuck = IsJoined t events c.egress c.work
+CallIsJoined t events c Blocked = Unit {0}
+
+-- at each node, each call that begins there
+abbrev pub CallsAreJoined : Network → List MeshEvent → Type 0
+CallsAreJoined t events = (n : ℕ) → All (λ c. CallIsJoined t events c c.state) ((after t start events).nodes n).calls
+
+-- over every network and every run
+abbrev pub EveryCallIsJoined : Type 0
+EveryCallIsJoined = (t : Network) (events : List MeshEvent) → IsRun t start events → CallsAreJoined t events
