@@ -3,6 +3,7 @@ pub mod Changed
 pub mod ErrRule
 pub mod Downstream
 pub mod Labels
+pub mod FollowedBy
 pub mod LegChanges
 pub mod Rest
 pub mod Notices

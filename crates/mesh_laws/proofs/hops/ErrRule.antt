@@ -15,7 +15,7 @@ use Rattle.mesh_rules.specs.Changes.{Answer, removes, followed_by, to_node}
 use Rattle.mesh_rules.specs.Legs.{previous}
 use Rattle.mesh_rules.specs.Calls.{call_of}
 use Rattle.mesh_rules.specs.PathErrs.{PathFailure, call_refused, err_passed, removed, path_err_with}
-use Rattle.mesh_rules.specs.Machine.{Mesh}
+use Rattle.mesh_rules.specs.Machine.{Mesh, without_first}
 use Rattle.mesh_laws.specs.HopShapes.{AskedLeg, IsTorn, NothingLeft, leg_kind}
 use Rattle.mesh_laws.specs.HopLaw.{is_message_of, messages_of, leg_at, mail_between}
 use Rattle.mesh_laws.proofs.hops.Plans.{Plan, hops, node_at, IsRoute, same}
@@ -29,6 +29,8 @@ use Rattle.mesh_laws.proofs.hops.LegChanges.{Before, before_or_first, same_of, a
 use Rattle.mesh_laws.proofs.hops.Downstream.{asked_lets_go, torn_goes}
 use Rattle.mesh_laws.proofs.hops.Upstream.{removal_leaves}
 use Rattle.mesh_laws.proofs.hops.Own.{IsQuiet, quiet-refused}
+use Rattle.mesh_laws.proofs.hops.Planned.{chain_same}
+use Rattle.mesh_laws.proofs.hops.Quiet.{quiet_then}
 use Rattle.mesh_laws.proofs.hops.Taken.{KeepsUp, up_hop, up_taken}
 
 module _ (t : Network) (s : Mesh) (l : Lsp) (p : Plan) (i : ℕ) (route : IsRoute t l.ingress p)
@@ -79,11 +81,15 @@ module _ (t : Network) (s : Mesh) (l : Lsp) (p : Plan) (i : ℕ) (route : IsRout
         no_path_down _ (torn_leaves Work _ _ _ _ is_torn (hop_before k q).shape).down_is in cc (none, path))
         refl
 
-    at_ingress : (b : Answer) → IsQuiet b → g.phase ≡ Asked → i ≡ 0 → Keeps (followed_by (removes g.lsp []) b)
-    at_ingress b quiet asked first =
-        up_taken t Carries s l p i route chain below message rest was own (followed_by (removes g.lsp []) b) None [] []
-        (rw (quiet.legs, mine) refl) (rw quiet.sent (sends_none l p i)) tt
+    first_goes : i ≡ 0 → Keeps (removes g.lsp [])
+    first_goes first =
+        up_taken t Carries s l p i route chain below message rest was own (removes g.lsp []) None [] []
+        (rw mine refl) (sends_none l p i) tt
         (λ k q. absurd (omega arith)) leaves (λ k q. absurd (omega arith)) refl
+
+    at_ingress : (b : Answer) → IsQuiet b → i ≡ 0 → Keeps (followed_by (removes g.lsp []) b)
+    at_ingress b quiet first =
+        chain_same t _ _ l p (quiet_then (without_first s (node_at p (suc i)).0 n.0) n (removes g.lsp []) b l quiet) (first_goes first)
 
     -- the PathErr is passed back
     passed : (j : ℕ) → g.phase ≡ Asked → suc j ≡ i → Keeps (removes g.lsp (to_node (node_at p j) message ∷ []))
@@ -105,7 +111,7 @@ module _ (t : Network) (s : Mesh) (l : Lsp) (p : Plan) (i : ℕ) (route : IsRout
     asked_goes asked (inl first) =
         let fits' : LegFits t Carries l p 0 g = rw first at fits in
         rw (previous_none t Carries l p g fits')
-        (at_ingress (call_refused code (call_of g.lsp (s.nodes n.0).calls)) (quiet-refused code (call_of g.lsp (s.nodes n.0).calls)) asked first)
+        (at_ingress (call_refused code (call_of g.lsp (s.nodes n.0).calls)) (quiet-refused code (call_of g.lsp (s.nodes n.0).calls)) first)
     asked_goes asked (inr (j, before)) =
         let fits' : LegFits t Carries l p (suc j) g = rw before fits in
         rw (previous_is t Carries l p j g fits') (passed j asked before)

@@ -36,17 +36,20 @@ pub record SameOf (s s' : Mesh) (l : Lsp) : Type 0 where
   pub mail : (a b : NodeId) → mail_between s' l a b ≡ mail_between s l a b
   pub next : (s.nodes l.ingress.0).lsp ≤ (s'.nodes l.ingress.0).lsp
 
-pub planned_same : (t : Network) (s s' : Mesh) (l : Lsp) (p : Plan) → SameOf s s' l → Planned t s l p → Planned t s' l p
-planned_same t s s' l p same b =
+pub chain_same : (t : Network) (s s' : Mesh) (l : Lsp) (p : Plan) → SameOf s s' l →
+    Chain t Carries l p (leg_at s l) (mail_between s l) → Chain t Carries l p (leg_at s' l) (mail_between s' l)
+chain_same t s s' l p same chain =
     let legs : leg_at s l ≡ leg_at s' l = λ i n. sym (same.legs n) i in
     let mail : mail_between s l ≡ mail_between s' l = λ i x y. sym (same.mail x y) i in
-    record {
-      route = b.route;
-      made = b.made;
-      chain = subst (Chain t Carries l p (leg_at s' l)) mail
-          (subst (λ f. Chain t Carries l p f (mail_between s l)) legs b.chain);
-      number = (let n = b.number in let m = same.next in omega arith);
-    }
+    subst (Chain t Carries l p (leg_at s' l)) mail (subst (λ f. Chain t Carries l p f (mail_between s l)) legs chain)
+
+planned_same : (t : Network) (s s' : Mesh) (l : Lsp) (p : Plan) → SameOf s s' l → Planned t s l p → Planned t s' l p
+planned_same t s s' l p same b = record {
+  route = b.route;
+  made = b.made;
+  chain = chain_same t s s' l p same b.chain;
+  number = (let n = b.number in let m = same.next in omega arith);
+}
 
 pub follows_same : (t : Network) (s s' : Mesh) (l : Lsp) (o : Option (List Step)) → SameOf s s' l → Follows t s l o →
     Follows t s' l o

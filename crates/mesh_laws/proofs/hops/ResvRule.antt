@@ -21,7 +21,7 @@ use Rattle.mesh_rules.specs.Legs.{closed, connected, previous, usable}
 use Rattle.mesh_rules.specs.Calls.{call_of}
 use Rattle.mesh_rules.specs.Resvs.{is_expected, call_connected, label_back, passed_back, answered, resv_with}
 use Rattle.mesh_rules.specs.Messages.{arrival}
-use Rattle.mesh_rules.specs.Machine.{Mesh}
+use Rattle.mesh_rules.specs.Machine.{Mesh, without_first}
 use Rattle.mesh_laws.specs.HopShapes.{LegKind, NoLeg, IsTorn, StillWaits, leg_kind}
 use Rattle.mesh_laws.specs.HopLaw.{is_message_of, messages_of, leg_at, mail_between}
 use Rattle.mesh_laws.proofs.hops.Plans.{Plan, hops, node_at, link_at, fibre_at, IsRoute, same}
@@ -36,6 +36,8 @@ use Rattle.mesh_laws.proofs.hops.LegChanges.{Before, before_or_first, same_of, a
 use Rattle.mesh_laws.proofs.hops.Downstream.{asked_reserved, asked_lets_go}
 use Rattle.mesh_laws.proofs.hops.Upstream.{resv_connects, resv_closes, resv_kept, resv_sent}
 use Rattle.mesh_laws.proofs.hops.Own.{IsQuiet, quiet-connected}
+use Rattle.mesh_laws.proofs.hops.Planned.{chain_same}
+use Rattle.mesh_laws.proofs.hops.Quiet.{quiet_then}
 use Rattle.mesh_laws.proofs.hops.Taken.{KeepsUp, up_hop, up_taken}
 
 module _ (t : Network) (s : Mesh) (l : Lsp) (p : Plan) (i : ℕ) (route : IsRoute t l.ingress p)
@@ -92,15 +94,18 @@ module _ (t : Network) (s : Mesh) (l : Lsp) (p : Plan) (i : ℕ) (route : IsRout
 
     module _ (asked : g.phase ≡ Asked) where
       -- at the ingress, where the call follows
-      at_ingress : (b : Answer) → IsQuiet b → i ≡ 0 → Keeps (followed_by (puts (connected g None x) []) b)
-      at_ingress b quiet first =
+      first_connects : i ≡ 0 → Keeps (puts (connected g None x) [])
+      first_connects first =
           up_taken t Carries s l p i route chain below (Resv l e k x) rest was own
-          (followed_by (puts (connected g None x) []) b) (Some (connected g None x)) [] []
-          (rw (quiet.legs, mine) refl) (rw quiet.sent (sends_none l p i))
-          (connected_fits t l p i g None x fits (rw first refl))
+          (puts (connected g None x) []) (Some (connected g None x)) [] []
+          (rw mine refl) (sends_none l p i) (connected_fits t l p i g None x fits (rw first refl))
           (λ j q. absurd (omega arith))
           (resv_connects Carries p i _ _ _ g l e k x asked hop_of (connected g None x) refl refl refl)
           (λ j q gone. absurd cc) refl
+
+      at_ingress : (b : Answer) → IsQuiet b → i ≡ 0 → Keeps (followed_by (puts (connected g None x) []) b)
+      at_ingress b quiet first =
+          chain_same t _ _ l p (quiet_then (without_first s far.0 n.0) n (puts (connected g None x) []) b l quiet) (first_connects first)
 
       -- elsewhere: no label is left, or one goes back
       closes : (j : ℕ) → suc j ≡ i →
