@@ -1,6 +1,6 @@
 -- What the facts of a node say of the places in its lists: each label has one leg, and the state of each call fits its legs.
-use Rattle.std.proofs.Common.{◌≡◌, ◌<◌, ℕ, true, false, not, nat_eq, List, [], ◌∷◌, refl, sym, subst, ◌∙◌, arith}
-use Rattle.std.specs.Prelude.{Some, IsTrue}
+use Rattle.std.proofs.Common.{◌≡◌, ◌<◌, ℕ, Bool, true, false, not, nat_eq, List, [], ◌∷◌, refl, sym, subst, ◌∙◌, arith}
+use Rattle.std.specs.Prelude.{◌||◌, Some, None, IsTrue}
 use Rattle.std.specs.List.{AllByRecursion, AllPairs}
 use Rattle.std.proofs.lemmas.List.Elements.{All-from_recursion}
 use Rattle.std.proofs.lemmas.List.Kept.{AllPairs-cons}
@@ -14,7 +14,7 @@ use Rattle.ason_base.specs.Lsps.{is_lsp, lsp_before, same_lsp}
 use Rattle.mesh_rules.specs.Legs.{find_leg, is_closing, takes}
 use Rattle.mesh_rules.specs.State.{NodeState}
 use Rattle.mesh_laws.specs.LabelLaw.{EveryLabelHasOneLeg, EveryLiveLegIsLabelled, IsLabelled, LabelsHaveOneLeg, TakeNoLabelTwice}
-use Rattle.mesh_laws.specs.CallLaw.{CallsFit, EveryCallFitsItsLegs, FitsLegs, IsOfOneCall, wants_call}
+use Rattle.mesh_laws.specs.CallLaw.{CallsFit, EveryCallFitsItsLegs, FitsLegs, IsOfOneCall, names, wants_call}
 use Rattle.mesh_laws.proofs.nodes.Cases.{both_left, both_right, not-true}
 use Rattle.mesh_laws.proofs.nodes.Facts.{CallsRise, FitsPhase, LegsRise, NodeFacts}
 use Rattle.mesh_laws.proofs.nodes.LegList.{all-found, before-apart, found-all, found-lsp, same_lsp-refl}
@@ -70,13 +70,26 @@ calls-rise : (calls : List CallRec) → CallsRise calls → AllPairs (λ c d. c.
 calls-rise [] rise = λ i j d less below. absurd (omega arith)
 calls-rise (c ∷ calls) rise = AllPairs-cons (λ c d. c.call.0 < d.call.0) c calls (All-from_recursion (λ d. c.call.0 < d.call.0) calls rise.0) (calls-rise calls rise.1)
 
-one_call : (n : ℕ) (s : NodeState) → NodeFacts n s → (l : Lsp) (g : Leg) → find_leg l s.legs ≡ Some g → IsTrue (wants_call n g) → IsOfOneCall s.calls g
+-- a call without a backup names its working LSP alone
+names-work : (c : CallRec) (l : Lsp) → c.back ≡ None → names c l ≡ true → is_lsp c.work l ≡ true
+names-work c l none named = go (is_lsp c.work l) (rw none at named)
+  where
+    go : (b : Bool) → (b || false) ≡ true → b ≡ true
+    go true e = refl
+    go false e = cc
+
+one_call : (n : ℕ) (s : NodeState) → NodeFacts n s → (l : Lsp) (g : Leg) → find_leg l s.legs ≡ Some g →
+    IsTrue (wants_call n g) → IsOfOneCall s.calls g
 one_call n s facts l g found wants =
     let is : g.lsp ≡ l = found-lsp l s.legs g found in
     let test : nat_eq g.lsp.ingress.0 n ≡ true = both_left _ (not (is_closing g.phase)) wants in
     let here : g.lsp.ingress.0 ≡ n = grind arith in
-    let has = facts.has_call g.lsp g (subst (λ k. find_leg k s.legs ≡ Some g) (sym is) found) here (not-true _ (both_right (nat_eq g.lsp.ingress.0 n) _ wants)) in
-    one-count (λ c. is_lsp c.work g.lsp) s.calls has.call.call has.call facts.calls_rise has.found has.work (λ m d there names. facts.one_call g.lsp m has.call.call d has.call there has.found names has.work)
+    let there : find_leg g.lsp s.legs ≡ Some g = subst (λ k. find_leg k s.legs ≡ Some g) (sym is) found in
+    let stands : is_closing g.phase ≡ false = not-true _ (both_right (nat_eq g.lsp.ingress.0 n) _ wants) in
+    let has = facts.has_call g.lsp g there here stands in
+    one-count (λ c. names c g.lsp) s.calls has.call.call has.call facts.calls_rise has.found (rw has.work refl) (λ m d at_m named.
+    facts.one_call g.lsp m has.call.call d has.call at_m has.found
+    (names-work d g.lsp (facts.call m d at_m).back named) has.work)
 
 pub calls_fit : (n : ℕ) (s : NodeState) → NodeFacts n s → CallsFit n s
 calls_fit n s facts = record {
