@@ -40,7 +40,8 @@ use Rattle.mesh_laws.proofs.hops.Planned.{Planned, Follows, IsUntouched, SameOf,
 use Rattle.mesh_laws.proofs.hops.Quiet.{same_quiet}
 
 -- the chain of an LSP that has sent its first Path and nothing else
-chain_begun : (t : Network) (l : Lsp) (p : Plan) (leg : NodeId → Option Leg) (mail : NodeId → NodeId → List Msg) (g : Leg)
+chain_begun : (t : Network) (l : Lsp) (p : Plan) (leg : NodeId → Option Leg)
+    (mail : NodeId → NodeId → List Msg) (g : Leg)
     (e : NodeId) (k : LinkId) (r : List Step) (set : List ℕ) → IsRoute t l.ingress p →
     leg (node_at p 0) ≡ Some g → LegFits t Carries l p 0 g → g.phase ≡ Asked → g.out_label ≡ None →
     ((n : NodeId) → n.0 ≢ (node_at p 0).0 → leg n ≡ None) →
@@ -56,7 +57,8 @@ chain_begun t l p leg mail g e k r set route here fits asked bare else_none sent
   each = λ n small. at_or_else (λ n. HopAt Carries p leg mail n) n 0
       (λ q. rw (here, no_leg 1 (omega arith) (omega arith), sent, no_up 0 route.long)
       (hop_asks Carries p 0 g l e k r set None (Work false) refl asked bare is_sent down_fits))
-      (λ ne. rw (no_leg n (omega arith) ne, no_leg (suc n) (omega arith) (omega arith), no_down n small ne, no_up n small)
+      (λ ne. rw
+      (no_leg n (omega arith) ne, no_leg (suc n) (omega arith) (omega arith), no_down n small ne, no_up n small)
       (hop_idle Carries p n));
   fresh = λ n small path j after within. record {
     no_leg = no_leg j within (omega arith);
@@ -73,11 +75,13 @@ chain_begun t l p leg mail g e k r set route here fits asked bare else_none sent
 
     no_down : (n : ℕ) → n < hops p → n ≢ 0 → mail (node_at p n) (node_at p (suc n)) ≡ []
     no_down n small ne =
-        else_empty (node_at p n) (node_at p (suc n)) (inl (distinct t l.ingress p route n 0 (omega arith) (omega arith) ne))
+        else_empty (node_at p n) (node_at p (suc n))
+        (inl (distinct t l.ingress p route n 0 (omega arith) (omega arith) ne))
 
     no_up : (n : ℕ) → n < hops p → mail (node_at p (suc n)) (node_at p n) ≡ []
     no_up n small =
-        else_empty (node_at p (suc n)) (node_at p n) (inl (distinct t l.ingress p route (suc n) 0 (omega arith) (omega arith) (omega arith)))
+        else_empty (node_at p (suc n)) (node_at p n)
+        (inl (distinct t l.ingress p route (suc n) 0 (omega arith) (omega arith) (omega arith)))
 
     stands : (n : NodeId) → (n.0 ≡ (node_at p 0).0) ⊎ (n.0 ≢ (node_at p 0).0) → (leg n ≡ None) ⊎ IsPlace p n
     stands n (inl x) = inr (0, (omega arith), x)
@@ -206,7 +210,8 @@ module _ (t : Network) (s : Mesh) (n : NodeId) (w : SetupRequest) (out : LinkSpe
       Stepped t s n (next_lsp (site_of t n) (s.nodes n.0)) None answer
   new_stepped blank = record {
     follows = rw (same n.0, same_lsp-refl (next_lsp (site_of t n) (s.nodes n.0)))
-        (subst (λ h. (e : NodeId) × Planned t (commit s n.0 answer) (next_lsp (site_of t n) (s.nodes n.0)) (plan (h ∷ further) e)) hop_is (w.egress, new_planned blank));
+        (subst (λ h. (e : NodeId) × Planned t (commit s n.0 answer) (next_lsp (site_of t n) (s.nodes n.0))
+        (plan (h ∷ further) e)) hop_is (w.egress, new_planned blank));
   }
 
   other_same : (l : Lsp) → same_lsp (next_lsp (site_of t n) (s.nodes n.0)) l ≡ false → SameOf s (commit s n.0 answer) l
@@ -260,7 +265,8 @@ module _ (t : Network) (s : Mesh) (n : NodeId) (l : Lsp) (o : Option (List Step)
     admitted_stepped out hop further made over =
         if_cases (Stepped t s n l o) (is_spent state) _ _ (λ h. refused_stepped w Spent) (λ h.
         if_cases (Stepped t s n l o) (is_full state) _ _ (λ h. refused_stepped w Full) (λ h.
-        begins_stepped t s n w out hop further (route_made t n w.egress (hop ∷ further) (omega arith) made) made over l o f
+        begins_stepped t s n w out hop further (route_made t n w.egress (hop ∷ further) (omega arith) made) made over
+        l o f
         (same_lsp (next_lsp (site_of t n) (s.nodes n.0)) l) refl))
 
     via_stepped : (via : Option (List Step)) →
@@ -286,7 +292,8 @@ module _ (t : Network) (s : Mesh) (n : NodeId) (l : Lsp) (o : Option (List Step)
     setup_stepped made (Some c) = stepped_nothing
     setup_stepped made None =
         if_cases (Stepped t s n l o) (is_order_here place w) _ _
-        (λ h. via_stepped w.via (λ route e. subst (λ m. makes_route t m w.egress route ≡ true) (here (and_first _ _ h)) (made route e)))
+        (λ h. via_stepped w.via
+        (λ route e. subst (λ m. makes_route t m w.egress route ≡ true) (here (and_first _ _ h)) (made route e)))
         (λ h. stepped_nothing)
       where
         here : nat_eq w.from.0 n.0 ≡ true → w.from ≡ n

@@ -80,7 +80,8 @@ IsPlace p n = (i : ℕ) × (i ≤ hops p) × (n.0 ≡ (node_at p i).0)
 -- the two nodes are neighbours on the route
 abbrev pub OnRoute : Plan → NodeId → NodeId → Type 0
 OnRoute p a b = (i : ℕ) × (i < hops p) ×
-    (((a.0 ≡ (node_at p i).0) × (b.0 ≡ (node_at p (suc i)).0)) ⊎ ((a.0 ≡ (node_at p (suc i)).0) × (b.0 ≡ (node_at p i).0)))
+    (((a.0 ≡ (node_at p i).0) × (b.0 ≡ (node_at p (suc i)).0)) ⊎
+    ((a.0 ≡ (node_at p (suc i)).0) × (b.0 ≡ (node_at p i).0)))
 
 -- nothing of the LSP is at this place and after it
 pub record IsVacant (p : Plan) (leg : NodeId → Option Leg) (mail : NodeId → NodeId → List Msg) (j : ℕ) : Type 0 where

@@ -11,7 +11,8 @@ use Rattle.mesh_laws.proofs.hops.Rest.{Purpose, has_path}
 use Rattle.mesh_laws.proofs.hops.Chain.{Fits, Hop, HopAt, IsPlace, OnRoute, IsFirst, IsVacant, Chain, at_or_else, is_or_not, below_or_not}
 
 -- a step at the node d: its leg is c, and these messages go out; nothing else changes but what goes to d
-pub record Changed (d : NodeId) (c : Option Leg) (sent : NodeId → List Msg) (leg leg' : NodeId → Option Leg) (mail mail' : NodeId → NodeId → List Msg) : Type 0 where
+pub record Changed (d : NodeId) (c : Option Leg) (sent : NodeId → List Msg) (leg leg' : NodeId → Option Leg)
+    (mail mail' : NodeId → NodeId → List Msg) : Type 0 where
   pub here : leg' d ≡ c
   pub there : (n : NodeId) → n.0 ≢ d.0 → leg' n ≡ leg n
   pub sends : (b : NodeId) → mail' d b ≡ mail d b ++ sent b
@@ -36,20 +37,22 @@ pub place_changed : (t : Network) (q : Purpose) (l : Lsp) (from : NodeId) (p : P
     ((k : ℕ) → suc k ≡ j →
     Hop q p k (leg (node_at p k)) c (mail' (node_at p k) (node_at p j)) (mail (node_at p j) (node_at p k) ++ back)) →
     (j < hops p →
-    Hop q p j c (leg (node_at p (suc j))) (mail (node_at p j) (node_at p (suc j)) ++ on) (mail' (node_at p (suc j)) (node_at p j))) →
+    Hop q p j c (leg (node_at p (suc j))) (mail (node_at p j) (node_at p (suc j)) ++ on)
+    (mail' (node_at p (suc j)) (node_at p j))) →
     -- the first Path
     ((k : ℕ) → k < j → IsFirst p leg' mail' k → ⊥) →
     (j < hops p → leg (node_at p (suc j)) ≡ None → has_path (mail (node_at p j) (node_at p (suc j)) ++ on) ≡ true →
     (m : ℕ) → j < m → m ≤ hops p → IsVacant p leg mail m) →
     Chain t q l p leg' mail'
-place_changed t q l from p leg leg' mail mail' j c sent back on route chain within ch sends fits arrives before after quiet vacant = record {
-  fits = λ k small. at_or_else (λ k. Fits t q l p k (leg' (node_at p k))) k j
-      (λ e. rw ch.here fits) (λ ne. rw (leg_is k small ne) (chain.fits k small));
-  legs = λ n. stands n (is_or_not n.0 (node_at p j).0);
-  ways = λ a b. goes a b (is_or_not a.0 (node_at p j).0) (is_or_not b.0 (node_at p j).0);
-  each = λ k small. hop k small (is_or_not k j) (is_or_not (suc k) j);
-  fresh = λ k small first. later k small first (is_or_not k j) (below_or_not k j);
-}
+place_changed t q l from p leg leg' mail mail' j c sent back on route chain within ch sends fits
+    arrives before after quiet vacant = record {
+      fits = λ k small. at_or_else (λ k. Fits t q l p k (leg' (node_at p k))) k j
+          (λ e. rw ch.here fits) (λ ne. rw (leg_is k small ne) (chain.fits k small));
+      legs = λ n. stands n (is_or_not n.0 (node_at p j).0);
+      ways = λ a b. goes a b (is_or_not a.0 (node_at p j).0) (is_or_not b.0 (node_at p j).0);
+      each = λ k small. hop k small (is_or_not k j) (is_or_not (suc k) j);
+      fresh = λ k small first. later k small first (is_or_not k j) (below_or_not k j);
+    }
   where
     leg_is : (k : ℕ) → k ≤ hops p → k ≢ j → leg' (node_at p k) ≡ leg (node_at p k)
     leg_is k small ne = ch.there (node_at p k) (distinct t from p route k j small within ne)
@@ -74,21 +77,25 @@ place_changed t q l from p leg leg' mail mail' j c sent back on route chain with
     down_is : (k : ℕ) → k < hops p → k ≢ j → suc k ≢ j →
         mail' (node_at p k) (node_at p (suc k)) ≡ mail (node_at p k) (node_at p (suc k))
     down_is k small ne ns =
-        ch.keeps (node_at p k) (node_at p (suc k)) (distinct t from p route k j (omega arith) within ne) (distinct t from p route (suc k) j small within ns)
+        ch.keeps (node_at p k) (node_at p (suc k)) (distinct t from p route k j (omega arith) within ne)
+        (distinct t from p route (suc k) j small within ns)
 
     up_is : (k : ℕ) → k < hops p → k ≢ j → suc k ≢ j →
         mail' (node_at p (suc k)) (node_at p k) ≡ mail (node_at p (suc k)) (node_at p k)
     up_is k small ne ns =
-        ch.keeps (node_at p (suc k)) (node_at p k) (distinct t from p route (suc k) j small within ns) (distinct t from p route k j (omega arith) within ne)
+        ch.keeps (node_at p (suc k)) (node_at p k) (distinct t from p route (suc k) j small within ns)
+        (distinct t from p route k j (omega arith) within ne)
 
     hop : (k : ℕ) → k < hops p → (k ≡ j) ⊎ (k ≢ j) → (suc k ≡ j) ⊎ (suc k ≢ j) → HopAt q p leg' mail' k
     hop k small (inl e) _ =
         let small' : j < hops p = omega arith in
-        rw (e, ch.here, leg_is (suc j) small' (omega arith), ch.sends (node_at p (suc j)), sends.to_next small') (after small')
+        rw (e, ch.here, leg_is (suc j) small' (omega arith), ch.sends (node_at p (suc j)), sends.to_next small')
+        (after small')
     hop k small (inr ne) (inl f) =
         rw (leg_is k (omega arith) ne, f, ch.here, ch.sends (node_at p k), sends.to_prev k f) (before k f)
     hop k small (inr ne) (inr nf) =
-        rw (leg_is k (omega arith) ne, leg_is (suc k) small nf, down_is k small ne nf, up_is k small ne nf) (chain.each k small)
+        rw (leg_is k (omega arith) ne, leg_is (suc k) small nf, down_is k small ne nf, up_is k small ne nf)
+        (chain.each k small)
 
     still : (m : ℕ) → j < m → m ≤ hops p → IsVacant p leg mail m → IsVacant p leg' mail' m
     still m beyond small v = record {

@@ -30,7 +30,8 @@ module _ (q : Purpose) (p : Plan) (i : ℕ) (u : Option Leg) where
   -- The first Path is taken
 
   module _ (l : Lsp) (e : NodeId) (k : LinkId) (r : List Step) (set : List ℕ) (label : Option ℕ) (s : PathRole)
-      (rest up : List Msg) (plain : path_kind s ≡ PlainPath) (h : Hop q p i u None (Path l e k r set label s ∷ rest) up) where
+      (rest up : List Msg) (plain : path_kind s ≡ PlainPath)
+      (h : Hop q p i u None (Path l e k r set label s ∷ rest) up) where
     taken : FirstTaken (role_of q) (leg_kind u) (map msg_kind rest) (map msg_kind up)
     taken = first_taken (role_of q) (leg_kind u) (map msg_kind rest) (map msg_kind up) (rw plain at h.shape)
 

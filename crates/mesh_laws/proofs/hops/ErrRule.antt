@@ -56,17 +56,21 @@ module _ (t : Network) (s : Mesh) (l : Lsp) (p : Plan) (i : ℕ) (route : IsRout
       (mail_between s l n (node_at p (suc i))) (message ∷ messages_of l rest)
   hop = up_hop t Carries s l p i route chain below message rest was own
 
-  module _ (removes_it : gone ≡ true) (g : Leg) (here : leg_at s l (node_at p i) ≡ Some g) (fits : LegFits t Carries l p i g) where
+  module _ (removes_it : gone ≡ true) (g : Leg) (here : leg_at s l (node_at p i) ≡ Some g)
+      (fits : LegFits t Carries l p i g) where
     mine : same_lsp g.lsp l ≡ true
     mine = same_of g.lsp l fits.own
 
-    leaves : Hop Carries p i None (leg_at s l (node_at p (suc i))) (mail_between s l n (node_at p (suc i)) ++ []) (messages_of l rest)
+    leaves : Hop Carries p i None (leg_at s l (node_at p (suc i))) (mail_between s l n (node_at p (suc i)) ++ [])
+        (messages_of l rest)
     leaves = removal_leaves Carries p i _ _ _ g l e at code (rw (here, removes_it) at hop)
 
     hop_before : (k : ℕ) → suc k ≡ i →
-        Hop Carries p k (leg_at s l (node_at p k)) (Some g) (mail_between s l (node_at p k) n) (mail_between s l n (node_at p k))
+        Hop Carries p k (leg_at s l (node_at p k)) (Some g) (mail_between s l (node_at p k) n)
+        (mail_between s l n (node_at p k))
     hop_before k q =
-        let before : Hop Carries p k (leg_at s l (node_at p k)) (leg_at s l n) (mail_between s l (node_at p k) n) (mail_between s l n (node_at p k)) =
+        let before : Hop Carries p k (leg_at s l (node_at p k)) (leg_at s l n) (mail_between s l (node_at p k) n)
+        (mail_between s l n (node_at p k)) =
         rw (← q) (chain.each k (omega arith)) in
         rw here at before
 
@@ -89,7 +93,8 @@ module _ (t : Network) (s : Mesh) (l : Lsp) (p : Plan) (i : ℕ) (route : IsRout
 
     at_ingress : (b : Answer) → IsQuiet b → i ≡ 0 → Keeps (followed_by (removes g.lsp []) b)
     at_ingress b quiet first =
-        chain_same t _ _ l p (quiet_then (without_first s (node_at p (suc i)).0 n.0) n (removes g.lsp []) b l quiet) (first_goes first)
+        chain_same t _ _ l p (quiet_then (without_first s (node_at p (suc i)).0 n.0) n (removes g.lsp []) b l quiet)
+        (first_goes first)
 
     -- the PathErr is passed back
     passed : (j : ℕ) → g.phase ≡ Asked → suc j ≡ i → Keeps (removes g.lsp (to_node (node_at p j) message ∷ []))
@@ -99,7 +104,8 @@ module _ (t : Network) (s : Mesh) (l : Lsp) (p : Plan) (i : ℕ) (route : IsRout
         (rw mine refl)
         (subst (λ i. Sends p i (sent_by l (to_node (node_at p j) message ∷ [])) (message ∷ []) []) before
         (sends_back t l l.ingress p route j message (omega arith) own)) tt
-        (λ k q. rw removes_it (asked_lets_go Carries p k _ _ _ g (hop_before k q) None l e at code asked NothingLeft refl))
+        (λ k q. rw removes_it
+        (asked_lets_go Carries p k _ _ _ g (hop_before k q) None l e at code asked NothingLeft refl))
         leaves
         (λ k q _ path.
         let none =
@@ -111,7 +117,8 @@ module _ (t : Network) (s : Mesh) (l : Lsp) (p : Plan) (i : ℕ) (route : IsRout
     asked_goes asked (inl first) =
         let fits' : LegFits t Carries l p 0 g = rw first at fits in
         rw (previous_none t Carries l p g fits')
-        (at_ingress (call_refused code (call_of g.lsp (s.nodes n.0).calls)) (quiet-refused code (call_of g.lsp (s.nodes n.0).calls)) first)
+        (at_ingress (call_refused code (call_of g.lsp (s.nodes n.0).calls))
+        (quiet-refused code (call_of g.lsp (s.nodes n.0).calls)) first)
     asked_goes asked (inr (j, before)) =
         let fits' : LegFits t Carries l p (suc j) g = rw before fits in
         rw (previous_is t Carries l p j g fits') (passed j asked before)
@@ -122,10 +129,12 @@ module _ (t : Network) (s : Mesh) (l : Lsp) (p : Plan) (i : ℕ) (route : IsRout
     goes (inr is_torn) = rw (torn_not_asked Work g.phase is_torn, torn_is_closing Work g.phase is_torn) (torn is_torn)
 
   pub err_keeps : (b : Bool) → gone ≡ b → (o : Option Leg) → leg_at s l (node_at p i) ≡ o →
-      Keeps (path_err_with (s.nodes (node_at p i).0) (node_at p (suc i)) (record { lsp = l; msg = message; removed = b; code = code }) o)
+      Keeps (path_err_with (s.nodes (node_at p i).0) (node_at p (suc i))
+      (record { lsp = l; msg = message; removed = b; code = code }) o)
   err_keeps false q o here = absurd (no_contention_work _ _ _ _ (rw q at hop.shape))
   err_keeps true q None here =
-      absurd (elim (removal_taken Work _ _ _ _ (rw (here, q) at hop.shape)).which [ inl none ↦ cc | inr torn ↦ elim torn [ ] ])
+      absurd (elim (removal_taken Work _ _ _ _ (rw (here, q) at hop.shape)).which
+      [ inl none ↦ cc | inr torn ↦ elim torn [ ] ])
   err_keeps true q (Some g) here =
       let fits : LegFits t Carries l p i g = rw here at (chain.fits i (omega arith)) in
       let which = (removal_taken Work _ _ _ _ (rw (here, q) at hop.shape)).which in

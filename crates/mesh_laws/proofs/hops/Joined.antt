@@ -49,44 +49,47 @@ record LiveHop (s : Mesh) (l : Lsp) (u d : NodeId) : Type 0 where
   leaves : from.out_label ≡ Some label
   enters : to.in_label ≡ Some label
 
-module _ (t : Network) (s : Mesh) (l : Lsp) (p : Plan) (chain : Chain t Carries l p (leg_at s l) (mail_between s l)) where
-  hop_from : (i : ℕ) (g : Leg) → i < hops p → leg_at s l (node_at p i) ≡ Some g → Hop Carries p i (Some g)
-      (leg_at s l (node_at p (suc i))) (mail_between s l (node_at p i) (node_at p (suc i))) (mail_between s l (node_at p (suc i)) (node_at p i))
-  hop_from i g below here = rw here at (chain.each i below)
+module _ (t : Network) (s : Mesh) (l : Lsp) (p : Plan) (chain : Chain t Carries l p (leg_at s l) (mail_between s l))
+  where
+    hop_from : (i : ℕ) (g : Leg) → i < hops p → leg_at s l (node_at p i) ≡ Some g → Hop Carries p i (Some g)
+        (leg_at s l (node_at p (suc i))) (mail_between s l (node_at p i) (node_at p (suc i)))
+        (mail_between s l (node_at p (suc i)) (node_at p i))
+    hop_from i g below here = rw here at (chain.each i below)
 
-  next_live : (i : ℕ) → i < hops p → LiveAt s l (node_at p i) → LiveAt s l (node_at p (suc i))
-  next_live i below (g, here, live) =
-      live_leg (leg_at s l (node_at p (suc i))) (live_upstream Work _ _ _ (rw live at (hop_from i g below here).shape)).live
+    next_live : (i : ℕ) → i < hops p → LiveAt s l (node_at p i) → LiveAt s l (node_at p (suc i))
+    next_live i below (g, here, live) =
+        live_leg (leg_at s l (node_at p (suc i)))
+        (live_upstream Work _ _ _ (rw live at (hop_from i g below here).shape)).live
 
-  -- a working LSP that is Live at its ingress is so all along
-  all_live : LiveAt s l (node_at p 0) → (i : ℕ) → i ≤ hops p → LiveAt s l (node_at p i)
-  all_live first zero small = first
-  all_live first (suc i) small = next_live i (omega arith) (all_live first i (omega arith))
+    -- a working LSP that is Live at its ingress is so all along
+    all_live : LiveAt s l (node_at p 0) → (i : ℕ) → i ≤ hops p → LiveAt s l (node_at p i)
+    all_live first zero small = first
+    all_live first (suc i) small = next_live i (omega arith) (all_live first i (omega arith))
 
-  live_hop : (i : ℕ) → i < hops p → LiveAt s l (node_at p i) → LiveHop s l (node_at p i) (node_at p (suc i))
-  live_hop i below (g, here, live) = go (next_live i below (g, here, live))
-    where
-      go : LiveAt s l (node_at p (suc i)) → LiveHop s l (node_at p i) (node_at p (suc i))
-      go (h, there, live') =
-          let near : LegFits t Carries l p i g = rw here at (chain.fits i (omega arith)) in
-          let far : LegFits t Carries l p (suc i) h = rw there at (chain.fits (suc i) below) in
-          let leaves : HasIn i g.in_label × HasOut i (hops p) g.out_label = rw live at near.phase in
-          let enters : HasIn (suc i) h.in_label × HasOut (suc i) (hops p) h.out_label = rw live' at far.phase in
-          let out = leaves.1 below in
-          let into = enters.0 in
-          let meets : LabelsMeet g.out_label h.in_label = rw there at (hop_from i g below here).rest.labels in
-          let one : out.0 ≡ into.0 = rw (out.1, into.1) at meets in
-          record {
-            from = g;
-            to = h;
-            from_there = here;
-            to_there = there;
-            from_live = live;
-            to_live = live';
-            label = out.0;
-            leaves = out.1;
-            enters = into.1 ∙ ap Some (sym one);
-          }
+    live_hop : (i : ℕ) → i < hops p → LiveAt s l (node_at p i) → LiveHop s l (node_at p i) (node_at p (suc i))
+    live_hop i below (g, here, live) = go (next_live i below (g, here, live))
+      where
+        go : LiveAt s l (node_at p (suc i)) → LiveHop s l (node_at p i) (node_at p (suc i))
+        go (h, there, live') =
+            let near : LegFits t Carries l p i g = rw here at (chain.fits i (omega arith)) in
+            let far : LegFits t Carries l p (suc i) h = rw there at (chain.fits (suc i) below) in
+            let leaves : HasIn i g.in_label × HasOut i (hops p) g.out_label = rw live at near.phase in
+            let enters : HasIn (suc i) h.in_label × HasOut (suc i) (hops p) h.out_label = rw live' at far.phase in
+            let out = leaves.1 below in
+            let into = enters.0 in
+            let meets : LabelsMeet g.out_label h.in_label = rw there at (hop_from i g below here).rest.labels in
+            let one : out.0 ≡ into.0 = rw (out.1, into.1) at meets in
+            record {
+              from = g;
+              to = h;
+              from_there = here;
+              to_there = there;
+              from_live = live;
+              to_live = live';
+              label = out.0;
+              leaves = out.1;
+              enters = into.1 ∙ ap Some (sym one);
+            }
 
 -- the working leg of a bare call is Live
 bare_live : (f : Phase) (back : Option Phase) → fits Bare (Some f) back ≡ true → f ≡ Live
@@ -148,7 +151,8 @@ module _ (t : Network) (events : List MeshEvent) (run : IsRun t start events) wh
             let far = far_is t s l steps e pl i hop there below ∙ ap (λ k. other_end k hop.node) same_link in
             let at_places : LiveHop s l (node_at p i) (node_at p (suc i)) =
             live_hop t s l p pl.chain i below (all_live t s l p pl.chain first i (omega arith)) in
-            hop_joined l hop st (subst (λ n. LiveHop s l n (other_end st.link hop.node)) (node_is t s l steps e pl i hop there)
+            hop_joined l hop st (subst (λ n. LiveHop s l n (other_end st.link hop.node))
+            (node_is t s l steps e pl i hop there)
             (subst (λ n. LiveHop s l (node_at p i) n) far at_places))
 
   -- the working LSP of a bare call
@@ -162,7 +166,8 @@ module _ (t : Network) (events : List MeshEvent) (run : IsRun t start events) wh
       let here : leg_at s l l.ingress ≡ Some g =
       subst (λ m. find_leg l (s.nodes m).legs ≡ Some named.leg.0) (sym named.ingress) named.leg.1 in
       let live : g.phase ≡ Live = bare_live g.phase _ (rw named.leg.1 at state) in
-      subst (λ e. LspIsJoined t events e l) named.leg.3 (lsp_joined l g here live (route_of t start events l) refl (follows t events run l))
+      subst (λ e. LspIsJoined t events e l) named.leg.3
+      (lsp_joined l g here live (route_of t start events l) refl (follows t events run l))
 
   call_joined : (c : CallRec) (n : ℕ) (state : CallState) →
       IfSome c.work (IsNamed n (s.nodes n).lsp (s.nodes n).legs Work c.egress) →

@@ -46,7 +46,8 @@ each_label g h (PathTear l e k ∷ ms) reserved all = each_label g h ms reserved
 each_label g h (PathErr l e at gone code ∷ ms) reserved all = each_label g h ms reserved all.1
 each_label g h (Notify l e at k code ∷ ms) reserved all = each_label g h ms reserved all.1
 
-module _ (t : Network) (s : Mesh) (l : Lsp) (p : Plan) (route : IsRoute t l.ingress p) (chain : Chain t Carries l p (leg_at s l) (mail_between s l)) where
+module _ (t : Network) (s : Mesh) (l : Lsp) (p : Plan) (route : IsRoute t l.ingress p)
+    (chain : Chain t Carries l p (leg_at s l) (mail_between s l)) where
   fits_at : (i : ℕ) (g : Leg) → i ≤ hops p → leg_at s l (node_at p i) ≡ Some g → LegFits t Carries l p i g
   fits_at i g small here = rw here at (chain.fits i small)
 
@@ -59,10 +60,12 @@ module _ (t : Network) (s : Mesh) (l : Lsp) (p : Plan) (route : IsRoute t l.ingr
       record {
         shape = hop.shape;
         onward =
-            λ e. distinct t l.ingress p route (suc i) 0 (omega arith) (omega arith) (omega arith) (e ∙ ap (λ n. n.0) (sym route.first));
+            λ e. distinct t l.ingress p route (suc i) 0 (omega arith) (omega arith) (omega arith)
+            (e ∙ ap (λ n. n.0) (sym route.first));
         fibre = (joined t (link_at p i) (node_at p i) (node_at p (suc i)) far over).fibre;
         out_fibre =
-            λ g here. (fits_at i g (omega arith) here).out_fibre ∙ rw (lt_true below) (ap Some (sym (fibre_out_is t p i far over)));
+            λ g here. (fits_at i g (omega arith) here).out_fibre ∙ rw (lt_true below)
+            (ap Some (sym (fibre_out_is t p i far over)));
         in_fibre = λ h here. (fits_at (suc i) h below here).in_fibre ∙ ap Some (sym (fibre_in_is t p i over));
         labels = λ g h x y near there e f. meets g.out_label h.in_label x y (rw (near, there) at hop.rest.labels) e f;
         answers = λ g h near there beyond. each_label g h (mail_between s l (node_at p (suc i)) (node_at p i))
@@ -99,7 +102,8 @@ module _ (t : Network) (s : Mesh) (l : Lsp) (steps : List Step) (e : NodeId) (pl
         link = (pl.route.links i below).link;
         found = link_there i hop there below;
         fits = subst (λ n. HopFits s Work l (pl.route.links i below).link hop.node n) (far_is i hop there below)
-            (subst (λ n. HopFits s Work l (pl.route.links i below).link n (node_at (plan steps e) (suc i))) (node_is i hop there)
+            (subst (λ n. HopFits s Work l (pl.route.links i below).link n (node_at (plan steps e) (suc i)))
+            (node_is i hop there)
             (hop_fits t s l (plan steps e) pl.route pl.chain i below));
       }
 

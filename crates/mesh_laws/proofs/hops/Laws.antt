@@ -97,7 +97,9 @@ follows t events run l =
 pub found_of : (legs : List Leg) → LegsRise legs → (g : Leg) → Contains legs g → find_leg g.lsp legs ≡ Some g
 found_of legs rise g has =
     All-contains (λ h. find_leg h.lsp legs ≡ Some h) legs g
-    (All-from_recursion (λ h. find_leg h.lsp legs ≡ Some h) legs (all-found (λ h. find_leg h.lsp legs ≡ Some h) legs rise (λ l h found. subst (λ k. find_leg k legs ≡ Some h) (sym (found-lsp l legs h found)) found)))
+    (All-from_recursion (λ h. find_leg h.lsp legs ≡ Some h) legs
+    (all-found (λ h. find_leg h.lsp legs ≡ Some h) legs rise
+    (λ l h found. subst (λ k. find_leg k legs ≡ Some h) (sym (found-lsp l legs h found)) found)))
     has
 
 pub one_leg_each : (t : Network) (s : Mesh) → MeshFacts t s → HasOneLegEach s

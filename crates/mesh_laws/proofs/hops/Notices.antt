@@ -122,7 +122,9 @@ none-drop (m ∷ ms) h = h.1
 none-sent : (d : ℕ) (outs : List Out) → SendsNoNotice outs → NoNotice (sent_to d outs)
 none-sent d [] h = tt
 none-sent d (o ∷ outs) h =
-    elim (nat_eq o.to.0 d) as (λ c. NoNotice (map (λ o. o.msg) (cond c (o ∷ filter (λ o. nat_eq o.to.0 d) outs) (filter (λ o. nat_eq o.to.0 d) outs)))) [
+    elim (nat_eq o.to.0 d) as
+    (λ c. NoNotice (map (λ o. o.msg)
+    (cond c (o ∷ filter (λ o. nat_eq o.to.0 d) outs) (filter (λ o. nat_eq o.to.0 d) outs)))) [
       | true ↦ (h.0, none-sent d outs h.1)
       | false ↦ none-sent d outs h.1
     ]
@@ -151,7 +153,8 @@ posted-quiet s (Repair g) h = h
 step-quiet : (t : Network) (s : Mesh) (e : MeshEvent) → NoNotices s → NoNotices (step t s e)
 step-quiet t s (Take d u) h = λ a b.
     committed _ b (on_first (site_of t d) (s.nodes d.0) u (s.mail u.0 d.0)) (nat_eq a d.0)
-    (without (s.mail a b) (nat_eq a u.0 && nat_eq b d.0) (h a b)) (first-plain (site_of t d) (s.nodes d.0) u (s.mail u.0 d.0))
+    (without (s.mail a b) (nat_eq a u.0 && nat_eq b d.0) (h a b))
+    (first-plain (site_of t d) (s.nodes d.0) u (s.mail u.0 d.0))
 step-quiet t s (Desk n) h = λ a b.
     committed (s.mail a b) b (on_first_item (site_of t n) (s.nodes n.0) (s.desks n.0)) (nat_eq a n.0) (h a b)
     (item-plain (site_of t n) (s.nodes n.0) (s.desks n.0))

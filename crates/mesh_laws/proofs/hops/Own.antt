@@ -119,7 +119,8 @@ other_ingress : (l k : Lsp) (n : ℕ) → nat_eq l.ingress.0 n ≡ false → nat
 other_ingress l k n e f = grind arith
 
 -- the Path that goes on is of another node's LSP
-own-in_transit : (p : Place) (m : PathRequest) (link : LinkSpec) (route : List Step) (offered : List ℕ) (o : Option LinkSpec) →
+own-in_transit : (p : Place) (m : PathRequest) (link : LinkSpec) (route : List Step) (offered : List ℕ)
+    (o : Option LinkSpec) →
     nat_eq m.arrival.lsp.ingress.0 p.id.0 ≡ false → Own p.id.0 m.arrival.lsp (in_transit p m link route offered o)
 own-in_transit p m link route offered None away = own-nothing p.id.0 m.arrival.lsp
 own-in_transit p m link route offered (Some out) away = record {
@@ -226,7 +227,8 @@ own-on_path_err : (n : ℕ) (l : Lsp) (s : NodeState) (u : NodeId) (e : PathFail
     PassesOn l e.msg → Own n l (path_err_with s u e o)
 own-on_path_err n l s u e None is on = own-nothing n l
 own-on_path_err n l s u e (Some g) is on =
-    if_cases (Own n l) (e.removed && is_node (following g) u) _ _ (λ h. own-removed n l s g e is on) (λ h. own-nothing n l)
+    if_cases (Own n l) (e.removed && is_node (following g) u) _ _ (λ h. own-removed n l s g e is on)
+    (λ h. own-nothing n l)
 
 -- PathTear
 
@@ -281,7 +283,9 @@ sent-other l k b [] own apart = refl
 sent-other l k b (o ∷ outs) own apart =
     let more = sent-other l k b outs own.2 apart in
     let never : is_message_of k o.msg ≡ false = rw (own.1, own.0) apart in
-    elim (nat_eq o.to.0 b.0) as (λ c. messages_of k (map (λ o. o.msg) (cond c (o ∷ filter (λ o. nat_eq o.to.0 b.0) outs) (filter (λ o. nat_eq o.to.0 b.0) outs))) ≡ []) [
+    elim (nat_eq o.to.0 b.0) as
+    (λ c. messages_of k (map (λ o. o.msg)
+    (cond c (o ∷ filter (λ o. nat_eq o.to.0 b.0) outs) (filter (λ o. nat_eq o.to.0 b.0) outs))) ≡ []) [
       | true ↦ rw never more
       | false ↦ more
     ]
@@ -299,7 +303,10 @@ leg-other s n m l k a of apart = go (nat_eq m.0 n.0) refl
 pub mail-other : (s : Mesh) (n a b : NodeId) (l k : Lsp) (r : Answer) → IsOf l r → same_lsp l k ≡ false →
     mail_between (commit s n.0 r) k a b ≡ mail_between s k a b
 mail-other s n a b l k r of apart =
-    elim (nat_eq a.0 n.0) as (λ t. messages_of k (cond t (s.mail a.0 b.0 ++ sent_to b.0 r.sent) (s.mail a.0 b.0)) ≡ mail_between s k a b) [
-      | true ↦ filter-append _ (s.mail a.0 b.0) (sent_to b.0 r.sent) ∙ rw (sent-other l k b r.sent of.sent apart, append-nil) refl
+    elim (nat_eq a.0 n.0) as
+    (λ t. messages_of k (cond t (s.mail a.0 b.0 ++ sent_to b.0 r.sent) (s.mail a.0 b.0)) ≡ mail_between s k a b) [
+      | true ↦
+          filter-append _ (s.mail a.0 b.0) (sent_to b.0 r.sent) ∙
+          rw (sent-other l k b r.sent of.sent apart, append-nil) refl
       | false ↦ refl
     ]

@@ -155,7 +155,8 @@ module _ (t : Network) (s : Mesh) (l : Lsp) (p : Plan) (i : ℕ) (route : IsRout
         down_taken t Carries s l p i route chain below message rest was own
         (sends (error_to u place asks.arrival code ∷ [])) None (PathErr l e d true code ∷ []) []
         none (sends_back t l l.ingress p route i (PathErr l e d true code) below own) tt
-        (path_refused Carries p i (leg_at s l u) l e k r set label (Work guard) (messages_of l rest) _ refl hop_here e d code)
+        (path_refused Carries p i (leg_at s l u) l e k r set label (Work guard) (messages_of l rest) _ refl
+        hop_here e d code)
         (λ small. rw (
           append-nil,
           (beyond (suc i) (omega arith) (omega arith)).no_down small,
@@ -223,7 +224,8 @@ module _ (t : Network) (s : Mesh) (l : Lsp) (p : Plan) (i : ℕ) (route : IsRout
           route = is;
           phase = (small, refl, refl);
         })
-        (path_passed Carries p i (leg_at s l u) l e k r set label (Work guard) (messages_of l rest) _ refl hop_here g refl within)
+        (path_passed Carries p i (leg_at s l u) l e k r set label (Work guard) (messages_of l rest) _ refl
+        hop_here g refl within)
         (λ _. rw (
           (beyond (suc i) (omega arith) (omega arith)).no_down small,
           (beyond (suc i) (omega arith) (omega arith)).no_up small,
@@ -241,7 +243,8 @@ module _ (t : Network) (s : Mesh) (l : Lsp) (p : Plan) (i : ℕ) (route : IsRout
         let st = drop-some (suc i) p.route hop further (sym what.2 ∙ is) in
         let first : hop.link ≡ link_at p (suc i) = rw st.first refl in
         let n = route.links (suc i) st.below in
-        rw (first, own_near t (link_at p (suc i)) (node_at p (suc i)) (node_at p (suc (suc i))) n) (goes_on n further st.below st.further)
+        rw (first, own_near t (link_at p (suc i)) (node_at p (suc i)) (node_at p (suc (suc i))) n)
+        (goes_on n further st.below st.further)
 
     judges : (o : Option ErrCode) → first_failure (checks place state asks over.link) ≡ o →
         Keeps (judged place state asks over.link o)

@@ -55,7 +55,8 @@ module _ (t : Network) (s : Mesh) where
       let mine : same_lsp g.lsp l ≡ true = same_of g.lsp l fits.own in
       let tear : Msg = PathTear g.lsp g.egress (link_at p 0) in
       let a : Answer = tears (Some g) in
-      place_changed t Carries l l.ingress p (leg_at s l) _ (mail_between s l) _ 0 (Some (closed g)) (sent_by l a.sent) [] (tear ∷ [])
+      place_changed t Carries l l.ingress p (leg_at s l) _ (mail_between s l) _ 0 (Some (closed g)) (sent_by l a.sent)
+      [] (tear ∷ [])
       pl.route pl.chain (omega arith)
       (changed-here s (node_at p 0) l a (Some (closed g)) (rw mine refl))
       (rw (following_is t Carries l p 0 g fits small) (sends_on t l l.ingress p pl.route 0 tear small mine))

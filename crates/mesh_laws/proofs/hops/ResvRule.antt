@@ -79,16 +79,19 @@ module _ (t : Network) (s : Mesh) (l : Lsp) (p : Plan) (i : ℕ) (route : IsRout
     hop_of = rw here at hop
 
     hop_before : (j : ℕ) → suc j ≡ i →
-        Hop Carries p j (leg_at s l (node_at p j)) (Some g) (mail_between s l (node_at p j) n) (mail_between s l n (node_at p j))
+        Hop Carries p j (leg_at s l (node_at p j)) (Some g) (mail_between s l (node_at p j) n)
+        (mail_between s l n (node_at p j))
     hop_before j q =
-        let before : Hop Carries p j (leg_at s l (node_at p j)) (leg_at s l n) (mail_between s l (node_at p j) n) (mail_between s l n (node_at p j)) =
+        let before : Hop Carries p j (leg_at s l (node_at p j)) (leg_at s l n) (mail_between s l (node_at p j) n)
+        (mail_between s l n (node_at p j)) =
         rw (← q) (chain.each j (omega arith)) in
         rw here at before
 
     -- a torn leg changes nothing
     kept : IsTorn Work (leg_kind (Some g)) → Keeps nothing
     kept torn =
-        up_taken t Carries s l p i route chain below (Resv l e k x) rest was own nothing (Some g) [] [] here (sends_none l p i) fits
+        up_taken t Carries s l p i route chain below (Resv l e k x) rest was own nothing (Some g) [] [] here
+        (sends_none l p i) fits
         (λ j q. rw append-nil (hop_before j q))
         (resv_kept Carries p i _ _ _ g l e k x torn hop_of) (λ j q gone. absurd cc) refl
 
@@ -105,7 +108,8 @@ module _ (t : Network) (s : Mesh) (l : Lsp) (p : Plan) (i : ℕ) (route : IsRout
 
       at_ingress : (b : Answer) → IsQuiet b → i ≡ 0 → Keeps (followed_by (puts (connected g None x) []) b)
       at_ingress b quiet first =
-          chain_same t _ _ l p (quiet_then (without_first s far.0 n.0) n (puts (connected g None x) []) b l quiet) (first_connects first)
+          chain_same t _ _ l p (quiet_then (without_first s far.0 n.0) n (puts (connected g None x) []) b l quiet)
+          (first_connects first)
 
       -- elsewhere: no label is left, or one goes back
       closes : (j : ℕ) → suc j ≡ i →
@@ -117,12 +121,14 @@ module _ (t : Network) (s : Mesh) (l : Lsp) (p : Plan) (i : ℕ) (route : IsRout
           (passed_back place came g (record { node = node_at p j; fibre = fibre_at t p j }) x None)
           (Some (closed g)) (err ∷ []) (tear ∷ [])
           (rw mine refl)
-          (subst (λ m. Sends p m (sent_by l (to_node (node_at p (suc m)) tear ∷ to_node (node_at p j) err ∷ [])) (err ∷ []) (tear ∷ [])) before
+          (subst (λ m. Sends p m (sent_by l (to_node (node_at p (suc m)) tear ∷ to_node (node_at p j) err ∷ []))
+          (err ∷ []) (tear ∷ [])) before
           (sends_on_back t l l.ingress p route j tear err (omega arith) mine mine))
           (closed_fits t Carries l p i g fits below)
           (λ m q. asked_lets_go Carries p m _ _ _ g (hop_before m q) (Some (closed g)) g.lsp g.egress n label_code asked
           (StillWaits (closed_torn t Carries l p i g fits)) refl)
-          (resv_closes Carries p i _ _ _ g l e k x asked hop_of (closed g) g.lsp g.egress k (rw asked refl) refl refl over)
+          (resv_closes Carries p i _ _ _ g l e k x asked hop_of (closed g) g.lsp g.egress k (rw asked refl) refl refl
+          over)
           (λ m q gone. absurd cc) refl
 
       reserves : (j y : ℕ) → suc j ≡ i → has g.offered y ≡ true →
@@ -163,7 +169,15 @@ module _ (t : Network) (s : Mesh) (l : Lsp) (p : Plan) (i : ℕ) (route : IsRout
       taken =
           let sent : has g.sent x ≡ true = resv_sent Carries p i _ _ _ g l e k x asked hop_of in
           let test : is_expected came x g ≡ true =
-          rw (asked, fits.role, following_is t Carries l p i g fits below, same (node_at p (suc i)).0, over, same (link_at p i).0) sent in
+          rw (
+            asked,
+            fits.role,
+            following_is t Carries l p i g fits below,
+            same (node_at p (suc i)).0,
+            over,
+            same
+                (link_at p i).0,
+          ) sent in
           rw test (answers (before_or_first i))
 
     by_kind : (k : LegKind) → leg_kind (Some g) ≡ k → TakesResv Work k → Keeps (resv_with place state came x (Some g))

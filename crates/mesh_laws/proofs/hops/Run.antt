@@ -41,17 +41,20 @@ pub record StepFacts (t : Network) (s : Mesh) : Type 0 where
 
 -- One item of a desk
 
-given : (t : Network) (from to : NodeId) (via : Option (List Step)) → is_given_route t from to via ≡ true → (route : List Step) → via ≡ Some route → makes_route t from to route ≡ true
+given : (t : Network) (from to : NodeId) (via : Option (List Step)) → is_given_route t from to via ≡ true →
+    (route : List Step) → via ≡ Some route → makes_route t from to route ≡ true
 given t from to None e route q = cc
 given t from to (Some r) e route q = let is : r ≡ route = cc in rw (← is) e
 
-release_stepped : (t : Network) (s : Mesh) (n from : NodeId) (l : Lsp) (k : CallNo) (o : Option (List Step)) → Follows t s l o →
+release_stepped : (t : Network) (s : Mesh) (n from : NodeId) (l : Lsp) (k : CallNo) (o : Option (List Step)) →
+    Follows t s l o →
     StepFacts t s → Stepped t s n l o (release_with (site_of t n) (s.nodes n.0) from (find_call k (s.nodes n.0).calls))
 release_stepped t s n from l k o f facts =
     let r = release_leaves t s n from l o f (find_call k (s.nodes n.0).calls) (λ d e. facts.call n.0 k d e) in
     stepped_none t s n l o _ r.follows r.none
 
-order_stepped : (t : Network) (s : Mesh) (n : NodeId) (l : Lsp) (o : Option (List Step)) (c : Command) → Follows t s l o → StepFacts t s → is_valid t c ≡ true → Stepped t s n l o (on_order (site_of t n) (s.nodes n.0) c)
+order_stepped : (t : Network) (s : Mesh) (n : NodeId) (l : Lsp) (o : Option (List Step)) (c : Command) →
+    Follows t s l o → StepFacts t s → is_valid t c ≡ true → Stepped t s n l o (on_order (site_of t n) (s.nodes n.0) c)
 order_stepped t s n l o (Setup k from to protected both via backup) f facts valid =
     setup_stepped t s n l o f
     (record { call = k; from = from; egress = to; protected = protected; both = both; via = via; backup = backup })
@@ -63,19 +66,23 @@ order_stepped t s n l o (Revert k from) f facts valid = stepped_nothing t s n l 
 order_stepped t s n l o (Fail g) f facts valid = stepped_nothing t s n l o f
 order_stepped t s n l o (Repair g) f facts valid = stepped_nothing t s n l o f
 
-item_stepped : (t : Network) (s : Mesh) (n : NodeId) (l : Lsp) (o : Option (List Step)) (i : DeskItem) → Follows t s l o → StepFacts t s → ItemFits t i → Stepped t s n l o (on_item (site_of t n) (s.nodes n.0) i)
+item_stepped : (t : Network) (s : Mesh) (n : NodeId) (l : Lsp) (o : Option (List Step)) (i : DeskItem) →
+    Follows t s l o → StepFacts t s → ItemFits t i → Stepped t s n l o (on_item (site_of t n) (s.nodes n.0) i)
 item_stepped t s n l o (Order c) f facts fits = order_stepped t s n l o c f facts fits
 item_stepped t s n l o (Alarm g) f facts fits = stepped_nothing t s n l o f
 item_stepped t s n l o (Clear g) f facts fits = stepped_nothing t s n l o f
 
-first_stepped : (t : Network) (s : Mesh) (n : NodeId) (l : Lsp) (o : Option (List Step)) (items : List DeskItem) → Follows t s l o → StepFacts t s → s.desks n.0 ≡ items → Stepped t s n l o (on_first_item (site_of t n) (s.nodes n.0) items)
+first_stepped : (t : Network) (s : Mesh) (n : NodeId) (l : Lsp) (o : Option (List Step)) (items : List DeskItem) →
+    Follows t s l o → StepFacts t s → s.desks n.0 ≡ items →
+    Stepped t s n l o (on_first_item (site_of t n) (s.nodes n.0) items)
 first_stepped t s n l o [] f facts is = stepped_nothing t s n l o f
 first_stepped t s n l o (i ∷ items) f facts is = item_stepped t s n l o i f facts (facts.desk n.0 i items is)
 
 -- Every event
 
 posted_same : (s : Mesh) (c : Command) (l : Lsp) → SameOf s (posted s c) l
-posted_same s (Setup k from to protected both via backup) l = record { legs = λ n. refl; mail = λ a b. refl; next = omega arith }
+posted_same s (Setup k from to protected both via backup) l =
+    record { legs = λ n. refl; mail = λ a b. refl; next = omega arith }
 posted_same s (Release k from) l = record { legs = λ n. refl; mail = λ a b. refl; next = omega arith }
 posted_same s (Protect k from) l = record { legs = λ n. refl; mail = λ a b. refl; next = omega arith }
 posted_same s (Retry k from) l = record { legs = λ n. refl; mail = λ a b. refl; next = omega arith }
@@ -84,13 +91,17 @@ posted_same s (Fail g) l = record { legs = λ n. refl; mail = λ a b. refl; next
 posted_same s (Repair g) l = record { legs = λ n. refl; mail = λ a b. refl; next = omega arith }
 
 -- an item less on a desk leaves the legs and messages
-desk_same : (t : Network) (s : Mesh) (n : NodeId) (a : Answer) (l : Lsp) → SameOf (commit s n.0 a) (commit (without_item s n.0) n.0 a) l
+desk_same : (t : Network) (s : Mesh) (n : NodeId) (a : Answer) (l : Lsp) →
+    SameOf (commit s n.0 a) (commit (without_item s n.0) n.0 a) l
 desk_same t s n a l = record { legs = λ m. refl; mail = λ x b. refl; next = omega arith }
 
-pub step_follows : (t : Network) (s : Mesh) (e : MeshEvent) (l : Lsp) (o : Option (List Step)) → is_enabled t s e ≡ true → StepFacts t s → Follows t s l o → Follows t (step t s e) l (or_route o (first_route l (sent_at_ingress t s e l)))
+pub step_follows : (t : Network) (s : Mesh) (e : MeshEvent) (l : Lsp) (o : Option (List Step)) →
+    is_enabled t s e ≡ true → StepFacts t s → Follows t s l o →
+    Follows t (step t s e) l (or_route o (first_route l (sent_at_ingress t s e l)))
 step_follows t s (Take d u) l o enabled facts f = traced_take t s d u (s.mail u.0 d.0) l o refl enabled f
 step_follows t s (Desk n) l o enabled facts f =
-    follows_same t (commit s n.0 (on_first_item (site_of t n) (s.nodes n.0) (s.desks n.0))) (step t s (Desk n)) l _ (desk_same t s n (on_first_item (site_of t n) (s.nodes n.0) (s.desks n.0)) l)
+    follows_same t (commit s n.0 (on_first_item (site_of t n) (s.nodes n.0) (s.desks n.0))) (step t s (Desk n)) l _
+    (desk_same t s n (on_first_item (site_of t n) (s.nodes n.0) (s.desks n.0)) l)
     (first_stepped t s n l o (s.desks n.0) f facts refl).follows
 step_follows t s (Tick n) l o enabled facts f = (stepped_nothing t s n l o f).follows
 step_follows t s (Learn n k) l o enabled facts f = rw or_none f
@@ -101,9 +112,12 @@ or_assoc None b c = refl
 or_assoc (Some r) b c = refl
 
 -- Facts that hold in every state, and that say what each step needs, carry every LSP along a run.
-pub follows_run : (t : Network) (Facts : Mesh → Type 0) → ((s : Mesh) → Facts s → StepFacts t s) → ((s : Mesh) (e : MeshEvent) → is_enabled t s e ≡ true → Facts s → Facts (step t s e)) →
-    (s : Mesh) (events : List MeshEvent) → IsRun t s events → Facts s → (l : Lsp) (o : Option (List Step)) → Follows t s l o → Follows t (after t s events) l (or_route o (route_of t s events l))
+pub follows_run : (t : Network) (Facts : Mesh → Type 0) → ((s : Mesh) → Facts s → StepFacts t s) →
+    ((s : Mesh) (e : MeshEvent) → is_enabled t s e ≡ true → Facts s → Facts (step t s e)) →
+    (s : Mesh) (events : List MeshEvent) → IsRun t s events → Facts s → (l : Lsp) (o : Option (List Step)) →
+    Follows t s l o → Follows t (after t s events) l (or_route o (route_of t s events l))
 follows_run t Facts gives keeps s [] run facts l o f = rw or_none f
 follows_run t Facts gives keeps s (e ∷ es) run facts l o f =
     rw (← or_assoc o (first_route l (sent_at_ingress t s e l)) (route_of t (step t s e) es l))
-    (follows_run t Facts gives keeps (step t s e) es run.1 (keeps s e run.0 facts) l (or_route o (first_route l (sent_at_ingress t s e l))) (step_follows t s e l o run.0 (gives s facts) f))
+    (follows_run t Facts gives keeps (step t s e) es run.1 (keeps s e run.0 facts) l
+    (or_route o (first_route l (sent_at_ingress t s e l))) (step_follows t s e l o run.0 (gives s facts) f))

@@ -44,11 +44,13 @@ same_fibre-refl f = rw (same f.link.0) (go f.forward)
     go true = refl
     go false = refl
 
-takes_label : (f : Fibre) (x : ℕ) (g : Leg) → g.phase ≡ Live → g.in_fibre ≡ Some f → g.in_label ≡ Some x → takes f x g ≡ true
+takes_label : (f : Fibre) (x : ℕ) (g : Leg) → g.phase ≡ Live → g.in_fibre ≡ Some f → g.in_label ≡ Some x →
+    takes f x g ≡ true
 takes_label f x g live fibre label = rw (live, fibre, same_fibre-refl f, label) (same x)
 
 -- two owners of one label are one LSP's
-owners : (t : Network) (s : Mesh) (f : Fibre) (x : ℕ) (l m : Lsp) → MeshFacts t s → Owner t s f x l → Owner t s f x m → l ≡ m
+owners : (t : Network) (s : Mesh) (f : Fibre) (x : ℕ) (l m : Lsp) → MeshFacts t s → Owner t s f x l →
+    Owner t s f x m → l ≡ m
 owners t s f x l m facts a b =
     let at_one : a.node ≡ b.node = (let p = a.receiver in let q = b.receiver in cc (p, q)) in
     let found : leg_at s l b.node ≡ Some a.leg = rw (← at_one) a.found in
@@ -56,12 +58,16 @@ owners t s f x l m facts a b =
 
 -- The node into which the fibre of a hop leads
 
-far_is : (link : LinkSpec) (u d : NodeId) → leads (Some link) u d ≡ true → far_end (Some link) (nat_eq link.high.0 d.0) ≡ Some d
+far_is : (link : LinkSpec) (u d : NodeId) → leads (Some link) u d ≡ true →
+    far_end (Some link) (nat_eq link.high.0 d.0) ≡ Some d
 far_is link u d joins = go (nat_eq link.high.0 d.0) refl joins
   where
-    go : (b : Bool) → nat_eq link.high.0 d.0 ≡ b → ((nat_eq link.low.0 u.0 && b) || (nat_eq link.low.0 d.0 && nat_eq link.high.0 u.0)) ≡ true → far_end (Some link) b ≡ Some d
+    go : (b : Bool) → nat_eq link.high.0 d.0 ≡ b →
+        ((nat_eq link.low.0 u.0 && b) || (nat_eq link.low.0 d.0 && nat_eq link.high.0 u.0)) ≡ true →
+        far_end (Some link) b ≡ Some d
     go true e h = let is : link.high.0 ≡ d.0 = grind arith in ap Some (same_node link.high d is)
-    go false e h = let is : link.low.0 ≡ d.0 = low (nat_eq link.low.0 u.0) (nat_eq link.low.0 d.0) (nat_eq link.high.0 u.0) refl h in ap Some (same_node link.low d is)
+    go false e h =
+        let is : link.low.0 ≡ d.0 = low (nat_eq link.low.0 u.0) (nat_eq link.low.0 d.0) (nat_eq link.high.0 u.0) refl h in ap Some (same_node link.low d is)
       where
         low : (a b c : Bool) → nat_eq link.low.0 d.0 ≡ b → ((a && false) || (b && c)) ≡ true → link.low.0 ≡ d.0
         low true true c e h = grind arith
@@ -69,13 +75,15 @@ far_is link u d joins = go (nat_eq link.high.0 d.0) refl joins
         low false true c e h = grind arith
         low false false c e h = absurd cc
 
-receiver_is : (t : Network) (p : Plan) (i : ℕ) → (node_at p i).0 ≢ (node_at p (suc i)).0 → Leads t (link_at p i) (node_at p i) (node_at p (suc i)) → receiver_of t (fibre_at t p i) ≡ Some (node_at p (suc i))
+receiver_is : (t : Network) (p : Plan) (i : ℕ) → (node_at p i).0 ≢ (node_at p (suc i)).0 →
+    Leads t (link_at p i) (node_at p i) (node_at p (suc i)) → receiver_of t (fibre_at t p i) ≡ Some (node_at p (suc i))
 receiver_is t p i apart over =
     rw over.found (far_is over.link (node_at p i) (node_at p (suc i)) (joined t (link_at p i) (node_at p i) (node_at p (suc i)) apart over).leads)
 
 -- A Live leg with a label out: the next node has it in
 
-out_below : (t : Network) (p : Plan) (i : ℕ) (f : Fibre) → out_fibre_at t p i ≡ Some f → (i < hops p) × (fibre_at t p i ≡ f)
+out_below : (t : Network) (p : Plan) (i : ℕ) (f : Fibre) → out_fibre_at t p i ≡ Some f →
+    (i < hops p) × (fibre_at t p i ≡ f)
 out_below t p i f e = go (below_or_not i (hops p)) e
   where
     go : (i < hops p) ⊎ (hops p ≤ i) → out_fibre_at t p i ≡ Some f → (i < hops p) × (fibre_at t p i ≡ f)
@@ -89,13 +97,15 @@ module _ (t : Network) (s : Mesh) (l : Lsp) (p : Plan) (route : IsRoute t l.ingr
       let fits : LegFits t Carries l p i g = rw here at (chain.fits i small) in
       let out = out_below t p i f (sym fits.out_fibre ∙ leaves) in
       let hop : Hop Carries p i (Some g) (leg_at s l (node_at p (suc i))) (mail_between s l (node_at p i) (node_at p (suc i))) (mail_between s l (node_at p (suc i)) (node_at p i)) = rw here at (chain.each i out.0) in
-      let next = live_leg (leg_at s l (node_at p (suc i))) (live_upstream role.Work _ _ _ (rw live at hop.shape)).live in
+      let next =
+      live_leg (leg_at s l (node_at p (suc i))) (live_upstream role.Work _ _ _ (rw live at hop.shape)).live in
       owned i here out.0 out.1 next.0 next.1 next.2 hop
     where
       in_label : (i y : ℕ) (h : Leg) → LabelsMeet g.out_label h.in_label → h.in_label ≡ Some y → h.in_label ≡ Some x
       in_label i y h meets e = let same_label : x ≡ y = rw (label, e) at meets in rw same_label e
 
-      owned : (i : ℕ) → leg_at s l (node_at p i) ≡ Some g → i < hops p → fibre_at t p i ≡ f → (h : Leg) → leg_at s l (node_at p (suc i)) ≡ Some h → h.phase ≡ Live →
+      owned : (i : ℕ) → leg_at s l (node_at p i) ≡ Some g → i < hops p → fibre_at t p i ≡ f → (h : Leg) →
+          leg_at s l (node_at p (suc i)) ≡ Some h → h.phase ≡ Live →
           Hop Carries p i (Some g) (leg_at s l (node_at p (suc i))) (mail_between s l (node_at p i) (node_at p (suc i))) (mail_between s l (node_at p (suc i)) (node_at p i)) → Owner t s f x l
       owned i here small is h there there_live hop =
           let fits : LegFits t Carries l p (suc i) h = rw there at (chain.fits (suc i) small) in
@@ -113,7 +123,9 @@ module _ (t : Network) (s : Mesh) (l : Lsp) (p : Plan) (route : IsRoute t l.ingr
             label = in_label i enters.0 h meets enters.1;
           }
 
-sender_owner : (t : Network) (s : Mesh) (l : Lsp) (o : Option (List Step)) → Follows t s l o → (n : NodeId) (f : Fibre) (x : ℕ) (g : Leg) → leg_at s l n ≡ Some g → g.phase ≡ Live → g.out_fibre ≡ Some f → g.out_label ≡ Some x → Owner t s f x l
+sender_owner : (t : Network) (s : Mesh) (l : Lsp) (o : Option (List Step)) → Follows t s l o →
+    (n : NodeId) (f : Fibre) (x : ℕ) (g : Leg) → leg_at s l n ≡ Some g → g.phase ≡ Live → g.out_fibre ≡ Some f →
+    g.out_label ≡ Some x → Owner t s f x l
 sender_owner t s l None blank n f x g here live leaves label = absurd (let none = blank.legs n in cc (none, here))
 sender_owner t s l (Some steps) (e, pl) n f x g here live leaves label =
     elim (pl.chain.legs n) [
@@ -121,12 +133,15 @@ sender_owner t s l (Some steps) (e, pl) n f x g here live leaves label =
       | inr (i, small, at_n) ↦ (let is : n ≡ node_at (plan steps e) i = same_node n (node_at (plan steps e) i) at_n in owner_at t s l (plan steps e) pl.route pl.chain f x g live leaves label i (rw (← is) here) small)
     ]
 
-owner : (t : Network) (s : Mesh) → HasOneLegEach s → ((l : Lsp) → (o : Option (List Step)) × Follows t s l o) → (f : Fibre) (x : ℕ) (g : Leg) → g.phase ≡ Live → (a b : Option NodeId) → receiver_of t f ≡ a → sender_of t f ≡ b →
+owner : (t : Network) (s : Mesh) → HasOneLegEach s → ((l : Lsp) → (o : Option (List Step)) × Follows t s l o) →
+    (f : Fibre) (x : ℕ) (g : Leg) → g.phase ≡ Live → (a b : Option NodeId) → receiver_of t f ≡ a → sender_of t f ≡ b →
     (StandsAt s a g × (g.in_fibre ≡ Some f) × (g.in_label ≡ Some x)) ⊎ (StandsAt s b g × (g.out_fibre ≡ Some f) × (g.out_label ≡ Some x)) → Owner t s f x g.lsp
 owner t s one all f x g live None b at_a at_b (inl h) = absurd h.0
-owner t s one all f x g live (Some n) b at_a at_b (inl h) = record { node = n; receiver = at_a; leg = g; found = one n g h.0; live = live; fibre = h.1; label = h.2 }
+owner t s one all f x g live (Some n) b at_a at_b (inl h) =
+    record { node = n; receiver = at_a; leg = g; found = one n g h.0; live = live; fibre = h.1; label = h.2 }
 owner t s one all f x g live a None at_a at_b (inr h) = absurd h.0
-owner t s one all f x g live a (Some n) at_a at_b (inr h) = sender_owner t s g.lsp (all g.lsp).0 (all g.lsp).1 n f x g (one n g h.0) live h.1 h.2
+owner t s one all f x g live a (Some n) at_a at_b (inr h) =
+    sender_owner t s g.lsp (all g.lsp).0 (all g.lsp).1 n f x g (one n g h.0) live h.1 h.2
 
 pub every_run_safe : EveryRunIsSafe
 every_run_safe t events run f x g h this that =

@@ -37,7 +37,8 @@ module _ (t : Network) (l : Lsp) (from : NodeId) (p : Plan) (route : IsRoute t f
   sends_back i m small own = record {
     to_prev = λ k e. let q : k ≡ i = omega arith in rw q (sent-first l (node_at p i) m [] own);
     to_next =
-        λ more. sent-past l (node_at p i) (node_at p (suc (suc i))) m [] (distinct t from p route (suc (suc i)) i (omega arith) (omega arith) (omega arith));
+        λ more. sent-past l (node_at p i) (node_at p (suc (suc i))) m []
+        (distinct t from p route (suc (suc i)) i (omega arith) (omega arith) (omega arith));
     goes = λ b. to b (is_or_not b.0 (node_at p i).0);
   }
     where
@@ -51,7 +52,8 @@ module _ (t : Network) (l : Lsp) (from : NodeId) (p : Plan) (route : IsRoute t f
       Sends p j (sent_by l (to_node (node_at p (suc j)) m ∷ [])) [] (m ∷ [])
   sends_on j m small own = record {
     to_prev =
-        λ k e. sent-past l (node_at p (suc j)) (node_at p k) m [] (distinct t from p route k (suc j) (omega arith) (omega arith) (omega arith));
+        λ k e. sent-past l (node_at p (suc j)) (node_at p k) m []
+        (distinct t from p route k (suc j) (omega arith) (omega arith) (omega arith));
     to_next = λ more. sent-first l (node_at p (suc j)) m [] own;
     goes = λ b. to b (is_or_not b.0 (node_at p (suc j)).0);
   }
@@ -67,9 +69,11 @@ module _ (t : Network) (l : Lsp) (from : NodeId) (p : Plan) (route : IsRoute t f
   sends_back_on i m n small own own' = record {
     to_prev =
         λ k e. let q : k ≡ i =
-        omega arith in rw q (sent-first l (node_at p i) m (to_node (node_at p (suc (suc i))) n ∷ []) own ∙ ap (λ ms. m ∷ ms) (sent-past l (node_at p (suc (suc i))) (node_at p i) n [] (λ e. far (sym e))));
+        omega arith in rw q (sent-first l (node_at p i) m (to_node (node_at p (suc (suc i))) n ∷ []) own ∙ ap
+        (λ ms. m ∷ ms) (sent-past l (node_at p (suc (suc i))) (node_at p i) n [] (λ e. far (sym e))));
     to_next =
-        λ more. sent-past l (node_at p i) (node_at p (suc (suc i))) m (to_node (node_at p (suc (suc i))) n ∷ []) far ∙ sent-first l (node_at p (suc (suc i))) n [] own';
+        λ more. sent-past l (node_at p i) (node_at p (suc (suc i))) m (to_node (node_at p (suc (suc i))) n ∷ []) far ∙
+        sent-first l (node_at p (suc (suc i))) n [] own';
     goes = λ b. to b (is_or_not b.0 (node_at p i).0) (is_or_not b.0 (node_at p (suc (suc i))).0);
   }
     where
@@ -82,7 +86,8 @@ module _ (t : Network) (l : Lsp) (from : NodeId) (p : Plan) (route : IsRoute t f
       to b (inl e) _ = inr (inr (i, refl, e))
       to b (inr ne) (inl e) = inr (inl (small, e))
       to b (inr ne) (inr nf) =
-          inl (sent-past l (node_at p i) b m (to_node (node_at p (suc (suc i))) n ∷ []) ne ∙ sent-past l (node_at p (suc (suc i))) b n [] nf)
+          inl (sent-past l (node_at p i) b m (to_node (node_at p (suc (suc i))) n ∷ []) ne ∙ sent-past l
+          (node_at p (suc (suc i))) b n [] nf)
 
   -- one message goes on, and then one goes back
   pub sends_on_back : (i : ℕ) (n m : Msg) → suc i < hops p → is_message_of l n ≡ true → is_message_of l m ≡ true →
@@ -90,9 +95,11 @@ module _ (t : Network) (l : Lsp) (from : NodeId) (p : Plan) (route : IsRoute t f
   sends_on_back i n m small own' own = record {
     to_prev =
         λ k e. let q : k ≡ i =
-        omega arith in rw q (sent-past l (node_at p (suc (suc i))) (node_at p i) n (to_node (node_at p i) m ∷ []) (λ e. far (sym e)) ∙ sent-first l (node_at p i) m [] own);
+        omega arith in rw q (sent-past l (node_at p (suc (suc i))) (node_at p i) n (to_node (node_at p i) m ∷ [])
+        (λ e. far (sym e)) ∙ sent-first l (node_at p i) m [] own);
     to_next =
-        λ more. sent-first l (node_at p (suc (suc i))) n (to_node (node_at p i) m ∷ []) own' ∙ ap (λ ms. n ∷ ms) (sent-past l (node_at p i) (node_at p (suc (suc i))) m [] far);
+        λ more. sent-first l (node_at p (suc (suc i))) n (to_node (node_at p i) m ∷ []) own' ∙ ap (λ ms. n ∷ ms)
+        (sent-past l (node_at p i) (node_at p (suc (suc i))) m [] far);
     goes = λ b. to b (is_or_not b.0 (node_at p i).0) (is_or_not b.0 (node_at p (suc (suc i))).0);
   }
     where
@@ -105,14 +112,16 @@ module _ (t : Network) (l : Lsp) (from : NodeId) (p : Plan) (route : IsRoute t f
       to b (inl e) _ = inr (inr (i, refl, e))
       to b (inr ne) (inl e) = inr (inl (small, e))
       to b (inr ne) (inr nf) =
-          inl (sent-past l (node_at p (suc (suc i))) b n (to_node (node_at p i) m ∷ []) nf ∙ sent-past l (node_at p i) b m [] ne)
+          inl (sent-past l (node_at p (suc (suc i))) b n (to_node (node_at p i) m ∷ []) nf ∙ sent-past l (node_at p i)
+          b m [] ne)
 
 -- A step at d
 
 -- nothing is taken
 pub changed-here : (s : Mesh) (d : NodeId) (l : Lsp) (a : Answer) (c : Option Leg) →
     leg_after l a.legs (leg_at s l d) ≡ c →
-    Changed d c (sent_by l a.sent) (leg_at s l) (leg_at (commit s d.0 a) l) (mail_between s l) (mail_between (commit s d.0 a) l)
+    Changed d c (sent_by l a.sent) (leg_at s l) (leg_at (commit s d.0 a) l) (mail_between s l)
+    (mail_between (commit s d.0 a) l)
 changed-here s d l a c is = record {
   here = leg-here s d l a ∙ is;
   there = λ n ne. leg-there s d n l a ne;
@@ -123,12 +132,14 @@ changed-here s d l a c is = record {
 -- a message from u is taken
 pub changed-taken : (s : Mesh) (u d : NodeId) (l : Lsp) (a : Answer) (c : Option Leg) → u.0 ≢ d.0 →
     leg_after l a.legs (leg_at s l d) ≡ c →
-    Changed d c (sent_by l a.sent) (leg_at s l) (leg_at (commit (without_first s u.0 d.0) d.0 a) l) (mail_between s l) (mail_between (commit (without_first s u.0 d.0) d.0 a) l)
+    Changed d c (sent_by l a.sent) (leg_at s l) (leg_at (commit (without_first s u.0 d.0) d.0 a) l) (mail_between s l)
+    (mail_between (commit (without_first s u.0 d.0) d.0 a) l)
 changed-taken s u d l a c apart is = record {
   here = leg-here (without_first s u.0 d.0) d l a ∙ is;
   there = λ n ne. leg-there (without_first s u.0 d.0) d n l a ne;
   sends =
-      λ b. mail-from (without_first s u.0 d.0) d b l a ∙ ap (λ ms. ms ++ sent_by l a.sent b) (without-else s u d d b l (inl (λ e. apart (sym e))));
+      λ b. mail-from (without_first s u.0 d.0) d b l a ∙ ap (λ ms. ms ++ sent_by l a.sent b)
+      (without-else s u d d b l (inl (λ e. apart (sym e))));
   keeps = λ x b not_d to. mail-else (without_first s u.0 d.0) d x b l a not_d ∙ without-else s u d x b l (inr to);
 }
 

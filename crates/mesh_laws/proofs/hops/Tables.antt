@@ -15,7 +15,8 @@ leg_after l [] o = o
 leg_after l (Goes k ∷ cs) o = leg_after l cs (cond (same_lsp k l) None o)
 leg_after l (Put g ∷ cs) o = leg_after l cs (cond (same_lsp g.lsp l) (Some g) o)
 
-pub find-changed : (l : Lsp) (cs : List LegChange) (legs : List Leg) → find_leg l (legs_changed cs legs) ≡ leg_after l cs (find_leg l legs)
+pub find-changed : (l : Lsp) (cs : List LegChange) (legs : List Leg) →
+    find_leg l (legs_changed cs legs) ≡ leg_after l cs (find_leg l legs)
 find-changed l [] legs = refl
 find-changed l (Goes k ∷ cs) legs = rw (← find-without_leg k legs l) (find-changed l cs (without_leg k legs))
 find-changed l (Put g ∷ cs) legs = rw (← find-with_leg g legs l) (find-changed l cs (with_leg g legs))

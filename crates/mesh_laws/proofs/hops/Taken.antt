@@ -37,7 +37,8 @@ taken_mesh s u d a = commit (without_first s u.0 d.0) d.0 a
 -- a message that came down from place i
 module _ (t : Network) (q : Purpose) (s : Mesh) (l : Lsp) (p : Plan) (i : ℕ) (route : IsRoute t l.ingress p)
     (chain : Chain t q l p (leg_at s l) (mail_between s l)) (below : i < hops p)
-    (m : Msg) (rest : List Msg) (was : s.mail (node_at p i).0 (node_at p (suc i)).0 ≡ m ∷ rest) (own : is_message_of l m ≡ true) where
+    (m : Msg) (rest : List Msg) (was : s.mail (node_at p i).0 (node_at p (suc i)).0 ≡ m ∷ rest)
+    (own : is_message_of l m ≡ true) where
   abbrev u : NodeId
   u = node_at p i
 
@@ -63,7 +64,8 @@ module _ (t : Network) (q : Purpose) (s : Mesh) (l : Lsp) (p : Plan) (i : ℕ) (
   pub down_taken : (a : Answer) (c : Option Leg) (back on : List Msg) →
       leg_after l a.legs (leg_at s l (node_at p (suc i))) ≡ c → Sends p (suc i) (sent_by l a.sent) back on →
       Fits t q l p (suc i) c →
-      Hop q p i (leg_at s l (node_at p i)) c (messages_of l rest) (mail_between s l (node_at p (suc i)) (node_at p i) ++ back) →
+      Hop q p i (leg_at s l (node_at p i)) c (messages_of l rest)
+      (mail_between s l (node_at p (suc i)) (node_at p i) ++ back) →
       (suc i < hops p → Hop q p (suc i) c (leg_at s l (node_at p (suc (suc i))))
       (mail_between s l (node_at p (suc i)) (node_at p (suc (suc i))) ++ on)
       (mail_between s l (node_at p (suc (suc i))) (node_at p (suc i)))) →
@@ -73,7 +75,8 @@ module _ (t : Network) (q : Purpose) (s : Mesh) (l : Lsp) (p : Plan) (i : ℕ) (
       (n : ℕ) → suc i < n → n ≤ hops p → IsVacant p (leg_at s l) (mail_between s l) n) →
       KeepsDown a
   down_taken a c back on leg_is sends fits before after last vacant =
-      place_changed t q l l.ingress p (leg_at s l) _ (mail_between s l) _ (suc i) c (sent_by l a.sent) back on route chain below
+      place_changed t q l l.ingress p (leg_at s l) _ (mail_between s l) _ (suc i) c (sent_by l a.sent) back on route
+      chain below
       changed sends fits
       (λ x ne. arrives x ne (is_or_not x.0 u.0))
       (λ k e. let at_i : k ≡ i = omega arith in rw (at_i, left) before)
@@ -108,7 +111,8 @@ module _ (t : Network) (q : Purpose) (s : Mesh) (l : Lsp) (p : Plan) (i : ℕ) (
           (distinct t l.ingress p route k (suc i) (omega arith) (omega arith) (omega arith))
           (inl (distinct t l.ingress p route k i (omega arith) (omega arith) ne)) in
           let same_leg =
-          changed.there (node_at p (suc k)) (distinct t l.ingress p route (suc k) (suc i) (omega arith) (omega arith) (omega arith)) in
+          changed.there (node_at p (suc k))
+          (distinct t l.ingress p route (suc k) (suc i) (omega arith) (omega arith) (omega arith)) in
           let first' : IsFirst p (leg_at s l) (mail_between s l) k =
           record { gone = sym same_leg ∙ first.gone; path = rw same_mail at first.path } in
           let empty : mail_between s l u d ≡ [] =
@@ -118,7 +122,8 @@ module _ (t : Network) (q : Purpose) (s : Mesh) (l : Lsp) (p : Plan) (i : ℕ) (
 -- a message that came up from the place after i
 module _ (t : Network) (q : Purpose) (s : Mesh) (l : Lsp) (p : Plan) (i : ℕ) (route : IsRoute t l.ingress p)
     (chain : Chain t q l p (leg_at s l) (mail_between s l)) (below : i < hops p)
-    (m : Msg) (rest : List Msg) (was : s.mail (node_at p (suc i)).0 (node_at p i).0 ≡ m ∷ rest) (own : is_message_of l m ≡ true) where
+    (m : Msg) (rest : List Msg) (was : s.mail (node_at p (suc i)).0 (node_at p i).0 ≡ m ∷ rest)
+    (own : is_message_of l m ≡ true) where
   abbrev here : NodeId
   here = node_at p i
 
@@ -142,12 +147,14 @@ module _ (t : Network) (q : Purpose) (s : Mesh) (l : Lsp) (p : Plan) (i : ℕ) (
       leg_after l a.legs (leg_at s l (node_at p i)) ≡ c → Sends p i (sent_by l a.sent) back on → Fits t q l p i c →
       ((k : ℕ) → suc k ≡ i → Hop q p k (leg_at s l (node_at p k)) c
       (mail_between s l (node_at p k) (node_at p i)) (mail_between s l (node_at p i) (node_at p k) ++ back)) →
-      Hop q p i c (leg_at s l (node_at p (suc i))) (mail_between s l (node_at p i) (node_at p (suc i)) ++ on) (messages_of l rest) →
+      Hop q p i c (leg_at s l (node_at p (suc i))) (mail_between s l (node_at p i) (node_at p (suc i)) ++ on)
+      (messages_of l rest) →
       ((k : ℕ) → suc k ≡ i → c ≡ None → has_path (mail_between s l (node_at p k) (node_at p i)) ≡ true → ⊥) →
       has_path on ≡ false →
       KeepsUp a
   up_taken a c back on leg_is sends fits before after last no_path =
-      place_changed t q l l.ingress p (leg_at s l) _ (mail_between s l) _ i c (sent_by l a.sent) back on route chain (omega arith)
+      place_changed t q l l.ingress p (leg_at s l) _ (mail_between s l) _ i c (sent_by l a.sent) back on route chain
+      (omega arith)
       changed sends fits
       (λ x ne. arrives x ne (is_or_not x.0 from.0))
       (λ k e. rw (elsewhere k e) (before k e))
@@ -178,7 +185,8 @@ module _ (t : Network) (q : Purpose) (s : Mesh) (l : Lsp) (p : Plan) (i : ℕ) (
       arrives x ne (inr nf) = rw (elsewhere-taken s from here x here l a ne (inl nf)) (chain.ways x here)
 
       same_before : (k : ℕ) → k < i →
-          mail_between (taken_mesh s from here a) l (node_at p k) (node_at p (suc k)) ≡ mail_between s l (node_at p k) (node_at p (suc k))
+          mail_between (taken_mesh s from here a) l (node_at p k) (node_at p (suc k)) ≡ mail_between s l (node_at p k)
+          (node_at p (suc k))
       same_before k less = elsewhere-taken s from here (node_at p k) (node_at p (suc k)) l a
           (distinct t l.ingress p route k i (omega arith) (omega arith) (omega arith))
           (inl (distinct t l.ingress p route k (suc i) (omega arith) (omega arith) (omega arith)))

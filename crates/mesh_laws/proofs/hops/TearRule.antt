@@ -32,7 +32,8 @@ use Rattle.mesh_laws.proofs.hops.Taken.{KeepsDown, down_hop, down_taken, path_be
 
 module _ (t : Network) (q : Purpose) (s : Mesh) (l : Lsp) (p : Plan) (i : ℕ) (route : IsRoute t l.ingress p)
     (chain : Chain t q l p (leg_at s l) (mail_between s l)) (below : i < hops p)
-    (e : NodeId) (k : LinkId) (rest : List Msg) (was : s.mail (node_at p i).0 (node_at p (suc i)).0 ≡ PathTear l e k ∷ rest) where
+    (e : NodeId) (k : LinkId) (rest : List Msg)
+    (was : s.mail (node_at p i).0 (node_at p (suc i)).0 ≡ PathTear l e k ∷ rest) where
   abbrev u : NodeId
   u = node_at p i
 
@@ -61,7 +62,8 @@ module _ (t : Network) (q : Purpose) (s : Mesh) (l : Lsp) (p : Plan) (i : ℕ) (
   kept : (o : Option Leg) → leg_at s l (node_at p (suc i)) ≡ o → Fits t q l p (suc i) o →
       HasLetGo (role_of q) (leg_kind o) → Keeps nothing
   kept o here fits gone =
-      down_taken t q s l p i route chain below (PathTear l e k) rest was own nothing o [] [] here (sends_none l p (suc i)) fits
+      down_taken t q s l p i route chain below (PathTear l e k) rest was own nothing o [] [] here
+      (sends_none l p (suc i)) fits
       (tear_kept q p i (leg_at s l u) l e k (messages_of l rest) _ o gone (rw here at hop))
       (λ small. rw append-nil (rw here at (chain.each (suc i) small)))
       (λ _. no_path_after)
@@ -87,7 +89,8 @@ module _ (t : Network) (q : Purpose) (s : Mesh) (l : Lsp) (p : Plan) (i : ℕ) (
         (λ small. absurd (omega arith))
 
     goes_on : suc i < hops p →
-        Keeps (torn g (to_node u answer) (Some (record { node = node_at p (suc (suc i)); fibre = fibre_at t p (suc i) })))
+        Keeps (torn g (to_node u answer)
+        (Some (record { node = node_at p (suc (suc i)); fibre = fibre_at t p (suc i) })))
     goes_on small =
         let next : Neighbour = record { node = node_at p (suc (suc i)); fibre = fibre_at t p (suc i) } in
         let tear : Msg = PathTear g.lsp g.egress (link_at p (suc i)) in
@@ -98,7 +101,8 @@ module _ (t : Network) (q : Purpose) (s : Mesh) (l : Lsp) (p : Plan) (i : ℕ) (
         (tear_lets_go q p i (leg_at s l u) l e k (messages_of l rest) _ g (Some (closed g)) g.lsp g.egress d torn_code
         (phase_stands g.phase stands) (StillWaits (closed_torn t q l p (suc i) g fits)) refl (rw here at hop))
         (λ _. leg_closes q p (suc i) _ _ _ g (closed g) g.lsp g.egress (link_at p (suc i))
-        (phase_stands g.phase stands) (closed_kind t q l p (suc i) g fits) refl refl refl (rw here at (chain.each (suc i) small)))
+        (phase_stands g.phase stands) (closed_kind t q l p (suc i) g fits) refl refl refl
+        (rw here at (chain.each (suc i) small)))
         (λ gone. absurd cc)
         (λ _ none path. chain.fresh (suc i) small (record {
           gone = none;
@@ -115,7 +119,8 @@ module _ (t : Network) (q : Purpose) (s : Mesh) (l : Lsp) (p : Plan) (i : ℕ) (
   tear_keeps (Some g) here = by_phase (rw here at (chain.fits (suc i) (omega arith))) (is_closing g.phase) refl
     where
       by_phase : LegFits t q l p (suc i) g → (b : Bool) → is_closing g.phase ≡ b →
-          Keeps (cond (not b && is_over (previous g) u k) (torn g (to_node u (PathErr g.lsp g.egress d true torn_code)) (following g)) nothing)
+          Keeps (cond (not b && is_over (previous g) u k)
+          (torn g (to_node u (PathErr g.lsp g.egress d true torn_code)) (following g)) nothing)
       by_phase fits true torn = kept (Some g) here fits (StillWaits (torn_of t q l p (suc i) g fits torn))
       by_phase fits false stands =
           rw (previous_is t q l p i g fits, over, same (node_at p i).0, same (link_at p i).0)

@@ -38,19 +38,23 @@ use Rattle.mesh_laws.proofs.hops.ErrRule.{err_keeps}
 
 module _ (t : Network) (s : Mesh) (rest : List Msg) (p : Plan) (i : ℕ) (below : i < hops p) where
   -- it came down
-  taken_down : (m : Msg) (own : is_message_of (lsp_of m) m ≡ true) (was : s.mail (node_at p i).0 (node_at p (suc i)).0 ≡ m ∷ rest)
+  taken_down : (m : Msg) (own : is_message_of (lsp_of m) m ≡ true)
+      (was : s.mail (node_at p i).0 (node_at p (suc i)).0 ≡ m ∷ rest)
       (pl : Planned t s (lsp_of m) p) → KeepsDown t Carries s (lsp_of m) p i pl.route pl.chain below m rest was own
       (on_message (site_of t (node_at p (suc i))) (s.nodes (node_at p (suc i)).0) (node_at p i) m)
   taken_down (Path l e k r set label (Work guard)) own was pl =
       path_keeps t s l p i pl.route pl.chain below e k r set label guard rest was
   taken_down (Path l e k r set label (Back active work primary)) own was pl =
       let h =
-      down_hop t Carries s l p i pl.route pl.chain below (Path l e k r set label (Back active work primary)) rest was own in
+      down_hop t Carries s l p i pl.route pl.chain below (Path l e k r set label (Back active work primary)) rest was
+      own in
       absurd h.rest.going_down.0.3
   taken_down (Resv l e k x) own was pl =
-      absurd (no_resv_down role.Work _ _ _ _ (down_hop t Carries s l p i pl.route pl.chain below (Resv l e k x) rest was own).shape)
+      absurd (no_resv_down role.Work _ _ _ _
+      (down_hop t Carries s l p i pl.route pl.chain below (Resv l e k x) rest was own).shape)
   taken_down (PathTear l e k) own was pl =
-      tear_keeps t Carries s l p i pl.route pl.chain below e k rest was (find_leg l (s.nodes (node_at p (suc i)).0).legs) refl
+      tear_keeps t Carries s l p i pl.route pl.chain below e k rest was
+      (find_leg l (s.nodes (node_at p (suc i)).0).legs) refl
   taken_down (PathErr l e at true code) own was pl =
       absurd (no_removal_down role.Work _ _ _ _
       (down_hop t Carries s l p i pl.route pl.chain below (PathErr l e at true code) rest was own).shape)
@@ -60,7 +64,8 @@ module _ (t : Network) (s : Mesh) (rest : List Msg) (p : Plan) (i : ℕ) (below 
   taken_down (Notify l e at k code) own was pl = absurd cc
 
   -- it came up
-  taken_up : (m : Msg) (own : is_message_of (lsp_of m) m ≡ true) (was : s.mail (node_at p (suc i)).0 (node_at p i).0 ≡ m ∷ rest)
+  taken_up : (m : Msg) (own : is_message_of (lsp_of m) m ≡ true)
+      (was : s.mail (node_at p (suc i)).0 (node_at p i).0 ≡ m ∷ rest)
       (pl : Planned t s (lsp_of m) p) → KeepsUp t Carries s (lsp_of m) p i pl.route pl.chain below m rest was own
       (on_message (site_of t (node_at p i)) (s.nodes (node_at p i).0) (node_at p (suc i)) m)
   taken_up (Path l e k r set label (Work guard)) own was pl =
@@ -68,16 +73,20 @@ module _ (t : Network) (s : Mesh) (rest : List Msg) (p : Plan) (i : ℕ) (below 
       (up_hop t Carries s l p i pl.route pl.chain below (Path l e k r set label (Work guard)) rest was own).shape)
   taken_up (Path l e k r set label (Back true work primary)) own was pl =
       absurd (no_active_up role.Work _ _ _ _
-      (up_hop t Carries s l p i pl.route pl.chain below (Path l e k r set label (Back true work primary)) rest was own).shape)
+      (up_hop t Carries s l p i pl.route pl.chain below (Path l e k r set label (Back true work primary)) rest was
+      own).shape)
   taken_up (Path l e k r set label (Back false work primary)) own was pl =
       absurd (no_path_up role.Work _ _ _ _
-      (up_hop t Carries s l p i pl.route pl.chain below (Path l e k r set label (Back false work primary)) rest was own).shape)
+      (up_hop t Carries s l p i pl.route pl.chain below (Path l e k r set label (Back false work primary)) rest was
+      own).shape)
   taken_up (Resv l e k x) own was pl =
       resv_keeps t s l p i pl.route pl.chain below e k x rest was (find_leg l (s.nodes (node_at p i).0).legs) refl
   taken_up (PathTear l e k) own was pl =
-      absurd (no_tear_up role.Work _ _ _ _ (up_hop t Carries s l p i pl.route pl.chain below (PathTear l e k) rest was own).shape)
+      absurd (no_tear_up role.Work _ _ _ _
+      (up_hop t Carries s l p i pl.route pl.chain below (PathTear l e k) rest was own).shape)
   taken_up (PathErr l e at gone code) own was pl =
-      err_keeps t s l p i pl.route pl.chain below e at gone code rest was gone refl (find_leg l (s.nodes (node_at p i).0).legs) refl
+      err_keeps t s l p i pl.route pl.chain below e at gone code rest was gone refl
+      (find_leg l (s.nodes (node_at p i).0).legs) refl
   taken_up (Notify l e at k code) own was pl = absurd cc
 
 -- the state after a message is taken
@@ -87,7 +96,8 @@ after_take t s d u m = commit (without_first s u.0 d.0) d.0 (on_message (site_of
 take_here : (t : Network) (s : Mesh) (d u : NodeId) (m : Msg) (rest : List Msg) (p : Plan) → s.mail u.0 d.0 ≡ m ∷ rest →
     is_message_of (lsp_of m) m ≡ true → Planned t s (lsp_of m) p →
     (mail_between s (lsp_of m) u d ≡ []) ⊎ OnRoute p u d →
-    Chain t Carries (lsp_of m) p (leg_at (after_take t s d u m) (lsp_of m)) (mail_between (after_take t s d u m) (lsp_of m))
+    Chain t Carries (lsp_of m) p (leg_at (after_take t s d u m) (lsp_of m))
+    (mail_between (after_take t s d u m) (lsp_of m))
 take_here t s d u m rest p was own planned (inl none) =
     let some : mail_between s (lsp_of m) u d ≡ m ∷ messages_of (lsp_of m) rest = mine s (lsp_of m) u d m rest was own in
     absurd (cc (none, some))
@@ -119,7 +129,8 @@ take_other t s d u m rest l was apart =
     record {
       legs = λ n. leg-other (without_first s u.0 d.0) d n (lsp_of m) l a of apart;
       mail =
-          λ x b. mail-other (without_first s u.0 d.0) d x b (lsp_of m) l a of apart ∙ without-other s u d x b m rest l was (rw apart (and_false _));
+          λ x b. mail-other (without_first s u.0 d.0) d x b (lsp_of m) l a of apart ∙ without-other s u d x b m rest l
+          was (rw apart (and_false _));
       next = (let e = take_next t s d u m l.ingress.0 in omega arith);
     }
 
@@ -193,7 +204,9 @@ none_sent t s d u m rest l was = rw was (go (nat_eq d.0 l.ingress.0) refl)
 
 pub traced_take : (t : Network) (s : Mesh) (d u : NodeId) (ms : List Msg) (l : Lsp) (o : Option (List Step)) →
     s.mail u.0 d.0 ≡ ms → has_first ms ≡ true → Follows t s l o →
-    Follows t (commit (without_first s u.0 d.0) d.0 (on_first (site_of t d) (s.nodes d.0) u ms)) l (or_route o (first_route l (sent_at_ingress t s (Take d u) l)))
+    Follows t (commit (without_first s u.0 d.0) d.0 (on_first (site_of t d) (s.nodes d.0) u ms)) l
+    (or_route o (first_route l (sent_at_ingress t s (Take d u) l)))
 traced_take t s d u [] l o was some f = absurd cc
 traced_take t s d u (m ∷ rest) l o was some f =
-    rw (none_sent t s d u m rest l was, or_none) (take_follows t s d u m rest l o was f (is_notice m) (same_lsp (lsp_of m) l) refl refl)
+    rw (none_sent t s d u m rest l was, or_none)
+    (take_follows t s d u m rest l o was f (is_notice m) (same_lsp (lsp_of m) l) refl refl)

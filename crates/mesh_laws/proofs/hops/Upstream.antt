@@ -40,7 +40,8 @@ module _ (q : Purpose) (p : Plan) (i : ℕ) where
   }
 
   -- a leg is Asked, and its Path goes on
-  pub hop_asks : (g : Leg) (l : Lsp) (e : NodeId) (k : LinkId) (r : List Step) (set : List ℕ) (label : Option ℕ) (s : PathRole) →
+  pub hop_asks : (g : Leg) (l : Lsp) (e : NodeId) (k : LinkId) (r : List Step) (set : List ℕ) (label : Option ℕ)
+      (s : PathRole) →
       path_kind s ≡ PlainPath → g.phase ≡ Asked → g.out_label ≡ None → set ≡ g.sent →
       DownFits q p i (Path l e k r set label s) → Hop q p i (Some g) None (Path l e k r set label s ∷ []) []
   hop_asks g l e k r set label s plain asked bare is fits = record {
@@ -115,5 +116,6 @@ module _ (q : Purpose) (p : Plan) (i : ℕ) where
     leg_closes g' l e k stands kind out sent over h = record {
       shape = rw (kind, map-append) (tears (role_of q) _ _ _ _ stands h.shape);
       rest =
-          down_sent q p i (Some g') d (PathTear l e k) down up over tt (λ _. refl) (near_keeps q p i g g' d down up out sent h.rest);
+          down_sent q p i (Some g') d (PathTear l e k) down up over tt (λ _. refl)
+          (near_keeps q p i g g' d down up out sent h.rest);
     }

@@ -121,23 +121,28 @@ keeps-err_passed p s g e None facts here asked is = go (call_of g.lsp s.calls) r
     go : (o : Option CallRec) → call_of g.lsp s.calls ≡ o →
         Keeps p s (followed_by (removes g.lsp []) (call_refused e.code o))
     go None none =
-        absurd (must_have_call p.id.0 s g facts here asked (no_previous-here p.id.0 s.lsp g (facts.leg g.lsp g here) is) none)
+        absurd (must_have_call p.id.0 s g facts here asked
+        (no_previous-here p.id.0 s.lsp g (facts.leg g.lsp g here) is) none)
     go (Some c) called =
         let asking = asking_call p.id.0 s g c facts here asked called in
         let test : is_asking c.state ≡ true = rw asking.state refl in
         rw test (keeps-blocked p.id.0 s g c (Code e.code) facts asking)
 keeps-err_passed p s g e (Some h) facts here asked is =
     keeps-gone p.id.0 s g.lsp
-    (unnamed-away p.id.0 s.lsp s.legs s.calls g.lsp (has_previous-away p.id.0 s.lsp g h (facts.leg g.lsp g here) is) (call_part p.id.0 s facts))
+    (unnamed-away p.id.0 s.lsp s.legs s.calls g.lsp (has_previous-away p.id.0 s.lsp g h (facts.leg g.lsp g here) is)
+    (call_part p.id.0 s facts))
     facts
 
 keeps-removed : (p : Place) (s : NodeState) (g : Leg) (e : PathFailure) → NodeFacts p.id.0 s →
     find_leg g.lsp s.legs ≡ Some g →
     Keeps p s (removed s g e)
 keeps-removed p s g e facts here =
-    if_cases (Keeps p s) (is_asked g.phase) _ _ (λ h. keeps-err_passed p s g e (previous g) facts here (asked-is g.phase h) refl) (λ h.
+    if_cases (Keeps p s) (is_asked g.phase) _ _
+    (λ h. keeps-err_passed p s g e (previous g) facts here (asked-is g.phase h) refl) (λ h.
     if_cases (Keeps p s) (is_closing g.phase) _ _
-    (λ f. keeps-gone p.id.0 s g.lsp (unnamed-torn p.id.0 s.lsp s.legs s.calls g.lsp g here f (call_part p.id.0 s facts)) facts) (λ f. facts))
+    (λ f.
+    keeps-gone p.id.0 s g.lsp (unnamed-torn p.id.0 s.lsp s.legs s.calls g.lsp g here f (call_part p.id.0 s facts)) facts)
+    (λ f. facts))
 
 pub keeps-on_path_err : (p : Place) (s : NodeState) (u : NodeId) (l : Lsp) (e : PathFailure) (o : Option Leg) →
     NodeFacts p.id.0 s →

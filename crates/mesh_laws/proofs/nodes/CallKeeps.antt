@@ -42,7 +42,8 @@ asked-state Turned e = absurd (cc e)
 asked-state Stuck e = absurd (cc e)
 asked-state Blocked e = absurd (cc e)
 
-pub asking_call : (n : ℕ) (s : NodeState) (g : Leg) (c : CallRec) → NodeFacts n s → find_leg g.lsp s.legs ≡ Some g → g.phase ≡ Asked → call_of g.lsp s.calls ≡ Some c → AskingCall n s g.lsp c
+pub asking_call : (n : ℕ) (s : NodeState) (g : Leg) (c : CallRec) → NodeFacts n s → find_leg g.lsp s.legs ≡ Some g →
+    g.phase ≡ Asked → call_of g.lsp s.calls ≡ Some c → AskingCall n s g.lsp c
 asking_call n s g c facts here asked called =
     let found = called-found g.lsp s.calls c facts.calls_rise called in
     let work = called-work g.lsp s.calls c called in
@@ -50,13 +51,15 @@ asking_call n s g c facts here asked called =
     record { found = found; work = work; state = asked-state c.state (subst (λ f. fits c.state (Some f) None ≡ true) asked fit) }
 
 -- an Asked leg at its ingress has a call
-pub must_have_call : (n : ℕ) (s : NodeState) (g : Leg) → NodeFacts n s → find_leg g.lsp s.legs ≡ Some g → g.phase ≡ Asked → g.lsp.ingress.0 ≡ n → call_of g.lsp s.calls ≡ None → ⊥
+pub must_have_call : (n : ℕ) (s : NodeState) (g : Leg) → NodeFacts n s → find_leg g.lsp s.legs ≡ Some g →
+    g.phase ≡ Asked → g.lsp.ingress.0 ≡ n → call_of g.lsp s.calls ≡ None → ⊥
 must_have_call n s g facts here asked ingress none =
     let has = facts.has_call g.lsp g here ingress (ap is_closing asked) in
     not_called g.lsp s.calls has.call.call has.call none has.found has.work
 
 -- the call changes together with its leg
-pub together : (n : ℕ) (s : NodeState) (l : Lsp) (c d : CallRec) (p : Option Leg) (legs' : List Leg) → NodeFacts n s → find_call c.call s.calls ≡ Some c → is_lsp c.work l ≡ true → d.call ≡ c.call → CallFacts n s.lsp legs' d →
+pub together : (n : ℕ) (s : NodeState) (l : Lsp) (c d : CallRec) (p : Option Leg) (legs' : List Leg) → NodeFacts n s →
+    find_call c.call s.calls ≡ Some c → is_lsp c.work l ≡ true → d.call ≡ c.call → CallFacts n s.lsp legs' d →
     ((m : Lsp) → is_lsp d.work m ≡ true → l ≡ m) → ((g : Leg) → p ≡ Some g → l.ingress.0 ≡ n → is_closing g.phase ≡ false → is_lsp d.work l ≡ true) → Together n s.lsp l c.call p (Some d) legs' s.calls
 together n s l c d p legs' facts found work number fit only wanted = record {
   apart = λ m e other there has. let one : c.call ≡ m = facts.one_call l c.call m c e found there work has in let same : nat_eq c.call.0 m.0 ≡ true = (let p : c.call.0 ≡ m.0 = ap (λ x. x.0) one in grind arith) in cc (same, other);
@@ -71,7 +74,9 @@ together n s l c d p legs' facts found work number fit only wanted = record {
     same_lsps l m c e f = let p = lsp-is c.work l e in let q = lsp-is c.work m f in cc (p, q)
 
 -- a call of which its state and its working LSP may have changed; it is unprotected and has no backup
-pub call-fits : (n next : ℕ) (legs : List Leg) (d : CallRec) → d.protected ≡ false → d.backup ≡ None → d.back ≡ None → d.work_reports ≡ [] → d.back_reports ≡ [] → fits d.state (phase_of (leg_of d.work legs)) None ≡ true → IfSome d.work (IsNamed n next legs Work d.egress) → CallFacts n next legs d
+pub call-fits : (n next : ℕ) (legs : List Leg) (d : CallRec) → d.protected ≡ false → d.backup ≡ None → d.back ≡ None →
+    d.work_reports ≡ [] → d.back_reports ≡ [] → fits d.state (phase_of (leg_of d.work legs)) None ≡ true →
+    IfSome d.work (IsNamed n next legs Work d.egress) → CallFacts n next legs d
 call-fits n next legs d protected backup back work_reports back_reports state work = record {
   fits = record {
     state = subst (λ o. fits d.state (phase_of (leg_of d.work legs)) (phase_of (leg_of o legs)) ≡ true) (sym back) state;
@@ -87,21 +92,25 @@ call-fits n next legs d protected backup back work_reports back_reports state wo
 
 -- The Resv came: the leg becomes Live and its call is bare
 
-live-fits : (n next : ℕ) (legs legs' : List Leg) (c : CallRec) (l : Lsp) (g : Leg) → CallFacts n next legs c → c.work ≡ Some l → find_leg l legs' ≡ Some g → g.phase ≡ Live → g.role ≡ Work → g.egress ≡ c.egress → CallFacts n next legs' (bare c)
+live-fits : (n next : ℕ) (legs legs' : List Leg) (c : CallRec) (l : Lsp) (g : Leg) → CallFacts n next legs c →
+    c.work ≡ Some l → find_leg l legs' ≡ Some g → g.phase ≡ Live → g.role ≡ Work → g.egress ≡ c.egress →
+    CallFacts n next legs' (bare c)
 live-fits n next legs legs' c l g facts work found live role egress =
     let name = named n next legs c l facts work in
     call-fits n next legs' (bare c) facts.protected facts.backup facts.back facts.fits.work_reports facts.fits.back_reports
     (subst (λ o. fits Bare (phase_of (leg_of o legs')) None ≡ true) (sym work) (subst (λ o. fits Bare (phase_of o) None ≡ true) (sym found) (subst (λ f. fits Bare (Some f) None ≡ true) (sym live) refl)))
     (subst (λ o. IfSome o (IsNamed n next legs' Work c.egress)) (sym work) (record { ingress = name.ingress; number = name.number; leg = (g, found, role, egress) }))
 
-named-egress : (n next : ℕ) (legs : List Leg) (c : CallRec) (l : Lsp) (g : Leg) → CallFacts n next legs c → c.work ≡ Some l → find_leg l legs ≡ Some g → g.egress ≡ c.egress
+named-egress : (n next : ℕ) (legs : List Leg) (c : CallRec) (l : Lsp) (g : Leg) → CallFacts n next legs c →
+    c.work ≡ Some l → find_leg l legs ≡ Some g → g.egress ≡ c.egress
 named-egress n next legs c l g facts work found =
     let leg = (named n next legs c l facts work).leg in
     let there = leg.1 in
     let one : leg.0 ≡ g = cc (there, found) in
     subst (λ x. x.egress ≡ c.egress) one leg.3
 
-pub keeps-bare : (n : ℕ) (s : NodeState) (g : Leg) (c : CallRec) (x : ℕ) → NodeFacts n s → find_leg g.lsp s.legs ≡ Some g → AskingCall n s g.lsp c → MayStand n s.lsp s.legs (connected g None x) →
+pub keeps-bare : (n : ℕ) (s : NodeState) (g : Leg) (c : CallRec) (x : ℕ) → NodeFacts n s →
+    find_leg g.lsp s.legs ≡ Some g → AskingCall n s g.lsp c → MayStand n s.lsp s.legs (connected g None x) →
     NodeFacts n (changed s (followed_by (puts (connected g None x) []) (changes_calls (call.Put (bare c) ∷ []))))
 keeps-bare n s g c x facts here asking may =
     let legs' = with_leg (connected g None x) s.legs in
@@ -119,7 +128,8 @@ keeps-bare n s g c x facts here asking may =
 
 -- The PathErr came: the leg goes and its call is blocked
 
-pub keeps-blocked : (n : ℕ) (s : NodeState) (g : Leg) (c : CallRec) (cause : Cause) → NodeFacts n s → AskingCall n s g.lsp c →
+pub keeps-blocked : (n : ℕ) (s : NodeState) (g : Leg) (c : CallRec) (cause : Cause) → NodeFacts n s →
+    AskingCall n s g.lsp c →
     NodeFacts n (changed s (followed_by (removes g.lsp []) (changes_calls (call.Put (blocked c cause) ∷ []))))
 keeps-blocked n s g c cause facts asking =
     let legs' = without_leg g.lsp s.legs in

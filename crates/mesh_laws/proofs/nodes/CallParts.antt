@@ -17,8 +17,10 @@ use Rattle.mesh_laws.proofs.nodes.LegList.{same_lsp-refl, same_lsp-eq}
 pub record CallPart (n : ℕ) (next : ℕ) (legs : List Leg) (calls : List CallRec) : Type 0 where
   pub rise : CallsRise calls
   pub call : (k : CallNo) (c : CallRec) → find_call k calls ≡ Some c → CallFacts n next legs c
-  pub one_call : (l : Lsp) (k m : CallNo) (c d : CallRec) → find_call k calls ≡ Some c → find_call m calls ≡ Some d → IsTrue (is_lsp c.work l) → IsTrue (is_lsp d.work l) → k ≡ m
-  pub has_call : (l : Lsp) (g : Leg) → find_leg l legs ≡ Some g → l.ingress.0 ≡ n → is_closing g.phase ≡ false → HasCall calls l
+  pub one_call : (l : Lsp) (k m : CallNo) (c d : CallRec) → find_call k calls ≡ Some c → find_call m calls ≡ Some d →
+      IsTrue (is_lsp c.work l) → IsTrue (is_lsp d.work l) → k ≡ m
+  pub has_call : (l : Lsp) (g : Leg) → find_leg l legs ≡ Some g → l.ingress.0 ≡ n → is_closing g.phase ≡ false →
+      HasCall calls l
 
 -- the working LSP of a call
 
@@ -35,11 +37,13 @@ is-lsp o l e = subst (λ x. is_lsp x l ≡ true) (sym e) (same_lsp-refl l)
 abbrev pub Stay : (Lsp → Type 0) → List Leg → List Leg → Type 0
 Stay Named legs legs' = (m : Lsp) → Named m → find_leg m legs' ≡ find_leg m legs
 
-leg_of-stays : (o : Option Lsp) (legs legs' : List Leg) → Stay (λ m. is_lsp o m ≡ true) legs legs' → leg_of o legs' ≡ leg_of o legs
+leg_of-stays : (o : Option Lsp) (legs legs' : List Leg) → Stay (λ m. is_lsp o m ≡ true) legs legs' →
+    leg_of o legs' ≡ leg_of o legs
 leg_of-stays None legs legs' stay = refl
 leg_of-stays (Some l) legs legs' stay = stay l (same_lsp-refl l)
 
-named-stays : (n a b : ℕ) (r : Role) (e : NodeId) (o : Option Lsp) (legs legs' : List Leg) → a ≤ b → Stay (λ m. is_lsp o m ≡ true) legs legs' → IfSome o (IsNamed n a legs r e) → IfSome o (IsNamed n b legs' r e)
+named-stays : (n a b : ℕ) (r : Role) (e : NodeId) (o : Option Lsp) (legs legs' : List Leg) → a ≤ b →
+    Stay (λ m. is_lsp o m ≡ true) legs legs' → IfSome o (IsNamed n a legs r e) → IfSome o (IsNamed n b legs' r e)
 named-stays n a b r e None legs legs' le stay named = tt
 named-stays n a b r e (Some l) legs legs' le stay named = record {
   ingress = named.ingress;
@@ -47,7 +51,8 @@ named-stays n a b r e (Some l) legs legs' le stay named = record {
   leg = (named.leg.0, stay l (same_lsp-refl l) ∙ named.leg.1, named.leg.2, named.leg.3);
 }
 
-pub call-stays : (n a b : ℕ) (legs legs' : List Leg) (c : CallRec) → a ≤ b → Stay (λ m. is_lsp c.work m ≡ true) legs legs' → CallFacts n a legs c → CallFacts n b legs' c
+pub call-stays : (n a b : ℕ) (legs legs' : List Leg) (c : CallRec) → a ≤ b →
+    Stay (λ m. is_lsp c.work m ≡ true) legs legs' → CallFacts n a legs c → CallFacts n b legs' c
 call-stays n a b legs legs' c le stay facts = record {
   fits = record {
     state = rw (leg_of-stays c.work legs legs' stay, leg_of-stays c.back legs legs' back) facts.fits.state;
@@ -78,7 +83,8 @@ NeedsNoCall n l p = (g : Leg) → p ≡ Some g → l.ingress.0 ≡ n → is_clos
 abbrev pub Becomes : Lsp → Option Leg → List Leg → List Leg → Type 0
 Becomes l p legs legs' = (m : Lsp) → find_leg m legs' ≡ cond (same_lsp l m) p (find_leg m legs)
 
-other-stays : (l m : Lsp) (p : Option Leg) (legs legs' : List Leg) → Becomes l p legs legs' → (same_lsp l m ≡ true → ⊥) → find_leg m legs' ≡ find_leg m legs
+other-stays : (l m : Lsp) (p : Option Leg) (legs legs' : List Leg) → Becomes l p legs legs' →
+    (same_lsp l m ≡ true → ⊥) → find_leg m legs' ≡ find_leg m legs
 other-stays l m p legs legs' becomes other = go (same_lsp l m) refl
   where
     go : (b : Bool) → same_lsp l m ≡ b → find_leg m legs' ≡ find_leg m legs
@@ -86,14 +92,17 @@ other-stays l m p legs legs' becomes other = go (same_lsp l m) refl
     go false e = becomes m ∙ ap (λ b. cond b p (find_leg m legs)) e
 
 -- a leg found afterwards is the one that l's became, or it was there
-found-new : (P : Type 0) (l m : Lsp) (p : Option Leg) (g : Leg) (legs legs' : List Leg) → Becomes l p legs legs' → find_leg m legs' ≡ Some g → (l ≡ m → p ≡ Some g → P) → (same_lsp l m ≡ false → find_leg m legs ≡ Some g → P) → P
+found-new : (P : Type 0) (l m : Lsp) (p : Option Leg) (g : Leg) (legs legs' : List Leg) → Becomes l p legs legs' →
+    find_leg m legs' ≡ Some g → (l ≡ m → p ≡ Some g → P) → (same_lsp l m ≡ false → find_leg m legs ≡ Some g → P) → P
 found-new P l m p g legs legs' becomes found here there = go (same_lsp l m) refl (sym (becomes m) ∙ found)
   where
     go : (b : Bool) → same_lsp l m ≡ b → cond b p (find_leg m legs) ≡ Some g → P
     go true e f = here (same_lsp-eq l m e) f
     go false e f = there e f
 
-pub unnamed-part : (n next : ℕ) (l : Lsp) (p : Option Leg) (legs legs' : List Leg) (calls : List CallRec) → Becomes l p legs legs' → Unnamed calls l → NeedsNoCall n l p → CallPart n next legs calls → CallPart n next legs' calls
+pub unnamed-part : (n next : ℕ) (l : Lsp) (p : Option Leg) (legs legs' : List Leg) (calls : List CallRec) →
+    Becomes l p legs legs' → Unnamed calls l → NeedsNoCall n l p → CallPart n next legs calls →
+    CallPart n next legs' calls
 unnamed-part n next l p legs legs' calls becomes unnamed needs_none part = record {
   rise = part.rise;
   call = λ k c found. call-stays n next next legs legs' c (omega arith) (stays k c found) (part.call k c found);
@@ -105,7 +114,8 @@ unnamed-part n next l p legs legs' calls becomes unnamed needs_none part = recor
 }
   where
     stays : (k : CallNo) (c : CallRec) → find_call k calls ≡ Some c → Stay (λ m. is_lsp c.work m ≡ true) legs legs'
-    stays k c found m names = other-stays l m p legs legs' becomes (λ same. let e = same_lsp-eq l m same in unnamed k c found (subst (λ x. is_lsp c.work x ≡ true) (sym e) names))
+    stays k c found m names =
+        other-stays l m p legs legs' becomes (λ same. let e = same_lsp-eq l m same in unnamed k c found (subst (λ x. is_lsp c.work x ≡ true) (sym e) names))
 
 -- A call changes with its leg
 
@@ -116,7 +126,9 @@ Replaced k o calls calls' = (m : CallNo) → find_call m calls' ≡ cond (nat_eq
 number-is : (k m : CallNo) → nat_eq k.0 m.0 ≡ true → k ≡ m
 number-is k m e = let p : k.0 ≡ m.0 = grind arith in λ i. record { 0 = p i }
 
-found-call : (P : Type 0) (k m : CallNo) (o : Option CallRec) (c : CallRec) (calls calls' : List CallRec) → Replaced k o calls calls' → find_call m calls' ≡ Some c → (k ≡ m → o ≡ Some c → P) → (nat_eq k.0 m.0 ≡ false → find_call m calls ≡ Some c → P) → P
+found-call : (P : Type 0) (k m : CallNo) (o : Option CallRec) (c : CallRec) (calls calls' : List CallRec) →
+    Replaced k o calls calls' → find_call m calls' ≡ Some c → (k ≡ m → o ≡ Some c → P) →
+    (nat_eq k.0 m.0 ≡ false → find_call m calls ≡ Some c → P) → P
 found-call P k m o c calls calls' replaced found here there = go (nat_eq k.0 m.0) refl (sym (replaced m) ∙ found)
   where
     go : (b : Bool) → nat_eq k.0 m.0 ≡ b → cond b o (find_call m calls) ≡ Some c → P
@@ -125,13 +137,15 @@ found-call P k m o c calls calls' replaced found here there = go (nat_eq k.0 m.0
 
 -- The call k and the LSP l belong together: no other call has l, and k had and has no other LSP.
 pub record Together (n next : ℕ) (l : Lsp) (k : CallNo) (p : Option Leg) (o : Option CallRec) (legs' : List Leg) (calls : List CallRec) : Type 0 where
-  pub apart : (m : CallNo) (d : CallRec) → nat_eq k.0 m.0 ≡ false → find_call m calls ≡ Some d → is_lsp d.work l ≡ true → ⊥
+  pub apart : (m : CallNo) (d : CallRec) → nat_eq k.0 m.0 ≡ false → find_call m calls ≡ Some d →
+      is_lsp d.work l ≡ true → ⊥
   pub had : (c : CallRec) (m : Lsp) → find_call k calls ≡ Some c → is_lsp c.work m ≡ true → l ≡ m
   pub has : (c : CallRec) (m : Lsp) → o ≡ Some c → is_lsp c.work m ≡ true → l ≡ m
   pub facts : (c : CallRec) → o ≡ Some c → CallFacts n next legs' c
   pub number : (c : CallRec) → o ≡ Some c → c.call ≡ k
   -- where the leg wants a call, it has this one
-  pub wanted : (g : Leg) → p ≡ Some g → l.ingress.0 ≡ n → is_closing g.phase ≡ false → (c : CallRec) × (o ≡ Some c) × (is_lsp c.work l ≡ true)
+  pub wanted : (g : Leg) → p ≡ Some g → l.ingress.0 ≡ n → is_closing g.phase ≡ false →
+      (c : CallRec) × (o ≡ Some c) × (is_lsp c.work l ≡ true)
 
 pub together-part : (n a b : ℕ) (l : Lsp) (k : CallNo) (p : Option Leg) (o : Option CallRec) (legs legs' : List Leg) (calls calls' : List CallRec) → a ≤ b → CallsRise calls' → Becomes l p legs legs' → Replaced k o calls calls' →
     Together n b l k p o legs' calls → CallPart n a legs calls → CallPart n b legs' calls'
@@ -151,11 +165,15 @@ together-part n a b l k p o legs legs' calls calls' le rise becomes replaced bot
       (λ e there. kept m e (part.has_call m g there here stands));
 }
   where
-    clash : (m : Lsp) (j : CallNo) (c d : CallRec) → nat_eq k.0 j.0 ≡ false → o ≡ Some c → find_call j calls ≡ Some d → is_lsp c.work m ≡ true → is_lsp d.work m ≡ true → ⊥
-    clash m j c d e is there c_has d_has = let same = both.has c m is c_has in both.apart j d e there (subst (λ x. is_lsp d.work x ≡ true) (sym same) d_has)
+    clash : (m : Lsp) (j : CallNo) (c d : CallRec) → nat_eq k.0 j.0 ≡ false → o ≡ Some c →
+        find_call j calls ≡ Some d → is_lsp c.work m ≡ true → is_lsp d.work m ≡ true → ⊥
+    clash m j c d e is there c_has d_has =
+        let same = both.has c m is c_has in both.apart j d e there (subst (λ x. is_lsp d.work x ≡ true) (sym same) d_has)
 
-    stays : (m : CallNo) (c : CallRec) → nat_eq k.0 m.0 ≡ false → find_call m calls ≡ Some c → Stay (λ x. is_lsp c.work x ≡ true) legs legs'
-    stays m c e found x names = other-stays l x p legs legs' becomes (λ same. let is = same_lsp-eq l x same in both.apart m c e found (subst (λ y. is_lsp c.work y ≡ true) (sym is) names))
+    stays : (m : CallNo) (c : CallRec) → nat_eq k.0 m.0 ≡ false → find_call m calls ≡ Some c →
+        Stay (λ x. is_lsp c.work x ≡ true) legs legs'
+    stays m c e found x names =
+        other-stays l x p legs legs' becomes (λ same. let is = same_lsp-eq l x same in both.apart m c e found (subst (λ y. is_lsp c.work y ≡ true) (sym is) names))
 
     wanted : (m : Lsp) → l ≡ m → (c : CallRec) × (o ≡ Some c) × (is_lsp c.work l ≡ true) → HasCall calls' m
     wanted m e (c, is, names) =
@@ -177,7 +195,8 @@ together-part n a b l k p o legs legs' calls calls' le rise becomes replaced bot
 
 -- A call without a working LSP comes or goes
 
-pub lone-part : (n next : ℕ) (k : CallNo) (o : Option CallRec) (legs : List Leg) (calls calls' : List CallRec) → CallsRise calls' → Replaced k o calls calls' →
+pub lone-part : (n next : ℕ) (k : CallNo) (o : Option CallRec) (legs : List Leg) (calls calls' : List CallRec) →
+    CallsRise calls' → Replaced k o calls calls' →
     ((c : CallRec) → find_call k calls ≡ Some c → c.work ≡ None) → ((c : CallRec) → o ≡ Some c → c.work ≡ None) → ((c : CallRec) → o ≡ Some c → CallFacts n next legs c) → CallPart n next legs calls → CallPart n next legs calls'
 lone-part n next k o legs calls calls' rise replaced had has facts part = record {
   rise = rise;

@@ -2,7 +2,8 @@
 use Rattle.std.proofs.Common.{◌≡◌, Bool, true, false, cond, not, refl}
 use Rattle.std.specs.Prelude.{◌&&◌, ◌||◌}
 
-pub if_cases : {A : Type 0} (P : A → Type 0) (b : Bool) (x y : A) → (b ≡ true → P x) → (b ≡ false → P y) → P (cond b x y)
+pub if_cases : {A : Type 0} (P : A → Type 0) (b : Bool) (x y : A) → (b ≡ true → P x) → (b ≡ false → P y) →
+    P (cond b x y)
 if_cases P true x y then otherwise = then refl
 if_cases P false x y then otherwise = otherwise refl
 

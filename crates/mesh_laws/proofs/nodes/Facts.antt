@@ -86,10 +86,12 @@ pub record NodeFacts (n : ℕ) (s : NodeState) : Type 0 where
   pub calls_rise : CallsRise s.calls
   pub call : (k : CallNo) (c : CallRec) → find_call k s.calls ≡ Some c → CallFacts n s.lsp s.legs c
   -- calls with the same working LSP are one
-  pub one_call : (l : Lsp) (k m : CallNo) (c d : CallRec) → find_call k s.calls ≡ Some c → find_call m s.calls ≡ Some d →
+  pub one_call : (l : Lsp) (k m : CallNo) (c d : CallRec) → find_call k s.calls ≡ Some c →
+      find_call m s.calls ≡ Some d →
       IsTrue (is_lsp c.work l) → IsTrue (is_lsp d.work l) → k ≡ m
   -- the LSP of a leg that begins here and isn't torn has a call
-  pub has_call : (l : Lsp) (g : Leg) → find_leg l s.legs ≡ Some g → l.ingress.0 ≡ n → is_closing g.phase ≡ false → HasCall s.calls l
+  pub has_call : (l : Lsp) (g : Leg) → find_leg l s.legs ≡ Some g → l.ingress.0 ≡ n → is_closing g.phase ≡ false →
+      HasCall s.calls l
 
 -- A desk
 

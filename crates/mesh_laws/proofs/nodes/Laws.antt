@@ -1,4 +1,5 @@
--- What the facts of a node say of the places in its lists: each label has one leg, and the state of each call fits its legs.
+-- What the facts of a node say of the places in its lists: each label has one leg, a Live leg has its labels, and the
+-- state of each call fits its legs.
 use Rattle.std.proofs.Common.{◌≡◌, ◌<◌, ℕ, Bool, true, false, not, nat_eq, List, [], ◌∷◌, refl, sym, subst, ◌∙◌, arith}
 use Rattle.std.specs.Prelude.{◌||◌, Some, None, IsTrue}
 use Rattle.std.specs.List.{AllByRecursion, AllPairs}
@@ -24,13 +25,16 @@ use Rattle.mesh_laws.proofs.nodes.Runs.{facts-hold}
 -- Labels
 
 -- a leg that is found among the later ones is found among all
-found-later : (g : Leg) (legs : List Leg) (l : Lsp) (h : Leg) → AllByRecursion (λ x. IsTrue (lsp_before g.lsp x.lsp)) legs → find_leg l legs ≡ Some h → find_leg l (g ∷ legs) ≡ Some h
+found-later : (g : Leg) (legs : List Leg) (l : Lsp) (h : Leg) →
+    AllByRecursion (λ x. IsTrue (lsp_before g.lsp x.lsp)) legs → find_leg l legs ≡ Some h →
+    find_leg l (g ∷ legs) ≡ Some h
 found-later g legs l h above found =
     let before : lsp_before g.lsp h.lsp ≡ true = found-all (λ x. IsTrue (lsp_before g.lsp x.lsp)) l legs h found above in
     let apart : same_lsp g.lsp l ≡ false = subst (λ x. same_lsp g.lsp x ≡ false) (found-lsp l legs h found) (before-apart g.lsp h.lsp before) in
     rw apart found
 
-one_leg-pairs : (legs : List Leg) → LegsRise legs → ((f : Fibre) (x : ℕ) (l m : Lsp) (g h : Leg) → find_leg l legs ≡ Some g → find_leg m legs ≡ Some h → IsTrue (takes f x g) → IsTrue (takes f x h) → l ≡ m) → LabelsHaveOneLeg legs
+one_leg-pairs : (legs : List Leg) → LegsRise legs →
+    ((f : Fibre) (x : ℕ) (l m : Lsp) (g h : Leg) → find_leg l legs ≡ Some g → find_leg m legs ≡ Some h → IsTrue (takes f x g) → IsTrue (takes f x h) → l ≡ m) → LabelsHaveOneLeg legs
 one_leg-pairs [] rise one = λ i j d less below. absurd (omega arith)
 one_leg-pairs (g ∷ legs) rise one =
     AllPairs-cons TakeNoLabelTwice g legs
@@ -68,7 +72,8 @@ every_live t events run n =
 
 calls-rise : (calls : List CallRec) → CallsRise calls → AllPairs (λ c d. c.call.0 < d.call.0) calls
 calls-rise [] rise = λ i j d less below. absurd (omega arith)
-calls-rise (c ∷ calls) rise = AllPairs-cons (λ c d. c.call.0 < d.call.0) c calls (All-from_recursion (λ d. c.call.0 < d.call.0) calls rise.0) (calls-rise calls rise.1)
+calls-rise (c ∷ calls) rise =
+    AllPairs-cons (λ c d. c.call.0 < d.call.0) c calls (All-from_recursion (λ d. c.call.0 < d.call.0) calls rise.0) (calls-rise calls rise.1)
 
 -- a call without a backup names its working LSP alone
 names-work : (c : CallRec) (l : Lsp) → c.back ≡ None → names c l ≡ true → is_lsp c.work l ≡ true
@@ -87,7 +92,8 @@ one_call n s facts l g found wants =
     let there : find_leg g.lsp s.legs ≡ Some g = subst (λ k. find_leg k s.legs ≡ Some g) (sym is) found in
     let stands : is_closing g.phase ≡ false = not-true _ (both_right (nat_eq g.lsp.ingress.0 n) _ wants) in
     let has = facts.has_call g.lsp g there here stands in
-    one-count (λ c. names c g.lsp) s.calls has.call.call has.call facts.calls_rise has.found (rw has.work refl) (λ m d at_m named.
+    one-count (λ c. names c g.lsp) s.calls has.call.call has.call facts.calls_rise has.found (rw has.work refl)
+    (λ m d at_m named.
     facts.one_call g.lsp m has.call.call d has.call at_m has.found
     (names-work d g.lsp (facts.call m d at_m).back named) has.work)
 

@@ -41,10 +41,12 @@ by_rest a b l h k =
     let f : nat_eq a b ≡ true = grind arith in
     rw (e, f) k
 
-total : (a b : ℕ) (s l r : Bool) → (s ≡ false → l ≡ false → r ≡ true) → (nat_eq b a && s) ≡ false → (nat_lt a b || (nat_eq a b && l)) ≡ false → (nat_lt b a || (nat_eq b a && r)) ≡ true
+total : (a b : ℕ) (s l r : Bool) → (s ≡ false → l ≡ false → r ≡ true) → (nat_eq b a && s) ≡ false →
+    (nat_lt a b || (nat_eq a b && l)) ≡ false → (nat_lt b a || (nat_eq b a && r)) ≡ true
 total a b s l r below e f = go (nat_lt a b) (nat_eq a b) refl refl f
   where
-    go : (p q : Bool) → nat_lt a b ≡ p → nat_eq a b ≡ q → (p || (q && l)) ≡ false → (nat_lt b a || (nat_eq b a && r)) ≡ true
+    go : (p q : Bool) → nat_lt a b ≡ p → nat_eq a b ≡ q → (p || (q && l)) ≡ false →
+        (nat_lt b a || (nat_eq b a && r)) ≡ true
     go true q g h k = absurd (cc k)
     go false true g h k =
         let same : b ≡ a = grind arith in
@@ -52,7 +54,8 @@ total a b s l r below e f = go (nat_lt a b) (nat_eq a b) refl refl f
         by_rest b a r same (below (rw test at e) k)
     go false false g h k = by_first b a r (grind arith)
 
-before : (a b c : ℕ) (l r q : Bool) → (l ≡ true → r ≡ true → q ≡ true) → (nat_lt a b || (nat_eq a b && l)) ≡ true → (nat_lt b c || (nat_eq b c && r)) ≡ true → (nat_lt a c || (nat_eq a c && q)) ≡ true
+before : (a b c : ℕ) (l r q : Bool) → (l ≡ true → r ≡ true → q ≡ true) → (nat_lt a b || (nat_eq a b && l)) ≡ true →
+    (nat_lt b c || (nat_eq b c && r)) ≡ true → (nat_lt a c || (nat_eq a c && q)) ≡ true
 before a b c l r q below e f = go (first_or a b l e) (first_or b c r f)
   where
     go : (a < b) ⊎ ((a ≡ b) × (l ≡ true)) → (b < c) ⊎ ((b ≡ c) × (r ≡ true)) → (nat_lt a c || (nat_eq a c && q)) ≡ true
@@ -73,11 +76,13 @@ same_lsp-by a b m e = ap (λ x. same_lsp x m) (same_lsp-eq a b e)
 
 -- What holds of each
 
-pub all-then : {X : Type 0} (P Q : X → Type 0) (xs : List X) → ((x : X) → P x → Q x) → AllByRecursion P xs → AllByRecursion Q xs
+pub all-then : {X : Type 0} (P Q : X → Type 0) (xs : List X) → ((x : X) → P x → Q x) → AllByRecursion P xs →
+    AllByRecursion Q xs
 all-then P Q [] f all = tt
 all-then P Q (x ∷ xs) f all = (f x all.0, all-then P Q xs f all.1)
 
-pub all-filter : {X : Type 0} (P : X → Type 0) (p : X → Bool) (xs : List X) → AllByRecursion P xs → AllByRecursion P (filter p xs)
+pub all-filter : {X : Type 0} (P : X → Type 0) (p : X → Bool) (xs : List X) → AllByRecursion P xs →
+    AllByRecursion P (filter p xs)
 all-filter P p [] all = tt
 all-filter P p (x ∷ xs) all =
     elim (p x) as (λ b. AllByRecursion P (cond b (x ∷ filter p xs) (filter p xs))) [
@@ -95,7 +100,8 @@ found-lsp l (h ∷ legs) g found =
       | false ↦ λ e f. found-lsp l legs g f
     ] refl found
 
-pub found-all : (P : Leg → Type 0) (l : Lsp) (legs : List Leg) (g : Leg) → find_leg l legs ≡ Some g → AllByRecursion P legs → P g
+pub found-all : (P : Leg → Type 0) (l : Lsp) (legs : List Leg) (g : Leg) → find_leg l legs ≡ Some g →
+    AllByRecursion P legs → P g
 found-all P l [] g found all = cc
 found-all P l (h ∷ legs) g found all =
     elim (same_lsp h.lsp l) as (λ b. cond b (Some h) (find_leg l legs) ≡ Some g → P g) [
@@ -103,7 +109,8 @@ found-all P l (h ∷ legs) g found all =
       | false ↦ λ f. found-all P l legs g f all.1
     ] found
 
-pub find-with_leg : (g : Leg) (legs : List Leg) (m : Lsp) → find_leg m (with_leg g legs) ≡ cond (same_lsp g.lsp m) (Some g) (find_leg m legs)
+pub find-with_leg : (g : Leg) (legs : List Leg) (m : Lsp) →
+    find_leg m (with_leg g legs) ≡ cond (same_lsp g.lsp m) (Some g) (find_leg m legs)
 find-with_leg g [] m = refl
 find-with_leg g (h ∷ legs) m = go (find-with_leg g legs m) (same_lsp h.lsp g.lsp) (lsp_before g.lsp h.lsp) refl
   where
@@ -111,7 +118,8 @@ find-with_leg g (h ∷ legs) m = go (find-with_leg g legs m) (same_lsp h.lsp g.l
     twice true = refl
     twice false = refl
 
-    swap : (a b : Bool) → same_lsp h.lsp m ≡ a → same_lsp g.lsp m ≡ b → same_lsp h.lsp g.lsp ≡ false → cond a (Some h) (cond b (Some g) (find_leg m legs)) ≡ cond b (Some g) (cond a (Some h) (find_leg m legs))
+    swap : (a b : Bool) → same_lsp h.lsp m ≡ a → same_lsp g.lsp m ≡ b → same_lsp h.lsp g.lsp ≡ false →
+        cond a (Some h) (cond b (Some g) (find_leg m legs)) ≡ cond b (Some g) (cond a (Some h) (find_leg m legs))
     swap true true e f apart =
         let same : h.lsp ≡ g.lsp = same_lsp-eq h.lsp m e ∙ sym (same_lsp-eq g.lsp m f) in
         let one : same_lsp h.lsp h.lsp ≡ false = rw (← same) at apart in
@@ -119,18 +127,21 @@ find-with_leg g (h ∷ legs) m = go (find-with_leg g legs m) (same_lsp h.lsp g.l
     swap true false e f apart = refl
     swap false b e f apart = refl
 
-    go : find_leg m (with_leg g legs) ≡ cond (same_lsp g.lsp m) (Some g) (find_leg m legs) → (a b : Bool) → same_lsp h.lsp g.lsp ≡ a →
+    go : find_leg m (with_leg g legs) ≡ cond (same_lsp g.lsp m) (Some g) (find_leg m legs) → (a b : Bool) →
+        same_lsp h.lsp g.lsp ≡ a →
         find_leg m (cond a (g ∷ legs) (cond b (g ∷ h ∷ legs) (h ∷ with_leg g legs))) ≡ cond (same_lsp g.lsp m) (Some g) (cond (same_lsp h.lsp m) (Some h) (find_leg m legs))
     go below true b e = rw (same_lsp-by h.lsp g.lsp m e) (twice (same_lsp g.lsp m))
     go below false true e = refl
     go below false false e = rw below (swap (same_lsp h.lsp m) (same_lsp g.lsp m) refl refl e)
 
-pub find-without_leg : (l : Lsp) (legs : List Leg) (m : Lsp) → find_leg m (without_leg l legs) ≡ cond (same_lsp l m) None (find_leg m legs)
+pub find-without_leg : (l : Lsp) (legs : List Leg) (m : Lsp) →
+    find_leg m (without_leg l legs) ≡ cond (same_lsp l m) None (find_leg m legs)
 find-without_leg l [] m =
     elim (same_lsp l m) as (λ b. find_leg m [] ≡ cond b None (find_leg m [])) [ true ↦ refl | false ↦ refl ]
 find-without_leg l (h ∷ legs) m = go (find-without_leg l legs m) (same_lsp h.lsp l) (same_lsp l m) refl refl
   where
-    go : find_leg m (without_leg l legs) ≡ cond (same_lsp l m) None (find_leg m legs) → (a b : Bool) → same_lsp h.lsp l ≡ a → same_lsp l m ≡ b →
+    go : find_leg m (without_leg l legs) ≡ cond (same_lsp l m) None (find_leg m legs) → (a b : Bool) →
+        same_lsp h.lsp l ≡ a → same_lsp l m ≡ b →
         find_leg m (cond (not a) (h ∷ without_leg l legs) (without_leg l legs)) ≡ cond b None (cond (same_lsp h.lsp m) (Some h) (find_leg m legs))
     go below true true e f = rw (below, f) refl
     go below true false e f = rw (below, same_lsp-by h.lsp l m e, f) refl
@@ -142,7 +153,8 @@ find-without_leg l (h ∷ legs) m = go (find-without_leg l legs m) (same_lsp h.l
 
 -- Order
 
-all-with_leg : (P : Leg → Type 0) (g : Leg) (legs : List Leg) → P g → AllByRecursion P legs → AllByRecursion P (with_leg g legs)
+all-with_leg : (P : Leg → Type 0) (g : Leg) (legs : List Leg) → P g → AllByRecursion P legs →
+    AllByRecursion P (with_leg g legs)
 all-with_leg P g [] here all = (here, tt)
 all-with_leg P g (h ∷ legs) here all =
     elim (same_lsp h.lsp g.lsp) as (λ a. AllByRecursion P (cond a (g ∷ legs) (cond (lsp_before g.lsp h.lsp) (g ∷ h ∷ legs) (h ∷ with_leg g legs)))) [
@@ -155,12 +167,15 @@ all-with_leg P g (h ∷ legs) here all =
 
 pub rise-with_leg : (g : Leg) (legs : List Leg) → LegsRise legs → LegsRise (with_leg g legs)
 rise-with_leg g [] rise = (tt, tt)
-rise-with_leg g (h ∷ legs) rise = go (rise-with_leg g legs rise.1) (same_lsp h.lsp g.lsp) (lsp_before g.lsp h.lsp) refl refl
+rise-with_leg g (h ∷ legs) rise =
+    go (rise-with_leg g legs rise.1) (same_lsp h.lsp g.lsp) (lsp_before g.lsp h.lsp) refl refl
   where
-    go : LegsRise (with_leg g legs) → (a b : Bool) → same_lsp h.lsp g.lsp ≡ a → lsp_before g.lsp h.lsp ≡ b → LegsRise (cond a (g ∷ legs) (cond b (g ∷ h ∷ legs) (h ∷ with_leg g legs)))
+    go : LegsRise (with_leg g legs) → (a b : Bool) → same_lsp h.lsp g.lsp ≡ a → lsp_before g.lsp h.lsp ≡ b →
+        LegsRise (cond a (g ∷ legs) (cond b (g ∷ h ∷ legs) (h ∷ with_leg g legs)))
     go below true b e f = let is = same_lsp-eq h.lsp g.lsp e in (rw is at (rise.0), rise.1)
     go below false true e f = ((f, all-then _ _ legs (λ x. before-before g.lsp h.lsp x.lsp f) rise.0), rise)
-    go below false false e f = (all-with_leg (λ x. IsTrue (lsp_before h.lsp x.lsp)) g legs (before-total g.lsp h.lsp e f) rise.0, below)
+    go below false false e f =
+        (all-with_leg (λ x. IsTrue (lsp_before h.lsp x.lsp)) g legs (before-total g.lsp h.lsp e f) rise.0, below)
 
 pub rise-without_leg : (l : Lsp) (legs : List Leg) → LegsRise legs → LegsRise (without_leg l legs)
 rise-without_leg l [] rise = tt
@@ -171,7 +186,8 @@ rise-without_leg l (h ∷ legs) rise =
     ]
 
 -- what holds of each leg that is found holds of all
-pub all-found : (P : Leg → Type 0) (legs : List Leg) → LegsRise legs → ((l : Lsp) (g : Leg) → find_leg l legs ≡ Some g → P g) → AllByRecursion P legs
+pub all-found : (P : Leg → Type 0) (legs : List Leg) → LegsRise legs →
+    ((l : Lsp) (g : Leg) → find_leg l legs ≡ Some g → P g) → AllByRecursion P legs
 all-found P [] rise each = tt
 all-found P (h ∷ legs) rise each = (
   each h.lsp h (rw (same_lsp-refl h.lsp) refl),

@@ -13,7 +13,8 @@ use Rattle.mesh_laws.proofs.nodes.LegList.{same_lsp-eq, find-with_leg, find-with
 pub record LegPart (n : ℕ) (next : ℕ) (legs : List Leg) : Type 0 where
   pub rise : LegsRise legs
   pub leg : (l : Lsp) (g : Leg) → find_leg l legs ≡ Some g → LegFacts n next g
-  pub one_leg : (f : Fibre) (x : ℕ) (l m : Lsp) (g h : Leg) → find_leg l legs ≡ Some g → find_leg m legs ≡ Some h → IsTrue (takes f x g) → IsTrue (takes f x h) → l ≡ m
+  pub one_leg : (f : Fibre) (x : ℕ) (l m : Lsp) (g h : Leg) → find_leg l legs ≡ Some g → find_leg m legs ≡ Some h →
+      IsTrue (takes f x g) → IsTrue (takes f x h) → l ≡ m
 
 -- What a leg takes
 
@@ -22,8 +23,10 @@ same_fibre-eq a b e = go a.forward b.forward refl refl (nat_eq a.link.0 b.link.0
   where
     go : (p q : Bool) → a.forward ≡ p → b.forward ≡ q → (c : Bool) → nat_eq a.link.0 b.link.0 ≡ c → a ≡ b
     go p q f g false h = let no : (false && same_bool a.forward b.forward) ≡ true = rw h at e in cc no
-    go true true f g true h = let link : a.link.0 ≡ b.link.0 = grind arith in λ i. record { link = record { 0 = link i }; forward = (f ∙ sym g) i }
-    go false false f g true h = let link : a.link.0 ≡ b.link.0 = grind arith in λ i. record { link = record { 0 = link i }; forward = (f ∙ sym g) i }
+    go true true f g true h =
+        let link : a.link.0 ≡ b.link.0 = grind arith in λ i. record { link = record { 0 = link i }; forward = (f ∙ sym g) i }
+    go false false f g true h =
+        let link : a.link.0 ≡ b.link.0 = grind arith in λ i. record { link = record { 0 = link i }; forward = (f ∙ sym g) i }
     go true false f g true h = let no : false ≡ true = rw (h, f, g) at e in cc no
     go false true f g true h = let no : false ≡ true = rw (h, f, g) at e in cc no
 
@@ -43,20 +46,25 @@ label-is (Some y) x e = let is : y ≡ x = grind arith in ap Some is
 pub taken : (f : Fibre) (x : ℕ) (g : Leg) → takes f x g ≡ true → Taken f x g
 taken f x g e = go (is_beyond_asked g.phase) (is_on g.in_fibre f) refl refl e
   where
-    go : (a b : Bool) → is_beyond_asked g.phase ≡ a → is_on g.in_fibre f ≡ b → is_label (cond (a && b) g.in_label None) x ≡ true → Taken f x g
+    go : (a b : Bool) → is_beyond_asked g.phase ≡ a → is_on g.in_fibre f ≡ b →
+        is_label (cond (a && b) g.in_label None) x ≡ true → Taken f x g
     go true true p q h = record { phase = p; fibre = on-is g.in_fibre f q; label = label-is g.in_label x h }
     go true false p q h = cc h
     go false b p q h = cc h
 
 -- a free label is taken by no leg
-pub free-not_taken : (f : Fibre) (x : ℕ) (legs : List Leg) (m : Lsp) (h : Leg) → is_free legs f x ≡ true → find_leg m legs ≡ Some h → takes f x h ≡ true → ⊥
+pub free-not_taken : (f : Fibre) (x : ℕ) (legs : List Leg) (m : Lsp) (h : Leg) → is_free legs f x ≡ true →
+    find_leg m legs ≡ Some h → takes f x h ≡ true → ⊥
 free-not_taken f x [] m h free found this = cc
 free-not_taken f x (g ∷ legs) m h free found this =
     go (free-not_taken f x legs m h) (takes f x g) (same_lsp g.lsp m) refl free found this
   where
-    go : (is_free legs f x ≡ true → find_leg m legs ≡ Some h → takes f x h ≡ true → ⊥) → (b c : Bool) → takes f x g ≡ b → not (b || list_any (takes f x) legs) ≡ true → cond c (Some g) (find_leg m legs) ≡ Some h → takes f x h ≡ true → ⊥
+    go : (is_free legs f x ≡ true → find_leg m legs ≡ Some h → takes f x h ≡ true → ⊥) → (b c : Bool) →
+        takes f x g ≡ b → not (b || list_any (takes f x) legs) ≡ true → cond c (Some g) (find_leg m legs) ≡ Some h →
+        takes f x h ≡ true → ⊥
     go later true c e free found this = cc free
-    go later false true e free found this = let is : g ≡ h = cc found in let no : takes f x h ≡ false = subst (λ y. takes f x y ≡ false) is e in cc (no, this)
+    go later false true e free found this =
+        let is : g ≡ h = cc found in let no : takes f x h ≡ false = subst (λ y. takes f x y ≡ false) is e in cc (no, this)
     go later false false e free found this = later free found this
 
 -- A leg that may stand
@@ -84,14 +92,16 @@ later-facts n a b g le facts = record {
 }
 
 -- the leg that is found afterwards is the new one, or it was there
-found-after : (P : Type 0) (g h : Leg) (legs : List Leg) (m : Lsp) → find_leg m (with_leg g legs) ≡ Some h → (g.lsp ≡ m → g ≡ h → P) → (same_lsp g.lsp m ≡ false → find_leg m legs ≡ Some h → P) → P
+found-after : (P : Type 0) (g h : Leg) (legs : List Leg) (m : Lsp) → find_leg m (with_leg g legs) ≡ Some h →
+    (g.lsp ≡ m → g ≡ h → P) → (same_lsp g.lsp m ≡ false → find_leg m legs ≡ Some h → P) → P
 found-after P g h legs m found here there = go (same_lsp g.lsp m) refl (sym (find-with_leg g legs m) ∙ found)
   where
     go : (b : Bool) → same_lsp g.lsp m ≡ b → cond b (Some g) (find_leg m legs) ≡ Some h → P
     go true e f = here (same_lsp-eq g.lsp m e) (cc f)
     go false e f = there e f
 
-pub part-with_leg : (n a b : ℕ) (g : Leg) (legs : List Leg) → a ≤ b → LegPart n a legs → MayStand n b legs g → LegPart n b (with_leg g legs)
+pub part-with_leg : (n a b : ℕ) (g : Leg) (legs : List Leg) → a ≤ b → LegPart n a legs → MayStand n b legs g →
+    LegPart n b (with_leg g legs)
 part-with_leg n a b g legs le part may = record {
   rise = rise-with_leg g legs part.rise;
   leg = λ l h found. found-after (LegFacts n b h) g h legs l found (λ e is. subst (LegFacts n b) is may.facts) (λ e f. later-facts n a b h le (part.leg l h f));
@@ -103,7 +113,8 @@ part-with_leg n a b g legs le part may = record {
       (λ e' there'. part.one_leg f x l m i j there there' takes_i takes_j));
 }
   where
-    clash : (f : Fibre) (x : ℕ) (m : Lsp) (h : Leg) → takes f x g ≡ true → find_leg m legs ≡ Some h → takes f x h ≡ true → ⊥
+    clash : (f : Fibre) (x : ℕ) (m : Lsp) (h : Leg) → takes f x g ≡ true → find_leg m legs ≡ Some h →
+        takes f x h ≡ true → ⊥
     clash f x m h this there that = free-not_taken f x legs m h (may.free f x (taken f x g this)) there that
 
 left : (h : Leg) (l m : Lsp) (legs : List Leg) → find_leg m (without_leg l legs) ≡ Some h → find_leg m legs ≡ Some h
@@ -113,7 +124,8 @@ left h l m legs found = go (same_lsp l m) (sym (find-without_leg l legs m) ∙ f
     go true e = absurd (cc e)
     go false e = e
 
-pub part-without_leg : (n next : ℕ) (l : Lsp) (legs : List Leg) → LegPart n next legs → LegPart n next (without_leg l legs)
+pub part-without_leg : (n next : ℕ) (l : Lsp) (legs : List Leg) → LegPart n next legs →
+    LegPart n next (without_leg l legs)
 part-without_leg n next l legs part = record {
   rise = rise-without_leg l legs part.rise;
   leg = λ m h found. part.leg m h (left h l m legs found);

@@ -88,7 +88,8 @@ away a n P e f = let same : nat_eq a n ≡ true = grind arith in absurd (cc (e, 
 some : {X : Type 0} (x y : X) → Some x ≡ Some y → x ≡ y
 some x y e = cc e
 
-module _ (p : Place) (s : NodeState) (m : PathRequest) (link : LinkSpec) (next : ℕ) (far : nat_eq m.arrival.lsp.ingress.0 p.id.0 ≡ false) where
+module _ (p : Place) (s : NodeState) (m : PathRequest) (link : LinkSpec) (next : ℕ)
+    (far : nat_eq m.arrival.lsp.ingress.0 p.id.0 ≡ false) where
   pub egress-stands : (x : ℕ) → nat_eq m.arrival.egress.0 p.id.0 ≡ true → has (offered_labels p s m link) x ≡ true →
       MayStand p.id.0 next s.legs (egress_leg p m link (offered_labels p s m link) x)
   egress-stands x here offered = record {

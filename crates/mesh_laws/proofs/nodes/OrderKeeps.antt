@@ -213,7 +213,8 @@ keeps-released p s n c g found work here ingress facts =
 keeps-releases : (p : Place) (s : NodeState) (c : CallRec) → find_call c.call s.calls ≡ Some c → NodeFacts p.id.0 s →
     Keeps p s (releases s c)
 keeps-releases p s c found facts =
-    subst (λ o. Keeps p s (followed_by (tears (leg_of c.work s.legs)) (followed_by (tears (leg_of o s.legs)) (changes_calls (call.Goes c.call ∷ [])))))
+    subst (λ o. Keeps p s (followed_by (tears (leg_of c.work s.legs))
+    (followed_by (tears (leg_of o s.legs)) (changes_calls (call.Goes c.call ∷ [])))))
     (sym old.back) (go c.work refl)
   where
     old : CallFacts p.id.0 s.lsp s.legs c
@@ -226,7 +227,8 @@ keeps-releases p s c found facts =
         let g = name.leg.0 in
         let is : g.lsp ≡ l = found-lsp l s.legs g name.leg.1 in
         subst (λ o. Keeps p s (goes c.call o)) (sym name.leg.1)
-        (keeps-released p s c.call c g found (e ∙ ap Some (sym is)) (subst (λ k. find_leg k s.legs ≡ Some g) (sym is) name.leg.1)
+        (keeps-released p s c.call c g found (e ∙ ap Some (sym is))
+        (subst (λ k. find_leg k s.legs ≡ Some g) (sym is) name.leg.1)
         (ap (λ k. k.ingress.0) is ∙ name.ingress) facts)
 
 keeps-on_release : (p : Place) (s : NodeState) (n : CallNo) (from : NodeId) (o : Option CallRec) →

@@ -22,7 +22,8 @@ pub leg_part : (n : ℕ) (s : NodeState) → NodeFacts n s → LegPart n s.lsp s
 leg_part n s facts = record { rise = facts.legs_rise; leg = facts.leg; one_leg = facts.one_leg }
 
 pub call_part : (n : ℕ) (s : NodeState) → NodeFacts n s → CallPart n s.lsp s.legs s.calls
-call_part n s facts = record { rise = facts.calls_rise; call = facts.call; one_call = facts.one_call; has_call = facts.has_call }
+call_part n s facts =
+    record { rise = facts.calls_rise; call = facts.call; one_call = facts.one_call; has_call = facts.has_call }
 
 pub node_facts : (n : ℕ) (s : NodeState) → LegPart n s.lsp s.legs → CallPart n s.lsp s.legs s.calls → NodeFacts n s
 node_facts n s legs calls = record {
@@ -37,11 +38,13 @@ node_facts n s legs calls = record {
 
 -- The LSP of a call
 
-pub named : (n next : ℕ) (legs : List Leg) (c : CallRec) (l : Lsp) → CallFacts n next legs c → c.work ≡ Some l → IsNamed n next legs Work c.egress l
+pub named : (n next : ℕ) (legs : List Leg) (c : CallRec) (l : Lsp) → CallFacts n next legs c → c.work ≡ Some l →
+    IsNamed n next legs Work c.egress l
 named n next legs c l facts e = subst (λ o. IfSome o (IsNamed n next legs Work c.egress)) e facts.fits.work
 
 -- the state of a call fits the phase of its working LSP's leg
-pub state-fits : (n next : ℕ) (legs : List Leg) (c : CallRec) (l : Lsp) (g : Leg) → CallFacts n next legs c → c.work ≡ Some l → find_leg l legs ≡ Some g → fits c.state (Some g.phase) None ≡ true
+pub state-fits : (n next : ℕ) (legs : List Leg) (c : CallRec) (l : Lsp) (g : Leg) → CallFacts n next legs c →
+    c.work ≡ Some l → find_leg l legs ≡ Some g → fits c.state (Some g.phase) None ≡ true
 state-fits n next legs c l g facts work found =
     let by_lsp : fits c.state (phase_of (find_leg l legs)) (phase_of (leg_of c.back legs)) ≡ true = subst (λ o. fits c.state (phase_of (leg_of o legs)) (phase_of (leg_of c.back legs)) ≡ true) work facts.fits.state in
     let by_leg : fits c.state (Some g.phase) (phase_of (leg_of c.back legs)) ≡ true = subst (λ o. fits c.state (phase_of o) (phase_of (leg_of c.back legs)) ≡ true) found by_lsp in
@@ -76,21 +79,24 @@ fits-torn state Closing e torn = fits-closing state e
 fits-torn state Falling e torn = fits-falling state e
 
 -- an LSP of another ingress has no call here
-pub unnamed-away : (n next : ℕ) (legs : List Leg) (calls : List CallRec) (l : Lsp) → nat_eq l.ingress.0 n ≡ false → CallPart n next legs calls → Unnamed calls l
+pub unnamed-away : (n next : ℕ) (legs : List Leg) (calls : List CallRec) (l : Lsp) → nat_eq l.ingress.0 n ≡ false →
+    CallPart n next legs calls → Unnamed calls l
 unnamed-away n next legs calls l away part k c found names =
     let here : l.ingress.0 ≡ n = (named n next legs c l (part.call k c found) (lsp-is c.work l names)).ingress in
     let same : nat_eq l.ingress.0 n ≡ true = grind arith in
     cc (away, same)
 
 -- an LSP whose leg is torn has none either
-pub unnamed-torn : (n next : ℕ) (legs : List Leg) (calls : List CallRec) (l : Lsp) (g : Leg) → find_leg l legs ≡ Some g → is_closing g.phase ≡ true → CallPart n next legs calls → Unnamed calls l
+pub unnamed-torn : (n next : ℕ) (legs : List Leg) (calls : List CallRec) (l : Lsp) (g : Leg) →
+    find_leg l legs ≡ Some g → is_closing g.phase ≡ true → CallPart n next legs calls → Unnamed calls l
 unnamed-torn n next legs calls l g here torn part k c found names =
     fits-torn c.state g.phase (state-fits n next legs c l g (part.call k c found) (lsp-is c.work l names) here) torn
 
 -- One leg changes, and no call, whatever is sent
 
 -- away from its ingress a leg comes or changes
-pub keeps-leg : (n : ℕ) (s : NodeState) (g : Leg) → nat_eq g.lsp.ingress.0 n ≡ false → MayStand n s.lsp s.legs g → NodeFacts n s → NodeFacts n (changed s (puts g []))
+pub keeps-leg : (n : ℕ) (s : NodeState) (g : Leg) → nat_eq g.lsp.ingress.0 n ≡ false → MayStand n s.lsp s.legs g →
+    NodeFacts n s → NodeFacts n (changed s (puts g []))
 keeps-leg n s g away may facts =
     node_facts n (changed s (puts g []))
     (part-with_leg n s.lsp s.lsp g s.legs (omega arith) (leg_part n s facts) may)
@@ -98,7 +104,8 @@ keeps-leg n s g away may facts =
     (λ h is here stands. let same : nat_eq g.lsp.ingress.0 n ≡ true = grind arith in cc (away, same)) (call_part n s facts))
 
 -- a leg without a call goes
-pub keeps-gone : (n : ℕ) (s : NodeState) (l : Lsp) → Unnamed s.calls l → NodeFacts n s → NodeFacts n (changed s (removes l []))
+pub keeps-gone : (n : ℕ) (s : NodeState) (l : Lsp) → Unnamed s.calls l → NodeFacts n s →
+    NodeFacts n (changed s (removes l []))
 keeps-gone n s l unnamed facts =
     node_facts n (changed s (removes l []))
     (part-without_leg n s.lsp l s.legs (leg_part n s facts))

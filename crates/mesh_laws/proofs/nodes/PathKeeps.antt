@@ -55,7 +55,8 @@ module _ (p : Place) (s : NodeState) (m : PathRequest) (facts : NodeFacts p.id.0
         Keeps p s (in_transit p m link route offered o)
     keeps-in_transit route offered None on = facts
     keeps-in_transit route offered (Some out) on =
-        keeps-leg p.id.0 s (transit_leg p m link out route offered) far (transit-stands p s m link s.lsp far out route offered on) facts
+        keeps-leg p.id.0 s (transit_leg p m link out route offered) far
+        (transit-stands p s m link s.lsp far out route offered on) facts
 
     keeps-admitted : (route : List Step) → leads_on p m.arrival route ≡ true →
         Keeps p s (admitted p m link (offered_labels p s m link) route)
@@ -73,10 +74,12 @@ module _ (p : Place) (s : NodeState) (m : PathRequest) (facts : NodeFacts p.id.0
   keeps-first_path : (o : Option LinkSpec) → Keeps p s (first_path p s m o)
   keeps-first_path None = facts
   keeps-first_path (Some link) =
-      if_cases (Keeps p s) (is_for_work m.role && (leads (Some link) m.arrival.from p.id && not (nat_eq m.arrival.lsp.ingress.0 p.id.0))) _ _
+      if_cases (Keeps p s)
+      (is_for_work m.role && (leads (Some link) m.arrival.from p.id && not (nat_eq m.arrival.lsp.ingress.0 p.id.0))) _ _
       (λ h.
       let away = both_right (leads (Some link) m.arrival.from p.id) _ (both_right (is_for_work m.role) _ h) in
-      keeps-judged link (not-true (nat_eq m.arrival.lsp.ingress.0 p.id.0) away) (first_failure (checks p s m link)) refl)
+      keeps-judged link (not-true (nat_eq m.arrival.lsp.ingress.0 p.id.0) away)
+      (first_failure (checks p s m link)) refl)
       (λ h. facts)
 
   pub keeps-on_path : (o : Option Leg) → Keeps p s (path_with p s m o)

@@ -38,18 +38,21 @@ facts-start t = record { node = λ n. new-facts n; desk = λ n. tt }
 
 -- A rule is carried out at a node
 
-keeps-commit : (t : Network) (s : Mesh) (n : ℕ) (a : Answer) → NodeFacts n (changed (s.nodes n) a) → MeshFacts t s → MeshFacts t (commit s n a)
+keeps-commit : (t : Network) (s : Mesh) (n : ℕ) (a : Answer) → NodeFacts n (changed (s.nodes n) a) → MeshFacts t s →
+    MeshFacts t (commit s n a)
 keeps-commit t s n a here facts = record { node = λ m. each m (nat_eq m n) refl; desk = facts.desk }
   where
     each : (m : ℕ) (b : Bool) → nat_eq m n ≡ b → NodeFacts m (cond b (changed (s.nodes m) a) (s.nodes m))
     each m true e = let is : m ≡ n = grind arith in subst (λ k. NodeFacts k (changed (s.nodes k) a)) (sym is) here
     each m false e = facts.node m
 
-keeps-first : (p : Place) (s : NodeState) (u : NodeId) (ms : List Msg) → NodeFacts p.id.0 s → Keeps p s (on_first p s u ms)
+keeps-first : (p : Place) (s : NodeState) (u : NodeId) (ms : List Msg) → NodeFacts p.id.0 s →
+    Keeps p s (on_first p s u ms)
 keeps-first p s u [] facts = facts
 keeps-first p s u (m ∷ ms) facts = keeps-on_message p s u m facts
 
-keeps-first_item : (t : Network) (p : Place) (s : NodeState) (items : List DeskItem) → DeskFits t p.id.0 items → NodeFacts p.id.0 s → Keeps p s (on_first_item p s items)
+keeps-first_item : (t : Network) (p : Place) (s : NodeState) (items : List DeskItem) → DeskFits t p.id.0 items →
+    NodeFacts p.id.0 s → Keeps p s (on_first_item p s items)
 keeps-first_item t p s [] fits facts = facts
 keeps-first_item t p s (i ∷ items) fits facts = keeps-on_item t p s i fits.0 facts
 
@@ -59,7 +62,8 @@ fits-less : (t : Network) (n : ℕ) (items : List DeskItem) → DeskFits t n ite
 fits-less t n [] fits = tt
 fits-less t n (i ∷ items) fits = fits.1
 
-fits-more : (t : Network) (n : ℕ) (items : List DeskItem) (i : DeskItem) → DeskFits t n items → FitsDesk t n i → DeskFits t n (items ++ i ∷ [])
+fits-more : (t : Network) (n : ℕ) (items : List DeskItem) (i : DeskItem) → DeskFits t n items → FitsDesk t n i →
+    DeskFits t n (items ++ i ∷ [])
 fits-more t n [] i fits here = (here, tt)
 fits-more t n (j ∷ items) i fits here = (fits.0, fits-more t n items i fits.1 here)
 
@@ -70,33 +74,43 @@ without_item-facts t s n facts = record {
 }
 
 -- an order more on the desk of its node
-more-facts : (t : Network) (s : Mesh) (n : ℕ) (i : DeskItem) → FitsDesk t n i → MeshFacts t s → (m : ℕ) → DeskFits t m (cond (nat_eq m n) (s.desks m ++ i ∷ []) (s.desks m))
+more-facts : (t : Network) (s : Mesh) (n : ℕ) (i : DeskItem) → FitsDesk t n i → MeshFacts t s → (m : ℕ) →
+    DeskFits t m (cond (nat_eq m n) (s.desks m ++ i ∷ []) (s.desks m))
 more-facts t s n i here facts m =
     if_cases (DeskFits t m) (nat_eq m n) _ _
     (λ e. let is : m ≡ n = grind arith in fits-more t m (s.desks m) i (facts.desk m) (subst (λ k. FitsDesk t k i) (sym is) here))
     (λ e. facts.desk m)
 
 keeps-posted : (t : Network) (s : Mesh) (c : Command) → is_valid t c ≡ true → MeshFacts t s → MeshFacts t (posted s c)
-keeps-posted t s (Setup n from to protected both via backup) valid facts = record { node = facts.node; desk = more-facts t s from.0 (Order (Setup n from to protected both via backup)) (valid, refl) facts }
-keeps-posted t s (Release n from) valid facts = record { node = facts.node; desk = more-facts t s from.0 (Order (Release n from)) (valid, refl) facts }
-keeps-posted t s (Protect n from) valid facts = record { node = facts.node; desk = more-facts t s from.0 (Order (Protect n from)) (valid, refl) facts }
-keeps-posted t s (Retry n from) valid facts = record { node = facts.node; desk = more-facts t s from.0 (Order (Retry n from)) (valid, refl) facts }
-keeps-posted t s (Revert n from) valid facts = record { node = facts.node; desk = more-facts t s from.0 (Order (Revert n from)) (valid, refl) facts }
+keeps-posted t s (Setup n from to protected both via backup) valid facts =
+    record { node = facts.node; desk = more-facts t s from.0 (Order (Setup n from to protected both via backup)) (valid, refl) facts }
+keeps-posted t s (Release n from) valid facts =
+    record { node = facts.node; desk = more-facts t s from.0 (Order (Release n from)) (valid, refl) facts }
+keeps-posted t s (Protect n from) valid facts =
+    record { node = facts.node; desk = more-facts t s from.0 (Order (Protect n from)) (valid, refl) facts }
+keeps-posted t s (Retry n from) valid facts =
+    record { node = facts.node; desk = more-facts t s from.0 (Order (Retry n from)) (valid, refl) facts }
+keeps-posted t s (Revert n from) valid facts =
+    record { node = facts.node; desk = more-facts t s from.0 (Order (Revert n from)) (valid, refl) facts }
 keeps-posted t s (Fail g) valid facts = facts
 keeps-posted t s (Repair g) valid facts = facts
 
 -- Every event
 
-pub facts-step : (t : Network) (s : Mesh) (e : MeshEvent) → is_enabled t s e ≡ true → MeshFacts t s → MeshFacts t (step t s e)
+pub facts-step : (t : Network) (s : Mesh) (e : MeshEvent) → is_enabled t s e ≡ true → MeshFacts t s →
+    MeshFacts t (step t s e)
 facts-step t s (Take d u) enabled facts =
     keeps-commit t (without_first s u.0 d.0) d.0 (on_first (site_of t d) (s.nodes d.0) u (s.mail u.0 d.0)) (keeps-first (site_of t d) (s.nodes d.0) u (s.mail u.0 d.0) (facts.node d.0)) (record { node = facts.node; desk = facts.desk })
 facts-step t s (Desk n) enabled facts =
     keeps-commit t (without_item s n.0) n.0 (on_first_item (site_of t n) (s.nodes n.0) (s.desks n.0)) (keeps-first_item t (site_of t n) (s.nodes n.0) (s.desks n.0) (facts.desk n.0) (facts.node n.0)) (without_item-facts t s n.0 facts)
-facts-step t s (Tick n) enabled facts = keeps-commit t s n.0 (on_tick (site_of t n) (s.nodes n.0)) (facts.node n.0) facts
+facts-step t s (Tick n) enabled facts =
+    keeps-commit t s n.0 (on_tick (site_of t n) (s.nodes n.0)) (facts.node n.0) facts
 facts-step t s (Learn n k) enabled facts = facts
-facts-step t s (Post c) enabled facts = keeps-posted t s c (both_left (is_valid t c) (not (is_again s.posted c)) enabled) facts
+facts-step t s (Post c) enabled facts =
+    keeps-posted t s c (both_left (is_valid t c) (not (is_again s.posted c)) enabled) facts
 
-facts-run : (t : Network) (s : Mesh) (events : List MeshEvent) → MeshFacts t s → IsRun t s events → MeshFacts t (after t s events)
+facts-run : (t : Network) (s : Mesh) (events : List MeshEvent) → MeshFacts t s → IsRun t s events →
+    MeshFacts t (after t s events)
 facts-run t s [] facts run = facts
 facts-run t s (e ∷ es) facts run = facts-run t (step t s e) es (facts-step t s e run.0 facts) run.1
 
