@@ -13,14 +13,14 @@ use Rattle.ason_base.specs.declared.commands.DeskItem.TheVariants.{Order, Alarm,
 use Rattle.ason_base.specs.declared.tables.CallRec.{CallRec}
 use Rattle.ason_base.specs.declared.tables.Leg.{Leg}
 use Rattle.ason_base.specs.Labels.{has}
-use Rattle.ason_base.specs.Lsps.{is_lsp, lsp_before}
+use Rattle.ason_base.specs.Lsps.{lsp_before}
 use Rattle.ason_base.specs.Network.{Network}
 use Rattle.mesh_rules.specs.Legs.{find_leg, is_closing, takes}
 use Rattle.mesh_rules.specs.Calls.{find_call}
 use Rattle.mesh_rules.specs.State.{NodeState}
 use Rattle.mesh_rules.specs.Commands.{is_valid}
 use Rattle.mesh_rules.specs.Machine.{Mesh}
-use Rattle.mesh_laws.specs.CallLaw.{FitsLegs}
+use Rattle.mesh_laws.specs.CallLaw.{FitsLegs, names}
 
 -- A leg
 
@@ -69,11 +69,11 @@ abbrev pub CallsRise : List CallRec → Type 0
 CallsRise [] = Unit {0}
 CallsRise (c ∷ calls) = AllByRecursion (λ d. c.call.0 < d.call.0) calls × CallsRise calls
 
--- this LSP is the working LSP of a call
+-- a call names this LSP
 pub record HasCall (calls : List CallRec) (l : Lsp) : Type 0 where
   pub call : CallRec
   pub found : find_call call.call calls ≡ Some call
-  pub work : IsTrue (is_lsp call.work l)
+  pub named : IsTrue (names call l)
 
 -- A node
 
@@ -85,10 +85,10 @@ pub record NodeFacts (n : ℕ) (s : NodeState) : Type 0 where
       IsTrue (takes f x g) → IsTrue (takes f x h) → l ≡ m
   pub calls_rise : CallsRise s.calls
   pub call : (k : CallNo) (c : CallRec) → find_call k s.calls ≡ Some c → CallFacts n s.lsp s.legs c
-  -- calls with the same working LSP are one
+  -- calls that name one LSP are one
   pub one_call : (l : Lsp) (k m : CallNo) (c d : CallRec) → find_call k s.calls ≡ Some c →
       find_call m s.calls ≡ Some d →
-      IsTrue (is_lsp c.work l) → IsTrue (is_lsp d.work l) → k ≡ m
+      IsTrue (names c l) → IsTrue (names d l) → k ≡ m
   -- the LSP of a leg that begins here and isn't torn has a call
   pub has_call : (l : Lsp) (g : Leg) → find_leg l s.legs ≡ Some g → l.ingress.0 ≡ n → is_closing g.phase ≡ false →
       HasCall s.calls l

@@ -1,7 +1,7 @@
 -- What the facts of a node say of the places in its lists: each label has one leg, a Live leg has its labels, and the
 -- state of each call fits its legs.
-use Rattle.std.proofs.Common.{◌≡◌, ◌<◌, ℕ, Bool, true, false, not, nat_eq, List, [], ◌∷◌, refl, sym, subst, ◌∙◌, arith}
-use Rattle.std.specs.Prelude.{◌||◌, Some, None, IsTrue}
+use Rattle.std.proofs.Common.{◌≡◌, ◌<◌, ℕ, true, false, not, nat_eq, List, [], ◌∷◌, refl, sym, subst, ◌∙◌, arith}
+use Rattle.std.specs.Prelude.{Some, IsTrue}
 use Rattle.std.specs.List.{AllByRecursion, AllPairs}
 use Rattle.std.proofs.lemmas.List.Elements.{All-from_recursion}
 use Rattle.std.proofs.lemmas.List.Kept.{AllPairs-cons}
@@ -11,7 +11,7 @@ use Rattle.ason_base.specs.declared.calls.Phase.{Phase}
 use Rattle.ason_base.specs.declared.calls.Phase.TheVariants.{Asked, Held, Armed, Live, Closing, Falling}
 use Rattle.ason_base.specs.declared.tables.CallRec.{CallRec}
 use Rattle.ason_base.specs.declared.tables.Leg.{Leg}
-use Rattle.ason_base.specs.Lsps.{is_lsp, lsp_before, same_lsp}
+use Rattle.ason_base.specs.Lsps.{lsp_before, same_lsp}
 use Rattle.mesh_rules.specs.Legs.{find_leg, is_closing, takes}
 use Rattle.mesh_rules.specs.State.{NodeState}
 use Rattle.mesh_laws.specs.LabelLaw.{EveryLabelHasOneLeg, EveryLiveLegIsLabelled, IsLabelled, LabelsHaveOneLeg, TakeNoLabelTwice}
@@ -29,23 +29,31 @@ found-later : (g : Leg) (legs : List Leg) (l : Lsp) (h : Leg) →
     AllByRecursion (λ x. IsTrue (lsp_before g.lsp x.lsp)) legs → find_leg l legs ≡ Some h →
     find_leg l (g ∷ legs) ≡ Some h
 found-later g legs l h above found =
-    let before : lsp_before g.lsp h.lsp ≡ true = found-all (λ x. IsTrue (lsp_before g.lsp x.lsp)) l legs h found above in
-    let apart : same_lsp g.lsp l ≡ false = subst (λ x. same_lsp g.lsp x ≡ false) (found-lsp l legs h found) (before-apart g.lsp h.lsp before) in
+    let before : lsp_before g.lsp h.lsp ≡ true =
+    found-all (λ x. IsTrue (lsp_before g.lsp x.lsp)) l legs h found above in
+    let apart : same_lsp g.lsp l ≡ false =
+    subst (λ x. same_lsp g.lsp x ≡ false) (found-lsp l legs h found) (before-apart g.lsp h.lsp before) in
     rw apart found
 
 one_leg-pairs : (legs : List Leg) → LegsRise legs →
-    ((f : Fibre) (x : ℕ) (l m : Lsp) (g h : Leg) → find_leg l legs ≡ Some g → find_leg m legs ≡ Some h → IsTrue (takes f x g) → IsTrue (takes f x h) → l ≡ m) → LabelsHaveOneLeg legs
+    ((f : Fibre) (x : ℕ) (l m : Lsp) (g h : Leg) → find_leg l legs ≡ Some g → find_leg m legs ≡ Some h →
+    IsTrue (takes f x g) → IsTrue (takes f x h) → l ≡ m) → LabelsHaveOneLeg legs
 one_leg-pairs [] rise one = λ i j d less below. absurd (omega arith)
 one_leg-pairs (g ∷ legs) rise one =
     AllPairs-cons TakeNoLabelTwice g legs
-    (All-from_recursion (TakeNoLabelTwice g) legs (all-found (TakeNoLabelTwice g) legs rise.1 (λ m h found f x this that.
-    let same : g.lsp ≡ m = one f x g.lsp m g h (rw (same_lsp-refl g.lsp) refl) (found-later g legs m h rise.0 found) this that in
+    (All-from_recursion (TakeNoLabelTwice g) legs (all-found (TakeNoLabelTwice g) legs rise.1
+    (λ m h found f x this that.
+    let same : g.lsp ≡ m =
+    one f x g.lsp m g h (rw (same_lsp-refl g.lsp) refl) (found-later g legs m h rise.0 found) this that in
     let is = found-lsp m legs h found in
-    let before : lsp_before g.lsp h.lsp ≡ true = found-all (λ x. IsTrue (lsp_before g.lsp x.lsp)) m legs h found rise.0 in
+    let before : lsp_before g.lsp h.lsp ≡ true =
+    found-all (λ x. IsTrue (lsp_before g.lsp x.lsp)) m legs h found rise.0 in
     let apart : same_lsp g.lsp h.lsp ≡ false = before-apart g.lsp h.lsp before in
-    let test : same_lsp g.lsp h.lsp ≡ true = subst (λ x. same_lsp g.lsp x ≡ true) (same ∙ sym is) (same_lsp-refl g.lsp) in
+    let test : same_lsp g.lsp h.lsp ≡ true =
+    subst (λ x. same_lsp g.lsp x ≡ true) (same ∙ sym is) (same_lsp-refl g.lsp) in
     cc (apart, test))))
-    (one_leg-pairs legs rise.1 (λ f x l m a b at_l at_m. one f x l m a b (found-later g legs l a rise.0 at_l) (found-later g legs m b rise.0 at_m)))
+    (one_leg-pairs legs rise.1 (λ f x l m a b at_l at_m.
+    one f x l m a b (found-later g legs l a rise.0 at_l) (found-later g legs m b rise.0 at_m)))
 
 pub every_label : EveryLabelHasOneLeg
 every_label t events run n =
@@ -73,15 +81,8 @@ every_live t events run n =
 calls-rise : (calls : List CallRec) → CallsRise calls → AllPairs (λ c d. c.call.0 < d.call.0) calls
 calls-rise [] rise = λ i j d less below. absurd (omega arith)
 calls-rise (c ∷ calls) rise =
-    AllPairs-cons (λ c d. c.call.0 < d.call.0) c calls (All-from_recursion (λ d. c.call.0 < d.call.0) calls rise.0) (calls-rise calls rise.1)
-
--- a call without a backup names its working LSP alone
-names-work : (c : CallRec) (l : Lsp) → c.back ≡ None → names c l ≡ true → is_lsp c.work l ≡ true
-names-work c l none named = go (is_lsp c.work l) (rw none at named)
-  where
-    go : (b : Bool) → (b || false) ≡ true → b ≡ true
-    go true e = refl
-    go false e = cc
+    AllPairs-cons (λ c d. c.call.0 < d.call.0) c calls
+    (All-from_recursion (λ d. c.call.0 < d.call.0) calls rise.0) (calls-rise calls rise.1)
 
 one_call : (n : ℕ) (s : NodeState) → NodeFacts n s → (l : Lsp) (g : Leg) → find_leg l s.legs ≡ Some g →
     IsTrue (wants_call n g) → IsOfOneCall s.calls g
@@ -92,16 +93,18 @@ one_call n s facts l g found wants =
     let there : find_leg g.lsp s.legs ≡ Some g = subst (λ k. find_leg k s.legs ≡ Some g) (sym is) found in
     let stands : is_closing g.phase ≡ false = not-true _ (both_right (nat_eq g.lsp.ingress.0 n) _ wants) in
     let has = facts.has_call g.lsp g there here stands in
-    one-count (λ c. names c g.lsp) s.calls has.call.call has.call facts.calls_rise has.found (rw has.work refl)
+    one-count (λ c. names c g.lsp) s.calls has.call.call has.call facts.calls_rise has.found has.named
     (λ m d at_m named.
-    facts.one_call g.lsp m has.call.call d has.call at_m has.found
-    (names-work d g.lsp (facts.call m d at_m).back named) has.work)
+    facts.one_call g.lsp m has.call.call d has.call at_m has.found named has.named)
 
 pub calls_fit : (n : ℕ) (s : NodeState) → NodeFacts n s → CallsFit n s
 calls_fit n s facts = record {
   rising = calls-rise s.calls facts.calls_rise;
-  calls = All-from_recursion (FitsLegs n s.lsp s.legs) s.calls (all-calls_found (FitsLegs n s.lsp s.legs) s.calls facts.calls_rise (λ k c found. (facts.call k c found).fits));
-  legs = All-from_recursion (λ g. IsTrue (wants_call n g) → IsOfOneCall s.calls g) s.legs (all-found (λ g. IsTrue (wants_call n g) → IsOfOneCall s.calls g) s.legs facts.legs_rise (λ l g found. one_call n s facts l g found));
+  calls = All-from_recursion (FitsLegs n s.lsp s.legs) s.calls
+      (all-calls_found (FitsLegs n s.lsp s.legs) s.calls facts.calls_rise (λ k c found. (facts.call k c found).fits));
+  legs = All-from_recursion (λ g. IsTrue (wants_call n g) → IsOfOneCall s.calls g) s.legs
+      (all-found (λ g. IsTrue (wants_call n g) → IsOfOneCall s.calls g) s.legs facts.legs_rise
+      (λ l g found. one_call n s facts l g found));
 }
 
 pub every_call : EveryCallFitsItsLegs

@@ -1,5 +1,5 @@
 -- Orders keep the facts of a node.
-use Rattle.std.proofs.Common.{◌≡◌, ◌<◌, ◌+◌, ℕ, Bool, true, false, cond, not, nat_eq, List, [], ◌∷◌, drop, refl, sym, ap, subst, ◌∙◌, arith}
+use Rattle.std.proofs.Common.{◌≡◌, ◌<◌, ◌+◌, ℕ, Bool, true, false, cond, not, nat_eq, List, [], ◌∷◌, drop, refl, sym, ap, subst, ◌∙◌, arith, inl}
 use Rattle.std.specs.Prelude.{◌||◌, Option, Some, None, is_some}
 use Rattle.ason_base.specs.declared.ids.CallNo.{CallNo}
 use Rattle.ason_base.specs.declared.ids.Lsp.{Lsp}
@@ -18,7 +18,7 @@ use Rattle.ason_base.specs.declared.commands.DeskItem.{DeskItem}
 use Rattle.ason_base.specs.declared.commands.DeskItem.TheVariants.{Order, Alarm, Clear}
 use Rattle.ason_base.specs.declared.tables.CallRec.{CallRec}
 use Rattle.ason_base.specs.declared.tables.Leg.{Leg}
-use Rattle.ason_base.specs.Lsps.{is_lsp}
+use Rattle.ason_base.specs.Lsps.{same_lsp}
 use Rattle.ason_base.specs.Network.{Network}
 use Rattle.mesh_rules.specs.Sites.{Place}
 use Rattle.mesh_rules.specs.Legs.{find_leg, is_closing, closed, closing_phase, with_leg, leg_of}
@@ -30,15 +30,15 @@ use Rattle.mesh_rules.specs.declared.changes.CallChange.TheVariants as call
 use Rattle.mesh_rules.specs.Releases.{tears, releases, release_with}
 use Rattle.mesh_rules.specs.Orders.{on_order, on_item}
 use Rattle.mesh_rules.specs.Changes.{Answer, nothing, changes_calls, followed_by, changed}
-use Rattle.mesh_laws.specs.CallLaw.{fits, phase_of}
+use Rattle.mesh_laws.specs.CallLaw.{fits, names, phase_of}
 use Rattle.mesh_laws.proofs.nodes.Cases.{if_cases, both_left, both_right, not-true}
 use Rattle.mesh_laws.proofs.nodes.Facts.{CallFacts, FitsDesk, LegFacts, NodeFacts}
 use Rattle.mesh_laws.proofs.nodes.LegList.{found-lsp, same_lsp-refl, same_lsp-eq, find-with_leg}
 use Rattle.mesh_laws.proofs.nodes.LegParts.{part-with_leg}
 use Rattle.mesh_laws.proofs.nodes.NewLegs.{closed-stands, first-stands}
 use Rattle.mesh_laws.proofs.nodes.CallList.{found-number, find-with_call, find-without_call, rise-with_call, rise-without_call}
-use Rattle.mesh_laws.proofs.nodes.CallParts.{Together, lone-part, lsp-is, together-part}
-use Rattle.mesh_laws.proofs.nodes.CallKeeps.{call-fits}
+use Rattle.mesh_laws.proofs.nodes.CallParts.{Together, Becomes, names-work, named-work, other-stays, itself-became, lone-part, together-part}
+use Rattle.mesh_laws.proofs.nodes.CallKeeps.{call-fits, names-only, of-no-other}
 use Rattle.mesh_laws.proofs.nodes.Parts.{leg_part, call_part, node_facts, named}
 use Rattle.mesh_laws.proofs.nodes.PathKeeps.{Keeps}
 
@@ -49,10 +49,14 @@ keeps-refused : (p : Place) (s : NodeState) (w : SetupRequest) (cause : Cause) �
 keeps-refused p s w cause unbacked unknown facts =
     let c = call_record w Blocked None cause in
     node_facts p.id.0 (changed s (refused_setup w cause)) (leg_part p.id.0 s facts)
-    (lone-part p.id.0 s.lsp w.call (Some c) s.legs s.calls (with_call c s.calls) (rise-with_call c s.calls facts.calls_rise) (find-with_call c s.calls)
-    (λ d found. absurd (cc (found, unknown))) (λ d is. let one : c ≡ d = cc is in ap (λ x. x.work) (sym one))
-    (λ d is. let one : c ≡ d =
-    cc is in subst (CallFacts p.id.0 s.lsp s.legs) one (call-fits p.id.0 s.lsp s.legs c refl unbacked refl refl refl refl tt))
+    (lone-part p.id.0 s.lsp w.call (Some c) s.legs s.calls (with_call c s.calls)
+    (rise-with_call c s.calls facts.calls_rise)
+    (find-with_call c s.calls) (λ d found. absurd (cc (found, unknown)))
+    (λ d is. let one : c ≡ d = cc is in ap (λ x. x.work) (sym one))
+    (λ d is.
+    let one : c ≡ d = cc is in
+    subst (CallFacts p.id.0 s.lsp s.legs) one (call-fits p.id.0 s.lsp s.legs c refl unbacked refl refl refl refl tt))
+    (λ d is. let one : c ≡ d = cc is in ap (λ x. x.call) (sym one))
     (call_part p.id.0 s facts))
 
 keeps-begins : (p : Place) (s : NodeState) (w : SetupRequest) (out : LinkSpec) (route : List Step) →
@@ -60,9 +64,12 @@ keeps-begins : (p : Place) (s : NodeState) (w : SetupRequest) (out : LinkSpec) (
     Keeps p s (begins p s w out route)
 keeps-begins p s w out route unbacked away unknown facts =
     node_facts p.id.0 (changed s (begins p s w out route))
-    (part-with_leg p.id.0 s.lsp (s.lsp + 1) g s.legs (omega arith) (leg_part p.id.0 s facts) (first-stands p l w.egress out route (s.lsp + 1) s.legs (let e : nat_eq p.id.0 p.id.0 ≡ true = grind arith in e) away (omega arith)))
-    (together-part p.id.0 s.lsp (s.lsp + 1) l w.call (Some g) (Some c) s.legs legs' s.calls (with_call c s.calls) (omega arith)
-    (rise-with_call c s.calls facts.calls_rise) (find-with_leg g s.legs) (find-with_call c s.calls) both (call_part p.id.0 s facts))
+    (part-with_leg p.id.0 s.lsp (s.lsp + 1) g s.legs (omega arith) (leg_part p.id.0 s facts)
+    (first-stands p l w.egress out route (s.lsp + 1) s.legs
+    (let e : nat_eq p.id.0 p.id.0 ≡ true = grind arith in e) away (omega arith)))
+    (together-part p.id.0 s.lsp (s.lsp + 1) (same_lsp l) w.call (Some c) s.legs legs' s.calls (with_call c s.calls)
+    (omega arith) (rise-with_call c s.calls facts.calls_rise) (find-with_call c s.calls) both
+    (call_part p.id.0 s facts))
   where
     l : Lsp
     l = next_lsp p s
@@ -81,20 +88,33 @@ keeps-begins p s w out route unbacked away unknown facts =
 
     fit : CallFacts p.id.0 (s.lsp + 1) legs' c
     fit =
-        call-fits p.id.0 (s.lsp + 1) legs' c refl unbacked refl refl refl (ap (λ o. fits Asking (phase_of o) None) found) (record { ingress = refl; number = omega arith; leg = (g, found, refl, refl) })
+        call-fits p.id.0 (s.lsp + 1) legs' c refl unbacked refl refl refl
+        (ap (λ o. fits Asking (phase_of o) None) found)
+        (record { ingress = refl; number = omega arith; leg = (g, found, refl, refl) })
 
-    both : Together p.id.0 (s.lsp + 1) l w.call (Some g) (Some c) legs' s.calls
+    -- no call has the new LSP, whose number wasn't given out
+    new_lsp : (m : CallNo) (d : CallRec) (x : Lsp) → find_call m s.calls ≡ Some d → names d x ≡ true → (b : Bool) →
+        same_lsp l x ≡ b → b ≡ false
+    new_lsp m d x there has false e = refl
+    new_lsp m d x there has true e =
+        let is = same_lsp-eq l x e in
+        let old = facts.call m d there in
+        let work = named-work d l old.back (subst (λ y. names d y ≡ true) (sym is) has) in
+        let small : s.lsp < s.lsp = (named p.id.0 s.lsp s.legs d l old work).number in
+        absurd (omega arith)
+
+    both : Together p.id.0 (s.lsp + 1) (same_lsp l) w.call (Some c) s.legs legs' s.calls
     both = record {
-      apart = λ m d other there has.
-          let small : s.lsp < s.lsp =
-          (named p.id.0 s.lsp s.legs d l (facts.call m d there) (lsp-is d.work l has)).number in
-          absurd (omega arith);
-      had = λ d m there has. absurd (cc (there, unknown));
-      has =
-          λ d m is has. let one : c ≡ d = cc is in same_lsp-eq l m (subst (λ x. is_lsp x.work m ≡ true) (sym one) has);
-      facts = λ d is. let one : c ≡ d = cc is in subst (CallFacts p.id.0 (s.lsp + 1) legs') one fit;
-      number = λ d is. let one : c ≡ d = cc is in subst (λ x. x.call ≡ w.call) one refl;
-      wanted = λ h is here standing. (c, refl, same_lsp-refl l);
+      stay = λ x other. other-stays l x (Some g) s.legs legs' (find-with_leg g s.legs) other;
+      apart = λ m d x other there has. new_lsp m d x there has (same_lsp l x) refl;
+      only = λ d x is has.
+          (let one : c ≡ d = cc is in
+          inl (names-only c l x refl refl (subst (λ y. names y x ≡ true) (sym one) has)));
+      kept = λ d x there has never. absurd (cc (there, unknown));
+      facts = λ d is. (let one : c ≡ d = cc is in subst (CallFacts p.id.0 (s.lsp + 1) legs') one fit);
+      number = λ d is. (let one : c ≡ d = cc is in subst (λ x. x.call ≡ w.call) one refl);
+      wanted = λ x h same there here standing.
+          (let is = same_lsp-eq l x same in (c, refl, subst (λ y. names c y ≡ true) is (names-work c l refl)));
     }
 
 keeps-admitted : (p : Place) (s : NodeState) (w : SetupRequest) (out : LinkSpec) (route : List Step) →
@@ -102,7 +122,8 @@ keeps-admitted : (p : Place) (s : NodeState) (w : SetupRequest) (out : LinkSpec)
     Keeps p s (admitted_setup p s w out route)
 keeps-admitted p s w out route unbacked away unknown facts =
     if_cases (Keeps p s) (is_spent s) _ _ (λ e. keeps-refused p s w Spent unbacked unknown facts)
-    (λ e. if_cases (Keeps p s) (is_full s) _ _ (λ f. keeps-refused p s w Full unbacked unknown facts) (λ f. keeps-begins p s w out route unbacked away unknown facts))
+    (λ e. if_cases (Keeps p s) (is_full s) _ _ (λ f. keeps-refused p s w Full unbacked unknown facts)
+    (λ f. keeps-begins p s w out route unbacked away unknown facts))
 
 keeps-over_first : (p : Place) (s : NodeState) (w : SetupRequest) (route : List Step) (o : Option LinkSpec) →
     w.backup ≡ None → nat_eq w.egress.0 p.id.0 ≡ false → find_call w.call s.calls ≡ None → NodeFacts p.id.0 s →
@@ -165,9 +186,11 @@ keeps-lone : (p : Place) (s : NodeState) (n : CallNo) (c : CallRec) → find_cal
     NodeFacts p.id.0 s → Keeps p s (goes n None)
 keeps-lone p s n c found none facts =
     node_facts p.id.0 (changed s (goes n None)) (leg_part p.id.0 s facts)
-    (lone-part p.id.0 s.lsp n None s.legs s.calls (without_call n s.calls) (rise-without_call n s.calls facts.calls_rise) (find-without_call n s.calls)
-    (λ d there. let one : c ≡ d =
-    cc (found, there) in subst (λ x. x.work ≡ None) one none) (λ d is. absurd (cc is)) (λ d is. absurd (cc is))
+    (lone-part p.id.0 s.lsp n None s.legs s.calls (without_call n s.calls)
+    (rise-without_call n s.calls facts.calls_rise)
+    (find-without_call n s.calls)
+    (λ d there. let one : c ≡ d = cc (found, there) in subst (λ x. x.work ≡ None) one none)
+    (λ d is. absurd (cc is)) (λ d is. absurd (cc is)) (λ d is. absurd (cc is))
     (call_part p.id.0 s facts))
 
 keeps-released : (p : Place) (s : NodeState) (n : CallNo) (c : CallRec) (g : Leg) → find_call n s.calls ≡ Some c →
@@ -175,9 +198,11 @@ keeps-released : (p : Place) (s : NodeState) (n : CallNo) (c : CallRec) (g : Leg
     Keeps p s (goes n (Some g))
 keeps-released p s n c g found work here ingress facts =
     node_facts p.id.0 (changed s (goes n (Some g)))
-    (part-with_leg p.id.0 s.lsp s.lsp (closed g) s.legs (omega arith) (leg_part p.id.0 s facts) (closed-stands p.id.0 s.lsp s.legs g (ingress-goes_on p.id.0 s.lsp g mine ingress) mine))
-    (together-part p.id.0 s.lsp s.lsp g.lsp n (Some (closed g)) None s.legs legs' s.calls (without_call n s.calls) (omega arith)
-    (rise-without_call n s.calls facts.calls_rise) (find-with_leg (closed g) s.legs) (find-without_call n s.calls) both (call_part p.id.0 s facts))
+    (part-with_leg p.id.0 s.lsp s.lsp (closed g) s.legs (omega arith) (leg_part p.id.0 s facts)
+    (closed-stands p.id.0 s.lsp s.legs g (ingress-goes_on p.id.0 s.lsp g mine ingress) mine))
+    (together-part p.id.0 s.lsp s.lsp (same_lsp g.lsp) n None s.legs legs' s.calls (without_call n s.calls)
+    (omega arith)
+    (rise-without_call n s.calls facts.calls_rise) (find-without_call n s.calls) both (call_part p.id.0 s facts))
   where
     legs' : List Leg
     legs' = with_leg (closed g) s.legs
@@ -185,29 +210,29 @@ keeps-released p s n c g found work here ingress facts =
     mine : LegFacts p.id.0 s.lsp g
     mine = facts.leg g.lsp g here
 
-    names : is_lsp c.work g.lsp ≡ true
-    names = subst (λ o. is_lsp o g.lsp ≡ true) (sym work) (same_lsp-refl g.lsp)
+    becomes : Becomes g.lsp (Some (closed g)) s.legs legs'
+    becomes = find-with_leg (closed g) s.legs
 
-    both : Together p.id.0 s.lsp g.lsp n (Some (closed g)) None legs' s.calls
+    both : Together p.id.0 s.lsp (same_lsp g.lsp) n None s.legs legs' s.calls
     both = record {
-      apart = λ m d other there has.
-          let one : n ≡ m = facts.one_call g.lsp n m c d found there names has in
-          let same : nat_eq n.0 m.0 ≡ true = (let q : n.0 ≡ m.0 = ap (λ x. x.0) one in grind arith) in
-          cc (same, other);
-      had = λ d m there has.
-          let one : c ≡ d = cc (found, there) in
-          let other = lsp-is c.work m (subst (λ x. is_lsp x.work m ≡ true) (sym one) has) in
-          cc (work, other);
-      has = λ d m is has. absurd (cc is);
+      stay = λ x other. other-stays g.lsp x (Some (closed g)) s.legs legs' becomes other;
+      apart = λ m d x other there has. of-no-other p.id.0 s n m c d g.lsp x facts found work other there has;
+      only = λ d x is has. absurd (cc is);
+      kept = λ d x there has never.
+          (let one : c ≡ d = cc (found, there) in
+          let alone = (facts.call n c found).back in
+          let same = names-only c g.lsp x work alone (subst (λ y. names y x ≡ true) (sym one) has) in
+          absurd (cc (same, never)));
       facts = λ d is. absurd (cc is);
       number = λ d is. absurd (cc is);
-      wanted = λ h is at_ingress standing.
-          let one : closed g ≡ h = cc is in
+      wanted = λ x h same there at_ingress standing.
+          (let became = itself-became g.lsp x (Some (closed g)) h s.legs legs' becomes same there in
+          let one : closed g ≡ h = cc became in
           let not_torn : is_closing (closed g).phase ≡ false =
-          subst (λ x. is_closing x.phase ≡ false) (sym one) standing in
+          subst (λ y. is_closing y.phase ≡ false) (sym one) standing in
           let torn : is_closing (closing_phase g.phase g.role) ≡ true =
           subst (λ r. is_closing (closing_phase g.phase r) ≡ true) (sym mine.role) (closed-closing g.phase) in
-          absurd (cc (not_torn, torn));
+          absurd (cc (not_torn, torn)));
     }
 
 keeps-releases : (p : Place) (s : NodeState) (c : CallRec) → find_call c.call s.calls ≡ Some c → NodeFacts p.id.0 s →

@@ -16,7 +16,7 @@ use Rattle.mesh_laws.specs.CallLaw.{IsNamed, fits, phase_of}
 use Rattle.mesh_laws.proofs.nodes.Facts.{CallFacts, NodeFacts}
 use Rattle.mesh_laws.proofs.nodes.LegList.{find-with_leg, find-without_leg}
 use Rattle.mesh_laws.proofs.nodes.LegParts.{LegPart, MayStand, part-with_leg, part-without_leg}
-use Rattle.mesh_laws.proofs.nodes.CallParts.{CallPart, Unnamed, lsp-is, unnamed-part}
+use Rattle.mesh_laws.proofs.nodes.CallParts.{CallPart, Unnamed, named-work, unnamed-part}
 
 pub leg_part : (n : ℕ) (s : NodeState) → NodeFacts n s → LegPart n s.lsp s.legs
 leg_part n s facts = record { rise = facts.legs_rise; leg = facts.leg; one_leg = facts.one_leg }
@@ -82,7 +82,7 @@ fits-torn state Falling e torn = fits-falling state e
 pub unnamed-away : (n next : ℕ) (legs : List Leg) (calls : List CallRec) (l : Lsp) → nat_eq l.ingress.0 n ≡ false →
     CallPart n next legs calls → Unnamed calls l
 unnamed-away n next legs calls l away part k c found names =
-    let here : l.ingress.0 ≡ n = (named n next legs c l (part.call k c found) (lsp-is c.work l names)).ingress in
+    let here : l.ingress.0 ≡ n = (named n next legs c l (part.call k c found) (named-work c l (part.call k c found).back names)).ingress in
     let same : nat_eq l.ingress.0 n ≡ true = grind arith in
     cc (away, same)
 
@@ -90,7 +90,7 @@ unnamed-away n next legs calls l away part k c found names =
 pub unnamed-torn : (n next : ℕ) (legs : List Leg) (calls : List CallRec) (l : Lsp) (g : Leg) →
     find_leg l legs ≡ Some g → is_closing g.phase ≡ true → CallPart n next legs calls → Unnamed calls l
 unnamed-torn n next legs calls l g here torn part k c found names =
-    fits-torn c.state g.phase (state-fits n next legs c l g (part.call k c found) (lsp-is c.work l names) here) torn
+    fits-torn c.state g.phase (state-fits n next legs c l g (part.call k c found) (named-work c l (part.call k c found).back names) here) torn
 
 -- One leg changes, and no call, whatever is sent
 
