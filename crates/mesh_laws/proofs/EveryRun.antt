@@ -1,5 +1,10 @@
 -- All laws hold after every run.
-use Rattle.mesh_laws.specs.Laws.{EveryRunKeepsTheLaws}
+use Rattle.std.proofs.Common.{List, [], ◌∷◌, ◌++◌}
+use Rattle.ason_base.specs.Network.{Network}
+use Rattle.mesh_rules.specs.declared.events.MeshEvent.{MeshEvent}
+use Rattle.mesh_rules.specs.Machine.{Mesh, start}
+use Rattle.mesh_rules.specs.Events.{IsRun, step}
+use Rattle.mesh_laws.specs.Laws.{EveryRunKeepsTheLaws, LawsHold}
 use Rattle.mesh_laws.proofs.hops.Joined.{every_call_joined}
 use Rattle.mesh_laws.proofs.hops.Laws.{every_hop}
 use Rattle.mesh_laws.proofs.hops.Safe.{every_run_safe}
@@ -17,3 +22,11 @@ laws_hold t events run =
       safe = every_run_safe t events run;
       joined = every_call_joined t events run;
     }
+
+run_so_far : (t : Network) (s : Mesh) (events later : List MeshEvent) → IsRun t s (events ++ later) → IsRun t s events
+run_so_far t s [] later run = tt
+run_so_far t s (e ∷ events) later run = (run.0, run_so_far t (step t s e) events later run.1)
+
+-- and after each first part of one
+pub laws_hold_so_far : (t : Network) (events later : List MeshEvent) → IsRun t start (events ++ later) → LawsHold t events
+laws_hold_so_far t events later run = laws_hold t events (run_so_far t start events later run)

@@ -18,7 +18,7 @@ use Rattle.mesh_laws.proofs.hops.Plans.{Plan, link_at}
 use Rattle.mesh_laws.proofs.hops.Rows.{is_reserved, reserved_leg, reserved_is, Stands, FirstTaken, first_taken}
 use Rattle.mesh_laws.proofs.hops.Rows.{tear_taken, tear_late, AskedAnswers, asked_answers, torn_leaves}
 use Rattle.mesh_laws.proofs.hops.Rest.{Purpose, role_of, Rest, has_path, in_label_of, out_label_of, no_kinds, no_path_down}
-use Rattle.mesh_laws.proofs.hops.Rest.{down_taken, up_sent, far_lets_go, far_takes, far_asks}
+use Rattle.mesh_laws.proofs.hops.Rest.{down_taken, up_sent, downstream_lets_go, downstream_takes, downstream_asked}
 use Rattle.mesh_laws.proofs.hops.Rest.{offer_path, sent_path, sent_offer}
 use Rattle.mesh_laws.proofs.hops.Chain.{Hop}
 
@@ -52,7 +52,7 @@ module _ (q : Purpose) (p : Plan) (i : ℕ) (u : Option Leg) where
         Hop q p i u (Some g) rest (up ++ [])
     path_passed g asked within = rw path_quiet (record {
       shape = rw asked taken.passed;
-      rest = far_asks q p i u None g rest bare
+      rest = downstream_asked q p i u None g rest bare
           (offer_path u g set (Path l e k r set label s) (λ sent is. is) h.rest.sets.0 within) left;
     })
 
@@ -63,7 +63,7 @@ module _ (q : Purpose) (p : Plan) (i : ℕ) (u : Option Leg) where
       shape = rw kind taken.answered;
       rest = up_sent q p i u (Some g) (Resv l e' k' x) rest [] over
           (λ reserved. (here, sent_path u set x (Path l e k r set label s) (λ sent is. is) h.rest.sets.0 within))
-          (far_takes q p i u None g rest bare (reserved_kind g kind) left);
+          (downstream_takes q p i u None g rest bare (reserved_kind g kind) left);
     })
 
     pub path_refused : (e' at : NodeId) (code : ErrCode) → Hop q p i u None rest (up ++ PathErr l e' at true code ∷ [])
@@ -88,7 +88,7 @@ module _ (q : Purpose) (p : Plan) (i : ℕ) (u : Option Leg) where
         rw empty (record {
           shape = rw map-append (t.let_go (leg_kind d) gone);
           rest = up_sent q p i u d (PathErr l' e' at true code) [] up tt tt
-              (far_lets_go q p i u (Some g) d [] up gone none refl after);
+              (downstream_lets_go q p i u (Some g) d [] up gone none refl after);
         })
 
     -- where the node has let go
@@ -121,7 +121,8 @@ module _ (q : Purpose) (p : Plan) (i : ℕ) (u : Option Leg) where
           shape = rw kind a.answered;
           rest = up_sent q p i u (Some g') (Resv l e k y) down [] over
               (λ reserved. (here, sent_offer u g y asked h.rest.offer offered))
-              (far_takes q p i u (Some g) g' down (h.rest.bare (inr (rw asked refl))) (reserved_kind g' kind) before);
+              (downstream_takes q p i u (Some g) g' down
+              (h.rest.bare (inr (rw asked refl))) (reserved_kind g' kind) before);
         })
 
     pub asked_lets_go : (d : Option Leg) (l : Lsp) (e at : NodeId) (code : ErrCode) → g.phase ≡ Asked →
@@ -132,7 +133,7 @@ module _ (q : Purpose) (p : Plan) (i : ℕ) (u : Option Leg) where
         record {
           shape = rw (map-append, a.quiet) (a.let_go (leg_kind d) gone);
           rest = up_sent q p i u d (PathErr l e at true code) down up tt tt
-              (far_lets_go q p i u (Some g) d down up gone none (no_path_down down a.down_is) h.rest);
+              (downstream_lets_go q p i u (Some g) d down up gone none (no_path_down down a.down_is) h.rest);
         }
 
     pub torn_goes : IsTorn (role_of q) (leg_kind (Some g)) → Hop q p i u None down (up ++ [])
@@ -140,5 +141,6 @@ module _ (q : Purpose) (p : Plan) (i : ℕ) (u : Option Leg) where
         let t = torn_leaves (role_of q) _ _ _ _ torn h.shape in
         rw append-nil (record {
           shape = t.gone;
-          rest = far_lets_go q p i u (Some g) None down up NothingLeft refl (no_path_down down t.down_is) h.rest;
+          rest =
+              downstream_lets_go q p i u (Some g) None down up NothingLeft refl (no_path_down down t.down_is) h.rest;
         })

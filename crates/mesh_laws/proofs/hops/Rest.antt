@@ -215,22 +215,22 @@ answer_idle u d (PathTear l e k) never = tt
 answer_idle u d (PathErr l e at gone code) never = tt
 answer_idle u d (Notify l e at k code) never = tt
 
-answer_far : (u : Option Leg) (g g' : Leg) (m : Msg) → g'.in_label ≡ g.in_label →
+answer_downstream : (u : Option Leg) (g g' : Leg) (m : Msg) → g'.in_label ≡ g.in_label →
     is_reserved (leg_kind (Some g)) ≡ true →
     AnswerFits u (Some g) m → AnswerFits u (Some g') m
-answer_far u g g' (Path l e k route set up r) is was h = tt
-answer_far u g g' (Resv l e k x) is was h = λ reserved. (rw is (h was).0, (h was).1)
-answer_far u g g' (PathTear l e k) is was h = tt
-answer_far u g g' (PathErr l e at gone code) is was h = tt
-answer_far u g g' (Notify l e at k code) is was h = tt
+answer_downstream u g g' (Path l e k route set up r) is was h = tt
+answer_downstream u g g' (Resv l e k x) is was h = λ reserved. (rw is (h was).0, (h was).1)
+answer_downstream u g g' (PathTear l e k) is was h = tt
+answer_downstream u g g' (PathErr l e at gone code) is was h = tt
+answer_downstream u g g' (Notify l e at k code) is was h = tt
 
-answer_near : (g g' : Leg) (d : Option Leg) (m : Msg) → g'.sent ≡ g.sent → AnswerFits (Some g) d m →
+answer_upstream : (g g' : Leg) (d : Option Leg) (m : Msg) → g'.sent ≡ g.sent → AnswerFits (Some g) d m →
     AnswerFits (Some g') d m
-answer_near g g' d (Path l e k route set up r) is h = tt
-answer_near g g' d (Resv l e k x) is h = λ reserved. ((h reserved).0, rw is (h reserved).1)
-answer_near g g' d (PathTear l e k) is h = tt
-answer_near g g' d (PathErr l e at gone code) is h = tt
-answer_near g g' d (Notify l e at k code) is h = tt
+answer_upstream g g' d (Path l e k route set up r) is h = tt
+answer_upstream g g' d (Resv l e k x) is h = λ reserved. ((h reserved).0, rw is (h reserved).1)
+answer_upstream g g' d (PathTear l e k) is h = tt
+answer_upstream g g' d (PathErr l e at gone code) is h = tt
+answer_upstream g g' d (Notify l e at k code) is h = tt
 
 answer_gone : (g : Leg) (d : Option Leg) (m : Msg) → AnswerFits (Some g) d m → AnswerFits None d m
 answer_gone g d (Path l e k route set up r) h = tt
@@ -239,16 +239,16 @@ answer_gone g d (PathTear l e k) h = tt
 answer_gone g d (PathErr l e at gone code) h = tt
 answer_gone g d (Notify l e at k code) h = tt
 
-offer_near : (g g' : Leg) (d : Option Leg) → g'.sent ≡ g.sent → OfferSent (Some g) d → OfferSent (Some g') d
-offer_near g g' None is h = tt
-offer_near g g' (Some d) is h = λ asked x offered. rw is (h asked x offered)
+offer_upstream : (g g' : Leg) (d : Option Leg) → g'.sent ≡ g.sent → OfferSent (Some g) d → OfferSent (Some g') d
+offer_upstream g g' None is h = tt
+offer_upstream g g' (Some d) is h = λ asked x offered. rw is (h asked x offered)
 
-set_near : (g g' : Leg) (m : Msg) → g'.sent ≡ g.sent → SetSent (Some g) m → SetSent (Some g') m
-set_near g g' (Path l e k route set up r) is h = rw is h
-set_near g g' (Resv l e k x) is h = tt
-set_near g g' (PathTear l e k) is h = tt
-set_near g g' (PathErr l e at gone code) is h = tt
-set_near g g' (Notify l e at k code) is h = tt
+set_upstream : (g g' : Leg) (m : Msg) → g'.sent ≡ g.sent → SetSent (Some g) m → SetSent (Some g') m
+set_upstream g g' (Path l e k route set up r) is h = rw is h
+set_upstream g g' (Resv l e k x) is h = tt
+set_upstream g g' (PathTear l e k) is h = tt
+set_upstream g g' (PathErr l e at gone code) is h = tt
+set_upstream g g' (Notify l e at k code) is h = tt
 
 -- The eleven changes
 
@@ -312,23 +312,24 @@ module _ (q : Purpose) (p : Plan) (i : ℕ) where
   }
 
   -- 5. d keeps its label: it is Held, Armed or Live before and after
-  pub far_keeps : (u : Option Leg) (g g' : Leg) (down up : List Msg) → g'.in_label ≡ g.in_label →
+  pub downstream_keeps : (u : Option Leg) (g g' : Leg) (down up : List Msg) → g'.in_label ≡ g.in_label →
       is_reserved (leg_kind (Some g)) ≡ true → is_reserved (leg_kind (Some g')) ≡ true →
       Rest q p i u (Some g) down up → Rest q p i u (Some g') down up
-  far_keeps u g g' down up is was reserved h = record {
+  downstream_keeps u g g' down up is was reserved h = record {
     going_down = h.going_down;
     going_up = h.going_up;
     labels = rw is h.labels;
-    answers = each-map (AnswerFits u (Some g)) (AnswerFits u (Some g')) up (λ m. answer_far u g g' m is was) h.answers;
+    answers =
+        each-map (AnswerFits u (Some g)) (AnswerFits u (Some g')) up (λ m. answer_downstream u g g' m is was) h.answers;
     offer = offer_idle u (Some g') (not_asked (leg_kind (Some g')) reserved);
     sets = h.sets;
     bare = λ pending. absurd (never_pending (leg_kind (Some g')) down reserved pending);
   }
 
   -- 6. d goes or closes, and no Path is on the hop
-  pub far_lets_go : (u d d' : Option Leg) (down up : List Msg) → HasLetGo (role_of q) (leg_kind d') →
+  pub downstream_lets_go : (u d d' : Option Leg) (down up : List Msg) → HasLetGo (role_of q) (leg_kind d') →
       in_label_of d' ≡ None → has_path down ≡ false → Rest q p i u d down up → Rest q p i u d' down up
-  far_lets_go u d d' down up gone none no_path h = record {
+  downstream_lets_go u d d' down up gone none no_path h = record {
     going_down = h.going_down;
     going_up = h.going_up;
     labels = rw none (meets_none (out_label_of u));
@@ -342,9 +343,9 @@ module _ (q : Purpose) (p : Plan) (i : ℕ) where
   }
 
   -- 7. d takes its label, while u has none and no answer is under way
-  pub far_takes : (u d : Option Leg) (g' : Leg) (down : List Msg) → out_label_of u ≡ None →
+  pub downstream_takes : (u d : Option Leg) (g' : Leg) (down : List Msg) → out_label_of u ≡ None →
       is_reserved (leg_kind (Some g')) ≡ true → Rest q p i u d down [] → Rest q p i u (Some g') down []
-  far_takes u d g' down bare reserved h = record {
+  downstream_takes u d g' down bare reserved h = record {
     going_down = h.going_down;
     going_up = tt;
     labels = rw bare tt;
@@ -355,9 +356,10 @@ module _ (q : Purpose) (p : Plan) (i : ℕ) where
   }
 
   -- 8. d is Asked, with labels that u sent on
-  pub far_asks : (u d : Option Leg) (g' : Leg) (down : List Msg) → out_label_of u ≡ None → OfferSent u (Some g') →
+  pub downstream_asked : (u d : Option Leg) (g' : Leg) (down : List Msg) → out_label_of u ≡ None →
+      OfferSent u (Some g') →
       Rest q p i u d down [] → Rest q p i u (Some g') down []
-  far_asks u d g' down bare offer h = record {
+  downstream_asked u d g' down bare offer h = record {
     going_down = h.going_down;
     going_up = tt;
     labels = rw bare tt;
@@ -368,15 +370,17 @@ module _ (q : Purpose) (p : Plan) (i : ℕ) where
   }
 
   -- 9. u keeps its label out and the set that it sent on: it is Armed, Held or Live, or closes
-  pub near_keeps : (g g' : Leg) (d : Option Leg) (down up : List Msg) → g'.out_label ≡ g.out_label → g'.sent ≡ g.sent →
+  pub upstream_keeps : (g g' : Leg) (d : Option Leg) (down up : List Msg) → g'.out_label ≡ g.out_label →
+      g'.sent ≡ g.sent →
       Rest q p i (Some g) d down up → Rest q p i (Some g') d down up
-  near_keeps g g' d down up out sent h = record {
+  upstream_keeps g g' d down up out sent h = record {
     going_down = h.going_down;
     going_up = h.going_up;
     labels = rw out h.labels;
-    answers = each-map (AnswerFits (Some g) d) (AnswerFits (Some g') d) up (λ m. answer_near g g' d m sent) h.answers;
-    offer = offer_near g g' d sent h.offer;
-    sets = each-map (SetSent (Some g)) (SetSent (Some g')) down (λ m. set_near g g' m sent) h.sets;
+    answers =
+        each-map (AnswerFits (Some g) d) (AnswerFits (Some g') d) up (λ m. answer_upstream g g' d m sent) h.answers;
+    offer = offer_upstream g g' d sent h.offer;
+    sets = each-map (SetSent (Some g)) (SetSent (Some g')) down (λ m. set_upstream g g' m sent) h.sets;
     bare = λ pending. still (h.bare pending);
   }
     where
@@ -384,23 +388,24 @@ module _ (q : Purpose) (p : Plan) (i : ℕ) where
       still none = rw out none
 
   -- 10. u takes the label of a Resv, which is d's
-  pub near_connects : (g g' : Leg) (d : Option Leg) (down up : List Msg) (x : ℕ) → g'.out_label ≡ Some x →
+  pub upstream_connects : (g g' : Leg) (d : Option Leg) (down up : List Msg) (x : ℕ) → g'.out_label ≡ Some x →
       in_label_of d ≡ Some x → g'.sent ≡ g.sent → is_reserved (leg_kind d) ≡ true →
       Rest q p i (Some g) d down up → Rest q p i (Some g') d down up
-  near_connects g g' d down up x out into sent reserved h = record {
+  upstream_connects g g' d down up x out into sent reserved h = record {
     going_down = h.going_down;
     going_up = h.going_up;
     labels = rw (out, into) refl;
-    answers = each-map (AnswerFits (Some g) d) (AnswerFits (Some g') d) up (λ m. answer_near g g' d m sent) h.answers;
-    offer = offer_near g g' d sent h.offer;
-    sets = each-map (SetSent (Some g)) (SetSent (Some g')) down (λ m. set_near g g' m sent) h.sets;
+    answers =
+        each-map (AnswerFits (Some g) d) (AnswerFits (Some g') d) up (λ m. answer_upstream g g' d m sent) h.answers;
+    offer = offer_upstream g g' d sent h.offer;
+    sets = each-map (SetSent (Some g)) (SetSent (Some g')) down (λ m. set_upstream g g' m sent) h.sets;
     bare = λ pending. absurd (never_pending (leg_kind d) down reserved pending);
   }
 
   -- 11. u goes
-  pub near_goes : (g : Leg) (d : Option Leg) (down up : List Msg) → Rest q p i (Some g) d down up →
+  pub upstream_goes : (g : Leg) (d : Option Leg) (down up : List Msg) → Rest q p i (Some g) d down up →
       Rest q p i None d down up
-  near_goes g d down up h = record {
+  upstream_goes g d down up h = record {
     going_down = h.going_down;
     going_up = h.going_up;
     labels = tt;

@@ -18,7 +18,7 @@ use Rattle.mesh_laws.proofs.hops.Plans.{Plan, link_at}
 use Rattle.mesh_laws.proofs.hops.Rows.{is_reserved, reserved_leg, reserved_is, torn_leg, Stands, ResvTaken, resv_asked}
 use Rattle.mesh_laws.proofs.hops.Rows.{resv_torn, removal_taken, tears}
 use Rattle.mesh_laws.proofs.hops.Rest.{Purpose, role_of, DownFits}
-use Rattle.mesh_laws.proofs.hops.Rest.{up_taken, down_sent, near_keeps, near_connects, near_goes}
+use Rattle.mesh_laws.proofs.hops.Rest.{up_taken, down_sent, upstream_keeps, upstream_connects, upstream_goes}
 use Rattle.mesh_laws.proofs.hops.Chain.{Hop}
 
 module _ (q : Purpose) (p : Plan) (i : ℕ) where
@@ -65,12 +65,12 @@ module _ (q : Purpose) (p : Plan) (i : ℕ) where
       taken : ResvTaken (role_of q) (leg_kind d) (map msg_kind down) (map msg_kind up)
       taken = resv_asked (role_of q) (leg_kind d) (map msg_kind down) (map msg_kind up) (rw asked at h.shape)
 
-      far_reserved : is_reserved (leg_kind d) ≡ true
-      far_reserved = rw taken.far (reserved_is (role_of q))
+      next_reserved : is_reserved (leg_kind d) ≡ true
+      next_reserved = rw taken.far (reserved_is (role_of q))
 
       -- the label was sent on
       pub resv_sent : has g.sent x ≡ true
-      resv_sent = (h.rest.answers.0 far_reserved).1
+      resv_sent = (h.rest.answers.0 next_reserved).1
 
       -- it has its label
       pub resv_connects : (g' : Leg) → leg_kind (Some g') ≡ reserved_leg (role_of q) → g'.out_label ≡ Some x →
@@ -78,7 +78,7 @@ module _ (q : Purpose) (p : Plan) (i : ℕ) where
           Hop q p i (Some g') d (down ++ []) up
       resv_connects g' kind out sent = rw append-nil (record {
         shape = rw (kind, taken.none, taken.last) taken.connected;
-        rest = near_connects q p i g g' d down up x out (h.rest.answers.0 far_reserved).0 sent far_reserved
+        rest = upstream_connects q p i g g' d down up x out (h.rest.answers.0 next_reserved).0 sent next_reserved
             (up_taken q p i (Some g) d (Resv l e k x) down up h.rest);
       })
 
@@ -89,7 +89,7 @@ module _ (q : Purpose) (p : Plan) (i : ℕ) where
       resv_closes g' l' e' k' kind out sent over = record {
         shape = rw (kind, map-append, taken.none, taken.last) taken.torn;
         rest = down_sent q p i (Some g') d (PathTear l' e' k') down up over tt (λ _. refl)
-            (near_keeps q p i g g' d down up out sent (up_taken q p i (Some g) d (Resv l e k x) down up h.rest));
+            (upstream_keeps q p i g g' d down up out sent (up_taken q p i (Some g) d (Resv l e k x) down up h.rest));
       }
 
     -- by a torn one, which stays as it is
@@ -106,7 +106,7 @@ module _ (q : Purpose) (p : Plan) (i : ℕ) where
         Hop q p i None d (down ++ []) up
     removal_leaves l e at code h = rw append-nil (record {
       shape = (removal_taken (role_of q) _ _ _ _ h.shape).gone;
-      rest = near_goes q p i g d down up (up_taken q p i (Some g) d (PathErr l e at true code) down up h.rest);
+      rest = upstream_goes q p i g d down up (up_taken q p i (Some g) d (PathErr l e at true code) down up h.rest);
     })
 
     -- A leg that stands closes, and a PathTear goes on
@@ -117,5 +117,5 @@ module _ (q : Purpose) (p : Plan) (i : ℕ) where
       shape = rw (kind, map-append) (tears (role_of q) _ _ _ _ stands h.shape);
       rest =
           down_sent q p i (Some g') d (PathTear l e k) down up over tt (λ _. refl)
-          (near_keeps q p i g g' d down up out sent h.rest);
+          (upstream_keeps q p i g g' d down up out sent h.rest);
     }
