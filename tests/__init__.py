@@ -1,0 +1,9 @@
+"""Tests of the tools beside `ason`: `python3 -m unittest` at the top of the repository.
+
+The program is the one that the environment variable ASON names, or the script `ason`.
+"""
+
+import sys
+from pathlib import Path
+
+sys.path.insert(0, str(Path(__file__).resolve().parents[1] / "tools"))

@@ -1,0 +1,316 @@
+"""What a refusal means: the place of the fault in the plan's text, and a sentence."""
+
+import re
+import tomllib
+from collections.abc import Callable, Iterator
+from dataclasses import dataclass
+
+from . import toml_places
+from .files import MARK, place_of
+from .plan import MOST_LABELS, MOST_LINES, MOST_LINKS, MOST_METRIC, MOST_NODES
+from .tables import Refused
+from .toml_places import Placed
+
+TOP = {"node": list, "link": list, "script": list, "wait": int}
+NODE = {"name": str, "id": int, "convert": bool}
+LINK = {"id": int, "ends": list, "labels": int, "metric": int, "srlg": list}
+MOST_ID = 4_294_967_295
+MOST_WAIT = 10_000
+MOST_SRLGS = 16
+
+
+@dataclass(frozen=True)
+class Fault:
+    """A fault: a sentence, and where it is, as line and column from 1. The place is None where the text shows none."""
+
+    sentence: str
+    place: tuple[int, int] | None
+
+
+Finding = tuple[int | None, str]
+"""An offset in the text, or None, and a sentence."""
+
+
+def explain(data: bytes, refused: Refused) -> Fault:
+    """The fault of this plan that the program refused so."""
+    if refused.entry is None:
+        return Fault("the input has more than 4,194,304 bytes", None)
+    if refused.entry == "toml":
+        return _syntax(data)
+    text = data.decode("utf-8").removeprefix(MARK)
+    try:
+        top = toml_places.read(text)
+    except (toml_places.Unreadable, RecursionError):
+        return Fault(f"{_meaning(refused)} (this tool can't read the file's TOML, so it shows no line)", None)
+    at, sentence = _find(top, refused)
+    return Fault(sentence, None if at is None else place_of(text[:at]))
+
+
+def _syntax(data: bytes) -> Fault:
+    """Where the bytes are no UTF-8 or no TOML."""
+    try:
+        text = data.decode("utf-8")
+    except UnicodeDecodeError as error:
+        return Fault("a byte here isn't UTF-8, in which a plan is written", place_of(data[: error.start].decode()))
+    text = text.removeprefix(MARK)
+    try:
+        tomllib.loads(text)
+    except RecursionError:
+        return Fault("arrays or tables stand too deep", None)
+    except ValueError as error:
+        return _toml_fault(text, str(error))
+    return Fault("the program's reader of TOML refuses it, and this tool's doesn't", None)
+
+
+def _toml_fault(text: str, message: str) -> Fault:
+    found = re.fullmatch(r"(.*) \(at (?:line (\d+), column (\d+)|end of document)\)", message, re.DOTALL)
+    if found is None:
+        return Fault(f"this is no TOML: {message}", None)
+    place = (int(found[2]), int(found[3])) if found[2] else place_of(text.rstrip("\n"))
+    return Fault(f"this is no TOML: {found[1][:1].lower()}{found[1][1:]}", place)
+
+
+def _find(top: Placed, refused: Refused) -> Finding:
+    """Where the program's entry and kind show in the text."""
+    word, _, number = (refused.entry or "").partition(" ")
+    if word == "top":
+        return _in_top(top, refused)
+    members = top.get(word)
+    row = members.items()[int(number) - 1] if members and int(number) <= len(members.items()) else None
+    if row is None:
+        return None, _meaning(refused)
+    if word == "script":
+        return row.at, _in_line(top, row, int(number), refused)
+    return _in_row(top, row, word, int(number), refused)
+
+
+def _in_top(top: Placed, refused: Refused) -> Finding:
+    if refused.kind == "key":
+        return _unknown_key(top, TOP, "the plan")
+    if refused.kind == "missing":
+        return None, "the plan has no node: it needs 1 to 64 tables [[node]]"
+    if refused.kind == "kind":
+        return _wrong_type(top, TOP, "the plan") or _wrong_member(top) or (None, _meaning(refused))
+    if refused.kind == "count":
+        return _top_count(top) or (None, _meaning(refused))
+    wait = top.get("wait")
+    return (wait.at if wait else None), _meaning(refused)
+
+
+def _top_count(top: Placed) -> Finding | None:
+    """The first member that is one too many, or the array of nodes that has none."""
+    for key, most in (("node", MOST_NODES), ("link", MOST_LINKS), ("script", MOST_LINES)):
+        rows = top.get(key)
+        members = rows.items() if rows else []
+        if len(members) > most:
+            return members[most].at, f"the plan has {len(members):,} members of {key}, and at most {most:,} are allowed"
+        if rows and key == "node" and not members:
+            return rows.at, f"the plan has no node, and it needs 1 to {most}"
+    return None
+
+
+def _in_row(top: Placed, row: Placed, word: str, number: int, refused: Refused) -> Finding:
+    """The place in a node or a link."""
+    keys = NODE if word == "node" else LINK
+    entry = f"{word} {number}"
+    if refused.kind == "key":
+        return _unknown_key(row, keys, entry)
+    if refused.kind == "missing":
+        needed = ("name", "id") if word == "node" else ("id", "ends", "labels")
+        missing = [key for key in needed if row.get(key) is None]
+        return row.at, f"{entry} has no {' and no '.join(missing)}"
+    if refused.kind == "kind":
+        return _wrong_type(row, keys, entry) or _wrong_element(row, entry) or (row.at, _meaning(refused))
+    key, sentence = _value_fault(top, row, word, number, refused)
+    value = row.get(key)
+    return (value.at if value else row.at), sentence
+
+
+def _value_fault(top: Placed, row: Placed, word: str, number: int, refused: Refused) -> tuple[str, str]:
+    """The key whose value is the fault, and the sentence."""
+    entry = f"{word} {number}"
+    if refused.kind == "range":
+        return _out_of_range(row, word, entry)
+    if refused.kind == "order":
+        return "id", f"the ids of {word}s rise, and that of {entry} isn't above that of the {word} before"
+    if refused.kind == "name":
+        return "name", f"the name of {entry} isn't an ASCII letter and up to 15 more letters, digits, _ or -"
+    if word == "node" and refused.kind == "twice":
+        return "name", f"a node before {entry} has this name"
+    if refused.kind == "twice":
+        return "srlg", f"{entry} names an SRLG twice"
+    if refused.kind == "count":
+        return _wrong_count(row, entry)
+    if refused.kind == "ends":
+        return "ends", _ends(top, row, entry)
+    if word == "node":
+        return "convert", f"{entry} has no `convert = true`, and this version runs only nodes that convert wavelengths"
+    return "srlg", f"{entry} has SRLGs, which this version doesn't run"
+
+
+def _out_of_range(row: Placed, word: str, entry: str) -> tuple[str, str]:
+    limits = {"id": (1, MOST_ID)} if word == "node" else {"id": (1, MOST_ID), "labels": (1, MOST_LABELS), "metric": (1, MOST_METRIC)}
+    for key, (least, most) in limits.items():
+        value = row.get(key)
+        if value and not least <= value.value <= most:
+            return key, f"the {key} of {entry} is {least} to {most:,}, and here it is {value.value}"
+    return "srlg", f"an SRLG of {entry} isn't 0 to {MOST_ID:,}"
+
+
+def _wrong_count(row: Placed, entry: str) -> tuple[str, str]:
+    ends = row.get("ends")
+    if ends and len(ends.items()) != 2:
+        return "ends", f"{entry} has {len(ends.items())} ends, and a link has two"
+    return "srlg", f"{entry} has more than {MOST_SRLGS} SRLGs"
+
+
+def _ends(top: Placed, row: Placed, entry: str) -> str:
+    names = _node_names(top)
+    ends = [end.value for end in row.value["ends"].items()]
+    unknown = next((end for end in ends if end not in names), None)
+    if unknown is not None:
+        return f"{entry} ends at {_quoted(unknown)}, and no node of the plan has this name"
+    return f"both ends of {entry} are {_quoted(ends[0])}"
+
+
+def _unknown_key(table: Placed, keys: dict[str, type], entry: str) -> Finding:
+    for key, value in table.value.items():
+        if key not in keys:
+            return value.at, f"{entry} has the key {_quoted(key)}, and the keys are {', '.join(keys)}"
+    return None, f"{entry} has a key that isn't one of {', '.join(keys)}"
+
+
+_WORDS = {list: "an array", int: "an integer", str: "a string", bool: "true or false"}
+
+
+def _wrong_type(table: Placed, keys: dict[str, type], entry: str) -> Finding | None:
+    """The first value of another type than its key's."""
+    for key, kind in keys.items():
+        value = table.get(key)
+        if value is not None and type(value.value) is not kind:
+            return value.at, f"the {key} of {entry} isn't {_WORDS[kind]}"
+    return None
+
+
+def _wrong_member(top: Placed) -> Finding | None:
+    """The first node or link that is no table, or script line that is no string."""
+    for key, kind, needed in (("script", str, "a string"), ("node", dict, "a table"), ("link", dict, "a table")):
+        rows = top.get(key)
+        for number, row in enumerate(rows.items() if rows else [], 1):
+            if type(row.value) is not kind:
+                return row.at, f"{key} {number} isn't {needed}"
+    return None
+
+
+def _wrong_element(row: Placed, entry: str) -> Finding | None:
+    """The first end that is no string, or SRLG that is no integer."""
+    for key, kind in (("ends", str), ("srlg", int)):
+        value = row.get(key)
+        for element in value.items() if value else []:
+            if type(element.value) is not kind:
+                return element.at, f"an element of {key} of {entry} isn't {_WORDS[kind]}"
+    return None
+
+
+def _in_line(top: Placed, row: Placed, number: int, refused: Refused) -> str:
+    """The sentence on a script line."""
+    words = [word for word in str(row.value).split(" ") if word]
+    details: dict[str, Callable[[], str | None]] = {
+        "name": lambda: f"{_quoted(words[1])} is no name: a letter and up to 15 more letters, digits, _ or -",
+        "node": lambda: _unknown_node(top, words),
+        "same": lambda: f"the call begins and ends at {_quoted(words[2])}",
+        "call": lambda: _call_fault(words),
+        "route": lambda: _route_fault(top, words),
+        "range": lambda: _RANGES[words[0]],
+    }
+    try:
+        detail = details.get(refused.kind or "", lambda: None)()
+    except (IndexError, KeyError, ValueError):
+        detail = None
+    return f"script line {number}: {detail or _meaning(refused)}"
+
+
+_RANGES = {
+    "settle": "the R of settle is 1 to 1,000",
+    "wait": "the N of wait is 1 to 10,000",
+    "setup": f"a link id is at most {MOST_ID:,}",
+    "fail": f"a link id or an SRLG is at most {MOST_ID:,}",
+    "repair": f"a link id or an SRLG is at most {MOST_ID:,}",
+    "lose": "the K of lose is 1 to 65,535",
+    "repeat": "the K of repeat is 1 to 65,535",
+    "hold": "the K of hold is 1 to 65,535",
+}
+
+
+def _unknown_node(top: Placed, words: list[str]) -> str | None:
+    names = _node_names(top)
+    unknown = next((word for word in words[2:4] if word not in names), None)
+    return None if unknown is None else f"no node of the plan has the name {_quoted(unknown)}"
+
+
+def _call_fault(words: list[str]) -> str:
+    if words[0] == "setup":
+        return f"a setup before has the name {_quoted(words[1])}"
+    return f"no setup before has the name {_quoted(words[1])}"
+
+
+def _route_fault(top: Placed, words: list[str]) -> str | None:
+    """The first link of the route that doesn't lead on."""
+    source, target, via = words[2], words[3], words[words.index("via") + 1]
+    links = {link.value["id"].value: [end.value for end in link.value["ends"].items()] for link in _rows(top, "link")}
+    node, visited = source, {source}
+    for link in map(int, via.split(",")):
+        ends = links.get(link)
+        if ends is None:
+            return f"the plan has no link {link}"
+        if node not in ends:
+            return f"link {link} joins {ends[0]} and {ends[1]}, and the route has come to {node}"
+        node = ends[1] if node == ends[0] else ends[0]
+        if node in visited:
+            return f"the route comes to {node} twice"
+        visited.add(node)
+    return f"the route ends at {node}, and the call at {target}" if node != target else None
+
+
+def _node_names(top: Placed) -> set[str]:
+    return {row.value["name"].value for row in _rows(top, "node")}
+
+
+def _rows(top: Placed, key: str) -> Iterator[Placed]:
+    rows = top.get(key)
+    yield from rows.items() if rows else []
+
+
+_MEANINGS = {
+    "top kind": "a value of the plan has another type than its key wants",
+    "top count": f"the plan has not 1 to {MOST_NODES} nodes, at most {MOST_LINKS} links and at most {MOST_LINES:,} script lines",
+    "top range": f"wait isn't 0 to {MOST_WAIT:,}",
+    "top unbuilt": "this version doesn't run plans with wait",
+    "script words": "the line has none of the forms of a script line",
+    "script range": "a number of the line is outside its range",
+    "script name": "the name of the call is no name",
+    "script node": "the line names a node that the plan doesn't have",
+    "script same": "the call begins and ends at the same node",
+    "script call": "the name of the call is used before, or no setup before has it",
+    "script count": "4,096 setups stand before this one, and no more are allowed",
+    "script route": "the links are unknown or don't lead from the one node to the other, with no node twice",
+    "script backup": "the backup route shares a risk or an inner node with the working route",
+    "script group": "the plan has no such link, or no link with this SRLG",
+    "script channel": "the two nodes aren't neighbours",
+    "script hex": "the bytes aren't an even number of hexadecimal digits",
+    "script spells": "the bytes spell a frame, which noise must not",
+    "script unbuilt": "the line has a form that this version doesn't run",
+}
+
+
+def _meaning(refused: Refused) -> str:
+    """What a kind means at any place."""
+    word = (refused.entry or "").partition(" ")[0]
+    return _MEANINGS.get(f"{word} {refused.kind}", f"{refused.entry} has a fault of the kind {refused.kind}")
+
+
+def _quoted(text: object) -> str:
+    shown = str(text)
+    return ascii(shown if len(shown) <= 40 else shown[:40] + "..")
+
+

@@ -1,0 +1,82 @@
+"""Runs `ason`: the program that the environment variable ASON names, or the script beside the folder of the tools."""
+
+import os
+import subprocess
+from dataclasses import dataclass
+from pathlib import Path
+
+from . import tables
+from .errors import ToolError
+from .tables import Output, Refused, Stopped, Table, Unsettled
+
+REPOSITORY = Path(__file__).resolve().parents[2]
+"""The folder that has the script `ason`."""
+
+DONE, USAGE, PLAN_REFUSED, READ_FAULT, WRITE_FAULT, EVENT_LIMIT, OUT_OF_MEMORY, TOO_LONG, NOT_BUILT = 0, *range(2, 10)
+"""The statuses of `ason`."""
+
+
+def program_path() -> str:
+    """The path of the program."""
+    return os.environ.get("ASON") or str(REPOSITORY / "ason")
+
+
+@dataclass(frozen=True)
+class Run:
+    """How a run of `ason` ended: the process's status, what it printed, and that as values."""
+
+    status: int
+    text: str
+    output: Output
+
+    @property
+    def tables(self) -> list[Table]:
+        """The tables in the order in which they were printed; the last is that of the end."""
+        return self.output.tables
+
+    @property
+    def table(self) -> Table:
+        """The last table."""
+        if not self.tables:
+            raise ToolError(f"ason printed no table (its status is {self.status})")
+        return self.tables[-1]
+
+    @property
+    def refused(self) -> Refused | None:
+        """The plan's first fault, where it has one."""
+        return next((part for part in self.output.parts if isinstance(part, Refused)), None)
+
+    @property
+    def unsettled(self) -> list[Unsettled]:
+        """What was left at each settle that ended before all was quiet."""
+        return [part for part in self.output.parts if isinstance(part, Unsettled)]
+
+    @property
+    def stopped(self) -> Stopped | None:
+        """The node at whose limit of events the run ended, where it did."""
+        return next((part for part in self.output.parts if isinstance(part, Stopped)), None)
+
+
+def run(plan: str | bytes) -> Run:
+    """Runs `ason run` on this plan. A ToolError says that the program couldn't be run or built."""
+    return _start("run", plan)
+
+
+def decode(lines: str | bytes) -> Run:
+    """Runs `ason decode` on these lines of hexadecimal digits."""
+    return _start("decode", lines)
+
+
+def _start(word: str, given: str | bytes) -> Run:
+    path = program_path()
+    data = given.encode("utf-8", "surrogateescape") if isinstance(given, str) else given
+    try:
+        ended = subprocess.run([path, word], input=data, stdout=subprocess.PIPE, check=False)
+    except OSError as error:
+        raise ToolError(f"{path} can't be run: {error.strerror}") from error
+    if ended.returncode < 0 or ended.returncode in (USAGE, NOT_BUILT, 126, 127):
+        raise ToolError(f"{path} couldn't be run: its status is {ended.returncode}")
+    if ended.returncode in (READ_FAULT, WRITE_FAULT, OUT_OF_MEMORY):
+        raise ToolError(f"{path} came to no end: its status is {ended.returncode}")
+    text = ended.stdout.decode("utf-8", "replace")
+    return Run(ended.returncode, text, tables.read(text))

@@ -1,0 +1,62 @@
+"""A network as a topology file has it, before it becomes a plan."""
+
+from dataclasses import dataclass, field
+from math import isfinite
+
+Position = tuple[float, float]
+"""Where a node is: to the east and to the north. For a place on the globe longitude and latitude, in degrees."""
+
+FARTHEST = 1e9
+"""The greatest coordinate that counts as one."""
+
+
+@dataclass(frozen=True)
+class Site:
+    """A node of the file: the id by which edges name it, the text that people know it by, and where it is."""
+
+    key: str
+    title: str
+    position: Position | None = None
+
+
+@dataclass(frozen=True)
+class Edge:
+    """A line of the file between two nodes, with the texts of its attributes."""
+
+    key: str
+    ends: tuple[str, str]
+    attributes: dict[str, str] = field(default_factory=dict)
+
+
+@dataclass(frozen=True)
+class Demand:
+    """A wish for a connection from one node to another."""
+
+    key: str
+    source: str
+    target: str
+
+
+@dataclass
+class Topology:
+    """All that is read of a topology file, in its order. In a directed file each edge is one direction."""
+
+    sites: list[Site] = field(default_factory=list)
+    edges: list[Edge] = field(default_factory=list)
+    demands: list[Demand] = field(default_factory=list)
+    directed: bool = False
+
+
+def number_of(text: str) -> float | None:
+    """The finite number that the text spells, or None."""
+    try:
+        number = float(text)
+    except ValueError:
+        return None
+    return number if isfinite(number) else None
+
+
+def position_of(east: str | None, north: str | None) -> Position | None:
+    """The position that the two texts spell, or None."""
+    x, y = number_of(east or ""), number_of(north or "")
+    return None if x is None or y is None or max(abs(x), abs(y)) > FARTHEST else (x, y)
