@@ -97,6 +97,11 @@ class FormsTest(unittest.TestCase):
     def test_without_a_metric_the_least_number_of_links_counts(self) -> None:
         self.assertEqual(planned(NATIVE).plan.script[0], "setup D1 Oslo Cairo unprotected via 3")
 
+    def test_setups_may_come_one_after_the_other(self) -> None:
+        script = planned(NATIVE, settle=True).plan.script
+        self.assertEqual(script[1::2], ["settle 1000"] * 2)
+        self.assertEqual(script[0::2], planned(NATIVE).plan.script)
+
     def test_the_first_module_of_a_link_is_an_attribute(self) -> None:
         data = NATIVE.replace(b"( )\n  L3", b"( 10.00 5.00 )\n  L3")
         self.assertEqual([link.metric for link in planned(data, metric="module_cost", per=10.0).plan.links], [12, 1, 30])

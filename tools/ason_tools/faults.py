@@ -153,7 +153,7 @@ def _out_of_range(row: Placed, word: str, entry: str) -> tuple[str, str]:
     for key, (least, most) in limits.items():
         value = row.get(key)
         if value and not least <= value.value <= most:
-            return key, f"the {key} of {entry} is {least} to {most:,}, and here it is {value.value}"
+            return key, f"{key} of {entry} must be {least} to {most:,}, and here it is {value.value}"
     return "srlg", f"an SRLG of {entry} isn't 0 to {MOST_ID:,}"
 
 

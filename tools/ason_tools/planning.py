@@ -7,7 +7,7 @@ from . import graphml, sndlib
 from .errors import ToolError
 from .files import as_text
 from .names import Namer
-from .plan import MOST_LINES, MOST_LINKS, MOST_METRIC, MOST_NODES, MOST_SETUPS, Link, Node, Plan
+from .plan import MOST_LINKS, MOST_METRIC, MOST_NODES, MOST_SETUPS, Link, Node, Plan
 from .routes import by_hops, by_metric, least_route
 from .topology import Demand, Edge, Topology, number_of
 from .xml_tree import read_tree
@@ -15,7 +15,11 @@ from .xml_tree import read_tree
 
 @dataclass(frozen=True)
 class Wishes:
-    """How the plan is to be made. `metric` names an attribute, of which `per` make one unit of the metric."""
+    """How the plan is to be made.
+
+    `metric` names an attribute, of which `per` make one unit of the metric. With `settle` each setup comes to its end before
+    the next is posted.
+    """
 
     labels: int = 80
     convert: bool = True
@@ -23,6 +27,7 @@ class Wishes:
     per: float = 1.0
     calls: tuple[tuple[str, str], ...] = ()
     routes_given: bool = True
+    settle: bool = False
 
 
 @dataclass
@@ -152,7 +157,7 @@ def _add_setups(
     plan: Plan, demands: list[Demand], names: dict[str, str], wishes: Wishes, notes: list[str]
 ) -> list[tuple[str, str, str]]:
     """A setup line for each demand between two nodes that a route joins. Tells which id became which name."""
-    namer, renamed = Namer("d"), []
+    namer, renamed, setups = Namer("d"), [], []
     cost = by_hops if wishes.metric is None else by_metric
     for demand in demands:
         missing = next((end for end in (demand.source, demand.target) if end not in names), None)
@@ -168,9 +173,10 @@ def _add_setups(
         if name != demand.key:
             renamed.append(("call", demand.key, name))
         via = " via " + ",".join(str(link.id) for link in route) if wishes.routes_given else ""
-        plan.script.append(f"setup {name} {source} {target} unprotected{via}")
-    if len(plan.script) > min(MOST_SETUPS, MOST_LINES):
-        raise ToolError(f"it has {len(plan.script)} demands, and a plan has at most {MOST_SETUPS:,} setups")
+        setups.append(f"setup {name} {source} {target} unprotected{via}")
+    if len(setups) > MOST_SETUPS:
+        raise ToolError(f"it has {len(setups)} demands, and a plan has at most {MOST_SETUPS:,} setups")
+    plan.script = [line for setup in setups for line in ([setup, "settle 1000"] if wishes.settle else [setup])]
     return renamed
 
 
