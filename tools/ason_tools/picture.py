@@ -10,10 +10,10 @@ from .plan import Link, Plan
 from .svg import Drawing
 
 COLOURS = (
-    "#1f77b4", "#d62728", "#2ca02c", "#9467bd", "#e67700", "#8c564b", "#d84a9b", "#0e9aa7", "#7a7d00", "#3b3b98",
-    "#a61e4d", "#006266", "#e8590c", "#5f3dc4", "#b08900", "#4b6584", "#087f5b", "#833471", "#a0522d", "#0652dd",
+    "#1f77b4", "#e67700", "#2ca02c", "#9467bd", "#8c564b", "#d84a9b", "#0e9aa7", "#7a7d00", "#3b3b98", "#a61e4d",
+    "#006266", "#74b816", "#5f3dc4", "#b08900", "#4b6584", "#087f5b", "#833471", "#a0522d", "#0652dd", "#495057",
 )  # fmt: skip
-"""The circuits' colours, in turn."""
+"""The circuits' colours, in turn. None is the red of what is full or down."""
 
 FAULT = "#c92a2a"
 INK = "#212529"
