@@ -34,7 +34,11 @@ DEMANDS (
   D2 ( Cairo Oslo ) 1 5.00 2
 )
 
-ADMISSIBLE_PATHS ( )
+ADMISSIBLE_PATHS (
+  D1 (
+    P_1 ( L1 L2 )
+  )
+)
 """
 
 XML = b"""<?xml version="1.0" encoding="ISO-8859-1"?>
@@ -206,6 +210,8 @@ REFUSED: list[tuple[bytes, dict[str, object], str]] = [
     (b"?SNDlib native format\nfoo\n", {}, "line 2 begins no section"),
     (b"?SNDlib native format\nNODES (\n a\n", {}, "the section NODES has no end"),
     (b"?SNDlib native format\nNODES (\n a ( 1\n)\n", {}, "line 3 is no node"),
+    (b"?SNDlib native format\nNODES (\n a ) )\n)\n", {}, "line 3 is no node"),
+    (b"?SNDlib native format\nMETA (\n) )\n", {}, "line 3 ends more than was begun"),
     (b"?SNDlib native format\nNODES (\n a\n)\nLINKS (\n L1 a a\n)\n", {}, "line 6 is no link"),
     (b"?SNDlib native format\nNODES (\n a\n)\nDEMANDS (\n D1 ( a x ) 1 1 1\n)\n", {}, "demand 'D1' ends at 'x'"),
     (b"?SNDlib native format\nNODES (\n \xff\n)\n", {}, "isn't UTF-8: line 3, column 2"),

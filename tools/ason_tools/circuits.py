@@ -3,7 +3,7 @@
 from dataclasses import dataclass, field
 
 from .errors import ToolError
-from .plan import Plan
+from .plan import Link, Plan
 from .tables import Call, Hold, Leg, Lsp, Table
 
 Fibre = tuple[int, str]
@@ -69,15 +69,16 @@ def usage(plan: Plan, table: Table) -> Usage:
     legs: dict[Lsp, list[Leg]] = {}
     for leg in table.legs:
         legs.setdefault(leg.lsp, []).append(leg)
+    links = {link.id: link for link in plan.links}
     circuits = [
-        Circuit(number, call, _links(plan, call.work, legs), _links(plan, call.backup, legs))
+        Circuit(number, call, _route(links, call.work, legs), _route(links, call.backup, legs))
         for number, call in enumerate(table.calls, 1)
     ]
     owners = {lsp: circuit for circuit in circuits for lsp in (circuit.call.work, circuit.call.backup) if lsp}
     result = Usage(circuits)
     for leg in table.legs:
         holder = Holder(owners.get(leg.lsp), leg.lsp, leg.role)
-        for fibre, hold in _fibres(plan, leg):
+        for fibre, hold in _fibres(links, leg):
             if hold.label is not None:
                 result.holders.setdefault(fibre, {})[hold.label] = holder
     return result
@@ -96,27 +97,25 @@ def _check(plan: Plan, table: Table) -> None:
                 raise ToolError(f"the table has a leg of {leg.node} on link {hold.link}, which doesn't end there in the plan")
 
 
-def _links(plan: Plan, lsp: Lsp | None, legs: dict[Lsp, list[Leg]]) -> tuple[int, ...]:
+def _route(links: dict[int, Link], lsp: Lsp | None, legs: dict[Lsp, list[Leg]]) -> tuple[int, ...]:
     """The links of the LSP, from its ingress on."""
     if lsp is None:
         return ()
     out = {leg.node: leg.outgoing.link for leg in legs.get(lsp, []) if leg.outgoing}
-    ends = {link.id: link for link in plan.links}
     route, node = [], lsp.ingress
     while node in out:
         link = out.pop(node)
         route.append(link)
-        node = ends[link].other(node)
+        node = links[link].other(node)
     return tuple(route)
 
 
-def _fibres(plan: Plan, leg: Leg) -> list[tuple[Fibre, Hold]]:
+def _fibres(links: dict[int, Link], leg: Leg) -> list[tuple[Fibre, Hold]]:
     """The fibres that the leg is on, each with what it holds there."""
-    ends = {link.id: link for link in plan.links}
     sent = [hold for hold in (leg.outgoing, leg.back_outgoing) if hold]
     taken = [hold for hold in (leg.incoming, leg.back_incoming) if hold]
     found = [((hold.link, leg.node), hold) for hold in sent]
-    return found + [((hold.link, ends[hold.link].other(leg.node)), hold) for hold in taken]
+    return found + [((hold.link, links[hold.link].other(leg.node)), hold) for hold in taken]
 
 
 def failed_links(plan: Plan, shows: int | None = None) -> set[int]:

@@ -11,8 +11,8 @@ Point = tuple[float, float]
 _ROUNDS = 60
 """Rounds of the force layout."""
 
-_APART = 132.0
-"""The least distance of two nodes in the picture, where there is room."""
+_APART = 0.15
+"""The least distance of two nodes, as a share of the box's width, where there is room."""
 
 _BESIDE = 40.0
 """The least distance of a node and a link that doesn't end there, where there is room."""
@@ -107,7 +107,7 @@ def _fitted(points: dict[str, Point], width: float, height: float) -> dict[str, 
 def _apart(plan: Plan, points: dict[str, Point], width: float, height: float) -> dict[str, Point]:
     """The points pushed apart where two are too near, and away from links that don't end there, within the box."""
     room = math.sqrt(width * height / max(1, len(points)))
-    apart, beside = min(_APART, 0.7 * room), min(_BESIDE, 0.2 * room)
+    apart, beside = min(_APART * width, 0.7 * room), min(_BESIDE, 0.2 * room)
     places = {name: list(point) for name, point in points.items()}
     for _ in range(_PUSHES):
         for number, (a, b) in enumerate(combinations(places.values(), 2)):

@@ -22,8 +22,13 @@ FAINT = "#ced4da"
 
 MARGIN = 60.0
 MAP = (880.0, 560.0)
+"""The size of the map, where no link has more than a few circuits."""
+
 LEGEND = 400.0
 LANE = 6.0
+MOST_TAGS = 16
+"""The most circuits of a link that get their numbers on it; of more they would cover each other."""
+
 NODE_RADIUS = 11.0
 ROW = 19.0
 
@@ -45,10 +50,11 @@ def colour(circuit: Circuit) -> str:
 
 def draw(scene: Scene, with_labels: bool) -> str:
     """The SVG document: the map, the legend, and where it is asked for the grid of labels below."""
-    points = {name: (x + MARGIN, y + MARGIN) for name, (x, y) in layout(scene.plan, *MAP).items()}
-    left = MAP[0] + 2 * MARGIN
+    wide, high = _map_size(scene.usage)
+    points = {name: (x + MARGIN, y + MARGIN) for name, (x, y) in layout(scene.plan, wide, high).items()}
+    left = wide + 2 * MARGIN
     width = left + (LEGEND if scene.usage.circuits else 0)
-    height = max(MAP[1] + 2 * MARGIN, ROW * (len(scene.usage.circuits) + 9) + MARGIN)
+    height = max(high + 2 * MARGIN, ROW * (len(scene.usage.circuits) + 9) + MARGIN)
     below = grid.size(scene.plan, scene.usage) if with_labels else (0.0, 0.0)
     drawing = Drawing(max(width, below[0] + MARGIN), height + below[1], scene.title)
     taken = _links(drawing, scene, points)
@@ -58,6 +64,13 @@ def draw(scene: Scene, with_labels: bool) -> str:
     if with_labels:
         grid.draw(drawing, scene.plan, scene.usage, MARGIN / 2, height, colour)
     return drawing.document()
+
+
+def _map_size(usage: Usage) -> tuple[float, float]:
+    """The size of the map: greater where a link has many circuits, so that their numbers have room."""
+    busiest = max((len(spans) for spans in usage.spans_by_link().values()), default=0)
+    scale = min(1.8, 1 + 0.1 * max(0, busiest - 4))
+    return MAP[0] * scale, MAP[1] * scale
 
 
 def _links(drawing: Drawing, scene: Scene, points: dict[str, Point]) -> list[Point]:
@@ -133,8 +146,10 @@ def _lanes(drawing: Drawing, track: _Track, spans: list[Span], is_failed: bool) 
 
 
 def _tags(drawing: Drawing, track: _Track, spans: list[Span]) -> list[Point]:
-    """The numbers of the circuits on their lanes, spread along the link on both sides of its middle."""
+    """The numbers of the circuits on their lanes, spread along the link on both sides of its middle, if they aren't too many."""
     count, points = len(spans), []
+    if count > MOST_TAGS:
+        return points
     for place, (span, aside) in enumerate(zip(spans, _asides(count))):
         x, y = track.at(_tag_share(place, count, track.length), aside)
         paint = colour(span.circuit)
@@ -191,6 +206,7 @@ class _Line:
 def _nodes(drawing: Drawing, scene: Scene, points: dict[str, Point], taken: list[Point]) -> None:
     """The nodes with their names, each where it covers the least."""
     placed: list[Box] = []
+    right = max(x for x, _ in points.values()) + MARGIN - 4
     spans = scene.usage.spans_by_link()
     lines = [_Line(*(points[end] for end in link.ends), _bed(len(spans.get(link.id, ()))) / 2) for link in scene.plan.links]
     for node in scene.plan.nodes:
@@ -198,12 +214,12 @@ def _nodes(drawing: Drawing, scene: Scene, points: dict[str, Point], taken: list
         drawing.circle(x, y, NODE_RADIUS, fill=INK, stroke="#ffffff", stroke_width=2)
     for node in scene.plan.nodes:
         others = taken + [point for name, point in points.items() if name != node.name]
-        box = _label_box(node.name, points[node.name], others, lines, placed)
+        box = _label_box(node.name, points[node.name], others, lines, placed, right)
         placed.append(box)
         drawing.outlined(box[0], box[3] - 4, node.name, 14, fill=INK, font_weight="bold")
 
 
-def _label_box(name: str, at: Point, others: list[Point], lines: list[_Line], placed: list[Box]) -> Box:
+def _label_box(name: str, at: Point, others: list[Point], lines: list[_Line], placed: list[Box], right: float) -> Box:
     """Where the node's name stands: beside the node, where it covers the least."""
     x, y = at
     wide, high, gap = 8.2 * len(name), 17.0, NODE_RADIUS + 4
@@ -213,14 +229,14 @@ def _label_box(name: str, at: Point, others: list[Point], lines: list[_Line], pl
         (x + gap * 0.7, y - gap * 0.7 - high), (x - gap * 0.7 - wide, y - gap * 0.7 - high),
     ]  # fmt: skip
     boxes = [(left, top, left + wide, top + high) for left, top in corners]
-    return min(boxes, key=lambda box: _covered(box, others, lines, placed))
+    return min(boxes, key=lambda box: _covered(box, others, lines, placed, right))
 
 
-def _covered(box: Box, others: list[Point], lines: list[_Line], placed: list[Box]) -> float:
-    """How much a name in this box would cover: nodes, names, and points along the links."""
+def _covered(box: Box, others: list[Point], lines: list[_Line], placed: list[Box], right: float) -> float:
+    """How much a name in this box would cover: nodes, names, points along the links, and what is beyond the map's edge."""
     nodes = sum(_is_in(box, point, NODE_RADIUS) for point in others)
     names = sum(box[0] < it[2] and it[0] < box[2] and box[1] < it[3] and it[1] < box[3] for it in placed)
-    outside = box[0] < 2 or box[1] < 2 or box[2] > MAP[0] + 2 * MARGIN - 2
+    outside = box[0] < 2 or box[1] < 2 or box[2] > right
     along = sum(_length_in(box, line) for line in lines)
     return 600 * nodes + 400 * names + 2000 * outside + along
 

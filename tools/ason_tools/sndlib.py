@@ -73,23 +73,22 @@ Entry = tuple[int, list[str]]
 
 
 def _entries(text: str) -> Iterator[tuple[str, Entry]]:
-    """The lines of the sections, each with the name of its section."""
-    section = None
+    """The lines of the sections, each with the name of its section. Lines within a parenthesis of a section are passed over."""
+    section, depth = "", 0
     for number, line in enumerate(text.splitlines(), 1):
         words = re.findall(r"[()]|[^\s()]+", line.partition("#")[0])
         if not words or (number == 1 and line.startswith("?")):
             continue
-        if section is None:
-            if len(words) < 2 or words[1] != "(":
+        if depth == 0:
+            if words[1:2] != ["("]:
                 raise ToolError(f"line {number} begins no section")
             section = words[0]
-            if words[-1] == ")":
-                section = None
-        elif words == [")"]:
-            section = None
-        else:
+        elif depth == 1 and words != [")"]:
             yield section, (number, words)
-    if section is not None:
+        depth += words.count("(") - words.count(")")
+        if depth < 0:
+            raise ToolError(f"line {number} ends more than was begun")
+    if depth > 0:
         raise ToolError(f"the section {section} has no end")
 
 
