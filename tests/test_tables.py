@@ -6,7 +6,7 @@ import unittest
 import ason
 from ason_tools import tables
 from ason_tools.errors import ToolError
-from ason_tools.tables import Call, Hold, Leg, Lsp, Message, NoMessage, ObjectLine, Refused, Stopped, Table, Unsettled
+from ason_tools.tables import Call, Hold, Leg, Lsp, Message, NoMessage, ObjectLine, Refused, Stopped, Unsettled
 
 from .support import EXAMPLES, plan_text, tool
 
