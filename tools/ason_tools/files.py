@@ -7,7 +7,7 @@ from .errors import ToolError
 PLAN_LIMIT = 4 * 1024 * 1024
 """The most bytes that `ason` reads."""
 
-OUTPUT_LIMIT = 256 * 1024 * 1024
+OUTPUT_LIMIT = 64 * 1024 * 1024
 """The most bytes of an output of `ason` that the tools read."""
 
 MARK = "\ufeff"
