@@ -95,8 +95,9 @@ def _bows(plan: Plan) -> list[tuple[Link, float]]:
         parallel.setdefault(frozenset(link.ends), []).append(link)
     bows = []
     for links in parallel.values():
+        gap = min(34.0, 240.0 / len(links))
         for place, link in enumerate(links):
-            bows.append((link, 34.0 * (place - (len(links) - 1) / 2)))
+            bows.append((link, gap * (place - (len(links) - 1) / 2)))
     return bows
 
 
