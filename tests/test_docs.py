@@ -1,4 +1,4 @@
-"""The commands of the pages about the tools print what the pages show, and the pictures are those that the tools make."""
+"""The commands in the consoles of the README and of docs/ print what is shown, and the pictures are those that the tools make."""
 
 import os
 import re
@@ -9,13 +9,16 @@ from pathlib import Path
 
 from .support import TOP
 
-PAGES = ("tools.md", "first-plan.md")
-PICTURES = {"tools.md": {"before.svg": "nsfnet.svg", "blocking.svg": "blocking.svg"}, "first-plan.md": {"my.svg": "first-plan.svg"}}
+PAGES = ["README.md", *sorted(f"docs/{path.name}" for path in (TOP / "docs").glob("*.md"))]
+PICTURES = {
+    "docs/tools.md": {"before.svg": "docs/nsfnet.svg", "blocking.svg": "docs/blocking.svg"},
+    "docs/first-plan.md": {"my.svg": "docs/first-plan.svg"},
+}
 
 
 def commands(page: str) -> list[tuple[str, str]]:
     """Each command of the page's consoles, and what it shows below."""
-    text = (TOP / "docs" / page).read_text()
+    text = (TOP / page).read_text()
     found = []
     for block in re.findall(r"^```console\n(.*?)^```$", text, re.MULTILINE | re.DOTALL):
         for part in re.split(r"^\$ ", block, flags=re.MULTILINE)[1:]:
@@ -37,9 +40,9 @@ class DocsTest(unittest.TestCase):
                 for command, shown in commands(page):
                     with self.subTest(page=page, command=command):
                         self.assertEqual(self.printed(command, room), shown)
-                for made, kept in PICTURES[page].items():
+                for made, kept in PICTURES.get(page, {}).items():
                     with self.subTest(page=page, picture=kept):
-                        self.assertEqual((Path(room) / made).read_text(), (TOP / "docs" / kept).read_text())
+                        self.assertEqual((Path(room) / made).read_text(), (TOP / kept).read_text())
 
     def printed(self, command: str, room: str) -> str:
         """What the command prints, in the way that a terminal shows it."""
@@ -48,8 +51,8 @@ class DocsTest(unittest.TestCase):
         ended = subprocess.run(["sh", "-c", command], stdout=subprocess.PIPE, stderr=subprocess.STDOUT, cwd=room, check=False)
         return ended.stdout.decode()
 
-    def test_pages_have_commands(self) -> None:
-        for page in PAGES:
+    def test_the_pages_about_tools_have_consoles(self) -> None:
+        for page in PICTURES:
             self.assertGreater(len(commands(page)), 5)
 
 

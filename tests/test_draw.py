@@ -157,8 +157,9 @@ class ToolTest(unittest.TestCase):
     def test_what_can_not_be_drawn(self) -> None:
         cases = [
             (["examples/nsfnet.toml", "examples/two.out"], "draw: the table names the node c, which the plan doesn't have\n"),
+            (["examples/two.toml", "examples/frames.out"], "draw: the output has no table\n"),
             (["examples/two.toml", "--table", "3"], "draw: there is no table 3: the output has 2\n"),
-            (["-"], "draw: it has not 1 to 64 nodes, each with another name\n"),
+            (["-"], "draw: the standard input: it has not 1 to 64 nodes, each with another name\n"),
             (["-", "-"], "draw: the plan and the table can't both be the standard input\n"),
         ]
         for words, sentence in cases:

@@ -77,7 +77,7 @@ EDGE = '<edge source="0" target="1"/>'
 
 
 def planned(data: bytes, **wishes: object) -> Planned:
-    return make_plan(read_topology(data, "file"), Wishes(**wishes))
+    return make_plan(read_topology(data), Wishes(**wishes))
 
 
 class FormsTest(unittest.TestCase):
@@ -182,8 +182,8 @@ class NamesTest(unittest.TestCase):
 
 
 REFUSED: list[tuple[bytes, dict[str, object], str]] = [
-    (b"", {}, "neither GraphML nor a network of SNDlib"),
-    (b"hello", {}, "neither GraphML nor a network of SNDlib"),
+    (b"", {}, "it is neither GraphML nor a network of SNDlib"),
+    (b"hello", {}, "it is neither GraphML nor a network of SNDlib"),
     (b"<a>", {}, "it is no XML: line 1, column 4: no element found"),
     (b"<svg/>", {}, "its outermost element is 'svg', neither graphml nor network"),
     (b"<graphml/>", {}, "it has no graph"),

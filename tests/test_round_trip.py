@@ -90,7 +90,7 @@ class RoundTripTest(unittest.TestCase):
         network = Network(chance)
         form = chance.choice([network.graphml, network.xml, network.native])
         wishes = Wishes(labels=network.labels, metric=chance.choice([None, "routing_cost"]))
-        made = make_plan(read_topology(form().encode(), "file"), wishes).plan
+        made = make_plan(read_topology(form().encode()), wishes).plan
         text = made.text()
         self.assertEqual(plan.read(text), made)
         loops = sum(a == b for a, b in network.links)

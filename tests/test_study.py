@@ -41,8 +41,8 @@ class StudyTest(unittest.TestCase):
             (["--step", "0"], PAIR, limits),
             (["--most", "5"], PAIR, limits),
             (["--trials", "0"], PAIR, limits),
-            ([], lonely, "the network has one node, so there are no calls"),
-            ([], "x", "it is no TOML: expected '=' after a key in a key/value pair (at end of document)"),
+            ([], lonely, "the standard input: its network has one node, so there are no calls"),
+            ([], "x", "the standard input: it is no TOML: expected '=' after a key in a key/value pair (at end of document)"),
         ]
         for words, plan, sentence in cases:
             ended = tool("study-load", "-", *words, given=plan)

@@ -120,8 +120,8 @@ class JsonTest(unittest.TestCase):
 
     def test_what_is_no_output_ends_with_a_sentence(self) -> None:
         ended = tool("table-json", given="calls 2\n")
-        self.assertEqual((ended.status, ended.out, ended.err), (2, "", "table-json: line 1 isn't what ason prints\n"))
-        self.assertEqual(tool("table-json").err, "table-json: the text is empty\n")
+        self.assertEqual((ended.status, ended.out, ended.err), (2, "", "table-json: the standard input: line 1 isn't what ason prints\n"))
+        self.assertEqual(tool("table-json").err, "table-json: the standard input: it is empty\n")
 
 
 class RunTest(unittest.TestCase):

@@ -1,6 +1,8 @@
 """Reading of files with a limit on their size."""
 
 import sys
+from collections.abc import Iterator
+from contextlib import contextmanager
 
 from .errors import ToolError
 
@@ -45,6 +47,15 @@ def as_text(data: bytes, path: str) -> str:
     except UnicodeDecodeError as error:
         line, column = place_of(data[: error.start].decode("utf-8"))
         raise ToolError(f"{shown(path)} isn't UTF-8: line {line}, column {column}") from error
+
+
+@contextmanager
+def about(path: str) -> Iterator[None]:
+    """Has the errors of what is done within say that they are about this file."""
+    try:
+        yield
+    except ToolError as error:
+        raise ToolError(f"{shown(path)}: {error}") from error
 
 
 def place_of(before: str) -> tuple[int, int]:

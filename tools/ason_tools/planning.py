@@ -1,7 +1,6 @@
 """A plan from a topology, with a word on each thing that became another."""
 
 from dataclasses import dataclass
-from pathlib import PurePath
 
 from . import graphml, sndlib
 from .errors import ToolError
@@ -39,13 +38,13 @@ class Planned:
     notes: list[str]
 
 
-def read_topology(data: bytes, path: str) -> Topology:
+def read_topology(data: bytes) -> Topology:
     """The topology that the file has, in the form that its first bytes show."""
     head = data.removeprefix(b"\xef\xbb\xbf").lstrip()
     if head.startswith(sndlib.NATIVE_HEAD.encode()):
-        return sndlib.read_native(as_text(data, path).lstrip())
+        return sndlib.read_native(as_text(data, "it").lstrip())
     if not head.startswith((b"<", b"\xff\xfe", b"\xfe\xff")):
-        raise ToolError(f"{PurePath(path).name!r} is neither GraphML nor a network of SNDlib")
+        raise ToolError("it is neither GraphML nor a network of SNDlib")
     root = read_tree(data)
     if root.tag == "graphml":
         return graphml.read(root)
