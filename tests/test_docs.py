@@ -11,7 +11,7 @@ from .support import TOP
 
 PAGES = ["README.md", *sorted(f"docs/{path.name}" for path in (TOP / "docs").glob("*.md"))]
 PICTURES = {
-    "docs/tools.md": {"before.svg": "docs/nsfnet.svg", "blocking.svg": "docs/blocking.svg"},
+    "docs/tools.md": {"before.svg": "docs/nsfnet.svg", "blocking.svg": "docs/blocking.svg", "twenty.svg": "docs/twenty.svg"},
     "docs/first-plan.md": {"my.svg": "docs/first-plan.svg"},
 }
 
