@@ -45,18 +45,6 @@ not_none len count b e is test = ap (λ (n : ℕ). n == 0) e ∙ sym is ∙ test
 pub to_the_end : (bytes : List ℕ) (end : ℕ) → take end bytes ∷ lines_of (drop (end + 1) bytes) ≡ take end bytes ∷ lines_of (take (length bytes - (end + 1)) (drop (end + 1) bytes))
 to_the_end bytes end = ap (λ (l : List ℕ). take end bytes ∷ lines_of l) (sym (take_all (length bytes - (end + 1)) (drop (end + 1) bytes) (omega (arith, length-drop (end + 1) bytes))))
 
-pub packet_printed : {T E : Type 0} (r : Result T E) (bytes old new : List ℕ) (os : List Object) (p : Packet) (lines shown : List ObjectLine) → SpelledBy bytes os p → lines ≡ map (line_of p.body) os → shown ≡ lines →
-    OnOk r (new ≡ old ++ (head_text p ++ flat_map object_text shown)) → OnOk r ((t : List ℕ) × IsMessageText bytes t × (new ≡ old ++ t))
-packet_printed (Err e) bytes old new os p lines shown spelled are same printed = tt
-packet_printed (Ok x) bytes old new os p lines shown spelled are same printed =
-    (head_text p ++ flat_map object_text shown, inl (os, p, spelled, ap (λ (l : List ObjectLine). head_text p ++ flat_map object_text l) (same ∙ are)), printed)
-
-pub line_printed : {T E : Type 0} (r : Result T E) (o : Option (List ℕ)) (bytes old new : List ℕ) → Some bytes ≡ o → (length bytes == 0) ≡ false → OnOk r ((t : List ℕ) × IsMessageText bytes t × (new ≡ old ++ t)) →
-    OnOk r ((t : List ℕ) × IsBytesText o t × (new ≡ old ++ t))
-line_printed (Err e) o bytes old new is some printed = tt
-line_printed (Ok x) o [] old new is some printed = absurd (cc some)
-line_printed (Ok x) o (b ∷ bytes) old new is some printed = (printed.0, subst (λ (q : Option (List ℕ)). IsBytesText q printed.0) is printed.1, printed.2)
-
 -- the texts so far, and those of the lines left
 pub next_line : (bytes old new t line : List ℕ) (rest : Option (Bor (List ℕ))) (all : List (List ℕ)) → all ≡ line ∷ lines_left rest → IsBytesText (hex_bytes line) t → new ≡ old ++ t →
     ((others : List ℕ) → AreTexts all others → AreTexts (lines_of bytes) (old ++ others)) → (others : List ℕ) → AreTexts (lines_left rest) others → AreTexts (lines_of bytes) (new ++ others)

@@ -1,3 +1,4 @@
 pub mod DecodeText
 pub mod Hex
 pub mod LinesLeft
+pub mod OneText

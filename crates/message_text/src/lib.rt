@@ -5,6 +5,7 @@ ghost use Rattle.std.specs.Prelude.{◌≡◌, ◌≤◌, ◌++◌, ◌∷◌, �
 ghost use Rattle.message_text.specs.DecodeText.{IsBytesText, IsDecodeText, IsMessageText, lines_of};
 ghost use Rattle.message_text.specs.Hex.{hex_bytes};
 ghost use Rattle.message_text.specs.LinesLeft.{lines_left, size_left};
+ghost use Rattle.message_text.specs.OneText.{AppendsOne, IsOne};
 
 mod hex;
 mod text;
@@ -13,9 +14,9 @@ use ason_base::{DecodeError, OutOfMemory};
 use rsvp_messages::{decode, objects};
 use std::alloc::Global;
 
-/// Appends what is printed of the bytes of a line.
+/// Appends what is printed of the bytes of a line: the one text that they have.
 fn push_message(alloc: Global, text: &mut String, bytes: &[u8]) -> Result<(), OutOfMemory>
-    ensures { OnOk result ((t : List ℕ) × IsMessageText bytes.now t × (string_bytes text.new ≡ string_bytes text.old ++ t)) }
+    ensures { OnOk result (AppendsOne (IsMessageText bytes.now) text.old text.new) }
 {
     match decode(alloc, bytes) {
         Ok(packet) => {
@@ -32,9 +33,9 @@ fn push_message(alloc: Global, text: &mut String, bytes: &[u8]) -> Result<(), Ou
     }
 }
 
-/// Appends what is printed of a line.
+/// Appends what is printed of a line: the one text that it has.
 fn push_line(alloc: Global, text: &mut String, line: &[u8]) -> Result<(), OutOfMemory>
-    ensures { OnOk result ((t : List ℕ) × IsBytesText (hex_bytes line.now) t × (string_bytes text.new ≡ string_bytes text.old ++ t)) }
+    ensures { OnOk result (AppendsOne (IsBytesText (hex_bytes line.now)) text.old text.new) }
 {
     match hex::bytes_of(alloc, line)? {
         None => {
@@ -63,9 +64,9 @@ fn first_line(bytes: &[u8]) -> (&[u8], Option<&[u8]>)
     }
 }
 
-/// What is printed of the lines.
+/// What is printed of the lines: the one text that they have.
 pub fn decode_text(alloc: Global, bytes: &[u8]) -> Result<Vec<u8>, OutOfMemory>
-    ensures { IfOk result (λ text. IsDecodeText bytes.now text.items) }
+    ensures { IfOk result (λ text. IsOne (IsDecodeText bytes.now) text.items) }
 {
     let mut text = String::new(alloc);
     let mut left = Some(bytes);

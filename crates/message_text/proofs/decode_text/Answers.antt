@@ -1,12 +1,24 @@
 use Rattle.std.proofs.Common.{List, ℕ, Option, Vec, Global, ap, sym, subst}
 use Rattle.std.specs.Borrow.{Bor}
+use Rattle.std.specs.Prelude.{string_bytes}
 use Rattle.message_text.specs.DecodeText.{AreTexts}
 use Rattle.message_text.specs.LinesLeft.{lines_left}
 use Rattle.message_text.proofs.HexLines.{all_printed, next_line}
+use Rattle.message_text.proofs.OneText.{GoesOn, goes_on, no_more}
 use Rattle.message_text.proofs.decode_text.Goals as goal
 
 pub lines-preserved : goal.lines-preserved
-lines-preserved c = let t = c.in_ok-push_line.ensures in next_line c.args.bytes.now _ _ t.0 _ c.first_line.result.1 _ c.first_line.ensures.lines t.1 t.2 (λ others are. c.lines.invariant others (subst (λ (o : Option (Bor (List ℕ))). AreTexts (lines_left o) others) (sym c.in-Some.is) are))
+lines-preserved c =
+    let t = c.in_ok-push_line.ensures in
+    record {
+      printed = next_line c.args.bytes.now _ _ t.0 _ c.first_line.result.1 _ c.first_line.ensures.lines t.1.is t.2
+          (λ others are. c.lines.invariant.printed others (subst (λ (o : Option (Bor (List ℕ))). AreTexts (lines_left o) others) (sym c.in-Some.is) are));
+      only = λ u told. goes_on u _ _ _ c.first_line.result.1 _ t.0 c.first_line.ensures.lines t.1 t.2
+          (subst (λ (o : Option (Bor (List ℕ))). GoesOn u (lines_left o) (string_bytes c.lines.text)) c.in-Some.is (c.lines.invariant.only u told));
+    }
 
 pub returns : goal.returns
-returns c = all_printed c.args.bytes.now _ _ c.lines.left c.in_default.is c.lines.invariant (ap (λ (v : Vec ℕ Global). v.items) c.into_bytes.ensures.value)
+returns c = record {
+  is = all_printed c.args.bytes.now _ _ c.lines.left c.in_default.is c.lines.invariant.printed (ap (λ (v : Vec ℕ Global). v.items) c.into_bytes.ensures.value);
+  only = λ t told. no_more t _ _ c.lines.left c.in_default.is (c.lines.invariant.only t told) (ap (λ (v : Vec ℕ Global). v.items) c.into_bytes.ensures.value);
+}

@@ -1,7 +1,11 @@
 use Rattle.std.proofs.Common.{◌∙◌, ap, sym, List, ℕ, Some}
 use Rattle.std.specs.Option.{option_map}
-use Rattle.message_text.proofs.HexLines.{line_printed, not_none}
+use Rattle.message_text.proofs.HexLines.{not_none}
+use Rattle.message_text.proofs.OneText.{line_told}
 use Rattle.message_text.proofs.push_line.Goals as goal
 
 pub returns-in-Some-2 : goal.returns-in-Some-2
-returns-in-Some-2 c = line_printed _ _ c.deref.result.now _ _ (ap (λ (l : List ℕ). Some l) c.deref.ensures.value ∙ sym (ap (option_map (λ v. v.items)) c.in-Some.is) ∙ c.in_ok-bytes_of.ensures) (not_none _ _ _ c.deref.ensures.len c.is_empty.ensures c.if-is_empty.false) c.push_message.ensures
+returns-in-Some-2 c =
+    line_told _ _ c.deref.result.now c.args.text.now c.push_message.new.text
+    (ap (λ (l : List ℕ). Some l) c.deref.ensures.value ∙ sym (ap (option_map (λ v. v.items)) c.in-Some.is) ∙ c.in_ok-bytes_of.ensures)
+    (not_none _ _ _ c.deref.ensures.len c.is_empty.ensures c.if-is_empty.false) c.push_message.ensures
