@@ -1,8 +1,10 @@
--- The lines of a plan without fault can be posted one after the other.
-use Rattle.std.proofs.Common.{◌≡◌, inl, inr, ℕ, zero, suc, Bool, true, false, ◌&&◌, ◌||◌, ◌==◌, ◌+◌, ◌++◌, cond, not, nat_le, nat_lt, arith, length, length-append, List, [], ◌∷◌, Ok, refl, sym, ap, ◌∙◌, subst}
+-- The lines of a plan without fault can be posted one after the other, and its nodes and calls have their names.
+use Rattle.std.proofs.Common.{◌≡◌, ◌<◌, All, codes, inl, inr, ℕ, zero, suc, Bool, true, false, ◌&&◌, ◌||◌, ◌==◌, ◌+◌, ◌++◌, cond, not, nat_le, nat_lt, arith, length, length-append, List, [], ◌∷◌, Ok, refl, sym, ap, ◌∙◌, subst}
 use Rattle.std.specs.Prelude.{Option, Some, None, is_none, slice_get, unwrap_or}
 use Rattle.std.specs.List.{list_all, list_any, position_or_len}
-use Rattle.std.proofs.lemmas.Bool.{and_parts}
+use Rattle.std.proofs.lemmas.Bool.{and_parts, ltb-true}
+use Rattle.std.proofs.lemmas.List.{length-map}
+use Rattle.std.proofs.lemmas.List.Elements.{All-cons, All-nil}
 use Rattle.std.proofs.lemmas.List.Folds.{list_all-append}
 use Rattle.toml.specs.Data.{Data, table}
 use Rattle.ason_base.specs.Network.{Network, is_node_id}
@@ -15,10 +17,10 @@ use Rattle.plan_reader.specs.Names.{has_name, is_name, place_of, same_text}
 use Rattle.plan_reader.specs.declared.lines.Line.TheVariants.{Post, Settle, Show}
 use Rattle.plan_reader.specs.declared.plan.Plan.{Plan}
 use Rattle.plan_reader.specs.PlanCalls.{CallList, ingress_at, ingress_of, no_calls, no_node, with_call}
-use Rattle.plan_reader.specs.PlanScript.{are_same, calls_after, from_node, from_of, is_given_setup, is_release, is_settle, is_show, is_unbuilt, line_kind, line_of, lines_of, other_kind, other_line, release_kind, release_of, rounds_of, route_of, script_fault, settle_kind, setup_kind, setup_of, to_node, to_of}
-use Rattle.plan_reader.specs.PlanTables.{fault_at, first_of}
+use Rattle.plan_reader.specs.PlanScript.{are_same, calls_after, calls_of, from_node, from_of, is_given_setup, is_release, is_settle, is_show, is_unbuilt, line_kind, line_of, lines_of, other_kind, other_line, release_kind, release_of, rounds_of, route_of, script_fault, settle_kind, setup_kind, setup_of, to_node, to_of}
+use Rattle.plan_reader.specs.PlanTables.{elements_at, fault_at, first_of, name_of, node_of}
 use Rattle.plan_reader.specs.PlanTexts.{are_link_ids, id_at, id_at_place, word_at, words_of}
-use Rattle.plan_reader.specs.Plans.{ArePostable, IsPostable, PlanOf, calls_after_line, fault_in, links_fault_in, names_in, network_in, nodes_fault_in, plan_in, plan_of, script_fault_in, script_in, top_fault_in, unless_fault}
+use Rattle.plan_reader.specs.Plans.{ArePostable, HasNames, IsPostable, PlanOf, call_names_in, calls_after_line, calls_after_lines, fault_in, lines_in, links_fault_in, names_in, network_in, nodes_fault_in, plan_in, plan_of, script_fault_in, script_in, top_fault_in, unless_fault}
 use Rattle.plan_reader.specs.declared.faults.PlanEntry.{PlanEntry}
 use Rattle.plan_reader.specs.declared.faults.PlanFault.{PlanFault}
 use Rattle.plan_reader.specs.declared.faults.PlanKind.{PlanKind}
@@ -90,6 +92,7 @@ pub record AreFitting (t : Network) (calls : CallList) (before : List CallNo) : 
   pub below : list_all (λ m. nat_lt m.0 (length calls.names)) before ≡ true
   pub known : list_all (λ i. is_node_id t.nodes i) calls.ingresses ≡ true
   pub even : length calls.names ≡ length calls.ingresses
+  pub counted : length calls.names ≡ length before
 
 fresh : (n : ℕ) (before : List CallNo) → list_all (λ m. nat_lt m.0 n) before ≡ true → list_any (λ m. m.0 == n) before ≡ false
 fresh n [] h = refl
@@ -117,6 +120,7 @@ setup_fits t calls before name from is fit = record {
   below = rw (longer) (list_all-append (λ m. nat_lt m.0 (length calls.names + 1)) before ((record { 0 = length calls.names }) ∷ []) ∙ and_true _ _ (more_below (length calls.names) before fit.below) (last (length calls.names)));
   known = list_all-append (λ i. is_node_id t.nodes i) calls.ingresses (from ∷ []) ∙ and_true _ _ fit.known (and_true (is_node_id t.nodes from) true is refl);
   even = longer ∙ (ap (λ k. k + 1) fit.even ∙ sym (length-append calls.ingresses (from ∷ [])));
+  counted = longer ∙ (ap (λ k. k + 1) fit.counted ∙ sym (length-append before ((record { 0 = length calls.names }) ∷ [])));
 }
   where
     longer : length (calls.names ++ name ∷ []) ≡ length calls.names + 1
@@ -222,22 +226,56 @@ script_is_postable t names n calls before (line ∷ more) fit h =
     let on = line_goes_on t names calls before (words_of line) fit (no_fault_here _ (line_kind t names calls (words_of line)) _ h) in
     (on.postable, script_is_postable t names (n + 1) (calls_after t names calls (words_of line)) (calls_after_line before (line_of t names calls (words_of line))) more on.fits (no_fault_later (fault_at _ (line_kind t names calls (words_of line))) _ h))
 
+calls_fit_script : (t : Network) (names : List (List ℕ)) (n : ℕ) (calls : CallList) (before : List CallNo) (script : List (List ℕ)) → AreFitting t calls before → script_fault t names n calls script ≡ None →
+    AreFitting t (calls_of t names calls script) (calls_after_lines before (lines_of t names calls script))
+calls_fit_script t names n calls before [] fit h = fit
+calls_fit_script t names n calls before (line ∷ more) fit h =
+    let on = line_goes_on t names calls before (words_of line) fit (no_fault_here _ (line_kind t names calls (words_of line)) _ h) in
+    calls_fit_script t names (n + 1) (calls_after t names calls (words_of line)) (calls_after_line before (line_of t names calls (words_of line))) more on.fits
+    (no_fault_later (fault_at _ (line_kind t names calls (words_of line))) _ h)
+
 script_is_sound : (d : Data) → fault_in d ≡ None → script_fault_in d ≡ None
 script_is_sound d h =
     no_fault_later (links_fault_in d) (script_fault_in d)
     (no_fault_later (nodes_fault_in d) (first_of (links_fault_in d) (script_fault_in d))
     (no_fault_later (top_fault_in d) (first_of (nodes_fault_in d) (first_of (links_fault_in d) (script_fault_in d))) h))
 
+nothing_yet : (t : Network) → AreFitting t no_calls []
+nothing_yet t = record { below = refl; known = refl; even = refl; counted = refl }
+
 pub plan_is_postable : (d : Data) (p : Plan) → plan_of d ≡ Ok p → ArePostable p.topology [] p.lines
 plan_is_postable d p h = go (fault_in d) refl h
   where
-    nothing_yet : AreFitting (network_in d) no_calls []
-    nothing_yet = record { below = refl; known = refl; even = refl }
-
     go : (o : Option PlanFault) → fault_in d ≡ o → unless_fault o (plan_in d) ≡ Ok p → ArePostable p.topology [] p.lines
     go None e ok =
         let same : plan_in d ≡ p = cc (ok) in
-        subst (λ (q : Plan). ArePostable q.topology [] q.lines) same (script_is_postable (network_in d) (names_in d) 1 no_calls [] (script_in d) nothing_yet (script_is_sound d e))
+        subst (λ (q : Plan). ArePostable q.topology [] q.lines) same (script_is_postable (network_in d) (names_in d) 1 no_calls [] (script_in d) (nothing_yet (network_in d)) (script_is_sound d e))
+    go (Some f) e ok = absurd (cc (ok))
+
+-- Names
+
+below_all : (n : ℕ) (before : List CallNo) → list_all (λ m. nat_lt m.0 n) before ≡ true → All (λ m. m.0 < n) before
+below_all n [] h = All-nil (λ m. m.0 < n)
+below_all n (m ∷ before) h =
+    let parts = and_parts (nat_lt m.0 n) (list_all (λ m. nat_lt m.0 n) before) h in
+    All-cons (λ m. m.0 < n) m before (ltb-true m.0 n parts.0) (below_all n before parts.1)
+
+pub plan_is_named : (d : Data) (p : Plan) → plan_of d ≡ Ok p → HasNames p
+plan_is_named d p h = go (fault_in d) refl h
+  where
+    named : fault_in d ≡ None → HasNames (plan_in d)
+    named sound =
+        let fit = calls_fit_script (network_in d) (names_in d) 1 no_calls [] (script_in d) (nothing_yet (network_in d)) (script_is_sound d sound) in
+        record {
+          nodes = length-map (elements_at (codes "node") d) name_of ∙ sym (length-map (elements_at (codes "node") d) node_of);
+          calls = fit.counted;
+          numbers = below_all (length (call_names_in d)) (calls_after_lines [] (lines_in d)) fit.below;
+        }
+
+    go : (o : Option PlanFault) → fault_in d ≡ o → unless_fault o (plan_in d) ≡ Ok p → HasNames p
+    go None e ok =
+        let same : plan_in d ≡ p = cc (ok) in
+        subst HasNames same (named e)
     go (Some f) e ok = absurd (cc (ok))
 
 -- the lines of a plan that bytes spell

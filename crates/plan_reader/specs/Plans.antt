@@ -1,5 +1,5 @@
 -- What plan bytes spell, or their first fault.
-use Rattle.std.specs.Prelude.{◌≡◌, ◌⊎◌, ℕ, true, false, List, [], ◌∷◌, ◌++◌, map, codes, Option, Some, None, Result, Ok, Err}
+use Rattle.std.specs.Prelude.{◌≡◌, ◌<◌, ◌⊎◌, ℕ, All, fold, length, true, false, List, [], ◌∷◌, ◌++◌, map, codes, Option, Some, None, Result, Ok, Err}
 use Rattle.std.specs.Str.{IsUtf8}
 use Rattle.toml.specs.Data.{Data, Members, table}
 use Rattle.toml.specs.Parse.{parse_document}
@@ -107,6 +107,15 @@ abbrev pub calls_after_line : List CallNo → Line → List CallNo
 calls_after_line before (Post c) = calls_after before c
 calls_after_line before (Settle r) = before
 calls_after_line before Show = before
+
+abbrev pub calls_after_lines : List CallNo → List Line → List CallNo
+calls_after_lines before lines = fold calls_after_line before lines
+
+-- Each node and each call has its name: there are as many names as nodes, and as many as setups, whose numbers are below that.
+pub record HasNames (p : Plan) : Type 0 where
+  pub nodes : length p.node_names ≡ length p.topology.nodes
+  pub calls : length p.call_names ≡ length (calls_after_lines [] p.lines)
+  pub numbers : All (λ c. c.0 < length p.call_names) (calls_after_lines [] p.lines)
 
 -- the command of the line, if it posts one, is valid and no setup of a call number that was posted before
 abbrev pub IsPostable : Network → List CallNo → Line → Type 0

@@ -3,7 +3,7 @@
 ghost use Rattle.std.specs.Prelude.{◌≡◌, ◌≤◌, codes, length, [], IfErr, IfOk, OnOk, Ok, Err, Some, None};
 ghost use Rattle.toml.specs.View.{view};
 ghost use Rattle.ason_base.specs.Network.{IsTopology};
-ghost use Rattle.plan_reader.specs.Plans.{Answers, ArePostable, call_names_in, lines_in, links_fault_in, links_in, names_in, network_in, nodes_fault_in, nodes_in, plan_of, script_fault_in};
+ghost use Rattle.plan_reader.specs.Plans.{Answers, ArePostable, HasNames, call_names_in, lines_in, links_fault_in, links_in, names_in, network_in, nodes_fault_in, nodes_in, plan_of, script_fault_in};
 ghost use Rattle.plan_reader.specs.PlanTables.{elements_at};
 ghost use Rattle.plan_reader.specs.declared.faults.PlanError.{PlanError};
 ghost use Rattle.plan_reader.specs.declared.faults.PlanFault.{PlanFault};
@@ -96,6 +96,7 @@ pub fn read_plan(alloc: Global, bytes: &[u8]) -> Result<Plan, PlanError>
     ensures plan { Answers bytes.now result }
     ensures valid { IfOk result (λ p. IsTopology p.topology) }
     ensures postable { IfOk result (λ p. ArePostable p.topology [] p.lines) }
+    ensures named { IfOk result (λ p. HasNames p) }
 {
     match toml::table_from_slice(alloc, bytes) {
         Ok(table) => read_table(alloc, &Value::Table(table)),
