@@ -1,6 +1,7 @@
 -- Nodes by name, words and numbers in the texts of a plan.
 use Rattle.std.specs.Prelude.{ℕ, ◌==◌, ◌&&◌, ◌||◌, nat_le, Bool, true, false, not, List, [], ◌∷◌, filter, map, Option, Some, None, slice_get, unwrap_or, is_some, if◌then◌else◌}
 use Rattle.std.specs.List.{list_all, slice_split}
+use Rattle.std.specs.Borrow.{Bor}
 use Rattle.std.specs.Char.{is_ascii_digit}
 use Rattle.std.specs.Str.Parse.{digits_value}
 use Rattle.ason_base.specs.declared.ids.NodeId.{NodeId}
@@ -28,6 +29,10 @@ is_empty (b ∷ bs) = false
 -- the words of a line, apart by one or more spaces
 abbrev pub words_of : List ℕ → List (List ℕ)
 words_of line = filter (λ w. not (is_empty w)) (slice_split (λ b. b == 32) line)
+
+-- what these words are
+abbrev pub texts : List (Bor (List ℕ)) → List (List ℕ)
+texts words = map (λ w. w.now) words
 
 -- the word at a place, from 0
 abbrev pub word_at : List (List ℕ) → ℕ → List ℕ

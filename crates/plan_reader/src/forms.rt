@@ -1,135 +1,135 @@
 //! Which words make a line of a script.
 
 ghost use Rattle.std.specs.Prelude.{◌≡◌};
-ghost use Rattle.plan_reader.specs.PlanTexts.{words_of};
+ghost use Rattle.plan_reader.specs.PlanTexts.{texts};
 ghost use Rattle.plan_reader.specs.PlanScript.{are_numbers_word, begins, is_backed_setup, is_bare_setup, is_channel_line, is_frame_line, is_given_setup, is_group_line, is_number_word, is_other_command, is_other_setup, is_protected_setup, is_release, is_settle, is_show, is_unbuilt, is_wait, is_word};
 
-use crate::words::{are_numbers, count_words, is_number, word};
+use crate::words::{are_numbers, is_number, word};
 
-fn is_word(line: &[u8], k: usize, text: &str) -> bool
-    ensures { result ≡ is_word (words_of line.now) k text.now }
+fn is_word(words: &[&[u8]], k: usize, text: &str) -> bool
+    ensures { result ≡ is_word (texts words.now) k text.now }
 {
-    word(line, k) == text.as_bytes()
+    word(words, k) == text.as_bytes()
 }
 
 // So many words, of which the first is this.
-fn begins(line: &[u8], text: &str, n: usize) -> bool
-    ensures { result ≡ begins (words_of line.now) text.now n }
+fn begins(words: &[&[u8]], text: &str, n: usize) -> bool
+    ensures { result ≡ begins (texts words.now) text.now n }
 {
-    count_words(line) == n && is_word(line, 0, text)
+    words.len() == n && is_word(words, 0, text)
 }
 
-fn is_number_word(line: &[u8], k: usize) -> bool
-    ensures { result ≡ is_number_word (words_of line.now) k }
+fn is_number_word(words: &[&[u8]], k: usize) -> bool
+    ensures { result ≡ is_number_word (texts words.now) k }
 {
-    is_number(word(line, k))
+    is_number(word(words, k))
 }
 
-fn are_numbers_word(line: &[u8], k: usize) -> bool
-    ensures { result ≡ are_numbers_word (words_of line.now) k }
+fn are_numbers_word(words: &[&[u8]], k: usize) -> bool
+    ensures { result ≡ are_numbers_word (texts words.now) k }
 {
-    are_numbers(word(line, k))
+    are_numbers(word(words, k))
 }
 
 /// Whether the line is `setup NAME FROM TO unprotected via L,..`.
-pub fn is_given_setup(line: &[u8]) -> bool
-    ensures { result ≡ is_given_setup (words_of line.now) }
+pub fn is_given_setup(words: &[&[u8]]) -> bool
+    ensures { result ≡ is_given_setup (texts words.now) }
 {
-    begins(line, "setup", 7)
-        && is_word(line, 4, "unprotected")
-        && is_word(line, 5, "via")
-        && are_numbers_word(line, 6)
+    begins(words, "setup", 7)
+        && is_word(words, 4, "unprotected")
+        && is_word(words, 5, "via")
+        && are_numbers_word(words, 6)
 }
 
 /// Whether the line is `release NAME`.
-pub fn is_release(line: &[u8]) -> bool
-    ensures { result ≡ is_release (words_of line.now) }
+pub fn is_release(words: &[&[u8]]) -> bool
+    ensures { result ≡ is_release (texts words.now) }
 {
-    begins(line, "release", 2)
+    begins(words, "release", 2)
 }
 
 /// Whether the line is `settle R`.
-pub fn is_settle(line: &[u8]) -> bool
-    ensures { result ≡ is_settle (words_of line.now) }
+pub fn is_settle(words: &[&[u8]]) -> bool
+    ensures { result ≡ is_settle (texts words.now) }
 {
-    begins(line, "settle", 2) && is_number_word(line, 1)
+    begins(words, "settle", 2) && is_number_word(words, 1)
 }
 
 /// Whether the line is `show`.
-pub fn is_show(line: &[u8]) -> bool
-    ensures { result ≡ is_show (words_of line.now) }
+pub fn is_show(words: &[&[u8]]) -> bool
+    ensures { result ≡ is_show (texts words.now) }
 {
-    begins(line, "show", 1)
+    begins(words, "show", 1)
 }
 
-fn is_bare_setup(line: &[u8]) -> bool
-    ensures { result ≡ is_bare_setup (words_of line.now) }
+fn is_bare_setup(words: &[&[u8]]) -> bool
+    ensures { result ≡ is_bare_setup (texts words.now) }
 {
-    begins(line, "setup", 4) || begins(line, "setup", 5) && is_word(line, 4, "unprotected")
+    begins(words, "setup", 4) || begins(words, "setup", 5) && is_word(words, 4, "unprotected")
 }
 
-fn is_backed_setup(line: &[u8]) -> bool
-    ensures { result ≡ is_backed_setup (words_of line.now) }
+fn is_backed_setup(words: &[&[u8]]) -> bool
+    ensures { result ≡ is_backed_setup (texts words.now) }
 {
-    begins(line, "setup", 8)
-        && is_word(line, 4, "via")
-        && are_numbers_word(line, 5)
-        && is_word(line, 6, "backup")
-        && are_numbers_word(line, 7)
+    begins(words, "setup", 8)
+        && is_word(words, 4, "via")
+        && are_numbers_word(words, 5)
+        && is_word(words, 6, "backup")
+        && are_numbers_word(words, 7)
 }
 
-fn is_protected_setup(line: &[u8]) -> bool
-    ensures { result ≡ is_protected_setup (words_of line.now) }
+fn is_protected_setup(words: &[&[u8]]) -> bool
+    ensures { result ≡ is_protected_setup (texts words.now) }
 {
-    begins(line, "setup", 6) && is_word(line, 4, "via") && are_numbers_word(line, 5)
+    begins(words, "setup", 6) && is_word(words, 4, "via") && are_numbers_word(words, 5)
 }
 
-fn is_other_setup(line: &[u8]) -> bool
-    ensures { result ≡ is_other_setup (words_of line.now) }
+fn is_other_setup(words: &[&[u8]]) -> bool
+    ensures { result ≡ is_other_setup (texts words.now) }
 {
-    is_bare_setup(line) || is_protected_setup(line) || is_backed_setup(line)
+    is_bare_setup(words) || is_protected_setup(words) || is_backed_setup(words)
 }
 
-fn is_other_command(line: &[u8]) -> bool
-    ensures { result ≡ is_other_command (words_of line.now) }
+fn is_other_command(words: &[&[u8]]) -> bool
+    ensures { result ≡ is_other_command (texts words.now) }
 {
-    begins(line, "protect", 2) || begins(line, "retry", 2) || begins(line, "revert", 2)
+    begins(words, "protect", 2) || begins(words, "retry", 2) || begins(words, "revert", 2)
 }
 
-fn is_group_line(line: &[u8]) -> bool
-    ensures { result ≡ is_group_line (words_of line.now) }
+fn is_group_line(words: &[&[u8]]) -> bool
+    ensures { result ≡ is_group_line (texts words.now) }
 {
-    (begins(line, "fail", 3) || begins(line, "repair", 3))
-        && (is_word(line, 1, "srlg") || is_word(line, 1, "link"))
-        && is_number_word(line, 2)
+    (begins(words, "fail", 3) || begins(words, "repair", 3))
+        && (is_word(words, 1, "srlg") || is_word(words, 1, "link"))
+        && is_number_word(words, 2)
 }
 
-fn is_frame_line(line: &[u8]) -> bool
-    ensures { result ≡ is_frame_line (words_of line.now) }
+fn is_frame_line(words: &[&[u8]]) -> bool
+    ensures { result ≡ is_frame_line (texts words.now) }
 {
-    (begins(line, "lose", 4) || begins(line, "repeat", 4) || begins(line, "hold", 4))
-        && is_number_word(line, 3)
+    (begins(words, "lose", 4) || begins(words, "repeat", 4) || begins(words, "hold", 4))
+        && is_number_word(words, 3)
 }
 
-fn is_channel_line(line: &[u8]) -> bool
-    ensures { result ≡ is_channel_line (words_of line.now) }
+fn is_channel_line(words: &[&[u8]]) -> bool
+    ensures { result ≡ is_channel_line (texts words.now) }
 {
-    is_frame_line(line) || begins(line, "noise", 4)
+    is_frame_line(words) || begins(words, "noise", 4)
 }
 
-fn is_wait(line: &[u8]) -> bool
-    ensures { result ≡ is_wait (words_of line.now) }
+fn is_wait(words: &[&[u8]]) -> bool
+    ensures { result ≡ is_wait (texts words.now) }
 {
-    begins(line, "wait", 2) && is_number_word(line, 1)
+    begins(words, "wait", 2) && is_number_word(words, 1)
 }
 
 /// Whether the line is one that a plan may have and that isn't built.
-pub fn is_unbuilt(line: &[u8]) -> bool
-    ensures { result ≡ is_unbuilt (words_of line.now) }
+pub fn is_unbuilt(words: &[&[u8]]) -> bool
+    ensures { result ≡ is_unbuilt (texts words.now) }
 {
-    is_other_setup(line)
-        || is_other_command(line)
-        || is_group_line(line)
-        || is_channel_line(line)
-        || is_wait(line)
+    is_other_setup(words)
+        || is_other_command(words)
+        || is_group_line(words)
+        || is_channel_line(words)
+        || is_wait(words)
 }

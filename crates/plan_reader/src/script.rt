@@ -4,7 +4,7 @@ ghost use Rattle.std.specs.Prelude.{◌≡◌, ◌<◌, ◌≤◌, map, length, 
 ghost use Rattle.toml.specs.View.{view};
 ghost use Rattle.plan_reader.specs.PlanCalls.{no_calls, with_call};
 ghost use Rattle.plan_reader.specs.PlanTables.{text_of};
-ghost use Rattle.plan_reader.specs.PlanTexts.{word_at, words_of};
+ghost use Rattle.plan_reader.specs.PlanTexts.{texts, word_at, words_of};
 ghost use Rattle.plan_reader.specs.Names.{is_name};
 ghost use Rattle.plan_reader.specs.PlanScript.{are_same, call_of, calls_after, calls_of, from_node, from_of, line_kind, line_of, lines_of, next_node, other_kind, other_line, release_kind, release_of, rounds_of, route_of, script_fault, settle_kind, setup_call_kind, setup_ends_kind, setup_kind, setup_of, steps_over, to_node, to_of};
 ghost use Rattle.plan_reader.specs.declared.faults.PlanError.{PlanError};
@@ -19,9 +19,9 @@ use crate::lines::{Line, Lines};
 use crate::links::node_named;
 use crate::names::{Name, Names, is_name};
 use crate::values::text_of;
-use crate::words::{are_link_ids, link_ids, number, word};
-use ason_base::{CallNo, Command, LinkId, NodeId, OutOfMemory, Step, Steps, Topology};
+use crate::words::{are_link_ids, link_ids, number, word, words_of};
 use ason_base::routes::makes_route;
+use ason_base::{CallNo, Command, LinkId, NodeId, OutOfMemory, Step, Steps, Topology};
 use std::alloc::Global;
 use toml::Value;
 
@@ -61,61 +61,66 @@ fn steps_over(alloc: Global, t: &Topology, from: NodeId, ids: &[u32]) -> Result<
 
 // Setups
 
-fn from(t: &Topology, names: &Names, line: &[u8]) -> Option<NodeId>
-    ensures { result ≡ from_of t.now names.now (words_of line.now) }
+fn from(t: &Topology, names: &Names, words: &[&[u8]]) -> Option<NodeId>
+    ensures { result ≡ from_of t.now names.now (texts words.now) }
 {
-    node_named(names, t.nodes(), word(line, 2))
+    node_named(names, t.nodes(), word(words, 2))
 }
 
-fn to(t: &Topology, names: &Names, line: &[u8]) -> Option<NodeId>
-    ensures { result ≡ to_of t.now names.now (words_of line.now) }
+fn to(t: &Topology, names: &Names, words: &[&[u8]]) -> Option<NodeId>
+    ensures { result ≡ to_of t.now names.now (texts words.now) }
 {
-    node_named(names, t.nodes(), word(line, 3))
+    node_named(names, t.nodes(), word(words, 3))
 }
 
-fn from_node(t: &Topology, names: &Names, line: &[u8]) -> NodeId
-    ensures { result ≡ from_node t.now names.now (words_of line.now) }
+fn from_node(t: &Topology, names: &Names, words: &[&[u8]]) -> NodeId
+    ensures { result ≡ from_node t.now names.now (texts words.now) }
 {
-    from(t, names, line).unwrap_or(NodeId(0))
+    from(t, names, words).unwrap_or(NodeId(0))
 }
 
-fn to_node(t: &Topology, names: &Names, line: &[u8]) -> NodeId
-    ensures { result ≡ to_node t.now names.now (words_of line.now) }
+fn to_node(t: &Topology, names: &Names, words: &[&[u8]]) -> NodeId
+    ensures { result ≡ to_node t.now names.now (texts words.now) }
 {
-    to(t, names, line).unwrap_or(NodeId(0))
+    to(t, names, words).unwrap_or(NodeId(0))
 }
 
-fn are_same(t: &Topology, names: &Names, line: &[u8]) -> bool
-    ensures { result ≡ are_same t.now names.now (words_of line.now) }
+fn are_same(t: &Topology, names: &Names, words: &[&[u8]]) -> bool
+    ensures { result ≡ are_same t.now names.now (texts words.now) }
 {
-    from_node(t, names, line) == to_node(t, names, line)
+    from_node(t, names, words) == to_node(t, names, words)
 }
 
-fn route(alloc: Global, t: &Topology, names: &Names, line: &[u8]) -> Result<Steps, OutOfMemory>
-    ensures { IfOk result (λ s. s ≡ route_of t.now names.now (words_of line.now)) }
+fn route(alloc: Global, t: &Topology, names: &Names, words: &[&[u8]]) -> Result<Steps, OutOfMemory>
+    ensures { IfOk result (λ s. s ≡ route_of t.now names.now (texts words.now)) }
 {
-    let ids = link_ids(alloc, word(line, 6))?;
-    steps_over(alloc, t, from_node(t, names, line), &ids)
+    let ids = link_ids(alloc, word(words, 6))?;
+    steps_over(alloc, t, from_node(t, names, words), &ids)
 }
 
 fn call_kind(
     t: &Topology,
     names: &Names,
     calls: &Calls,
-    line: &[u8],
+    words: &[&[u8]],
     route: &[Step],
 ) -> Option<PlanKind>
-    requires { route.now ≡ route_of t.now names.now (words_of line.now) }
-    ensures first { result ≡ setup_call_kind t.now names.now calls.now (words_of line.now) }
+    requires { route.now ≡ route_of t.now names.now (texts words.now) }
+    ensures first { result ≡ setup_call_kind t.now names.now calls.now (texts words.now) }
     ensures few { IfNone result (length calls.now.names < 4096) }
 {
-    if calls.has(word(line, 1)) {
+    if calls.has(word(words, 1)) {
         return Some(PlanKind::Call);
     }
     if calls.count() >= MOST_CALLS {
         return Some(PlanKind::Count);
     }
-    if !makes_route(t, from_node(t, names, line), to_node(t, names, line), route) {
+    if !makes_route(
+        t,
+        from_node(t, names, words),
+        to_node(t, names, words),
+        route,
+    ) {
         return Some(PlanKind::Route);
     }
     None
@@ -125,20 +130,20 @@ fn ends_kind(
     t: &Topology,
     names: &Names,
     calls: &Calls,
-    line: &[u8],
+    words: &[&[u8]],
     route: &[Step],
 ) -> Option<PlanKind>
-    requires { route.now ≡ route_of t.now names.now (words_of line.now) }
-    ensures first { result ≡ setup_ends_kind t.now names.now calls.now (words_of line.now) }
+    requires { route.now ≡ route_of t.now names.now (texts words.now) }
+    ensures first { result ≡ setup_ends_kind t.now names.now calls.now (texts words.now) }
     ensures few { IfNone result (length calls.now.names < 4096) }
 {
-    if from(t, names, line).is_none() || to(t, names, line).is_none() {
+    if from(t, names, words).is_none() || to(t, names, words).is_none() {
         return Some(PlanKind::Node);
     }
-    if are_same(t, names, line) {
+    if are_same(t, names, words) {
         return Some(PlanKind::Same);
     }
-    call_kind(t, names, calls, line, route)
+    call_kind(t, names, calls, words, route)
 }
 
 // The first fault of a setup.
@@ -146,32 +151,32 @@ fn setup_kind(
     t: &Topology,
     names: &Names,
     calls: &Calls,
-    line: &[u8],
+    words: &[&[u8]],
     route: &[Step],
 ) -> Option<PlanKind>
-    requires { route.now ≡ route_of t.now names.now (words_of line.now) }
-    ensures first { result ≡ setup_kind t.now names.now calls.now (words_of line.now) }
+    requires { route.now ≡ route_of t.now names.now (texts words.now) }
+    ensures first { result ≡ setup_kind t.now names.now calls.now (texts words.now) }
     ensures few { IfNone result (length calls.now.names < 4096) }
-    ensures named { IfNone result (IsTrue (is_name (word_at (words_of line.now) 1))) }
+    ensures named { IfNone result (IsTrue (is_name (word_at (texts words.now) 1))) }
 {
-    if !are_link_ids(word(line, 6)) {
+    if !are_link_ids(word(words, 6)) {
         return Some(PlanKind::Range);
     }
-    if !is_name(word(line, 1)) {
+    if !is_name(word(words, 1)) {
         return Some(PlanKind::Name);
     }
-    ends_kind(t, names, calls, line, route)
+    ends_kind(t, names, calls, words, route)
 }
 
-fn setup(t: &Topology, names: &Names, calls: &Calls, line: &[u8], route: Steps) -> Command
-    requires route { route ≡ route_of t.now names.now (words_of line.now) }
+fn setup(t: &Topology, names: &Names, calls: &Calls, words: &[&[u8]], route: Steps) -> Command
+    requires route { route ≡ route_of t.now names.now (texts words.now) }
     requires few { length calls.now.names < 4096 }
-    ensures { result ≡ setup_of t.now names.now calls.now (words_of line.now) }
+    ensures { result ≡ setup_of t.now names.now calls.now (texts words.now) }
 {
     Command::Setup {
         call: CallNo(calls.count() as u16),
-        from: from_node(t, names, line),
-        to: to_node(t, names, line),
+        from: from_node(t, names, words),
+        to: to_node(t, names, words),
         protected: false,
         both: false,
         via: Some(route),
@@ -181,46 +186,46 @@ fn setup(t: &Topology, names: &Names, calls: &Calls, line: &[u8], route: Steps) 
 
 // Other lines
 
-fn release_kind(calls: &Calls, line: &[u8]) -> Option<PlanKind>
-    ensures { result ≡ release_kind calls.now (words_of line.now) }
+fn release_kind(calls: &Calls, words: &[&[u8]]) -> Option<PlanKind>
+    ensures { result ≡ release_kind calls.now (texts words.now) }
 {
-    if !is_name(word(line, 1)) {
+    if !is_name(word(words, 1)) {
         return Some(PlanKind::Name);
     }
-    if !calls.has(word(line, 1)) {
+    if !calls.has(word(words, 1)) {
         return Some(PlanKind::Call);
     }
     None
 }
 
-fn call(calls: &Calls, line: &[u8]) -> u16
-    ensures { result ≡ call_of calls.now (words_of line.now) }
+fn call(calls: &Calls, words: &[&[u8]]) -> u16
+    ensures { result ≡ call_of calls.now (texts words.now) }
 {
-    match calls.place(word(line, 1)) {
+    match calls.place(word(words, 1)) {
         None => 0,
         Some(place) => place as u16,
     }
 }
 
-fn release(calls: &Calls, line: &[u8]) -> Command
-    ensures { result ≡ release_of calls.now (words_of line.now) }
+fn release(calls: &Calls, words: &[&[u8]]) -> Command
+    ensures { result ≡ release_of calls.now (texts words.now) }
 {
     Command::Release {
-        call: CallNo(call(calls, line)),
-        from: calls.ingress(word(line, 1)),
+        call: CallNo(call(calls, words)),
+        from: calls.ingress(word(words, 1)),
     }
 }
 
-fn rounds(line: &[u8]) -> u32
-    ensures { result ≡ rounds_of (words_of line.now) }
+fn rounds(words: &[&[u8]]) -> u32
+    ensures { result ≡ rounds_of (texts words.now) }
 {
-    number(word(line, 1), 1000).unwrap_or(0)
+    number(word(words, 1), 1000).unwrap_or(0)
 }
 
-fn settle_kind(line: &[u8]) -> Option<PlanKind>
-    ensures { result ≡ settle_kind (words_of line.now) }
+fn settle_kind(words: &[&[u8]]) -> Option<PlanKind>
+    ensures { result ≡ settle_kind (texts words.now) }
 {
-    if rounds(line) >= 1 {
+    if rounds(words) >= 1 {
         None
     } else {
         Some(PlanKind::Range)
@@ -228,29 +233,29 @@ fn settle_kind(line: &[u8]) -> Option<PlanKind>
 }
 
 // The first fault of a line that is no setup over a given route.
-fn other_kind(calls: &Calls, line: &[u8]) -> Option<PlanKind>
-    ensures { result ≡ other_kind calls.now (words_of line.now) }
+fn other_kind(calls: &Calls, words: &[&[u8]]) -> Option<PlanKind>
+    ensures { result ≡ other_kind calls.now (texts words.now) }
 {
-    if is_release(line) {
-        release_kind(calls, line)
-    } else if is_settle(line) {
-        settle_kind(line)
-    } else if is_show(line) {
+    if is_release(words) {
+        release_kind(calls, words)
+    } else if is_settle(words) {
+        settle_kind(words)
+    } else if is_show(words) {
         None
-    } else if is_unbuilt(line) {
+    } else if is_unbuilt(words) {
         Some(PlanKind::Unbuilt)
     } else {
         Some(PlanKind::Words)
     }
 }
 
-fn other_line(calls: &Calls, line: &[u8]) -> Line
-    ensures { result ≡ other_line calls.now (words_of line.now) }
+fn other_line(calls: &Calls, words: &[&[u8]]) -> Line
+    ensures { result ≡ other_line calls.now (texts words.now) }
 {
-    if is_release(line) {
-        Line::Post(release(calls, line))
-    } else if is_settle(line) {
-        Line::Settle(rounds(line))
+    if is_release(words) {
+        Line::Post(release(calls, words))
+    } else if is_settle(words) {
+        Line::Settle(rounds(words))
     } else {
         Line::Show
     }
@@ -278,24 +283,46 @@ fn read_setup(
     t: &Topology,
     names: &Names,
     calls: &mut Calls,
-    line: &[u8],
+    words: &[&[u8]],
 ) -> Result<Command, LineError>
-    ensures command { IfOk result (λ c. c ≡ setup_of t.now names.now calls.old (words_of line.now)) }
-    ensures calls { OnOk result (calls.new ≡ with_call calls.old (word_at (words_of line.now) 1) (from_node t.now names.now (words_of line.now))) }
-    ensures sound { OnOk result (setup_kind t.now names.now calls.old (words_of line.now) ≡ None) }
-    ensures fault { IfErr result (λ e. (k : PlanKind) → e ≡ LineError.Fault k → setup_kind t.now names.now calls.old (words_of line.now) ≡ Some k) }
+    ensures command { IfOk result (λ c. c ≡ setup_of t.now names.now calls.old (texts words.now)) }
+    ensures calls { OnOk result (calls.new ≡ with_call calls.old (word_at (texts words.now) 1) (from_node t.now names.now (texts words.now))) }
+    ensures sound { OnOk result (setup_kind t.now names.now calls.old (texts words.now) ≡ None) }
+    ensures fault { IfErr result (λ e. (k : PlanKind) → e ≡ LineError.Fault k → setup_kind t.now names.now calls.old (texts words.now) ≡ Some k) }
 {
-    let route = route(alloc, t, names, line)?;
-    if let Some(kind) = setup_kind(t, names, calls, line, route.items()) {
+    let route = route(alloc, t, names, words)?;
+    if let Some(kind) = setup_kind(t, names, calls, words, route.items()) {
         return Err(LineError::Fault(kind));
     }
-    let command = setup(t, names, calls, line, route);
-    let name = Name::new(alloc, word(line, 1))?;
-    calls.push(name, from_node(t, names, line))?;
+    let command = setup(t, names, calls, words, route);
+    let name = Name::new(alloc, word(words, 1))?;
+    calls.push(name, from_node(t, names, words))?;
     Ok(command)
 }
 
 fn read_line(
+    alloc: Global,
+    t: &Topology,
+    names: &Names,
+    calls: &mut Calls,
+    words: &[&[u8]],
+) -> Result<Line, LineError>
+    ensures line { IfOk result (λ l. l ≡ line_of t.now names.now calls.old (texts words.now)) }
+    ensures calls { OnOk result (calls.new ≡ calls_after t.now names.now calls.old (texts words.now)) }
+    ensures sound { OnOk result (line_kind t.now names.now calls.old (texts words.now) ≡ None) }
+    ensures fault { IfErr result (λ e. (k : PlanKind) → e ≡ LineError.Fault k → line_kind t.now names.now calls.old (texts words.now) ≡ Some k) }
+{
+    if is_given_setup(words) {
+        let command = read_setup(alloc, t, names, calls, words)?;
+        return Ok(Line::Post(command));
+    }
+    match other_kind(calls, words) {
+        Some(kind) => Err(LineError::Fault(kind)),
+        None => Ok(other_line(calls, words)),
+    }
+}
+
+fn read_text(
     alloc: Global,
     t: &Topology,
     names: &Names,
@@ -307,14 +334,8 @@ fn read_line(
     ensures sound { OnOk result (line_kind t.now names.now calls.old (words_of line.now) ≡ None) }
     ensures fault { IfErr result (λ e. (k : PlanKind) → e ≡ LineError.Fault k → line_kind t.now names.now calls.old (words_of line.now) ≡ Some k) }
 {
-    if is_given_setup(line) {
-        let command = read_setup(alloc, t, names, calls, line)?;
-        return Ok(Line::Post(command));
-    }
-    match other_kind(calls, line) {
-        Some(kind) => Err(LineError::Fault(kind)),
-        None => Ok(other_line(calls, line)),
-    }
+    let words = words_of(alloc, line)?;
+    read_line(alloc, t, names, calls, &words)
 }
 
 /// The calls and the lines of a script.
@@ -340,7 +361,7 @@ pub fn read_script(
     let mut calls = Calls::new(alloc);
     let mut lines = Lines::new(alloc);
     'reading: for i in 0..values.len() {
-        match read_line(alloc, t, names, &mut calls, text_of(&values[i])) {
+        match read_text(alloc, t, names, &mut calls, text_of(&values[i])) {
             Ok(line) => lines.push(line)?,
             Err(LineError::Fault(kind)) => return Err(fault(PlanEntry::Script(i as u32 + 1), kind)),
             Err(LineError::OutOfMemory) => return Err(PlanError::OutOfMemory),

@@ -2,29 +2,32 @@
 
 ghost use Rattle.std.specs.Prelude.{◌≡◌, [], length, map, slice_get, option_map, nat_le, if◌then◌else◌, Some, None, IsTrue, IfOk};
 ghost use Rattle.std.specs.Str.Parse.{digits_value};
-ghost use Rattle.plan_reader.specs.PlanTexts.{are_digits, are_link_ids, are_numbers, is_number, link_id, link_ids, number_up_to, word_at, words_of};
+ghost use Rattle.plan_reader.specs.PlanTexts.{are_digits, are_link_ids, are_numbers, is_number, link_id, link_ids, number_up_to, texts, word_at, words_of};
 
 use ason_base::OutOfMemory;
 use std::alloc::{AllocError, Global};
 
-/// How many words the line has.
-pub fn count_words(line: &[u8]) -> usize
-    ensures { result ≡ length (words_of line.now) }
+fn collect_words(alloc: Global, line: &[u8]) -> Result<Vec<&[u8]>, AllocError>
+    ensures { IfOk result (λ words. texts words.items ≡ words_of line.now) }
 {
-    line.split(|b| *b == b' ').filter(|w| !w.is_empty()).count()
+    line.split(|b| *b == b' ')
+        .filter(|w| !w.is_empty())
+        .collect(alloc)
 }
 
-fn nth_word(line: &[u8], k: usize) -> Option<&[u8]>
-    ensures { option_map (λ w. w.now) result ≡ slice_get (words_of line.now) k }
+/// The words of a line, apart by one or more spaces.
+pub fn words_of(alloc: Global, line: &[u8]) -> Result<Vec<&[u8]>, OutOfMemory>
+    ensures { IfOk result (λ words. texts words.items ≡ words_of line.now) }
 {
-    line.split(|b| *b == b' ').filter(|w| !w.is_empty()).nth(k)
+    let words = collect_words(alloc, line)?;
+    Ok(words)
 }
 
 /// The word at a place, from 0; empty where there is none.
-pub fn word(line: &[u8], k: usize) -> &[u8]
-    ensures { result.now ≡ word_at (words_of line.now) k }
+pub fn word<'a>(words: &[&'a [u8]], k: usize) -> &'a [u8]
+    ensures { result.now ≡ word_at (texts words.now) k }
 {
-    match nth_word(line, k) {
+    match words.get(k) {
         None => &[],
         Some(word) => word,
     }

@@ -19,7 +19,7 @@ reading-preserved c =
     let value = rw c.text_of.ensures at c.in-Ok.ensures.line in
     let sound = rw c.text_of.ensures at c.in-Ok.ensures.sound in
     record {
-      calls = calls_more c.args.t.now c.args.names.now c.reading.calls c.read_line.new.calls _ (text_of (view c.index-values-i.result)) _ _ cut after c.reading.invariant.calls;
-      lines = lines_more c.args.t.now c.args.names.now c.reading.calls c.read_line.new.calls (text_of (view c.index-values-i.result)) _ _ c.reading.lines c.push.new.self _ c.in-Ok.line cut after value c.in_ok-push-in-Ok.ensures.ok c.reading.invariant.lines;
+      calls = calls_more c.args.t.now c.args.names.now c.reading.calls c.read_text.new.calls _ (text_of (view c.index-values-i.result)) _ _ cut after c.reading.invariant.calls;
+      lines = lines_more c.args.t.now c.args.names.now c.reading.calls c.read_text.new.calls (text_of (view c.index-values-i.result)) _ _ c.reading.lines c.push.new.self _ c.in-Ok.line cut after value c.in_ok-push-in-Ok.ensures.ok c.reading.invariant.lines;
       left = rw after (c.reading.invariant.left ∙ line_sound c.args.t.now c.args.names.now (c.reading.i + 1) c.reading.calls (text_of (view c.index-values-i.result)) _ _ cut sound);
     }

@@ -1,12 +1,12 @@
 use Rattle.std.proofs.Common.{◌==◌, not, rules, tests}
-use Rattle.std.proofs.lemmas.Iterator.Consumers.{YieldsList-at, nth_from_yields_List, YieldsList-from_filter}
+use Rattle.std.proofs.lemmas.Iterator.Consumers.{YieldsList-at, YieldsList-from_filter, map_from_collect}
 use Rattle.std.proofs.lemmas.Iterator.Splits.{YieldsList-from_slice_split}
 use Rattle.plan_reader.specs.PlanTexts.{is_empty}
-use Rattle.plan_reader.proofs.words.nth_word.Goals as goal
+use Rattle.plan_reader.proofs.words.collect_words.Goals as goal
 
 pub returns : goal.returns
 returns c =
-    nth_from_yields_List c.nth.result _ c.args.k c.nth.ensures.ran
+    map_from_collect c.collect.result c.collect.ensures.ran
     (YieldsList-from_filter _ (λ w. not (is_empty w))
     (YieldsList-at c.filter.ensures.source (YieldsList-from_slice_split _ (λ b. b == 32) c.args.line.now c.split.ensures.rest c.split.ensures.done c.split.ensures.closure (λ x r q k. search (rules, tests))))
     c.filter.ensures.closure (λ x r q k. search (rules, tests)))
