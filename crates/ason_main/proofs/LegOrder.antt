@@ -1,9 +1,10 @@
--- The derived order of an LSP and a node, as a test.
+-- The derived orders of rows, as tests: an LSP and a node, a call and its ingress.
 use Rattle.std.proofs.Common.{◌≡◌, ℕ, ◌==◌, ◌&&◌, ◌||◌, nat_lt, nat_cmp, is_lt, Bool, true, false, Ordering, Less, Equal, Greater, refl, ap, sym, ◌∙◌, ◌+◌, List, slice_index_or}
 use Rattle.std.specs.List.Sorted.{IsSortedBy}
 use Rattle.std.specs.Ordering.{ordering_then}
+use Rattle.ason_base.specs.declared.calls.CallRow.{CallRow}
 use Rattle.ason_base.specs.declared.calls.LegRow.{LegRow}
-use Rattle.ason_main.specs.Outputs.{leg_before}
+use Rattle.ason_main.specs.Outputs.{call_before, leg_before}
 use mathlib.Core.Bool.{cond}
 
 is_lt-cond : (b e : Bool) → is_lt (cond b Less (cond e Equal Greater)) ≡ b
@@ -41,16 +42,40 @@ four a1 a2 a3 a4 b1 b2 b3 b4 =
 abbrev pub derived_order : LegRow → LegRow → Bool
 derived_order a b = is_lt (ordering_then (ordering_then (nat_cmp a.lsp.ingress.0 b.lsp.ingress.0) (ordering_then (nat_cmp a.lsp.tunnel b.lsp.tunnel) (nat_cmp a.lsp.lsp b.lsp.lsp))) (nat_cmp a.node.0 b.node.0))
 
-leg_order : (a b : LegRow) → derived_order a b ≡ leg_before a b
-leg_order a b =
+-- a test for each part of the order
+abbrev pub number_before : LegRow → LegRow → Bool
+number_before a b = nat_lt a.lsp.lsp b.lsp.lsp || (a.lsp.lsp == b.lsp.lsp && nat_lt a.node.0 b.node.0)
+
+abbrev pub tunnel_before : LegRow → LegRow → Bool
+tunnel_before a b = nat_lt a.lsp.tunnel b.lsp.tunnel || (a.lsp.tunnel == b.lsp.tunnel && number_before a b)
+
+pub leg_levels : (a b : LegRow) → derived_order a b ≡ (nat_lt a.lsp.ingress.0 b.lsp.ingress.0 || (a.lsp.ingress.0 == b.lsp.ingress.0 && tunnel_before a b))
+leg_levels a b =
     let first = nat_cmp a.lsp.ingress.0 b.lsp.ingress.0 in
     let second = nat_cmp a.lsp.tunnel b.lsp.tunnel in
     let third = nat_cmp a.lsp.lsp b.lsp.lsp in
     let last = nat_cmp a.node.0 b.node.0 in
     ap is_lt (then-assoc first (ordering_then second third) last ∙ ap (ordering_then first) (then-assoc second third last))
-    ∙ (four a.lsp.ingress.0 a.lsp.tunnel a.lsp.lsp a.node.0 b.lsp.ingress.0 b.lsp.tunnel b.lsp.lsp b.node.0
+    ∙ four a.lsp.ingress.0 a.lsp.tunnel a.lsp.lsp a.node.0 b.lsp.ingress.0 b.lsp.tunnel b.lsp.lsp b.node.0
+
+pub leg_order : (a b : LegRow) → derived_order a b ≡ leg_before a b
+leg_order a b =
+    leg_levels a b
     ∙ spread (nat_lt a.lsp.ingress.0 b.lsp.ingress.0) (a.lsp.ingress.0 == b.lsp.ingress.0) (nat_lt a.lsp.tunnel b.lsp.tunnel) (a.lsp.tunnel == b.lsp.tunnel)
-    (nat_lt a.lsp.lsp b.lsp.lsp) (a.lsp.lsp == b.lsp.lsp) (nat_lt a.node.0 b.node.0))
+    (nat_lt a.lsp.lsp b.lsp.lsp) (a.lsp.lsp == b.lsp.lsp) (nat_lt a.node.0 b.node.0)
 
 pub legs_in_order : (xs : List LegRow) → IsSortedBy derived_order xs → IsSortedBy leg_before xs
 legs_in_order xs sorted k d low high = sym (leg_order (slice_index_or xs (k + 1) d) (slice_index_or xs k d)) ∙ sorted k d low high
+
+-- Calls
+
+abbrev pub derived_call_order : CallRow → CallRow → Bool
+derived_call_order a b = is_lt (ordering_then (nat_cmp a.call.0 b.call.0) (nat_cmp a.ingress.0 b.ingress.0))
+
+pub call_order : (a b : CallRow) → derived_call_order a b ≡ call_before a b
+call_order a b =
+    is_lt-then a.call.0 b.call.0 (nat_cmp a.ingress.0 b.ingress.0)
+    ∙ ap (λ c. nat_lt a.call.0 b.call.0 || (a.call.0 == b.call.0 && c)) (is_lt-cond (nat_lt a.ingress.0 b.ingress.0) (a.ingress.0 == b.ingress.0))
+
+pub calls_in_order : (xs : List CallRow) → IsSortedBy derived_call_order xs → IsSortedBy call_before xs
+calls_in_order xs sorted k d low high = sym (call_order (slice_index_or xs (k + 1) d) (slice_index_or xs k d)) ∙ sorted k d low high

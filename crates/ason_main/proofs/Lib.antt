@@ -18,3 +18,6 @@ pub mod SeatLemmas
 pub mod Settling
 pub mod Standing
 pub mod Stopping
+pub mod OneOrder
+pub mod OneOutput
+pub mod OneTable

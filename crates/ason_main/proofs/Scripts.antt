@@ -3,18 +3,24 @@ use Rattle.std.proofs.Common.{◌≡◌, ◌<◌, ℕ, zero, suc, List, [], ◌�
 use Rattle.ason_base.specs.declared.ids.CallNo.{CallNo}
 use Rattle.ason_base.specs.declared.ids.NodeId.{NodeId}
 use Rattle.ason_base.specs.Network.{Network, IsTopology}
+use Rattle.mesh_rules.specs.Machine.{Mesh, start}
+use Rattle.mesh_rules.specs.declared.events.MeshEvent.{MeshEvent}
+use Rattle.mesh_rules.specs.Events.{IsRun, step}
+use Rattle.mesh_laws.specs.Laws.{LawsHold}
+use Rattle.mesh_laws.proofs.EveryRun.{laws_hold}
 use Rattle.plan_reader.specs.declared.lines.Line.{Line}
 use Rattle.plan_reader.specs.declared.lines.Line.TheVariants.{Post, Settle, Show}
 use Rattle.plan_reader.specs.declared.plan.Plan.{Plan}
 use Rattle.table_text.specs.TableText.{stopped_text}
 use Rattle.ason_main.specs.declared.runner.run.Run.{Run}
 use Rattle.ason_main.specs.Histories.{History, new_history}
-use Rattle.ason_main.specs.Outputs.{IsOneRun, IsOutput, IsStoppedOutput, Prints, script_of, settling_script}
+use Rattle.ason_main.specs.Outputs.{IsOneRun, IsTheOutput, IsTheStoppedOutput, Prints, run_of, script_of, settling_script}
 use Rattle.plan_reader.specs.Plans.{ArePostable, AreValidLines, IsValidLine, calls_after_line}
 use Rattle.ason_main.specs.Running.{AreCut, AreDone, IsCut, IsDone, StandsNow}
 use Rattle.ason_main.proofs.HistoryRuns.{lines_run}
 use Rattle.ason_main.proofs.Leading.{lead_through}
 use Rattle.ason_main.proofs.Limits.{full_where_stopped}
+use Rattle.ason_main.proofs.OneOutput.{the_output, the_stopped_output}
 use Rattle.ason_main.proofs.Printing.{cut_append, cut_early, cut_one, done_append, done_one}
 
 -- Lines that can be posted
@@ -96,26 +102,44 @@ cut_show p rounds a b c d e k first lines last cuts =
 
 -- Outputs
 
+-- each first part of a run is a run
+first_part : (t : Network) (s : Mesh) (first left : List MeshEvent) → IsRun t s (first ++ left) → IsRun t s first
+first_part t s [] left run = tt
+first_part t s (e ∷ first) left run = (run.0, first_part t (step t s e) first left run.1)
+
+laws_before : (t : Network) (events first left : List MeshEvent) → IsRun t start events → first ++ left ≡ events → LawsHold t first
+laws_before t events first left run is = laws_hold t first (first_part t start first left (subst (IsRun t start) (sym is) run))
+
+the_run : (p : Plan) → IsTopology p.topology → ArePostable p.topology [] p.lines → IsRun p.topology start (run_of p).events
+the_run p topology postable = lines_run p.topology topology [] (script_of p) new_history (postable_script 1000 p postable) (record { run = tt; calls = refl })
+
 pub one_run : (p : Plan) → IsTopology p.topology → ArePostable p.topology [] p.lines → IsOneRun p
 one_run p topology postable = record {
-  run = lines_run p.topology topology [] (script_of p) new_history (postable_script 1000 p postable) (record { run = tt; calls = refl });
+  run = the_run p topology postable;
+  laws = λ first left is. laws_before p.topology (run_of p).events first left (the_run p topology postable) is;
   leads = lead_through p.topology (script_of p) new_history;
 }
 
 from_nothing : (p : Plan) (old new : Run) → old.text.items ≡ [] → (text : List ℕ) → new.text.items ≡ old.text.items ++ text → new.text.items ≡ text
 from_nothing p old new none text is = is ∙ ap (λ xs. xs ++ text) none
 
-pub output_of : (p : Plan) (old new : Run) → IsTopology p.topology → ArePostable p.topology [] p.lines → old.text.items ≡ [] → AreDone p old new (script_of p) new_history → IsOutput p new.text.items
-output_of p old new topology postable none are = record {
-  one_run = one_run p topology postable;
-  ended = are.stands.going;
-  printed = subst (Prints p (script_of p) new_history) (sym (from_nothing p old new none are.printed.0 are.printed.1)) are.printed.2;
-}
+pub output_of : (p : Plan) (old new : Run) → IsTopology p.topology → ArePostable p.topology [] p.lines → old.text.items ≡ [] →
+    AreDone p old new (script_of p) new_history → IsTheOutput p new.text.items
+output_of p old new topology postable none are =
+    the_output p new.text.items
+    (record {
+      one_run = one_run p topology postable;
+      ended = are.stands.going;
+      printed = subst (Prints p (script_of p) new_history) (sym (from_nothing p old new none are.printed.0 are.printed.1)) are.printed.2;
+    })
 
-pub stopped_output_of : (p : Plan) (old new : Run) (n : NodeId) (text : List ℕ) → IsTopology p.topology → ArePostable p.topology [] p.lines → old.text.items ≡ [] → AreCut p old new (script_of p) n new_history → text ≡ new.text.items ++ stopped_text p n → IsStoppedOutput p n text
-stopped_output_of p old new n text topology postable none are is = record {
-  one_run = one_run p topology postable;
-  stopped = are.stopped;
-  full = full_where_stopped p n are.stopped;
-  printed = (are.printed.0, are.printed.2, is ∙ ap (λ xs. xs ++ stopped_text p n) (from_nothing p old new none are.printed.0 are.printed.1));
-}
+pub stopped_output_of : (p : Plan) (old new : Run) (n : NodeId) (text : List ℕ) → IsTopology p.topology → ArePostable p.topology [] p.lines → old.text.items ≡ [] →
+    AreCut p old new (script_of p) n new_history → text ≡ new.text.items ++ stopped_text p n → IsTheStoppedOutput p n text
+stopped_output_of p old new n text topology postable none are is =
+    the_stopped_output p n text
+    (record {
+      one_run = one_run p topology postable;
+      stopped = are.stopped;
+      full = full_where_stopped p n are.stopped;
+      printed = (are.printed.0, are.printed.2, is ∙ ap (λ xs. xs ++ stopped_text p n) (from_nothing p old new none are.printed.0 are.printed.1));
+    })

@@ -10,8 +10,9 @@ use Rattle.ason_main.specs.declared.ason.Task.{Task}
 use Rattle.ason_base.specs.declared.ids.NodeId.{NodeId}
 use Rattle.plan_reader.specs.declared.faults.PlanFault.{PlanFault}
 use Rattle.message_text.specs.DecodeText.{IsDecodeText}
+use Rattle.message_text.specs.OneText.{IsOne}
 use Rattle.table_text.specs.FaultText.{refused_text}
-use Rattle.ason_main.specs.Outputs.{IsOutput, IsStoppedOutput, run_of}
+use Rattle.ason_main.specs.Outputs.{IsTheOutput, IsTheStoppedOutput, run_of}
 use Rattle.plan_reader.specs.Plans.{PlanOf}
 
 -- the words are this one word
@@ -56,9 +57,9 @@ text_of_reply Reply.TooLong = codes "refused input too long\n"
 
 -- what the reply to `run` says of the bytes that were read to their end
 abbrev pub IsRunReply : List ℕ → Reply → Type 0
-IsRunReply bs (Reply.Done text) = (p : Plan) × PlanOf bs (Ok p) × IsOutput p text.items
+IsRunReply bs (Reply.Done text) = (p : Plan) × PlanOf bs (Ok p) × IsTheOutput p text.items
 IsRunReply bs (Reply.PlanRefused text) = (f : PlanFault) × PlanOf bs (Err f) × (text.items ≡ refused_text f)
-IsRunReply bs (Reply.EventLimit text) = (p : Plan) × PlanOf bs (Ok p) × ((n : NodeId) × IsStoppedOutput p n text.items)
+IsRunReply bs (Reply.EventLimit text) = (p : Plan) × PlanOf bs (Ok p) × ((n : NodeId) × IsTheStoppedOutput p n text.items)
 IsRunReply bs Reply.OutOfMemory = Unit {0}
 IsRunReply bs Reply.Usage = ⊥
 IsRunReply bs Reply.ReadFault = ⊥
@@ -66,7 +67,7 @@ IsRunReply bs Reply.TooLong = ⊥
 
 -- what the reply to `decode` says of them
 abbrev pub IsDecodeReply : List ℕ → Reply → Type 0
-IsDecodeReply bs (Reply.Done text) = IsDecodeText bs text.items
+IsDecodeReply bs (Reply.Done text) = IsOne (IsDecodeText bs) text.items
 IsDecodeReply bs (Reply.PlanRefused text) = ⊥
 IsDecodeReply bs (Reply.EventLimit text) = ⊥
 IsDecodeReply bs Reply.OutOfMemory = Unit {0}
@@ -78,17 +79,22 @@ abbrev pub IsJudged : Task → List ℕ → Reply → Type 0
 IsJudged Task.Run bs r = IsRunReply bs r
 IsJudged Task.Decode bs r = IsDecodeReply bs r
 
+-- the source was read to its end, which came after at most 4,194,304 bytes, and that is what is judged
 abbrev pub IsReadAndJudged : {S : Type 0} → (S → Option (List ℕ)) → (S → List ℕ → S → Type 0) → (S → Type 0) → S → S → Task → Reply → Type 0
-IsReadAndJudged left handed ended old new k r = (bs : List ℕ) × WasReadToEnd left handed ended old new bs × IsJudged k bs r
+IsReadAndJudged left handed ended old new k r = (bs : List ℕ) × WasReadToEnd left handed ended old new bs × (length bs ≤ 4194304) × IsJudged k bs r
+
+-- at most 4,194,304 bytes were read
+abbrev pub HasReadFew : {S : Type 0} → (S → Option (List ℕ)) → (S → List ℕ → S → Type 0) → S → S → Type 0
+HasReadFew left handed old new = HasRead left handed old new (λ n. n ≤ 4194304)
 
 -- what the reply to this says of the source
 abbrev pub IsReplyFor : {S : Type 0} → (S → Option (List ℕ)) → (S → List ℕ → S → Type 0) → (S → Type 0) → (S → ℕ) → S → S → Task → Reply → Type 0
 IsReplyFor left handed ended faults old new k (Reply.Done text) = IsReadAndJudged left handed ended old new k (Reply.Done text)
 IsReplyFor left handed ended faults old new k Reply.Usage = ⊥
 IsReplyFor left handed ended faults old new k (Reply.PlanRefused text) = IsReadAndJudged left handed ended old new k (Reply.PlanRefused text)
-IsReplyFor left handed ended faults old new k Reply.ReadFault = Rose (faults old) (faults new)
+IsReplyFor left handed ended faults old new k Reply.ReadFault = Rose (faults old) (faults new) × HasReadFew left handed old new
 IsReplyFor left handed ended faults old new k (Reply.EventLimit text) = IsReadAndJudged left handed ended old new k (Reply.EventLimit text)
-IsReplyFor left handed ended faults old new k Reply.OutOfMemory = Unit {0}
+IsReplyFor left handed ended faults old new k Reply.OutOfMemory = HasReadFew left handed old new
 IsReplyFor left handed ended faults old new k Reply.TooLong = HasRead left handed old new (λ n. n ≡ 4194304 + 1)
 
 -- where the words have no meaning the reply is the usage, and nothing is read
@@ -118,8 +124,13 @@ abbrev pub EndsWell : Task → List ℕ → Status → Type 0
 EndsWell Task.Run bs s = (p : Plan) → PlanOf bs (Ok p) → IsEnd p s
 EndsWell Task.Decode bs s = (s ≡ Status.Done) ⊎ (s ≡ Status.OutOfMemory)
 
--- words with a meaning, an input that isn't too long, and no end that fails
+-- and where there are more than 4,194,304
+abbrev pub EndsTooLong : Status → Type 0
+EndsTooLong s = (s ≡ Status.TooLong) ⊎ (s ≡ Status.OutOfMemory)
+
+-- words with a meaning, and no end that fails
 abbrev pub IsComplete : {S K : Type 0} → (S → Option (List ℕ)) → (S → ℕ) → (K → ℕ) → List (List ℕ) → S → S → K → K → Status → Type 0
 IsComplete left faults sink_faults words old new sink_old sink_new s =
-    (k : Task) → task_of words ≡ Some k → (bs : List ℕ) → left old ≡ Some bs → length bs ≤ 4194304 →
-    ¬ Rose (faults old) (faults new) → ¬ Rose (sink_faults sink_old) (sink_faults sink_new) → EndsWell k bs s
+    (k : Task) → task_of words ≡ Some k → (bs : List ℕ) → left old ≡ Some bs →
+    ¬ Rose (faults old) (faults new) → ¬ Rose (sink_faults sink_old) (sink_faults sink_new) →
+    (length bs ≤ 4194304 → EndsWell k bs s) × (4194304 < length bs → EndsTooLong s)

@@ -1,6 +1,7 @@
 -- What the program prints of a plan.
-use Rattle.std.specs.Prelude.{◌≡◌, ℕ, ◌||◌, ◌&&◌, nat_lt, Bool, List, [], ◌∷◌, ◌++◌, Option, Some, None, fold, is_some, if◌then◌else◌}
-use Rattle.std.specs.List.Sorted.{IsNonDecreasingBy, IsPermutation, IsSortedBy}
+use Rattle.std.specs.Prelude.{◌≡◌, ℕ, ◌==◌, ◌||◌, ◌&&◌, nat_lt, Bool, List, [], ◌∷◌, ◌++◌, Option, Some, None, fold, is_some, if◌then◌else◌}
+use Rattle.std.specs.List.Sorted.{IsPermutation, IsSortedBy}
+use Rattle.ason_base.specs.declared.calls.CallRow.{CallRow}
 use Rattle.ason_base.specs.declared.calls.LegRow.{LegRow}
 use Rattle.ason_base.specs.declared.calls.TableRows.{TableRows}
 use Rattle.ason_base.specs.declared.commands.Command.{Command}
@@ -12,6 +13,7 @@ use Rattle.mesh_rules.specs.declared.events.MeshEvent.TheVariants as event
 use Rattle.mesh_rules.specs.Machine.{Mesh, start}
 use Rattle.mesh_rules.specs.Events.{IsRun}
 use Rattle.mesh_rules.specs.Rows.{all_call_rows, all_leg_rows}
+use Rattle.mesh_laws.specs.Laws.{LawsHold}
 use Rattle.plan_reader.specs.declared.lines.Line.{Line}
 use Rattle.plan_reader.specs.declared.lines.Line.TheVariants.{Post, Settle, Show}
 use Rattle.plan_reader.specs.declared.plan.Plan.{Plan}
@@ -21,14 +23,18 @@ use Rattle.ason_main.specs.Rounds.{is_quiet, items_waiting, mail_waiting, settle
 
 -- The table
 
+-- by number, then by ingress
+abbrev pub call_before : CallRow → CallRow → Bool
+call_before a b = nat_lt a.call.0 b.call.0 || (a.call.0 == b.call.0 && nat_lt a.ingress.0 b.ingress.0)
+
 -- by LSP, then by node
 abbrev pub leg_before : LegRow → LegRow → Bool
 leg_before a b = lsp_before a.lsp b.lsp || (same_lsp a.lsp b.lsp && nat_lt a.node.0 b.node.0)
 
--- the rows of all nodes: calls in order of number, legs in order of LSP and node
+-- the rows of all nodes: calls in order of number and ingress, legs in order of LSP and node
 pub record IsTable (t : Network) (s : Mesh) (rows : TableRows) : Type 0 where
   pub same_calls : IsPermutation (all_call_rows t s) rows.calls
-  pub calls : IsNonDecreasingBy (λ c. c.call.0) rows.calls
+  pub calls : IsSortedBy call_before rows.calls
   pub same_legs : IsPermutation (all_leg_rows t s) rows.legs
   pub legs : IsSortedBy leg_before rows.legs
 
@@ -93,9 +99,10 @@ abbrev pub LeadThrough : Network → List MeshEvent → List Line → History �
 LeadThrough t es [] h = h.events ≡ es
 LeadThrough t es (line ∷ lines) h = ((left : List MeshEvent) × (h.events ++ left ≡ es)) × LeadThrough t es lines (line_done t h line)
 
--- one run of the machine leads through the whole script
+-- one run of the machine leads through the whole script, and after each first part of it the laws hold
 pub record IsOneRun (p : Plan) : Type 0 where
   pub run : IsRun p.topology start (run_of p).events
+  pub laws : (first left : List MeshEvent) → first ++ left ≡ (run_of p).events → LawsHold p.topology first
   pub leads : LeadThrough p.topology (run_of p).events (script_of p) new_history
 
 -- what is printed of a run that comes to the script's end
@@ -110,3 +117,17 @@ pub record IsStoppedOutput (p : Plan) (n : NodeId) (text : List ℕ) : Type 0 wh
   pub stopped : (run_of p).stopped ≡ Some n
   pub full : events_of n.0 (run_of p).events ≡ 50000
   pub printed : (told : List ℕ) × Prints p (script_of p) new_history told × (text ≡ told ++ stopped_text p n)
+
+-- The one output of a plan
+
+-- this is the plan's output, and the plan has no other one
+pub record IsTheOutput (p : Plan) (text : List ℕ) : Type 0 where
+  pub output : IsOutput p text
+  pub only : (other : List ℕ) → IsOutput p other → other ≡ text
+  pub never_stopped : (n : NodeId) (other : List ℕ) → ¬ IsStoppedOutput p n other
+
+-- the same of a run that is stopped
+pub record IsTheStoppedOutput (p : Plan) (n : NodeId) (text : List ℕ) : Type 0 where
+  pub output : IsStoppedOutput p n text
+  pub only : (m : NodeId) (other : List ℕ) → IsStoppedOutput p m other → (m ≡ n) × (other ≡ text)
+  pub never_ended : (other : List ℕ) → ¬ IsOutput p other

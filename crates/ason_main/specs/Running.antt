@@ -8,7 +8,7 @@ use Rattle.ason_main.specs.declared.runner.run.Ran.{Ran}
 use Rattle.ason_main.specs.declared.runner.run.Run.{Run}
 use Rattle.ason_main.specs.Histories.{History}
 use Rattle.ason_main.specs.Kept.{AreSeated, StandsFor}
-use Rattle.ason_main.specs.Outputs.{IsOutput, IsStoppedOutput, LinePrints, Prints, line_done, lines_done}
+use Rattle.ason_main.specs.Outputs.{IsTheOutput, IsTheStoppedOutput, LinePrints, Prints, line_done, lines_done}
 use Rattle.ason_main.specs.Rounds.{around}
 
 -- the runner has each node's seat and neighbours
@@ -46,5 +46,5 @@ pub record AreCut (p : Plan) (old new : Run) (lines : List Line) (n : NodeId) (h
 
 -- what the runner answers of a plan
 abbrev pub IsRan : Plan → Ran → Type 0
-IsRan p (Ran.Ended text) = IsOutput p text.items
-IsRan p (Ran.AtLimit text) = (n : NodeId) × IsStoppedOutput p n text.items
+IsRan p (Ran.Ended text) = IsTheOutput p text.items
+IsRan p (Ran.AtLimit text) = (n : NodeId) × IsTheStoppedOutput p n text.items

@@ -1,20 +1,21 @@
 //! The rows of all nodes in the order of the table.
 
 ghost use Rattle.std.specs.Prelude.{◌≡◌, IfOk};
-ghost use Rattle.std.specs.List.Sorted.{IsNonDecreasingBy, IsPermutation, IsSortedBy};
-ghost use Rattle.ason_main.specs.Outputs.{leg_before};
+ghost use Rattle.std.specs.List.Sorted.{IsPermutation, IsSortedBy};
+ghost use Rattle.ason_main.specs.Outputs.{call_before, leg_before};
 
 use ason_base::{CallRow, CallRows, LegRow, LegRows, OutOfMemory, TableRows};
 use std::alloc::Global;
 
-/// Puts calls in order of number, and legs in order of LSP, those of one LSP in order of node.
+/// Puts calls in order of number, those of one number in order of ingress, and legs in order of LSP, those of one LSP in order
+/// of node.
 pub fn sort_rows(
     alloc: Global,
     calls: Vec<CallRow>,
     legs: Vec<LegRow>,
 ) -> Result<TableRows, OutOfMemory>
     ensures same_calls { IfOk result (λ rows. IsPermutation calls.items rows.calls) }
-    ensures calls { IfOk result (λ rows. IsNonDecreasingBy (λ c. c.call.0) rows.calls) }
+    ensures calls { IfOk result (λ rows. IsSortedBy call_before rows.calls) }
     ensures same_legs { IfOk result (λ rows. IsPermutation legs.items rows.legs) }
     ensures legs { IfOk result (λ rows. IsSortedBy leg_before rows.legs) }
 {
@@ -25,10 +26,10 @@ pub fn sort_rows(
 
 fn sort_calls(alloc: Global, calls: Vec<CallRow>) -> Result<CallRows, OutOfMemory>
     ensures same { IfOk result (λ rows. IsPermutation calls.items rows) }
-    ensures sorted { IfOk result (λ rows. IsNonDecreasingBy (λ c. c.call.0) rows) }
+    ensures sorted { IfOk result (λ rows. IsSortedBy call_before rows) }
 {
     let mut calls = calls;
-    calls.sort_by_key(|call| call.call.0)?;
+    calls.sort_by_key(|call| (call.call, call.ingress))?;
     call_rows(alloc, &calls)
 }
 

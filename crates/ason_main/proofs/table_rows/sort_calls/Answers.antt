@@ -1,10 +1,13 @@
 use Rattle.std.proofs.Common.{rules}
-use Rattle.std.proofs.lemmas.List.Sorted.{IsNonDecreasingBy-from_sort_by_key}
-use Rattle.std.specs.List.Sorted.{IsNonDecreasingBy}
+use Rattle.std.proofs.lemmas.List.Sorted.{answers_always}
+use Rattle.std.specs.List.Sorted.{IsSortedBy}
 use Rattle.ason_base.specs.declared.calls.CallRow.{CallRow}
+use Rattle.ason_main.specs.Outputs.{call_before}
+use Rattle.ason_main.proofs.LegOrder.{calls_in_order}
 use Rattle.ason_main.proofs.table_rows.sort_calls.Goals as goal
 
 pub returns-clause-sorted : goal.returns-clause-sorted
 returns-clause-sorted c =
-    let sorted : IsNonDecreasingBy {X = CallRow} (λ r. r.call.0) c.sort_by_key.new.self.items = IsNonDecreasingBy-from_sort_by_key (λ r. r.call.0) _ c.in_ok-sort_by_key.ensures.sorted (λ a r q k. search rules) in
+    let by_key = c.in_ok-sort_by_key.ensures.sorted (λ r. (r.call, r.ingress)) (answers_always _ _ _ (λ f a r q k. search rules)) in
+    let sorted : IsSortedBy {X = CallRow} call_before c.sort_by_key.new.self.items = calls_in_order c.sort_by_key.new.self.items by_key in
     search rules
