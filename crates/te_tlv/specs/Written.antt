@@ -1,10 +1,11 @@
 -- The written form of a row: the sub-TLVs in order of type, that of SRLGs only where there are any, padding zero.
-use Rattle.std.specs.Prelude.{◌≡◌, ◌<◌, ◌≤◌, ◌⊎◌, ℕ, ◌-◌, ◌^◌, ◌==◌, if◌then◌else◌, List, [], ◌∷◌, ◌++◌, length, replicate, All}
+use Rattle.std.specs.Prelude.{◌≡◌, ◌<◌, ◌≤◌, ◌⊎◌, ℕ, ◌-◌, ◌^◌, List, [], ◌∷◌, ◌++◌, length, replicate, All}
 use Rattle.std.specs.List.{flat_map}
 use Rattle.std.specs.List.Sorted.{IsStrictlyIncreasing}
 use Rattle.byteorder.specs.Endian.{big_bytes}
 use Rattle.ason_base.specs.declared.ids.NodeId.{NodeId}
 use Rattle.ason_base.specs.declared.network.TeRow.{TeRow}
+use Rattle.ason_base.specs.Network.{end_beside}
 use Rattle.te_tlv.specs.SubTlvs.{padded}
 
 unfoldable pub sub_tlv : ℕ → List ℕ → List ℕ
@@ -12,7 +13,7 @@ sub_tlv kind value = big_bytes 2 kind ++ big_bytes 2 (length value) ++ value ++ 
 
 -- the end that isn't the origin
 abbrev pub peer_of : NodeId → TeRow → ℕ
-peer_of origin row = if origin.0 == row.low.0 then row.high.0 else row.low.0
+peer_of origin row = (end_beside row.low row.high origin).0
 
 abbrev pub srlgs_tlv : List ℕ → List ℕ
 srlgs_tlv [] = []

@@ -26,27 +26,13 @@ fn numbers(alloc: Global, value: &[u8]) -> Result<Vec<u32>, OutOfMemory>
     Ok(numbers)
 }
 
-/// The numbers of four bytes each, rising, each once.
-fn distinct(alloc: Global, value: &[u8]) -> Result<Vec<u32>, OutOfMemory>
-    ensures rising { IfOk result (λ ns. IsStrictlyIncreasing ns.items) }
-    ensures same { IfOk result (λ ns. (n : ℕ) → Contains ns.items n ↔ Contains (numbers_of value.now) n) }
+/// The numbers of four bytes each, as SRLGs.
+fn distinct(alloc: Global, value: &[u8]) -> Result<Srlgs, OutOfMemory>
+    ensures rising { IfOk result IsStrictlyIncreasing }
+    ensures same { IfOk result (λ s. (n : ℕ) → Contains s n ↔ Contains (numbers_of value.now) n) }
 {
-    let mut numbers = numbers(alloc, value)?;
-    numbers.sort_unstable();
-    numbers.dedup();
-    Ok(numbers)
-}
-
-/// Rising numbers as SRLGs.
-fn listed(alloc: Global, numbers: &[u32]) -> Result<Srlgs, OutOfMemory>
-    requires { IsStrictlyIncreasing numbers.now }
-    ensures { IfOk result (λ s. s ≡ numbers.now) }
-{
-    let mut srlgs = Srlgs::new(alloc);
-    for n in numbers {
-        srlgs.push(*n)?;
-    }
-    Ok(srlgs)
+    let numbers = numbers(alloc, value)?;
+    Srlgs::of(alloc, &numbers)
 }
 
 /// The SRLGs of a value. NotMessage exactly where it has none.
@@ -57,15 +43,15 @@ fn srlgs_of_value(alloc: Global, value: &[u8]) -> Result<Srlgs, DecodeError>
     if value.len() % 4 != 0 {
         return Err(DecodeError::NotMessage);
     }
-    let Ok(numbers) = distinct(alloc, value) else {
-        return Err(DecodeError::OutOfMemory);
-    };
-    if numbers.len() > MOST_SRLGS {
-        return Err(DecodeError::NotMessage);
-    }
-    match listed(alloc, &numbers) {
-        Ok(srlgs) => Ok(srlgs),
+    match distinct(alloc, value) {
         Err(OutOfMemory) => Err(DecodeError::OutOfMemory),
+        Ok(srlgs) => {
+            if srlgs.items().len() > MOST_SRLGS {
+                Err(DecodeError::NotMessage)
+            } else {
+                Ok(srlgs)
+            }
+        }
     }
 }
 

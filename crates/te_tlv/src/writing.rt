@@ -1,10 +1,12 @@
 //! Writing rows.
 
-ghost use Rattle.std.specs.Prelude.{◌≡◌, ◌<◌, ◌≤◌, ◌+◌, ◌^◌, ◌++◌, [], ◌∷◌, length, IfOk, OnOk};
+ghost use Rattle.std.specs.Prelude.{◌≡◌, ◌<◌, ◌≤◌, ◌+◌, ◌^◌, ◌++◌, [], ◌∷◌, length, All, IfOk, OnOk};
 ghost use Rattle.std.specs.List.{flat_map};
 ghost use Rattle.byteorder.specs.Endian.{big_bytes};
-ghost use Rattle.te_tlv.specs.Written.{IsWritable, link_body, link_tlv, peer_of, srlgs_tlv, sub_tlv};
+ghost use Rattle.te_tlv.specs.Rows.{SpellsRow};
+ghost use Rattle.te_tlv.specs.Written.{HasNumbers, IsWritable, link_body, link_tlv, peer_of, srlgs_tlv, sub_tlv};
 
+use crate::laws::rows_come_back;
 use crate::reading::{IDENTIFIERS, LINK_ID, LINK_TYPE, METRIC};
 use crate::srlgs::SRLG;
 use crate::sub_tlvs::LINK;
@@ -21,7 +23,7 @@ const FIXED: usize = 36;
 fn peer_of(origin: NodeId, row: &TeRow) -> u32
     ensures { result ≡ peer_of origin row.now }
 {
-    if origin == row.low {
+    if row.low == origin {
         row.high.0
     } else {
         row.low.0
@@ -100,9 +102,33 @@ fn push_body(out: &mut Vec<u8>, origin: NodeId, row: &TeRow) -> Result<(), OutOf
     push_srlgs(out, row.srlgs.items())
 }
 
-/// The Link TLV of a row, from one of its ends: sub-TLVs in order of type, SRLGs rising, padding zero.
-pub fn write_row(alloc: Global, origin: NodeId, row: &TeRow) -> Result<Vec<u8>, OutOfMemory>
-    requires { IsWritable origin row.now }
+// Laws: what the types of a row say of its numbers. Calling them changes nothing.
+
+fn number_fits(n: u32)
+    ensures { n < 2 ^ 32 }
+{}
+
+fn numbers_fit(numbers: &[u32])
+    ensures { All (λ n. n < 2 ^ 32) numbers.now }
+{
+    for n in numbers {
+        number_fits(*n);
+    }
+}
+
+/// Law: the numbers of every row fit their fields, and its SRLGs rise.
+pub fn row_fits(row: &TeRow)
+    ensures { HasNumbers row.now }
+{
+    number_fits(row.link.0);
+    number_fits(row.high.0);
+    numbers_fit(row.srlgs.items());
+    row.srlgs.rises();
+}
+
+// The bytes of the Link TLV.
+fn row_bytes(alloc: Global, origin: NodeId, row: &TeRow) -> Result<Vec<u8>, OutOfMemory>
+    requires { length row.now.srlgs ≤ 16 }
     ensures { IfOk result (λ bytes. bytes.items ≡ link_tlv origin row.now) }
 {
     let len = FIXED + srlgs_len(row.srlgs.items());
@@ -111,4 +137,16 @@ pub fn write_row(alloc: Global, origin: NodeId, row: &TeRow) -> Result<Vec<u8>, 
     push_u16(&mut out, len as u16)?;
     push_body(&mut out, origin, row)?;
     Ok(out)
+}
+
+/// The Link TLV of a row, from one of its ends: sub-TLVs in order of type, SRLGs rising, padding zero.
+pub fn write_row(alloc: Global, origin: NodeId, row: &TeRow) -> Result<Vec<u8>, OutOfMemory>
+    requires { IsWritable origin row.now }
+    ensures written { IfOk result (λ bytes. bytes.items ≡ link_tlv origin row.now) }
+    // What is written is read as the row again.
+    ensures spelled { IfOk result (λ bytes. SpellsRow origin bytes.items row.now) }
+{
+    rows_come_back();
+    row_fits(row);
+    row_bytes(alloc, origin, row)
 }

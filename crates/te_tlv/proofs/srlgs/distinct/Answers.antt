@@ -1,17 +1,7 @@
-use Rattle.std.proofs.lemmas.List.Filters.{dedup_is}
-use Rattle.std.proofs.lemmas.List.Kept.{Contains-dedup_nat, Contains-from_dedup}
-use Rattle.std.proofs.lemmas.List.Sorted.{Contains-permutation, IsPermutation-sym}
-use Rattle.std.proofs.lemmas.Map.Keys.{IsStrictlyIncreasing-dedup}
+use Rattle.std.proofs.Common.{◌↔◌, ◌∙◌, ℕ, List, Contains, subst}
+use Rattle.std.specs.Prelude.{IfOk}
 use Rattle.te_tlv.proofs.srlgs.distinct.Goals as goal
 
-pub returns-clause-rising : goal.returns-clause-rising
-returns-clause-rising c = rw (dedup_is _ _ _ c.dedup.ensures.filtered) (IsStrictlyIncreasing-dedup _ c.sort_unstable.ensures.sorted)
-
 pub returns-clause-same : goal.returns-clause-same
-returns-clause-same c n =
-    let is = dedup_is _ _ _ c.dedup.ensures.filtered in
-    let moved = c.sort_unstable.ensures.permutation in
-    rw (is, ← c.in_ok-numbers.ensures) (
-      λ there. Contains-permutation _ _ n (IsPermutation-sym _ _ moved) (Contains-from_dedup _ _ n there),
-      λ there. Contains-dedup_nat _ n (Contains-permutation _ _ n moved there),
-    )
+returns-clause-same c =
+    subst (λ (ns : List ℕ). IfOk c.of.result (λ s. (n : ℕ) → Contains s n ↔ Contains ns n)) (c.deref.ensures.value ∙ c.in_ok-numbers.ensures) c.of.ensures.same

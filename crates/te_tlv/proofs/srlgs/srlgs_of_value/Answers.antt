@@ -1,11 +1,8 @@
-use Rattle.std.proofs.Common.{arith, ◌∙◌}
-use Rattle.te_tlv.proofs.Rising.{srlgs_are, too_many}
+use Rattle.std.proofs.Common.{◌<◌, arith, length, ap}
+use Rattle.te_tlv.proofs.Rising.{too_many}
 use Rattle.te_tlv.proofs.srlgs.srlgs_of_value.Goals as goal
 
-pub returns-then-len-gt-MOST_SRLGS-clause-not_message : goal.returns-then-len-gt-MOST_SRLGS-clause-not_message
-returns-then-len-gt-MOST_SRLGS-clause-not_message c is s are =
-    too_many c.args.value.now c.in-Ok.numbers.items s c.in-Ok.ensures.rising c.in-Ok.ensures.same (omega (arith, c.in-Ok.numbers.ok.0)) are
-
-pub returns-in-Ok-listed-clause-found : goal.returns-in-Ok-listed-clause-found
-returns-in-Ok-listed-clause-found c =
-    srlgs_are c.args.value.now c.in-Ok.numbers.items c.in-Ok-listed.srlgs c.if-value-ne0.false c.in-Ok.ensures.rising c.in-Ok.ensures.same (omega (arith, c.in-Ok.numbers.ok.0)) (c.in-Ok-listed.ensures ∙ c.deref.ensures.value)
+pub returns-then-items-gt-MOST_SRLGS-clause-not_message : goal.returns-then-items-gt-MOST_SRLGS-clause-not_message
+returns-then-items-gt-MOST_SRLGS-clause-not_message c is s are =
+    let many : 16 < length c.in-Ok.srlgs = omega (arith, ap length c.items.ensures) in
+    too_many c.args.value.now c.in-Ok.srlgs s c.in-Ok.ensures.rising c.in-Ok.ensures.same many are

@@ -1,7 +1,7 @@
 use Rattle.std.proofs.Common.{ap, sym, ◌∙◌, ◌+◌, ℕ, length, List}
 use Rattle.te_tlv.specs.Written.{link_body, srlgs_tlv}
 use Rattle.te_tlv.proofs.Lengths.{length-body, tlv_pushed}
-use Rattle.te_tlv.proofs.writing.write_row.Goals as goal
+use Rattle.te_tlv.proofs.writing.row_bytes.Goals as goal
 
 pub returns : goal.returns
 returns c =
