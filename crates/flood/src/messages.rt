@@ -1,15 +1,17 @@
 //! Flood messages and their bytes.
 
-ghost use Rattle.std.specs.Prelude.{◌≡◌, ◌≤◌, ◌+◌, ◌++◌, drop, length, IfOk, IsErrOf, OnOk};
+ghost use Rattle.std.specs.Prelude.{◌≡◌, ◌<◌, ◌≤◌, ◌+◌, ◌^◌, ◌++◌, drop, length, IfOk, IsErrOf, OnOk};
 ghost use Rattle.byteorder.specs.Endian.{big_bytes, big_number};
 ghost use Rattle.ason_base.specs.declared.network.TeRow.{TeRow};
 ghost use Rattle.flood.specs.declared.messages.FloodMsg.{FloodMsg};
-ghost use Rattle.flood.specs.Messages.{CanBeWritten, SpellsFlood, flood_bytes};
+ghost use Rattle.flood.specs.Messages.{CanBeWritten, FitsEnvelope, SpellsFlood, flood_bytes};
 ghost use Rattle.te_tlv.specs.Rows.{SpellsRow};
 
+use crate::laws::floods_come_back;
 use ason_base::{DecodeError, NodeId, OutOfMemory, TeRow};
 use byteorder::{BigEndian, ByteOrder};
 use std::alloc::Global;
+use te_tlv::writing::row_fits;
 use te_tlv::{read_row, write_row};
 use wire_buf::{push_u8, push_u24, push_u32};
 
@@ -91,8 +93,31 @@ fn push_head(out: &mut Vec<u8>, kind: u8, number: u32) -> Result<(), OutOfMemory
     push_u32(out, number)
 }
 
-/// The bytes of a flood message, with zeros where nothing reads.
-pub fn encode_flood(alloc: Global, m: &FloodMsg) -> Result<Vec<u8>, OutOfMemory>
+// Laws: what the types of a flood message say of its numbers. Calling them changes nothing.
+
+fn number_fits(n: u32)
+    ensures { n < 2 ^ 32 }
+{}
+
+fn message_fits(m: &FloodMsg)
+    ensures { FitsEnvelope m.now }
+{
+    match m {
+        FloodMsg::Ack { number } => number_fits(*number),
+        FloodMsg::Row {
+            number,
+            origin,
+            row,
+        } => {
+            number_fits(*number);
+            number_fits(origin.0);
+            row_fits(row);
+        }
+    }
+}
+
+// The bytes of a flood message.
+fn message_bytes(alloc: Global, m: &FloodMsg) -> Result<Vec<u8>, OutOfMemory>
     requires { CanBeWritten m.now }
     ensures { IfOk result (λ bytes. bytes.items ≡ flood_bytes m.now) }
 {
@@ -113,4 +138,16 @@ pub fn encode_flood(alloc: Global, m: &FloodMsg) -> Result<Vec<u8>, OutOfMemory>
         }
     }
     Ok(bytes)
+}
+
+/// The bytes of a flood message, with zeros where nothing reads.
+pub fn encode_flood(alloc: Global, m: &FloodMsg) -> Result<Vec<u8>, OutOfMemory>
+    requires { CanBeWritten m.now }
+    ensures written { IfOk result (λ bytes. bytes.items ≡ flood_bytes m.now) }
+    // What is written is read as the message again.
+    ensures spelled { IfOk result (λ bytes. SpellsFlood bytes.items m.now) }
+{
+    floods_come_back();
+    message_fits(m);
+    message_bytes(alloc, m)
 }
