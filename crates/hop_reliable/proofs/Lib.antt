@@ -6,3 +6,5 @@ pub mod Taking
 pub mod Schedule
 pub mod Intervals
 pub mod Order
+pub mod Shorter
+pub mod Waiting

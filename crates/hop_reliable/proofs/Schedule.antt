@@ -11,7 +11,7 @@ use Rattle.hop_reliable.proofs.Flow.{IsOwn, AcksUpTo, Has, Flow}
 use Rattle.hop_reliable.proofs.Sending.{flow-sends_from, flow-sends_to, flow-ticks_from, flow-ticks_to}
 use Rattle.hop_reliable.proofs.Taking.{flow-takes_from, flow-takes_to}
 
-record Flows (s : HopPair) : Type 0 where
+pub record Flows (s : HopPair) : Type 0 where
   pub eastward : Flow s.west s.east
   pub westward : Flow s.east s.west
 
@@ -52,7 +52,7 @@ flows-after : (s : HopPair) (es : List Happening) → Flows s → Flows (after s
 flows-after s [] f = f
 flows-after s (e ∷ es) f = flows-after (happens s e) es (flows-happens s e f)
 
-flows-run : (es : List Happening) → Flows (after start es)
+pub flows-run : (es : List Happening) → Flows (after start es)
 flows-run es = flows-after start es (record { eastward = flow-idle; westward = flow-idle })
 
 -- What follows.

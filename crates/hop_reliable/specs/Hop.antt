@@ -99,8 +99,11 @@ handed_up_of Unnumbered p = []
 handed_up_of Ahead p = []
 handed_up_of Repeat p = []
 
+abbrev pub ack_of_id : Option MsgId → Packet
+ack_of_id id = record { id = None; acks = option_to_list id; body = None }
+
 abbrev pub ack_of : Packet → Packet
-ack_of p = record { id = None; acks = option_to_list p.id; body = None }
+ack_of p = ack_of_id p.id
 
 -- What answers a packet that was heard so: an acknowledgement of its number where it is handed up, or had been before.
 -- One that is ahead counts as lost and isn't answered.

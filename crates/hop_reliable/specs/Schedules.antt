@@ -1,5 +1,5 @@
 -- Two ends of a hop over a channel that loses, repeats and reorders, and what holds under every schedule.
-use Rattle.std.specs.Prelude.{◌<◌, AllPairs, ◌≡◌, ℕ, ◌+◌, ◌≤◌, Option, Some, None, List, [], ◌∷◌, ◌++◌, length, slice_get, Any}
+use Rattle.std.specs.Prelude.{◌<◌, AllPairs, ◌≡◌, ℕ, ◌+◌, ◌≤◌, nat_lt, Option, Some, None, List, [], ◌∷◌, ◌++◌, length, drop, filter, map, slice_get, Any}
 use Rattle.ason_base.specs.declared.messages.Msg.{Msg}
 use Rattle.ason_base.specs.declared.messages.Packet.{Packet}
 use Rattle.hop_reliable.specs.Hop.{HopState, fresh, numbered, sent_message, ticked, resent, heard_as, received, handed_up_of, answers_to}
@@ -79,6 +79,18 @@ IsKept sender receiver =
 abbrev pub IsSettled : HopEnd → HopEnd → Type 0
 IsSettled sender receiver = sender.hop.unacked ≡ [] → receiver.up ≡ sender.given
 
+-- what was given beyond what was handed up, in order
+abbrev pub under_way : HopEnd → HopEnd → List Msg
+under_way sender receiver = drop (length receiver.up) sender.given
+
+-- the unacknowledged messages that aren't handed up, in order of number
+abbrev pub waiting : HopEnd → HopEnd → List Msg
+waiting sender receiver = map (λ w. w.msg) (filter (λ w. nat_lt (length receiver.up) w.number) sender.hop.unacked)
+
+-- what was given beyond what was handed up is what waits
+abbrev pub IsWaiting : HopEnd → HopEnd → Type 0
+IsWaiting sender receiver = under_way sender receiver ≡ waiting sender receiver
+
 abbrev pub HandedUpInOrder : Type 0
 HandedUpInOrder = (schedule : List Happening) → BothWays IsInOrder (after start schedule)
 
@@ -87,6 +99,9 @@ NothingIsLost = (schedule : List Happening) → BothWays IsKept (after start sch
 
 abbrev pub SettledIsDelivered : Type 0
 SettledIsDelivered = (schedule : List Happening) → BothWays IsSettled (after start schedule)
+
+abbrev pub UnderWayIsWaiting : Type 0
+UnderWayIsWaiting = (schedule : List Happening) → BothWays IsWaiting (after start schedule)
 
 -- the unacknowledged messages stand in order of number, so what a tick sends again does too
 abbrev pub IsRising : HopEnd → Type 0

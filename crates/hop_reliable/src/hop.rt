@@ -1,6 +1,6 @@
 //! One end of a hop.
 
-ghost use Rattle.std.specs.Prelude.{◌≡◌, ◌+◌, ◌-◌, ◌<◌, ◌^◌, IfOk, OnErr, OnOk, length};
+ghost use Rattle.std.specs.Prelude.{◌≡◌, ◌+◌, ◌-◌, ◌<◌, ◌≤◌, ◌^◌, IfOk, OnErr, OnOk, length};
 ghost use Rattle.hop_reliable.specs.Hop.{fresh, heard_as, numbered, received, resent, sent_message, ticked};
 
 use crate::heard::{Heard, heard_as};
@@ -19,11 +19,14 @@ pub struct Hop {
 }
 
 impl Model for Hop {
+    ghost use Rattle.std.specs.Prelude.{◌≤◌, length};
     ghost use Rattle.hop_reliable.specs.Hop.{HopState};
 
     ghost Value = { HopState };
 
     ghost view = { λ h. record { sent = h.sent; handed_up = h.handed_up; unacked = h.unacked.items } };
+
+    ghost invariant = { λ h. length h.unacked.items ≤ h.sent };
 }
 
 impl Hop {
@@ -70,7 +73,7 @@ impl Hop {
     }
 
     /// Takes off each message that the packet acknowledges in epoch 1, and tells what the packet is. At `Next` its message
-    /// is handed up. `Next` and `Repeat` are to be answered by an acknowledgement of the packet's number.
+    /// is handed up. `Heard::answer` makes what answers the packet.
     pub fn receive(&mut self, p: &Packet) -> Heard
         ensures heard { result ≡ heard_as self.old p.now }
         ensures state { self.new ≡ received self.old p.now }
@@ -94,9 +97,10 @@ impl Hop {
         Ok(due)
     }
 
-    /// How many messages are unacknowledged.
+    /// How many messages are unacknowledged: at most those that were sent.
     pub fn pending(&self) -> usize
-        ensures { result ≡ length self.now.unacked }
+        ensures count { result ≡ length self.now.unacked }
+        ensures most { result ≤ self.now.sent }
     {
         self.unacked.len()
     }
@@ -112,7 +116,7 @@ impl Hop {
 #[cfg(test)]
 mod tests {
     use super::*;
-    use ason_base::{Ids, LinkId, Lsp, MsgId, NodeId};
+    use ason_base::{LinkId, Lsp, MsgId, NodeId};
     use std::test::Fail;
 
     fn tear(tunnel: u16) -> Msg {
@@ -156,26 +160,19 @@ mod tests {
             let want = usize::from([1, 3, 7, 67, 127].contains(&tick));
             assert_eq!(rt; due, want, "at tick {tick}");
         }
-        let mut acks = Ids::new(rt.alloc());
-        acks.push(MsgId {
-            epoch: 1,
-            number: 1,
-        })?;
-        let ack = Packet {
-            id: None,
-            acks,
-            body: None,
-        };
+        let heard = Hop::new(rt.alloc()).receive(&first);
+        let ack = heard.answer(rt.alloc(), &first)?.ok_or("not answered")?;
+        assert_eq!(rt;
+            ack.acks.items(),
+            [MsgId {
+                epoch: 1,
+                number: 1,
+            }]
+            .as_slice()
+        );
         assert_eq!(rt; (same.sent(), same.pending()), (1, 1));
         assert_eq!(rt; same.receive(&ack), Heard::Acked);
         assert_eq!(rt; (same.sent(), same.pending()), (1, 0));
-        assert_eq!(rt;
-            first.id,
-            Some(MsgId {
-                epoch: 1,
-                number: 1
-            })
-        );
         Ok(())
     }
 }
