@@ -17,7 +17,8 @@ use Rattle.rsvp_objects.specs.Bodies.{request_bytes}
 use Rattle.rsvp_objects.specs.LabelSets.{among, label_set_bytes, or_zero}
 use Rattle.rsvp_objects.proofs.Labels.{labels_bytes-length}
 use Rattle.rsvp_messages.specs.Objects.{Object, size_of}
-use Rattle.rsvp_messages.specs.Writable.{IsWritable, IsWritableMsg, IsWritableRole, IsWritableBody}
+use Rattle.ason_base.specs.Writable.{IsWritableMsg, IsWritableRole}
+use Rattle.rsvp_messages.specs.Writable.{IsWritable, IsWritableBody}
 use Rattle.rsvp_messages.specs.Written.{ack_object, all_bytes, bytes_of, body_objects, header_bytes, id_objects, made, msg_objects, packet_objects, path_end, path_head, protection_object, request_objects, role_objects, route_objects, set_object}
 
 pub length-apart : (xs ys : List Object) → length (all_bytes (xs ++ ys)) ≡ length (all_bytes xs) + length (all_bytes ys)

@@ -10,3 +10,4 @@ pub mod Moves
 pub mod Whole
 pub mod Spelled
 pub mod Packed
+pub mod Rewritable

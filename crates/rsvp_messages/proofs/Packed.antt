@@ -20,7 +20,8 @@ use Rattle.rsvp_objects.specs.LabelSets.{label_set_bytes}
 use Rattle.rsvp_messages.specs.Objects.{Object, may_stand, of_class}
 use Rattle.rsvp_messages.specs.Packets.{HasAcks, Spells, SpellsBody, type_of}
 use Rattle.rsvp_messages.specs.Parts.{AreEach, HasAtMostOne}
-use Rattle.rsvp_messages.specs.Writable.{Fits, FitsId, FitsMsg, IsShort, IsWritable, IsWritableBody, IsWritableMsg, IsWritableRole}
+use Rattle.ason_base.specs.Writable.{IsWritableMsg, IsWritableRole}
+use Rattle.rsvp_messages.specs.Writable.{Fits, FitsId, FitsMsg, IsShort, IsWritable, IsWritableBody}
 use Rattle.rsvp_messages.specs.Written.{ack_object, all_bytes, body_objects, id_objects, made, msg_objects, packet_objects, path_end, request_objects, role_objects, route_objects, written}
 use Rattle.rsvp_messages.proofs.Lengths.{packet-few, set-few, set-length}
 use Rattle.rsvp_messages.proofs.Moves.{SameOthers, move_msg}

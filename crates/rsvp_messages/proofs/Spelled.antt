@@ -27,7 +27,8 @@ use Rattle.rsvp_recovery.specs.Bodies.{IsAssociation, IsProtection, association_
 use Rattle.rsvp_messages.specs.Messages.{HasRole, HasRoute, HasSet, NamesLsp, SpellsMsg, allows, is_removed}
 use Rattle.rsvp_messages.specs.Objects.{Object, of_class}
 use Rattle.rsvp_messages.specs.Parts.{AreEach, HasAtMostOne, HasOne}
-use Rattle.rsvp_messages.specs.Writable.{FitsLsp, FitsMsg, FitsRole, IsLabelNumber, IsWritableMsg, IsWritableRole}
+use Rattle.ason_base.specs.Writable.{IsWritableMsg, IsWritableRole}
+use Rattle.rsvp_messages.specs.Writable.{FitsLsp, FitsMsg, FitsRole, IsLabelNumber}
 use Rattle.rsvp_messages.specs.Written.{flags_of, hop_object, made, msg_objects, path_end, protection_of, request_objects, role_objects, route_objects, sender_object, sender_tspec, session_object, upstream_objects}
 
 -- what the crates of objects say of each body that they write

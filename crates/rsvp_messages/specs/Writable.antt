@@ -8,24 +8,12 @@ use Rattle.ason_base.specs.declared.messages.MsgId.{MsgId}
 use Rattle.ason_base.specs.declared.messages.Packet.{Packet}
 use Rattle.ason_base.specs.declared.messages.PathRole.{PathRole}
 use Rattle.ason_base.specs.declared.messages.PathRole.TheVariants.{Work, Back}
+use Rattle.ason_base.specs.Writable.{IsWritableMsg}
 use Rattle.wire_buf.specs.Routes.{HasIds}
 use Rattle.rsvp_objects.specs.LabelSets.{among}
 
 abbrev pub IsShort : MsgId → Type 0
 IsShort m = m.epoch < 2 ^ 24
-
--- the primary route of a backup isn't empty
-abbrev pub IsWritableRole : PathRole → Type 0
-IsWritableRole (Work guard) = Unit {0}
-IsWritableRole (Back active work primary) = (1 ≤ length primary) × (length primary ≤ 64)
-
--- the set of labels isn't empty
-abbrev pub IsWritableMsg : Msg → Type 0
-IsWritableMsg (Path lsp egress link route set upstream role) = (1 ≤ length set) × (length route ≤ 64) × IsWritableRole role
-IsWritableMsg (Resv lsp egress link label) = Unit {0}
-IsWritableMsg (PathTear lsp egress link) = Unit {0}
-IsWritableMsg (PathErr lsp egress at removed code) = Unit {0}
-IsWritableMsg (Notify lsp egress at link code) = Unit {0}
 
 -- a packet without a body has no number and at least one acknowledgement
 abbrev pub IsWritableBody : Option MsgId → List MsgId → Option Msg → Type 0
@@ -37,6 +25,15 @@ pub record IsWritable (p : Packet) : Type 0 where
   pub acks : All IsShort p.acks
   pub few : length p.acks ≤ 64
   pub body : IsWritableBody p.id p.acks p.body
+
+-- a Path that leaves a label to take, and every other message
+abbrev pub LeavesLabel : Option Msg → Type 0
+LeavesLabel None = Unit {0}
+LeavesLabel (Some (Path lsp egress link route set upstream role)) = 1 ≤ length set
+LeavesLabel (Some (Resv lsp egress link label)) = Unit {0}
+LeavesLabel (Some (PathTear lsp egress link)) = Unit {0}
+LeavesLabel (Some (PathErr lsp egress at removed code)) = Unit {0}
+LeavesLabel (Some (Notify lsp egress at link code)) = Unit {0}
 
 -- What the types of the program say of a packet: each number has its width, a label is one of 1 to 80, and a set of labels is
 -- the rising list of those that it has.

@@ -1,11 +1,12 @@
 //! Laws of whole messages.
 
-ghost use Rattle.std.specs.Prelude.{◌≡◌, ◌<◌, ◌^◌, ℕ, List};
+ghost use Rattle.std.specs.Prelude.{◌≡◌, ◌<◌, ◌^◌, ℕ, List, All, drop};
 ghost use Rattle.ason_base.specs.declared.ids.NodeId.{NodeId};
 ghost use Rattle.ason_base.specs.declared.messages.Packet.{Packet};
-ghost use Rattle.rsvp_messages.specs.Objects.{Object, of_class};
-ghost use Rattle.rsvp_messages.specs.Packets.{Spells, SpellsPacket};
-ghost use Rattle.rsvp_messages.specs.Writable.{Fits, IsWritable};
+ghost use Rattle.rsvp_messages.specs.Headers.{HasHeader};
+ghost use Rattle.rsvp_messages.specs.Objects.{AreObjects, Object, of_class};
+ghost use Rattle.rsvp_messages.specs.Packets.{SpelledBy, Spells, SpellsPacket, type_of};
+ghost use Rattle.rsvp_messages.specs.Writable.{Fits, IsWritable, LeavesLabel};
 ghost use Rattle.rsvp_messages.specs.Written.{written};
 
 use rsvp_objects::error::errors_come_back;
@@ -40,4 +41,15 @@ pub fn packets_come_back()
 /// Objects come in any order: those with the same objects of each class, in order, spell the same packets.
 pub fn order_of_classes_is_free()
     ensures { (os others : List Object) (p : Packet) → ((class : ℕ) → of_class class os ≡ of_class class others) → SpellsPacket os p → SpellsPacket others p }
+{}
+
+/// The same of whole messages: one of that type with the same objects of each class, in order, whose checksum is right or
+/// wasn't sent, spells the same packet.
+pub fn order_of_objects_is_free()
+    ensures { (bytes others : List ℕ) (os moved : List Object) (p : Packet) → SpelledBy bytes os p → HasHeader others (type_of p.body) → AreObjects (drop 8 others) moved → ((class : ℕ) → of_class class os ≡ of_class class moved) → SpelledBy others moved p }
+{}
+
+/// What is read can be written: bytes spell a packet that has a written form, but for a Path whose LABEL_SETs leave no label.
+pub fn what_is_read_can_be_written()
+    ensures { (bytes : List ℕ) (p : Packet) → All (λ b. b < 2 ^ 8) bytes → Spells bytes p → LeavesLabel p.body → IsWritable p }
 {}

@@ -8,7 +8,7 @@ ghost use Rattle.rsvp_recovery.specs.declared.protection.Protection.{Protection}
 ghost use Rattle.rsvp_messages.specs.Messages.{HasProtection, HasRole, Ties};
 ghost use Rattle.rsvp_messages.specs.Parts.{HasOne};
 ghost use Rattle.rsvp_messages.specs.Seen.{all_seen};
-ghost use Rattle.rsvp_messages.specs.Writable.{IsWritableRole};
+ghost use Rattle.ason_base.specs.Writable.{IsWritableRole};
 ghost use Rattle.rsvp_messages.specs.Written.{all_bytes, protection_of, role_objects};
 
 use crate::classes::{ASSOCIATION, PRIMARY_PATH_ROUTE, PROTECTION};

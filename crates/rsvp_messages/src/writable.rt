@@ -1,7 +1,8 @@
 //! Which packets have a written form.
 
 ghost use Rattle.std.specs.Prelude.{◌≡◌, ◌↔◌, false, All, IfSome, IsTrue};
-ghost use Rattle.rsvp_messages.specs.Writable.{IsShort, IsWritable, IsWritableBody, IsWritableMsg, IsWritableRole};
+ghost use Rattle.ason_base.specs.Writable.{IsWritableMsg, IsWritableRole};
+ghost use Rattle.rsvp_messages.specs.Writable.{IsShort, IsWritable, IsWritableBody};
 
 use ason_base::{Msg, MsgId, Packet, PathRole};
 
