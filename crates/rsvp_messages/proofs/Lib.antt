@@ -11,3 +11,4 @@ pub mod Whole
 pub mod Spelled
 pub mod Packed
 pub mod Rewritable
+pub mod Permuted

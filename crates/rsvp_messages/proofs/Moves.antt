@@ -1,5 +1,5 @@
 -- What objects spell depends on the objects of each class alone.
-use Rattle.std.proofs.Common.{◌≡◌, ◌≢◌, ℕ, Option, None, Some, List, [], ◌∷◌, drop, inl, inr, sym, subst, ◌∙◌, arith}
+use Rattle.std.proofs.Common.{◌≡◌, ◌≢◌, ℕ, Option, None, Some, List, [], ◌∷◌, inl, inr, sym, subst, ◌∙◌, arith}
 use Rattle.ason_base.specs.declared.ids.Lsp.{Lsp}
 use Rattle.ason_base.specs.declared.ids.NodeId.{NodeId}
 use Rattle.ason_base.specs.declared.messages.Msg.{Msg}
@@ -14,9 +14,8 @@ use Rattle.rsvp_objects.specs.Bodies.{IsMsgId}
 use Rattle.rsvp_objects.specs.LabelSets.{IsLabelSet}
 use Rattle.rsvp_recovery.specs.declared.protection.Protection.{Protection}
 use Rattle.rsvp_messages.specs.Messages.{HasError, HasProtection, HasRole, HasRoute, NamesLsp, SpellsMsg}
-use Rattle.rsvp_messages.specs.Headers.{HasHeader}
-use Rattle.rsvp_messages.specs.Objects.{AreObjects, Object, of_class}
-use Rattle.rsvp_messages.specs.Packets.{SpelledBy, SpellsBody, SpellsPacket, type_of}
+use Rattle.rsvp_messages.specs.Objects.{Object, of_class}
+use Rattle.rsvp_messages.specs.Packets.{SpellsBody, SpellsPacket}
 use Rattle.rsvp_messages.specs.Parts.{AreEach, HasAtMostOne, HasEach, HasOne}
 
 -- the same objects of each class that isn't of numbers
@@ -89,6 +88,3 @@ move_packet os new p same h = record {
   acks = (h.acks.0, move_each 24 1 IsMsgId os new p.acks (same 24) h.acks.1);
   body = move_body os new p.id p.acks p.body same h.body;
 }
-
-pub move_message : (bytes others : List ℕ) (os moved : List Object) (p : Packet) → SpelledBy bytes os p → HasHeader others (type_of p.body) → AreObjects (drop 8 others) moved → ((class : ℕ) → of_class class os ≡ of_class class moved) → SpelledBy others moved p
-move_message bytes others os moved p spelled header are same = record { header = header; objects = are; packet = move_packet os moved p same spelled.packet }

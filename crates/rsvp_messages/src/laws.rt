@@ -1,6 +1,7 @@
 //! Laws of whole messages.
 
 ghost use Rattle.std.specs.Prelude.{◌≡◌, ◌<◌, ◌^◌, ℕ, List, All, drop};
+ghost use Rattle.std.specs.List.Sorted.{IsPermutation};
 ghost use Rattle.ason_base.specs.declared.ids.NodeId.{NodeId};
 ghost use Rattle.ason_base.specs.declared.messages.Packet.{Packet};
 ghost use Rattle.rsvp_messages.specs.Headers.{HasHeader};
@@ -43,10 +44,10 @@ pub fn order_of_classes_is_free()
     ensures { (os others : List Object) (p : Packet) → ((class : ℕ) → of_class class os ≡ of_class class others) → SpellsPacket os p → SpellsPacket others p }
 {}
 
-/// The same of whole messages: one of that type with the same objects of each class, in order, whose checksum is right or
-/// wasn't sent, spells the same packet.
+/// The objects of a whole message come in any order: one of that type with the same objects in another order, whose checksum
+/// is right or wasn't sent, spells the same packet. Acknowledgements are a list, so their order is that of the packet.
 pub fn order_of_objects_is_free()
-    ensures { (bytes others : List ℕ) (os moved : List Object) (p : Packet) → SpelledBy bytes os p → HasHeader others (type_of p.body) → AreObjects (drop 8 others) moved → ((class : ℕ) → of_class class os ≡ of_class class moved) → SpelledBy others moved p }
+    ensures { (bytes others : List ℕ) (os moved : List Object) (p : Packet) → SpelledBy bytes os p → HasHeader others (type_of p.body) → AreObjects (drop 8 others) moved → IsPermutation os moved → of_class 24 os ≡ of_class 24 moved → SpelledBy others moved p }
 {}
 
 /// What is read can be written: bytes spell a packet that has a written form, but for a Path whose LABEL_SETs leave no label.
