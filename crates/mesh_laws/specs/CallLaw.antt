@@ -27,8 +27,7 @@ phase_of None = None
 phase_of (Some g) = Some g.phase
 
 -- The state of a call with the phases of its working and its backup leg, none where no leg stands. These are all that
--- the
--- rules give: no call has a backup leg, and none is in another state.
+-- the rules give: no call has a backup leg, and none is in another state.
 abbrev pub fits : CallState → Option Phase → Option Phase → Bool
 fits Asking (Some Asked) None = true
 fits Bare (Some Live) None = true
@@ -64,8 +63,7 @@ abbrev pub IsOfOneCall : List CallRec → Leg → Type 0
 IsOfOneCall calls g = count_by (λ c. names c g.lsp) calls ≡ 1
 
 -- At one node: the calls stand in order of number, no number twice; each fits its legs; and each leg that begins here
--- and isn't
--- torn is of just one call.
+-- and isn't torn is of just one call.
 pub record CallsFit (n : ℕ) (s : NodeState) : Type 0 where
   pub rising : AllPairs (λ c d. c.call.0 < d.call.0) s.calls
   pub calls : All (FitsLegs n s.lsp s.legs) s.calls

@@ -18,8 +18,7 @@ use Rattle.mesh_rules.specs.Events.{IsRun, after, route_of}
 use Rattle.mesh_laws.specs.HopLaw.{leg_at}
 
 -- Over the link of this step the LSP is joined: its legs at both ends are Live, and the label out of the one is the
--- label in
--- of the other, on the link's fibre.
+-- label in of the other, on the link's fibre.
 pub record HopIsJoined (t : Network) (s : Mesh) (l : Lsp) (hop : Step) : Type 0 where
   pub link : LinkSpec
   pub found : find_link t hop.link ≡ Some link

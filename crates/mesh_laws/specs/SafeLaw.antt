@@ -16,11 +16,12 @@ StandsAt s None g = ⊥
 StandsAt s (Some n) g = Contains (s.nodes n.0).legs g
 
 -- A Live leg has this label of this fibre: as its label in at the node into which the fibre leads, or as its label out
--- at the
--- node from which it leads.
+-- at the node from which it leads.
 pub record Connects (t : Network) (s : Mesh) (f : Fibre) (x : ℕ) (g : Leg) : Type 0 where
   pub live : g.phase ≡ Live
-  pub at_an_end : (StandsAt s (receiver_of t f) g × (g.in_fibre ≡ Some f) × (g.in_label ≡ Some x)) ⊎ (StandsAt s (sender_of t f) g × (g.out_fibre ≡ Some f) × (g.out_label ≡ Some x))
+  pub at_an_end :
+      (StandsAt s (receiver_of t f) g × (g.in_fibre ≡ Some f) × (g.in_label ≡ Some x)) ⊎
+      (StandsAt s (sender_of t f) g × (g.out_fibre ≡ Some f) × (g.out_label ≡ Some x))
 
 -- all that is connected for one label of one fibre is of one LSP
 abbrev pub IsSafe : Network → Mesh → Type 0

@@ -38,8 +38,7 @@ abbrev pub HasOut : ℕ → ℕ → Option ℕ → Type 0
 HasOut i n label = i < n → (x : ℕ) × (label ≡ Some x)
 
 -- Which phases come up, for each purpose, at a place of n hops, and the labels in and out in each. A working leg is
--- never
--- Held, Armed or Falling.
+-- never Held, Armed or Falling.
 abbrev pub PhaseFits : Purpose → Phase → ℕ → ℕ → Option ℕ → Option ℕ → Type 0
 PhaseFits q Asked i n enter leave = (i < n) × (enter ≡ None) × (leave ≡ None)
 PhaseFits Carries Held i n enter leave = ⊥

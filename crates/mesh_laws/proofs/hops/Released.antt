@@ -36,8 +36,7 @@ use Rattle.mesh_laws.proofs.hops.Planned.{Planned, Follows, SameOf, follows_same
 use Rattle.mesh_laws.proofs.hops.Quiet.{same_quiet, quiet_then}
 
 -- What a release needs to know of a call: no leg stands of its backup LSP, and the leg of its working LSP begins here
--- and
--- isn't torn.
+-- and isn't torn.
 pub record CallStands (n : ℕ) (s : NodeState) (c : CallRec) : Type 0 where
   pub back : leg_of c.back s.legs ≡ None
   pub work : (l : Lsp) (g : Leg) → c.work ≡ Some l → find_leg l s.legs ≡ Some g →
