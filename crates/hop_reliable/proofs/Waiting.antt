@@ -42,7 +42,9 @@ drop_at (x ∷ xs) zero m e = let same : x ≡ m = cc in ap (λ y. y ∷ xs) sam
 drop_at (x ∷ xs) (suc n) m e = drop_at xs n m e
 
 -- rising messages that are just those from a number on
-from_on : (given : List Msg) (ws : List Unacked) (n : ℕ) → Rises ws → AllByRecursion (Waits given) ws → AllByRecursion (λ w. n < w.number) ws → ((k : ℕ) (m : Msg) → slice_get given k ≡ Some m → n ≤ k → Has (k + 1) m ws) →
+from_on : (given : List Msg) (ws : List Unacked) (n : ℕ) → Rises ws → AllByRecursion (Waits given) ws →
+    AllByRecursion (λ w. n < w.number) ws →
+    ((k : ℕ) (m : Msg) → slice_get given k ≡ Some m → n ≤ k → Has (k + 1) m ws) →
     drop n given ≡ map (λ w. w.msg) ws
 unfolding Rises
 from_on given [] n rising waits past kept =
@@ -62,7 +64,8 @@ from_on given (w ∷ ws) n rising waits past kept =
     first_is next.0 next.1 (kept n next.0 next.1 (omega arith))
     (λ same. from_on given ws (suc n) rising.1 waits.1 (later_past same ws rising.0) (later_kept same))
   where
-    later_past : w.number ≡ n + 1 → (vs : List Unacked) → AllByRecursion (λ v. w.number < v.number) vs → AllByRecursion (λ v. suc n < v.number) vs
+    later_past : w.number ≡ n + 1 → (vs : List Unacked) → AllByRecursion (λ v. w.number < v.number) vs →
+        AllByRecursion (λ v. suc n < v.number) vs
     later_past same [] all = tt
     later_past same (v ∷ vs) all = ((let less : w.number < v.number = all.0 in omega arith), later_past same vs all.1)
 
@@ -72,15 +75,18 @@ from_on given (w ∷ ws) n rising waits past kept =
       | inr later ↦ later
     ]
 
-    first_is : (m : Msg) → slice_get given n ≡ Some m → Has (n + 1) m (w ∷ ws) → (w.number ≡ n + 1 → drop (suc n) given ≡ map (λ v. v.msg) ws) → drop n given ≡ w.msg ∷ map (λ v. v.msg) ws
-    first_is m there (inl here) rest = drop_at given n m there ∙ ap (λ y. y ∷ drop (suc n) given) (sym here.1) ∙ ap (λ ms. w.msg ∷ ms) (rest here.0)
+    first_is : (m : Msg) → slice_get given n ≡ Some m → Has (n + 1) m (w ∷ ws) →
+        (w.number ≡ n + 1 → drop (suc n) given ≡ map (λ v. v.msg) ws) → drop n given ≡ w.msg ∷ map (λ v. v.msg) ws
+    first_is m there (inl here) rest =
+        drop_at given n m there ∙ ap (λ y. y ∷ drop (suc n) given) (sym here.1) ∙ ap (λ ms. w.msg ∷ ms) (rest here.0)
     first_is m there (inr later) rest =
         let less : n < w.number = past.0 in
         let behind : w.number < n + 1 = above w.number (n + 1) m ws rising.0 later in
         absurd (omega arith)
 
 -- what passes a test
-each-filter : (P : Unacked → Type 0) (p : Unacked → Bool) (ws : List Unacked) → AllByRecursion P ws → AllByRecursion P (filter p ws)
+each-filter : (P : Unacked → Type 0) (p : Unacked → Bool) (ws : List Unacked) → AllByRecursion P ws →
+    AllByRecursion P (filter p ws)
 each-filter P p [] all = tt
 each-filter P p (w ∷ ws) all = go (p w) (each-filter P p ws all.1)
   where
@@ -92,7 +98,9 @@ passes : (n : ℕ) (ws : List Unacked) → AllByRecursion (λ w. n < w.number) (
 passes n [] = tt
 passes n (w ∷ ws) = go (nat_lt n w.number) refl (passes n ws)
   where
-    go : (b : Bool) → nat_lt n w.number ≡ b → AllByRecursion (λ v. n < v.number) (filter (λ v. nat_lt n v.number) ws) → AllByRecursion (λ v. n < v.number) (cond b (w ∷ filter (λ v. nat_lt n v.number) ws) (filter (λ v. nat_lt n v.number) ws))
+    go : (b : Bool) → nat_lt n w.number ≡ b → AllByRecursion (λ v. n < v.number) (filter (λ v. nat_lt n v.number) ws) →
+        AllByRecursion (λ v. n < v.number)
+        (cond b (w ∷ filter (λ v. nat_lt n v.number) ws) (filter (λ v. nat_lt n v.number) ws))
     go true e left = ((let less : n < w.number = grind arith in less), left)
     go false e left = left
 
@@ -100,7 +108,9 @@ has-filter : (n q : ℕ) (m : Msg) (ws : List Unacked) → n < q → Has q m ws 
 has-filter n q m [] less there = there
 has-filter n q m (w ∷ ws) less there = go (nat_lt n w.number) refl there (has-filter n q m ws less)
   where
-    go : (b : Bool) → nat_lt n w.number ≡ b → Has q m (w ∷ ws) → (Has q m ws → Has q m (filter (λ v. nat_lt n v.number) ws)) → Has q m (cond b (w ∷ filter (λ v. nat_lt n v.number) ws) (filter (λ v. nat_lt n v.number) ws))
+    go : (b : Bool) → nat_lt n w.number ≡ b → Has q m (w ∷ ws) →
+        (Has q m ws → Has q m (filter (λ v. nat_lt n v.number) ws)) →
+        Has q m (cond b (w ∷ filter (λ v. nat_lt n v.number) ws) (filter (λ v. nat_lt n v.number) ws))
     go true e (inl here) later = inl here
     go true e (inr behind) later = inr (later behind)
     go false e (inl here) later = let is : w.number ≡ q = here.0 in absurd (grind arith)
@@ -109,14 +119,18 @@ has-filter n q m (w ∷ ws) less there = go (nat_lt n w.number) refl there (has-
 flow-waiting : (x y : HopEnd) → IsRising x → Flow x y → IsWaiting x y
 flow-waiting x y rising f =
     let n : ℕ = length y.up in
-    let shown : length y.up ≡ y.hop.handed_up = ap length f.prefix ∙ length-take_within x.given y.hop.handed_up f.within in
+    let shown : length y.up ≡ y.hop.handed_up =
+    ap length f.prefix ∙ length-take_within x.given y.hop.handed_up f.within in
     let test : Unacked → Bool = λ w. nat_lt (length y.up) w.number in
-    from_on x.given (filter test x.hop.unacked) (length y.up) (rises (filter test x.hop.unacked) (AllPairs-filter (λ v w. v.number < w.number) test x.hop.unacked rising))
+    from_on x.given (filter test x.hop.unacked) (length y.up)
+    (rises (filter test x.hop.unacked) (AllPairs-filter (λ v w. v.number < w.number) test x.hop.unacked rising))
     (each-filter (Waits x.given) test x.hop.unacked f.waiting) (passes (length y.up) x.hop.unacked)
     (λ k m there far. has-filter (length y.up) (k + 1) m x.hop.unacked (omega arith) (f.kept k m there (omega arith)))
 
 pub under_way_is_waiting : UnderWayIsWaiting
 under_way_is_waiting es =
     let f : Flows (after start es) = flows-run es in
-    let r = unacked_rise es in
-    (flow-waiting (after start es).west (after start es).east r.0 f.eastward, flow-waiting (after start es).east (after start es).west r.1 f.westward)
+    let r = unacked_rise es in (
+      flow-waiting (after start es).west (after start es).east r.0 f.eastward,
+      flow-waiting (after start es).east (after start es).west r.1 f.westward,
+    )

@@ -7,7 +7,6 @@ use Rattle.byteorder.specs.Endian.{big_number}
 use Rattle.ason_base.specs.declared.messages.Msg.{Msg}
 use Rattle.ason_base.specs.declared.messages.Msg.TheVariants.{Path, Resv, PathTear, PathErr, Notify}
 use Rattle.ason_base.specs.declared.messages.MsgId.{MsgId}
-use Rattle.ason_base.specs.declared.messages.Packet.{Packet}
 use Rattle.ason_base.specs.declared.messages.PathRole.{PathRole}
 use Rattle.ason_base.specs.declared.messages.PathRole.TheVariants.{Work, Back}
 use Rattle.ason_base.specs.declared.steps.Step.{Step}
@@ -15,19 +14,23 @@ use Rattle.ason_base.specs.Writable.{IsWritableMsg, IsWritableRole}
 use Rattle.rsvp_objects.specs.Bodies.{IsMsgId}
 use Rattle.rsvp_messages.specs.Messages.{HasRole, HasRoute, SpellsMsg}
 use Rattle.rsvp_messages.specs.Objects.{AreObjects, Object, of_class, size_of}
-use Rattle.rsvp_messages.specs.Packets.{SpellsBody, Spells}
+use Rattle.rsvp_messages.specs.Packets.{SpellsBody}
 use Rattle.rsvp_messages.specs.Parts.{AreEach, HasAtMostOne}
-use Rattle.rsvp_messages.specs.Writable.{IsShort, IsWritable, IsWritableBody, LeavesLabel}
+use Rattle.rsvp_messages.specs.Writable.{IsShort, IsWritableBody, LeavesLabel, ReadIsWritable}
 
 -- Bytes
 
 record HasBytes (o : Object) : Type 0 where
   pub body : All (λ b. b < 2 ^ 8) o.body
 
-objects_bytes : (bytes : List ℕ) (os : List Object) → All (λ b. b < 2 ^ 8) bytes → AreObjects bytes os → AllByRecursion HasBytes os
+objects_bytes : (bytes : List ℕ) (os : List Object) → All (λ b. b < 2 ^ 8) bytes → AreObjects bytes os →
+    AllByRecursion HasBytes os
 objects_bytes bytes [] all are = tt
 objects_bytes bytes (o ∷ os) all are = (
-  record { body = subst (λ (l : List ℕ). All (λ b. b < 2 ^ 8) l) (sym are.0.body) (All-take (λ b. b < 2 ^ 8) (length o.body) (drop 4 bytes) (All-drop (λ b. b < 2 ^ 8) 4 bytes all)) },
+  record {
+    body = subst (λ (l : List ℕ). All (λ b. b < 2 ^ 8) l) (sym are.0.body)
+        (All-take (λ b. b < 2 ^ 8) (length o.body) (drop 4 bytes) (All-drop (λ b. b < 2 ^ 8) 4 bytes all));
+  },
   objects_bytes (drop (size_of o) bytes) os (All-drop (λ b. b < 2 ^ 8) (size_of o) bytes all) are.1,
 )
 
@@ -35,7 +38,8 @@ class_bytes : (class : ℕ) (os : List Object) → AllByRecursion HasBytes os �
 class_bytes class [] all = tt
 class_bytes class (o ∷ os) all = go (nat_eq o.class class) (class_bytes class os all.1)
   where
-    go : (b : Bool) → AllByRecursion HasBytes (of_class class os) → AllByRecursion HasBytes (cond b (o ∷ of_class class os) (of_class class os))
+    go : (b : Bool) → AllByRecursion HasBytes (of_class class os) →
+        AllByRecursion HasBytes (cond b (o ∷ of_class class os) (of_class class os))
     go true left = (all.0, left)
     go false left = left
 
@@ -56,18 +60,21 @@ three xs all =
 short : (body : List ℕ) (m : MsgId) → All (λ b. b < 2 ^ 8) body → IsMsgId body m → IsShort m
 short body m all is =
     let epoch : m.epoch ≡ big_number 3 (drop 1 body) = ap (λ (x : MsgId). x.epoch) is.1 in
-    let small : big_number 3 (drop 1 body) < 2 ^ 24 = three (drop 1 body) (λ k. byte_or_none (drop 1 body) k (All-drop (λ b. b < 2 ^ 8) 1 body all)) in
+    let small : big_number 3 (drop 1 body) < 2 ^ 24 =
+    three (drop 1 body) (λ k. byte_or_none (drop 1 body) k (All-drop (λ b. b < 2 ^ 8) 1 body all)) in
     omega arith
 
 -- Numbers
 
-id_short : (os : List Object) (id : Option MsgId) → AllByRecursion HasBytes os → HasAtMostOne 23 1 IsMsgId os id → IfSome id IsShort
+id_short : (os : List Object) (id : Option MsgId) → AllByRecursion HasBytes os → HasAtMostOne 23 1 IsMsgId os id →
+    IfSome id IsShort
 id_short os None all has = tt
 id_short os (Some m) all has =
     let one = subst (λ (l : List Object). AllByRecursion HasBytes l) has.one (class_bytes 23 os all) in
     short has.body m one.0.body has.means
 
-each_short : (os : List Object) (acks : List MsgId) → AllByRecursion HasBytes os → AreEach 1 IsMsgId os acks → AllByRecursion IsShort acks
+each_short : (os : List Object) (acks : List MsgId) → AllByRecursion HasBytes os → AreEach 1 IsMsgId os acks →
+    AllByRecursion IsShort acks
 each_short [] [] all are = tt
 each_short [] (m ∷ acks) all are = absurd are
 each_short (o ∷ os) [] all are = absurd are
@@ -84,26 +91,31 @@ route_short os [] has = omega arith
 route_short os (s ∷ ss) has = has.means.1
 
 msg_writable : (os : List Object) (m : Msg) → SpellsMsg os m → LeavesLabel (Some m) → IsWritableMsg m
-msg_writable os (Path l e k route set u role) spells leaves = (leaves, route_short os route spells.has_route, role_writable os role spells.has_role)
+msg_writable os (Path l e k route set u role) spells leaves =
+    (leaves, route_short os route spells.has_route, role_writable os role spells.has_role)
 msg_writable os (Resv l e k x) spells leaves = tt
 msg_writable os (PathTear l e k) spells leaves = tt
 msg_writable os (PathErr l e at removed code) spells leaves = tt
 msg_writable os (Notify l e at k code) spells leaves = tt
 
-body_writable : (os : List Object) (id : Option MsgId) (acks : List MsgId) (body : Option Msg) → SpellsBody os id acks body → LeavesLabel body → IsWritableBody id acks body
+body_writable : (os : List Object) (id : Option MsgId) (acks : List MsgId) (body : Option Msg) →
+    SpellsBody os id acks body → LeavesLabel body → IsWritableBody id acks body
 body_writable os id acks None spells leaves = spells
 body_writable os id acks (Some m) spells leaves = msg_writable os m spells.1 leaves
 
-body_short : (os : List Object) (id : Option MsgId) (acks : List MsgId) (body : Option Msg) → AllByRecursion HasBytes os → SpellsBody os id acks body → IfSome id IsShort
+body_short : (os : List Object) (id : Option MsgId) (acks : List MsgId) (body : Option Msg) →
+    AllByRecursion HasBytes os → SpellsBody os id acks body → IfSome id IsShort
 body_short os id acks None all spells = subst (λ (i : Option MsgId). IfSome i IsShort) (sym spells.0) tt
 body_short os id acks (Some m) all spells = id_short os id all spells.0
 
-pub read_writable : (bytes : List ℕ) (p : Packet) → All (λ b. b < 2 ^ 8) bytes → Spells bytes p → LeavesLabel p.body → IsWritable p
+pub read_writable : ReadIsWritable
 read_writable bytes p all (os, spelled) leaves =
-    let objects : AllByRecursion HasBytes os = objects_bytes (drop 8 bytes) os (All-drop (λ b. b < 2 ^ 8) 8 bytes all) spelled.objects in
+    let objects : AllByRecursion HasBytes os =
+    objects_bytes (drop 8 bytes) os (All-drop (λ b. b < 2 ^ 8) 8 bytes all) spelled.objects in
     record {
       id = body_short os p.id p.acks p.body objects spelled.packet.body;
-      acks = All-from_recursion IsShort p.acks (each_short (of_class 24 os) p.acks (class_bytes 24 os objects) spelled.packet.acks.1);
+      acks = All-from_recursion IsShort p.acks
+          (each_short (of_class 24 os) p.acks (class_bytes 24 os objects) spelled.packet.acks.1);
       few = spelled.packet.acks.0;
       body = body_writable os p.id p.acks p.body spelled.packet.body leaves;
     }

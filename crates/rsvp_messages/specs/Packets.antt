@@ -1,5 +1,6 @@
 -- What the bytes of a whole message spell.
 use Rattle.std.specs.Prelude.{◌≡◌, ◌≤◌, ℕ, List, length, drop, Option, None, Some}
+use Rattle.std.specs.List.Sorted.{IsPermutation}
 use Rattle.ason_base.specs.declared.messages.Msg.{Msg}
 use Rattle.ason_base.specs.declared.messages.Msg.TheVariants.{Path, Resv, PathTear, PathErr, Notify}
 use Rattle.ason_base.specs.declared.messages.MsgId.{MsgId}
@@ -7,7 +8,7 @@ use Rattle.ason_base.specs.declared.messages.Packet.{Packet}
 use Rattle.rsvp_objects.specs.Bodies.{IsMsgId}
 use Rattle.rsvp_messages.specs.Headers.{HasHeader}
 use Rattle.rsvp_messages.specs.Messages.{SpellsMsg}
-use Rattle.rsvp_messages.specs.Objects.{AreObjects, Object}
+use Rattle.rsvp_messages.specs.Objects.{AreObjects, Object, of_class}
 use Rattle.rsvp_messages.specs.Parts.{HasAtMostOne, HasEach}
 
 -- the types of messages (RFC 2205, section 3.1.1; RFC 2961, section 4.4; RFC 3473, section 4.3); without a message an Ack
@@ -40,3 +41,11 @@ pub record SpelledBy (bytes : List ℕ) (os : List Object) (p : Packet) : Type 0
 
 abbrev pub Spells : List ℕ → Packet → Type 0
 Spells bytes p = (os : List Object) × SpelledBy bytes os p
+
+-- A whole message with its objects in another order spells the same packet, whether its checksum is right or wasn't sent.
+-- Acknowledgements keep theirs, since they are a list.
+abbrev pub ObjectsComeInAnyOrder : Type 0
+ObjectsComeInAnyOrder =
+    (bytes others : List ℕ) (os moved : List Object) (p : Packet) → SpelledBy bytes os p →
+    HasHeader others (type_of p.body) → AreObjects (drop 8 others) moved →
+    IsPermutation os moved → of_class 24 os ≡ of_class 24 moved → SpelledBy others moved p

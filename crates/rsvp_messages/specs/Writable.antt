@@ -11,6 +11,7 @@ use Rattle.ason_base.specs.declared.messages.PathRole.TheVariants.{Work, Back}
 use Rattle.ason_base.specs.Writable.{IsWritableMsg}
 use Rattle.wire_buf.specs.Routes.{HasIds}
 use Rattle.rsvp_objects.specs.LabelSets.{among}
+use Rattle.rsvp_messages.specs.Packets.{Spells}
 
 abbrev pub IsShort : MsgId → Type 0
 IsShort m = m.epoch < 2 ^ 24
@@ -34,6 +35,12 @@ LeavesLabel (Some (Resv lsp egress link label)) = Unit {0}
 LeavesLabel (Some (PathTear lsp egress link)) = Unit {0}
 LeavesLabel (Some (PathErr lsp egress at removed code)) = Unit {0}
 LeavesLabel (Some (Notify lsp egress at link code)) = Unit {0}
+
+-- bytes spell a packet that has a written form, but for a Path that leaves no label
+abbrev pub ReadIsWritable : Type 0
+ReadIsWritable =
+    (bytes : List ℕ) (p : Packet) → All (λ b. b < 2 ^ 8) bytes → Spells bytes p →
+    LeavesLabel p.body → IsWritable p
 
 -- What the types of the program say of a packet: each number has its width, a label is one of 1 to 80, and a set of labels is
 -- the rising list of those that it has.

@@ -1,13 +1,11 @@
 //! Laws of whole messages.
 
-ghost use Rattle.std.specs.Prelude.{◌≡◌, ◌<◌, ◌^◌, ℕ, List, All, drop};
-ghost use Rattle.std.specs.List.Sorted.{IsPermutation};
+ghost use Rattle.std.specs.Prelude.{◌≡◌, ◌<◌, ◌^◌, ℕ, List};
 ghost use Rattle.ason_base.specs.declared.ids.NodeId.{NodeId};
 ghost use Rattle.ason_base.specs.declared.messages.Packet.{Packet};
-ghost use Rattle.rsvp_messages.specs.Headers.{HasHeader};
-ghost use Rattle.rsvp_messages.specs.Objects.{AreObjects, Object, of_class};
-ghost use Rattle.rsvp_messages.specs.Packets.{SpelledBy, Spells, SpellsPacket, type_of};
-ghost use Rattle.rsvp_messages.specs.Writable.{Fits, IsWritable, LeavesLabel};
+ghost use Rattle.rsvp_messages.specs.Objects.{Object, of_class};
+ghost use Rattle.rsvp_messages.specs.Packets.{ObjectsComeInAnyOrder, Spells, SpellsPacket};
+ghost use Rattle.rsvp_messages.specs.Writable.{Fits, IsWritable, ReadIsWritable};
 ghost use Rattle.rsvp_messages.specs.Written.{written};
 
 use rsvp_objects::error::errors_come_back;
@@ -47,10 +45,10 @@ pub fn order_of_classes_is_free()
 /// The objects of a whole message come in any order: one of that type with the same objects in another order, whose checksum
 /// is right or wasn't sent, spells the same packet. Acknowledgements are a list, so their order is that of the packet.
 pub fn order_of_objects_is_free()
-    ensures { (bytes others : List ℕ) (os moved : List Object) (p : Packet) → SpelledBy bytes os p → HasHeader others (type_of p.body) → AreObjects (drop 8 others) moved → IsPermutation os moved → of_class 24 os ≡ of_class 24 moved → SpelledBy others moved p }
+    ensures { ObjectsComeInAnyOrder }
 {}
 
 /// What is read can be written: bytes spell a packet that has a written form, but for a Path whose LABEL_SETs leave no label.
 pub fn what_is_read_can_be_written()
-    ensures { (bytes : List ℕ) (p : Packet) → All (λ b. b < 2 ^ 8) bytes → Spells bytes p → LeavesLabel p.body → IsWritable p }
+    ensures { ReadIsWritable }
 {}
