@@ -48,3 +48,7 @@ pub same_read : {X : Type 0} (xs : List X) (i : ℕ) (x y : X) → i < length xs
 same_read [] i x y below e f = absurd (omega arith)
 same_read (z ∷ xs) zero x y below e f = e ∙ sym f
 same_read (z ∷ xs) (suc i) x y below e f = same_read xs i x y (omega arith) e f
+
+-- a list in which each group is empty is empty
+pub none_of : {X Y : Type 0} (f : X → Y) (p : X → Bool) (x : X) (xs : List X) → p x ≡ true → map f (filter p (x ∷ xs)) ≡ [] → ⊥
+none_of f p x xs here e = absurd (cc (rw here at e))

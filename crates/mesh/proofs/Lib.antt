@@ -1,3 +1,3 @@
 pub mod Firsts
-pub mod SeatPlaces
+pub mod NodePlaces
 pub mod Steps

@@ -7,12 +7,16 @@ use Rattle.std.proofs.lemmas.List.Edits.{remove-append_left}
 use Rattle.std.proofs.lemmas.List.Quantifiers.{position-Some}
 use Rattle.ason_base.specs.declared.ids.NodeId.{NodeId}
 use Rattle.ason_base.specs.declared.ids.CallNo.{CallNo}
+use Rattle.ason_base.specs.declared.commands.Command.{Command}
 use Rattle.ason_base.specs.declared.commands.DeskItem.{DeskItem}
+use Rattle.ason_base.specs.declared.commands.DeskItem.TheVariants.{Order}
 use Rattle.ason_base.specs.declared.messages.Msg.{Msg}
 use Rattle.ason_base.specs.declared.tables.Out.{Out}
 use Rattle.ason_base.specs.Network.{Network}
-use Rattle.mesh_rules.specs.declared.events.MeshEvent.TheVariants.{Take, Desk, Tick}
-use Rattle.mesh.specs.declared.seats.Seat.{Seat}
+use Rattle.mesh_rules.specs.declared.events.MeshEvent.TheVariants.{Take, Desk, Tick, Post}
+use Rattle.node_core.specs.declared.inputs.Input.{Input}
+use Rattle.node_core.specs.declared.inputs.Input.TheVariants as inputs
+use Rattle.node_core.specs.Nodes.{NodeView, answer_to}
 use Rattle.mesh.specs.declared.queues.Waiting.{Waiting}
 use Rattle.mesh.specs.declared.queues.Sent.{Sent}
 use Rattle.mesh_rules.specs.Changes.{Answer, changed}
@@ -21,19 +25,19 @@ use Rattle.mesh_rules.specs.Orders.{on_item, on_tick}
 use Rattle.mesh_rules.specs.Messages.{on_message}
 use Rattle.mesh_rules.specs.Machine.{commit, sent_to, without_first, without_item, with_item}
 use Rattle.mesh_rules.specs.Events.{on_first, on_first_item, step}
-use Rattle.mesh.specs.Kept.{Kept, desk_of, is_between, is_waiting, mail_of, mesh_of, seated, sent_by, tables_at}
-use Rattle.mesh.proofs.Firsts.{filter-other, first_of}
-use Rattle.mesh.proofs.SeatPlaces.{tables_at-seated}
+use Rattle.mesh.specs.Kept.{IsStep, Kept, Seats, acted, desk_of, is_between, is_waiting, mail_of, mesh_of, node_at, put_state, sent_at, sent_by, state_at}
+use Rattle.mesh.proofs.Firsts.{filter-other, first_of, none_of}
+use Rattle.mesh.proofs.NodePlaces.{state_at-put}
 
-abbrev kept : Network → List Seat → List Waiting → List Sent → List CallNo → Kept
-kept t seats desks mail posted = record { network = t; seats = seats; desks = desks; mail = mail; posted = posted }
+abbrev kept : Network → List NodeView → List Waiting → List Sent → List CallNo → Kept
+kept t nodes desks mail posted = record { seats = record { network = t; nodes = nodes }; desks = desks; mail = mail; posted = posted }
 
 -- A rule's answer
 
-nodes_after : (n : NodeId) (a : Answer) (seats : List Seat) (m : ℕ) → tables_at m (seated n (changed (tables_at n.0 seats) a) seats) ≡ cond (nat_eq m n.0) (changed (tables_at m seats) a) (tables_at m seats)
-nodes_after n a seats m = tables_at-seated n m (changed (tables_at n.0 seats) a) seats ∙ go (nat_eq m n.0) refl
+nodes_after : (t : Network) (n : NodeId) (a : Answer) (nodes : List NodeView) (m : ℕ) → state_at m (put_state t n (changed (state_at n.0 nodes) a) nodes) ≡ cond (nat_eq m n.0) (changed (state_at m nodes) a) (state_at m nodes)
+nodes_after t n a nodes m = state_at-put t n m (changed (state_at n.0 nodes) a) nodes ∙ go (nat_eq m n.0) refl
   where
-    go : (b : Bool) → nat_eq m n.0 ≡ b → cond b (changed (tables_at n.0 seats) a) (tables_at m seats) ≡ cond b (changed (tables_at m seats) a) (tables_at m seats)
+    go : (b : Bool) → nat_eq m n.0 ≡ b → cond b (changed (state_at n.0 nodes) a) (state_at m nodes) ≡ cond b (changed (state_at m nodes) a) (state_at m nodes)
     go true e = let same : m ≡ n.0 = grind arith in rw same refl
     go false e = refl
 
@@ -55,10 +59,10 @@ mail_after n u d mail outs =
     ∙ rw (mail_of-sent n u d outs)
     (elim (nat_eq u n.0) as (λ b. mail_of u d mail ++ cond b (sent_to d outs) [] ≡ cond b (mail_of u d mail ++ sent_to d outs) (mail_of u d mail)) [ true ↦ refl | false ↦ append-nil _ ])
 
-pub mesh_of-commit : (t : Network) (n : NodeId) (a : Answer) (seats : List Seat) (desks : List Waiting) (mail : List Sent) (posted : List CallNo) →
-    mesh_of (kept t (seated n (changed (tables_at n.0 seats) a) seats) desks (mail ++ map (sent_by n) a.sent) posted) ≡ commit (mesh_of (kept t seats desks mail posted)) n.0 a
-mesh_of-commit t n a seats desks mail posted = λ i. record {
-  nodes = λ m. nodes_after n a seats m i;
+pub mesh_of-commit : (t : Network) (n : NodeId) (a : Answer) (nodes : List NodeView) (desks : List Waiting) (mail : List Sent) (posted : List CallNo) →
+    mesh_of (kept t (put_state t n (changed (state_at n.0 nodes) a) nodes) desks (mail ++ map (sent_by n) a.sent) posted) ≡ commit (mesh_of (kept t nodes desks mail posted)) n.0 a
+mesh_of-commit t n a nodes desks mail posted = λ i. record {
+  nodes = λ m. nodes_after t n a nodes m i;
   desks = λ m. desk_of m desks;
   mail = λ u d. mail_after n u d mail a.sent i;
   posted = posted;
@@ -84,26 +88,26 @@ mail_without u d mail i s at is a b = go (nat_eq a u && nat_eq b d) refl
         let apart : is_between a b (get_or mail i s) ≡ false = elsewhere a b u d _ _ facts.1 e in
         ap (map (λ s. s.msg)) (filter-other (is_between a b) mail i s facts.0 apart)
 
-mesh_of-without_first : (t : Network) (u d : NodeId) (seats : List Seat) (desks : List Waiting) (mail : List Sent) (posted : List CallNo) (i : ℕ) (s : Sent) → position (is_between u.0 d.0) mail ≡ Some i → s ≡ get_or mail i s →
-    mesh_of (kept t seats desks (remove mail i) posted) ≡ without_first (mesh_of (kept t seats desks mail posted)) u.0 d.0
-mesh_of-without_first t u d seats desks mail posted i s at is = λ j. record {
-  nodes = λ m. tables_at m seats;
+mesh_of-without_first : (t : Network) (u d : NodeId) (nodes : List NodeView) (desks : List Waiting) (mail : List Sent) (posted : List CallNo) (i : ℕ) (s : Sent) → position (is_between u.0 d.0) mail ≡ Some i → s ≡ get_or mail i s →
+    mesh_of (kept t nodes desks (remove mail i) posted) ≡ without_first (mesh_of (kept t nodes desks mail posted)) u.0 d.0
+mesh_of-without_first t u d nodes desks mail posted i s at is = λ j. record {
+  nodes = λ m. state_at m nodes;
   desks = λ m. desk_of m desks;
   mail = λ a b. mail_without u.0 d.0 mail i s at is a b j;
   posted = posted;
 }
 
-pub mesh_of-take : (t : Network) (u d : NodeId) (seats : List Seat) (desks : List Waiting) (mail : List Sent) (posted : List CallNo) (i : ℕ) (s : Sent) (a : Answer) → position (is_between u.0 d.0) mail ≡ Some i → s ≡ get_or mail i s →
-    a ≡ on_message (site_of t d) (tables_at d.0 seats).legs (tables_at d.0 seats).calls u s.msg →
-    mesh_of (kept t (seated d (changed (tables_at d.0 seats) a) seats) desks (remove (mail ++ map (sent_by d) a.sent) i) posted) ≡ step t (mesh_of (kept t seats desks mail posted)) (Take d u)
-mesh_of-take t u d seats desks mail posted i s a at is does =
+pub mesh_of-take : (t : Network) (u d : NodeId) (nodes : List NodeView) (desks : List Waiting) (mail : List Sent) (posted : List CallNo) (i : ℕ) (s : Sent) (a : Answer) → position (is_between u.0 d.0) mail ≡ Some i → s ≡ get_or mail i s →
+    a ≡ on_message (site_of t d) (state_at d.0 nodes) u s.msg →
+    mesh_of (kept t (put_state t d (changed (state_at d.0 nodes) a) nodes) desks (remove (mail ++ map (sent_by d) a.sent) i) posted) ≡ step t (mesh_of (kept t nodes desks mail posted)) (Take d u)
+mesh_of-take t u d nodes desks mail posted i s a at is does =
     let below = (position-Some (is_between u.0 d.0) mail i s at).0 in
-    let k = mesh_of (kept t seats desks mail posted) in
+    let k = mesh_of (kept t nodes desks mail posted) in
     let first : mail_of u.0 d.0 mail ≡ s.msg ∷ mail_of u.0 d.0 (remove mail i) = ap (map (λ s. s.msg)) (first_of (is_between u.0 d.0) mail i s at is) in
-    let same : a ≡ on_first (site_of t d) (tables_at d.0 seats) u (mail_of u.0 d.0 mail) = does ∙ ap (on_first (site_of t d) (tables_at d.0 seats) u) (sym first) in
-    ap (λ m. mesh_of (kept t (seated d (changed (tables_at d.0 seats) a) seats) desks m posted)) (remove-append_left mail (map (sent_by d) a.sent) i below)
-    ∙ mesh_of-commit t d a seats desks (remove mail i) posted
-    ∙ ap (λ k. commit k d.0 a) (mesh_of-without_first t u d seats desks mail posted i s at is)
+    let same : a ≡ on_first (site_of t d) (state_at d.0 nodes) u (mail_of u.0 d.0 mail) = does ∙ ap (on_first (site_of t d) (state_at d.0 nodes) u) (sym first) in
+    ap (λ m. mesh_of (kept t (put_state t d (changed (state_at d.0 nodes) a) nodes) desks m posted)) (remove-append_left mail (map (sent_by d) a.sent) i below)
+    ∙ mesh_of-commit t d a nodes desks (remove mail i) posted
+    ∙ ap (λ k. commit k d.0 a) (mesh_of-without_first t u d nodes desks mail posted i s at is)
     ∙ ap (commit (without_first k u.0 d.0) d.0) same
 
 -- Without the first item
@@ -124,24 +128,24 @@ desk_without n desks i w at is m = go (nat_eq m n) refl
         let apart : is_waiting m (get_or desks i w) ≡ false = grind arith in
         ap (map (λ w. w.item)) (filter-other (is_waiting m) desks i w facts.0 apart)
 
-mesh_of-without_item : (t : Network) (n : NodeId) (seats : List Seat) (desks : List Waiting) (mail : List Sent) (posted : List CallNo) (i : ℕ) (w : Waiting) → position (is_waiting n.0) desks ≡ Some i → w ≡ get_or desks i w →
-    mesh_of (kept t seats (remove desks i) mail posted) ≡ without_item (mesh_of (kept t seats desks mail posted)) n.0
-mesh_of-without_item t n seats desks mail posted i w at is = λ j. record {
-  nodes = λ m. tables_at m seats;
+mesh_of-without_item : (t : Network) (n : NodeId) (nodes : List NodeView) (desks : List Waiting) (mail : List Sent) (posted : List CallNo) (i : ℕ) (w : Waiting) → position (is_waiting n.0) desks ≡ Some i → w ≡ get_or desks i w →
+    mesh_of (kept t nodes (remove desks i) mail posted) ≡ without_item (mesh_of (kept t nodes desks mail posted)) n.0
+mesh_of-without_item t n nodes desks mail posted i w at is = λ j. record {
+  nodes = λ m. state_at m nodes;
   desks = λ m. desk_without n.0 desks i w at is m j;
   mail = λ a b. mail_of a b mail;
   posted = posted;
 }
 
-pub mesh_of-handle : (t : Network) (n : NodeId) (seats : List Seat) (desks : List Waiting) (mail : List Sent) (posted : List CallNo) (i : ℕ) (w : Waiting) (a : Answer) → position (is_waiting n.0) desks ≡ Some i → w ≡ get_or desks i w →
-    a ≡ on_item (site_of t n) (tables_at n.0 seats) w.item →
-    mesh_of (kept t (seated n (changed (tables_at n.0 seats) a) seats) (remove desks i) (mail ++ map (sent_by n) a.sent) posted) ≡ step t (mesh_of (kept t seats desks mail posted)) (Desk n)
-mesh_of-handle t n seats desks mail posted i w a at is does =
-    let k = mesh_of (kept t seats desks mail posted) in
+pub mesh_of-handle : (t : Network) (n : NodeId) (nodes : List NodeView) (desks : List Waiting) (mail : List Sent) (posted : List CallNo) (i : ℕ) (w : Waiting) (a : Answer) → position (is_waiting n.0) desks ≡ Some i → w ≡ get_or desks i w →
+    a ≡ on_item (site_of t n) (state_at n.0 nodes) w.item →
+    mesh_of (kept t (put_state t n (changed (state_at n.0 nodes) a) nodes) (remove desks i) (mail ++ map (sent_by n) a.sent) posted) ≡ step t (mesh_of (kept t nodes desks mail posted)) (Desk n)
+mesh_of-handle t n nodes desks mail posted i w a at is does =
+    let k = mesh_of (kept t nodes desks mail posted) in
     let first : desk_of n.0 desks ≡ w.item ∷ desk_of n.0 (remove desks i) = ap (map (λ w. w.item)) (first_of (is_waiting n.0) desks i w at is) in
-    let same : a ≡ on_first_item (site_of t n) (tables_at n.0 seats) (desk_of n.0 desks) = does ∙ ap (on_first_item (site_of t n) (tables_at n.0 seats)) (sym first) in
-    mesh_of-commit t n a seats (remove desks i) mail posted
-    ∙ ap (λ k. commit k n.0 a) (mesh_of-without_item t n seats desks mail posted i w at is)
+    let same : a ≡ on_first_item (site_of t n) (state_at n.0 nodes) (desk_of n.0 desks) = does ∙ ap (on_first_item (site_of t n) (state_at n.0 nodes)) (sym first) in
+    mesh_of-commit t n a nodes (remove desks i) mail posted
+    ∙ ap (λ k. commit k n.0 a) (mesh_of-without_item t n nodes desks mail posted i w at is)
     ∙ ap (commit (without_item k n.0) n.0) same
 
 -- With an item more
@@ -153,10 +157,10 @@ desk_with n item desks m = rw (filter-append, map-append) (go (nat_eq m n.0) ref
     go true e = let e' : nat_eq n.0 m ≡ true = grind arith in rw e' refl
     go false e = let e' : nat_eq n.0 m ≡ false = grind arith in rw e' (append-nil _)
 
-pub mesh_of-order : (t : Network) (n : NodeId) (item : DeskItem) (seats : List Seat) (desks : List Waiting) (mail : List Sent) (posted : List CallNo) →
-    mesh_of (kept t seats (desks ++ record { node = n; item = item } ∷ []) mail posted) ≡ with_item (mesh_of (kept t seats desks mail posted)) n.0 item
-mesh_of-order t n item seats desks mail posted = λ j. record {
-  nodes = λ m. tables_at m seats;
+pub mesh_of-order : (t : Network) (n : NodeId) (item : DeskItem) (nodes : List NodeView) (desks : List Waiting) (mail : List Sent) (posted : List CallNo) →
+    mesh_of (kept t nodes (desks ++ record { node = n; item = item } ∷ []) mail posted) ≡ with_item (mesh_of (kept t nodes desks mail posted)) n.0 item
+mesh_of-order t n item nodes desks mail posted = λ j. record {
+  nodes = λ m. state_at m nodes;
   desks = λ m. desk_with n item desks m j;
   mail = λ a b. mail_of a b mail;
   posted = posted;
@@ -164,7 +168,60 @@ mesh_of-order t n item seats desks mail posted = λ j. record {
 
 -- A tick
 
-pub mesh_of-tick : (t : Network) (n : NodeId) (seats : List Seat) (desks : List Waiting) (mail : List Sent) (posted : List CallNo) (a : Answer) → a ≡ on_tick (site_of t n) (tables_at n.0 seats) →
-    mesh_of (kept t (seated n (changed (tables_at n.0 seats) a) seats) desks (mail ++ map (sent_by n) a.sent) posted) ≡ step t (mesh_of (kept t seats desks mail posted)) (Tick n)
-mesh_of-tick t n seats desks mail posted a does =
-    mesh_of-commit t n a seats desks mail posted ∙ ap (commit (mesh_of (kept t seats desks mail posted)) n.0) does
+pub mesh_of-tick : (t : Network) (n : NodeId) (nodes : List NodeView) (desks : List Waiting) (mail : List Sent) (posted : List CallNo) (a : Answer) → a ≡ on_tick (site_of t n) (state_at n.0 nodes) →
+    mesh_of (kept t (put_state t n (changed (state_at n.0 nodes) a) nodes) desks (mail ++ map (sent_by n) a.sent) posted) ≡ step t (mesh_of (kept t nodes desks mail posted)) (Tick n)
+mesh_of-tick t n nodes desks mail posted a does =
+    mesh_of-commit t n a nodes desks mail posted ∙ ap (commit (mesh_of (kept t nodes desks mail posted)) n.0) does
+
+-- An order
+
+pub is_ordered : (k : Kept) (desks : List Waiting) (n : NodeId) (c : Command) → step k.seats.network (mesh_of k) (Post c) ≡ with_item (mesh_of k) n.0 (Order c) → desks ≡ k.desks ++ record { node = n; item = Order c } ∷ [] →
+    IsStep k (Post c) (record k { desks = desks })
+is_ordered k desks n c does put = record {
+  mesh = ap (λ d. mesh_of (record k { desks = d })) put ∙ mesh_of-order k.seats.network n (Order c) k.seats.nodes k.desks k.mail k.posted ∙ sym does;
+  network = refl;
+}
+
+-- An input at a node, and what is taken off its list
+
+pub is_taken : (k : Kept) (u d : NodeId) (i : ℕ) (s : Sent) (input : Input) (after : Seats) (mail : List Sent) → position (is_between u.0 d.0) k.mail ≡ Some i → s ≡ get_or k.mail i s → input ≡ inputs.Message u s.msg →
+    after ≡ acted k.seats d input → mail ≡ remove (k.mail ++ sent_at k.seats d input) i → IsStep k (Take d u) (record k { seats = after; mail = mail })
+is_taken k u d i s input after mail at is came seats left =
+    let a = answer_to (node_at k.seats d) input in
+    record {
+      mesh = ap (λ x. mesh_of (record k { seats = x; mail = mail })) seats ∙ ap (λ x. mesh_of (record k { seats = acted k.seats d input; mail = x })) left
+          ∙ mesh_of-take k.seats.network u d k.seats.nodes k.desks k.mail k.posted i s a at is (ap (answer_to (node_at k.seats d)) came);
+      network = ap (λ x. x.network) seats;
+    }
+
+pub is_handled : (k : Kept) (n : NodeId) (i : ℕ) (w : Waiting) (input : Input) (after : Seats) (desks : List Waiting) (mail : List Sent) → position (is_waiting n.0) k.desks ≡ Some i → w ≡ get_or k.desks i w → input ≡ inputs.Desk w.item →
+    after ≡ acted k.seats n input → desks ≡ remove k.desks i → mail ≡ k.mail ++ sent_at k.seats n input → IsStep k (Desk n) (record k { seats = after; desks = desks; mail = mail })
+is_handled k n i w input after desks mail at is came seats left sent =
+    let a = answer_to (node_at k.seats n) input in
+    record {
+      mesh = ap (λ x. mesh_of (record k { seats = x; desks = desks; mail = mail })) seats ∙ ap (λ x. mesh_of (record k { seats = acted k.seats n input; desks = x; mail = mail })) left ∙ ap (λ x. mesh_of (record k { seats = acted k.seats n input; desks = remove k.desks i; mail = x })) sent
+          ∙ mesh_of-handle k.seats.network n k.seats.nodes k.desks k.mail k.posted i w a at is (ap (answer_to (node_at k.seats n)) came);
+      network = ap (λ x. x.network) seats;
+    }
+
+pub is_ticked : (k : Kept) (n : NodeId) (after : Seats) (mail : List Sent) → after ≡ acted k.seats n inputs.Tick → mail ≡ k.mail ++ sent_at k.seats n inputs.Tick → IsStep k (Tick n) (record k { seats = after; mail = mail })
+is_ticked k n after mail seats sent =
+    let a = answer_to (node_at k.seats n) inputs.Tick in
+    record {
+      mesh = ap (λ x. mesh_of (record k { seats = x; mail = mail })) seats ∙ ap (λ x. mesh_of (record k { seats = acted k.seats n inputs.Tick; mail = x })) sent
+          ∙ mesh_of-tick k.seats.network n k.seats.nodes k.desks k.mail k.posted a refl;
+      network = ap (λ x. x.network) seats;
+    }
+
+-- Nothing waits
+
+self : (n : ℕ) → nat_eq n n ≡ true
+self n = grind arith
+
+pub no_desks : (desks : List Waiting) → ((n : ℕ) → desk_of n desks ≡ []) → desks ≡ []
+no_desks [] none = refl
+no_desks (w ∷ desks) none = absurd (none_of (λ w. w.item) (is_waiting w.node.0) w desks (self w.node.0) (none w.node.0))
+
+pub no_mail : (mail : List Sent) → ((u d : ℕ) → mail_of u d mail ≡ []) → mail ≡ []
+no_mail [] none = refl
+no_mail (s ∷ mail) none = absurd (none_of (λ s. s.msg) (is_between s.from.0 s.to.0) s mail (rw (self s.from.0, self s.to.0) refl) (none s.from.0 s.to.0))

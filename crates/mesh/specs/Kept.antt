@@ -1,45 +1,72 @@
 -- What the runnable mesh keeps, as lists, and the mesh that it stands for.
-use Rattle.std.specs.Prelude.{ℕ, ◌==◌, ◌&&◌, Bool, true, false, List, [], ◌∷◌, map, filter, find, Option, Some, None, if◌then◌else◌}
+use Rattle.std.specs.Prelude.{◌≡◌, ℕ, ◌==◌, ◌&&◌, Bool, true, false, List, [], ◌∷◌, map, filter, find, flat_map, Option, Some, None, if◌then◌else◌}
+use Rattle.std.specs.List.{AllByRecursion}
 use Rattle.ason_base.specs.declared.ids.NodeId.{NodeId}
 use Rattle.ason_base.specs.declared.ids.CallNo.{CallNo}
 use Rattle.ason_base.specs.declared.commands.DeskItem.{DeskItem}
 use Rattle.ason_base.specs.declared.messages.Msg.{Msg}
 use Rattle.ason_base.specs.declared.tables.Out.{Out}
 use Rattle.ason_base.specs.Network.{Network}
+use Rattle.mesh_rules.specs.declared.events.MeshEvent.{MeshEvent}
 use Rattle.mesh_rules.specs.declared.events.StepFault.{StepFault}
 use Rattle.mesh_rules.specs.declared.events.StepFault.TheVariants.{NotEnabled, OutOfMemory}
-use Rattle.mesh.specs.declared.seats.Seat.{Seat}
+use Rattle.mesh_rules.specs.State.{NodeState, new_node}
+use Rattle.mesh_rules.specs.Sites.{site_of}
+use Rattle.mesh_rules.specs.Machine.{Mesh}
+use Rattle.mesh_rules.specs.Events.{step}
+use Rattle.mesh_rules.specs.Changes.{changed}
+use Rattle.node_core.specs.declared.inputs.Input.{Input}
+use Rattle.node_core.specs.Nodes.{NodeView, answer_to}
 use Rattle.mesh.specs.declared.queues.Waiting.{Waiting}
 use Rattle.mesh.specs.declared.queues.Sent.{Sent}
-use Rattle.mesh_rules.specs.State.{NodeState, new_node}
-use Rattle.mesh_rules.specs.Machine.{Mesh}
 
--- the network, the tables of the nodes that have any, the items of all desks and all messages under way, each in order, and
--- the call numbers of the setups that were posted
-pub record Kept : Type 0 where
+-- the network, and the nodes that have had an input
+pub record Seats : Type 0 where
   pub network : Network
-  pub seats : List Seat
+  pub nodes : List NodeView
+
+-- and the items of all desks and all messages under way, each in order, and the call numbers of the setups that were posted
+pub record Kept : Type 0 where
+  pub seats : Seats
   pub desks : List Waiting
   pub mail : List Sent
   pub posted : List CallNo
 
--- Tables
+-- Nodes
 
-abbrev pub is_seat : ℕ → Seat → Bool
-is_seat n s = s.node.0 == n
+abbrev pub is_node : ℕ → NodeView → Bool
+is_node n s = s.place.id.0 == n
 
--- a node without a seat has the tables of the start
-abbrev pub tables_of : Option Seat → NodeState
-tables_of None = new_node
-tables_of (Some s) = s.tables
+-- a node that had no input keeps what it has at the start
+abbrev pub state_of : Option NodeView → NodeState
+state_of None = new_node
+state_of (Some s) = s.state
 
-abbrev pub tables_at : ℕ → List Seat → NodeState
-tables_at n seats = tables_of (find (is_seat n) seats)
+abbrev pub state_at : ℕ → List NodeView → NodeState
+state_at n nodes = state_of (find (is_node n) nodes)
 
--- with these tables at the node
-abbrev pub seated : NodeId → NodeState → List Seat → List Seat
-seated n tables [] = record { node = n; tables = tables } ∷ []
-seated n tables (s ∷ seats) = if is_seat n.0 s then record { node = s.node; tables = tables } ∷ seats else s ∷ seated n tables seats
+abbrev pub node_at : Seats → NodeId → NodeView
+node_at s n = record { place = site_of s.network n; state = state_at n.0 s.nodes }
+
+-- with this state at the node
+abbrev pub put_state : Network → NodeId → NodeState → List NodeView → List NodeView
+put_state t n state [] = record { place = site_of t n; state = state } ∷ []
+put_state t n state (s ∷ nodes) =
+    if is_node n.0 s then record { place = s.place; state = state } ∷ nodes else s ∷ put_state t n state nodes
+
+abbrev pub with_state : Seats → NodeId → NodeState → Seats
+with_state s n state = record { network = s.network; nodes = put_state s.network n state s.nodes }
+
+-- each node knows of itself what the network tells
+abbrev pub IsOfNetwork : Network → NodeView → Type 0
+IsOfNetwork t s = s.place ≡ site_of t s.place.id
+
+abbrev pub AreOfNetwork : Seats → Type 0
+AreOfNetwork s = AllByRecursion (IsOfNetwork s.network) s.nodes
+
+-- the nodes after an input at one of them
+abbrev pub acted : Seats → NodeId → Input → Seats
+acted s n i = with_state s n (changed (state_at n.0 s.nodes) (answer_to (node_at s n) i))
 
 -- Desks
 
@@ -60,15 +87,29 @@ mail_of u d mail = map (λ s. s.msg) (filter (is_between u d) mail)
 abbrev pub sent_by : NodeId → Out → Sent
 sent_by n o = record { from = n; to = o.to; msg = o.msg }
 
+-- what an input makes a node send
+abbrev pub sent_at : Seats → NodeId → Input → List Sent
+sent_at s n i = map (sent_by n) (answer_to (node_at s n) i).sent
+
 -- The mesh
 
 abbrev pub mesh_of : Kept → Mesh
 mesh_of k = record {
-  nodes = λ n. tables_at n k.seats;
+  nodes = λ n. state_at n k.seats.nodes;
   desks = λ n. desk_of n k.desks;
   mail = λ u d. mail_of u d k.mail;
   posted = k.posted;
 }
+
+-- the second stands for the mesh after the event, over the same network
+pub record IsStep (before : Kept) (e : MeshEvent) (after : Kept) : Type 0 where
+  pub mesh : mesh_of after ≡ step before.seats.network (mesh_of before) e
+  pub network : after.seats.network ≡ before.seats.network
+
+-- nothing waits: each desk is empty, and no message is under way
+pub record IsQuiet (s : Mesh) : Type 0 where
+  pub desks : (n : ℕ) → s.desks n ≡ []
+  pub mail : (u d : ℕ) → s.mail u d ≡ []
 
 -- why an event changed nothing: memory was refused where it is enabled, and else it isn't enabled
 abbrev pub fault_if : Bool → StepFault

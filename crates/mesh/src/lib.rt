@@ -1,8 +1,8 @@
 //! The mesh machine, step by step.
 #![tactic(auto)]
 
+mod nodes;
 mod queues;
-mod seats;
 pub mod state;
 
 pub use mesh_laws::laws;

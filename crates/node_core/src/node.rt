@@ -1,8 +1,7 @@
 //! The node.
 
-ghost use Rattle.std.specs.Prelude.{◌≡◌, IfOk, IfSome, IsSome, OnErr, OnOk, map};
+ghost use Rattle.std.specs.Prelude.{◌≡◌, IfOk, OnErr, OnOk, map};
 ghost use Rattle.std.specs.Option.{option_copied};
-ghost use Rattle.ason_base.specs.Network.{find_node};
 ghost use Rattle.mesh_rules.specs.Calls.{call_of, find_call};
 ghost use Rattle.mesh_rules.specs.Changes.{changed};
 ghost use Rattle.mesh_rules.specs.Legs.{find_leg, leg_of};
@@ -42,9 +41,8 @@ impl Model for Node {
 }
 
 impl Node {
-    /// Node `id` of this topology, with no leg and no call.
+    /// Node `id` of this topology, with no leg and no call. A number that no node has gives a node without links.
     pub fn new(alloc: Global, t: &Topology, id: NodeId) -> Result<Node, OutOfMemory>
-        requires { IsSome (find_node t.now id) }
         ensures { IfOk result (λ n. n ≡ record { place = site_of t.now id; state = new_node }) }
     {
         let site = Site::new(alloc, t, id)?;

@@ -1,0 +1,23 @@
+use Rattle.std.proofs.Common.{◌≡◌, sym, ◌∙◌, ap}
+use Rattle.std.specs.Prelude.{None, Some, position}
+use Rattle.mesh_rules.specs.Changes.{changed}
+use Rattle.mesh.specs.Kept.{is_node, state_at, with_state}
+use Rattle.mesh.proofs.NodePlaces.{carried-nowhere, carried-place, on_ok}
+use Rattle.mesh.proofs.nodes.Nodes.carry_out.Goals as goal
+
+pub returns-in_ok-push-in-None-clause-ok : goal.returns-in_ok-push-in-None-clause-ok
+returns-in_ok-push-in-None-clause-ok c =
+    let at : position (is_node c.args.node.0) c.self.inside.nodes.items ≡ None = ap (λ s. position (is_node c.args.node.0) s.nodes) c.self.view_is ∙ sym c.place_of.ensures ∙ c.in-None.is in
+    ap (λ xs. record { network = c.self.inside.network; nodes = xs })
+    (carried-nowhere c.self.inside.network c.args.node c.self.inside.nodes.items c.push.new.self.items c.args.change c.in_ok-new-in-None.new c.carry_out.new.self at c.in_ok-new-in-None.ensures c.in_ok-sent-in-None.ensures.place c.in_ok-sent-in-None.ensures.ok c.in_ok-push-in-None.ensures.items)
+    ∙ ap (λ s. with_state s c.args.node (changed (state_at c.args.node.0 s.nodes) c.args.change)) c.self.view_is
+
+pub returns-in-Some-clause-ok : goal.returns-in-Some-clause-ok
+returns-in-Some-clause-ok c =
+    let at : position (is_node c.args.node.0) c.self.inside.nodes.items ≡ Some c.in-Some.place = ap (λ s. position (is_node c.args.node.0) s.nodes) c.self.view_is ∙ sym c.place_of.ensures ∙ c.in-Some.is in
+    on_ok c.carry_out-in-Some.result _ _
+    (λ does.
+    ap (λ xs. record { network = c.self.inside.network; nodes = xs })
+    (carried-place c.self.inside.network c.args.node c.self.inside.nodes.items c.in-Some.place c.args.change c.index_mut.result.now c.carry_out-in-Some.new.self at c.index_mut.ensures.value c.carry_out-in-Some.ensures.place does)
+    ∙ ap (λ s. with_state s c.args.node (changed (state_at c.args.node.0 s.nodes) c.args.change)) c.self.view_is)
+    c.carry_out-in-Some.ensures.ok
