@@ -1,11 +1,8 @@
 pub mod AnswerKeeps
 pub mod CallKeeps
-pub mod CallList
 pub mod CallParts
-pub mod Cases
 pub mod Facts
 pub mod Laws
-pub mod LegList
 pub mod LegParts
 pub mod MessageKeeps
 pub mod NewLegs

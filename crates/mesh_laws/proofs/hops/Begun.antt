@@ -28,8 +28,8 @@ use Rattle.mesh_rules.specs.Machine.{Mesh, commit}
 use Rattle.mesh_rules.specs.Events.{first_route, or_route}
 use Rattle.mesh_laws.specs.HopLaw.{leg_at, mail_between}
 use Rattle.mesh_laws.proofs.hops.Plans.{Plan, hops, plan, node_at, fibre_at, IsRoute, Leads, route_made, distinct, same, same_node, lt_true, own_near, fibre_out_is}
-use Rattle.mesh_laws.proofs.nodes.Cases.{if_cases}
-use Rattle.mesh_laws.proofs.nodes.LegList.{same_lsp-eq, same_lsp-refl}
+use Rattle.mesh_nodes.proofs.Cases.{if_cases}
+use Rattle.mesh_nodes.proofs.LegList.{same_lsp-eq, same_lsp-refl}
 use Rattle.mesh_laws.proofs.hops.Views.{leg-here, leg-there, mail-from, mail-else}
 use Rattle.mesh_laws.proofs.hops.Rest.{Carries, DownFits}
 use Rattle.mesh_laws.proofs.hops.Chain.{LegFits, Fits, HopAt, OnRoute, IsPlace, Chain, is_or_not, at_or_else}

@@ -19,7 +19,7 @@ use Rattle.mesh_rules.specs.Machine.{Mesh, without_first}
 use Rattle.mesh_laws.specs.HopShapes.{AskedLeg, IsTorn, NothingLeft, leg_kind}
 use Rattle.mesh_laws.specs.HopLaw.{is_message_of, messages_of, leg_at, mail_between}
 use Rattle.mesh_laws.proofs.hops.Plans.{Plan, hops, node_at, IsRoute, same}
-use Rattle.mesh_laws.proofs.nodes.LegList.{same_lsp-refl}
+use Rattle.mesh_nodes.proofs.LegList.{same_lsp-refl}
 use Rattle.mesh_laws.proofs.hops.Rows.{no_contention_work, removal_taken, asked_answers, torn_leaves}
 use Rattle.mesh_laws.proofs.hops.Rest.{Carries, no_path_down}
 use Rattle.mesh_laws.proofs.hops.Chain.{LegFits, Hop, Chain}

@@ -21,7 +21,7 @@ use Rattle.mesh_rules.specs.Events.{IsRun, after, route_of}
 use Rattle.mesh_laws.specs.CallLaw.{IsNamed, fits, phase_of}
 use Rattle.mesh_laws.specs.HopLaw.{leg_at, mail_between, StepFits, RouteFits}
 use Rattle.mesh_laws.specs.JoinedLaw.{HopIsJoined, LspIsJoined, IsJoined, CallIsJoined, EveryCallIsJoined}
-use Rattle.mesh_laws.proofs.nodes.CallList.{all-calls_found}
+use Rattle.mesh_nodes.proofs.CallList.{all-calls_found}
 use Rattle.mesh_laws.proofs.nodes.Facts.{MeshFacts}
 use Rattle.mesh_laws.proofs.nodes.Runs.{facts-hold}
 use Rattle.mesh_laws.proofs.hops.Plans.{Plan, hops, plan, node_at}

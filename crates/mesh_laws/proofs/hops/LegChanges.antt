@@ -11,7 +11,7 @@ use Rattle.ason_base.specs.declared.calls.Role.TheVariants as role
 use Rattle.ason_base.specs.declared.tables.Leg.{Leg}
 use Rattle.mesh_rules.specs.Legs.{closed, closing_phase, connected, previous, following, is_asked, is_closing}
 use Rattle.mesh_laws.specs.HopShapes.{NoLeg, AskedLeg, LiveLeg, IsTorn, Closes, Falls, leg_kind, phase_kind}
-use Rattle.mesh_laws.proofs.nodes.LegList.{same_lsp-refl}
+use Rattle.mesh_nodes.proofs.LegList.{same_lsp-refl}
 use Rattle.mesh_laws.proofs.hops.Plans.{Plan, hops, node_at, fibre_at, lt_true, lt_false}
 use Rattle.mesh_laws.proofs.hops.Rest.{Purpose, Carries, Guards, role_of}
 use Rattle.mesh_laws.proofs.hops.Rows.{Stands, AskedStands, HeldStands, ArmedStands, LiveStands, torn_leg}

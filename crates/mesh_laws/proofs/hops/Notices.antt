@@ -28,7 +28,7 @@ use Rattle.mesh_rules.specs.Orders.{on_order}
 use Rattle.mesh_rules.specs.Machine.{Mesh, start, sent_to}
 use Rattle.mesh_rules.specs.Events.{on_first, on_first_item, posted, step, after}
 use Rattle.mesh_laws.specs.HopLaw.{lsp_of, is_notice, notices_of, notices_between}
-use Rattle.mesh_laws.proofs.nodes.Cases.{if_cases}
+use Rattle.mesh_nodes.proofs.Cases.{if_cases}
 use Rattle.mesh_laws.proofs.hops.Own.{AllSent, own-on_message}
 
 -- none of these messages is a Notify

@@ -32,8 +32,8 @@ use Rattle.mesh_rules.specs.Messages.{arrival, on_message}
 use Rattle.mesh_rules.specs.Machine.{Mesh, commit, sent_to}
 use Rattle.mesh_rules.specs.Events.{whole_route, first_route}
 use Rattle.mesh_laws.specs.HopLaw.{lsp_of, is_notice, is_message_of, messages_of, leg_at, mail_between}
-use Rattle.mesh_laws.proofs.nodes.Cases.{both_right, if_cases, not-true}
-use Rattle.mesh_laws.proofs.nodes.LegList.{found-lsp}
+use Rattle.mesh_nodes.proofs.Cases.{both_right, if_cases, not-true}
+use Rattle.mesh_nodes.proofs.LegList.{found-lsp}
 use Rattle.mesh_laws.proofs.hops.Tables.{leg_after}
 use Rattle.mesh_laws.proofs.hops.Views.{leg-here}
 use Rattle.mesh_laws.proofs.hops.Sending.{sent_by}

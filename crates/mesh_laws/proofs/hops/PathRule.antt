@@ -25,7 +25,7 @@ use Rattle.mesh_laws.specs.HopShapes.{NoLeg, leg_kind}
 use Rattle.mesh_laws.specs.HopLaw.{is_message_of, messages_of, leg_at, mail_between}
 use Rattle.mesh_laws.proofs.hops.Plans.{Plan, hops, node_at, link_at, fibre_at, IsRoute, Leads, distinct, other, lt_true, lt_false, joined, own_near, own_far, fibre_in_is, fibre_out_is}
 use Rattle.mesh_laws.proofs.hops.Labels.{has_least, has_meet}
-use Rattle.mesh_laws.proofs.nodes.LegList.{same_lsp-refl}
+use Rattle.mesh_nodes.proofs.LegList.{same_lsp-refl}
 use Rattle.mesh_laws.proofs.nodes.PathKeeps.{none_fails}
 use Rattle.mesh_laws.proofs.hops.Rest.{Carries, has_path}
 use Rattle.mesh_laws.proofs.hops.Rows.{plain_taken}

@@ -21,7 +21,7 @@ use Rattle.mesh_rules.specs.Machine.{Mesh, commit}
 use Rattle.mesh_rules.specs.Events.{first_route}
 use Rattle.mesh_laws.specs.HopLaw.{leg_at, mail_between}
 use Rattle.mesh_laws.proofs.hops.Plans.{Plan, hops, plan, node_at, link_at, distinct, same_node}
-use Rattle.mesh_laws.proofs.nodes.LegList.{same_lsp-eq}
+use Rattle.mesh_nodes.proofs.LegList.{same_lsp-eq}
 use Rattle.mesh_laws.proofs.hops.Views.{mail-else}
 use Rattle.mesh_laws.proofs.hops.Rest.{Carries}
 use Rattle.mesh_laws.proofs.hops.Chain.{LegFits, Chain}
@@ -30,7 +30,7 @@ use Rattle.mesh_laws.proofs.hops.Sending.{sent_by, sends_on, changed-here}
 use Rattle.mesh_laws.proofs.hops.LegChanges.{same_of, phase_stands, closed_kind, closed_fits, following_is}
 use Rattle.mesh_laws.proofs.hops.Upstream.{leg_closes}
 use Rattle.mesh_laws.proofs.hops.Taken.{path_before}
-use Rattle.mesh_laws.proofs.nodes.Cases.{if_cases}
+use Rattle.mesh_nodes.proofs.Cases.{if_cases}
 use Rattle.mesh_laws.proofs.hops.Own.{AllSent, IsOf, found-is, leg-other, mail-other}
 use Rattle.mesh_laws.proofs.hops.Planned.{Planned, Follows, SameOf, follows_same, next_same}
 use Rattle.mesh_laws.proofs.hops.Quiet.{same_quiet, quiet_then}

@@ -26,7 +26,7 @@ use Rattle.mesh_laws.specs.HopShapes.{LegKind, NoLeg, IsTorn, StillWaits, leg_ki
 use Rattle.mesh_laws.specs.HopLaw.{is_message_of, messages_of, leg_at, mail_between}
 use Rattle.mesh_laws.proofs.hops.Plans.{Plan, hops, node_at, link_at, fibre_at, IsRoute, same}
 use Rattle.mesh_laws.proofs.hops.Labels.{has_label_back, has_meet}
-use Rattle.mesh_laws.proofs.nodes.LegList.{same_lsp-refl}
+use Rattle.mesh_nodes.proofs.LegList.{same_lsp-refl}
 use Rattle.mesh_laws.proofs.hops.Rows.{TakesResv, ByAsked, ByTorn, takes_resv}
 use Rattle.mesh_laws.proofs.hops.Rest.{Carries}
 use Rattle.mesh_laws.proofs.hops.Chain.{LegFits, Hop, Chain}

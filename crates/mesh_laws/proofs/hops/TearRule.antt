@@ -20,7 +20,7 @@ use Rattle.mesh_rules.specs.Machine.{Mesh}
 use Rattle.mesh_laws.specs.HopShapes.{HasLetGo, NothingLeft, StillWaits, leg_kind}
 use Rattle.mesh_laws.specs.HopLaw.{is_message_of, messages_of, leg_at, mail_between}
 use Rattle.mesh_laws.proofs.hops.Plans.{Plan, hops, node_at, link_at, fibre_at, IsRoute, same}
-use Rattle.mesh_laws.proofs.nodes.LegList.{same_lsp-refl}
+use Rattle.mesh_nodes.proofs.LegList.{same_lsp-refl}
 use Rattle.mesh_laws.proofs.hops.Rows.{tear_last}
 use Rattle.mesh_laws.proofs.hops.Rest.{Purpose, role_of, has_path, no_kinds}
 use Rattle.mesh_laws.proofs.hops.Chain.{LegFits, Fits, Hop, Chain, below_or_not}

@@ -21,7 +21,7 @@ use Rattle.mesh_rules.specs.Events.{has_first, on_first, first_route, or_route, 
 use Rattle.mesh_laws.specs.HopLaw.{lsp_of, is_notice, is_message_of, messages_of, leg_at, mail_between}
 use Rattle.mesh_laws.proofs.hops.Plans.{Plan, hops, plan, node_at, same_node}
 use Rattle.mesh_laws.proofs.hops.Rows.{no_resv_down, no_removal_down, no_contention_down, no_path_up, no_active_up, no_tear_up}
-use Rattle.mesh_laws.proofs.nodes.LegList.{same_lsp-eq, same_lsp-refl}
+use Rattle.mesh_nodes.proofs.LegList.{same_lsp-eq, same_lsp-refl}
 use Rattle.mesh_laws.proofs.hops.Views.{and_false, without-other}
 use Rattle.mesh_laws.proofs.hops.Rest.{Carries}
 use Rattle.mesh_laws.proofs.hops.Chain.{OnRoute, Chain}

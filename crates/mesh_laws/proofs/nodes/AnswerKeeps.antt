@@ -22,9 +22,9 @@ use Rattle.mesh_rules.specs.Resvs.{is_expected, call_connected, label_back, pass
 use Rattle.mesh_rules.specs.Changes.{puts, removes, followed_by}
 use Rattle.mesh_rules.specs.PathErrs.{PathFailure, call_refused, err_passed, removed, path_err_with}
 use Rattle.mesh_rules.specs.Tears.{torn, tear_with}
-use Rattle.mesh_laws.proofs.nodes.Cases.{if_cases, both_left, both_right, not-true}
+use Rattle.mesh_nodes.proofs.Cases.{if_cases, both_left, both_right, not-true}
 use Rattle.mesh_laws.proofs.nodes.Facts.{LegFacts, NodeFacts}
-use Rattle.mesh_laws.proofs.nodes.LegList.{found-lsp}
+use Rattle.mesh_nodes.proofs.LegList.{found-lsp}
 use Rattle.mesh_laws.proofs.nodes.NewLegs.{beside, alone, alone_fibre, back-has, closed-stands, connected-stands, ingress-stands}
 use Rattle.mesh_laws.proofs.nodes.CallKeeps.{asking_call, must_have_call, keeps-bare, keeps-blocked}
 use Rattle.mesh_laws.proofs.nodes.Parts.{call_part, unnamed-away, unnamed-torn, keeps-leg, keeps-gone}

@@ -19,9 +19,9 @@ use Rattle.mesh_rules.specs.State.{NodeState}
 use Rattle.mesh_rules.specs.Changes.{puts, removes, changes_calls, followed_by, changed}
 use Rattle.mesh_laws.specs.CallLaw.{IsNamed, fits, names, phase_of}
 use Rattle.mesh_laws.proofs.nodes.Facts.{CallFacts, NodeFacts}
-use Rattle.mesh_laws.proofs.nodes.LegList.{same_lsp-eq, same_lsp-refl, find-with_leg, find-without_leg}
+use Rattle.mesh_nodes.proofs.LegList.{same_lsp-eq, same_lsp-refl, find-with_leg, find-without_leg}
 use Rattle.mesh_laws.proofs.nodes.LegParts.{MayStand, part-with_leg, part-without_leg}
-use Rattle.mesh_laws.proofs.nodes.CallList.{called-found, called-work, not_called, find-with_call, rise-with_call}
+use Rattle.mesh_nodes.proofs.CallList.{called-found, called-work, not_called, find-with_call, rise-with_call}
 use Rattle.mesh_laws.proofs.nodes.CallParts.{Together, Becomes, lsp-is, is-lsp, names-work, named-work, other-stays, itself-became, together-part}
 use Rattle.mesh_laws.proofs.nodes.Parts.{leg_part, call_part, node_facts, named, state-fits}
 

@@ -11,8 +11,9 @@ use Rattle.ason_base.specs.Lsps.{is_lsp, same_lsp}
 use Rattle.mesh_rules.specs.Legs.{find_leg, is_closing, leg_of}
 use Rattle.mesh_rules.specs.Calls.{find_call}
 use Rattle.mesh_laws.specs.CallLaw.{IsNamed, names}
-use Rattle.mesh_laws.proofs.nodes.Facts.{CallFacts, CallsRise, HasCall}
-use Rattle.mesh_laws.proofs.nodes.LegList.{same_lsp-refl, same_lsp-eq}
+use Rattle.mesh_laws.proofs.nodes.Facts.{CallFacts, HasCall}
+use Rattle.mesh_nodes.specs.Order.{CallsRise}
+use Rattle.mesh_nodes.proofs.LegList.{same_lsp-refl, same_lsp-eq}
 
 pub record CallPart (n : ℕ) (next : ℕ) (legs : List Leg) (calls : List CallRec) : Type 0 where
   pub rise : CallsRise calls

@@ -1,5 +1,5 @@
 -- What holds at one node in every state of every run.
-use Rattle.std.specs.Prelude.{◌≡◌, ◌<◌, ◌==◌, ◌||◌, ℕ, false, not, List, [], ◌∷◌, Some, None, IsTrue, IfSome, is_some}
+use Rattle.std.specs.Prelude.{◌≡◌, ◌<◌, ◌==◌, ◌||◌, ℕ, false, not, List, Some, None, IsTrue, IfSome, is_some}
 use Rattle.std.specs.List.{AllByRecursion}
 use Rattle.ason_base.specs.declared.ids.CallNo.{CallNo}
 use Rattle.ason_base.specs.declared.ids.Fibre.{Fibre}
@@ -13,13 +13,13 @@ use Rattle.ason_base.specs.declared.commands.DeskItem.TheVariants.{Order, Alarm,
 use Rattle.ason_base.specs.declared.tables.CallRec.{CallRec}
 use Rattle.ason_base.specs.declared.tables.Leg.{Leg}
 use Rattle.ason_base.specs.Labels.{has}
-use Rattle.ason_base.specs.Lsps.{lsp_before}
 use Rattle.ason_base.specs.Network.{Network}
 use Rattle.mesh_rules.specs.Legs.{find_leg, is_closing, takes}
 use Rattle.mesh_rules.specs.Calls.{find_call}
 use Rattle.mesh_rules.specs.State.{NodeState}
 use Rattle.mesh_rules.specs.Commands.{is_valid}
 use Rattle.mesh_rules.specs.Machine.{Mesh}
+use Rattle.mesh_nodes.specs.Order.{CallsRise, LegsRise}
 use Rattle.mesh_laws.specs.CallLaw.{FitsLegs, names}
 
 -- A leg
@@ -51,11 +51,6 @@ pub record LegFacts (n : ℕ) (next : ℕ) (g : Leg) : Type 0 where
   pub back_in : g.back_in ≡ None
   pub back_out : g.back_out ≡ None
 
--- each leg's LSP is before those of all later ones, so each LSP has one leg
-abbrev pub LegsRise : List Leg → Type 0
-LegsRise [] = Unit {0}
-LegsRise (g ∷ legs) = AllByRecursion (λ h. IsTrue (lsp_before g.lsp h.lsp)) legs × LegsRise legs
-
 -- A call
 
 -- no call is protected, and none has a backup
@@ -65,11 +60,6 @@ pub record CallFacts (n : ℕ) (next : ℕ) (legs : List Leg) (c : CallRec) : Ty
   pub backup : c.backup ≡ None
   pub back : c.back ≡ None
 
-abbrev pub CallsRise : List CallRec → Type 0
-CallsRise [] = Unit {0}
-CallsRise (c ∷ calls) = AllByRecursion (λ d. c.call.0 < d.call.0) calls × CallsRise calls
-
--- a call names this LSP
 pub record HasCall (calls : List CallRec) (l : Lsp) : Type 0 where
   pub call : CallRec
   pub found : find_call call.call calls ≡ Some call

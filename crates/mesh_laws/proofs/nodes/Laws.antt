@@ -16,10 +16,11 @@ use Rattle.mesh_rules.specs.Legs.{find_leg, is_closing, takes}
 use Rattle.mesh_rules.specs.State.{NodeState}
 use Rattle.mesh_laws.specs.LabelLaw.{EveryLabelHasOneLeg, EveryLiveLegIsLabelled, IsLabelled, LabelsHaveOneLeg, TakeNoLabelTwice}
 use Rattle.mesh_laws.specs.CallLaw.{CallsFit, EveryCallFitsItsLegs, FitsLegs, IsOfOneCall, names, wants_call}
-use Rattle.mesh_laws.proofs.nodes.Cases.{both_left, both_right, not-true}
-use Rattle.mesh_laws.proofs.nodes.Facts.{CallsRise, FitsPhase, LegsRise, NodeFacts}
-use Rattle.mesh_laws.proofs.nodes.LegList.{all-found, before-apart, found-all, found-lsp, same_lsp-refl}
-use Rattle.mesh_laws.proofs.nodes.CallList.{all-calls_found, one-count}
+use Rattle.mesh_nodes.proofs.Cases.{both_left, both_right, not-true}
+use Rattle.mesh_laws.proofs.nodes.Facts.{FitsPhase, NodeFacts}
+use Rattle.mesh_nodes.specs.Order.{CallsRise, LegsRise}
+use Rattle.mesh_nodes.proofs.LegList.{all-found, before-apart, found-all, found-lsp, same_lsp-refl}
+use Rattle.mesh_nodes.proofs.CallList.{all-calls_found, one-count}
 use Rattle.mesh_laws.proofs.nodes.Runs.{facts-hold}
 
 -- Labels

@@ -7,8 +7,9 @@ use Rattle.ason_base.specs.declared.ids.Lsp.{Lsp}
 use Rattle.ason_base.specs.declared.tables.Leg.{Leg}
 use Rattle.ason_base.specs.Lsps.{same_lsp, same_fibre, same_bool}
 use Rattle.mesh_rules.specs.Legs.{find_leg, with_leg, without_leg, takes, is_free, is_on, is_label, is_beyond_asked}
-use Rattle.mesh_laws.proofs.nodes.Facts.{LegFacts, LegsRise}
-use Rattle.mesh_laws.proofs.nodes.LegList.{same_lsp-eq, find-with_leg, find-without_leg, rise-with_leg, rise-without_leg}
+use Rattle.mesh_laws.proofs.nodes.Facts.{LegFacts}
+use Rattle.mesh_nodes.specs.Order.{LegsRise}
+use Rattle.mesh_nodes.proofs.LegList.{same_lsp-eq, find-with_leg, find-without_leg, rise-with_leg, rise-without_leg}
 
 pub record LegPart (n : ℕ) (next : ℕ) (legs : List Leg) : Type 0 where
   pub rise : LegsRise legs

@@ -19,7 +19,7 @@ use Rattle.mesh_rules.specs.Setups.{first_leg}
 use Rattle.mesh_rules.specs.State.{NodeState}
 use Rattle.mesh_rules.specs.Paths.{PathRequest, egress_leg, transit_leg, offered_labels}
 use Rattle.mesh_rules.specs.Resvs.{label_back, only}
-use Rattle.mesh_laws.proofs.nodes.Cases.{both_left, both_right}
+use Rattle.mesh_nodes.proofs.Cases.{both_left, both_right}
 use Rattle.mesh_laws.proofs.nodes.Facts.{FitsPhase, LegFacts}
 use Rattle.mesh_laws.proofs.nodes.LegParts.{MayStand}
 

@@ -31,12 +31,12 @@ use Rattle.mesh_rules.specs.Releases.{tears, releases, release_with}
 use Rattle.mesh_rules.specs.Orders.{on_order, on_item}
 use Rattle.mesh_rules.specs.Changes.{Answer, nothing, changes_calls, followed_by, changed}
 use Rattle.mesh_laws.specs.CallLaw.{fits, names, phase_of}
-use Rattle.mesh_laws.proofs.nodes.Cases.{if_cases, both_left, both_right, not-true}
+use Rattle.mesh_nodes.proofs.Cases.{if_cases, both_left, both_right, not-true}
 use Rattle.mesh_laws.proofs.nodes.Facts.{CallFacts, FitsDesk, LegFacts, NodeFacts}
-use Rattle.mesh_laws.proofs.nodes.LegList.{found-lsp, same_lsp-refl, same_lsp-eq, find-with_leg}
+use Rattle.mesh_nodes.proofs.LegList.{found-lsp, same_lsp-refl, same_lsp-eq, find-with_leg}
 use Rattle.mesh_laws.proofs.nodes.LegParts.{part-with_leg}
 use Rattle.mesh_laws.proofs.nodes.NewLegs.{closed-stands, first-stands}
-use Rattle.mesh_laws.proofs.nodes.CallList.{found-number, find-with_call, find-without_call, rise-with_call, rise-without_call}
+use Rattle.mesh_nodes.proofs.CallList.{found-number, find-with_call, find-without_call, rise-with_call, rise-without_call}
 use Rattle.mesh_laws.proofs.nodes.CallParts.{Together, Becomes, names-work, named-work, other-stays, itself-became, lone-part, together-part}
 use Rattle.mesh_laws.proofs.nodes.CallKeeps.{call-fits, names-only, of-no-other}
 use Rattle.mesh_laws.proofs.nodes.Parts.{leg_part, call_part, node_facts, named}

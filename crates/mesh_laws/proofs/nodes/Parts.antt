@@ -14,7 +14,7 @@ use Rattle.mesh_rules.specs.State.{NodeState}
 use Rattle.mesh_rules.specs.Changes.{puts, removes, changed}
 use Rattle.mesh_laws.specs.CallLaw.{IsNamed, fits, phase_of}
 use Rattle.mesh_laws.proofs.nodes.Facts.{CallFacts, NodeFacts}
-use Rattle.mesh_laws.proofs.nodes.LegList.{find-with_leg, find-without_leg}
+use Rattle.mesh_nodes.proofs.LegList.{find-with_leg, find-without_leg}
 use Rattle.mesh_laws.proofs.nodes.LegParts.{LegPart, MayStand, part-with_leg, part-without_leg}
 use Rattle.mesh_laws.proofs.nodes.CallParts.{CallPart, Unnamed, named-work, unnamed-part}
 

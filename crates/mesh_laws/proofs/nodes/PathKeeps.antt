@@ -11,7 +11,7 @@ use Rattle.mesh_rules.specs.Sites.{Place, own_link, leads}
 use Rattle.mesh_rules.specs.State.{NodeState}
 use Rattle.mesh_rules.specs.Paths.{PathRequest, Check, is_for_work, leads_on, first_failure, checks, offered_labels, egress_leg, transit_leg}
 use Rattle.mesh_rules.specs.Paths.{at_egress, in_transit, admitted, judged, first_path, path_with}
-use Rattle.mesh_laws.proofs.nodes.Cases.{if_cases, both_left, both_right, not-true}
+use Rattle.mesh_nodes.proofs.Cases.{if_cases, both_left, both_right, not-true}
 use Rattle.mesh_laws.proofs.nodes.Facts.{NodeFacts}
 use Rattle.mesh_laws.proofs.nodes.NewLegs.{least-has, egress-stands, transit-stands}
 use Rattle.mesh_laws.proofs.nodes.Parts.{keeps-leg}

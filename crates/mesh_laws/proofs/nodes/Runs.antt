@@ -16,7 +16,7 @@ use Rattle.mesh_rules.specs.Orders.{on_tick}
 use Rattle.mesh_rules.specs.Commands.{is_again, is_valid}
 use Rattle.mesh_rules.specs.Machine.{Mesh, commit, start, without_first, without_item}
 use Rattle.mesh_rules.specs.Events.{IsRun, after, is_enabled, on_first, on_first_item, posted, step}
-use Rattle.mesh_laws.proofs.nodes.Cases.{both_left, if_cases}
+use Rattle.mesh_nodes.proofs.Cases.{both_left, if_cases}
 use Rattle.mesh_laws.proofs.nodes.Facts.{DeskFits, FitsDesk, MeshFacts, NodeFacts}
 use Rattle.mesh_laws.proofs.nodes.PathKeeps.{Keeps}
 use Rattle.mesh_laws.proofs.nodes.MessageKeeps.{keeps-on_message}

@@ -8,8 +8,8 @@ use Rattle.ason_base.specs.declared.ids.Lsp.{Lsp}
 use Rattle.ason_base.specs.declared.tables.CallRec.{CallRec}
 use Rattle.ason_base.specs.Lsps.{is_lsp}
 use Rattle.mesh_rules.specs.Calls.{find_call, call_of, with_call, without_call}
-use Rattle.mesh_laws.proofs.nodes.Facts.{CallsRise}
-use Rattle.mesh_laws.proofs.nodes.LegList.{all-then, all-filter}
+use Rattle.mesh_nodes.specs.Order.{CallsRise}
+use Rattle.mesh_nodes.proofs.LegList.{all-then, all-filter}
 
 -- Numbers
 
@@ -80,7 +80,7 @@ find-without_call k (d ∷ calls) m = go (find-without_call k calls m) (nat_eq d
 
 -- Order
 
-all-with_call : (P : CallRec → Type 0) (c : CallRec) (calls : List CallRec) → P c → AllByRecursion P calls →
+pub all-with_call : (P : CallRec → Type 0) (c : CallRec) (calls : List CallRec) → P c → AllByRecursion P calls →
     AllByRecursion P (with_call c calls)
 all-with_call P c [] here all = (here, tt)
 all-with_call P c (d ∷ calls) here all =

@@ -6,7 +6,7 @@ use Rattle.ason_base.specs.declared.ids.Lsp.{Lsp}
 use Rattle.ason_base.specs.declared.tables.Leg.{Leg}
 use Rattle.ason_base.specs.Lsps.{same_lsp, lsp_before}
 use Rattle.mesh_rules.specs.Legs.{find_leg, with_leg, without_leg}
-use Rattle.mesh_laws.proofs.nodes.Facts.{LegsRise}
+use Rattle.mesh_nodes.specs.Order.{LegsRise}
 
 -- LSPs
 
@@ -153,7 +153,7 @@ find-without_leg l (h ∷ legs) m = go (find-without_leg l legs m) (same_lsp h.l
 
 -- Order
 
-all-with_leg : (P : Leg → Type 0) (g : Leg) (legs : List Leg) → P g → AllByRecursion P legs →
+pub all-with_leg : (P : Leg → Type 0) (g : Leg) (legs : List Leg) → P g → AllByRecursion P legs →
     AllByRecursion P (with_leg g legs)
 all-with_leg P g [] here all = (here, tt)
 all-with_leg P g (h ∷ legs) here all =

@@ -1,0 +1,243 @@
+-- What the items of a desk do fits.
+use Rattle.std.proofs.Common.{◌≡◌, ◌≤◌, ◌<◌, ◌+◌, ℕ, Bool, true, false, cond, not, nat_eq, nat_lt, List, [], ◌∷◌, ◌++◌, length, refl, ap, ◌∙◌, arith}
+use Rattle.std.specs.Prelude.{◌&&◌, Option, Some, None}
+use Rattle.std.specs.List.{AllByRecursion}
+use Rattle.ason_base.specs.declared.calls.Cause.{Cause}
+use Rattle.ason_base.specs.declared.calls.Cause.TheVariants.{Spent, Full}
+use Rattle.ason_base.specs.declared.commands.Command.TheVariants.{Setup, Release, Protect, Retry, Revert, Fail, Repair}
+use Rattle.ason_base.specs.declared.commands.DeskItem.TheVariants.{Order, Alarm, Clear}
+use Rattle.ason_base.specs.declared.ids.CallNo.{CallNo}
+use Rattle.ason_base.specs.declared.ids.Lsp.{Lsp}
+use Rattle.ason_base.specs.declared.ids.NodeId.{NodeId}
+use Rattle.ason_base.specs.declared.network.LinkSpec.{LinkSpec}
+use Rattle.ason_base.specs.declared.steps.Step.{Step}
+use Rattle.ason_base.specs.declared.tables.CallRec.{CallRec}
+use Rattle.ason_base.specs.declared.tables.Leg.{Leg}
+use Rattle.ason_base.specs.declared.tables.Out.{Out}
+use Rattle.ason_base.specs.Lsps.{same_lsp}
+use Rattle.mesh_rules.specs.declared.changes.CallChange.TheVariants as call
+use Rattle.mesh_rules.specs.declared.limits.TheConstants.{MOST_LEGS, MOST_LINKS_OF_ROUTE}
+use Rattle.mesh_rules.specs.declared.neighbours.Neighbour.{Neighbour}
+use Rattle.mesh_rules.specs.Calls.{find_call, without_call}
+use Rattle.mesh_rules.specs.Changes.{changes_calls, followed_by, nothing}
+use Rattle.mesh_rules.specs.Legs.{closed, find_leg, following, leg_of, with_leg}
+use Rattle.mesh_rules.specs.Releases.{release_with, releases, tear_to, tears}
+use Rattle.mesh_rules.specs.Setups.{SetupRequest, admitted_setup, begins, first_leg, first_link, is_followable, is_full, is_order_here, is_spent, new_call, next_lsp, over_first, refused_setup, setup_with}
+use Rattle.mesh_rules.specs.Sites.{Place, own_link}
+use Rattle.mesh_rules.specs.State.{NodeState}
+use Rattle.mesh_nodes.specs.Kept.{LegFits, LegsFit, NodeFits}
+use Rattle.mesh_nodes.specs.Laws.{ItemsFit}
+use Rattle.mesh_nodes.specs.Places.{PlaceFits}
+use Rattle.mesh_nodes.specs.Sent.{AllToNeighbours, AllWritable, AnswerFits}
+use Rattle.mesh_nodes.proofs.Cases.{both_left, both_right, if_cases, not-true}
+use Rattle.mesh_nodes.proofs.Kept.{calls-less, calls-put, closed-fits, legs-changed, legs-more}
+use Rattle.mesh_nodes.proofs.LegList.{find-with_leg}
+use Rattle.mesh_nodes.proofs.Links.{end-downstream, end-near, own-is}
+use Rattle.mesh_nodes.proofs.Messages.{Stands, following-is_near, leg-stands}
+use Rattle.mesh_nodes.proofs.Paths.{below, nothing-fits, some_labels}
+
+-- Setup
+
+module _ (p : Place) (s : NodeState) (w : SetupRequest) (W : Type 0) (place : PlaceFits p) (fits : NodeFits p s)
+    (away : nat_eq w.egress.0 p.id.0 ≡ false) (followable : is_followable p w.backup ≡ true) where
+  refused-fits : (cause : Cause) → AnswerFits p s W (refused_setup w cause)
+  refused-fits cause = record {
+    kept = record {
+      legs =
+          fits.legs;
+      calls = calls-put p _ s.calls fits.calls followable;
+      first = fits.first;
+      numbers = fits.numbers;
+    };
+    near = tt;
+    written = λ x. tt;
+    few = omega arith;
+  }
+
+  first-leg-fits : (hop : Step) (out : LinkSpec) (route : List Step) → own_link p hop.link ≡ Some out →
+      LegFits p (s.lsp + 1) (first_leg p (next_lsp p s) w.egress out route)
+  first-leg-fits hop out route found = record {
+    prev = (let here : nat_eq p.id.0 p.id.0 ≡ true = grind arith in rw here refl);
+    in_fibre = refl;
+    next_node = rw away refl;
+    out_fibre = refl;
+    upstream = tt;
+    downstream = end-downstream p hop.link out found;
+    role = refl;
+    in_label = λ beyond. absurd (cc beyond);
+    out_label = λ beyond. absurd (cc beyond);
+    number = λ e. omega arith;
+  }
+
+  begins-fits : (hop : Step) (out : LinkSpec) (route : List Step) → own_link p hop.link ≡ Some out → length route ≤ 64 →
+      length s.legs < MOST_LEGS → AnswerFits p s W (begins p s w out route)
+  begins-fits hop out route found short room = record {
+    kept = record {
+      legs =
+          legs-more p s.lsp (s.lsp + 1) (first_leg p (next_lsp p s) w.egress out route) s.legs (omega arith) fits.legs room (first-leg-fits hop out route found);
+      calls = calls-put p _ s.calls fits.calls followable;
+      first = (let first = fits.first in omega arith);
+      numbers = (let numbers = fits.numbers in omega arith);
+    };
+    near = (end-near p hop.link out found, tt);
+    written = λ x. ((some_labels out.labels (own-is p hop.link out place found).labelled, short, tt), tt);
+    few = omega arith;
+  }
+
+  admitted-fits : (hop : Step) (out : LinkSpec) (route : List Step) → own_link p hop.link ≡ Some out → length route ≤ 64 →
+      AnswerFits p s W (admitted_setup p s w out route)
+  admitted-fits hop out route found short =
+      if_cases (AnswerFits p s W) (is_spent s) _ _ (λ e. refused-fits Spent)
+      (λ e. if_cases (AnswerFits p s W) (is_full s) _ _ (λ f. refused-fits Full) (λ f. begins-fits hop out route found short (below (length s.legs) f)))
+
+  few-steps : (n : ℕ) → nat_lt n MOST_LINKS_OF_ROUTE ≡ true → n ≤ 64
+  few-steps n e = grind arith
+
+  over-fits : (hop : Step) (route : List Step) (o : Option LinkSpec) → first_link p (hop ∷ route) ≡ o →
+      AnswerFits p s W (over_first p s w (hop ∷ route) o)
+  over-fits hop route None found = nothing-fits p s W fits
+  over-fits hop route (Some out) found = go (nat_eq hop.node.0 p.id.0 && nat_lt (length route) MOST_LINKS_OF_ROUTE) refl found
+    where
+      go : (b : Bool) → (nat_eq hop.node.0 p.id.0 && nat_lt (length route) MOST_LINKS_OF_ROUTE) ≡ b →
+          cond b (own_link p hop.link) None ≡ Some out → AnswerFits p s W (admitted_setup p s w out route)
+      go true e f = admitted-fits hop out route f (few-steps (length route) (both_right (nat_eq hop.node.0 p.id.0) _ e))
+      go false e f = absurd (cc f)
+
+  new_call-fits : (via : Option (List Step)) → AnswerFits p s W (new_call p s w via)
+  new_call-fits None = nothing-fits p s W fits
+  new_call-fits (Some []) = nothing-fits p s W fits
+  new_call-fits (Some (hop ∷ route)) = over-fits hop route (first_link p (hop ∷ route)) refl
+
+setup-fits : (p : Place) (s : NodeState) (w : SetupRequest) (W : Type 0) (o : Option CallRec) → PlaceFits p → NodeFits p s →
+    AnswerFits p s W (setup_with p s w o)
+setup-fits p s w W (Some c) place fits = nothing-fits p s W fits
+setup-fits p s w W None place fits =
+    if_cases (AnswerFits p s W) (is_order_here p w) _ _
+    (λ e.
+    let to_other = both_right (nat_eq w.from.0 p.id.0) _ e in
+    let rest = both_right (not (nat_eq w.egress.0 p.id.0)) _ to_other in
+    let rest' = both_right (not w.protected) _ rest in
+    new_call-fits p s w W place fits (not-true _ (both_left _ _ to_other)) (both_right (not w.both) _ rest') w.via)
+    (λ e. nothing-fits p s W fits)
+
+-- Release
+
+-- what tearing an LSP sends
+record TearFits (p : Place) (outs : List Out) : Type 0 where
+  near : AllToNeighbours p outs
+  written : AllWritable outs
+  few : length outs ≤ 1
+
+tear_to-fits : (p : Place) (next : ℕ) (g : Leg) (o : Option Neighbour) → LegFits p next g → following g ≡ o →
+    TearFits p (tear_to g o)
+tear_to-fits p next g None fits is = record { near = tt; written = tt; few = omega arith }
+tear_to-fits p next g (Some h) fits is = record {
+  near =
+      (following-is_near p next g h fits is, tt);
+  written = (tt, tt);
+  few = omega arith;
+}
+
+all-append : {X : Type 0} (P : X → Type 0) (xs ys : List X) → AllByRecursion P xs → AllByRecursion P ys →
+    AllByRecursion P (xs ++ ys)
+all-append P [] ys a b = b
+all-append P (x ∷ xs) ys a b = (a.0, all-append P xs ys a.1 b)
+
+few-append : (a b : List Out) → length a ≤ 1 → length b ≤ 1 → length (a ++ b) ≤ 65536
+few-append [] b h k = omega arith
+few-append (x ∷ []) b h k = omega arith
+few-append (x ∷ y ∷ a) b h k = absurd (omega arith)
+
+closed-legs : (p : Place) (s : NodeState) (g : Leg) → NodeFits p s → Stands p s g → LegsFit p s.lsp (with_leg (closed g) s.legs)
+closed-legs p s g fits stands = legs-changed p s.lsp (closed g) g s.legs fits.legs stands.found (closed-fits p s.lsp g stands.fits)
+
+-- a leg that stands closes after another one, or that one itself
+closed-both : (p : Place) (s : NodeState) (g h : Leg) → NodeFits p s → Stands p s g → Stands p s h →
+    LegsFit p s.lsp (with_leg (closed h) (with_leg (closed g) s.legs))
+closed-both p s g h fits this that = go (same_lsp g.lsp h.lsp) refl
+  where
+    found : find_leg h.lsp (with_leg (closed g) s.legs) ≡ cond (same_lsp g.lsp h.lsp) (Some (closed g)) (find_leg h.lsp s.legs)
+    found = find-with_leg (closed g) s.legs h.lsp
+
+    by : (k : Leg) → find_leg h.lsp (with_leg (closed g) s.legs) ≡ Some k →
+        LegsFit p s.lsp (with_leg (closed h) (with_leg (closed g) s.legs))
+    by k e =
+        legs-changed p s.lsp (closed h) k (with_leg (closed g) s.legs) (closed-legs p s g fits this) e (closed-fits p s.lsp h that.fits)
+
+    go : (b : Bool) → same_lsp g.lsp h.lsp ≡ b → LegsFit p s.lsp (with_leg (closed h) (with_leg (closed g) s.legs))
+    go true e = by (closed g) (found ∙ ap (λ b. cond b (Some (closed g)) (find_leg h.lsp s.legs)) e)
+    go false e = by h (found ∙ ap (λ b. cond b (Some (closed g)) (find_leg h.lsp s.legs)) e ∙ that.found)
+
+leg_of-stands : (p : Place) (s : NodeState) (o : Option Lsp) (g : Leg) → NodeFits p s → leg_of o s.legs ≡ Some g → Stands p s g
+leg_of-stands p s None g fits e = absurd (cc e)
+leg_of-stands p s (Some l) g fits e = leg-stands p s l g fits e
+
+module _ (p : Place) (s : NodeState) (n : CallNo) (W : Type 0) (fits : NodeFits p s) where
+  -- the call goes
+  kept : (legs : List Leg) → LegsFit p s.lsp legs → NodeFits p (record s { legs = legs; calls = without_call n s.calls })
+  kept legs here = record { legs = here; calls = calls-less p n s.calls fits.calls; first = fits.first; numbers = fits.numbers }
+
+  tears-fit : (a b : Option Leg) → ((g : Leg) → a ≡ Some g → Stands p s g) → ((g : Leg) → b ≡ Some g → Stands p s g) →
+      AnswerFits p s W (followed_by (tears a) (followed_by (tears b) (changes_calls (call.Goes n ∷ []))))
+  tears-fit None None this that = record { kept = kept s.legs fits.legs; near = tt; written = λ w. tt; few = omega arith }
+  tears-fit None (Some h) this that =
+      let t = tear_to-fits p s.lsp h (following h) (that h refl).fits refl in
+      record {
+        kept = kept (with_leg (closed h) s.legs) (closed-legs p s h fits (that h refl));
+        near = all-append _ (tear_to h (following h)) [] t.near tt;
+        written = λ w. all-append _ (tear_to h (following h)) [] t.written tt;
+        few = few-append (tear_to h (following h)) [] t.few (omega arith);
+      }
+  tears-fit (Some g) None this that =
+      let t = tear_to-fits p s.lsp g (following g) (this g refl).fits refl in
+      record {
+        kept = kept (with_leg (closed g) s.legs) (closed-legs p s g fits (this g refl));
+        near = all-append _ (tear_to g (following g)) [] t.near tt;
+        written = λ w. all-append _ (tear_to g (following g)) [] t.written tt;
+        few = few-append (tear_to g (following g)) [] t.few (omega arith);
+      }
+  tears-fit (Some g) (Some h) this that =
+      let t = tear_to-fits p s.lsp g (following g) (this g refl).fits refl in
+      let u = tear_to-fits p s.lsp h (following h) (that h refl).fits refl in
+      record {
+        kept = kept (with_leg (closed h) (with_leg (closed g) s.legs)) (closed-both p s g h fits (this g refl) (that h refl));
+        near = all-append _ (tear_to g (following g)) _ t.near (all-append _ (tear_to h (following h)) [] u.near tt);
+        written = λ w. all-append _ (tear_to g (following g)) _ t.written (all-append _ (tear_to h (following h)) [] u.written tt);
+        few = few-append (tear_to g (following g)) (tear_to h (following h) ++ []) t.few (few-end (tear_to h (following h)) u.few);
+      }
+    where
+      few-end : (outs : List Out) → length outs ≤ 1 → length (outs ++ []) ≤ 1
+      few-end [] h = omega arith
+      few-end (x ∷ []) h = omega arith
+      few-end (x ∷ y ∷ outs) h = absurd (omega arith)
+
+release-fits : (p : Place) (s : NodeState) (from : NodeId) (W : Type 0) (o : Option CallRec) → NodeFits p s →
+    AnswerFits p s W (release_with p s from o)
+release-fits p s from W None fits = nothing-fits p s W fits
+release-fits p s from W (Some c) fits =
+    if_cases (AnswerFits p s W) (nat_eq from.0 p.id.0) (releases s c) nothing
+    (λ e. tears-fit p s c.call W fits (leg_of c.work s.legs) (leg_of c.back s.legs) (λ g. leg_of-stands p s c.work g fits) (λ g. leg_of-stands p s c.back g fits))
+    (λ e. nothing-fits p s W fits)
+
+-- Every item
+
+pub items-fit : ItemsFit
+items-fit p s (Order (Setup n from to protected both via backup)) place fits =
+    setup-fits p s (record {
+      call =
+          n;
+      from = from;
+      egress = to;
+      protected = protected;
+      both = both;
+      via = via;
+      backup = backup;
+    }) (Unit {0}) (find_call n s.calls) place fits
+items-fit p s (Order (Release n from)) place fits = release-fits p s from (Unit {0}) (find_call n s.calls) fits
+items-fit p s (Order (Protect n from)) place fits = nothing-fits p s (Unit {0}) fits
+items-fit p s (Order (Retry n from)) place fits = nothing-fits p s (Unit {0}) fits
+items-fit p s (Order (Revert n from)) place fits = nothing-fits p s (Unit {0}) fits
+items-fit p s (Order (Fail g)) place fits = nothing-fits p s (Unit {0}) fits
+items-fit p s (Order (Repair g)) place fits = nothing-fits p s (Unit {0}) fits
+items-fit p s (Alarm f) place fits = nothing-fits p s (Unit {0}) fits
+items-fit p s (Clear f) place fits = nothing-fits p s (Unit {0}) fits

@@ -1,0 +1,9 @@
+pub mod CallList
+pub mod Cases
+pub mod Items
+pub mod Kept
+pub mod LegList
+pub mod Links
+pub mod Messages
+pub mod NewNodes
+pub mod Paths

@@ -1,0 +1,283 @@
+-- What a Resv, a PathErr, a PathTear and every message do fits.
+use Rattle.std.proofs.Common.{◌≡◌, ℕ, true, not, [], ◌∷◌, refl, sym, subst, arith}
+use Rattle.std.specs.Prelude.{◌&&◌, Option, Some, None, IfSome, is_some}
+use Rattle.ason_base.specs.Codes.{torn_code}
+use Rattle.ason_base.specs.Labels.{has}
+use Rattle.ason_base.specs.Writable.{IsWritableMsg}
+use Rattle.ason_base.specs.declared.calls.Cause.TheVariants.{Code}
+use Rattle.ason_base.specs.declared.ids.Lsp.{Lsp}
+use Rattle.ason_base.specs.declared.ids.NodeId.{NodeId}
+use Rattle.ason_base.specs.declared.messages.Msg.TheVariants.{Path, Resv, PathTear, PathErr, Notify}
+use Rattle.ason_base.specs.declared.tables.CallRec.{CallRec}
+use Rattle.ason_base.specs.declared.tables.Leg.{Leg}
+use Rattle.ason_base.specs.Lsps.{is_lsp}
+use Rattle.mesh_rules.specs.declared.arrivals.Arrival.{Arrival}
+use Rattle.mesh_rules.specs.declared.changes.CallChange.TheVariants as call
+use Rattle.mesh_rules.specs.declared.neighbours.Neighbour.{Neighbour}
+use Rattle.mesh_rules.specs.Calls.{bare, blocked, call_of, is_asking}
+use Rattle.mesh_rules.specs.Changes.{changes_calls, followed_by, nothing, puts, removes, to_node}
+use Rattle.mesh_rules.specs.Legs.{closed, connected, find_leg, following, is_asked, is_closing, is_node, is_over, is_work, previous, with_leg}
+use Rattle.mesh_rules.specs.Messages.{arrival}
+use Rattle.mesh_rules.specs.PathErrs.{PathFailure, call_refused, err_passed, path_err_with, refused_here, removed}
+use Rattle.mesh_rules.specs.Resvs.{answered, call_connected, connected_here, is_expected, label_back, labels_left, passed_back, resv_with}
+use Rattle.mesh_rules.specs.Sites.{Place}
+use Rattle.mesh_rules.specs.State.{NodeState}
+use Rattle.mesh_rules.specs.Tears.{tear_with, torn}
+use Rattle.mesh_nodes.specs.Kept.{CallFits, LegFits, LegsFit, NodeFits}
+use Rattle.mesh_nodes.specs.Laws.{MessagesFit}
+use Rattle.mesh_nodes.specs.Places.{is_downstream, is_neighbour, is_upstream}
+use Rattle.mesh_nodes.specs.Sent.{AnswerFits}
+use Rattle.mesh_nodes.proofs.Cases.{both_left, both_right, if_cases}
+use Rattle.mesh_nodes.proofs.Kept.{alone-fibre, beside-fibre, calls-put, closed-fits, connected-fits, legs-changed, legs-less, over-fibre}
+use Rattle.mesh_nodes.proofs.LegList.{found-all, found-lsp}
+use Rattle.mesh_nodes.proofs.Links.{downstream-near, found-one, over-near, upstream-near}
+use Rattle.mesh_nodes.proofs.Paths.{nothing-fits, on_path-fits}
+
+-- A leg that is found
+
+pub record Stands (p : Place) (s : NodeState) (g : Leg) : Type 0 where
+  pub found : find_leg g.lsp s.legs ≡ Some g
+  pub fits : LegFits p s.lsp g
+
+pub leg-stands : (p : Place) (s : NodeState) (l : Lsp) (g : Leg) → NodeFits p s → find_leg l s.legs ≡ Some g → Stands p s g
+leg-stands p s l g fits found = record {
+  found = subst (λ k. find_leg k s.legs ≡ Some g) (sym (found-lsp l s.legs g found)) found;
+  fits = found-all (LegFits p s.lsp) l s.legs g found fits.legs.each;
+}
+
+if-some : {X : Type 0} (P Q : X → Type 0) (o : Option X) → ((x : X) → P x → Q x) → IfSome o P → IfSome o Q
+if-some P Q None f here = tt
+if-some P Q (Some x) f here = f x here
+
+previous-near : (p : Place) (next : ℕ) (g : Leg) → LegFits p next g → IfSome (previous g) (λ h. is_neighbour p h.node ≡ true)
+previous-near p next g fits =
+    if-some (λ h. is_upstream p h ≡ true) (λ h. is_neighbour p h.node ≡ true) (previous g) (λ h. upstream-near p h) fits.upstream
+
+following-near : (p : Place) (next : ℕ) (g : Leg) → LegFits p next g → IfSome (following g) (λ h. is_neighbour p h.node ≡ true)
+following-near p next g fits =
+    if-some (λ h. is_downstream p h ≡ true) (λ h. is_neighbour p h.node ≡ true) (following g) (λ h. downstream-near p h) fits.downstream
+
+some-of : {X : Type 0} (P : X → Type 0) (o : Option X) (x : X) → o ≡ Some x → IfSome o P → P x
+some-of P o x e here = subst (λ y. IfSome y P) e here
+
+pub previous-is_near : (p : Place) (next : ℕ) (g : Leg) (h : Neighbour) → LegFits p next g → previous g ≡ Some h →
+    is_neighbour p h.node ≡ true
+previous-is_near p next g h fits e = some-of (λ k. is_neighbour p k.node ≡ true) (previous g) h e (previous-near p next g fits)
+
+pub following-is_near : (p : Place) (next : ℕ) (g : Leg) (h : Neighbour) → LegFits p next g → following g ≡ Some h →
+    is_neighbour p h.node ≡ true
+following-is_near p next g h fits e = some-of (λ k. is_neighbour p k.node ≡ true) (following g) h e (following-near p next g fits)
+
+-- Resv
+
+module _ (p : Place) (s : NodeState) (a : Arrival) (x : ℕ) (g : Leg) (W : Type 0) (fits : NodeFits p s) (stands : Stands p s g)
+    (over : is_over (following g) a.from a.link ≡ true) where
+  out : is_some g.out_fibre ≡ true
+  out = over-fibre g.next g.out_fibre a.from a.link over
+
+  from-near : is_neighbour p a.from ≡ true
+  from-near = over-near p (following g) a.from a.link (following-near p s.lsp g stands.fits) over
+
+  -- the leg with the label that came, and the label that goes back where there is a fibre in
+  connected-legs : (label : Option ℕ) → is_some label ≡ is_some g.in_fibre → LegsFit p s.lsp (with_leg (connected g label x) s.legs)
+  connected-legs label labelled =
+      legs-changed p s.lsp (connected g label x) g s.legs fits.legs stands.found (connected-fits p s.lsp g label x stands.fits labelled out)
+
+  passed_back-fits : (h : Neighbour) (o : Option ℕ) → previous g ≡ Some h → AnswerFits p s W (passed_back p a g h x o)
+  passed_back-fits h None is = record {
+    kept = record {
+      legs = legs-changed p s.lsp (closed g) g s.legs fits.legs stands.found (closed-fits p s.lsp g stands.fits);
+      calls = fits.calls;
+      first = fits.first;
+      numbers = fits.numbers;
+    };
+    near = (from-near, (previous-is_near p s.lsp g h stands.fits is, tt));
+    written = λ w. (tt, (tt, tt));
+    few = omega arith;
+  }
+  passed_back-fits h (Some y) is = record {
+    kept = record {
+      legs = connected-legs (Some y) (sym (beside-fibre g.prev g.in_fibre h is));
+      calls = fits.calls;
+      first = fits.first;
+      numbers = fits.numbers;
+    };
+    near = (previous-is_near p s.lsp g h stands.fits is, tt);
+    written = λ w. (tt, tt);
+    few = omega arith;
+  }
+
+  connected_here-fits : previous g ≡ None → AnswerFits p s W (connected_here s x g)
+  connected_here-fits is = go (call_of g.lsp s.calls) refl
+    where
+      legs : LegsFit p s.lsp (with_leg (connected g None x) s.legs)
+      legs = connected-legs None (sym (alone-fibre g.prev g.in_fibre stands.fits.in_fibre is))
+
+      go : (o : Option CallRec) → call_of g.lsp s.calls ≡ o →
+          AnswerFits p s W (followed_by (puts (connected g None x) []) (call_connected o))
+      go None called = record {
+        kept = record {
+          legs =
+              legs;
+          calls = fits.calls;
+          first = fits.first;
+          numbers = fits.numbers;
+        };
+        near = tt;
+        written = λ w. tt;
+        few = omega arith;
+      }
+      go (Some c) called =
+          if_cases (λ b. AnswerFits p s W (followed_by (puts (connected g None x) []) b)) (is_asking c.state && not c.protected) (changes_calls (call.Put (bare c) ∷ [])) nothing
+          (λ e. record {
+            kept = record {
+              legs =
+                  legs;
+              calls = calls-put p (bare c) s.calls fits.calls (call-fits c called);
+              first = fits.first;
+              numbers = fits.numbers;
+            };
+            near = tt;
+            written = λ w. tt;
+            few = omega arith;
+          })
+          (λ e. record { kept = record { legs = legs; calls = fits.calls; first = fits.first; numbers = fits.numbers }; near = tt; written = λ w. tt; few = omega arith })
+        where
+          call-fits : (d : CallRec) → call_of g.lsp s.calls ≡ Some d → CallFits p d
+          call-fits d e = found-one (CallFits p) (λ b. is_lsp b.work g.lsp) s.calls d e fits.calls.each
+
+  answered-fits : (o : Option Neighbour) → previous g ≡ o → AnswerFits p s W (answered p s a x g o)
+  answered-fits None is = connected_here-fits is
+  answered-fits (Some h) is = passed_back-fits h (label_back p (labels_left p s g h) x) is
+
+resv-fits : (p : Place) (s : NodeState) (a : Arrival) (x : ℕ) (W : Type 0) (o : Option Leg) → NodeFits p s →
+    find_leg a.lsp s.legs ≡ o → AnswerFits p s W (resv_with p s a x o)
+resv-fits p s a x W None fits found = nothing-fits p s W fits
+resv-fits p s a x W (Some g) fits found =
+    if_cases (AnswerFits p s W) (is_expected a x g) _ _
+    (λ e.
+    let rest : (is_work g.role && (is_over (following g) a.from a.link && has g.sent x)) ≡ true = both_right (is_asked g.phase) _ e in
+    let rest' : (is_over (following g) a.from a.link && has g.sent x) ≡ true = both_right (is_work g.role) _ rest in
+    answered-fits p s a x g W fits (leg-stands p s a.lsp g fits found) (both_left (is_over (following g) a.from a.link) _ rest') (previous g) refl)
+    (λ e. nothing-fits p s W fits)
+
+-- PathErr
+
+module _ (p : Place) (s : NodeState) (g : Leg) (e : PathFailure) (W : Type 0) (fits : NodeFits p s) (stands : Stands p s g) (writable : W → IsWritableMsg e.msg) where
+  gone-fits : AnswerFits p s W (removes g.lsp [])
+  gone-fits = record {
+    kept = record {
+      legs =
+          legs-less p s.lsp g.lsp s.legs fits.legs;
+      calls = fits.calls;
+      first = fits.first;
+      numbers = fits.numbers;
+    };
+    near = tt;
+    written = λ w. tt;
+    few = omega arith;
+  }
+
+  refused_here-fits : AnswerFits p s W (refused_here s g e.code)
+  refused_here-fits = go (call_of g.lsp s.calls) refl
+    where
+      go : (o : Option CallRec) → call_of g.lsp s.calls ≡ o →
+          AnswerFits p s W (followed_by (removes g.lsp []) (call_refused e.code o))
+      go None called = gone-fits
+      go (Some c) called =
+          if_cases (λ b. AnswerFits p s W (followed_by (removes g.lsp []) b)) (is_asking c.state) (changes_calls (call.Put (blocked c (Code e.code)) ∷ [])) nothing
+          (λ t. record {
+            kept = record {
+              legs = legs-less p s.lsp g.lsp s.legs fits.legs;
+              calls =
+                  calls-put p (blocked c (Code e.code)) s.calls fits.calls (found-one (CallFits p) (λ b. is_lsp b.work g.lsp) s.calls c called fits.calls.each);
+              first = fits.first;
+              numbers = fits.numbers;
+            };
+            near = tt;
+            written = λ w. tt;
+            few = omega arith;
+          })
+          (λ t. gone-fits)
+
+  passed-fits : (o : Option Neighbour) → previous g ≡ o → AnswerFits p s W (err_passed s g e o)
+  passed-fits None is = refused_here-fits
+  passed-fits (Some h) is = record {
+    kept = record {
+      legs =
+          legs-less p s.lsp g.lsp s.legs fits.legs;
+      calls = fits.calls;
+      first = fits.first;
+      numbers = fits.numbers;
+    };
+    near = (previous-is_near p s.lsp g h stands.fits is, tt);
+    written = λ w. (writable w, tt);
+    few = omega arith;
+  }
+
+  removed-fits : AnswerFits p s W (removed s g e)
+  removed-fits =
+      if_cases (AnswerFits p s W) (is_asked g.phase) _ _ (λ t. passed-fits (previous g) refl)
+      (λ t. if_cases (AnswerFits p s W) (is_closing g.phase) _ _ (λ c. gone-fits) (λ c. nothing-fits p s W fits))
+
+err-fits : (p : Place) (s : NodeState) (u : NodeId) (e : PathFailure) (W : Type 0) (o : Option Leg) → NodeFits p s →
+    find_leg e.lsp s.legs ≡ o → (W → IsWritableMsg e.msg) → AnswerFits p s W (path_err_with s u e o)
+err-fits p s u e W None fits found writable = nothing-fits p s W fits
+err-fits p s u e W (Some g) fits found writable =
+    if_cases (AnswerFits p s W) (e.removed && is_node (following g) u) _ _
+    (λ t. removed-fits p s g e W fits (leg-stands p s e.lsp g fits found) writable) (λ t. nothing-fits p s W fits)
+
+-- PathTear
+
+torn-fits : (p : Place) (s : NodeState) (a : Arrival) (g : Leg) (W : Type 0) (o : Option Neighbour) → NodeFits p s → Stands p s g →
+    is_over (previous g) a.from a.link ≡ true → following g ≡ o →
+    AnswerFits p s W (torn g (to_node a.from (PathErr g.lsp g.egress p.id true torn_code)) o)
+torn-fits p s a g W None fits stands over is = record {
+  kept = record { legs = legs-less p s.lsp g.lsp s.legs fits.legs; calls = fits.calls; first = fits.first; numbers = fits.numbers };
+  near = (over-near p (previous g) a.from a.link (previous-near p s.lsp g stands.fits) over, tt);
+  written = λ w. (tt, tt);
+  few = omega arith;
+}
+torn-fits p s a g W (Some h) fits stands over is = record {
+  kept = record {
+    legs = legs-changed p s.lsp (closed g) g s.legs fits.legs stands.found (closed-fits p s.lsp g stands.fits);
+    calls = fits.calls;
+    first = fits.first;
+    numbers = fits.numbers;
+  };
+  near =
+      (over-near p (previous g) a.from a.link (previous-near p s.lsp g stands.fits) over, (following-is_near p s.lsp g h stands.fits is, tt));
+  written = λ w. (tt, (tt, tt));
+  few = omega arith;
+}
+
+tear-fits : (p : Place) (s : NodeState) (a : Arrival) (W : Type 0) (o : Option Leg) → NodeFits p s → find_leg a.lsp s.legs ≡ o →
+    AnswerFits p s W (tear_with p a o)
+tear-fits p s a W None fits found = nothing-fits p s W fits
+tear-fits p s a W (Some g) fits found =
+    if_cases (AnswerFits p s W) (not (is_closing g.phase) && is_over (previous g) a.from a.link) _ _
+    (λ e. torn-fits p s a g W (following g) fits (leg-stands p s a.lsp g fits found) (both_right (not (is_closing g.phase)) _ e) refl)
+    (λ e. nothing-fits p s W fits)
+
+-- Every message
+
+pub messages-fit : MessagesFit
+messages-fit p s u (Path l e k route set up r) place fits =
+    on_path-fits p s (record {
+      arrival =
+          arrival l e u k;
+      route = route;
+      set = set;
+      role = r;
+    }) (IsWritableMsg (Path l e k route set up r)) (λ w. (w.1, w.2)) place fits
+messages-fit p s u (Resv l e k x) place fits = resv-fits p s (arrival l e u k) x (Unit {0}) (find_leg l s.legs) fits refl
+messages-fit p s u (PathTear l e k) place fits = tear-fits p s (arrival l e u k) (Unit {0}) (find_leg l s.legs) fits refl
+messages-fit p s u (PathErr l e at gone code) place fits =
+    err-fits p s u (record {
+      lsp =
+          l;
+      msg = PathErr l e at gone code;
+      removed = gone;
+      code = code;
+    }) (Unit {0}) (find_leg l s.legs) fits refl (λ w. tt)
+messages-fit p s u (Notify l e at k code) place fits = nothing-fits p s (Unit {0}) fits

@@ -1,0 +1,174 @@
+-- What a Path does fits.
+use Rattle.std.proofs.Common.{◌≡◌, ◌≤◌, ◌<◌, ℕ, zero, suc, Bool, true, false, cond, not, nat_eq, nat_le, List, [], ◌∷◌, length, refl, sym, arith}
+use Rattle.std.specs.Prelude.{◌&&◌, Option, Some, None}
+use Rattle.ason_base.specs.Labels.{least, numbers_from, up_to}
+use Rattle.ason_base.specs.Writable.{IsWritableRole}
+use Rattle.ason_base.specs.declared.codes.ErrCode.{ErrCode}
+use Rattle.ason_base.specs.declared.ids.LinkId.{LinkId}
+use Rattle.ason_base.specs.declared.network.LinkSpec.{LinkSpec}
+use Rattle.ason_base.specs.declared.steps.Step.{Step}
+use Rattle.ason_base.specs.declared.tables.Leg.{Leg}
+use Rattle.mesh_rules.specs.declared.limits.TheConstants.{MOST_LEGS}
+use Rattle.mesh_rules.specs.Changes.{nothing}
+use Rattle.mesh_rules.specs.Legs.{find_leg}
+use Rattle.mesh_rules.specs.Paths.{PathRequest, admitted, at_egress, checks, egress_leg, first_failure, first_path, in_transit, is_for_work, is_none, judged, leads_on, offered_labels, on_path, path_with, set_on, transit_leg}
+use Rattle.mesh_rules.specs.Sites.{Place, is_link_there, leads, own_link}
+use Rattle.mesh_rules.specs.State.{NodeState}
+use Rattle.mesh_nodes.specs.Kept.{LegFits, NodeFits}
+use Rattle.mesh_nodes.specs.Places.{PlaceFits}
+use Rattle.mesh_nodes.specs.Sent.{AnswerFits}
+use Rattle.mesh_nodes.proofs.Cases.{both_left, both_right, if_cases, not-true}
+use Rattle.mesh_nodes.proofs.Kept.{legs-more}
+use Rattle.mesh_nodes.proofs.Links.{end-downstream, end-near, own-is, sender-near, sender-upstream}
+
+-- the node keeps what it kept, and nothing is sent
+pub nothing-fits : (p : Place) (s : NodeState) (W : Type 0) → NodeFits p s → AnswerFits p s W nothing
+nothing-fits p s W fits = record { kept = fits; near = tt; written = λ w. tt; few = omega arith }
+
+pub some_labels : (n : ℕ) → 1 ≤ n → 1 ≤ length (up_to n)
+unfolding numbers_from
+some_labels zero h = absurd (omega arith)
+some_labels (suc n) h = omega arith
+
+some_offered : (xs : List ℕ) → is_none (least xs) ≡ false → 1 ≤ length xs
+some_offered [] e = absurd (cc e)
+some_offered (x ∷ xs) e = omega arith
+
+away : (a n : ℕ) (P : Type 0) → nat_eq a n ≡ false → a ≡ n → P
+away a n P e f = let same : nat_eq a n ≡ true = grind arith in absurd (cc (e, same))
+
+flip : (a b : ℕ) (c : Bool) → nat_eq a b ≡ c → nat_eq b a ≡ c
+flip a b true e = grind arith
+flip a b false e = grind arith
+
+pub below : (n : ℕ) → nat_le MOST_LEGS n ≡ false → n < MOST_LEGS
+below n e = grind arith
+
+-- A Path of a working LSP over this link, from its other end, whose ingress is elsewhere. W: the Path can be written.
+module _ (p : Place) (s : NodeState) (m : PathRequest) (link : LinkSpec) (W : Type 0) (place : PlaceFits p) (fits : NodeFits p s)
+    (own : own_link p m.arrival.link ≡ Some link) (led : leads (Some link) m.arrival.from p.id ≡ true)
+    (far : nat_eq m.arrival.lsp.ingress.0 p.id.0 ≡ false) (work : is_for_work m.role ≡ true) where
+  refused-fits : (code : ErrCode) → AnswerFits p s W (judged p s m link (Some code))
+  refused-fits code = record {
+    kept = fits;
+    near = (sender-near p m.arrival.link link m.arrival.from place own led, tt);
+    written = λ w. (tt, tt);
+    few = omega arith;
+  }
+
+  egress-leg-fits : (offered : List ℕ) (x : ℕ) → nat_eq m.arrival.egress.0 p.id.0 ≡ true →
+      LegFits p s.lsp (egress_leg p m link offered x)
+  egress-leg-fits offered x here = record {
+    prev = rw far refl;
+    in_fibre = refl;
+    next_node = rw here refl;
+    out_fibre = refl;
+    upstream = sender-upstream p m.arrival.link link m.arrival.from place own led;
+    downstream = tt;
+    role = sym work;
+    in_label = λ beyond. refl;
+    out_label = λ beyond. refl;
+    number = away m.arrival.lsp.ingress.0 p.id.0 (m.arrival.lsp.lsp < s.lsp) far;
+  }
+
+  transit-leg-fits : (k : LinkId) (out : LinkSpec) (route : List Step) (offered : List ℕ) → own_link p k ≡ Some out →
+      nat_eq m.arrival.egress.0 p.id.0 ≡ false → LegFits p s.lsp (transit_leg p m link out route offered)
+  transit-leg-fits k out route offered found on = record {
+    prev = rw far refl;
+    in_fibre = refl;
+    next_node = rw on refl;
+    out_fibre = refl;
+    upstream = sender-upstream p m.arrival.link link m.arrival.from place own led;
+    downstream = end-downstream p k out found;
+    role = sym work;
+    in_label = λ beyond. absurd (cc beyond);
+    out_label = λ beyond. absurd (cc beyond);
+    number = away m.arrival.lsp.ingress.0 p.id.0 (m.arrival.lsp.lsp < s.lsp) far;
+  }
+
+  at_egress-fits : (offered : List ℕ) (o : Option ℕ) → length s.legs < MOST_LEGS → nat_eq m.arrival.egress.0 p.id.0 ≡ true →
+      AnswerFits p s W (at_egress p m link offered o)
+  at_egress-fits offered None room here = nothing-fits p s W fits
+  at_egress-fits offered (Some x) room here = record {
+    kept = record {
+      legs =
+          legs-more p s.lsp s.lsp (egress_leg p m link offered x) s.legs (omega arith) fits.legs room (egress-leg-fits offered x here);
+      calls = fits.calls;
+      first = fits.first;
+      numbers = fits.numbers;
+    };
+    near = (sender-near p m.arrival.link link m.arrival.from place own led, tt);
+    written = λ w. (tt, tt);
+    few = omega arith;
+  }
+
+  -- the set that is sent on isn't empty
+  set-some : (out : LinkSpec) (offered : List ℕ) → 1 ≤ out.labels → is_none (least offered) ≡ false →
+      1 ≤ length (set_on p out offered)
+  set-some out offered labelled some = go p.convert
+    where
+      go : (b : Bool) → 1 ≤ length (cond b (up_to out.labels) offered)
+      go true = some_labels out.labels labelled
+      go false = some_offered offered some
+
+  in_transit-fits : (k : LinkId) (route : List Step) (offered : List ℕ) (o : Option LinkSpec) → own_link p k ≡ o →
+      length s.legs < MOST_LEGS → nat_eq m.arrival.egress.0 p.id.0 ≡ false → is_none (least offered) ≡ false →
+      (W → (length route ≤ 64) × IsWritableRole m.role) → AnswerFits p s W (in_transit p m link route offered o)
+  in_transit-fits k route offered None found room on some short = nothing-fits p s W fits
+  in_transit-fits k route offered (Some out) found room on some short = record {
+    kept = record {
+      legs =
+          legs-more p s.lsp s.lsp (transit_leg p m link out route offered) s.legs (omega arith) fits.legs room (transit-leg-fits k out route offered found on);
+      calls = fits.calls;
+      first = fits.first;
+      numbers = fits.numbers;
+    };
+    near = (end-near p k out found, tt);
+    written = λ w. ((set-some out offered (own-is p k out place found).labelled some, (short w).0, (short w).1), tt);
+    few = omega arith;
+  }
+
+  admitted-fits : (offered : List ℕ) (route : List Step) → leads_on p m.arrival route ≡ true → length s.legs < MOST_LEGS →
+      is_none (least offered) ≡ false →
+      (W → (length route ≤ 64) × IsWritableRole m.role) → AnswerFits p s W (admitted p m link offered route)
+  admitted-fits offered [] on room some short = at_egress-fits offered (least offered) room (flip p.id.0 m.arrival.egress.0 true on)
+  admitted-fits offered (hop ∷ route) on room some short =
+      in_transit-fits hop.link route offered (own_link p hop.link) refl room
+      (flip p.id.0 m.arrival.egress.0 false (not-true (nat_eq p.id.0 m.arrival.egress.0) (both_left _ (nat_eq hop.node.0 p.id.0 && (not (nat_eq hop.link.0 m.arrival.link.0) && is_link_there (own_link p hop.link))) on)))
+      some (λ w. (let few = (short w).0 in omega arith, (short w).1))
+
+  judged-fits : (W → (length m.route ≤ 64) × IsWritableRole m.role) →
+      AnswerFits p s W (judged p s m link (first_failure (checks p s m link)))
+  judged-fits short =
+      go (nat_le MOST_LEGS (length s.legs)) (leads_on p m.arrival m.route) (is_none (least (offered_labels p s m link))) refl refl refl
+    where
+      go : (a b c : Bool) → nat_le MOST_LEGS (length s.legs) ≡ a → leads_on p m.arrival m.route ≡ b →
+          is_none (least (offered_labels p s m link)) ≡ c →
+          AnswerFits p s W (judged p s m link (first_failure (checks p s m link)))
+      go true b c e f g = rw e (refused-fits _)
+      go false false c e f g = rw (e, f) (refused-fits _)
+      go false true true e f g = rw (e, f, g) (refused-fits _)
+      go false true false e f g =
+          rw (e, f, g) (admitted-fits (offered_labels p s m link) m.route f (below (length s.legs) e) g short)
+
+first-fits : (p : Place) (s : NodeState) (m : PathRequest) (W : Type 0) (o : Option LinkSpec) → own_link p m.arrival.link ≡ o →
+    (W → (length m.route ≤ 64) × IsWritableRole m.role) → PlaceFits p → NodeFits p s → AnswerFits p s W (first_path p s m o)
+first-fits p s m W None own short place fits = nothing-fits p s W fits
+first-fits p s m W (Some link) own short place fits =
+    if_cases (AnswerFits p s W) (is_for_work m.role && (leads (Some link) m.arrival.from p.id && not (nat_eq m.arrival.lsp.ingress.0 p.id.0))) _ _
+    (λ e.
+    let work : is_for_work m.role ≡ true = both_left (is_for_work m.role) _ e in
+    let rest : (leads (Some link) m.arrival.from p.id && not (nat_eq m.arrival.lsp.ingress.0 p.id.0)) ≡ true = both_right (is_for_work m.role) _ e in
+    let led : leads (Some link) m.arrival.from p.id ≡ true = both_left (leads (Some link) m.arrival.from p.id) _ rest in
+    let far : nat_eq m.arrival.lsp.ingress.0 p.id.0 ≡ false = not-true _ (both_right (leads (Some link) m.arrival.from p.id) _ rest) in
+    judged-fits p s m link W place fits own led far work short)
+    (λ e. nothing-fits p s W fits)
+
+path-fits : (p : Place) (s : NodeState) (m : PathRequest) (W : Type 0) (o : Option Leg) →
+    (W → (length m.route ≤ 64) × IsWritableRole m.role) → PlaceFits p → NodeFits p s → AnswerFits p s W (path_with p s m o)
+path-fits p s m W None short place fits = first-fits p s m W (own_link p m.arrival.link) refl short place fits
+path-fits p s m W (Some g) short place fits = nothing-fits p s W fits
+
+pub on_path-fits : (p : Place) (s : NodeState) (m : PathRequest) (W : Type 0) →
+    (W → (length m.route ≤ 64) × IsWritableRole m.role) → PlaceFits p → NodeFits p s → AnswerFits p s W (on_path p s m)
+on_path-fits p s m W short place fits = path-fits p s m W (find_leg m.arrival.lsp s.legs) short place fits
