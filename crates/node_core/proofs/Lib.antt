@@ -1,2 +1,4 @@
+pub mod Answers
 pub mod FreeLabels
 pub mod Places
+pub mod RowOrder

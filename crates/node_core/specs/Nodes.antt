@@ -1,4 +1,6 @@
 -- One node: what it knows of itself, and what it keeps.
+use Rattle.std.specs.Prelude.{◌≡◌}
+use Rattle.ason_base.specs.Writable.{IsWritableMsg}
 use Rattle.node_core.specs.declared.inputs.Input.{Input}
 use Rattle.node_core.specs.declared.inputs.Input.TheVariants.{Message, Desk, Tick, Learn}
 use Rattle.mesh_rules.specs.Changes.{Answer, nothing, changed}
@@ -6,10 +8,17 @@ use Rattle.mesh_rules.specs.Sites.{Place}
 use Rattle.mesh_rules.specs.Messages.{on_message}
 use Rattle.mesh_rules.specs.State.{NodeState}
 use Rattle.mesh_rules.specs.Orders.{on_item, on_tick}
+use Rattle.mesh_nodes.specs.Kept.{NodeFits}
+use Rattle.mesh_nodes.specs.Places.{PlaceFits}
 
 pub record NodeView : Type 0 where
   pub place : Place
   pub state : NodeState
+
+-- it knows its own links, and what it keeps fits them
+pub record IsNode (n : NodeView) : Type 0 where
+  pub place : PlaceFits n.place
+  pub state : NodeFits n.place n.state
 
 -- the rule of an input; a node learns nothing of other links
 abbrev pub answer_to : NodeView → Input → Answer
@@ -21,3 +30,14 @@ answer_to n (Learn row) = nothing
 -- the node after it
 abbrev pub stepped : NodeView → Input → NodeView
 stepped n i = record { place = n.place; state = changed n.state (answer_to n i) }
+
+-- this is what the node answers to some input
+abbrev pub IsAnswerOf : NodeView → Answer → Type 0
+IsAnswerOf n a = (i : Input) × (a ≡ answer_to n i)
+
+-- a message that can be written, or another input
+abbrev pub IsWritableInput : Input → Type 0
+IsWritableInput (Message u m) = IsWritableMsg m
+IsWritableInput (Desk item) = Unit {0}
+IsWritableInput Tick = Unit {0}
+IsWritableInput (Learn row) = Unit {0}

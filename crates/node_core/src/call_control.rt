@@ -13,13 +13,13 @@ use crate::changes::Change;
 use crate::legs::{closed, following};
 use crate::node::Node;
 use crate::sites::Site;
+use ason_base::routes::other_end;
 use ason_base::{
     CallNo, CallRec, CallState, Cause, ErrCode, Fibres, LabelSet, Leg, LinkSpec, Lsp, Msg, NodeId,
     OutOfMemory, PathRole, Phase, RiskSet, Role, Steps,
 };
 use mesh_rules::NextNumbers;
 use mesh_rules::limits::{LAST_NUMBER, MOST_LEGS, MOST_LINKS_OF_ROUTE};
-use ason_base::routes::other_end;
 use mesh_rules::links::fibre_out;
 use std::alloc::Global;
 use std::marker::Model;
@@ -263,11 +263,7 @@ fn is_order_here(site: &Site, request: &SetupRequest<'_>) -> bool
         && is_followable(site, request.backup)
 }
 
-fn new_call(
-    alloc: Global,
-    node: &Node,
-    request: &SetupRequest<'_>,
-) -> Result<Change, OutOfMemory>
+fn new_call(alloc: Global, node: &Node, request: &SetupRequest<'_>) -> Result<Change, OutOfMemory>
     ensures { IfOk result (λ c. c ≡ new_call node.now.place node.now.state request.now request.now.via) }
 {
     let Some(route) = request.via else {

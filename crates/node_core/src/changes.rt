@@ -50,12 +50,7 @@ impl Change {
     }
 
     /// The leg is put in its place, and one message is sent.
-    pub(crate) fn puts(
-        alloc: Global,
-        leg: Leg,
-        to: NodeId,
-        msg: Msg,
-    ) -> Result<Change, OutOfMemory>
+    pub(crate) fn puts(alloc: Global, leg: Leg, to: NodeId, msg: Msg) -> Result<Change, OutOfMemory>
         ensures { IfOk result (λ c. c ≡ puts leg (to_node to msg ∷ [])) }
     {
         let mut change = Change::sends(alloc, to, msg)?;

@@ -1,6 +1,6 @@
 //! The node.
 
-ghost use Rattle.std.specs.Prelude.{◌≡◌, IfOk, OnErr, OnOk, map};
+ghost use Rattle.std.specs.Prelude.{◌≡◌, ◌≤◌, IfOk, IfSome, OnErr, OnOk, length, map};
 ghost use Rattle.std.specs.Option.{option_copied};
 ghost use Rattle.mesh_rules.specs.Calls.{call_of, find_call};
 ghost use Rattle.mesh_rules.specs.Changes.{changed};
@@ -8,13 +8,17 @@ ghost use Rattle.mesh_rules.specs.Legs.{find_leg, leg_of};
 ghost use Rattle.mesh_rules.specs.Rows.{call_row, call_rows, leg_row, leg_rows, link_of, standing};
 ghost use Rattle.mesh_rules.specs.Sites.{site_of};
 ghost use Rattle.mesh_rules.specs.State.{new_node};
-ghost use Rattle.node_core.specs.Nodes.{answer_to, stepped};
+ghost use Rattle.mesh_nodes.specs.Kept.{NodeFits};
+ghost use Rattle.mesh_nodes.specs.Order.{CallRowsRise, LegRowsRise};
+ghost use Rattle.mesh_nodes.specs.Places.{PlaceFits};
+ghost use Rattle.mesh_nodes.specs.Sent.{AllToNeighbours, AllWritable};
+ghost use Rattle.node_core.specs.Nodes.{IsAnswerOf, IsWritableInput, answer_to, stepped};
 
 use crate::calls::{call_of, find_call};
 use crate::changes::Change;
 use crate::inputs::Input;
 use crate::legs::find_leg;
-use crate::rules::{on_item, on_message, on_tick};
+use crate::rules::on_input;
 use crate::sites::Site;
 use crate::tables::Tables;
 use ason_base::{
@@ -33,11 +37,13 @@ pub struct Node {
 }
 
 impl Model for Node {
-    ghost use Rattle.node_core.specs.Nodes.{NodeView};
+    ghost use Rattle.node_core.specs.Nodes.{IsNode, NodeView};
 
     ghost Value = { NodeView };
 
     ghost view = { λ n. record { place = n.site; state = n.tables } };
+
+    ghost invariant = { λ n. IsNode (record { place = n.site; state = n.tables }) };
 }
 
 impl Node {
@@ -68,20 +74,30 @@ impl Node {
         self.site.id()
     }
 
-    /// What the rule of an input would change and send. It changes nothing.
-    pub fn answer(&self, alloc: Global, input: &Input) -> Result<Change, OutOfMemory>
-        ensures { IfOk result (λ c. c ≡ answer_to self.now input.now) }
+    /// Law: the node knows its own links, and what it keeps fits them.
+    pub fn fits(&self)
+        ensures place { PlaceFits self.now.place }
+        ensures state { NodeFits self.now.place self.now.state }
     {
-        match input {
-            Input::Message { from, msg } => on_message(alloc, self, *from, msg),
-            Input::Desk(item) => on_item(alloc, self, item),
-            Input::Tick => Ok(on_tick(alloc, self)),
-            Input::Learn(_) => Ok(Change::nothing(alloc)),
-        }
+        let _site = &self.site;
     }
 
-    /// Carries an answer out, and hands back what is to be sent, in order. After want of memory the node is unchanged.
+    /// What the rule of an input would change and send. It changes nothing.
+    pub fn answer(&self, alloc: Global, input: &Input) -> Result<Change, OutOfMemory>
+        ensures answer { IfOk result (λ c. c ≡ answer_to self.now input.now) }
+        ensures near { IfOk result (λ c. AllToNeighbours self.now.place c.sent) }
+        ensures written { IsWritableInput input.now → IfOk result (λ c. AllWritable c.sent) }
+        ensures few { IfOk result (λ c. length c.sent ≤ 65536) }
+    {
+        self.fits();
+        let change = on_input(alloc, self, input)?;
+        Ok(change)
+    }
+
+    /// Carries out what the node answers to some input, and hands back what is to be sent, in order. After want of memory the
+    /// node is unchanged.
     pub fn carry_out(&mut self, change: Change) -> Result<Outs, OutOfMemory>
+        requires { IsAnswerOf self.old change }
         ensures place { self.new.place ≡ self.old.place }
         ensures ok { OnOk result (self.new.state ≡ changed self.old.state change) }
         ensures sent { IfOk result (λ outs. outs ≡ change.sent) }
@@ -95,6 +111,9 @@ impl Node {
     pub fn step(&mut self, alloc: Global, input: &Input) -> Result<Outs, OutOfMemory>
         ensures ok { OnOk result (self.new ≡ stepped self.old input.now) }
         ensures sent { IfOk result (λ outs. outs ≡ (answer_to self.old input.now).sent) }
+        ensures near { IfOk result (AllToNeighbours self.old.place) }
+        ensures written { IsWritableInput input.now → IfOk result AllWritable }
+        ensures few { IfOk result (λ outs. length outs ≤ 65536) }
         ensures err { OnErr result (self.new ≡ self.old) }
     {
         let change = self.answer(alloc, input)?;
@@ -158,6 +177,8 @@ impl Node {
     pub fn rows(&self, alloc: Global) -> Result<TableRows, OutOfMemory>
         ensures calls { IfOk result (λ rows. rows.calls ≡ call_rows self.now.place.id self.now.state) }
         ensures legs { IfOk result (λ rows. rows.legs ≡ leg_rows self.now.place.id self.now.state) }
+        ensures calls_rise { IfOk result (λ rows. CallRowsRise rows.calls) }
+        ensures legs_rise { IfOk result (λ rows. LegRowsRise rows.legs) }
     {
         let id = self.site.id();
         let calls = call_rows(alloc, id, self.tables.legs(), self.tables.calls())?;
@@ -296,7 +317,6 @@ mod tests {
         let alloc = rt.alloc();
         let t = two_nodes(alloc).expect(&rt, "a topology");
         let (a, b) = (NodeId(1), NodeId(2));
-        assert!(rt; t.node(a).is_some() && t.node(b).is_some());
         let mut ingress = Node::new(alloc, &t, a).ok().expect(&rt, "a node");
         let mut egress = Node::new(alloc, &t, b).ok().expect(&rt, "a node");
         let order = setup(alloc).expect(&rt, "a setup");

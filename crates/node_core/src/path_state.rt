@@ -13,13 +13,13 @@ use crate::legs::{closed, following, is_closing, is_over, previous, usable};
 use crate::node::Node;
 use crate::sites::Site;
 use ason_base::codes::{FULL, ROUTE, SET, TORN};
+use ason_base::routes::other_end;
 use ason_base::{
-    ErrCode, LabelSet, Leg, LinkSpec, Msg, NodeId, OutOfMemory, PathRole, Phase, RiskSet,
-    Role, Step, Steps,
+    ErrCode, LabelSet, Leg, LinkSpec, Msg, NodeId, OutOfMemory, PathRole, Phase, RiskSet, Role,
+    Step, Steps,
 };
 use mesh_rules::Arrival;
 use mesh_rules::limits::MOST_LEGS;
-use ason_base::routes::other_end;
 use mesh_rules::links::{fibre_in, fibre_out, leads};
 use std::alloc::Global;
 use std::marker::Model;
@@ -247,11 +247,7 @@ fn is_for_work(role: &PathRole) -> bool
     matches!(role, PathRole::Work { .. })
 }
 
-fn first_path(
-    alloc: Global,
-    node: &Node,
-    request: &PathRequest<'_>,
-) -> Result<Change, OutOfMemory>
+fn first_path(alloc: Global, node: &Node, request: &PathRequest<'_>) -> Result<Change, OutOfMemory>
     ensures { IfOk result (λ c. c ≡ first_path node.now.place node.now.state request.now (own_link node.now.place request.now.arrival.link)) }
 {
     let arrival = request.arrival;

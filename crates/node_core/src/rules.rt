@@ -3,9 +3,11 @@
 ghost use Rattle.std.specs.Prelude.{◌≡◌, IfOk};
 ghost use Rattle.mesh_rules.specs.Messages.{on_message};
 ghost use Rattle.mesh_rules.specs.Orders.{on_item, on_order, on_tick};
+ghost use Rattle.node_core.specs.Nodes.{answer_to};
 
 use crate::call_control::{SetupRequest, release, set_up};
 use crate::changes::Change;
+use crate::inputs::Input;
 use crate::node::Node;
 use crate::path_state::{PathRequest, path, tear};
 use crate::resv_state::{PathFailure, path_err, resv};
@@ -24,13 +26,8 @@ fn arrival(lsp: Lsp, egress: NodeId, from: NodeId, link: LinkId) -> Arrival
     }
 }
 
-/// What a message from a neighbour does.
-pub(crate) fn on_message(
-    alloc: Global,
-    node: &Node,
-    from: NodeId,
-    msg: &Msg,
-) -> Result<Change, OutOfMemory>
+// What a message from a neighbour does.
+fn on_message(alloc: Global, node: &Node, from: NodeId, msg: &Msg) -> Result<Change, OutOfMemory>
     ensures { IfOk result (λ c. c ≡ on_message node.now.place node.now.state from msg.now) }
 {
     match msg {
@@ -112,8 +109,8 @@ fn on_order(alloc: Global, node: &Node, command: &Command) -> Result<Change, Out
     }
 }
 
-/// What an item of the desk does.
-pub(crate) fn on_item(alloc: Global, node: &Node, item: &DeskItem) -> Result<Change, OutOfMemory>
+// What an item of the desk does.
+fn on_item(alloc: Global, node: &Node, item: &DeskItem) -> Result<Change, OutOfMemory>
     ensures { IfOk result (λ c. c ≡ on_item node.now.place node.now.state item.now) }
 {
     match item {
@@ -122,9 +119,21 @@ pub(crate) fn on_item(alloc: Global, node: &Node, item: &DeskItem) -> Result<Cha
     }
 }
 
-/// What a tick does.
-pub(crate) fn on_tick(alloc: Global, node: &Node) -> Change
+// What a tick does.
+fn on_tick(alloc: Global, node: &Node) -> Change
     ensures { result ≡ on_tick node.now.place node.now.state }
 {
     Change::nothing(alloc)
+}
+
+/// What an input does: what the node answers to it.
+pub(crate) fn on_input(alloc: Global, node: &Node, input: &Input) -> Result<Change, OutOfMemory>
+    ensures { IfOk result (λ c. c ≡ answer_to node.now input.now) }
+{
+    match input {
+        Input::Message { from, msg } => on_message(alloc, node, *from, msg),
+        Input::Desk(item) => on_item(alloc, node, item),
+        Input::Tick => Ok(on_tick(alloc, node)),
+        Input::Learn(_) => Ok(Change::nothing(alloc)),
+    }
 }

@@ -4,9 +4,10 @@ ghost use Rattle.std.specs.Prelude.{◌≡◌, ◌≤◌, ◌==◌, ◌||◌, If
 ghost use Rattle.std.specs.Option.{option_copied};
 ghost use Rattle.ason_base.specs.Network.{find_node, touches};
 ghost use Rattle.mesh_rules.specs.Sites.{converts, own_link, site_of};
+ghost use Rattle.mesh_nodes.specs.Places.{PlaceFits};
 
-use ason_base::{LinkId, LinkSpec, NodeId, NodeSpec, OutOfMemory, Topology};
 use ason_base::routes::touches;
+use ason_base::{LinkId, LinkSpec, NodeId, NodeSpec, OutOfMemory, Topology};
 use std::alloc::Global;
 use std::marker::Model;
 
@@ -19,13 +20,14 @@ pub struct Site {
 }
 
 impl Model for Site {
-    ghost use Rattle.mesh_rules.specs.Sites.{Place, AllNarrow};
+    ghost use Rattle.mesh_rules.specs.Sites.{Place};
+    ghost use Rattle.mesh_nodes.specs.Places.{PlaceFits};
 
     ghost Value = { Place };
 
     ghost view = { λ s. record { id = s.id; convert = s.convert; own = s.own.items } };
 
-    ghost invariant = { λ s. AllNarrow s.own.items };
+    ghost invariant = { λ s. PlaceFits (record { id = s.id; convert = s.convert; own = s.own.items }) };
 }
 
 fn converts(node: Option<&NodeSpec>) -> bool
@@ -66,7 +68,8 @@ fn copy_own(alloc: Global, links: &[LinkSpec], n: NodeId) -> Result<Vec<LinkSpec
 impl Site {
     /// The view of node `id` of this topology.
     pub fn new(alloc: Global, t: &Topology, id: NodeId) -> Result<Site, OutOfMemory>
-        ensures { IfOk result (λ s. s ≡ site_of t.now id) }
+        ensures site { IfOk result (λ s. s ≡ site_of t.now id) }
+        ensures fits { IfOk result PlaceFits }
     {
         let convert = converts(t.node(id));
         let own = copy_own(alloc, t.links(), id)?;

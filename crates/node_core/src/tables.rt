@@ -235,7 +235,9 @@ fn is_call_at_or_after(call: &CallRec, number: CallNo) -> bool
 fn first_call_place(calls: &[CallRec], number: CallNo) -> Option<usize>
     ensures { result ≡ position (is_call_at_or_after number) calls.now }
 {
-    calls.iter().position(|call| is_call_at_or_after(call, number))
+    calls
+        .iter()
+        .position(|call| is_call_at_or_after(call, number))
 }
 
 // The place of the first call of this number or a greater one.

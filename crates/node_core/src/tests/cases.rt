@@ -1,20 +1,22 @@
-//! Refusals, and torn legs that stand until the next node has let go.
+//! Refusals, torn legs that stand until the next node has let go, and the labels of nodes that don't convert.
 
 use crate::Node;
 use crate::tests::inputs::{A, B, C, Said, input};
+use crate::tests::outs::{Told, tells};
 use ason_base::codes::{FULL, LABEL, ROUTE, SET, TORN};
 use ason_base::{
     CallState, Cause, ErrCode, LinkId, LinkSpec, Msg, NodeId, NodeSpec, Numbers, Outs, Phase,
     Topology,
 };
 use std::alloc::Global;
+use std::process::Abort;
 use std::test::Fail;
 
 /// What is given, for each number from the first to the last.
 type Given = (u16, u16, &'static [Said]);
 
-/// A message: the node that it goes to, and the code of a PathErr.
-type Sent = (NodeId, Option<ErrCode>);
+/// A message: the node that it goes to, and what it tells.
+type Sent = (NodeId, Told);
 
 /// What a table shows of a node: how many legs, the phase of the last one, and the state of the last call.
 type Shown = (usize, Option<Phase>, Option<(CallState, Cause)>);
@@ -24,59 +26,62 @@ type Case = (NodeId, &'static [Given], &'static [Sent], Shown);
 
 const NOTHING: Shown = (0, None, None);
 
+const ASKED_LEG: Shown = (1, Some(Phase::Asked), None);
+
 const TORN_LEG: Shown = (1, Some(Phase::Closing), None);
 
 /// The way on from b.
 const ON: &[(u32, u32)] = &[(2, 2)];
 
-const CASES: &[Case] = &[
+/// Of nodes that convert.
+const CONVERTING: &[Case] = &[
     // a Path whose route doesn't lead on, or that finds no label
     (
         B,
         &[(1, 1, &[Said::Path(C, &[], 1)])],
-        &[(A, Some(ROUTE))],
+        &[(A, Told::Error(ROUTE))],
         NOTHING,
     ),
     (
         B,
         &[(1, 1, &[Said::Path(B, ON, 1)])],
-        &[(A, Some(ROUTE))],
+        &[(A, Told::Error(ROUTE))],
         NOTHING,
     ),
     (
         B,
         &[(1, 1, &[Said::Path(C, &[(3, 2)], 1)])],
-        &[(A, Some(ROUTE))],
+        &[(A, Told::Error(ROUTE))],
         NOTHING,
     ),
     (
         B,
         &[(1, 1, &[Said::Path(C, &[(2, 1)], 1)])],
-        &[(A, Some(ROUTE))],
+        &[(A, Told::Error(ROUTE))],
         NOTHING,
     ),
     (
         B,
         &[(1, 1, &[Said::Path(C, &[(2, 7)], 1)])],
-        &[(A, Some(ROUTE))],
+        &[(A, Told::Error(ROUTE))],
         NOTHING,
     ),
     (
         B,
         &[(1, 1, &[Said::Path(C, &[], 0)])],
-        &[(A, Some(ROUTE))],
+        &[(A, Told::Error(ROUTE))],
         NOTHING,
     ),
     (
         B,
         &[(1, 1, &[Said::Path(C, ON, 0)])],
-        &[(A, Some(SET))],
+        &[(A, Told::Error(SET))],
         NOTHING,
     ),
     (
         B,
         &[(1, 1, &[Said::Path(B, &[], 0)])],
-        &[(A, Some(SET))],
+        &[(A, Told::Error(SET))],
         NOTHING,
     ),
     // a node of 4,096 legs, whatever the route; an ingress of so many
@@ -86,7 +91,7 @@ const CASES: &[Case] = &[
             (1, 4096, &[Said::Path(C, ON, 1)]),
             (4097, 4097, &[Said::Path(C, &[], 1)]),
         ],
-        &[(A, Some(FULL))],
+        &[(A, Told::Error(FULL))],
         (4096, Some(Phase::Asked), None),
     ),
     (
@@ -121,7 +126,7 @@ const CASES: &[Case] = &[
             (1, 1, &[Said::Resv(C, 2, 1)]),
             (2, 2, &[Said::Resv(C, 2, 2)]),
         ],
-        &[(C, None), (A, Some(LABEL))],
+        &[(C, Told::Tear), (A, Told::Error(LABEL))],
         (2, Some(Phase::Closing), None),
     ),
     (
@@ -138,7 +143,7 @@ const CASES: &[Case] = &[
     (
         B,
         &[(1, 1, &[Said::Path(C, ON, 1), Said::PathErr(C, SET)])],
-        &[(A, Some(SET))],
+        &[(A, Told::Error(SET))],
         NOTHING,
     ),
     (
@@ -155,7 +160,7 @@ const CASES: &[Case] = &[
             1,
             &[Said::Path(C, ON, 1), Said::Resv(C, 2, 1), Said::Tear],
         )],
-        &[(A, Some(TORN)), (C, None)],
+        &[(A, Told::Error(TORN)), (C, Told::Tear)],
         TORN_LEG,
     ),
     (
@@ -192,7 +197,7 @@ const CASES: &[Case] = &[
     (
         A,
         &[(1, 1, &[Said::Setup, Said::Resv(B, 1, 1), Said::Release])],
-        &[(B, None)],
+        &[(B, Told::Tear)],
         TORN_LEG,
     ),
     (
@@ -212,9 +217,38 @@ const CASES: &[Case] = &[
     ),
 ];
 
-// Three converting nodes in a row: link 1 of one label joins a and b, link 2 of two labels b and c.
-fn line(alloc: Global) -> Result<Topology, Fail> {
-    let node = |id: NodeId| NodeSpec { id, convert: true };
+/// Of nodes that don't convert.
+const TRANSPARENT: &[Case] = &[
+    // the labels that were offered go on, and not all of the next link
+    (
+        B,
+        &[(1, 1, &[Said::Path(C, ON, 2)])],
+        &[(C, Told::Path([true, true, false]))],
+        ASKED_LEG,
+    ),
+    // the label that came goes back, and not the least
+    (
+        B,
+        &[(1, 1, &[Said::Path(C, ON, 2), Said::Resv(C, 2, 2)])],
+        &[(A, Told::Resv(2))],
+        (1, Some(Phase::Live), None),
+    ),
+    // it was taken meanwhile, and the other one doesn't serve
+    (
+        B,
+        &[
+            (1, 2, &[Said::Path(C, ON, 2)]),
+            (1, 1, &[Said::Resv(C, 2, 2)]),
+            (2, 2, &[Said::Resv(C, 2, 2)]),
+        ],
+        &[(C, Told::Tear), (A, Told::Error(LABEL))],
+        (2, Some(Phase::Closing), None),
+    ),
+];
+
+// Three nodes in a row: link 1 joins a and b, link 2 with a label more b and c.
+fn line(alloc: Global, convert: bool, labels: u8) -> Result<Topology, Fail> {
+    let node = |id: NodeId| NodeSpec { id, convert };
     let link = |id: u32, low: NodeId, high: NodeId, labels: u8| LinkSpec {
         id: LinkId(id),
         low,
@@ -224,28 +258,17 @@ fn line(alloc: Global) -> Result<Topology, Fail> {
         srlgs: Numbers::new(alloc),
     };
     let nodes = [node(A), node(B), node(C)];
-    let links = [link(1, A, B, 1), link(2, B, C, 2)];
+    let links = [
+        link(1, A, B, labels),
+        link(2, B, C, labels.saturating_add(1)),
+    ];
     Ok(Topology::new(alloc, 0, &nodes, &links)?)
-}
-
-fn node_of(alloc: Global, t: &Topology, id: NodeId) -> Result<Node, Fail> {
-    match t.node(id) {
-        None => Err(Fail::new("no such node")),
-        Some(_) => Ok(Node::new(alloc, t, id)?),
-    }
-}
-
-fn code_of(msg: &Msg) -> Option<ErrCode> {
-    match msg {
-        Msg::PathErr { code, .. } => Some(*code),
-        _ => None,
-    }
 }
 
 fn sent(alloc: Global, outs: &Outs) -> Result<Vec<Sent>, Fail> {
     let mut sent = Vec::new(alloc);
     for out in outs.items() {
-        sent.push((out.to, code_of(&out.msg)))?;
+        sent.push((out.to, tells(&out.msg)))?;
     }
     Ok(sent)
 }
@@ -303,20 +326,30 @@ fn outcome(
     id: NodeId,
     given: &[Given],
 ) -> Result<(Vec<Sent>, Shown), Fail> {
-    let mut node = node_of(alloc, t, id)?;
+    let mut node = Node::new(alloc, t, id)?;
     let sent = give_all(alloc, &mut node, given)?;
     let shown = shown(alloc, &node)?;
     Ok((sent, shown))
 }
 
-#[test]
-fn each_case_ends_as_it_must(rt: HostRuntime) -> Result<(), Fail> {
-    let alloc = rt.alloc();
-    let t = line(alloc)?;
-    for (id, given, sent, shown) in CASES {
-        let answer = outcome(alloc, &t, *id, given)?;
+// Each case over this line ends as it must.
+fn go_through(rt: &impl Abort, alloc: Global, t: &Topology, cases: &[Case]) -> Result<(), Fail> {
+    for (id, given, sent, shown) in cases {
+        let answer = outcome(alloc, t, *id, given)?;
         assert_eq!(rt; answer.0.as_slice(), *sent);
         assert_eq!(rt; answer.1, *shown);
     }
     Ok(())
+}
+
+#[test]
+fn converting_nodes(rt: HostRuntime) -> Result<(), Fail> {
+    let t = line(rt.alloc(), true, 1)?;
+    go_through(&rt, rt.alloc(), &t, CONVERTING)
+}
+
+#[test]
+fn transparent_nodes(rt: HostRuntime) -> Result<(), Fail> {
+    let t = line(rt.alloc(), false, 2)?;
+    go_through(&rt, rt.alloc(), &t, TRANSPARENT)
 }

@@ -1,7 +1,13 @@
-use Rattle.ason_base.specs.Network.{touches}
-use Rattle.mesh_rules.proofs.SiteLemmas.{narrow_filter, narrow_links}
+use Rattle.std.specs.List.{AllByRecursion}
+use Rattle.mesh_nodes.specs.Places.{IsOwnLink}
+use Rattle.mesh_nodes.proofs.NewNodes.{new-place}
 use Rattle.node_core.proofs.sites.Site.new.Goals as goal
 
+fit : (c : goal.In_ok-own) → AllByRecursion (IsOwnLink c.args.id) c.in_ok-own.own.items
+fit c = rw (c.in_ok-own.ensures, c.links.ensures.list) (new-place c.args.t.now c.args.id c.links.ensures.valid)
+
 pub invariant_of-result : goal.invariant_of-result
-invariant_of-result c =
-    rw (c.in_ok-own.ensures, c.links.ensures.list) (narrow_filter (touches c.args.id) c.args.t.now.links (narrow_links c.args.t.now c.links.ensures.valid))
+invariant_of-result c = fit c
+
+pub returns-clause-fits : goal.returns-clause-fits
+returns-clause-fits c = fit c
