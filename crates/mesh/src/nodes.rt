@@ -3,7 +3,7 @@
 ghost use Rattle.std.specs.Prelude.{◌≡◌, [], IfOk, OnErr, OnOk, flat_map, position};
 ghost use Rattle.mesh_rules.specs.Changes.{changed};
 ghost use Rattle.mesh_rules.specs.Rows.{call_rows, leg_rows};
-ghost use Rattle.node_core.specs.Nodes.{answer_to};
+ghost use Rattle.node_core.specs.Nodes.{IsAnswerOf, answer_to};
 ghost use Rattle.mesh.specs.Kept.{is_node, node_at, state_at, with_state};
 
 use ason_base::{CallRows, LegRows, NodeId, NodeSpec, OutOfMemory, Outs, TableRows, Topology};
@@ -84,6 +84,7 @@ impl Nodes {
         node: NodeId,
         change: Change,
     ) -> Result<Outs, OutOfMemory>
+        requires { IsAnswerOf (node_at self.old node) change }
         ensures ok { OnOk result (self.new ≡ with_state self.old node (changed (state_at node.0 self.old.nodes) change)) }
         ensures sent { IfOk result (λ outs. outs ≡ change.sent) }
         ensures err { OnErr result (self.new ≡ self.old) }

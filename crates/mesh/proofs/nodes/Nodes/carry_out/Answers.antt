@@ -1,9 +1,22 @@
-use Rattle.std.proofs.Common.{◌≡◌, sym, ◌∙◌, ap}
+use Rattle.std.proofs.Common.{◌≡◌, sym, ◌∙◌, ap, subst}
 use Rattle.std.specs.Prelude.{None, Some, position}
 use Rattle.mesh_rules.specs.Changes.{changed}
-use Rattle.mesh.specs.Kept.{is_node, state_at, with_state}
-use Rattle.mesh.proofs.NodePlaces.{carried-nowhere, carried-place, on_ok}
+use Rattle.node_core.specs.Nodes.{IsAnswerOf}
+use Rattle.mesh.specs.Kept.{is_node, node_at, state_at, with_state}
+use Rattle.mesh.proofs.NodePlaces.{carried-nowhere, carried-place, node_at-nowhere, node_at-place, on_ok}
 use Rattle.mesh.proofs.nodes.Nodes.carry_out.Goals as goal
+
+pub carry_out-requires : goal.carry_out-requires
+carry_out-requires c =
+    let at : position (is_node c.args.node.0) c.self.inside.nodes.items ≡ None = ap (λ s. position (is_node c.args.node.0) s.nodes) c.self.view_is ∙ sym c.place_of.ensures ∙ c.in-None.is in
+    let same = c.in_ok-new-in-None.ensures ∙ node_at-nowhere c.self.inside.network c.args.node c.self.inside.nodes.items at ∙ ap (λ s. node_at s c.args.node) c.self.view_is in
+    subst (λ n. IsAnswerOf n c.args.change) (sym same) c.requires
+
+pub carry_out-requires-in-Some : goal.carry_out-requires-in-Some
+carry_out-requires-in-Some c =
+    let at : position (is_node c.args.node.0) c.self.inside.nodes.items ≡ Some c.in-Some.place = ap (λ s. position (is_node c.args.node.0) s.nodes) c.self.view_is ∙ sym c.place_of.ensures ∙ c.in-Some.is in
+    let same = node_at-place c.self.inside.network c.args.node c.self.inside.nodes.items c.in-Some.place c.index_mut.result.now c.self.invariant at c.index_mut.ensures.value ∙ ap (λ s. node_at s c.args.node) c.self.view_is in
+    subst (λ n. IsAnswerOf n c.args.change) (sym same) c.requires
 
 pub returns-in_ok-push-in-None-clause-ok : goal.returns-in_ok-push-in-None-clause-ok
 returns-in_ok-push-in-None-clause-ok c =
