@@ -1,5 +1,6 @@
 -- The script of a plan: which lines there are, what each says, and its first fault.
-use Rattle.std.specs.Prelude.{ℕ, ◌+◌, ◌==◌, ◌&&◌, ◌||◌, nat_le, Bool, false, not, List, [], ◌∷◌, length, codes, Option, Some, None, unwrap_or, is_none, if◌then◌else◌}
+use Rattle.std.specs.Prelude.{◌≡◌, ℕ, ◌+◌, ◌==◌, ◌&&◌, ◌||◌, nat_le, Bool, false, not, List, [], ◌∷◌, length, map, codes, Option, Some, None, unwrap_or, is_none, if◌then◌else◌}
+use Rattle.toml.specs.declared.value.Value.{Value}
 use Rattle.ason_base.specs.Network.{Network, find_link}
 use Rattle.ason_base.specs.declared.ids.NodeId.{NodeId}
 use Rattle.ason_base.specs.declared.steps.Step.{Step}
@@ -11,11 +12,16 @@ use Rattle.plan_reader.specs.declared.faults.PlanFault.{PlanFault}
 use Rattle.plan_reader.specs.declared.faults.PlanKind.{PlanKind}
 use Rattle.plan_reader.specs.declared.faults.PlanKind.TheVariants as kinds
 use Rattle.plan_reader.specs.declared.lines.Line.{Line}
+use Rattle.plan_reader.specs.declared.script.LineError.{LineError}
 use Rattle.plan_reader.specs.declared.lines.Line.TheVariants.{Post, Settle, Show}
 use Rattle.plan_reader.specs.PlanTexts.{node_named, words_of, word_at, is_number, are_numbers, number_up_to, are_link_ids, link_ids}
 use Rattle.plan_reader.specs.Names.{same_text, is_name, has_name, place_of}
 use Rattle.plan_reader.specs.PlanCalls.{CallList, ingress_of, no_node, with_call}
-use Rattle.plan_reader.specs.PlanTables.{first_of, fault_at}
+use Rattle.plan_reader.specs.PlanTables.{first_of, fault_at, text_of, views}
+
+-- an error that tells a fault of a line tells this one
+abbrev pub TellsKind : LineError → Option PlanKind → Type 0
+TellsKind e first = (k : PlanKind) → e ≡ LineError.Fault k → first ≡ Some k
 
 -- Forms of a line, by its words
 
@@ -195,10 +201,17 @@ line_kind t names calls ws = if is_given_setup ws then setup_kind t names calls 
 abbrev pub line_of : Network → List (List ℕ) → CallList → List (List ℕ) → Line
 line_of t names calls ws = if is_given_setup ws then Post (setup_of t names calls ws) else other_line calls ws
 
+abbrev pub calls_after_setup : Network → List (List ℕ) → CallList → List (List ℕ) → CallList
+calls_after_setup t names calls ws = with_call calls (word_at ws 1) (from_node t names ws)
+
 -- the calls after a line
 abbrev pub calls_after : Network → List (List ℕ) → CallList → List (List ℕ) → CallList
 calls_after t names calls ws =
-    if is_given_setup ws then with_call calls (word_at ws 1) (from_node t names ws) else calls
+    if is_given_setup ws then calls_after_setup t names calls ws else calls
+
+-- the texts of a script's lines
+abbrev pub line_texts : List Value → List (List ℕ)
+line_texts values = map text_of (views values)
 
 -- the first fault of lines, of which the first is line n
 abbrev pub script_fault : Network → List (List ℕ) → ℕ → CallList → List (List ℕ) → Option PlanFault

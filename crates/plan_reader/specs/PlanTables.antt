@@ -1,13 +1,16 @@
 -- The tables of a plan: the top, its nodes and its links, each with its first fault and what it says.
-use Rattle.std.specs.Prelude.{ℕ, ◌+◌, ◌++◌, ◌==◌, ◌&&◌, ◌||◌, nat_lt, nat_le, ℤ, pos, negsuc, Bool, true, false, not, List, [], ◌∷◌, length, map, codes, Option, Some, None, slice_get, unwrap_or, is_some, is_none, if◌then◌else◌}
+use Rattle.std.specs.Prelude.{◌≡◌, ℕ, ◌+◌, ◌++◌, ◌==◌, ◌&&◌, ◌||◌, nat_lt, nat_le, ℤ, pos, negsuc, Bool, true, false, not, List, [], ◌∷◌, length, map, codes, Option, Some, None, slice_get, unwrap_or, is_some, is_none, if◌then◌else◌}
 use Rattle.std.specs.List.{list_all}
 use Rattle.ason_base.specs.Network.{is_distinct}
 use Rattle.ason_base.specs.declared.ids.NodeId.{NodeId}
 use Rattle.ason_base.specs.declared.network.NodeSpec.{NodeSpec}
 use Rattle.ason_base.specs.declared.network.LinkSpec.{LinkSpec}
+use Rattle.toml.specs.View.{view}
+use Rattle.toml.specs.declared.value.Value.{Value}
 use Rattle.toml.specs.Data.{Data, integer, boolean, array, table, Items, no_items, item, Members, no_members, member, get, as_str, as_integer, as_bool, as_table}
 use Rattle.plan_reader.specs.declared.faults.PlanEntry.{PlanEntry}
 use Rattle.plan_reader.specs.declared.faults.PlanEntry.TheVariants.{Node, Link}
+use Rattle.plan_reader.specs.declared.faults.PlanError.{PlanError}
 use Rattle.plan_reader.specs.declared.faults.PlanFault.{PlanFault}
 use Rattle.plan_reader.specs.declared.faults.PlanKind.{PlanKind}
 use Rattle.plan_reader.specs.declared.faults.PlanKind.TheVariants as kinds
@@ -28,7 +31,15 @@ abbrev pub fault_at : PlanEntry → Option PlanKind → Option PlanFault
 fault_at entry None = None
 fault_at entry (Some kind) = Some (record { entry = entry; kind = kind })
 
+-- an error that tells a fault tells this one
+abbrev pub TellsFirst : PlanError → Option PlanFault → Type 0
+TellsFirst e first = (f : PlanFault) → e ≡ PlanError.Fault f → first ≡ Some f
+
 -- Values
+
+-- what these values say
+abbrev pub views : List Value → List Data
+views values = map (λ v. view v) values
 
 abbrev pub listed : Items → List Data
 listed no_items = []

@@ -5,7 +5,7 @@ ghost use Rattle.std.specs.List.{list_all};
 ghost use Rattle.toml.specs.View.{view};
 ghost use Rattle.ason_base.specs.Network.{is_distinct};
 ghost use Rattle.plan_reader.specs.PlanTexts.{node_named};
-ghost use Rattle.plan_reader.specs.PlanTables.{are_srlgs_within, end_ids, end_name, ends_of, has_link_counts, has_link_kinds, is_link_within, labels_in, lacks_link_key, link_kind, link_of, link_value_kind, links_fault, metric_in, srlg_in, srlgs_of};
+ghost use Rattle.plan_reader.specs.PlanTables.{TellsFirst, views, are_srlgs_within, end_ids, end_name, ends_of, has_link_counts, has_link_kinds, is_link_within, labels_in, lacks_link_key, link_kind, link_of, link_value_kind, links_fault, metric_in, srlg_in, srlgs_of};
 ghost use Rattle.plan_reader.specs.declared.faults.PlanError.{PlanError};
 ghost use Rattle.plan_reader.specs.declared.faults.PlanFault.{PlanFault};
 
@@ -235,9 +235,9 @@ pub fn read_links(
     values: &[Value],
 ) -> Result<Vec<LinkSpec>, PlanError>
     requires { length values.now ≤ 256 }
-    ensures links { IfOk result (λ r. r.items ≡ map (link_of names.now nodes.now) (map (λ v. view v) values.now)) }
-    ensures sound { OnOk result (links_fault names.now nodes.now 1 0 (map (λ v. view v) values.now) ≡ None) }
-    ensures fault { IfErr result (λ e. (f : PlanFault) → e ≡ PlanError.Fault f → links_fault names.now nodes.now 1 0 (map (λ v. view v) values.now) ≡ Some f) }
+    ensures links { IfOk result (λ r. r.items ≡ map (link_of names.now nodes.now) (views values.now)) }
+    ensures sound { OnOk result (links_fault names.now nodes.now 1 0 (views values.now) ≡ None) }
+    ensures fault { IfErr result (λ e. TellsFirst e (links_fault names.now nodes.now 1 0 (views values.now))) }
 {
     let mut links = Vec::new(alloc);
     let mut last = 0;

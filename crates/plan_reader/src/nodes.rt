@@ -3,7 +3,7 @@
 ghost use Rattle.std.specs.Prelude.{◌≡◌, ◌≤◌, [], map, length, IfErr, IfNone, IfOk, IsTrue, OnOk, None, Some};
 ghost use Rattle.toml.specs.View.{view};
 ghost use Rattle.plan_reader.specs.Names.{is_name};
-ghost use Rattle.plan_reader.specs.PlanTables.{converts, has_node_kinds, id_in, id_number, name_of, node_kind, node_of, node_value_kind, nodes_fault};
+ghost use Rattle.plan_reader.specs.PlanTables.{TellsFirst, views, converts, has_node_kinds, id_in, id_number, name_of, node_kind, node_of, node_value_kind, nodes_fault};
 ghost use Rattle.plan_reader.specs.declared.faults.PlanError.{PlanError};
 ghost use Rattle.plan_reader.specs.declared.faults.PlanFault.{PlanFault};
 
@@ -106,10 +106,10 @@ fn node_kind(value: &Value, last: u32, names: &Names) -> Option<PlanKind>
 /// Reads the nodes, or gives the first fault.
 pub fn read_nodes(alloc: Global, values: &[Value]) -> Result<Nodes, PlanError>
     requires { length values.now ≤ 64 }
-    ensures names { IfOk result (λ r. r.names ≡ map name_of (map (λ v. view v) values.now)) }
-    ensures nodes { IfOk result (λ r. r.nodes.items ≡ map node_of (map (λ v. view v) values.now)) }
-    ensures sound { OnOk result (nodes_fault 1 0 [] (map (λ v. view v) values.now) ≡ None) }
-    ensures fault { IfErr result (λ e. (f : PlanFault) → e ≡ PlanError.Fault f → nodes_fault 1 0 [] (map (λ v. view v) values.now) ≡ Some f) }
+    ensures names { IfOk result (λ r. r.names ≡ map name_of (views values.now)) }
+    ensures nodes { IfOk result (λ r. r.nodes.items ≡ map node_of (views values.now)) }
+    ensures sound { OnOk result (nodes_fault 1 0 [] (views values.now) ≡ None) }
+    ensures fault { IfErr result (λ e. TellsFirst e (nodes_fault 1 0 [] (views values.now))) }
 {
     let mut names = Names::new(alloc);
     let mut nodes = Vec::new(alloc);

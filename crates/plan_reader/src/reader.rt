@@ -4,7 +4,7 @@ ghost use Rattle.std.specs.Prelude.{◌≡◌, ◌≤◌, codes, length, [], IfE
 ghost use Rattle.toml.specs.View.{view};
 ghost use Rattle.ason_base.specs.Network.{IsTopology};
 ghost use Rattle.plan_reader.specs.Plans.{Answers, ArePostable, HasNames, call_names_in, lines_in, links_fault_in, links_in, names_in, network_in, nodes_fault_in, nodes_in, plan_of, script_fault_in};
-ghost use Rattle.plan_reader.specs.PlanTables.{elements_at};
+ghost use Rattle.plan_reader.specs.PlanTables.{TellsFirst, elements_at};
 ghost use Rattle.plan_reader.specs.declared.faults.PlanError.{PlanError};
 ghost use Rattle.plan_reader.specs.declared.faults.PlanFault.{PlanFault};
 
@@ -38,7 +38,7 @@ fn plan_nodes(alloc: Global, value: &Value) -> Result<Nodes, PlanError>
     ensures names { IfOk result (λ r. r.names ≡ names_in (view value.now)) }
     ensures nodes { IfOk result (λ r. r.nodes.items ≡ nodes_in (view value.now)) }
     ensures sound { OnOk result (nodes_fault_in (view value.now) ≡ None) }
-    ensures fault { IfErr result (λ e. (f : PlanFault) → e ≡ PlanError.Fault f → nodes_fault_in (view value.now) ≡ Some f) }
+    ensures fault { IfErr result (λ e. TellsFirst e (nodes_fault_in (view value.now))) }
 {
     read_nodes(alloc, elements(value, "node"))
 }
@@ -49,7 +49,7 @@ fn plan_links(alloc: Global, value: &Value, nodes: &Nodes) -> Result<Vec<LinkSpe
     requires nodes { nodes.now.nodes.items ≡ nodes_in (view value.now) }
     ensures links { IfOk result (λ r. r.items ≡ links_in (view value.now)) }
     ensures sound { OnOk result (links_fault_in (view value.now) ≡ None) }
-    ensures fault { IfErr result (λ e. (f : PlanFault) → e ≡ PlanError.Fault f → links_fault_in (view value.now) ≡ Some f) }
+    ensures fault { IfErr result (λ e. TellsFirst e (links_fault_in (view value.now))) }
 {
     read_links(alloc, &nodes.names, &nodes.nodes, elements(value, "link"))
 }
@@ -66,7 +66,7 @@ fn plan_script(
     ensures calls { IfOk result (λ s. s.call_names ≡ call_names_in (view value.now)) }
     ensures lines { IfOk result (λ s. s.lines ≡ lines_in (view value.now)) }
     ensures sound { OnOk result (script_fault_in (view value.now) ≡ None) }
-    ensures fault { IfErr result (λ e. (f : PlanFault) → e ≡ PlanError.Fault f → script_fault_in (view value.now) ≡ Some f) }
+    ensures fault { IfErr result (λ e. TellsFirst e (script_fault_in (view value.now))) }
 {
     read_script(alloc, t, names, elements(value, "script"))
 }

@@ -3,10 +3,10 @@
 ghost use Rattle.std.specs.Prelude.{◌≡◌, ◌<◌, ◌≤◌, map, length, IfErr, IfNone, IfOk, IsTrue, OnOk, None, Some};
 ghost use Rattle.toml.specs.View.{view};
 ghost use Rattle.plan_reader.specs.PlanCalls.{no_calls, with_call};
-ghost use Rattle.plan_reader.specs.PlanTables.{text_of};
+ghost use Rattle.plan_reader.specs.PlanTables.{TellsFirst, text_of};
 ghost use Rattle.plan_reader.specs.PlanTexts.{texts, word_at, words_of};
 ghost use Rattle.plan_reader.specs.Names.{is_name};
-ghost use Rattle.plan_reader.specs.PlanScript.{are_same, call_of, calls_after, calls_of, from_node, from_of, line_kind, line_of, lines_of, next_node, other_kind, other_line, release_kind, release_of, rounds_of, route_of, script_fault, settle_kind, setup_call_kind, setup_ends_kind, setup_kind, setup_of, steps_over, to_node, to_of};
+ghost use Rattle.plan_reader.specs.PlanScript.{TellsKind, are_same, call_of, calls_after, calls_after_setup, calls_of, from_node, from_of, line_kind, line_of, line_texts, lines_of, next_node, other_kind, other_line, release_kind, release_of, rounds_of, route_of, script_fault, settle_kind, setup_call_kind, setup_ends_kind, setup_kind, setup_of, steps_over, to_node, to_of};
 ghost use Rattle.plan_reader.specs.declared.faults.PlanError.{PlanError};
 ghost use Rattle.plan_reader.specs.declared.faults.PlanFault.{PlanFault};
 ghost use Rattle.plan_reader.specs.declared.faults.PlanKind.{PlanKind};
@@ -286,9 +286,9 @@ fn read_setup(
     words: &[&[u8]],
 ) -> Result<Command, LineError>
     ensures command { IfOk result (λ c. c ≡ setup_of t.now names.now calls.old (texts words.now)) }
-    ensures calls { OnOk result (calls.new ≡ with_call calls.old (word_at (texts words.now) 1) (from_node t.now names.now (texts words.now))) }
+    ensures calls { OnOk result (calls.new ≡ calls_after_setup t.now names.now calls.old (texts words.now)) }
     ensures sound { OnOk result (setup_kind t.now names.now calls.old (texts words.now) ≡ None) }
-    ensures fault { IfErr result (λ e. (k : PlanKind) → e ≡ LineError.Fault k → setup_kind t.now names.now calls.old (texts words.now) ≡ Some k) }
+    ensures fault { IfErr result (λ e. TellsKind e (setup_kind t.now names.now calls.old (texts words.now))) }
 {
     let route = route(alloc, t, names, words)?;
     if let Some(kind) = setup_kind(t, names, calls, words, route.items()) {
@@ -310,7 +310,7 @@ fn read_line(
     ensures line { IfOk result (λ l. l ≡ line_of t.now names.now calls.old (texts words.now)) }
     ensures calls { OnOk result (calls.new ≡ calls_after t.now names.now calls.old (texts words.now)) }
     ensures sound { OnOk result (line_kind t.now names.now calls.old (texts words.now) ≡ None) }
-    ensures fault { IfErr result (λ e. (k : PlanKind) → e ≡ LineError.Fault k → line_kind t.now names.now calls.old (texts words.now) ≡ Some k) }
+    ensures fault { IfErr result (λ e. TellsKind e (line_kind t.now names.now calls.old (texts words.now))) }
 {
     if is_given_setup(words) {
         let command = read_setup(alloc, t, names, calls, words)?;
@@ -332,7 +332,7 @@ fn read_text(
     ensures line { IfOk result (λ l. l ≡ line_of t.now names.now calls.old (words_of line.now)) }
     ensures calls { OnOk result (calls.new ≡ calls_after t.now names.now calls.old (words_of line.now)) }
     ensures sound { OnOk result (line_kind t.now names.now calls.old (words_of line.now) ≡ None) }
-    ensures fault { IfErr result (λ e. (k : PlanKind) → e ≡ LineError.Fault k → line_kind t.now names.now calls.old (words_of line.now) ≡ Some k) }
+    ensures fault { IfErr result (λ e. TellsKind e (line_kind t.now names.now calls.old (words_of line.now))) }
 {
     let words = words_of(alloc, line)?;
     read_line(alloc, t, names, calls, &words)
@@ -353,10 +353,10 @@ pub fn read_script(
     values: &[Value],
 ) -> Result<Script, PlanError>
     requires { length values.now ≤ 10000 }
-    ensures calls { IfOk result (λ s. s.call_names ≡ (calls_of t.now names.now no_calls (map text_of (map (λ v. view v) values.now))).names) }
-    ensures lines { IfOk result (λ s. s.lines ≡ lines_of t.now names.now no_calls (map text_of (map (λ v. view v) values.now))) }
-    ensures sound { OnOk result (script_fault t.now names.now 1 no_calls (map text_of (map (λ v. view v) values.now)) ≡ None) }
-    ensures fault { IfErr result (λ e. (f : PlanFault) → e ≡ PlanError.Fault f → script_fault t.now names.now 1 no_calls (map text_of (map (λ v. view v) values.now)) ≡ Some f) }
+    ensures calls { IfOk result (λ s. s.call_names ≡ (calls_of t.now names.now no_calls (line_texts values.now)).names) }
+    ensures lines { IfOk result (λ s. s.lines ≡ lines_of t.now names.now no_calls (line_texts values.now)) }
+    ensures sound { OnOk result (script_fault t.now names.now 1 no_calls (line_texts values.now) ≡ None) }
+    ensures fault { IfErr result (λ e. TellsFirst e (script_fault t.now names.now 1 no_calls (line_texts values.now))) }
 {
     let mut calls = Calls::new(alloc);
     let mut lines = Lines::new(alloc);
