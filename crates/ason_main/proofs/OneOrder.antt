@@ -49,7 +49,8 @@ abbrev not_after : {X : Type 0} → (X → X → Bool) → X → X → ℕ
 not_after lt y x = cond (lt y x) 0 1
 
 -- the first of a list in order is after none of another list with the same elements
-first_is_least : {X : Type 0} (lt : X → X → Bool) → IsStrictWeakOrder lt → (x y : X) (xs ys : List X) → IsSortedBy lt (x ∷ xs) →
+first_is_least : {X : Type 0} (lt : X → X → Bool) → IsStrictWeakOrder lt → (x y : X) (xs ys : List X) →
+    IsSortedBy lt (x ∷ xs) →
     HaveSameSums (x ∷ xs) (y ∷ ys) → lt y x ≡ false
 first_is_least {X} lt o x y xs ys sorted same = go (lt y x) refl
   where
@@ -60,7 +61,9 @@ first_is_least {X} lt o x y xs ys sorted same = go (lt y x) refl
     none : lt y x ≡ true → All (λ w. not_after lt y w ≡ 0) (x ∷ xs)
     none before =
         All-from_get_or (λ w. not_after lt y w ≡ 0) (x ∷ xs) x
-        (λ i within. after before (get_or (x ∷ xs) i x) (sorted_far lt o (x ∷ xs) sorted 0 i x (omega arith) within) (lt y (get_or (x ∷ xs) i x)) refl)
+        (λ i within.
+        let later = sorted_far lt o (x ∷ xs) sorted 0 i x (omega arith) within in
+        after before (get_or (x ∷ xs) i x) later (lt y (get_or (x ∷ xs) i x)) refl)
 
     go : (b : Bool) → lt y x ≡ b → lt y x ≡ false
     go false e = e
@@ -68,14 +71,16 @@ first_is_least {X} lt o x y xs ys sorted same = go (lt y x) refl
         let here : not_after lt y y ≡ 1 = ap (λ c. cond c 0 1) (not_itself lt o y) in
         let nothing : sum_by (not_after lt y) (x ∷ xs) ≡ 0 = no_sum (not_after lt y) (x ∷ xs) (none e) in
         let all : sum_by (not_after lt y) (x ∷ xs) ≡ sum_by (not_after lt y) (y ∷ ys) = same (not_after lt y) in
-        let parts : sum_by (not_after lt y) (y ∷ ys) ≡ not_after lt y y + sum_by (not_after lt y) ys = sum_by-cons (not_after lt y) y ys in
+        let parts : sum_by (not_after lt y) (y ∷ ys) ≡ not_after lt y y + sum_by (not_after lt y) ys =
+        sum_by-cons (not_after lt y) y ys in
         absurd (omega arith)
 
 -- those with P that tie are one
 abbrev pub TiesAreOne : {X : Type 0} → (X → X → Bool) → (X → Type 0) → Type 0
 TiesAreOne {X} lt P = (x y : X) → P x → P y → lt x y ≡ false → lt y x ≡ false → x ≡ y
 
-same_lists : {X : Type 0} (lt : X → X → Bool) (P : X → Type 0) → IsStrictWeakOrder lt → TiesAreOne lt P → (xs ys : List X) → All P xs → All P ys →
+same_lists : {X : Type 0} (lt : X → X → Bool) (P : X → Type 0) → IsStrictWeakOrder lt → TiesAreOne lt P →
+    (xs ys : List X) → All P xs → All P ys →
     IsSortedBy lt xs → IsSortedBy lt ys → HaveSameSums xs ys → xs ≡ ys
 same_lists lt P o one [] [] here there rises climbs same = refl
 same_lists lt P o one [] (y ∷ ys) here there rises climbs same =
@@ -91,11 +96,13 @@ same_lists lt P o one (x ∷ xs) (y ∷ ys) here there rises climbs same =
     one x y (All-head P x xs here) (All-head P y ys there)
     (first_is_least lt o y x ys xs climbs (λ f. sym (same f))) (first_is_least lt o x y xs ys rises same) in
     let tail : xs ≡ ys =
-    same_lists lt P o one xs ys (All-tail P x xs here) (All-tail P y ys there) (sorted_tail lt x xs rises) (sorted_tail lt y ys climbs)
+    same_lists lt P o one xs ys (All-tail P x xs here) (All-tail P y ys there)
+    (sorted_tail lt x xs rises) (sorted_tail lt y ys climbs)
     (same_tails x y xs ys head same) in
     λ i. head i ∷ tail i
 
-pub one_order : {X : Type 0} (lt : X → X → Bool) (P : X → Type 0) → IsStrictWeakOrder lt → TiesAreOne lt P → (all xs ys : List X) → All P all →
+pub one_order : {X : Type 0} (lt : X → X → Bool) (P : X → Type 0) → IsStrictWeakOrder lt → TiesAreOne lt P →
+    (all xs ys : List X) → All P all →
     IsPermutation all xs → IsPermutation all ys → IsSortedBy lt xs → IsSortedBy lt ys → xs ≡ ys
 one_order lt P o one all xs ys each here there rises climbs =
     same_lists lt P o one xs ys (All-permutation P all xs here each) (All-permutation P all ys there each) rises climbs

@@ -23,37 +23,46 @@ LawsBefore t es = (first left : List MeshEvent) → first ++ left ≡ es → Law
 
 -- Lines
 
-one_show : (p : Plan) (line : Line) (s : Mesh) (a b : List ℕ) → HasOneLegEach s → ((n : ℕ) → CallsFit n (s.nodes n)) → Shows p line s a → Shows p line s b → a ≡ b
+one_show : (p : Plan) (line : Line) (s : Mesh) (a b : List ℕ) → HasOneLegEach s → ((n : ℕ) → CallsFit n (s.nodes n)) →
+    Shows p line s a → Shows p line s b → a ≡ b
 one_show p (Post c) s a b one fit this that = this ∙ sym that
 one_show p (Settle r) s a b one fit this that = this ∙ sym that
 one_show p Show s a b one fit this that =
-    this.2 ∙ (ap (λ (rows : TableRows). table_text p rows) (one_table p.topology s this.0 that.0 one fit this.1 that.1) ∙ sym that.2)
+    let same : this.0 ≡ that.0 = one_table p.topology s this.0 that.0 one fit this.1 that.1 in
+    this.2 ∙ (ap (λ (rows : TableRows). table_text p rows) same ∙ sym that.2)
 
-one_line : (p : Plan) (line : Line) (h : History) (a b : List ℕ) → LawsHold p.topology h.events → LinePrints p line h a → LinePrints p line h b → a ≡ b
+one_line : (p : Plan) (line : Line) (h : History) (a b : List ℕ) → LawsHold p.topology h.events →
+    LinePrints p line h a → LinePrints p line h b → a ≡ b
 one_line p line h a b laws this that = go h.stopped this that
   where
-    go : (o : Option NodeId) → UnlessStopped o (Shows p line (state_after p.topology h) a) a → UnlessStopped o (Shows p line (state_after p.topology h) b) b → a ≡ b
+    go : (o : Option NodeId) → UnlessStopped o (Shows p line (state_after p.topology h) a) a →
+        UnlessStopped o (Shows p line (state_after p.topology h) b) b → a ≡ b
     go None shown seen = one_show p line (state_after p.topology h) a b laws.one_leg laws.calls shown seen
     go (Some n) none nothing = none ∙ sym nothing
 
-so_far : (t : Network) (es : List MeshEvent) (lines : List Line) (h : History) → LeadThrough t es lines h → (left : List MeshEvent) × (h.events ++ left ≡ es)
+so_far : (t : Network) (es : List MeshEvent) (lines : List Line) (h : History) → LeadThrough t es lines h →
+    (left : List MeshEvent) × (h.events ++ left ≡ es)
 so_far t es [] h lead = ([], append-nil h.events ∙ lead)
 so_far t es (line ∷ lines) h lead = lead.0
 
-one_text : (p : Plan) (es : List MeshEvent) (lines : List Line) (h : History) (a b : List ℕ) → LawsBefore p.topology es → LeadThrough p.topology es lines h →
+one_text : (p : Plan) (es : List MeshEvent) (lines : List Line) (h : History) (a b : List ℕ) →
+    LawsBefore p.topology es → LeadThrough p.topology es lines h →
     Prints p lines h a → Prints p lines h b → a ≡ b
 one_text p es [] h a b laws lead this that = this ∙ sym that
 one_text p es (line ∷ lines) h a b laws lead this that =
     let now = so_far p.topology es lines (line_done p.topology h line) lead.1 in
     let laws_now = laws (line_done p.topology h line).events now.0 now.1 in
     let first : this.0 ≡ that.0 = one_line p line (line_done p.topology h line) this.0 that.0 laws_now this.2 that.2 in
-    let others : this.1 ≡ that.1 = one_text p es lines (line_done p.topology h line) this.1 that.1 laws lead.1 this.3 that.3 in
+    let others : this.1 ≡ that.1 =
+    one_text p es lines (line_done p.topology h line) this.1 that.1 laws lead.1 this.3 that.3 in
     this.4 ∙ ((λ i. first i ++ others i) ∙ sym that.4)
 
 -- Outputs
 
-script_text : (p : Plan) (a b : List ℕ) → IsOneRun p → Prints p (script_of p) new_history a → Prints p (script_of p) new_history b → a ≡ b
-script_text p a b run this that = one_text p (run_of p).events (script_of p) new_history a b run.laws run.leads this that
+script_text : (p : Plan) (a b : List ℕ) → IsOneRun p → Prints p (script_of p) new_history a →
+    Prints p (script_of p) new_history b → a ≡ b
+script_text p a b run this that =
+    one_text p (run_of p).events (script_of p) new_history a b run.laws run.leads this that
 
 not_both : (p : Plan) (n : NodeId) (a b : List ℕ) → IsOutput p a → IsStoppedOutput p n b → ⊥
 not_both p n a b ended stopped =
@@ -68,7 +77,8 @@ the_output p text is = record {
   never_stopped = λ n other that. not_both p n text other is that;
 }
 
-pub the_stopped_output : (p : Plan) (n : NodeId) (text : List ℕ) → IsStoppedOutput p n text → IsTheStoppedOutput p n text
+pub the_stopped_output : (p : Plan) (n : NodeId) (text : List ℕ) → IsStoppedOutput p n text →
+    IsTheStoppedOutput p n text
 the_stopped_output p n text is = record {
   output = is;
   only = only;
@@ -79,6 +89,7 @@ the_stopped_output p n text is = record {
     only m other that =
         let here : (run_of p).stopped ≡ Some n = is.stopped in
         let there : (run_of p).stopped ≡ Some m = that.stopped in
-        let told : that.printed.0 ≡ is.printed.0 = script_text p that.printed.0 is.printed.0 is.one_run that.printed.1 is.printed.1 in
+        let told : that.printed.0 ≡ is.printed.0 =
+        script_text p that.printed.0 is.printed.0 is.one_run that.printed.1 is.printed.1 in
         let same : m ≡ n = cc in
         (same, that.printed.2 ∙ ((λ i. told i ++ stopped_text p (same i)) ∙ sym is.printed.2))

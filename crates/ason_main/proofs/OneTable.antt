@@ -44,7 +44,8 @@ leg_ranks =
     ranks_by (then_total (then_total by_ingress (then_total by_tunnel by_number)) by_node) (λ g. g)
 
 -- numbers that tie are equal, and what comes after them ties
-tie : (a b : ℕ) (s t : Bool) → (nat_lt a b || (a == b && s)) ≡ false → (nat_lt b a || (b == a && t)) ≡ false → (a ≡ b) × (s ≡ false) × (t ≡ false)
+tie : (a b : ℕ) (s t : Bool) → (nat_lt a b || (a == b && s)) ≡ false → (nat_lt b a || (b == a && t)) ≡ false →
+    (a ≡ b) × (s ≡ false) × (t ≡ false)
 tie a b s t this that = (same, rest a b s same this, rest b a t (sym same) that)
   where
     same : a ≡ b
@@ -69,11 +70,12 @@ each_call_row s (n ∷ ns) = All-append (IsCallRow s) (call_rows n.id (s.nodes n
     here : All (IsCallRow s) (call_rows n.id (s.nodes n.id.0))
     here =
         All-map (IsCallRow s) (call_row n.id (s.nodes n.id.0).legs) (s.nodes n.id.0).calls
-        (All-weaker (Contains (s.nodes n.id.0).calls) (λ c. IsCallRow s (call_row n.id (s.nodes n.id.0).legs c)) (λ c there. (n.id, c, there, refl))
-        (s.nodes n.id.0).calls (All-contains_itself (s.nodes n.id.0).calls))
+        (All-weaker (Contains (s.nodes n.id.0).calls) (λ c. IsCallRow s (call_row n.id (s.nodes n.id.0).legs c))
+        (λ c there. (n.id, c, there, refl)) (s.nodes n.id.0).calls (All-contains_itself (s.nodes n.id.0).calls))
 
 -- calls of one node with one number are one
-one_call : (calls : List CallRec) (c d : CallRec) → AllPairs (λ a b. a.call.0 < b.call.0) calls → Contains calls c → Contains calls d → c.call.0 ≡ d.call.0 → c ≡ d
+one_call : (calls : List CallRec) (c d : CallRec) → AllPairs (λ a b. a.call.0 < b.call.0) calls → Contains calls c →
+    Contains calls d → c.call.0 ≡ d.call.0 → c ≡ d
 one_call calls c d rising here there same = go (cases_order here.0 there.0)
   where
     apart : (a b : CallRec) (x : Contains calls a) (y : Contains calls b) → a.call.0 ≡ b.call.0 → x.0 < y.0 → ⊥
@@ -81,7 +83,9 @@ one_call calls c d rising here there same = go (cases_order here.0 there.0)
         let above : (get_or calls x.0 a).call.0 < (get_or calls y.0 a).call.0 = rising x.0 y.0 a before y.1 in
         let first : get_or calls x.0 a ≡ a = x.2 in
         let second : get_or calls y.0 a ≡ b = get_or_default calls y.0 a b y.1 ∙ y.2 in
-        let numbers : a.call.0 < b.call.0 = subst (λ (r : CallRec). r.call.0 < b.call.0) first (subst (λ (r : CallRec). (get_or calls x.0 a).call.0 < r.call.0) second above) in
+        let before_b : (get_or calls x.0 a).call.0 < b.call.0 =
+        subst (λ (r : CallRec). (get_or calls x.0 a).call.0 < r.call.0) second above in
+        let numbers : a.call.0 < b.call.0 = subst (λ (r : CallRec). r.call.0 < b.call.0) first before_b in
         omega arith
 
     go : (here.0 ≡ there.0) ⊎ ((here.0 < there.0) ⊎ (there.0 < here.0)) → c ≡ d
@@ -92,8 +96,10 @@ one_call calls c d rising here there same = go (cases_order here.0 there.0)
 one_call_row : (s : Mesh) → ((n : ℕ) → CallsFit n (s.nodes n)) → TiesAreOne derived_call_order (IsCallRow s)
 one_call_row s fit x y here there this that = here.3 ∙ (rows ∙ sym there.3)
   where
-    levels : (x.call.0 ≡ y.call.0) × ((nat_lt x.ingress.0 y.ingress.0) ≡ false) × ((nat_lt y.ingress.0 x.ingress.0) ≡ false)
-    levels = tie x.call.0 y.call.0 (nat_lt x.ingress.0 y.ingress.0) (nat_lt y.ingress.0 x.ingress.0) (sym (call_order x y) ∙ this) (sym (call_order y x) ∙ that)
+    levels : (x.call.0 ≡ y.call.0) × (nat_lt x.ingress.0 y.ingress.0 ≡ false) × (nat_lt y.ingress.0 x.ingress.0 ≡ false)
+    levels =
+        tie x.call.0 y.call.0 (nat_lt x.ingress.0 y.ingress.0) (nat_lt y.ingress.0 x.ingress.0)
+        (sym (call_order x y) ∙ this) (sym (call_order y x) ∙ that)
 
     ingress : x.ingress.0 ≡ y.ingress.0
     ingress =
@@ -102,7 +108,11 @@ one_call_row s fit x y here there this that = here.3 ∙ (rows ∙ sym there.3)
         omega arith
 
     node : here.0 ≡ there.0
-    node = λ i. record { 0 = (ap (λ (r : CallRow). r.ingress.0) (sym here.3) ∙ (ingress ∙ ap (λ (r : CallRow). r.ingress.0) there.3)) i }
+    node =
+        let first = ap (λ (r : CallRow). r.ingress.0) (sym here.3) in
+        let last = ap (λ (r : CallRow). r.ingress.0) there.3 in
+        let same = first ∙ (ingress ∙ last) in
+        λ i. record { 0 = same i }
 
     number : here.1.call.0 ≡ there.1.call.0
     number = ap (λ (r : CallRow). r.call.0) (sym here.3) ∙ (levels.0 ∙ ap (λ (r : CallRow). r.call.0) there.3)
@@ -128,14 +138,16 @@ each_leg_row s (n ∷ ns) = All-append (IsLegRow s) (leg_rows n.id (s.nodes n.id
     here : All (IsLegRow s) (leg_rows n.id (s.nodes n.id.0))
     here =
         All-map (IsLegRow s) (leg_row n.id) (s.nodes n.id.0).legs
-        (All-weaker (Contains (s.nodes n.id.0).legs) (λ g. IsLegRow s (leg_row n.id g)) (λ g there. (n.id, g, there, refl))
-        (s.nodes n.id.0).legs (All-contains_itself (s.nodes n.id.0).legs))
+        (All-weaker (Contains (s.nodes n.id.0).legs) (λ g. IsLegRow s (leg_row n.id g))
+        (λ g there. (n.id, g, there, refl)) (s.nodes n.id.0).legs (All-contains_itself (s.nodes n.id.0).legs))
 
 one_leg_row : (s : Mesh) → HasOneLegEach s → TiesAreOne derived_order (IsLegRow s)
 one_leg_row s one x y here there this that = here.3 ∙ (rows ∙ sym there.3)
   where
     first : (x.lsp.ingress.0 ≡ y.lsp.ingress.0) × (tunnel_before x y ≡ false) × (tunnel_before y x ≡ false)
-    first = tie x.lsp.ingress.0 y.lsp.ingress.0 (tunnel_before x y) (tunnel_before y x) (sym (leg_levels x y) ∙ this) (sym (leg_levels y x) ∙ that)
+    first =
+        tie x.lsp.ingress.0 y.lsp.ingress.0 (tunnel_before x y) (tunnel_before y x)
+        (sym (leg_levels x y) ∙ this) (sym (leg_levels y x) ∙ that)
 
     second : (x.lsp.tunnel ≡ y.lsp.tunnel) × (number_before x y ≡ false) × (number_before y x ≡ false)
     second = tie x.lsp.tunnel y.lsp.tunnel (number_before x y) (number_before y x) first.1 first.2
@@ -150,11 +162,14 @@ one_leg_row s one x y here there this that = here.3 ∙ (rows ∙ sym there.3)
         omega arith
 
     node : here.0 ≡ there.0
-    node = λ i. record { 0 = (ap (λ (r : LegRow). r.node.0) (sym here.3) ∙ (same_node ∙ ap (λ (r : LegRow). r.node.0) there.3)) i }
+    node =
+        let same = ap (λ (r : LegRow). r.node.0) (sym here.3) ∙ (same_node ∙ ap (λ (r : LegRow). r.node.0) there.3) in
+        λ i. record { 0 = same i }
 
     lsp : here.1.lsp ≡ there.1.lsp
     lsp =
-        let same : x.lsp ≡ y.lsp = λ i. record { ingress = record { 0 = first.0 i }; tunnel = second.0 i; lsp = third.0 i } in
+        let same : x.lsp ≡ y.lsp =
+        λ i. record { ingress = record { 0 = first.0 i }; tunnel = second.0 i; lsp = third.0 i } in
         ap (λ (r : LegRow). r.lsp) (sym here.3) ∙ (same ∙ ap (λ (r : LegRow). r.lsp) there.3)
 
     leg : here.1 ≡ there.1
@@ -169,18 +184,24 @@ one_leg_row s one x y here there this that = here.3 ∙ (rows ∙ sym there.3)
 
 -- Tables
 
-in_derived_order : {X : Type 0} (lt by : X → X → Bool) → ((a b : X) → by a b ≡ lt a b) → (xs : List X) → IsSortedBy lt xs → IsSortedBy by xs
+in_derived_order : {X : Type 0} (lt by : X → X → Bool) → ((a b : X) → by a b ≡ lt a b) → (xs : List X) →
+    IsSortedBy lt xs → IsSortedBy by xs
 in_derived_order lt by same xs sorted k d low high = same (get_or xs (k + 1) d) (get_or xs k d) ∙ sorted k d low high
 
-pub one_table : (t : Network) (s : Mesh) (a b : TableRows) → HasOneLegEach s → ((n : ℕ) → CallsFit n (s.nodes n)) → IsTable t s a → IsTable t s b → a ≡ b
+pub one_table : (t : Network) (s : Mesh) (a b : TableRows) → HasOneLegEach s → ((n : ℕ) → CallsFit n (s.nodes n)) →
+    IsTable t s a → IsTable t s b → a ≡ b
 one_table t s a b one fit this that = λ i. record { calls = calls i; legs = legs i }
   where
     calls : a.calls ≡ b.calls
     calls =
-        one_order derived_call_order (IsCallRow s) call_ranks (one_call_row s fit) (all_call_rows t s) a.calls b.calls (each_call_row s t.nodes)
-        this.same_calls that.same_calls (in_derived_order call_before derived_call_order call_order a.calls this.calls) (in_derived_order call_before derived_call_order call_order b.calls that.calls)
+        one_order derived_call_order (IsCallRow s) call_ranks (one_call_row s fit) (all_call_rows t s) a.calls b.calls
+        (each_call_row s t.nodes) this.same_calls that.same_calls
+        (in_derived_order call_before derived_call_order call_order a.calls this.calls)
+        (in_derived_order call_before derived_call_order call_order b.calls that.calls)
 
     legs : a.legs ≡ b.legs
     legs =
-        one_order derived_order (IsLegRow s) leg_ranks (one_leg_row s one) (all_leg_rows t s) a.legs b.legs (each_leg_row s t.nodes)
-        this.same_legs that.same_legs (in_derived_order leg_before derived_order leg_order a.legs this.legs) (in_derived_order leg_before derived_order leg_order b.legs that.legs)
+        one_order derived_order (IsLegRow s) leg_ranks (one_leg_row s one) (all_leg_rows t s) a.legs b.legs
+        (each_leg_row s t.nodes) this.same_legs that.same_legs
+        (in_derived_order leg_before derived_order leg_order a.legs this.legs)
+        (in_derived_order leg_before derived_order leg_order b.legs that.legs)

@@ -101,7 +101,7 @@ pub message_answer : (t : Network) (n u : NodeId) (s : Seat) (mail : List Msg) (
 message_answer t n u s [] m place first = absurd (cc (first))
 message_answer t n u s (x ∷ mail) m place first =
     let same : m ≡ x = cc (first) in
-    ap (λ p. on_message p s.node.state.legs s.node.state.calls u m) place ∙ ap (on_message (site_of t n) s.node.state.legs s.node.state.calls u) same
+    ap (λ p. on_message p s.node.state u m) place ∙ ap (on_message (site_of t n) s.node.state u) same
 
 pub message_step : (t : Network) (old after : List Seat) (lanes taken sent : List Lane) (n u : NodeId) (msg : Msg) → HasSeat t old n → Some msg ≡ slice_get (mail_at lanes u.0 n.0) 0 →
     ((a b : ℕ) → mail_at taken a b ≡ cond (nat_eq a u.0 && nat_eq b n.0) (drop 1 (mail_at lanes a b)) (mail_at lanes a b)) →
