@@ -1,5 +1,6 @@
 -- One more node, link or line is read.
-use Rattle.std.proofs.Common.{◌≡◌, ℕ, ◌+◌, List, [], ◌∷◌, ◌++◌, drop, map, get_or, length, ◌<◌, Some, None, refl, append_assoc}
+use Rattle.std.proofs.Common.{◌≡◌, ℕ, ◌+◌, List, [], ◌∷◌, ◌++◌, drop, map, get_or, length, ◌<◌, Some, None, false, is_some, refl, append_assoc}
+use Rattle.std.specs.List.{list_all}
 use Rattle.std.proofs.lemmas.List.{drop-map}
 use Rattle.toml.specs.Data.{Data}
 use Rattle.toml.specs.View.{view}
@@ -8,7 +9,7 @@ use Rattle.ason_base.specs.Network.{Network}
 use Rattle.ason_base.specs.declared.network.NodeSpec.{NodeSpec}
 use Rattle.plan_reader.specs.PlanCalls.{CallList}
 use Rattle.plan_reader.specs.PlanScript.{calls_after, calls_of, line_kind, line_of, lines_of, script_fault}
-use Rattle.plan_reader.specs.PlanTables.{fault_at, id_number, link_kind, links_fault, name_of, node_kind, nodes_fault, text_of}
+use Rattle.plan_reader.specs.PlanTables.{fault_at, id_number, link_kind, links_fault, name_of, node_kind, nodes_fault, srlg_in, text_of, views}
 use Rattle.plan_reader.specs.PlanTexts.{words_of}
 use Rattle.plan_reader.specs.declared.faults.PlanEntry.TheVariants.{Node, Link, Script}
 use Rattle.plan_reader.specs.declared.faults.PlanError.{PlanError}
@@ -47,6 +48,17 @@ pub line_faulty :
     (t : Network) (names : List (List ℕ)) (n : ℕ) (calls : CallList) (line : List ℕ) (more left : List (List ℕ)) (k : PlanKind) → left ≡ line ∷ more → line_kind t names calls (words_of line) ≡ Some k
     → script_fault t names n calls left ≡ fault_at (Script n) (Some k)
 line_faulty t names n calls line more left k e faulty = rw (e, faulty) refl
+
+-- the SRLGs that are left are within reach where the first is and those behind it are
+pub srlg_within :
+    (vs : List Value) (i n : ℕ) (v : Value) → i < length vs → v ≡ get_or vs i v → srlg_in (view v) ≡ Some n
+    → list_all (λ s. is_some (srlg_in s)) (drop i (views vs)) ≡ list_all (λ s. is_some (srlg_in s)) (drop (i + 1) (views vs))
+srlg_within vs i n v below here found = rw (views_here vs i v below here, found) refl
+
+pub srlg_beyond :
+    (vs : List Value) (i : ℕ) (v : Value) → i < length vs → v ≡ get_or vs i v → srlg_in (view v) ≡ None
+    → list_all (λ s. is_some (srlg_in s)) (drop i (views vs)) ≡ false
+srlg_beyond vs i v below here found = rw (views_here vs i v below here, found) refl
 
 -- an error tells one fault
 pub told : (e : PlanError) (f g : PlanFault) → e ≡ Fault f → e ≡ Fault g → Some f ≡ Some g

@@ -1,5 +1,5 @@
 -- The script of a plan: which lines there are, what each says, and its first fault.
-use Rattle.std.specs.Prelude.{◌≡◌, ℕ, ◌+◌, ◌==◌, ◌&&◌, ◌||◌, nat_le, Bool, false, not, List, [], ◌∷◌, length, map, codes, Option, Some, None, unwrap_or, is_none, if◌then◌else◌}
+use Rattle.std.specs.Prelude.{ℕ, ◌+◌, ◌==◌, ◌&&◌, ◌||◌, nat_le, Bool, false, not, List, [], ◌∷◌, length, map, codes, Option, Some, None, unwrap_or, is_none, if◌then◌else◌}
 use Rattle.toml.specs.declared.value.Value.{Value}
 use Rattle.ason_base.specs.Network.{Network, find_link}
 use Rattle.ason_base.specs.declared.ids.NodeId.{NodeId}
@@ -12,16 +12,11 @@ use Rattle.plan_reader.specs.declared.faults.PlanFault.{PlanFault}
 use Rattle.plan_reader.specs.declared.faults.PlanKind.{PlanKind}
 use Rattle.plan_reader.specs.declared.faults.PlanKind.TheVariants as kinds
 use Rattle.plan_reader.specs.declared.lines.Line.{Line}
-use Rattle.plan_reader.specs.declared.script.LineError.{LineError}
 use Rattle.plan_reader.specs.declared.lines.Line.TheVariants.{Post, Settle, Show}
 use Rattle.plan_reader.specs.PlanTexts.{node_named, words_of, word_at, is_number, are_numbers, number_up_to, are_link_ids, link_ids}
 use Rattle.plan_reader.specs.Names.{same_text, is_name, has_name, place_of}
 use Rattle.plan_reader.specs.PlanCalls.{CallList, ingress_of, no_node, with_call}
 use Rattle.plan_reader.specs.PlanTables.{first_of, fault_at, text_of, views}
-
--- an error that tells a fault of a line tells this one
-abbrev pub TellsKind : LineError → Option PlanKind → Type 0
-TellsKind e first = (k : PlanKind) → e ≡ LineError.Fault k → first ≡ Some k
 
 -- Forms of a line, by its words
 

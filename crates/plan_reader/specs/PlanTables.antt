@@ -8,6 +8,7 @@ use Rattle.ason_base.specs.declared.network.LinkSpec.{LinkSpec}
 use Rattle.toml.specs.View.{view}
 use Rattle.toml.specs.declared.value.Value.{Value}
 use Rattle.toml.specs.Data.{Data, integer, boolean, array, table, Items, no_items, item, Members, no_members, member, get, as_str, as_integer, as_bool, as_table}
+use Rattle.plan_reader.specs.declared.faults.EntryError.{EntryError}
 use Rattle.plan_reader.specs.declared.faults.PlanEntry.{PlanEntry}
 use Rattle.plan_reader.specs.declared.faults.PlanEntry.TheVariants.{Node, Link}
 use Rattle.plan_reader.specs.declared.faults.PlanError.{PlanError}
@@ -34,6 +35,10 @@ fault_at entry (Some kind) = Some (record { entry = entry; kind = kind })
 -- an error that tells a fault tells this one
 abbrev pub TellsFirst : PlanError → Option PlanFault → Type 0
 TellsFirst e first = (f : PlanFault) → e ≡ PlanError.Fault f → first ≡ Some f
+
+-- an error that tells a fault of a part tells this one
+abbrev pub TellsKind : EntryError → Option PlanKind → Type 0
+TellsKind e first = (k : PlanKind) → e ≡ EntryError.Fault k → first ≡ Some k
 
 -- Values
 
@@ -254,6 +259,10 @@ has_link_counts d = length (elements_at (codes "ends") d) == 2 && nat_le (length
 
 abbrev pub are_srlgs_within : Data → Bool
 are_srlgs_within d = list_all (λ s. is_some (srlg_in s)) (elements_at (codes "srlg") d)
+
+-- the SRLGs of a link, where each is within reach
+abbrev pub srlgs_in : Data → Option (List ℕ)
+srlgs_in d = if are_srlgs_within d then Some (srlgs_of d) else None
 
 abbrev pub is_link_within : Data → Bool
 is_link_within d = is_some (id_in d) && (is_some (labels_in d) && (is_some (metric_in d) && are_srlgs_within d))

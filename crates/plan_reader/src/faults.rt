@@ -1,6 +1,7 @@
 //! Why bytes are no plan.
 
 ghost use Rattle.std.specs.Prelude.{◌≡◌};
+ghost use Rattle.plan_reader.specs.declared.faults.EntryError.{EntryError};
 ghost use Rattle.plan_reader.specs.declared.faults.PlanError.{PlanError};
 
 use ason_base::OutOfMemory;
@@ -103,6 +104,21 @@ impl<T: Drop> From<AllocFailed<T>> for PlanError {
 
     fn from(_: AllocFailed<T>) -> PlanError {
         PlanError::OutOfMemory
+    }
+}
+
+/// Why a part of a plan isn't read.
+#[derive(Clone, Copy, Debug, PartialEq, Eq, Drop)]
+pub enum EntryError {
+    Fault(PlanKind),
+    OutOfMemory,
+}
+
+impl From<OutOfMemory> for EntryError {
+    ghost from_gives = { λ _ error. error ≡ EntryError.OutOfMemory };
+
+    fn from(_: OutOfMemory) -> EntryError {
+        EntryError::OutOfMemory
     }
 }
 

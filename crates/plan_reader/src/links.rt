@@ -5,13 +5,13 @@ ghost use Rattle.std.specs.List.{list_all};
 ghost use Rattle.toml.specs.View.{view};
 ghost use Rattle.ason_base.specs.Network.{is_distinct};
 ghost use Rattle.plan_reader.specs.PlanTexts.{node_named};
-ghost use Rattle.plan_reader.specs.PlanTables.{TellsFirst, views, are_srlgs_within, end_ids, end_name, ends_of, has_link_counts, has_link_kinds, is_link_within, labels_in, lacks_link_key, link_kind, link_of, link_value_kind, links_fault, metric_in, srlg_in, srlgs_of};
+ghost use Rattle.plan_reader.specs.PlanTables.{TellsFirst, TellsKind, views, end_ids, end_name, ends_of, has_link_counts, has_link_kinds, labels_in, lacks_link_key, link_kind, link_of, link_value_kind, links_fault, metric_in, srlg_in, srlgs_in};
 ghost use Rattle.plan_reader.specs.declared.faults.PlanError.{PlanError};
 ghost use Rattle.plan_reader.specs.declared.faults.PlanFault.{PlanFault};
 
-use crate::faults::{PlanEntry, PlanError, PlanKind, fault};
+use crate::faults::{EntryError, PlanEntry, PlanError, PlanKind, fault};
 use crate::names::Names;
-use crate::nodes::{id, id_number};
+use crate::nodes::id;
 use crate::values::{
     Shape, are_integers_at, are_texts_at, count, elements, has_strange, is_integer_at, lacks,
     number, number_of, number_or, text_of,
@@ -86,27 +86,19 @@ fn srlg(value: &Value) -> Option<u32>
     number_of(value, 0, u32::MAX)
 }
 
-fn have_srlgs(values: &[Value]) -> bool
-    ensures { result ≡ list_all (λ v. is_some (srlg_in (view v))) values.now }
-{
-    values.iter().all(|value| srlg(value).is_some())
-}
-
-fn are_srlgs_within(value: &Value) -> bool
-    ensures { result ≡ are_srlgs_within (view value.now) }
-{
-    have_srlgs(elements(value, "srlg"))
-}
-
-fn srlgs(alloc: Global, value: &Value) -> Result<Numbers, OutOfMemory>
-    ensures { IfOk result (λ s. s ≡ srlgs_of (view value.now)) }
+// The SRLGs of a link: none where one is beyond reach.
+fn srlgs(alloc: Global, value: &Value) -> Result<Option<Numbers>, OutOfMemory>
+    ensures { IfOk result (λ s. s ≡ srlgs_in (view value.now)) }
 {
     let values = elements(value, "srlg");
     let mut numbers = Numbers::new(alloc);
     'reading: for i in 0..values.len() {
-        numbers.push(srlg(&values[i]).unwrap_or(0))?;
+        let Some(number) = srlg(&values[i]) else {
+            return Ok(None);
+        };
+        numbers.push(number)?;
     }
-    Ok(numbers)
+    Ok(Some(numbers))
 }
 
 fn is_distinct(numbers: &[u32]) -> bool
@@ -134,97 +126,77 @@ fn has_counts(value: &Value) -> bool
     count(value, "ends") == 2 && count(value, "srlg") <= 16
 }
 
-fn is_within(value: &Value) -> bool
-    ensures { result ≡ is_link_within (view value.now) }
-{
-    id(value).is_some()
-        && labels(value).is_some()
-        && metric(value).is_some()
-        && are_srlgs_within(value)
-}
-
 fn lacks_key(value: &Value) -> bool
     ensures { result ≡ lacks_link_key (view value.now) }
 {
     lacks(value, "id") || lacks(value, "ends") || lacks(value, "labels")
 }
 
-fn value_kind(
+// A link whose keys, types and counts are right, after links of which the last has this id.
+fn read_values(
+    alloc: Global,
     value: &Value,
     names: &Names,
     nodes: &[NodeSpec],
     last: u32,
-    srlgs: &[u32],
-) -> Option<PlanKind>
-    requires { srlgs.now ≡ srlgs_of (view value.now) }
-    ensures { result ≡ link_value_kind names.now nodes.now last (view value.now) }
+) -> Result<LinkSpec, EntryError>
+    ensures link { IfOk result (λ l. l ≡ link_of names.now nodes.now (view value.now)) }
+    ensures sound { OnOk result (link_value_kind names.now nodes.now last (view value.now) ≡ None) }
+    ensures fault { IfErr result (λ e. TellsKind e (link_value_kind names.now nodes.now last (view value.now))) }
 {
-    if !is_within(value) {
-        return Some(PlanKind::Range);
+    let (Some(id), Some(labels), Some(metric)) = (id(value), labels(value), metric(value)) else {
+        return Err(EntryError::Fault(PlanKind::Range));
+    };
+    let Some(srlgs) = srlgs(alloc, value)? else {
+        return Err(EntryError::Fault(PlanKind::Range));
+    };
+    if last >= id {
+        return Err(EntryError::Fault(PlanKind::Order));
     }
-    if last >= id_number(value) {
-        return Some(PlanKind::Order);
-    }
-    if ends(value, names, nodes).is_none() {
-        return Some(PlanKind::Ends);
-    }
-    if !is_distinct(srlgs) {
-        return Some(PlanKind::Twice);
+    let Some((low, high)) = ends(value, names, nodes) else {
+        return Err(EntryError::Fault(PlanKind::Ends));
+    };
+    if !is_distinct(srlgs.items()) {
+        return Err(EntryError::Fault(PlanKind::Twice));
     }
     if !lacks(value, "srlg") {
-        return Some(PlanKind::Unbuilt);
+        return Err(EntryError::Fault(PlanKind::Unbuilt));
     }
-    None
+    Ok(LinkSpec {
+        id: LinkId(id),
+        low,
+        high,
+        labels: labels as u8,
+        metric,
+        srlgs,
+    })
 }
 
-// The first fault of a link after links of which the last has this id.
-fn link_kind(
+// A link, or its first fault, after links of which the last has this id.
+fn read_link(
+    alloc: Global,
     value: &Value,
     names: &Names,
     nodes: &[NodeSpec],
     last: u32,
-    srlgs: &[u32],
-) -> Option<PlanKind>
-    requires { srlgs.now ≡ srlgs_of (view value.now) }
-    ensures { result ≡ link_kind names.now nodes.now last (view value.now) }
+) -> Result<LinkSpec, EntryError>
+    ensures link { IfOk result (λ l. l ≡ link_of names.now nodes.now (view value.now)) }
+    ensures sound { OnOk result (link_kind names.now nodes.now last (view value.now) ≡ None) }
+    ensures fault { IfErr result (λ e. TellsKind e (link_kind names.now nodes.now last (view value.now))) }
 {
     if has_strange(Shape::OfLink, value) {
-        return Some(PlanKind::Key);
+        return Err(EntryError::Fault(PlanKind::Key));
     }
     if lacks_key(value) {
-        return Some(PlanKind::Missing);
+        return Err(EntryError::Fault(PlanKind::Missing));
     }
     if !has_kinds(value) {
-        return Some(PlanKind::Kind);
+        return Err(EntryError::Fault(PlanKind::Kind));
     }
     if !has_counts(value) {
-        return Some(PlanKind::Count);
+        return Err(EntryError::Fault(PlanKind::Count));
     }
-    value_kind(value, names, nodes, last, srlgs)
-}
-
-fn label_count(value: &Value) -> u8
-    ensures { result ≡ unwrap_or (labels_in (view value.now)) 0 }
-{
-    match labels(value) {
-        None => 0,
-        Some(n) => n as u8,
-    }
-}
-
-fn link(value: &Value, names: &Names, nodes: &[NodeSpec], srlgs: Numbers) -> LinkSpec
-    requires { srlgs ≡ srlgs_of (view value.now) }
-    ensures { result ≡ link_of names.now nodes.now (view value.now) }
-{
-    let (low, high) = ends(value, names, nodes).unwrap_or((NodeId(0), NodeId(0)));
-    LinkSpec {
-        id: LinkId(id_number(value)),
-        low,
-        high,
-        labels: label_count(value),
-        metric: metric(value).unwrap_or(0),
-        srlgs,
-    }
+    read_values(alloc, value, names, nodes, last)
 }
 
 /// Reads the links, or gives the first fault.
@@ -242,13 +214,14 @@ pub fn read_links(
     let mut links = Vec::new(alloc);
     let mut last = 0;
     'reading: for i in 0..values.len() {
-        let value = &values[i];
-        let srlgs = srlgs(alloc, value)?;
-        if let Some(kind) = link_kind(value, names, nodes, last, srlgs.items()) {
-            return Err(fault(PlanEntry::Link(i as u32 + 1), kind));
+        match read_link(alloc, &values[i], names, nodes, last) {
+            Ok(link) => {
+                last = link.id.0;
+                links.push(link)?;
+            }
+            Err(EntryError::Fault(kind)) => return Err(fault(PlanEntry::Link(i as u32 + 1), kind)),
+            Err(EntryError::OutOfMemory) => return Err(PlanError::OutOfMemory),
         }
-        links.push(link(value, names, nodes, srlgs))?;
-        last = id_number(value);
     }
     Ok(links)
 }

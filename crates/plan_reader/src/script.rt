@@ -3,17 +3,16 @@
 ghost use Rattle.std.specs.Prelude.{◌≡◌, ◌<◌, ◌≤◌, map, length, IfErr, IfNone, IfOk, IsTrue, OnOk, None, Some};
 ghost use Rattle.toml.specs.View.{view};
 ghost use Rattle.plan_reader.specs.PlanCalls.{no_calls, with_call};
-ghost use Rattle.plan_reader.specs.PlanTables.{TellsFirst, text_of};
+ghost use Rattle.plan_reader.specs.PlanTables.{TellsFirst, TellsKind, text_of};
 ghost use Rattle.plan_reader.specs.PlanTexts.{texts, word_at, words_of};
 ghost use Rattle.plan_reader.specs.Names.{is_name};
-ghost use Rattle.plan_reader.specs.PlanScript.{TellsKind, are_same, call_of, calls_after, calls_after_setup, calls_of, from_node, from_of, line_kind, line_of, line_texts, lines_of, next_node, other_kind, other_line, release_kind, release_of, rounds_of, route_of, script_fault, settle_kind, setup_call_kind, setup_ends_kind, setup_kind, setup_of, steps_over, to_node, to_of};
+ghost use Rattle.plan_reader.specs.PlanScript.{are_same, call_of, calls_after, calls_after_setup, calls_of, from_node, from_of, line_kind, line_of, line_texts, lines_of, next_node, other_kind, other_line, release_kind, release_of, rounds_of, route_of, script_fault, settle_kind, setup_call_kind, setup_ends_kind, setup_kind, setup_of, steps_over, to_node, to_of};
 ghost use Rattle.plan_reader.specs.declared.faults.PlanError.{PlanError};
 ghost use Rattle.plan_reader.specs.declared.faults.PlanFault.{PlanFault};
 ghost use Rattle.plan_reader.specs.declared.faults.PlanKind.{PlanKind};
-ghost use Rattle.plan_reader.specs.declared.script.LineError.{LineError};
 
 use crate::calls::{Calls, MOST_CALLS};
-use crate::faults::{PlanEntry, PlanError, PlanKind, fault};
+use crate::faults::{EntryError, PlanEntry, PlanError, PlanKind, fault};
 use crate::forms::{is_given_setup, is_release, is_settle, is_show, is_unbuilt};
 use crate::lines::{Line, Lines};
 use crate::links::node_named;
@@ -263,28 +262,13 @@ fn other_line(calls: &Calls, words: &[&[u8]]) -> Line
 
 // Lines
 
-/// Why a line isn't read.
-#[derive(Clone, Copy, Debug, PartialEq, Eq, Drop)]
-enum LineError {
-    Fault(PlanKind),
-    OutOfMemory,
-}
-
-impl From<OutOfMemory> for LineError {
-    ghost from_gives = { λ _ error. error ≡ LineError.OutOfMemory };
-
-    fn from(_: OutOfMemory) -> LineError {
-        LineError::OutOfMemory
-    }
-}
-
 fn read_setup(
     alloc: Global,
     t: &Topology,
     names: &Names,
     calls: &mut Calls,
     words: &[&[u8]],
-) -> Result<Command, LineError>
+) -> Result<Command, EntryError>
     ensures command { IfOk result (λ c. c ≡ setup_of t.now names.now calls.old (texts words.now)) }
     ensures calls { OnOk result (calls.new ≡ calls_after_setup t.now names.now calls.old (texts words.now)) }
     ensures sound { OnOk result (setup_kind t.now names.now calls.old (texts words.now) ≡ None) }
@@ -292,7 +276,7 @@ fn read_setup(
 {
     let route = route(alloc, t, names, words)?;
     if let Some(kind) = setup_kind(t, names, calls, words, route.items()) {
-        return Err(LineError::Fault(kind));
+        return Err(EntryError::Fault(kind));
     }
     let command = setup(t, names, calls, words, route);
     let name = Name::new(alloc, word(words, 1))?;
@@ -306,7 +290,7 @@ fn read_line(
     names: &Names,
     calls: &mut Calls,
     words: &[&[u8]],
-) -> Result<Line, LineError>
+) -> Result<Line, EntryError>
     ensures line { IfOk result (λ l. l ≡ line_of t.now names.now calls.old (texts words.now)) }
     ensures calls { OnOk result (calls.new ≡ calls_after t.now names.now calls.old (texts words.now)) }
     ensures sound { OnOk result (line_kind t.now names.now calls.old (texts words.now) ≡ None) }
@@ -317,7 +301,7 @@ fn read_line(
         return Ok(Line::Post(command));
     }
     match other_kind(calls, words) {
-        Some(kind) => Err(LineError::Fault(kind)),
+        Some(kind) => Err(EntryError::Fault(kind)),
         None => Ok(other_line(calls, words)),
     }
 }
@@ -328,7 +312,7 @@ fn read_text(
     names: &Names,
     calls: &mut Calls,
     line: &[u8],
-) -> Result<Line, LineError>
+) -> Result<Line, EntryError>
     ensures line { IfOk result (λ l. l ≡ line_of t.now names.now calls.old (words_of line.now)) }
     ensures calls { OnOk result (calls.new ≡ calls_after t.now names.now calls.old (words_of line.now)) }
     ensures sound { OnOk result (line_kind t.now names.now calls.old (words_of line.now) ≡ None) }
@@ -363,8 +347,11 @@ pub fn read_script(
     'reading: for i in 0..values.len() {
         match read_text(alloc, t, names, &mut calls, text_of(&values[i])) {
             Ok(line) => lines.push(line)?,
-            Err(LineError::Fault(kind)) => return Err(fault(PlanEntry::Script(i as u32 + 1), kind)),
-            Err(LineError::OutOfMemory) => return Err(PlanError::OutOfMemory),
+            Err(EntryError::Fault(kind)) => return Err(fault(
+                PlanEntry::Script(i as u32 + 1),
+                kind,
+            )),
+            Err(EntryError::OutOfMemory) => return Err(PlanError::OutOfMemory),
         }
     }
     Ok(Script {

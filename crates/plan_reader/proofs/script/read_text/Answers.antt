@@ -1,5 +1,6 @@
 use Rattle.std.proofs.Common.{◌≡◌, List, ℕ, IfErr, IfOk, ap, subst, ◌∙◌}
-use Rattle.plan_reader.specs.PlanScript.{TellsKind, line_kind, line_of}
+use Rattle.plan_reader.specs.PlanScript.{line_kind, line_of}
+use Rattle.plan_reader.specs.PlanTables.{TellsKind}
 use Rattle.plan_reader.specs.PlanTexts.{texts}
 use Rattle.plan_reader.proofs.script.read_text.Goals as goal
 
