@@ -1,0 +1,151 @@
+-- The fibres of a node's own links that come in are those whose receiver it is.
+use Rattle.std.proofs.Common.{◌≡◌, ◌-◌, ◌<◌, ◌≤◌, ℕ, zero, suc, Bool, true, false, cond, nat_eq, nat_lt, List, [], ◌∷◌, length, get_or, map, refl, sym, ap, ◌∙◌, arith}
+use Rattle.std.specs.Prelude.{◌&&◌, ◌||◌, Option, Some, find, filter, slice_get, nat_le}
+use Rattle.std.specs.List.{list_any}
+use Rattle.std.proofs.lemmas.Option.{slice_get-get_or}
+use Rattle.ason_base.specs.declared.ids.Fibre.{Fibre}
+use Rattle.ason_base.specs.declared.ids.NodeId.{NodeId}
+use Rattle.ason_base.specs.declared.network.LinkSpec.{LinkSpec}
+use Rattle.ason_base.specs.declared.network.NodeSpec.{NodeSpec}
+use Rattle.ason_base.specs.Lsps.{same_bool}
+use Rattle.ason_base.specs.Network.{IsTopology, Network, far_end, is_after, is_link, is_link_here, is_link_at, link_number, touches}
+use Rattle.link_owner.specs.Claims.{FibreClaims}
+use Rattle.link_owner.specs.Owners.{HasFibresInto, fibre_unclaimed, is_fibre, is_node, none_claimed}
+
+both_left : (a b : Bool) → (a && b) ≡ true → a ≡ true
+both_left true b h = refl
+both_left false b h = h
+
+both_right : (a b : Bool) → (a && b) ≡ true → b ≡ true
+both_right true b h = h
+both_right false true h = refl
+both_right false false h = h
+
+at_most : (a b : ℕ) → nat_le a b ≡ true → a ≤ b
+at_most a b h = grind arith
+
+after_first : (k : ℕ) → nat_eq (suc k) 0 ≡ false
+after_first k = grind arith
+
+one_before : (k : ℕ) → suc k - 1 ≡ k
+one_before k = omega arith
+
+-- A topology's links
+
+low_below : (nodes : List NodeSpec) (l : LinkSpec) → is_link nodes l ≡ true → nat_lt l.low.0 l.high.0 ≡ true
+low_below nodes l h = both_left _ _ (both_left _ _ (both_left _ _ (both_left _ _ h)))
+
+narrow : (nodes : List NodeSpec) (l : LinkSpec) → is_link nodes l ≡ true → nat_le l.labels 80 ≡ true
+narrow nodes l h = both_right (nat_le 1 l.labels) _ (both_right _ _ (both_left _ _ (both_left _ _ h)))
+
+pub narrow-link : (t : Network) → IsTopology t → (k : ℕ) (l : LinkSpec) → k < length t.links → l ≡ get_or t.links k l → l.labels ≤ 80
+narrow-link t valid k l below is =
+    let found : slice_get t.links k ≡ Some (get_or t.links k l) = slice_get-get_or t.links k l below in
+    let here : is_link_here t.nodes (slice_get t.links k) ≡ true = both_right (is_after t.links k) _ (valid.links k below) in
+    let test : nat_le (get_or t.links k l).labels 80 ≡ true = narrow t.nodes (get_or t.links k l) (rw found at here) in
+    at_most l.labels 80 (ap (λ m. nat_le m.labels 80) is ∙ test)
+
+-- the number before place k, from b on
+number_before : ℕ → List LinkSpec → ℕ → ℕ
+number_before b links zero = b
+number_before b links (suc k) = link_number (slice_get links k)
+
+-- the link at place k has a greater number than the one before, and leads from its low end to its high one
+is_in_place : List NodeSpec → ℕ → List LinkSpec → ℕ → Bool
+is_in_place nodes b links k = nat_lt (number_before b links k) (link_number (slice_get links k)) && is_link_here nodes (slice_get links k)
+
+in_place : (t : Network) → IsTopology t → (k : ℕ) → k < length t.links → is_in_place t.nodes 0 t.links k ≡ true
+unfolding is_in_place number_before
+in_place t valid zero below = valid.links 0 below
+in_place t valid (suc k) below =
+    let first = after_first k in
+    let one_less = one_before k in
+    let here : is_link_at t.nodes t.links (suc k) ≡ true = valid.links (suc k) below in
+    rw (first, one_less) at here
+
+-- links whose numbers rise from above b, each from its low end to its high one
+abbrev RiseFrom : ℕ → List LinkSpec → Type 0
+RiseFrom b [] = Unit {0}
+RiseFrom b (l ∷ links) = (nat_lt b l.id.0 ≡ true) × (nat_lt l.low.0 l.high.0 ≡ true) × RiseFrom l.id.0 links
+
+rise : (nodes : List NodeSpec) (b : ℕ) (links : List LinkSpec) → ((k : ℕ) → k < length links → is_in_place nodes b links k ≡ true) → RiseFrom b links
+unfolding is_in_place number_before
+rise nodes b [] each = tt
+rise nodes b (l ∷ links) each =
+    let here : (nat_lt b l.id.0 && is_link nodes l) ≡ true = each 0 (omega arith) in
+    (both_left _ _ here, low_below nodes l (both_right (nat_lt b l.id.0) _ here), rise nodes l.id.0 links later)
+  where
+    later : (k : ℕ) → k < length links → is_in_place nodes l.id.0 links k ≡ true
+    later zero below = each 1 (omega arith)
+    later (suc k) below = each (suc (suc k)) (omega arith)
+
+-- Fibres
+
+coming : NodeId → List LinkSpec → List FibreClaims
+coming n links = map (fibre_unclaimed n) (filter (touches n) links)
+
+-- a fibre of a link of a lower number isn't there
+nowhere : (b : ℕ) (links : List LinkSpec) → RiseFrom b links → (f : Fibre) (n : NodeId) → f.link.0 ≤ b → list_any (is_fibre f) (coming n links) ≡ false
+unfolding coming
+nowhere b [] rises f n low = refl
+nowhere b (l ∷ links) rises f n low = go (touches n l) (nowhere l.id.0 links rises.2 f n (omega (arith, above)))
+  where
+    above : b < l.id.0
+    above = (let test : nat_lt b l.id.0 ≡ true = rises.0 in grind arith)
+
+    other : nat_eq l.id.0 f.link.0 ≡ false
+    other = (let h : b < l.id.0 = above in grind arith)
+
+    go : (t : Bool) → list_any (is_fibre f) (coming n links) ≡ false → list_any (is_fibre f) (map (fibre_unclaimed n) (cond t (l ∷ filter (touches n) links) (filter (touches n) links))) ≡ false
+    go true rest = rw (other, rest) refl
+    go false rest = rest
+
+-- the end that a fibre of a link leads to
+leads : (high low forward : Bool) → (low || high) ≡ true → (low && high) ≡ false → same_bool high forward ≡ cond forward high low
+leads true true forward h k = absurd (cc k)
+leads true false true h k = refl
+leads true false false h k = refl
+leads false true true h k = refl
+leads false true false h k = refl
+leads false false forward h k = absurd (cc h)
+
+no_end : (high low forward : Bool) → (low || high) ≡ false → cond forward high low ≡ false
+no_end true true forward h = absurd (cc h)
+no_end true false forward h = absurd (cc h)
+no_end false true forward h = absurd (cc h)
+no_end false false true h = refl
+no_end false false false h = refl
+
+end_is : (l : LinkSpec) (n : NodeId) (forward : Bool) → is_node (far_end (Some l) forward) n ≡ cond forward (nat_eq l.high.0 n.0) (nat_eq l.low.0 n.0)
+end_is l n true = refl
+end_is l n false = refl
+
+or_none : (b : Bool) → (b || false) ≡ b
+or_none true = refl
+or_none false = refl
+
+fibres_into : (b : ℕ) (links : List LinkSpec) → RiseFrom b links → (f : Fibre) (n : NodeId) → list_any (is_fibre f) (coming n links) ≡ is_node (far_end (find (λ l. nat_eq l.id.0 f.link.0) links) f.forward) n
+unfolding coming
+fibres_into b [] rises f n = refl
+fibres_into b (l ∷ links) rises f n = go (touches n l) refl (nat_eq l.id.0 f.link.0) refl (fibres_into l.id.0 links rises.2 f n)
+  where
+    Found : Option LinkSpec
+    Found = find (λ l. nat_eq l.id.0 f.link.0) links
+
+    none : nat_eq l.id.0 f.link.0 ≡ true → list_any (is_fibre f) (coming n links) ≡ false
+    none e = nowhere l.id.0 links rises.2 f n (grind arith)
+
+    apart : (nat_eq l.low.0 n.0 && nat_eq l.high.0 n.0) ≡ false
+    apart = (let test : nat_lt l.low.0 l.high.0 ≡ true = rises.1 in grind arith)
+
+    go : (t : Bool) → touches n l ≡ t → (e : Bool) → nat_eq l.id.0 f.link.0 ≡ e → list_any (is_fibre f) (coming n links) ≡ is_node (far_end Found f.forward) n →
+        list_any (is_fibre f) (map (fibre_unclaimed n) (cond t (l ∷ filter (touches n) links) (filter (touches n) links))) ≡ is_node (far_end (cond e (Some l) Found) f.forward) n
+    go true t true e rest =
+        rw (e, none e) (or_none (same_bool (nat_eq l.high.0 n.0) f.forward) ∙ leads (nat_eq l.high.0 n.0) (nat_eq l.low.0 n.0) f.forward t apart ∙ sym (end_is l n f.forward))
+    go true t false e rest = rw e rest
+    go false t true e rest = none e ∙ sym (end_is l n f.forward ∙ no_end (nat_eq l.high.0 n.0) (nat_eq l.low.0 n.0) f.forward t)
+    go false t false e rest = rest
+
+pub has_fibres_into : (t : Network) → IsTopology t → (n : NodeId) → HasFibresInto t n (none_claimed t n)
+unfolding coming
+has_fibres_into t valid n f = fibres_into 0 t.links (rise t.nodes 0 t.links (in_place t valid)) f n

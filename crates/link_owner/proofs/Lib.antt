@@ -1,0 +1,5 @@
+mod FibrePlaces
+mod FibresInto
+mod LabelTests
+mod LeastClaims
+mod LspOrder

@@ -1,0 +1,111 @@
+-- The claims of the labels of one fibre.
+use Rattle.std.specs.Prelude.{ℕ, ◌==◌, ◌&&◌, Bool, true, false, not, List, filter, Option, Some, None, IsTrue, if◌then◌else◌}
+use Rattle.std.specs.List.{list_any}
+use Rattle.ason_base.specs.declared.ids.Fibre.{Fibre}
+use Rattle.ason_base.specs.declared.ids.Lsp.{Lsp}
+use Rattle.ason_base.specs.Labels.{up_to}
+use Rattle.ason_base.specs.Lsps.{lsp_before, same_lsp}
+use Rattle.link_owner.specs.declared.claims.Claim.{Claim}
+use Rattle.link_owner.specs.declared.claims.ClaimFault.{ClaimFault}
+use Rattle.link_owner.specs.declared.claims.ClaimFault.TheVariants.{Held, OutOfMemory}
+use Rattle.link_owner.specs.declared.claims.ClaimKind.{ClaimKind}
+use Rattle.link_owner.specs.declared.claims.ClaimKind.TheVariants.{Working, Backup, Armed}
+use Rattle.link_owner.specs.declared.claims.Sought.{Sought}
+use Rattle.link_owner.specs.declared.claims.Sought.TheVariants.{Any, AnyWorking, AnyInUseBeside}
+
+-- a fibre, its number of labels, and who has them
+pub record FibreClaims : Type 0 where
+  pub fibre : Fibre
+  pub labels : ℕ
+  pub claims : List Claim
+
+-- Kinds
+
+abbrev pub is_working : ClaimKind → Bool
+is_working Working = true
+is_working Backup = false
+is_working Armed = false
+
+-- the leg carries, or is to carry next
+abbrev pub is_in_use : ClaimKind → Bool
+is_in_use Working = true
+is_in_use Backup = false
+is_in_use Armed = true
+
+abbrev pub armed_kind : ClaimKind → ClaimKind
+armed_kind Working = Working
+armed_kind Backup = Armed
+armed_kind Armed = Armed
+
+abbrev pub disarmed_kind : ClaimKind → ClaimKind
+disarmed_kind Working = Working
+disarmed_kind Backup = Backup
+disarmed_kind Armed = Backup
+
+-- One claim
+
+abbrev pub working_claim : ℕ → Lsp → Claim
+working_claim x l = record { label = x; lsp = l; kind = Working }
+
+abbrev pub backup_claim : ℕ → Lsp → Claim
+backup_claim x l = record { label = x; lsp = l; kind = Backup }
+
+-- some leg has the label
+abbrev pub has : ℕ → Claim → Bool
+has x c = c.label == x
+
+-- a working leg has it
+abbrev pub works_on : ℕ → Claim → Bool
+works_on x c = c.label == x && is_working c.kind
+
+-- a leg of this LSP has it
+abbrev pub is_of_lsp : ℕ → Lsp → Claim → Bool
+is_of_lsp x l c = c.label == x && same_lsp c.lsp l
+
+-- a working or an armed leg of another LSP has it
+abbrev pub is_busy : ℕ → Lsp → Claim → Bool
+is_busy x l c = c.label == x && (is_in_use c.kind && not (same_lsp c.lsp l))
+
+abbrev pub is_sought : Sought → ℕ → Claim → Bool
+is_sought Any x c = has x c
+is_sought AnyWorking x c = works_on x c
+is_sought (AnyInUseBeside l) x c = is_busy x l c
+
+abbrev pub armed : ℕ → Lsp → Claim → Claim
+armed x l c = if is_of_lsp x l c then record c { kind = armed_kind c.kind } else c
+
+abbrev pub disarmed : ℕ → Lsp → Claim → Claim
+disarmed x l c = if is_of_lsp x l c then record c { kind = disarmed_kind c.kind } else c
+
+-- All claims of a fibre
+
+-- the claims but that of this LSP on this label
+abbrev pub freed : ℕ → Lsp → List Claim → List Claim
+freed x l claims = filter (λ c. not (is_of_lsp x l c)) claims
+
+-- the labels from 1 to n that no leg has
+abbrev pub unclaimed : ℕ → List Claim → List ℕ
+unclaimed n claims = filter (λ x. not (list_any (has x) claims)) (up_to n)
+
+-- the labels from 1 to n that no working leg has
+abbrev pub shareable : ℕ → List Claim → List ℕ
+shareable n claims = filter (λ x. not (list_any (works_on x) claims)) (up_to n)
+
+-- below all that were met so far
+abbrev pub is_lesser : Lsp → Option Lsp → Bool
+is_lesser l None = true
+is_lesser l (Some k) = lsp_before l k
+
+-- the least LSP of the claims that pass
+pub record IsLeast (p : Claim → Bool) (claims : List Claim) (l : Lsp) : Type 0 where
+  pub passes : IsTrue (list_any (λ c. p c && same_lsp c.lsp l) claims)
+  pub least : IsTrue (not (list_any (λ c. p c && lsp_before c.lsp l) claims))
+
+-- no claim passes
+abbrev pub NoClaim : (Claim → Bool) → List Claim → Type 0
+NoClaim p claims = IsTrue (not (list_any p claims))
+
+-- a label is refused for the least LSP of the claims that pass, and memory is wanting only where none does
+abbrev pub RefusedFor : (Claim → Bool) → List Claim → ClaimFault → Type 0
+RefusedFor p claims (Held l) = IsLeast p claims l
+RefusedFor p claims OutOfMemory = NoClaim p claims

@@ -1,0 +1,68 @@
+-- Who has the labels of the fibres that come in at a node.
+use Rattle.std.specs.Prelude.{ℕ, ◌==◌, ◌++◌, ◌≡◌, Bool, false, List, [], ◌∷◌, filter, map, Option, Some, None, if◌then◌else◌}
+use Rattle.std.specs.List.{list_any}
+use Rattle.ason_base.specs.declared.ids.Fibre.{Fibre}
+use Rattle.ason_base.specs.declared.ids.Lsp.{Lsp}
+use Rattle.ason_base.specs.declared.ids.NodeId.{NodeId}
+use Rattle.ason_base.specs.declared.network.LinkSpec.{LinkSpec}
+use Rattle.ason_base.specs.Lsps.{same_fibre}
+use Rattle.ason_base.specs.Network.{Network, receiver_of, touches}
+use Rattle.link_owner.specs.Claims.{FibreClaims, armed, disarmed, freed, is_of_lsp}
+use Rattle.link_owner.specs.declared.claims.Claim.{Claim}
+
+-- One fibre of a node's
+
+abbrev pub is_fibre : Fibre → FibreClaims → Bool
+is_fibre f r = same_fibre r.fibre f
+
+-- the fibre comes in here
+abbrev pub comes_in : List FibreClaims → Fibre → Bool
+comes_in o f = list_any (is_fibre f) o
+
+abbrev pub labels_of : Fibre → List FibreClaims → ℕ
+labels_of f [] = 0
+labels_of f (r ∷ o) = if is_fibre f r then r.labels else labels_of f o
+
+abbrev pub claims_of : Fibre → List FibreClaims → List Claim
+claims_of f [] = []
+claims_of f (r ∷ o) = if is_fibre f r then r.claims else claims_of f o
+
+-- a leg of this LSP has the label
+abbrev pub has_label : List FibreClaims → Fibre → ℕ → Lsp → Bool
+has_label o f x l = list_any (is_of_lsp x l) (claims_of f o)
+
+-- Changes: of one fibre's claims, all else as it was
+
+abbrev pub with_claims : Fibre → List Claim → List FibreClaims → List FibreClaims
+with_claims f claims [] = []
+with_claims f claims (r ∷ o) = if is_fibre f r then record r { claims = claims } ∷ o else r ∷ with_claims f claims o
+
+abbrev pub claim_added : Fibre → Claim → List FibreClaims → List FibreClaims
+claim_added f c o = with_claims f (claims_of f o ++ c ∷ []) o
+
+abbrev pub label_armed : Fibre → ℕ → Lsp → List FibreClaims → List FibreClaims
+label_armed f x l o = with_claims f (map (armed x l) (claims_of f o)) o
+
+abbrev pub label_disarmed : Fibre → ℕ → Lsp → List FibreClaims → List FibreClaims
+label_disarmed f x l o = with_claims f (map (disarmed x l) (claims_of f o)) o
+
+abbrev pub label_freed : Fibre → ℕ → Lsp → List FibreClaims → List FibreClaims
+label_freed f x l o = with_claims f (freed x l (claims_of f o)) o
+
+-- The start
+
+-- the fibre of a link that comes in at n, with no claim
+abbrev pub fibre_unclaimed : NodeId → LinkSpec → FibreClaims
+fibre_unclaimed n l = record { fibre = record { link = l.id; forward = l.high.0 == n.0 }; labels = l.labels; claims = [] }
+
+-- the fibres of the node's own links, in order of number
+abbrev pub none_claimed : Network → NodeId → List FibreClaims
+none_claimed t n = map (fibre_unclaimed n) (filter (touches n) t.links)
+
+abbrev pub is_node : Option NodeId → NodeId → Bool
+is_node None n = false
+is_node (Some m) n = m.0 == n.0
+
+-- just the fibres that lead to the node come in
+abbrev pub HasFibresInto : Network → NodeId → List FibreClaims → Type 0
+HasFibresInto t n o = (f : Fibre) → comes_in o f ≡ is_node (receiver_of t f) n

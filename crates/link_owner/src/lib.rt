@@ -1,0 +1,9 @@
+//! Who has which label of the fibres that come in at a node (RFC 4872, section 8: shared backups).
+#![tactic(auto)]
+
+mod claims;
+mod fibres;
+mod owner;
+
+pub use claims::{Busy, ClaimFault};
+pub use owner::Owner;
