@@ -1,0 +1,118 @@
+"""What the pages about the sources name is there: files, definitions, functions, lemmas, wrong bodies, tests and crates."""
+
+import re
+import unittest
+from pathlib import Path
+
+from .support import TOP
+
+PAGES = ["README.md", *sorted(f"docs/{path.name}" for path in (TOP / "docs").glob("*.md"))]
+ABOUT_SOURCES = [f"docs/{name}.md" for name in ("DECISIONS", "crates", "decode", "formats", "hop", "layout", "machine", "proof")]
+INDEX = "**In the sources"
+PARTS = ["definition", "code", "at a node", "along the route", "wrong body", "test"]
+ANTT = r"^\s*(?:(?:abbrev|unfoldable|pub|record|data)\s+)*{}\s*(?:[:({{]|$)"
+RATTLE = r"\b(?:fn|struct|enum|const|type|trait)\s+{}\b"
+NAME = r"[A-Za-z_][\w-]*"
+# Words in small letters that are joined, or two and more that begin with a capital: such names are of the sources alone.
+JOINED = r"[a-z][a-z0-9]*(?:[_-][a-z0-9_-]+)+|(?:[A-Z][a-z0-9]+){2,}"
+
+
+def links(text: str) -> list[tuple[str, str]]:
+    """The text and the target of each link to a file of the repository."""
+    return [link for link in re.findall(r"\[([^\]]+)\]\(([^)#\s]+)[^)]*\)", text) if "://" not in link[1]]
+
+
+def declares(path: Path, name: str) -> bool:
+    """Whether the file declares the name; a wrong body is named by its file."""
+    if path.suffix == ".edit":
+        return path.stem == name
+    form = ANTT if path.suffix == ".antt" else RATTLE
+    return re.search(form.format(re.escape(name)), path.read_text(), re.MULTILINE) is not None
+
+
+def crates() -> dict[str, list[str]]:
+    """Each crate of crates.txt, and the crates of the repository that it stands on."""
+    lines = [line.split("#")[0].split(":") for line in (TOP / "crates.txt").read_text().splitlines()]
+    below = {line[0].strip(): line[1].split() for line in lines if len(line) == 2}
+    return {name: [other for other in others if other in below] for name, others in below.items()}
+
+
+def sections(text: str, marks: str) -> dict[str, str]:
+    """The text below each heading of this level, up to the next heading of this level or a higher one."""
+    found = re.findall(rf"^{marks} (.*)\n((?:(?!#{{1,{len(marks)}}} ).*\n?)*)", text, re.MULTILINE)
+    return dict(found)
+
+
+def names_in_sources() -> set[str]:
+    """Each name in the crates' sources, and the names of their files and folders."""
+    found = set()
+    for crate in crates():
+        for part in ("src", "specs", "proofs", "must-fail"):
+            for path in [TOP / "crates" / crate, *(TOP / "crates" / crate / part).rglob("*")]:
+                found |= {part, path.name, path.stem}
+                if path.suffix in (".rt", ".antt"):
+                    found |= set(re.findall(NAME, path.read_text()))
+    return found
+
+
+class IndexTest(unittest.TestCase):
+    """The pages name nothing that isn't there."""
+
+    def test_each_link_leads_to_a_file(self) -> None:
+        for page in PAGES:
+            for _, target in links((TOP / page).read_text()):
+                with self.subTest(page=page, target=target):
+                    self.assertTrue((TOP / page).parent.joinpath(target).exists())
+
+    def test_each_name_is_declared_where_its_link_leads(self) -> None:
+        seen = 0
+        for page in PAGES:
+            for text, target in links((TOP / page).read_text()):
+                path = (TOP / page).parent / target
+                if re.fullmatch(r"`[^`]+`", text) and path.suffix in (".antt", ".rt", ".edit"):
+                    seen += 1
+                    with self.subTest(page=page, name=text, target=target):
+                        self.assertTrue(declares(path, text.strip("`")))
+        self.assertGreater(seen, 50)
+
+    def test_each_name_of_the_sources_is_in_them(self) -> None:
+        known = names_in_sources()
+        for page in ABOUT_SOURCES:
+            text = re.sub(r"^```.*?^```$", "", (TOP / page).read_text(), flags=re.MULTILINE | re.DOTALL)
+            told = {name for code in re.findall(r"`([^`\n]+)`", text) for name in re.findall(NAME, code)}
+            with self.subTest(page=page):
+                self.assertEqual({name for name in told if re.fullmatch(JOINED, name)} - known, set())
+
+    def test_each_rule_has_its_line(self) -> None:
+        text = (TOP / "docs/machine.md").read_text()
+        rules = {**sections(sections(text, "##")["Messages"], "###"), "Commands": sections(text, "##")["Commands"]}
+        rules |= dict(re.findall(r"^\*\*(Setup|Release|Alarm and Clear)\*\*((?:(?!^\*\*(?!In the)|^## ).*\n)*)", text, re.MULTILINE))
+        self.assertEqual(len(rules), 9)
+        for rule, says in rules.items():
+            with self.subTest(rule=rule):
+                self.assertIn(INDEX + ":**", says)
+
+    def test_each_line_has_its_parts(self) -> None:
+        lines = [line for line in (TOP / "docs/machine.md").read_text().splitlines() if line.startswith(INDEX)]
+        for line in lines:
+            for part in PARTS:
+                with self.subTest(line=line[:60], part=part):
+                    self.assertRegex(line, rf"{part} (?:\[`|none)")
+
+    def test_the_layers_are_those_of_crates_txt(self) -> None:
+        rows = re.findall(r"^\| `(\w+)` \|([^|]*)\|", (TOP / "docs/layout.md").read_text(), re.MULTILINE)
+        told = {name: sorted(re.findall(r"`(\w+)`", below)) for name, below in rows}
+        real = {name: sorted(set(below) - {"ason_base"}) for name, below in crates().items()}
+        self.assertEqual(told, real)
+
+    def test_each_crate_has_its_section(self) -> None:
+        told = sections((TOP / "docs/crates.md").read_text(), "##")
+        self.assertEqual([name for name in told if name in crates()], list(crates()))
+        for crate in crates():
+            wrong = len(list((TOP / "crates" / crate / "must-fail").glob("*.edit")))
+            with self.subTest(crate=crate):
+                self.assertEqual(re.findall(r"Wrong bodies: (\d+)", told[crate]), [str(wrong)])
+
+
+if __name__ == "__main__":
+    unittest.main()
