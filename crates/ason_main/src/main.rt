@@ -9,14 +9,18 @@ mod tests;
 
 use ason_io::{StdSink, StdSource};
 use std::env;
+use std::io::ErrorKind;
 use std::process::ExitCode;
 
 fn main(rt: HostRuntime) -> ExitCode {
     let alloc = rt.alloc();
-    let Ok(words) = env::args(&rt) else {
-        return ExitCode::from(ason::Status::OutOfMemory.code());
+    let words = match env::args(&rt) {
+        Ok(words) => words.skip(1).collect::<Vec<String>>(alloc).ok(),
+        // A word that isn't UTF-8 has no meaning, and no words have none either.
+        Err(fault) if fault.kind() == ErrorKind::InvalidData => Some(Vec::new(alloc)),
+        Err(_) => None,
     };
-    let Ok(words) = words.skip(1).collect::<Vec<String>>(alloc) else {
+    let Some(words) = words else {
         return ExitCode::from(ason::Status::OutOfMemory.code());
     };
     let mut src = StdSource::new(rt.stdin().lock());
