@@ -1,6 +1,6 @@
 -- The seats at the start, and a command that is posted.
-use Rattle.std.proofs.Common.{◌≡◌, ◌<◌, ℕ, zero, suc, Bool, true, false, cond, nat_eq, List, [], ◌∷◌, ◌++◌, length, get_or, refl, sym, ap, ◌∙◌, subst, arith}
-use Rattle.std.specs.Prelude.{◌||◌, find, map, Some, IsSome}
+use Rattle.std.proofs.Common.{◌≡◌, ℕ, Bool, true, false, cond, nat_eq, List, [], ◌∷◌, ◌++◌, refl, sym, ap, ◌∙◌, subst, arith}
+use Rattle.std.specs.Prelude.{◌||◌, map, Some}
 use Rattle.std.specs.Option.{option_map}
 use Rattle.ason_base.specs.declared.ids.NodeId.{NodeId}
 use Rattle.ason_base.specs.declared.ids.CallNo.{CallNo}
@@ -9,7 +9,7 @@ use Rattle.ason_base.specs.declared.commands.Command.{Command}
 use Rattle.ason_base.specs.declared.commands.Command.TheVariants.{Setup, Release, Protect, Retry, Revert, Fail, Repair}
 use Rattle.ason_base.specs.declared.commands.DeskItem.{DeskItem}
 use Rattle.ason_base.specs.declared.commands.DeskItem.TheVariants.{Order}
-use Rattle.ason_base.specs.Network.{Network, find_node, is_node_id}
+use Rattle.ason_base.specs.Network.{Network, is_node_id}
 use Rattle.mesh_rules.specs.Sites.{site_of}
 use Rattle.mesh_rules.specs.Commands.{is_valid}
 use Rattle.mesh_rules.specs.Events.{posted}
@@ -22,31 +22,6 @@ use Rattle.ason_main.specs.Histories.{new_history}
 use Rattle.ason_main.specs.Kept.{AreSeated, HasSeat, StandsFor, ingress, mesh_with, new_seat, seat_at, seat_desk, seat_made, seat_place, seat_state, with_more}
 use Rattle.plan_reader.specs.Plans.{calls_after}
 use Rattle.ason_main.proofs.RoundSteps.{some_site}
-
--- Nodes of a topology
-
-pub known_node : (t : Network) (n : NodeId) → is_node_id t.nodes n ≡ true → IsSome (find_node t n)
-known_node t n h = go t.nodes h
-  where
-    go : (nodes : List NodeSpec) → is_node_id nodes n ≡ true → IsSome (find (λ m. nat_eq m.id.0 n.0) nodes)
-    go [] e = absurd (cc (e))
-    go (m ∷ nodes) e = pick (nat_eq m.id.0 n.0) (go nodes) e
-      where
-        pick : (b : Bool) → (is_node_id nodes n ≡ true → IsSome (find (λ m. nat_eq m.id.0 n.0) nodes)) → (b || is_node_id nodes n) ≡ true → IsSome (cond b (Some m) (find (λ m. nat_eq m.id.0 n.0) nodes))
-        pick true others k = refl
-        pick false others k = others k
-
-self_test : (n : ℕ) → nat_eq n n ≡ true
-self_test n = grind arith
-
-or_true : (b : Bool) → (b || true) ≡ true
-or_true true = refl
-or_true false = refl
-
-pub listed_node : (nodes : List NodeSpec) (i : ℕ) (d : NodeSpec) → i < length nodes → is_node_id nodes (get_or nodes i d).id ≡ true
-listed_node [] i d below = absurd (omega arith)
-listed_node (m ∷ nodes) zero d below = rw (self_test m.id.0) refl
-listed_node (m ∷ nodes) (suc i) d below = rw (listed_node nodes i d (omega arith)) (or_true (nat_eq m.id.0 (get_or nodes i d).id.0))
 
 -- The start
 

@@ -2,7 +2,6 @@
 
 ghost use Rattle.std.specs.Prelude.{◌≡◌, ℕ, List, IfOk, IsTrue, OnOk, map};
 ghost use Rattle.ason_base.specs.declared.ids.CallNo.{CallNo};
-ghost use Rattle.ason_base.specs.Network.{is_node_id};
 ghost use Rattle.mesh_rules.specs.Commands.{is_valid};
 ghost use Rattle.mesh_rules.specs.Events.{posted};
 ghost use Rattle.ason_main.specs.declared.runner.lanes.Lane.{Lane};
@@ -15,7 +14,6 @@ use node_core::Node;
 use std::alloc::Global;
 
 fn new_seat(alloc: Global, t: &Topology, n: &NodeSpec) -> Result<Seat, OutOfMemory>
-    requires { IsTrue (is_node_id t.now.nodes n.now.id) }
     ensures { IfOk result (λ s. s ≡ new_seat t.now n.now) }
 {
     let node = Node::new(alloc, t, n.id)?;
