@@ -1,5 +1,5 @@
 -- A plan has one output.
-use Rattle.std.proofs.Common.{◌≡◌, ◌≢◌, List, [], ◌∷◌, ◌++◌, ℕ, refl, sym, ap, ◌∙◌, append-nil}
+use Rattle.std.proofs.Common.{◌≡◌, List, [], ◌∷◌, ◌++◌, ℕ, sym, ap, ◌∙◌, append-nil}
 use Rattle.std.specs.Prelude.{Option, Some, None}
 use Rattle.ason_base.specs.declared.calls.TableRows.{TableRows}
 use Rattle.ason_base.specs.declared.ids.NodeId.{NodeId}
@@ -14,7 +14,7 @@ use Rattle.plan_reader.specs.declared.lines.Line.TheVariants.{Post, Settle, Show
 use Rattle.plan_reader.specs.declared.plan.Plan.{Plan}
 use Rattle.table_text.specs.TableText.{stopped_text, table_text}
 use Rattle.ason_main.specs.Histories.{History, new_history, state_after}
-use Rattle.ason_main.specs.Outputs.{IsOneRun, IsOutput, IsStoppedOutput, IsTable, IsTheOutput, IsTheStoppedOutput, LeadThrough, LinePrints, Prints, Shows, UnlessStopped, line_done, run_of, script_of}
+use Rattle.ason_main.specs.Outputs.{IsOneRun, IsOutput, IsStoppedOutput, IsTheOutput, IsTheStoppedOutput, LeadThrough, LinePrints, Prints, Shows, UnlessStopped, line_done, run_of, script_of}
 use Rattle.ason_main.proofs.OneTable.{one_table}
 
 -- the laws hold after each first part of these events

@@ -1,10 +1,9 @@
 -- A state has one table.
-use Rattle.std.proofs.Common.{◌≡◌, ◌<◌, ◌⊎◌, ℕ, ◌+◌, ◌==◌, ◌&&◌, ◌||◌, nat_lt, nat_cmp, is_lt, Bool, true, false, List, [], ◌∷◌, ◌++◌, map, length, get_or, inl, inr, refl, sym, ap, subst, ◌∙◌, arith, All}
-use Rattle.std.specs.Prelude.{Option, Some, None, flat_map}
+use Rattle.std.proofs.Common.{◌≡◌, ◌<◌, ◌⊎◌, ℕ, ◌+◌, ◌==◌, ◌&&◌, ◌||◌, nat_lt, Bool, false, List, [], ◌∷◌, get_or, inl, inr, refl, sym, ap, subst, ◌∙◌, arith, All}
+use Rattle.std.specs.Prelude.{Some, flat_map}
 use Rattle.std.specs.Cmp.{IsStrictWeakOrder}
 use Rattle.std.specs.List.{AllPairs, Contains}
 use Rattle.std.specs.List.Sorted.{IsSortedBy}
-use Rattle.std.specs.Ordering.{on, then_cmp}
 use Rattle.std.proofs.lemmas.Bool.{cases_order, eq-eqb, ltb-false, or_parts}
 use Rattle.std.proofs.lemmas.Cmp.{nat_cmp_total, on_total, then_total}
 use Rattle.std.proofs.lemmas.List.{get_or_default}
@@ -13,7 +12,6 @@ use Rattle.std.proofs.lemmas.List.Sorted.{ranks_by}
 use Rattle.ason_base.specs.declared.calls.CallRow.{CallRow}
 use Rattle.ason_base.specs.declared.calls.LegRow.{LegRow}
 use Rattle.ason_base.specs.declared.calls.TableRows.{TableRows}
-use Rattle.ason_base.specs.declared.ids.Lsp.{Lsp}
 use Rattle.ason_base.specs.declared.ids.NodeId.{NodeId}
 use Rattle.ason_base.specs.declared.network.NodeSpec.{NodeSpec}
 use Rattle.ason_base.specs.declared.tables.CallRec.{CallRec}

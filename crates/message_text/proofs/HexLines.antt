@@ -1,5 +1,5 @@
 -- Lines, one after the other.
-use Rattle.std.proofs.Common.{◌≡◌, ◌<◌, ℕ, suc, ◌+◌, ◌-◌, ◌==◌, Option, None, Some, Bool, true, false, cond, ltb, Result, Ok, Err, OnOk, List, [], ◌∷◌, ◌++◌, length, take, drop, get_or, map, inl, refl, ap, sym, subst, ◌∙◌, arith, append_assoc, All, length-drop}
+use Rattle.std.proofs.Common.{◌≡◌, ◌<◌, ℕ, suc, ◌+◌, ◌-◌, ◌==◌, Option, None, Some, Bool, true, false, cond, ltb, List, [], ◌∷◌, ◌++◌, length, take, drop, get_or, refl, ap, sym, subst, ◌∙◌, arith, append_assoc, All, length-drop}
 use Rattle.std.proofs.lemmas.Bool.{ltb-false}
 use Rattle.std.proofs.lemmas.List.{append-nil, get_or-take, length-take, take_all}
 use Rattle.std.proofs.lemmas.List.Elements.{All-from_get_or}
@@ -8,14 +8,9 @@ use Rattle.std.proofs.lemmas.List.Splits.{slice_split_at, slice_split_none}
 use Rattle.std.proofs.lemmas.List.Sums.{fails_before_first}
 use Rattle.std.proofs.Math.Seq.{split_at}
 use Rattle.std.specs.Prelude.{position}
-use Rattle.std.specs.List.{flat_map, position_or_len}
+use Rattle.std.specs.List.{position_or_len}
 use Rattle.std.specs.Borrow.{Bor}
-use Rattle.ason_base.specs.declared.messages.Packet.{Packet}
-use Rattle.rsvp_messages.specs.declared.lines.ObjectLine.{ObjectLine}
-use Rattle.rsvp_messages.specs.Lines.{line_of}
-use Rattle.rsvp_messages.specs.Objects.{Object}
-use Rattle.rsvp_messages.specs.Packets.{SpelledBy}
-use Rattle.message_text.specs.DecodeText.{AreTexts, IsBytesText, IsMessageText, head_text, lines_of, object_text}
+use Rattle.message_text.specs.DecodeText.{AreTexts, IsBytesText, lines_of}
 use Rattle.message_text.specs.Hex.{hex_bytes}
 use Rattle.message_text.specs.LinesLeft.{lines_left}
 
