@@ -1,0 +1,5 @@
+mod Halved
+mod LspOrder
+mod NewPlaces
+mod Orders
+mod Places

@@ -1,0 +1,161 @@
+//! Legs in order of LSP, found by halving.
+
+ghost use Rattle.std.specs.Prelude.{◌≡◌, ◌≤◌, ◌<◌, ◌+◌, IfOk, None, OnErr, OnOk, Some, insert, length, position, slice_get, true};
+ghost use Rattle.std.specs.List.{position_or_len};
+ghost use Rattle.std.specs.Option.{option_copied};
+ghost use Rattle.mesh_rules.specs.Legs.{find_leg, has_lsp, is_at_or_after, with_leg, without_leg};
+ghost use Rattle.leg_table.specs.Tables.{LegsRise, in_phase, is_of_lsp, leg_changed, with_back_labels, with_labels};
+
+use ason_base::{Label, Leg, Lsp, OutOfMemory, Phase};
+use std::alloc::Global;
+
+fn is_at_or_after(leg: &Leg, lsp: Lsp) -> bool
+    ensures { result ≡ is_at_or_after lsp leg.now }
+{
+    leg.lsp == lsp || lsp < leg.lsp
+}
+
+fn is_leg_at(legs: &[Leg], place: usize, lsp: Lsp) -> bool
+    ensures there { result ≡ has_lsp (slice_get legs.now place) lsp }
+    ensures within { result ≡ true → place < length legs.now }
+{
+    match legs.get(place) {
+        None => false,
+        Some(leg) => leg.lsp == lsp,
+    }
+}
+
+/// The place of the first leg of this LSP or a later one.
+pub(crate) fn place_of(legs: &[Leg], lsp: Lsp) -> usize
+    requires { LegsRise legs.now }
+    ensures place { result ≡ position_or_len (is_at_or_after lsp) legs.now }
+    ensures within { result ≤ length legs.now }
+{
+    legs.partition_point(|leg| !is_at_or_after(leg, lsp))
+}
+
+/// The place of the leg of this LSP.
+pub(crate) fn find_place(legs: &[Leg], lsp: Lsp) -> Option<usize>
+    requires { LegsRise legs.now }
+    ensures { result ≡ position (is_of_lsp lsp) legs.now }
+{
+    let place = place_of(legs, lsp);
+    if is_leg_at(legs, place, lsp) {
+        Some(place)
+    } else {
+        None
+    }
+}
+
+fn leg_at(legs: &[Leg], place: usize) -> Option<&Leg>
+    ensures { option_copied result ≡ slice_get legs.now place }
+{
+    legs.get(place)
+}
+
+/// The leg of this LSP.
+pub(crate) fn find_leg(legs: &[Leg], lsp: Lsp) -> Option<&Leg>
+    requires { LegsRise legs.now }
+    ensures { option_copied result ≡ find_leg lsp legs.now }
+{
+    match find_place(legs, lsp) {
+        None => None,
+        Some(place) => leg_at(legs, place),
+    }
+}
+
+fn insert_leg(legs: &mut Vec<Leg>, place: usize, leg: Leg) -> Result<(), OutOfMemory>
+    requires { place ≤ length legs.old.items }
+    ensures ok { OnOk result (legs.new.items ≡ insert legs.old.items place leg) }
+    ensures err { OnErr result (legs.new.items ≡ legs.old.items) }
+{
+    legs.insert(place, leg)?;
+    Ok(())
+}
+
+/// Puts a new leg in its place.
+pub(crate) fn put_leg(legs: &mut Vec<Leg>, leg: Leg) -> Result<(), OutOfMemory>
+    requires rising { LegsRise legs.old.items }
+    requires new { find_leg leg.lsp legs.old.items ≡ None }
+    ensures ok { OnOk result (legs.new.items ≡ with_leg leg legs.old.items) }
+    ensures err { OnErr result (legs.new.items ≡ legs.old.items) }
+    ensures rising { LegsRise legs.new.items }
+    ensures len { length legs.new.items ≤ length legs.old.items + 1 }
+{
+    let place = place_of(legs, leg.lsp);
+    insert_leg(legs, place, leg)
+}
+
+/// Takes the leg of this LSP off.
+pub(crate) fn take_leg(legs: &mut Vec<Leg>, lsp: Lsp) -> Option<Leg>
+    requires { LegsRise legs.old.items }
+    ensures leg { result ≡ find_leg lsp legs.old.items }
+    ensures left { legs.new.items ≡ without_leg lsp legs.old.items }
+    ensures rising { LegsRise legs.new.items }
+    ensures len { length legs.new.items ≤ length legs.old.items }
+{
+    match find_place(legs, lsp) {
+        None => None,
+        Some(place) => Some(legs.remove(place)),
+    }
+}
+
+pub(crate) fn set_phase(legs: &mut Vec<Leg>, lsp: Lsp, phase: Phase)
+    requires { LegsRise legs.old.items }
+    ensures changed { legs.new.items ≡ leg_changed lsp (in_phase phase) legs.old.items }
+    ensures rising { LegsRise legs.new.items }
+    ensures len { length legs.new.items ≡ length legs.old.items }
+{
+    if let Some(place) = find_place(legs, lsp) {
+        let leg = &mut legs[place];
+        leg.phase = phase;
+    }
+}
+
+pub(crate) fn set_labels(
+    legs: &mut Vec<Leg>,
+    lsp: Lsp,
+    in_label: Option<Label>,
+    out_label: Option<Label>,
+)
+    requires { LegsRise legs.old.items }
+    ensures changed { legs.new.items ≡ leg_changed lsp (with_labels in_label out_label) legs.old.items }
+    ensures rising { LegsRise legs.new.items }
+    ensures len { length legs.new.items ≡ length legs.old.items }
+{
+    if let Some(place) = find_place(legs, lsp) {
+        let leg = &mut legs[place];
+        leg.in_label = in_label;
+        leg.out_label = out_label;
+    }
+}
+
+pub(crate) fn set_back(
+    legs: &mut Vec<Leg>,
+    lsp: Lsp,
+    back_in: Option<Label>,
+    back_out: Option<Label>,
+)
+    requires { LegsRise legs.old.items }
+    ensures changed { legs.new.items ≡ leg_changed lsp (with_back_labels back_in back_out) legs.old.items }
+    ensures rising { LegsRise legs.new.items }
+    ensures len { length legs.new.items ≡ length legs.old.items }
+{
+    if let Some(place) = find_place(legs, lsp) {
+        let leg = &mut legs[place];
+        leg.back_in = back_in;
+        leg.back_out = back_out;
+    }
+}
+
+/// The same legs again.
+pub(crate) fn copy_legs(alloc: Global, legs: &[Leg]) -> Result<Vec<Leg>, OutOfMemory>
+    ensures { IfOk result (λ v. v.items ≡ legs.now) }
+{
+    let mut copies = Vec::with_capacity(alloc, legs.len())?;
+    for leg in legs {
+        let copy = leg.copy(alloc)?;
+        copies.push(copy)?;
+    }
+    Ok(copies)
+}
