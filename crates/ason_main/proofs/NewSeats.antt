@@ -10,12 +10,12 @@ use Rattle.ason_base.specs.declared.commands.Command.TheVariants.{Setup, Release
 use Rattle.ason_base.specs.declared.commands.DeskItem.{DeskItem}
 use Rattle.ason_base.specs.declared.commands.DeskItem.TheVariants.{Order}
 use Rattle.ason_base.specs.Network.{Network, is_node_id}
-use Rattle.mesh_rules.specs.Sites.{site_of}
+use Rattle.mesh_rules.specs.LocalNodes.{local_node}
 use Rattle.mesh_rules.specs.Commands.{is_valid}
 use Rattle.mesh_rules.specs.Events.{posted}
 use Rattle.mesh_rules.specs.State.{new_node}
 use Rattle.mesh_rules.specs.Machine.{start, with_item, with_posted}
-use Rattle.mesh_rules.proofs.SiteLemmas.{and_first}
+use Rattle.mesh_rules.proofs.Conjunctions.{and_first}
 use Rattle.ason_main.specs.declared.runner.lanes.Lane.{Lane}
 use Rattle.ason_main.specs.declared.runner.seats.Seat.{Seat}
 use Rattle.ason_main.specs.Histories.{new_history}
@@ -28,12 +28,12 @@ use Rattle.ason_main.proofs.RoundSteps.{some_site}
 same_node : (a b : NodeId) → nat_eq a.0 b.0 ≡ true → a ≡ b
 same_node a b e = let p : a.0 ≡ b.0 = grind arith in λ i. record { 0 = p i }
 
-pub seats_known : (t : Network) (nodes : List NodeSpec) (n : NodeId) → is_node_id nodes n ≡ true → seat_place (seat_at (map (new_seat t) nodes) n.0) ≡ Some (site_of t n)
+pub seats_known : (t : Network) (nodes : List NodeSpec) (n : NodeId) → is_node_id nodes n ≡ true → seat_place (seat_at (map (new_seat t) nodes) n.0) ≡ Some (local_node t n)
 seats_known t [] n e = absurd (cc (e))
 seats_known t (m ∷ nodes) n e = go (nat_eq m.id.0 n.0) refl (seats_known t nodes n) e
   where
-    go : (b : Bool) → nat_eq m.id.0 n.0 ≡ b → (is_node_id nodes n ≡ true → seat_place (seat_at (map (new_seat t) nodes) n.0) ≡ Some (site_of t n)) → (b || is_node_id nodes n) ≡ true → seat_place (cond b (Some (new_seat t m)) (seat_at (map (new_seat t) nodes) n.0)) ≡ Some (site_of t n)
-    go true h others k = ap (λ x. Some (site_of t x)) (same_node m.id n h)
+    go : (b : Bool) → nat_eq m.id.0 n.0 ≡ b → (is_node_id nodes n ≡ true → seat_place (seat_at (map (new_seat t) nodes) n.0) ≡ Some (local_node t n)) → (b || is_node_id nodes n) ≡ true → seat_place (cond b (Some (new_seat t m)) (seat_at (map (new_seat t) nodes) n.0)) ≡ Some (local_node t n)
+    go true h others k = ap (λ x. Some (local_node t x)) (same_node m.id n h)
     go false h others k = others k
 
 seats_new : (t : Network) (nodes : List NodeSpec) (n : ℕ) → seat_state (seat_at (map (new_seat t) nodes) n) ≡ new_node
@@ -95,7 +95,7 @@ item_put t seats after from item has put lanes before = λ i. record {
   posted = before;
 }
   where
-    there : (s : Seat) × (seat_at seats from.0 ≡ Some s) × (s.node.place ≡ site_of t from)
+    there : (s : Seat) × (seat_at seats from.0 ≡ Some s) × (s.node.place ≡ local_node t from)
     there = some_site t seats from has
 
     here : (m : ℕ) → nat_eq m from.0 ≡ true → seat_at after m ≡ Some (with_more item there.0)

@@ -9,7 +9,7 @@ use Rattle.ason_base.specs.declared.messages.Msg.{Msg}
 use Rattle.ason_base.specs.Network.{Network}
 use Rattle.mesh_rules.specs.declared.events.MeshEvent.TheVariants as event
 use Rattle.mesh_rules.specs.Changes.{Answer, changed}
-use Rattle.mesh_rules.specs.Sites.{site_of}
+use Rattle.mesh_rules.specs.LocalNodes.{local_node}
 use Rattle.mesh_rules.specs.Orders.{on_item}
 use Rattle.mesh_rules.specs.Messages.{on_message}
 use Rattle.mesh_rules.specs.Machine.{sent_to}
@@ -26,21 +26,21 @@ same_number m n h = grind arith
 self_test : (n : ℕ) → nat_eq n n ≡ true
 self_test n = grind arith
 
-pub some_site : (t : Network) (seats : List Seat) (n : NodeId) → HasSeat t seats n → (s : Seat) × (seat_at seats n.0 ≡ Some s) × (s.node.place ≡ site_of t n)
+pub some_site : (t : Network) (seats : List Seat) (n : NodeId) → HasSeat t seats n → (s : Seat) × (seat_at seats n.0 ≡ Some s) × (s.node.place ≡ local_node t n)
 some_site t seats n has = go (seat_at seats n.0) refl has
   where
-    go : (o : Option Seat) → seat_at seats n.0 ≡ o → seat_place o ≡ Some (site_of t n) → (s : Seat) × (seat_at seats n.0 ≡ Some s) × (s.node.place ≡ site_of t n)
+    go : (o : Option Seat) → seat_at seats n.0 ≡ o → seat_place o ≡ Some (local_node t n) → (s : Seat) × (seat_at seats n.0 ≡ Some s) × (s.node.place ≡ local_node t n)
     go None e h = absurd (cc (h))
     go (Some s) e h = (s, e, cc (h))
 
 -- an item of the desk
 
-pub item_answer : (t : Network) (n : NodeId) (s : Seat) (item : DeskItem) → s.node.place ≡ site_of t n → Some item ≡ slice_get s.desk 0 → answer_to s.node (Desk item) ≡ on_first_item (site_of t n) s.node.state s.desk
+pub item_answer : (t : Network) (n : NodeId) (s : Seat) (item : DeskItem) → s.node.place ≡ local_node t n → Some item ≡ slice_get s.desk 0 → answer_to s.node (Desk item) ≡ on_first_item (local_node t n) s.node.state s.desk
 item_answer t n s item place first = go s.desk first
   where
-    go : (desk : List DeskItem) → Some item ≡ slice_get desk 0 → on_item s.node.place s.node.state item ≡ on_first_item (site_of t n) s.node.state desk
+    go : (desk : List DeskItem) → Some item ≡ slice_get desk 0 → on_item s.node.place s.node.state item ≡ on_first_item (local_node t n) s.node.state desk
     go [] h = absurd (cc (h))
-    go (i ∷ items) h = let same : item ≡ i = cc (h) in ap (λ p. on_item p s.node.state item) place ∙ ap (on_item (site_of t n) s.node.state) same
+    go (i ∷ items) h = let same : item ≡ i = cc (h) in ap (λ p. on_item p s.node.state item) place ∙ ap (on_item (local_node t n) s.node.state) same
 
 pub item_step : (t : Network) (old taken after : List Seat) (lanes sent : List Lane) (n : NodeId) (item : DeskItem) → HasSeat t old n → Some item ≡ slice_get (seat_desk (seat_at old n.0)) 0 →
     ((m : ℕ) → seat_at taken m ≡ cond (nat_eq m n.0) (option_map with_less (seat_at old m)) (seat_at old m)) →
@@ -54,14 +54,14 @@ item_step t old taken after lanes sent n item has first took gave mailed posted 
   posted = posted;
 }
   where
-    there : (s : Seat) × (seat_at old n.0 ≡ Some s) × (s.node.place ≡ site_of t n)
+    there : (s : Seat) × (seat_at old n.0 ≡ Some s) × (s.node.place ≡ local_node t n)
     there = some_site t old n has
 
     a : Answer
-    a = on_first_item (site_of t n) (seat_state (seat_at old n.0)) (seat_desk (seat_at old n.0))
+    a = on_first_item (local_node t n) (seat_state (seat_at old n.0)) (seat_desk (seat_at old n.0))
 
     answer : answer_to there.0.node (Desk item) ≡ a
-    answer = item_answer t n there.0 item there.2 (first ∙ ap (λ o. slice_get (seat_desk o) 0) there.1) ∙ sym (ap (λ o. on_first_item (site_of t n) (seat_state o) (seat_desk o)) there.1)
+    answer = item_answer t n there.0 item there.2 (first ∙ ap (λ o. slice_get (seat_desk o) 0) there.1) ∙ sym (ap (λ o. on_first_item (local_node t n) (seat_state o) (seat_desk o)) there.1)
 
     took_here : seat_at taken n.0 ≡ Some (with_less there.0)
     took_here = took n.0 ∙ rw (self_test n.0) (ap (option_map with_less) there.1)
@@ -97,11 +97,11 @@ item_step t old taken after lanes sent n item has first took gave mailed posted 
 
 -- a message
 
-pub message_answer : (t : Network) (n u : NodeId) (s : Seat) (mail : List Msg) (m : Msg) → s.node.place ≡ site_of t n → Some m ≡ slice_get mail 0 → answer_to s.node (Message u m) ≡ on_first (site_of t n) s.node.state u mail
+pub message_answer : (t : Network) (n u : NodeId) (s : Seat) (mail : List Msg) (m : Msg) → s.node.place ≡ local_node t n → Some m ≡ slice_get mail 0 → answer_to s.node (Message u m) ≡ on_first (local_node t n) s.node.state u mail
 message_answer t n u s [] m place first = absurd (cc (first))
 message_answer t n u s (x ∷ mail) m place first =
     let same : m ≡ x = cc (first) in
-    ap (λ p. on_message p s.node.state u m) place ∙ ap (on_message (site_of t n) s.node.state u) same
+    ap (λ p. on_message p s.node.state u m) place ∙ ap (on_message (local_node t n) s.node.state u) same
 
 pub message_step : (t : Network) (old after : List Seat) (lanes taken sent : List Lane) (n u : NodeId) (msg : Msg) → HasSeat t old n → Some msg ≡ slice_get (mail_at lanes u.0 n.0) 0 →
     ((a b : ℕ) → mail_at taken a b ≡ cond (nat_eq a u.0 && nat_eq b n.0) (drop 1 (mail_at lanes a b)) (mail_at lanes a b)) →
@@ -115,14 +115,14 @@ message_step t old after lanes taken sent n u msg has first took gave mailed pos
   posted = posted;
 }
   where
-    there : (s : Seat) × (seat_at old n.0 ≡ Some s) × (s.node.place ≡ site_of t n)
+    there : (s : Seat) × (seat_at old n.0 ≡ Some s) × (s.node.place ≡ local_node t n)
     there = some_site t old n has
 
     a : Answer
-    a = on_first (site_of t n) (seat_state (seat_at old n.0)) u (mail_at lanes u.0 n.0)
+    a = on_first (local_node t n) (seat_state (seat_at old n.0)) u (mail_at lanes u.0 n.0)
 
     answer : answer_to there.0.node (Message u msg) ≡ a
-    answer = message_answer t n u there.0 (mail_at lanes u.0 n.0) msg there.2 first ∙ sym (ap (λ o. on_first (site_of t n) (seat_state o) u (mail_at lanes u.0 n.0)) there.1)
+    answer = message_answer t n u there.0 (mail_at lanes u.0 n.0) msg there.2 first ∙ sym (ap (λ o. on_first (local_node t n) (seat_state o) u (mail_at lanes u.0 n.0)) there.1)
 
     here : seat_at after n.0 ≡ Some (answered (Message u msg) there.0)
     here = gave n.0 ∙ rw (self_test n.0) (ap (option_map (answered (Message u msg))) there.1)

@@ -9,7 +9,7 @@ use Rattle.ason_base.specs.Network.{Network}
 use Rattle.mesh_rules.specs.declared.events.MeshEvent.{MeshEvent}
 use Rattle.mesh_rules.specs.Events.{after, step}
 use Rattle.mesh_rules.specs.Machine.{Mesh, start}
-use Rattle.mesh_rules.specs.Sites.{site_of}
+use Rattle.mesh_rules.specs.LocalNodes.{local_node}
 use Rattle.ason_main.specs.declared.runner.lanes.Lane.{Lane}
 use Rattle.ason_main.specs.declared.runner.seats.Seat.{Seat}
 use Rattle.ason_main.specs.Histories.{History, events_of, is_event_of, made, state_after, stopped_at, with_event}
@@ -76,7 +76,7 @@ counted_mesh n old new are lanes posted = λ i. record {
 pub counted_made : (t : Network) (n : NodeId) (old new : List Seat) → HasSeat t old n → AreCounted n.0 old new → (m : ℕ) → seat_made (seat_at new m) ≡ seat_made (seat_at old m) + cond (nat_eq n.0 m) 1 0
 counted_made t n old new has are m = ap seat_made (are.seats m) ∙ go (nat_eq m n.0) refl
   where
-    there : (s : Seat) × (seat_at old n.0 ≡ Some s) × (s.node.place ≡ site_of t n)
+    there : (s : Seat) × (seat_at old n.0 ≡ Some s) × (s.node.place ≡ local_node t n)
     there = some_site t old n has
 
     swapped : (a b : ℕ) (c : Bool) → nat_eq a b ≡ c → nat_eq b a ≡ c

@@ -5,7 +5,7 @@ use Rattle.ason_base.specs.Network.{Network, is_node_id}
 use Rattle.node_core.specs.declared.inputs.Input.{Input}
 use Rattle.node_core.specs.Nodes.{answer_to, stepped}
 use Rattle.mesh_rules.specs.Changes.{Answer, nothing}
-use Rattle.mesh_rules.specs.Sites.{Place, site_of}
+use Rattle.mesh_rules.specs.LocalNodes.{LocalNode, local_node}
 use Rattle.ason_base.specs.declared.ids.CallNo.{CallNo}
 use Rattle.ason_base.specs.declared.commands.Command.{Command}
 use Rattle.ason_base.specs.declared.commands.Command.TheVariants.{Setup, Release, Protect, Retry, Revert, Fail, Repair}
@@ -30,7 +30,7 @@ is_seat_of n s = s.node.place.id.0 == n
 abbrev pub seat_at : List Seat → ℕ → Option Seat
 seat_at seats n = find (is_seat_of n) seats
 
-abbrev pub seat_place : Option Seat → Option Place
+abbrev pub seat_place : Option Seat → Option LocalNode
 seat_place None = None
 seat_place (Some s) = Some s.node.place
 
@@ -44,7 +44,7 @@ seat_desk (Some s) = s.desk
 
 -- the node's seat knows of the node what the topology says
 abbrev pub HasSeat : Network → List Seat → NodeId → Type 0
-HasSeat t seats n = seat_place (seat_at seats n.0) ≡ Some (site_of t n)
+HasSeat t seats n = seat_place (seat_at seats n.0) ≡ Some (local_node t n)
 
 -- every node has its seat
 abbrev pub AreSeated : Network → List Seat → Type 0
@@ -109,7 +109,7 @@ pub record StandsFor (t : Network) (seats : List Seat) (lanes : List Lane) (h : 
 
 -- a node's seat at the start
 abbrev pub new_seat : Network → NodeSpec → Seat
-new_seat t n = record { node = record { place = site_of t n.id; state = new_node }; desk = []; made = 0 }
+new_seat t n = record { node = record { place = local_node t n.id; state = new_node }; desk = []; made = 0 }
 
 -- the node to whose desk a command goes
 abbrev pub ingress : Command → Option NodeId

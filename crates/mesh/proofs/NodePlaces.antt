@@ -5,7 +5,7 @@ use Rattle.std.specs.List.{position_or_len, AllByRecursion}
 use Rattle.std.proofs.lemmas.List.Quantifiers.{position-Some}
 use Rattle.ason_base.specs.declared.ids.NodeId.{NodeId}
 use Rattle.ason_base.specs.Network.{Network}
-use Rattle.mesh_rules.specs.Sites.{site_of}
+use Rattle.mesh_rules.specs.LocalNodes.{local_node}
 use Rattle.node_core.specs.Nodes.{NodeView}
 use Rattle.mesh_rules.specs.Changes.{Answer, changed}
 use Rattle.mesh_rules.specs.State.{NodeState, new_node}
@@ -35,15 +35,15 @@ no_state n (s ∷ nodes) e = go (is_node n s) refl e (no_state n nodes)
 pub state_at-nowhere : (n : ℕ) (nodes : List NodeView) → position (is_node n) nodes ≡ None → state_at n nodes ≡ new_node
 state_at-nowhere n nodes none = no_state n nodes (position-nowhere (is_node n) nodes none)
 
-new_state : (t : Network) (n : NodeId) (state : NodeState) (nodes : List NodeView) → position_or_len (is_node n.0) nodes ≡ length nodes → put_state t n state nodes ≡ nodes ++ record { place = site_of t n; state = state } ∷ []
+new_state : (t : Network) (n : NodeId) (state : NodeState) (nodes : List NodeView) → position_or_len (is_node n.0) nodes ≡ length nodes → put_state t n state nodes ≡ nodes ++ record { place = local_node t n; state = state } ∷ []
 new_state t n state [] e = refl
 new_state t n state (s ∷ nodes) e =
-    elim (is_node n.0 s) as (λ b. cond (not b) (1 + position_or_len (is_node n.0) nodes) 0 ≡ suc (length nodes) → cond b (record { place = s.place; state = state } ∷ nodes) (s ∷ put_state t n state nodes) ≡ s ∷ (nodes ++ record { place = site_of t n; state = state } ∷ [])) [
+    elim (is_node n.0 s) as (λ b. cond (not b) (1 + position_or_len (is_node n.0) nodes) 0 ≡ suc (length nodes) → cond b (record { place = s.place; state = state } ∷ nodes) (s ∷ put_state t n state nodes) ≡ s ∷ (nodes ++ record { place = local_node t n; state = state } ∷ [])) [
       | true ↦ λ far. absurd (omega arith)
       | false ↦ λ far. ap (λ xs. s ∷ xs) (new_state t n state nodes (omega arith))
     ] e
 
-pub put_state-nowhere : (t : Network) (n : NodeId) (state : NodeState) (nodes : List NodeView) → position (is_node n.0) nodes ≡ None → put_state t n state nodes ≡ nodes ++ record { place = site_of t n; state = state } ∷ []
+pub put_state-nowhere : (t : Network) (n : NodeId) (state : NodeState) (nodes : List NodeView) → position (is_node n.0) nodes ≡ None → put_state t n state nodes ≡ nodes ++ record { place = local_node t n; state = state } ∷ []
 put_state-nowhere t n state nodes none = new_state t n state nodes (position-nowhere (is_node n.0) nodes none)
 
 -- Where it stands at a place
@@ -79,9 +79,9 @@ state_changed t n a nodes i s state at is does =
     ∙ sym (put_state-place t n (changed (state_at n.0 nodes) a) nodes i s at is)
 
 -- and at a node that has had no input
-pub carried-nowhere : (t : Network) (n : NodeId) (nodes all : List NodeView) (a : Answer) (first after : NodeView) → position (is_node n.0) nodes ≡ None → first ≡ record { place = site_of t n; state = new_node } → after.place ≡ first.place → after.state ≡ changed first.state a → all ≡ nodes ++ after ∷ [] → all ≡ put_state t n (changed (state_at n.0 nodes) a) nodes
+pub carried-nowhere : (t : Network) (n : NodeId) (nodes all : List NodeView) (a : Answer) (first after : NodeView) → position (is_node n.0) nodes ≡ None → first ≡ record { place = local_node t n; state = new_node } → after.place ≡ first.place → after.state ≡ changed first.state a → all ≡ nodes ++ after ∷ [] → all ≡ put_state t n (changed (state_at n.0 nodes) a) nodes
 carried-nowhere t n nodes all a first after none is place does pushed =
-    let made : after ≡ record { place = site_of t n; state = changed (state_at n.0 nodes) a } = λ j. record {
+    let made : after ≡ record { place = local_node t n; state = changed (state_at n.0 nodes) a } = λ j. record {
       place = (place ∙ ap (λ x. x.place) is) j;
       state = (does ∙ ap (λ x. changed x.state a) is ∙ ap (λ x. changed x a) (sym (state_at-nowhere n.0 nodes none))) j;
     } in
@@ -133,17 +133,17 @@ pub node_at-place : (t : Network) (n : NodeId) (nodes : List NodeView) (i : ℕ)
 node_at-place t n nodes i s all at is =
     let facts = position-Some (is_node n.0) nodes i s at in
     let same : s.place.id ≡ n = number s.place.id n (ap (λ x. nat_eq x.place.id.0 n.0) is ∙ facts.1) in
-    let told : s.place ≡ site_of t s.place.id = ap (λ x. x.place) is ∙ of_network t nodes i s all facts.0 ∙ ap (λ x. site_of t x.place.id) (sym is) in
+    let told : s.place ≡ local_node t s.place.id = ap (λ x. x.place) is ∙ of_network t nodes i s all facts.0 ∙ ap (λ x. local_node t x.place.id) (sym is) in
     λ j. record {
-      place = (told ∙ ap (site_of t) same) j;
+      place = (told ∙ ap (local_node t) same) j;
       state = sym (state_at-place n.0 nodes i s at is) j;
     }
   where
     number : (a b : NodeId) → nat_eq a.0 b.0 ≡ true → a ≡ b
     number a b e = let same : a.0 ≡ b.0 = grind arith in λ i. record { 0 = same i }
 
-pub node_at-nowhere : (t : Network) (n : NodeId) (nodes : List NodeView) → position (is_node n.0) nodes ≡ None → record { place = site_of t n; state = new_node } ≡ node_at (record { network = t; nodes = nodes }) n
-node_at-nowhere t n nodes none = λ j. record { place = site_of t n; state = sym (state_at-nowhere n.0 nodes none) j }
+pub node_at-nowhere : (t : Network) (n : NodeId) (nodes : List NodeView) → position (is_node n.0) nodes ≡ None → record { place = local_node t n; state = new_node } ≡ node_at (record { network = t; nodes = nodes }) n
+node_at-nowhere t n nodes none = λ j. record { place = local_node t n; state = sym (state_at-nowhere n.0 nodes none) j }
 
 pub all-put : (t : Network) (n : NodeId) (state : NodeState) (nodes : List NodeView) → AllByRecursion (IsOfNetwork t) nodes → AllByRecursion (IsOfNetwork t) (put_state t n state nodes)
 all-put t n state [] all = (refl, tt)

@@ -20,7 +20,7 @@ use Rattle.node_core.specs.Nodes.{NodeView, answer_to}
 use Rattle.mesh.specs.declared.queues.Waiting.{Waiting}
 use Rattle.mesh.specs.declared.queues.Sent.{Sent}
 use Rattle.mesh_rules.specs.Changes.{Answer, changed}
-use Rattle.mesh_rules.specs.Sites.{site_of}
+use Rattle.mesh_rules.specs.LocalNodes.{local_node}
 use Rattle.mesh_rules.specs.Orders.{on_item, on_tick}
 use Rattle.mesh_rules.specs.Messages.{on_message}
 use Rattle.mesh_rules.specs.Machine.{commit, sent_to, without_first, without_item, with_item}
@@ -98,13 +98,13 @@ mesh_of-without_first t u d nodes desks mail posted i s at is = λ j. record {
 }
 
 pub mesh_of-take : (t : Network) (u d : NodeId) (nodes : List NodeView) (desks : List Waiting) (mail : List Sent) (posted : List CallNo) (i : ℕ) (s : Sent) (a : Answer) → position (is_between u.0 d.0) mail ≡ Some i → s ≡ get_or mail i s →
-    a ≡ on_message (site_of t d) (state_at d.0 nodes) u s.msg →
+    a ≡ on_message (local_node t d) (state_at d.0 nodes) u s.msg →
     mesh_of (kept t (put_state t d (changed (state_at d.0 nodes) a) nodes) desks (remove (mail ++ map (sent_by d) a.sent) i) posted) ≡ step t (mesh_of (kept t nodes desks mail posted)) (Take d u)
 mesh_of-take t u d nodes desks mail posted i s a at is does =
     let below = (position-Some (is_between u.0 d.0) mail i s at).0 in
     let k = mesh_of (kept t nodes desks mail posted) in
     let first : mail_of u.0 d.0 mail ≡ s.msg ∷ mail_of u.0 d.0 (remove mail i) = ap (map (λ s. s.msg)) (first_of (is_between u.0 d.0) mail i s at is) in
-    let same : a ≡ on_first (site_of t d) (state_at d.0 nodes) u (mail_of u.0 d.0 mail) = does ∙ ap (on_first (site_of t d) (state_at d.0 nodes) u) (sym first) in
+    let same : a ≡ on_first (local_node t d) (state_at d.0 nodes) u (mail_of u.0 d.0 mail) = does ∙ ap (on_first (local_node t d) (state_at d.0 nodes) u) (sym first) in
     ap (λ m. mesh_of (kept t (put_state t d (changed (state_at d.0 nodes) a) nodes) desks m posted)) (remove-append_left mail (map (sent_by d) a.sent) i below)
     ∙ mesh_of-commit t d a nodes desks (remove mail i) posted
     ∙ ap (λ k. commit k d.0 a) (mesh_of-without_first t u d nodes desks mail posted i s at is)
@@ -138,12 +138,12 @@ mesh_of-without_item t n nodes desks mail posted i w at is = λ j. record {
 }
 
 pub mesh_of-handle : (t : Network) (n : NodeId) (nodes : List NodeView) (desks : List Waiting) (mail : List Sent) (posted : List CallNo) (i : ℕ) (w : Waiting) (a : Answer) → position (is_waiting n.0) desks ≡ Some i → w ≡ get_or desks i w →
-    a ≡ on_item (site_of t n) (state_at n.0 nodes) w.item →
+    a ≡ on_item (local_node t n) (state_at n.0 nodes) w.item →
     mesh_of (kept t (put_state t n (changed (state_at n.0 nodes) a) nodes) (remove desks i) (mail ++ map (sent_by n) a.sent) posted) ≡ step t (mesh_of (kept t nodes desks mail posted)) (Desk n)
 mesh_of-handle t n nodes desks mail posted i w a at is does =
     let k = mesh_of (kept t nodes desks mail posted) in
     let first : desk_of n.0 desks ≡ w.item ∷ desk_of n.0 (remove desks i) = ap (map (λ w. w.item)) (first_of (is_waiting n.0) desks i w at is) in
-    let same : a ≡ on_first_item (site_of t n) (state_at n.0 nodes) (desk_of n.0 desks) = does ∙ ap (on_first_item (site_of t n) (state_at n.0 nodes)) (sym first) in
+    let same : a ≡ on_first_item (local_node t n) (state_at n.0 nodes) (desk_of n.0 desks) = does ∙ ap (on_first_item (local_node t n) (state_at n.0 nodes)) (sym first) in
     mesh_of-commit t n a nodes (remove desks i) mail posted
     ∙ ap (λ k. commit k n.0 a) (mesh_of-without_item t n nodes desks mail posted i w at is)
     ∙ ap (commit (without_item k n.0) n.0) same
@@ -168,7 +168,7 @@ mesh_of-order t n item nodes desks mail posted = λ j. record {
 
 -- A tick
 
-pub mesh_of-tick : (t : Network) (n : NodeId) (nodes : List NodeView) (desks : List Waiting) (mail : List Sent) (posted : List CallNo) (a : Answer) → a ≡ on_tick (site_of t n) (state_at n.0 nodes) →
+pub mesh_of-tick : (t : Network) (n : NodeId) (nodes : List NodeView) (desks : List Waiting) (mail : List Sent) (posted : List CallNo) (a : Answer) → a ≡ on_tick (local_node t n) (state_at n.0 nodes) →
     mesh_of (kept t (put_state t n (changed (state_at n.0 nodes) a) nodes) desks (mail ++ map (sent_by n) a.sent) posted) ≡ step t (mesh_of (kept t nodes desks mail posted)) (Tick n)
 mesh_of-tick t n nodes desks mail posted a does =
     mesh_of-commit t n a nodes desks mail posted ∙ ap (commit (mesh_of (kept t nodes desks mail posted)) n.0) does

@@ -11,7 +11,7 @@ use Rattle.mesh_rules.specs.declared.events.MeshEvent.{MeshEvent}
 use Rattle.mesh_rules.specs.declared.events.StepFault.{StepFault}
 use Rattle.mesh_rules.specs.declared.events.StepFault.TheVariants.{NotEnabled, OutOfMemory}
 use Rattle.mesh_rules.specs.State.{NodeState, new_node}
-use Rattle.mesh_rules.specs.Sites.{site_of}
+use Rattle.mesh_rules.specs.LocalNodes.{local_node}
 use Rattle.mesh_rules.specs.Machine.{Mesh}
 use Rattle.mesh_rules.specs.Events.{step}
 use Rattle.mesh_rules.specs.Changes.{changed}
@@ -46,11 +46,11 @@ abbrev pub state_at : ℕ → List NodeView → NodeState
 state_at n nodes = state_of (find (is_node n) nodes)
 
 abbrev pub node_at : Seats → NodeId → NodeView
-node_at s n = record { place = site_of s.network n; state = state_at n.0 s.nodes }
+node_at s n = record { place = local_node s.network n; state = state_at n.0 s.nodes }
 
 -- with this state at the node
 abbrev pub put_state : Network → NodeId → NodeState → List NodeView → List NodeView
-put_state t n state [] = record { place = site_of t n; state = state } ∷ []
+put_state t n state [] = record { place = local_node t n; state = state } ∷ []
 put_state t n state (s ∷ nodes) =
     if is_node n.0 s then record { place = s.place; state = state } ∷ nodes else s ∷ put_state t n state nodes
 
@@ -59,7 +59,7 @@ with_state s n state = record { network = s.network; nodes = put_state s.network
 
 -- each node knows of itself what the network tells
 abbrev pub IsOfNetwork : Network → NodeView → Type 0
-IsOfNetwork t s = s.place ≡ site_of t s.place.id
+IsOfNetwork t s = s.place ≡ local_node t s.place.id
 
 abbrev pub AreOfNetwork : Seats → Type 0
 AreOfNetwork s = AllByRecursion (IsOfNetwork s.network) s.nodes

@@ -15,7 +15,7 @@ use Rattle.ason_base.specs.Labels.{has}
 use Rattle.ason_base.specs.Lsps.{same_lsp}
 use Rattle.ason_base.specs.Network.{Network, find_link, other_end}
 use Rattle.mesh_rules.specs.declared.events.MeshEvent.{MeshEvent}
-use Rattle.mesh_rules.specs.Sites.{fibre_in, fibre_out}
+use Rattle.mesh_rules.specs.LocalNodes.{fibre_in, fibre_out}
 use Rattle.mesh_rules.specs.Legs.{find_leg, is_beyond_asked}
 use Rattle.ason_base.specs.Routes.{makes_route}
 use Rattle.mesh_rules.specs.Machine.{Mesh, start}

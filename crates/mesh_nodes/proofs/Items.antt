@@ -23,11 +23,11 @@ use Rattle.mesh_rules.specs.Changes.{changes_calls, followed_by, nothing}
 use Rattle.mesh_rules.specs.Legs.{closed, find_leg, following, leg_of, with_leg}
 use Rattle.mesh_rules.specs.Releases.{release_with, releases, tear_to, tears}
 use Rattle.mesh_rules.specs.Setups.{SetupRequest, admitted_setup, begins, first_leg, first_link, is_followable, is_full, is_order_here, is_spent, new_call, next_lsp, over_first, refused_setup, setup_with}
-use Rattle.mesh_rules.specs.Sites.{Place, own_link}
+use Rattle.mesh_rules.specs.LocalNodes.{LocalNode, own_link}
 use Rattle.mesh_rules.specs.State.{NodeState}
 use Rattle.mesh_nodes.specs.Kept.{LegFits, LegsFit, NodeFits}
 use Rattle.mesh_nodes.specs.Laws.{ItemsFit}
-use Rattle.mesh_nodes.specs.Places.{PlaceFits}
+use Rattle.mesh_nodes.specs.LocalNodes.{LocalNodeFits}
 use Rattle.mesh_nodes.specs.Sent.{AllToNeighbours, AllWritable, AnswerFits}
 use Rattle.mesh_nodes.proofs.Cases.{both_left, both_right, if_cases, not-true}
 use Rattle.mesh_nodes.proofs.Kept.{calls-less, calls-put, closed-fits, legs-changed, legs-more}
@@ -38,7 +38,7 @@ use Rattle.mesh_nodes.proofs.Paths.{below, nothing-fits, some_labels}
 
 -- Setup
 
-module _ (p : Place) (s : NodeState) (w : SetupRequest) (W : Type 0) (place : PlaceFits p) (fits : NodeFits p s)
+module _ (p : LocalNode) (s : NodeState) (w : SetupRequest) (W : Type 0) (place : LocalNodeFits p) (fits : NodeFits p s)
     (away : nat_eq w.egress.0 p.id.0 ≡ false) (followable : is_followable p w.backup ≡ true) where
   refused-fits : (cause : Cause) → AnswerFits p s W (refused_setup w cause)
   refused-fits cause = record {
@@ -108,7 +108,7 @@ module _ (p : Place) (s : NodeState) (w : SetupRequest) (W : Type 0) (place : Pl
   new_call-fits (Some []) = nothing-fits p s W fits
   new_call-fits (Some (hop ∷ route)) = over-fits hop route (first_link p (hop ∷ route)) refl
 
-setup-fits : (p : Place) (s : NodeState) (w : SetupRequest) (W : Type 0) (o : Option CallRec) → PlaceFits p → NodeFits p s →
+setup-fits : (p : LocalNode) (s : NodeState) (w : SetupRequest) (W : Type 0) (o : Option CallRec) → LocalNodeFits p → NodeFits p s →
     AnswerFits p s W (setup_with p s w o)
 setup-fits p s w W (Some c) place fits = nothing-fits p s W fits
 setup-fits p s w W None place fits =
@@ -123,12 +123,12 @@ setup-fits p s w W None place fits =
 -- Release
 
 -- what tearing an LSP sends
-record TearFits (p : Place) (outs : List Out) : Type 0 where
+record TearFits (p : LocalNode) (outs : List Out) : Type 0 where
   near : AllToNeighbours p outs
   written : AllWritable outs
   few : length outs ≤ 1
 
-tear_to-fits : (p : Place) (next : ℕ) (g : Leg) (o : Option Neighbour) → LegFits p next g → following g ≡ o →
+tear_to-fits : (p : LocalNode) (next : ℕ) (g : Leg) (o : Option Neighbour) → LegFits p next g → following g ≡ o →
     TearFits p (tear_to g o)
 tear_to-fits p next g None fits is = record { near = tt; written = tt; few = omega arith }
 tear_to-fits p next g (Some h) fits is = record {
@@ -148,11 +148,11 @@ few-append [] b h k = omega arith
 few-append (x ∷ []) b h k = omega arith
 few-append (x ∷ y ∷ a) b h k = absurd (omega arith)
 
-closed-legs : (p : Place) (s : NodeState) (g : Leg) → NodeFits p s → Stands p s g → LegsFit p s.lsp (with_leg (closed g) s.legs)
+closed-legs : (p : LocalNode) (s : NodeState) (g : Leg) → NodeFits p s → Stands p s g → LegsFit p s.lsp (with_leg (closed g) s.legs)
 closed-legs p s g fits stands = legs-changed p s.lsp (closed g) g s.legs fits.legs stands.found (closed-fits p s.lsp g stands.fits)
 
 -- a leg that stands closes after another one, or that one itself
-closed-both : (p : Place) (s : NodeState) (g h : Leg) → NodeFits p s → Stands p s g → Stands p s h →
+closed-both : (p : LocalNode) (s : NodeState) (g h : Leg) → NodeFits p s → Stands p s g → Stands p s h →
     LegsFit p s.lsp (with_leg (closed h) (with_leg (closed g) s.legs))
 closed-both p s g h fits this that = go (same_lsp g.lsp h.lsp) refl
   where
@@ -168,11 +168,11 @@ closed-both p s g h fits this that = go (same_lsp g.lsp h.lsp) refl
     go true e = by (closed g) (found ∙ ap (λ b. cond b (Some (closed g)) (find_leg h.lsp s.legs)) e)
     go false e = by h (found ∙ ap (λ b. cond b (Some (closed g)) (find_leg h.lsp s.legs)) e ∙ that.found)
 
-leg_of-stands : (p : Place) (s : NodeState) (o : Option Lsp) (g : Leg) → NodeFits p s → leg_of o s.legs ≡ Some g → Stands p s g
+leg_of-stands : (p : LocalNode) (s : NodeState) (o : Option Lsp) (g : Leg) → NodeFits p s → leg_of o s.legs ≡ Some g → Stands p s g
 leg_of-stands p s None g fits e = absurd (cc e)
 leg_of-stands p s (Some l) g fits e = leg-stands p s l g fits e
 
-module _ (p : Place) (s : NodeState) (n : CallNo) (W : Type 0) (fits : NodeFits p s) where
+module _ (p : LocalNode) (s : NodeState) (n : CallNo) (W : Type 0) (fits : NodeFits p s) where
   -- the call goes
   kept : (legs : List Leg) → LegsFit p s.lsp legs → NodeFits p (record s { legs = legs; calls = without_call n s.calls })
   kept legs here = record { legs = here; calls = calls-less p n s.calls fits.calls; first = fits.first; numbers = fits.numbers }
@@ -211,7 +211,7 @@ module _ (p : Place) (s : NodeState) (n : CallNo) (W : Type 0) (fits : NodeFits 
       few-end (x ∷ []) h = omega arith
       few-end (x ∷ y ∷ outs) h = absurd (omega arith)
 
-release-fits : (p : Place) (s : NodeState) (from : NodeId) (W : Type 0) (o : Option CallRec) → NodeFits p s →
+release-fits : (p : LocalNode) (s : NodeState) (from : NodeId) (W : Type 0) (o : Option CallRec) → NodeFits p s →
     AnswerFits p s W (release_with p s from o)
 release-fits p s from W None fits = nothing-fits p s W fits
 release-fits p s from W (Some c) fits =

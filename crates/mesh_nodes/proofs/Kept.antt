@@ -17,7 +17,7 @@ use Rattle.mesh_rules.specs.declared.limits.TheConstants.{MOST_LEGS}
 use Rattle.mesh_rules.specs.declared.neighbours.Neighbour.{Neighbour}
 use Rattle.mesh_rules.specs.Calls.{with_call, without_call}
 use Rattle.mesh_rules.specs.Legs.{closed, closing_phase, connected, find_leg, is_beyond_asked, is_over, neighbour_over, with_leg, without_leg}
-use Rattle.mesh_rules.specs.Sites.{Place}
+use Rattle.mesh_rules.specs.LocalNodes.{LocalNode}
 use Rattle.mesh_nodes.specs.Kept.{CallFits, CallsFit, LegFits, LegsFit}
 use Rattle.mesh_nodes.specs.Order.{LegsRise}
 use Rattle.mesh_nodes.proofs.CallList.{all-with_call, rise-with_call, rise-without_call}
@@ -64,7 +64,7 @@ length-filter_less p (x ∷ xs) = go (p x) (length-filter_less p xs)
 -- Legs
 
 -- a number more may be given out
-later-fits : (p : Place) (a b : ℕ) (g : Leg) → a ≤ b → LegFits p a g → LegFits p b g
+later-fits : (p : LocalNode) (a b : ℕ) (g : Leg) → a ≤ b → LegFits p a g → LegFits p b g
 later-fits p a b g le fits = record {
   prev = fits.prev;
   in_fibre = fits.in_fibre;
@@ -79,7 +79,7 @@ later-fits p a b g le fits = record {
 }
 
 -- a leg more, where there is room
-pub legs-more : (p : Place) (a b : ℕ) (g : Leg) (legs : List Leg) → a ≤ b → LegsFit p a legs → length legs < MOST_LEGS →
+pub legs-more : (p : LocalNode) (a b : ℕ) (g : Leg) (legs : List Leg) → a ≤ b → LegsFit p a legs → length legs < MOST_LEGS →
     LegFits p b g → LegsFit p b (with_leg g legs)
 legs-more p a b g legs le fits room here = record {
   rise = rise-with_leg g legs fits.rise;
@@ -89,7 +89,7 @@ legs-more p a b g legs le fits room here = record {
 }
 
 -- a leg in the place of one that stands
-pub legs-changed : (p : Place) (next : ℕ) (g k : Leg) (legs : List Leg) → LegsFit p next legs → find_leg g.lsp legs ≡ Some k →
+pub legs-changed : (p : LocalNode) (next : ℕ) (g k : Leg) (legs : List Leg) → LegsFit p next legs → find_leg g.lsp legs ≡ Some k →
     LegFits p next g → LegsFit p next (with_leg g legs)
 legs-changed p next g k legs fits found here = record {
   rise = rise-with_leg g legs fits.rise;
@@ -97,7 +97,7 @@ legs-changed p next g k legs fits found here = record {
   few = (let few = fits.few in subst (λ n. n ≤ MOST_LEGS) (sym (length-replaced g k legs fits.rise found)) few);
 }
 
-pub legs-less : (p : Place) (next : ℕ) (l : Lsp) (legs : List Leg) → LegsFit p next legs → LegsFit p next (without_leg l legs)
+pub legs-less : (p : LocalNode) (next : ℕ) (l : Lsp) (legs : List Leg) → LegsFit p next legs → LegsFit p next (without_leg l legs)
 legs-less p next l legs fits = record {
   rise = rise-without_leg l legs fits.rise;
   each = all-filter (LegFits p next) (λ g. not (same_lsp g.lsp l)) legs fits.each;
@@ -120,7 +120,7 @@ closed-phase Closing Back = refl
 closed-phase Falling Work = refl
 closed-phase Falling Back = refl
 
-pub closed-fits : (p : Place) (next : ℕ) (g : Leg) → LegFits p next g → LegFits p next (closed g)
+pub closed-fits : (p : LocalNode) (next : ℕ) (g : Leg) → LegFits p next g → LegFits p next (closed g)
 closed-fits p next g fits = record {
   prev = fits.prev;
   in_fibre = fits.in_fibre;
@@ -135,7 +135,7 @@ closed-fits p next g fits = record {
 }
 
 -- the label in as it should be, and a fibre out
-pub connected-fits : (p : Place) (next : ℕ) (g : Leg) (label : Option ℕ) (x : ℕ) → LegFits p next g →
+pub connected-fits : (p : LocalNode) (next : ℕ) (g : Leg) (label : Option ℕ) (x : ℕ) → LegFits p next g →
     is_some label ≡ is_some g.in_fibre → is_some g.out_fibre ≡ true → LegFits p next (connected g label x)
 connected-fits p next g label x fits labelled out = record {
   prev = fits.prev;
@@ -170,14 +170,14 @@ alone-fibre (Some n) (Some f) both e = absurd (cc e)
 
 -- Calls
 
-pub calls-put : (p : Place) (c : CallRec) (calls : List CallRec) → CallsFit p calls → CallFits p c → CallsFit p (with_call c calls)
+pub calls-put : (p : LocalNode) (c : CallRec) (calls : List CallRec) → CallsFit p calls → CallFits p c → CallsFit p (with_call c calls)
 calls-put p c calls fits here = record {
   rise =
       rise-with_call c calls fits.rise;
   each = all-with_call (CallFits p) c calls here fits.each;
 }
 
-pub calls-less : (p : Place) (n : CallNo) (calls : List CallRec) → CallsFit p calls → CallsFit p (without_call n calls)
+pub calls-less : (p : LocalNode) (n : CallNo) (calls : List CallRec) → CallsFit p calls → CallsFit p (without_call n calls)
 calls-less p n calls fits = record {
   rise = rise-without_call n calls fits.rise;
   each = all-filter (CallFits p) (λ c. not (nat_eq c.call.0 n.0)) calls fits.each;

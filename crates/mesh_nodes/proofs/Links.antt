@@ -10,8 +10,8 @@ use Rattle.ason_base.specs.Lsps.{same_bool, same_fibre}
 use Rattle.ason_base.specs.Network.{other_end}
 use Rattle.mesh_rules.specs.declared.neighbours.Neighbour.{Neighbour}
 use Rattle.mesh_rules.specs.Legs.{is_over}
-use Rattle.mesh_rules.specs.Sites.{Place, fibre_in, fibre_out, leads, own_link}
-use Rattle.mesh_nodes.specs.Places.{IsOwnLink, PlaceFits, is_downstream, is_neighbour, is_upstream}
+use Rattle.mesh_rules.specs.LocalNodes.{LocalNode, fibre_in, fibre_out, leads, own_link}
+use Rattle.mesh_nodes.specs.LocalNodes.{IsOwnLink, LocalNodeFits, is_downstream, is_neighbour, is_upstream}
 use Rattle.mesh_nodes.proofs.Cases.{both_left, both_right}
 
 -- Lists
@@ -80,26 +80,26 @@ sender-end n u l less leads = go (nat_eq l.low.0 n.0) refl (either _ _ leads)
 
 -- A link of the node
 
-pub own-is : (p : Place) (k : LinkId) (l : LinkSpec) → PlaceFits p → own_link p k ≡ Some l → IsOwnLink p.id l
+pub own-is : (p : LocalNode) (k : LinkId) (l : LinkSpec) → LocalNodeFits p → own_link p k ≡ Some l → IsOwnLink p.id l
 own-is p k l place found = found-one (IsOwnLink p.id) (λ m. nat_eq m.id.0 k.0) p.own l found place
 
-pub end-near : (p : Place) (k : LinkId) (l : LinkSpec) → own_link p k ≡ Some l → is_neighbour p (other_end l p.id) ≡ true
+pub end-near : (p : LocalNode) (k : LinkId) (l : LinkSpec) → own_link p k ≡ Some l → is_neighbour p (other_end l p.id) ≡ true
 end-near p k l found =
     any-found (λ m. nat_eq (other_end m p.id).0 (other_end l p.id).0) (λ m. nat_eq m.id.0 k.0) p.own l found (same (other_end l p.id).0)
 
-pub end-downstream : (p : Place) (k : LinkId) (l : LinkSpec) → own_link p k ≡ Some l →
+pub end-downstream : (p : LocalNode) (k : LinkId) (l : LinkSpec) → own_link p k ≡ Some l →
     is_downstream p (record { node = other_end l p.id; fibre = fibre_out l p.id }) ≡ true
 end-downstream p k l found =
     any-found (λ m. nat_eq (other_end m p.id).0 (other_end l p.id).0 && same_fibre (fibre_out m p.id) (fibre_out l p.id)) (λ m. nat_eq m.id.0 k.0) p.own l found
     (rw (same (other_end l p.id).0) (same_fibre-refl (fibre_out l p.id)))
 
-pub sender-near : (p : Place) (k : LinkId) (l : LinkSpec) (u : NodeId) → PlaceFits p → own_link p k ≡ Some l →
+pub sender-near : (p : LocalNode) (k : LinkId) (l : LinkSpec) (u : NodeId) → LocalNodeFits p → own_link p k ≡ Some l →
     leads (Some l) u p.id ≡ true → is_neighbour p u ≡ true
 sender-near p k l u place found leads =
     any-found (λ m. nat_eq (other_end m p.id).0 u.0) (λ m. nat_eq m.id.0 k.0) p.own l found
     (sender-end p.id u l (own-is p k l place found).apart leads)
 
-pub sender-upstream : (p : Place) (k : LinkId) (l : LinkSpec) (u : NodeId) → PlaceFits p → own_link p k ≡ Some l →
+pub sender-upstream : (p : LocalNode) (k : LinkId) (l : LinkSpec) (u : NodeId) → LocalNodeFits p → own_link p k ≡ Some l →
     leads (Some l) u p.id ≡ true → is_upstream p (record { node = u; fibre = fibre_in l p.id }) ≡ true
 sender-upstream p k l u place found leads =
     any-found (λ m. nat_eq (other_end m p.id).0 u.0 && same_fibre (fibre_in m p.id) (fibre_in l p.id)) (λ m. nat_eq m.id.0 k.0) p.own l found
@@ -107,19 +107,19 @@ sender-upstream p k l u place found leads =
 
 -- Neighbours
 
-pub upstream-near : (p : Place) (h : Neighbour) → is_upstream p h ≡ true → is_neighbour p h.node ≡ true
+pub upstream-near : (p : LocalNode) (h : Neighbour) → is_upstream p h ≡ true → is_neighbour p h.node ≡ true
 upstream-near p h e = any-left (λ l. nat_eq (other_end l p.id).0 h.node.0) (λ l. same_fibre (fibre_in l p.id) h.fibre) p.own e
 
-pub downstream-near : (p : Place) (h : Neighbour) → is_downstream p h ≡ true → is_neighbour p h.node ≡ true
+pub downstream-near : (p : LocalNode) (h : Neighbour) → is_downstream p h ≡ true → is_neighbour p h.node ≡ true
 downstream-near p h e = any-left (λ l. nat_eq (other_end l p.id).0 h.node.0) (λ l. same_fibre (fibre_out l p.id) h.fibre) p.own e
 
-same-near : (p : Place) (n u : NodeId) → nat_eq n.0 u.0 ≡ true → is_neighbour p n ≡ true → is_neighbour p u ≡ true
+same-near : (p : LocalNode) (n u : NodeId) → nat_eq n.0 u.0 ≡ true → is_neighbour p n ≡ true → is_neighbour p u ≡ true
 same-near p n u e near =
     let is : n.0 ≡ u.0 = grind arith in
     subst (λ x. list_any (λ l. nat_eq (other_end l p.id).0 x) p.own ≡ true) is near
 
 -- the node of a leg's neighbour is a neighbour
-pub over-near : (p : Place) (o : Option Neighbour) (u : NodeId) (k : LinkId) → IfSome o (λ h. is_neighbour p h.node ≡ true) →
+pub over-near : (p : LocalNode) (o : Option Neighbour) (u : NodeId) (k : LinkId) → IfSome o (λ h. is_neighbour p h.node ≡ true) →
     is_over o u k ≡ true → is_neighbour p u ≡ true
 over-near p None u k near e = absurd (cc e)
 over-near p (Some h) u k near e = same-near p h.node u (both_left (nat_eq h.node.0 u.0) _ e) near

@@ -20,12 +20,12 @@ use Rattle.mesh_rules.specs.Legs.{closed, connected, find_leg, following, is_ask
 use Rattle.mesh_rules.specs.Messages.{arrival}
 use Rattle.mesh_rules.specs.PathErrs.{PathFailure, call_refused, err_passed, path_err_with, refused_here, removed}
 use Rattle.mesh_rules.specs.Resvs.{answered, call_connected, connected_here, is_expected, label_back, labels_left, passed_back, resv_with}
-use Rattle.mesh_rules.specs.Sites.{Place}
+use Rattle.mesh_rules.specs.LocalNodes.{LocalNode}
 use Rattle.mesh_rules.specs.State.{NodeState}
 use Rattle.mesh_rules.specs.Tears.{tear_with, torn}
 use Rattle.mesh_nodes.specs.Kept.{CallFits, LegFits, LegsFit, NodeFits}
 use Rattle.mesh_nodes.specs.Laws.{MessagesFit}
-use Rattle.mesh_nodes.specs.Places.{is_downstream, is_neighbour, is_upstream}
+use Rattle.mesh_nodes.specs.LocalNodes.{is_downstream, is_neighbour, is_upstream}
 use Rattle.mesh_nodes.specs.Sent.{AnswerFits}
 use Rattle.mesh_nodes.proofs.Cases.{both_left, both_right, if_cases}
 use Rattle.mesh_nodes.proofs.Kept.{alone-fibre, beside-fibre, calls-put, closed-fits, connected-fits, legs-changed, legs-less, over-fibre}
@@ -35,11 +35,11 @@ use Rattle.mesh_nodes.proofs.Paths.{nothing-fits, on_path-fits}
 
 -- A leg that is found
 
-pub record Stands (p : Place) (s : NodeState) (g : Leg) : Type 0 where
+pub record Stands (p : LocalNode) (s : NodeState) (g : Leg) : Type 0 where
   pub found : find_leg g.lsp s.legs ≡ Some g
   pub fits : LegFits p s.lsp g
 
-pub leg-stands : (p : Place) (s : NodeState) (l : Lsp) (g : Leg) → NodeFits p s → find_leg l s.legs ≡ Some g → Stands p s g
+pub leg-stands : (p : LocalNode) (s : NodeState) (l : Lsp) (g : Leg) → NodeFits p s → find_leg l s.legs ≡ Some g → Stands p s g
 leg-stands p s l g fits found = record {
   found = subst (λ k. find_leg k s.legs ≡ Some g) (sym (found-lsp l s.legs g found)) found;
   fits = found-all (LegFits p s.lsp) l s.legs g found fits.legs.each;
@@ -49,28 +49,28 @@ if-some : {X : Type 0} (P Q : X → Type 0) (o : Option X) → ((x : X) → P x 
 if-some P Q None f here = tt
 if-some P Q (Some x) f here = f x here
 
-previous-near : (p : Place) (next : ℕ) (g : Leg) → LegFits p next g → IfSome (previous g) (λ h. is_neighbour p h.node ≡ true)
+previous-near : (p : LocalNode) (next : ℕ) (g : Leg) → LegFits p next g → IfSome (previous g) (λ h. is_neighbour p h.node ≡ true)
 previous-near p next g fits =
     if-some (λ h. is_upstream p h ≡ true) (λ h. is_neighbour p h.node ≡ true) (previous g) (λ h. upstream-near p h) fits.upstream
 
-following-near : (p : Place) (next : ℕ) (g : Leg) → LegFits p next g → IfSome (following g) (λ h. is_neighbour p h.node ≡ true)
+following-near : (p : LocalNode) (next : ℕ) (g : Leg) → LegFits p next g → IfSome (following g) (λ h. is_neighbour p h.node ≡ true)
 following-near p next g fits =
     if-some (λ h. is_downstream p h ≡ true) (λ h. is_neighbour p h.node ≡ true) (following g) (λ h. downstream-near p h) fits.downstream
 
 some-of : {X : Type 0} (P : X → Type 0) (o : Option X) (x : X) → o ≡ Some x → IfSome o P → P x
 some-of P o x e here = subst (λ y. IfSome y P) e here
 
-pub previous-is_near : (p : Place) (next : ℕ) (g : Leg) (h : Neighbour) → LegFits p next g → previous g ≡ Some h →
+pub previous-is_near : (p : LocalNode) (next : ℕ) (g : Leg) (h : Neighbour) → LegFits p next g → previous g ≡ Some h →
     is_neighbour p h.node ≡ true
 previous-is_near p next g h fits e = some-of (λ k. is_neighbour p k.node ≡ true) (previous g) h e (previous-near p next g fits)
 
-pub following-is_near : (p : Place) (next : ℕ) (g : Leg) (h : Neighbour) → LegFits p next g → following g ≡ Some h →
+pub following-is_near : (p : LocalNode) (next : ℕ) (g : Leg) (h : Neighbour) → LegFits p next g → following g ≡ Some h →
     is_neighbour p h.node ≡ true
 following-is_near p next g h fits e = some-of (λ k. is_neighbour p k.node ≡ true) (following g) h e (following-near p next g fits)
 
 -- Resv
 
-module _ (p : Place) (s : NodeState) (a : Arrival) (x : ℕ) (g : Leg) (W : Type 0) (fits : NodeFits p s) (stands : Stands p s g)
+module _ (p : LocalNode) (s : NodeState) (a : Arrival) (x : ℕ) (g : Leg) (W : Type 0) (fits : NodeFits p s) (stands : Stands p s g)
     (over : is_over (following g) a.from a.link ≡ true) where
   out : is_some g.out_fibre ≡ true
   out = over-fibre g.next g.out_fibre a.from a.link over
@@ -150,7 +150,7 @@ module _ (p : Place) (s : NodeState) (a : Arrival) (x : ℕ) (g : Leg) (W : Type
   answered-fits None is = connected_here-fits is
   answered-fits (Some h) is = passed_back-fits h (label_back p (labels_left p s g h) x) is
 
-resv-fits : (p : Place) (s : NodeState) (a : Arrival) (x : ℕ) (W : Type 0) (o : Option Leg) → NodeFits p s →
+resv-fits : (p : LocalNode) (s : NodeState) (a : Arrival) (x : ℕ) (W : Type 0) (o : Option Leg) → NodeFits p s →
     find_leg a.lsp s.legs ≡ o → AnswerFits p s W (resv_with p s a x o)
 resv-fits p s a x W None fits found = nothing-fits p s W fits
 resv-fits p s a x W (Some g) fits found =
@@ -163,7 +163,7 @@ resv-fits p s a x W (Some g) fits found =
 
 -- PathErr
 
-module _ (p : Place) (s : NodeState) (g : Leg) (e : PathFailure) (W : Type 0) (fits : NodeFits p s) (stands : Stands p s g) (writable : W → IsWritableMsg e.msg) where
+module _ (p : LocalNode) (s : NodeState) (g : Leg) (e : PathFailure) (W : Type 0) (fits : NodeFits p s) (stands : Stands p s g) (writable : W → IsWritableMsg e.msg) where
   gone-fits : AnswerFits p s W (removes g.lsp [])
   gone-fits = record {
     kept = record {
@@ -220,7 +220,7 @@ module _ (p : Place) (s : NodeState) (g : Leg) (e : PathFailure) (W : Type 0) (f
       if_cases (AnswerFits p s W) (is_asked g.phase) _ _ (λ t. passed-fits (previous g) refl)
       (λ t. if_cases (AnswerFits p s W) (is_closing g.phase) _ _ (λ c. gone-fits) (λ c. nothing-fits p s W fits))
 
-err-fits : (p : Place) (s : NodeState) (u : NodeId) (e : PathFailure) (W : Type 0) (o : Option Leg) → NodeFits p s →
+err-fits : (p : LocalNode) (s : NodeState) (u : NodeId) (e : PathFailure) (W : Type 0) (o : Option Leg) → NodeFits p s →
     find_leg e.lsp s.legs ≡ o → (W → IsWritableMsg e.msg) → AnswerFits p s W (path_err_with s u e o)
 err-fits p s u e W None fits found writable = nothing-fits p s W fits
 err-fits p s u e W (Some g) fits found writable =
@@ -229,7 +229,7 @@ err-fits p s u e W (Some g) fits found writable =
 
 -- PathTear
 
-torn-fits : (p : Place) (s : NodeState) (a : Arrival) (g : Leg) (W : Type 0) (o : Option Neighbour) → NodeFits p s → Stands p s g →
+torn-fits : (p : LocalNode) (s : NodeState) (a : Arrival) (g : Leg) (W : Type 0) (o : Option Neighbour) → NodeFits p s → Stands p s g →
     is_over (previous g) a.from a.link ≡ true → following g ≡ o →
     AnswerFits p s W (torn g (to_node a.from (PathErr g.lsp g.egress p.id true torn_code)) o)
 torn-fits p s a g W None fits stands over is = record {
@@ -251,7 +251,7 @@ torn-fits p s a g W (Some h) fits stands over is = record {
   few = omega arith;
 }
 
-tear-fits : (p : Place) (s : NodeState) (a : Arrival) (W : Type 0) (o : Option Leg) → NodeFits p s → find_leg a.lsp s.legs ≡ o →
+tear-fits : (p : LocalNode) (s : NodeState) (a : Arrival) (W : Type 0) (o : Option Leg) → NodeFits p s → find_leg a.lsp s.legs ≡ o →
     AnswerFits p s W (tear_with p a o)
 tear-fits p s a W None fits found = nothing-fits p s W fits
 tear-fits p s a W (Some g) fits found =

@@ -8,10 +8,10 @@ use Rattle.ason_base.specs.declared.ids.NodeId.{NodeId}
 use Rattle.ason_base.specs.declared.network.LinkSpec.{LinkSpec}
 use Rattle.ason_base.specs.declared.network.NodeSpec.{NodeSpec}
 use Rattle.ason_base.specs.Network.{IsTopology, Network, is_after, is_link, is_link_here, touches}
-use Rattle.mesh_rules.specs.Sites.{Place, site_of}
+use Rattle.mesh_rules.specs.LocalNodes.{LocalNode, local_node}
 use Rattle.mesh_rules.specs.State.{new_node}
 use Rattle.mesh_nodes.specs.Kept.{NodeFits}
-use Rattle.mesh_nodes.specs.Places.{IsOwnLink, PlaceFits}
+use Rattle.mesh_nodes.specs.LocalNodes.{IsOwnLink, LocalNodeFits}
 use Rattle.mesh_nodes.proofs.Cases.{both_left, both_right}
 
 less : (a b : ℕ) → nat_lt a b ≡ true → a < b
@@ -49,10 +49,10 @@ every-link t valid k d below =
     let found : slice_get t.links k ≡ Some (get_or t.links k d) = slice_get-get_or t.links k d below in
     rw found at link
 
-pub new-place : (t : Network) (n : NodeId) → IsTopology t → PlaceFits (site_of t n)
+pub new-place : (t : Network) (n : NodeId) → IsTopology t → LocalNodeFits (local_node t n)
 new-place t n valid = own-links t.nodes n t.links (recursion_from_All (λ l. is_link t.nodes l ≡ true) t.links (every-link t valid))
 
-pub new-fits : (p : Place) → NodeFits p new_node
+pub new-fits : (p : LocalNode) → NodeFits p new_node
 new-fits p = record {
   legs = record { rise = tt; each = tt; few = omega arith };
   calls = record { rise = tt; each = tt };

@@ -12,17 +12,17 @@ use Rattle.mesh_rules.specs.declared.limits.TheConstants.{MOST_LEGS}
 use Rattle.mesh_rules.specs.Changes.{nothing}
 use Rattle.mesh_rules.specs.Legs.{find_leg}
 use Rattle.mesh_rules.specs.Paths.{PathRequest, admitted, at_egress, checks, egress_leg, first_failure, first_path, in_transit, is_for_work, is_none, judged, leads_on, offered_labels, on_path, path_with, set_on, transit_leg}
-use Rattle.mesh_rules.specs.Sites.{Place, is_link_there, leads, own_link}
+use Rattle.mesh_rules.specs.LocalNodes.{LocalNode, is_link_there, leads, own_link}
 use Rattle.mesh_rules.specs.State.{NodeState}
 use Rattle.mesh_nodes.specs.Kept.{LegFits, NodeFits}
-use Rattle.mesh_nodes.specs.Places.{PlaceFits}
+use Rattle.mesh_nodes.specs.LocalNodes.{LocalNodeFits}
 use Rattle.mesh_nodes.specs.Sent.{AnswerFits}
 use Rattle.mesh_nodes.proofs.Cases.{both_left, both_right, if_cases, not-true}
 use Rattle.mesh_nodes.proofs.Kept.{legs-more}
 use Rattle.mesh_nodes.proofs.Links.{end-downstream, end-near, own-is, sender-near, sender-upstream}
 
 -- the node keeps what it kept, and nothing is sent
-pub nothing-fits : (p : Place) (s : NodeState) (W : Type 0) → NodeFits p s → AnswerFits p s W nothing
+pub nothing-fits : (p : LocalNode) (s : NodeState) (W : Type 0) → NodeFits p s → AnswerFits p s W nothing
 nothing-fits p s W fits = record { kept = fits; near = tt; written = λ w. tt; few = omega arith }
 
 pub some_labels : (n : ℕ) → 1 ≤ n → 1 ≤ length (up_to n)
@@ -45,7 +45,7 @@ pub below : (n : ℕ) → nat_le MOST_LEGS n ≡ false → n < MOST_LEGS
 below n e = grind arith
 
 -- A Path of a working LSP over this link, from its other end, whose ingress is elsewhere. W: the Path can be written.
-module _ (p : Place) (s : NodeState) (m : PathRequest) (link : LinkSpec) (W : Type 0) (place : PlaceFits p) (fits : NodeFits p s)
+module _ (p : LocalNode) (s : NodeState) (m : PathRequest) (link : LinkSpec) (W : Type 0) (place : LocalNodeFits p) (fits : NodeFits p s)
     (own : own_link p m.arrival.link ≡ Some link) (led : leads (Some link) m.arrival.from p.id ≡ true)
     (far : nat_eq m.arrival.lsp.ingress.0 p.id.0 ≡ false) (work : is_for_work m.role ≡ true) where
   refused-fits : (code : ErrCode) → AnswerFits p s W (judged p s m link (Some code))
@@ -151,8 +151,8 @@ module _ (p : Place) (s : NodeState) (m : PathRequest) (link : LinkSpec) (W : Ty
       go false true false e f g =
           rw (e, f, g) (admitted-fits (offered_labels p s m link) m.route f (below (length s.legs) e) g short)
 
-first-fits : (p : Place) (s : NodeState) (m : PathRequest) (W : Type 0) (o : Option LinkSpec) → own_link p m.arrival.link ≡ o →
-    (W → (length m.route ≤ 64) × IsWritableRole m.role) → PlaceFits p → NodeFits p s → AnswerFits p s W (first_path p s m o)
+first-fits : (p : LocalNode) (s : NodeState) (m : PathRequest) (W : Type 0) (o : Option LinkSpec) → own_link p m.arrival.link ≡ o →
+    (W → (length m.route ≤ 64) × IsWritableRole m.role) → LocalNodeFits p → NodeFits p s → AnswerFits p s W (first_path p s m o)
 first-fits p s m W None own short place fits = nothing-fits p s W fits
 first-fits p s m W (Some link) own short place fits =
     if_cases (AnswerFits p s W) (is_for_work m.role && (leads (Some link) m.arrival.from p.id && not (nat_eq m.arrival.lsp.ingress.0 p.id.0))) _ _
@@ -164,11 +164,11 @@ first-fits p s m W (Some link) own short place fits =
     judged-fits p s m link W place fits own led far work short)
     (λ e. nothing-fits p s W fits)
 
-path-fits : (p : Place) (s : NodeState) (m : PathRequest) (W : Type 0) (o : Option Leg) →
-    (W → (length m.route ≤ 64) × IsWritableRole m.role) → PlaceFits p → NodeFits p s → AnswerFits p s W (path_with p s m o)
+path-fits : (p : LocalNode) (s : NodeState) (m : PathRequest) (W : Type 0) (o : Option Leg) →
+    (W → (length m.route ≤ 64) × IsWritableRole m.role) → LocalNodeFits p → NodeFits p s → AnswerFits p s W (path_with p s m o)
 path-fits p s m W None short place fits = first-fits p s m W (own_link p m.arrival.link) refl short place fits
 path-fits p s m W (Some g) short place fits = nothing-fits p s W fits
 
-pub on_path-fits : (p : Place) (s : NodeState) (m : PathRequest) (W : Type 0) →
-    (W → (length m.route ≤ 64) × IsWritableRole m.role) → PlaceFits p → NodeFits p s → AnswerFits p s W (on_path p s m)
+pub on_path-fits : (p : LocalNode) (s : NodeState) (m : PathRequest) (W : Type 0) →
+    (W → (length m.route ≤ 64) × IsWritableRole m.role) → LocalNodeFits p → NodeFits p s → AnswerFits p s W (on_path p s m)
 on_path-fits p s m W short place fits = path-fits p s m W (find_leg m.arrival.lsp s.legs) short place fits

@@ -7,13 +7,13 @@ use Rattle.mesh_rules.specs.declared.limits.TheConstants.{MOST_LEGS}
 use Rattle.mesh_rules.specs.Legs.{following, is_beyond_asked, is_work, previous}
 use Rattle.mesh_rules.specs.Paths.{is_for_work}
 use Rattle.mesh_rules.specs.Setups.{is_followable}
-use Rattle.mesh_rules.specs.Sites.{Place}
+use Rattle.mesh_rules.specs.LocalNodes.{LocalNode}
 use Rattle.mesh_rules.specs.State.{NodeState}
 use Rattle.mesh_nodes.specs.Order.{CallsRise, LegsRise}
-use Rattle.mesh_nodes.specs.Places.{is_downstream, is_upstream}
+use Rattle.mesh_nodes.specs.LocalNodes.{is_downstream, is_upstream}
 
 -- a leg at p, whose next LSP number is this one
-pub record LegFits (p : Place) (next : ℕ) (g : Leg) : Type 0 where
+pub record LegFits (p : LocalNode) (next : ℕ) (g : Leg) : Type 0 where
   -- a previous node and a fibre in exactly where another node is the ingress
   pub prev : is_some g.prev ≡ not (g.lsp.ingress.0 == p.id.0)
   pub in_fibre : is_some g.in_fibre ≡ is_some g.prev
@@ -32,22 +32,22 @@ pub record LegFits (p : Place) (next : ℕ) (g : Leg) : Type 0 where
   pub number : g.lsp.ingress.0 ≡ p.id.0 → g.lsp.lsp < next
 
 -- in order of LSP, each of them at p, and no more than a node keeps
-pub record LegsFit (p : Place) (next : ℕ) (legs : List Leg) : Type 0 where
+pub record LegsFit (p : LocalNode) (next : ℕ) (legs : List Leg) : Type 0 where
   pub rise : LegsRise legs
   pub each : AllByRecursion (LegFits p next) legs
   pub few : length legs ≤ MOST_LEGS
 
 -- the backup route that was given can be followed from p
-abbrev pub CallFits : Place → CallRec → Type 0
+abbrev pub CallFits : LocalNode → CallRec → Type 0
 CallFits p c = IsTrue (is_followable p c.backup)
 
 -- in order of number, each of them at p
-pub record CallsFit (p : Place) (calls : List CallRec) : Type 0 where
+pub record CallsFit (p : LocalNode) (calls : List CallRec) : Type 0 where
   pub rise : CallsRise calls
   pub each : AllByRecursion (CallFits p) calls
 
 -- the legs and calls fit, and the next tunnel number is at least 1 and at most the next LSP number
-pub record NodeFits (p : Place) (s : NodeState) : Type 0 where
+pub record NodeFits (p : LocalNode) (s : NodeState) : Type 0 where
   pub legs : LegsFit p s.lsp s.legs
   pub calls : CallsFit p s.calls
   pub first : 1 ≤ s.tunnel

@@ -8,24 +8,24 @@ use Rattle.ason_base.specs.Writable.{IsWritableMsg}
 use Rattle.mesh_rules.specs.Changes.{nothing}
 use Rattle.mesh_rules.specs.Messages.{on_message}
 use Rattle.mesh_rules.specs.Orders.{on_item}
-use Rattle.mesh_rules.specs.Sites.{Place, site_of}
+use Rattle.mesh_rules.specs.LocalNodes.{LocalNode, local_node}
 use Rattle.mesh_rules.specs.State.{NodeState, new_node}
 use Rattle.mesh_nodes.specs.Kept.{NodeFits}
-use Rattle.mesh_nodes.specs.Places.{PlaceFits}
+use Rattle.mesh_nodes.specs.LocalNodes.{LocalNodeFits}
 use Rattle.mesh_nodes.specs.Sent.{AnswerFits}
 
 -- a node of a topology, with no leg and no call
 abbrev pub NewNodesFit : Type 0
-NewNodesFit = (t : Network) (n : NodeId) → IsTopology t → PlaceFits (site_of t n) × NodeFits (site_of t n) new_node
+NewNodesFit = (t : Network) (n : NodeId) → IsTopology t → LocalNodeFits (local_node t n) × NodeFits (local_node t n) new_node
 
 -- a message of whatever sender
 abbrev pub MessagesFit : Type 0
-MessagesFit = (p : Place) (s : NodeState) (u : NodeId) (m : Msg) → PlaceFits p → NodeFits p s → AnswerFits p s (IsWritableMsg m) (on_message p s u m)
+MessagesFit = (p : LocalNode) (s : NodeState) (u : NodeId) (m : Msg) → LocalNodeFits p → NodeFits p s → AnswerFits p s (IsWritableMsg m) (on_message p s u m)
 
 -- an item of a desk, whatever it orders
 abbrev pub ItemsFit : Type 0
-ItemsFit = (p : Place) (s : NodeState) (i : DeskItem) → PlaceFits p → NodeFits p s → AnswerFits p s (Unit {0}) (on_item p s i)
+ItemsFit = (p : LocalNode) (s : NodeState) (i : DeskItem) → LocalNodeFits p → NodeFits p s → AnswerFits p s (Unit {0}) (on_item p s i)
 
 -- a tick, or a row that a neighbour tells: nothing is answered
 abbrev pub NothingFits : Type 0
-NothingFits = (p : Place) (s : NodeState) → NodeFits p s → AnswerFits p s (Unit {0}) nothing
+NothingFits = (p : LocalNode) (s : NodeState) → NodeFits p s → AnswerFits p s (Unit {0}) nothing

@@ -1,5 +1,5 @@
 pub mod Kept
 pub mod Laws
+pub mod LocalNodes
 pub mod Order
-pub mod Places
 pub mod Sent

@@ -6,7 +6,7 @@ use Rattle.ason_base.specs.declared.ids.NodeId.{NodeId}
 use Rattle.ason_base.specs.declared.ids.LinkId.{LinkId}
 use Rattle.ason_base.specs.declared.network.LinkSpec.{LinkSpec}
 use Rattle.ason_base.specs.Network.{Network, touches}
-use Rattle.mesh_rules.specs.Sites.{is_link_there}
+use Rattle.mesh_rules.specs.LocalNodes.{is_link_there}
 use Rattle.mesh_rules.specs.Events.{knows}
 
 found_link : (p q : LinkSpec → Bool) (links : List LinkSpec) → list_any (λ l. q l && p l) links ≡ is_link_there (find p (filter q links))

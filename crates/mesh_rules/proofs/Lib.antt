@@ -1,2 +1,2 @@
+pub mod Conjunctions
 pub mod KnownLinks
-pub mod SiteLemmas

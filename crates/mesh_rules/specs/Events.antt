@@ -18,7 +18,7 @@ use Rattle.mesh_rules.specs.declared.events.MeshEvent.{MeshEvent}
 use Rattle.mesh_rules.specs.declared.events.MeshEvent.TheVariants.{Take, Desk, Tick, Learn, Post}
 use Rattle.mesh_rules.specs.Changes.{Answer, nothing}
 use Rattle.mesh_rules.specs.State.{NodeState}
-use Rattle.mesh_rules.specs.Sites.{Place, site_of, own_link, is_link_there}
+use Rattle.mesh_rules.specs.LocalNodes.{LocalNode, local_node, own_link, is_link_there}
 use Rattle.mesh_rules.specs.Messages.{on_message}
 use Rattle.mesh_rules.specs.Orders.{on_item, on_tick}
 use Rattle.mesh_rules.specs.Commands.{is_valid, is_again}
@@ -32,7 +32,7 @@ has_first (x ∷ xs) = true
 
 -- a node knows its own links
 abbrev pub knows : Network → NodeId → LinkId → Bool
-knows t n k = is_link_there (own_link (site_of t n) k)
+knows t n k = is_link_there (own_link (local_node t n) k)
 
 abbrev pub is_enabled : Network → Mesh → MeshEvent → Bool
 is_enabled t s (Take d u) = has_first (s.mail u.0 d.0)
@@ -44,12 +44,12 @@ is_enabled t s (Post c) = is_valid t c && not (is_again s.posted c)
 -- What each event does
 
 -- the rule of the first message of a list
-abbrev pub on_first : Place → NodeState → NodeId → List Msg → Answer
+abbrev pub on_first : LocalNode → NodeState → NodeId → List Msg → Answer
 on_first p s u [] = nothing
 on_first p s u (m ∷ ms) = on_message p s u m
 
 -- the rule of the first item of a desk
-abbrev pub on_first_item : Place → NodeState → List DeskItem → Answer
+abbrev pub on_first_item : LocalNode → NodeState → List DeskItem → Answer
 on_first_item p s [] = nothing
 on_first_item p s (i ∷ items) = on_item p s i
 
@@ -65,9 +65,9 @@ posted s (Repair g) = s
 
 -- the one successor
 abbrev pub step : Network → Mesh → MeshEvent → Mesh
-step t s (Take d u) = commit (without_first s u.0 d.0) d.0 (on_first (site_of t d) (s.nodes d.0) u (s.mail u.0 d.0))
-step t s (Desk n) = commit (without_item s n.0) n.0 (on_first_item (site_of t n) (s.nodes n.0) (s.desks n.0))
-step t s (Tick n) = commit s n.0 (on_tick (site_of t n) (s.nodes n.0))
+step t s (Take d u) = commit (without_first s u.0 d.0) d.0 (on_first (local_node t d) (s.nodes d.0) u (s.mail u.0 d.0))
+step t s (Desk n) = commit (without_item s n.0) n.0 (on_first_item (local_node t n) (s.nodes n.0) (s.desks n.0))
+step t s (Tick n) = commit s n.0 (on_tick (local_node t n) (s.nodes n.0))
 step t s (Learn n k) = s
 step t s (Post c) = posted s c
 
@@ -102,9 +102,9 @@ first_route l (o ∷ os) = or_route (whole_route l o.msg) (first_route l os)
 
 -- what the LSP's ingress sends in a step
 abbrev pub sent_at_ingress : Network → Mesh → MeshEvent → Lsp → List Out
-sent_at_ingress t s (Take d u) l = if d.0 == l.ingress.0 then (on_first (site_of t d) (s.nodes d.0) u (s.mail u.0 d.0)).sent else []
-sent_at_ingress t s (Desk n) l = if n.0 == l.ingress.0 then (on_first_item (site_of t n) (s.nodes n.0) (s.desks n.0)).sent else []
-sent_at_ingress t s (Tick n) l = if n.0 == l.ingress.0 then (on_tick (site_of t n) (s.nodes n.0)).sent else []
+sent_at_ingress t s (Take d u) l = if d.0 == l.ingress.0 then (on_first (local_node t d) (s.nodes d.0) u (s.mail u.0 d.0)).sent else []
+sent_at_ingress t s (Desk n) l = if n.0 == l.ingress.0 then (on_first_item (local_node t n) (s.nodes n.0) (s.desks n.0)).sent else []
+sent_at_ingress t s (Tick n) l = if n.0 == l.ingress.0 then (on_tick (local_node t n) (s.nodes n.0)).sent else []
 sent_at_ingress t s (Learn n k) l = []
 sent_at_ingress t s (Post c) l = []
 

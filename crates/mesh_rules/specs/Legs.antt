@@ -15,7 +15,7 @@ use Rattle.ason_base.specs.Lsps.{same_lsp, lsp_before, same_fibre}
 use Rattle.mesh_rules.specs.declared.changes.LegChange.{LegChange}
 use Rattle.mesh_rules.specs.declared.changes.LegChange.TheVariants.{Goes, Put}
 use Rattle.mesh_rules.specs.declared.neighbours.Neighbour.{Neighbour}
-use Rattle.mesh_rules.specs.Sites.{Place, own_link, labels_of}
+use Rattle.mesh_rules.specs.LocalNodes.{LocalNode, own_link, labels_of}
 
 -- The list
 
@@ -136,5 +136,5 @@ abbrev pub is_free : List Leg → Fibre → ℕ → Bool
 is_free legs f x = not (list_any (takes f x) legs)
 
 -- the labels of a fibre that a working leg may take: those that are free
-abbrev pub usable : Place → List Leg → Fibre → List ℕ
+abbrev pub usable : LocalNode → List Leg → Fibre → List ℕ
 usable p legs f = filter (is_free legs f) (up_to (labels_of (own_link p f.link)))

@@ -3,6 +3,7 @@ pub mod Changes
 pub mod Commands
 pub mod Events
 pub mod Legs
+pub mod LocalNodes
 pub mod Machine
 pub mod Messages
 pub mod Orders
@@ -12,6 +13,5 @@ pub mod Releases
 pub mod Resvs
 pub mod Rows
 pub mod Setups
-pub mod Sites
 pub mod State
 pub mod Tears

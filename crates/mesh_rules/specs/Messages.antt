@@ -8,7 +8,7 @@ use Rattle.ason_base.specs.declared.messages.Msg.TheVariants.{Path, Resv, PathTe
 use Rattle.mesh_rules.specs.declared.arrivals.Arrival.{Arrival}
 use Rattle.mesh_rules.specs.State.{NodeState}
 use Rattle.mesh_rules.specs.Changes.{Answer, nothing}
-use Rattle.mesh_rules.specs.Sites.{Place}
+use Rattle.mesh_rules.specs.LocalNodes.{LocalNode}
 use Rattle.mesh_rules.specs.Paths.{on_path}
 use Rattle.mesh_rules.specs.Resvs.{on_resv}
 use Rattle.mesh_rules.specs.PathErrs.{on_path_err}
@@ -17,7 +17,7 @@ use Rattle.mesh_rules.specs.Tears.{on_tear}
 abbrev pub arrival : Lsp → NodeId → NodeId → LinkId → Arrival
 arrival l e u k = record { lsp = l; egress = e; from = u; link = k }
 
-abbrev pub on_message : Place → NodeState → NodeId → Msg → Answer
+abbrev pub on_message : LocalNode → NodeState → NodeId → Msg → Answer
 on_message p s u (Path l e k route set up r) =
     on_path p s (record { arrival = arrival l e u k; route = route; set = set; role = r })
 on_message p s u (Resv l e k x) = on_resv p s (arrival l e u k) x

@@ -6,11 +6,11 @@ use Rattle.ason_base.specs.declared.commands.DeskItem.{DeskItem}
 use Rattle.ason_base.specs.declared.commands.DeskItem.TheVariants.{Order, Alarm, Clear}
 use Rattle.mesh_rules.specs.State.{NodeState}
 use Rattle.mesh_rules.specs.Changes.{Answer, nothing}
-use Rattle.mesh_rules.specs.Sites.{Place}
+use Rattle.mesh_rules.specs.LocalNodes.{LocalNode}
 use Rattle.mesh_rules.specs.Setups.{on_setup}
 use Rattle.mesh_rules.specs.Releases.{on_release}
 
-abbrev pub on_order : Place → NodeState → Command → Answer
+abbrev pub on_order : LocalNode → NodeState → Command → Answer
 on_order p s (Setup n from to protected both via backup) =
     on_setup p s
     (record { call = n; from = from; egress = to; protected = protected; both = both; via = via; backup = backup })
@@ -21,10 +21,10 @@ on_order p s (Revert n from) = nothing
 on_order p s (Fail g) = nothing
 on_order p s (Repair g) = nothing
 
-abbrev pub on_item : Place → NodeState → DeskItem → Answer
+abbrev pub on_item : LocalNode → NodeState → DeskItem → Answer
 on_item p s (Order c) = on_order p s c
 on_item p s (Alarm f) = nothing
 on_item p s (Clear f) = nothing
 
-abbrev pub on_tick : Place → NodeState → Answer
+abbrev pub on_tick : LocalNode → NodeState → Answer
 on_tick p s = nothing

@@ -18,7 +18,7 @@ use Rattle.mesh_rules.specs.declared.arrivals.Arrival.{Arrival}
 use Rattle.mesh_rules.specs.State.{NodeState}
 use Rattle.mesh_rules.specs.Changes.{Answer, nothing, sends, puts, to_node}
 use Rattle.ason_base.specs.Network.{other_end}
-use Rattle.mesh_rules.specs.Sites.{Place, own_link, is_link_there, leads, fibre_in, fibre_out}
+use Rattle.mesh_rules.specs.LocalNodes.{LocalNode, own_link, is_link_there, leads, fibre_in, fibre_out}
 use Rattle.mesh_rules.specs.Legs.{find_leg, usable}
 
 -- what a Path asks for: of which LSP and from where it came, over which steps from here, with which labels, and for what
@@ -31,13 +31,13 @@ pub record PathRequest : Type 0 where
 -- Refusals
 
 -- the route ends just at the egress; its first step names this node and a link of it other than the one that it came by
-abbrev pub leads_on : Place → Arrival → List Step → Bool
+abbrev pub leads_on : LocalNode → Arrival → List Step → Bool
 leads_on p a [] = p.id.0 == a.egress.0
 leads_on p a (hop ∷ route) =
     not (p.id.0 == a.egress.0) && (hop.node.0 == p.id.0 && (not (hop.link.0 == a.link.0) && is_link_there (own_link p hop.link)))
 
 -- the labels of the set that are usable on the fibre that the Path came by
-abbrev pub offered_labels : Place → NodeState → PathRequest → LinkSpec → List ℕ
+abbrev pub offered_labels : LocalNode → NodeState → PathRequest → LinkSpec → List ℕ
 offered_labels p s m link = meet m.set (usable p s.legs (fibre_in link p.id))
 
 abbrev pub is_none : Option ℕ → Bool
@@ -55,7 +55,7 @@ first_failure [] = None
 first_failure (c ∷ checks) = if c.fails then Some c.code else first_failure checks
 
 -- in this order: the node keeps all the legs that it can; the route doesn't lead on from here; no label that was offered is usable
-abbrev pub checks : Place → NodeState → PathRequest → LinkSpec → List Check
+abbrev pub checks : LocalNode → NodeState → PathRequest → LinkSpec → List Check
 checks p s m link =
     record { fails = nat_le MOST_LEGS (length s.legs); code = full_code }
     ∷ record { fails = not (leads_on p m.arrival m.route); code = route_code }
@@ -63,13 +63,13 @@ checks p s m link =
     ∷ []
 
 -- a PathErr of this node with Path_State_Removed (RFC 3473, section 4.4)
-abbrev pub error_to : NodeId → Place → Arrival → ErrCode → Out
+abbrev pub error_to : NodeId → LocalNode → Arrival → ErrCode → Out
 error_to n p a code = to_node n (PathErr a.lsp a.egress p.id true code)
 
 -- Legs
 
 -- the leg that a Path makes, as far as it is the same at each node
-abbrev pub asked_leg : Place → PathRequest → LinkSpec → List ℕ → Leg
+abbrev pub asked_leg : LocalNode → PathRequest → LinkSpec → List ℕ → Leg
 asked_leg p m link offered = record {
   lsp = m.arrival.lsp;
   egress = m.arrival.egress;
@@ -90,14 +90,14 @@ asked_leg p m link offered = record {
   back_out = None;
 }
 
-abbrev pub egress_leg : Place → PathRequest → LinkSpec → List ℕ → ℕ → Leg
+abbrev pub egress_leg : LocalNode → PathRequest → LinkSpec → List ℕ → ℕ → Leg
 egress_leg p m link offered x = record (asked_leg p m link offered) { phase = Live; in_label = Some x }
 
 -- a node that converts lets every label of the link through, another one those that it was offered
-abbrev pub set_on : Place → LinkSpec → List ℕ → List ℕ
+abbrev pub set_on : LocalNode → LinkSpec → List ℕ → List ℕ
 set_on p out offered = if p.convert then up_to out.labels else offered
 
-abbrev pub transit_leg : Place → PathRequest → LinkSpec → LinkSpec → List Step → List ℕ → Leg
+abbrev pub transit_leg : LocalNode → PathRequest → LinkSpec → LinkSpec → List Step → List ℕ → Leg
 transit_leg p m link out route offered = record (asked_leg p m link offered) {
   next = Some (other_end out p.id);
   out_fibre = Some (fibre_out out p.id);
@@ -108,24 +108,24 @@ transit_leg p m link out route offered = record (asked_leg p m link offered) {
 -- What is answered
 
 -- at the egress the least offered label is taken
-abbrev pub at_egress : Place → PathRequest → LinkSpec → List ℕ → Option ℕ → Answer
+abbrev pub at_egress : LocalNode → PathRequest → LinkSpec → List ℕ → Option ℕ → Answer
 at_egress p m link offered None = nothing
 at_egress p m link offered (Some x) =
     puts (egress_leg p m link offered x) (to_node m.arrival.from (Resv m.arrival.lsp m.arrival.egress link.id x) ∷ [])
 
 -- the Path goes on over the first step's link, without that step
-abbrev pub in_transit : Place → PathRequest → LinkSpec → List Step → List ℕ → Option LinkSpec → Answer
+abbrev pub in_transit : LocalNode → PathRequest → LinkSpec → List Step → List ℕ → Option LinkSpec → Answer
 in_transit p m link route offered None = nothing
 in_transit p m link route offered (Some out) =
     puts (transit_leg p m link out route offered)
     (to_node (other_end out p.id) (Path m.arrival.lsp m.arrival.egress out.id route (set_on p out offered) None m.role) ∷ [])
 
-abbrev pub admitted : Place → PathRequest → LinkSpec → List ℕ → List Step → Answer
+abbrev pub admitted : LocalNode → PathRequest → LinkSpec → List ℕ → List Step → Answer
 admitted p m link offered [] = at_egress p m link offered (least offered)
 admitted p m link offered (hop ∷ route) = in_transit p m link route offered (own_link p hop.link)
 
 -- it is refused, no leg is made and the sender is told why; or it is admitted
-abbrev pub judged : Place → NodeState → PathRequest → LinkSpec → Option ErrCode → Answer
+abbrev pub judged : LocalNode → NodeState → PathRequest → LinkSpec → Option ErrCode → Answer
 judged p s m link (Some code) = sends (error_to m.arrival.from p m.arrival code ∷ [])
 judged p s m link None = admitted p m link (offered_labels p s m link) m.route
 
@@ -135,7 +135,7 @@ is_for_work (Work guard) = true
 is_for_work (Back active work primary) = false
 
 -- the link leads from the sender to this node, and the ingress is another node
-abbrev pub first_path : Place → NodeState → PathRequest → Option LinkSpec → Answer
+abbrev pub first_path : LocalNode → NodeState → PathRequest → Option LinkSpec → Answer
 first_path p s m None = nothing
 first_path p s m (Some link) =
     if is_for_work m.role && (leads (Some link) m.arrival.from p.id && not (m.arrival.lsp.ingress.0 == p.id.0))
@@ -143,9 +143,9 @@ first_path p s m (Some link) =
     else nothing
 
 -- a Path of an LSP that has a leg here changes nothing
-abbrev pub path_with : Place → NodeState → PathRequest → Option Leg → Answer
+abbrev pub path_with : LocalNode → NodeState → PathRequest → Option Leg → Answer
 path_with p s m None = first_path p s m (own_link p m.arrival.link)
 path_with p s m (Some g) = nothing
 
-abbrev pub on_path : Place → NodeState → PathRequest → Answer
+abbrev pub on_path : LocalNode → NodeState → PathRequest → Answer
 on_path p s m = path_with p s m (find_leg m.arrival.lsp s.legs)

@@ -11,7 +11,7 @@ use Rattle.mesh_rules.specs.declared.neighbours.Neighbour.{Neighbour}
 use Rattle.mesh_rules.specs.State.{NodeState}
 use Rattle.mesh_rules.specs.Changes.{Answer, nothing, puts, changes_calls, followed_by, to_node}
 use Rattle.mesh_rules.specs.Calls.{find_call}
-use Rattle.mesh_rules.specs.Sites.{Place}
+use Rattle.mesh_rules.specs.LocalNodes.{LocalNode}
 use Rattle.mesh_rules.specs.Legs.{leg_of, closed, following}
 
 abbrev pub tear_to : Leg → Option Neighbour → List Out
@@ -28,9 +28,9 @@ abbrev pub releases : NodeState → CallRec → Answer
 releases s c =
     followed_by (tears (leg_of c.work s.legs)) (followed_by (tears (leg_of c.back s.legs)) (changes_calls (call.Goes c.call ∷ [])))
 
-abbrev pub release_with : Place → NodeState → NodeId → Option CallRec → Answer
+abbrev pub release_with : LocalNode → NodeState → NodeId → Option CallRec → Answer
 release_with p s from None = nothing
 release_with p s from (Some c) = if from.0 == p.id.0 then releases s c else nothing
 
-abbrev pub on_release : Place → NodeState → CallNo → NodeId → Answer
+abbrev pub on_release : LocalNode → NodeState → CallNo → NodeId → Answer
 on_release p s n from = release_with p s from (find_call n s.calls)

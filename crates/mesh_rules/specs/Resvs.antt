@@ -10,7 +10,7 @@ use Rattle.mesh_rules.specs.declared.changes.CallChange.TheVariants as call
 use Rattle.mesh_rules.specs.declared.neighbours.Neighbour.{Neighbour}
 use Rattle.mesh_rules.specs.State.{NodeState}
 use Rattle.mesh_rules.specs.Changes.{Answer, nothing, puts, changes_calls, followed_by, to_node}
-use Rattle.mesh_rules.specs.Sites.{Place}
+use Rattle.mesh_rules.specs.LocalNodes.{LocalNode}
 use Rattle.mesh_rules.specs.Legs.{find_leg, is_asked, is_work, closed, connected, previous, following, is_over, usable}
 use Rattle.mesh_rules.specs.Calls.{call_of, is_asking, bare}
 
@@ -29,11 +29,11 @@ only x true = Some x
 only x false = None
 
 -- the label that goes back: the least that was offered and is usable now, at a node that doesn't convert the one that came
-abbrev pub label_back : Place → List ℕ → ℕ → Option ℕ
+abbrev pub label_back : LocalNode → List ℕ → ℕ → Option ℕ
 label_back p labels x = if p.convert then least labels else only x (has labels x)
 
 -- no label is left: the LSP is torn towards the egress, and the ingress is told
-abbrev pub torn_both_ways : Place → Arrival → Leg → Neighbour → Answer
+abbrev pub torn_both_ways : LocalNode → Arrival → Leg → Neighbour → Answer
 torn_both_ways p a g h =
     puts (closed g)
     (to_node a.from (PathTear g.lsp g.egress a.link) ∷ to_node h.node (PathErr g.lsp g.egress p.id true label_code) ∷ [])
@@ -42,7 +42,7 @@ torn_both_ways p a g h =
 abbrev pub label_passed : Leg → Neighbour → ℕ → ℕ → Answer
 label_passed g h x y = puts (connected g (Some y) x) (to_node h.node (Resv g.lsp g.egress h.fibre.link y) ∷ [])
 
-abbrev pub passed_back : Place → Arrival → Leg → Neighbour → ℕ → Option ℕ → Answer
+abbrev pub passed_back : LocalNode → Arrival → Leg → Neighbour → ℕ → Option ℕ → Answer
 passed_back p a g h x None = torn_both_ways p a g h
 passed_back p a g h x (Some y) = label_passed g h x y
 
@@ -51,16 +51,16 @@ abbrev pub connected_here : NodeState → ℕ → Leg → Answer
 connected_here s x g = followed_by (puts (connected g None x) []) (call_connected (call_of g.lsp s.calls))
 
 -- the labels that may go back: those that were offered and are usable now
-abbrev pub labels_left : Place → NodeState → Leg → Neighbour → List ℕ
+abbrev pub labels_left : LocalNode → NodeState → Leg → Neighbour → List ℕ
 labels_left p s g h = meet g.offered (usable p s.legs h.fibre)
 
-abbrev pub answered : Place → NodeState → Arrival → ℕ → Leg → Option Neighbour → Answer
+abbrev pub answered : LocalNode → NodeState → Arrival → ℕ → Leg → Option Neighbour → Answer
 answered p s a x g None = connected_here s x g
 answered p s a x g (Some h) = passed_back p a g h x (label_back p (labels_left p s g h) x)
 
-abbrev pub resv_with : Place → NodeState → Arrival → ℕ → Option Leg → Answer
+abbrev pub resv_with : LocalNode → NodeState → Arrival → ℕ → Option Leg → Answer
 resv_with p s a x None = nothing
 resv_with p s a x (Some g) = if is_expected a x g then answered p s a x g (previous g) else nothing
 
-abbrev pub on_resv : Place → NodeState → Arrival → ℕ → Answer
+abbrev pub on_resv : LocalNode → NodeState → Arrival → ℕ → Answer
 on_resv p s a x = resv_with p s a x (find_leg a.lsp s.legs)

@@ -23,7 +23,7 @@ use Rattle.mesh_rules.specs.State.{NodeState}
 use Rattle.mesh_rules.specs.Changes.{Answer, nothing, changes_calls, to_node}
 use Rattle.mesh_rules.specs.Calls.{find_call}
 use Rattle.ason_base.specs.Network.{other_end}
-use Rattle.mesh_rules.specs.Sites.{Place, own_link, is_link_there, fibre_out}
+use Rattle.mesh_rules.specs.LocalNodes.{LocalNode, own_link, is_link_there, fibre_out}
 
 -- what a setup asks for
 pub record SetupRequest : Type 0 where
@@ -54,7 +54,7 @@ call_record w state work cause = record {
 abbrev pub refused_setup : SetupRequest → Cause → Answer
 refused_setup w cause = changes_calls (call.Put (call_record w Blocked None cause) ∷ [])
 
-abbrev pub first_leg : Place → Lsp → NodeId → LinkSpec → List Step → Leg
+abbrev pub first_leg : LocalNode → Lsp → NodeId → LinkSpec → List Step → Leg
 first_leg p l e out route = record {
   lsp = l;
   egress = e;
@@ -75,11 +75,11 @@ first_leg p l e out route = record {
   back_out = None;
 }
 
-abbrev pub next_lsp : Place → NodeState → Lsp
+abbrev pub next_lsp : LocalNode → NodeState → Lsp
 next_lsp p s = record { ingress = p.id; tunnel = s.tunnel; lsp = s.lsp }
 
 -- a new LSP is asked for: a leg, a Path with every label of the first link, and a call that waits
-abbrev pub begins : Place → NodeState → SetupRequest → LinkSpec → List Step → Answer
+abbrev pub begins : LocalNode → NodeState → SetupRequest → LinkSpec → List Step → Answer
 begins p s w out route = record nothing {
   legs = leg.Put (first_leg p (next_lsp p s) w.egress out route) ∷ [];
   calls = call.Put (call_record w Asking (Some (next_lsp p s)) Unset) ∷ [];
@@ -94,39 +94,39 @@ is_spent s = nat_lt LAST_NUMBER s.lsp || nat_lt LAST_NUMBER s.tunnel
 abbrev pub is_full : NodeState → Bool
 is_full s = nat_le MOST_LEGS (length s.legs)
 
-abbrev pub admitted_setup : Place → NodeState → SetupRequest → LinkSpec → List Step → Answer
+abbrev pub admitted_setup : LocalNode → NodeState → SetupRequest → LinkSpec → List Step → Answer
 admitted_setup p s w out route =
     if is_spent s then refused_setup w Spent else (if is_full s then refused_setup w Full else begins p s w out route)
 
 -- a given route has 1 to 63 links, and its first step names this node and a link of it
-abbrev pub first_link : Place → List Step → Option LinkSpec
+abbrev pub first_link : LocalNode → List Step → Option LinkSpec
 first_link p [] = None
 first_link p (hop ∷ route) =
     if hop.node.0 == p.id.0 && nat_lt (length route) MOST_LINKS_OF_ROUTE then own_link p hop.link else None
 
 -- a route that is given may be followed from here
-abbrev pub is_followable : Place → Option (List Step) → Bool
+abbrev pub is_followable : LocalNode → Option (List Step) → Bool
 is_followable p None = true
 is_followable p (Some route) = is_link_there (first_link p route)
 
-abbrev pub over_first : Place → NodeState → SetupRequest → List Step → Option LinkSpec → Answer
+abbrev pub over_first : LocalNode → NodeState → SetupRequest → List Step → Option LinkSpec → Answer
 over_first p s w route None = nothing
 over_first p s w route (Some out) = admitted_setup p s w out (drop 1 route)
 
 -- without a given route nothing is set up
-abbrev pub new_call : Place → NodeState → SetupRequest → Option (List Step) → Answer
+abbrev pub new_call : LocalNode → NodeState → SetupRequest → Option (List Step) → Answer
 new_call p s w None = nothing
 new_call p s w (Some route) = over_first p s w route (first_link p route)
 
 -- it comes from this ingress to another node, is neither protected nor two-way, and its backup route can be followed from here
-abbrev pub is_order_here : Place → SetupRequest → Bool
+abbrev pub is_order_here : LocalNode → SetupRequest → Bool
 is_order_here p w =
     w.from.0 == p.id.0 && (not (w.egress.0 == p.id.0) && (not w.protected && (not w.both && is_followable p w.backup)))
 
 -- a setup whose call number is known changes nothing, nor does one that isn't an order for this node
-abbrev pub setup_with : Place → NodeState → SetupRequest → Option CallRec → Answer
+abbrev pub setup_with : LocalNode → NodeState → SetupRequest → Option CallRec → Answer
 setup_with p s w (Some c) = nothing
 setup_with p s w None = if is_order_here p w then new_call p s w w.via else nothing
 
-abbrev pub on_setup : Place → NodeState → SetupRequest → Answer
+abbrev pub on_setup : LocalNode → NodeState → SetupRequest → Answer
 on_setup p s w = setup_with p s w (find_call w.call s.calls)

@@ -8,7 +8,7 @@ use Rattle.mesh_rules.specs.declared.arrivals.Arrival.{Arrival}
 use Rattle.mesh_rules.specs.declared.neighbours.Neighbour.{Neighbour}
 use Rattle.mesh_rules.specs.State.{NodeState}
 use Rattle.mesh_rules.specs.Changes.{Answer, nothing, puts, removes, to_node}
-use Rattle.mesh_rules.specs.Sites.{Place}
+use Rattle.mesh_rules.specs.LocalNodes.{LocalNode}
 use Rattle.mesh_rules.specs.Legs.{find_leg, is_closing, closed, previous, following, is_over}
 
 -- the previous node has its answer; the next node is told, and the leg waits for it; at the egress the leg goes at once
@@ -16,12 +16,12 @@ abbrev pub torn : Leg → Out → Option Neighbour → Answer
 torn g answer None = removes g.lsp (answer ∷ [])
 torn g answer (Some h) = puts (closed g) (answer ∷ to_node h.node (PathTear g.lsp g.egress h.fibre.link) ∷ [])
 
-abbrev pub tear_with : Place → Arrival → Option Leg → Answer
+abbrev pub tear_with : LocalNode → Arrival → Option Leg → Answer
 tear_with p a None = nothing
 tear_with p a (Some g) =
     if not (is_closing g.phase) && is_over (previous g) a.from a.link
     then torn g (to_node a.from (PathErr g.lsp g.egress p.id true torn_code)) (following g)
     else nothing
 
-abbrev pub on_tear : Place → NodeState → Arrival → Answer
+abbrev pub on_tear : LocalNode → NodeState → Arrival → Answer
 on_tear p s a = tear_with p a (find_leg a.lsp s.legs)

@@ -4,20 +4,20 @@ use Rattle.ason_base.specs.Writable.{IsWritableMsg}
 use Rattle.node_core.specs.declared.inputs.Input.{Input}
 use Rattle.node_core.specs.declared.inputs.Input.TheVariants.{Message, Desk, Tick, Learn}
 use Rattle.mesh_rules.specs.Changes.{Answer, nothing, changed}
-use Rattle.mesh_rules.specs.Sites.{Place}
+use Rattle.mesh_rules.specs.LocalNodes.{LocalNode}
 use Rattle.mesh_rules.specs.Messages.{on_message}
 use Rattle.mesh_rules.specs.State.{NodeState}
 use Rattle.mesh_rules.specs.Orders.{on_item, on_tick}
 use Rattle.mesh_nodes.specs.Kept.{NodeFits}
-use Rattle.mesh_nodes.specs.Places.{PlaceFits}
+use Rattle.mesh_nodes.specs.LocalNodes.{LocalNodeFits}
 
 pub record NodeView : Type 0 where
-  pub place : Place
+  pub place : LocalNode
   pub state : NodeState
 
 -- it knows its own links, and what it keeps fits them
 pub record IsNode (n : NodeView) : Type 0 where
-  pub place : PlaceFits n.place
+  pub place : LocalNodeFits n.place
   pub state : NodeFits n.place n.state
 
 -- the rule of an input; a node learns nothing of other links

@@ -3,7 +3,7 @@
 ghost use Rattle.std.specs.Prelude.{◌≡◌, IfOk, Some};
 ghost use Rattle.std.specs.Option.{option_copied};
 ghost use Rattle.ason_base.specs.Labels.{up_to};
-ghost use Rattle.mesh_rules.specs.Sites.{labels_of, own_link};
+ghost use Rattle.mesh_rules.specs.LocalNodes.{labels_of, own_link};
 ghost use Rattle.mesh_rules.specs.Legs.{closed, closing_phase, connected, find_leg, following, is_asked, is_beyond_asked, is_closing, is_node, is_on, is_over, is_work, label_on, neighbour_over, previous, usable};
 
 use crate::sites::Site;

@@ -6,11 +6,11 @@ ghost use Rattle.mesh_rules.specs.Calls.{call_of, find_call};
 ghost use Rattle.mesh_rules.specs.Changes.{changed};
 ghost use Rattle.mesh_rules.specs.Legs.{find_leg, leg_of};
 ghost use Rattle.mesh_rules.specs.Rows.{call_row, call_rows, leg_row, leg_rows, link_of, standing};
-ghost use Rattle.mesh_rules.specs.Sites.{site_of};
+ghost use Rattle.mesh_rules.specs.LocalNodes.{local_node};
 ghost use Rattle.mesh_rules.specs.State.{new_node};
 ghost use Rattle.mesh_nodes.specs.Kept.{NodeFits};
 ghost use Rattle.mesh_nodes.specs.Order.{CallRowsRise, LegRowsRise};
-ghost use Rattle.mesh_nodes.specs.Places.{PlaceFits};
+ghost use Rattle.mesh_nodes.specs.LocalNodes.{LocalNodeFits};
 ghost use Rattle.mesh_nodes.specs.Sent.{AllToNeighbours, AllWritable};
 ghost use Rattle.node_core.specs.Nodes.{IsAnswerOf, IsWritableInput, answer_to, stepped};
 
@@ -49,7 +49,7 @@ impl Model for Node {
 impl Node {
     /// Node `id` of this topology, with no leg and no call. A number that no node has gives a node without links.
     pub fn new(alloc: Global, t: &Topology, id: NodeId) -> Result<Node, OutOfMemory>
-        ensures { IfOk result (λ n. n ≡ record { place = site_of t.now id; state = new_node }) }
+        ensures { IfOk result (λ n. n ≡ record { place = local_node t.now id; state = new_node }) }
     {
         let site = Site::new(alloc, t, id)?;
         Ok(Node {
@@ -76,7 +76,7 @@ impl Node {
 
     /// Law: the node knows its own links, and what it keeps fits them.
     pub fn fits(&self)
-        ensures place { PlaceFits self.now.place }
+        ensures place { LocalNodeFits self.now.place }
         ensures state { NodeFits self.now.place self.now.state }
     {
         let _site = &self.site;

@@ -2,7 +2,7 @@
 
 ghost use Rattle.std.specs.Prelude.{◌≡◌, ◌≤◌, ◌∷◌, [], IfOk, None, drop};
 ghost use Rattle.ason_base.specs.Labels.{least};
-ghost use Rattle.mesh_rules.specs.Sites.{own_link};
+ghost use Rattle.mesh_rules.specs.LocalNodes.{own_link};
 ghost use Rattle.mesh_rules.specs.Legs.{following};
 ghost use Rattle.mesh_rules.specs.Changes.{sends, to_node};
 ghost use Rattle.mesh_rules.specs.Paths.{admitted, asked_leg, at_egress, checks, error_to, first_failure, first_path, in_transit, is_for_work, judged, leads_on, offered_labels, on_path, set_on};

@@ -3,8 +3,8 @@
 ghost use Rattle.std.specs.Prelude.{◌≡◌, ◌≤◌, ◌==◌, ◌||◌, IfOk, IfSome, filter};
 ghost use Rattle.std.specs.Option.{option_copied};
 ghost use Rattle.ason_base.specs.Network.{find_node, touches};
-ghost use Rattle.mesh_rules.specs.Sites.{converts, own_link, site_of};
-ghost use Rattle.mesh_nodes.specs.Places.{PlaceFits};
+ghost use Rattle.mesh_rules.specs.LocalNodes.{converts, own_link, local_node};
+ghost use Rattle.mesh_nodes.specs.LocalNodes.{LocalNodeFits};
 
 use ason_base::routes::touches;
 use ason_base::{LinkId, LinkSpec, NodeId, NodeSpec, OutOfMemory, Topology};
@@ -20,14 +20,14 @@ pub struct Site {
 }
 
 impl Model for Site {
-    ghost use Rattle.mesh_rules.specs.Sites.{Place};
-    ghost use Rattle.mesh_nodes.specs.Places.{PlaceFits};
+    ghost use Rattle.mesh_rules.specs.LocalNodes.{LocalNode};
+    ghost use Rattle.mesh_nodes.specs.LocalNodes.{LocalNodeFits};
 
-    ghost Value = { Place };
+    ghost Value = { LocalNode };
 
     ghost view = { λ s. record { id = s.id; convert = s.convert; own = s.own.items } };
 
-    ghost invariant = { λ s. PlaceFits (record { id = s.id; convert = s.convert; own = s.own.items }) };
+    ghost invariant = { λ s. LocalNodeFits (record { id = s.id; convert = s.convert; own = s.own.items }) };
 }
 
 fn converts(node: Option<&NodeSpec>) -> bool
@@ -68,8 +68,8 @@ fn copy_own(alloc: Global, links: &[LinkSpec], n: NodeId) -> Result<Vec<LinkSpec
 impl Site {
     /// The view of node `id` of this topology.
     pub fn new(alloc: Global, t: &Topology, id: NodeId) -> Result<Site, OutOfMemory>
-        ensures site { IfOk result (λ s. s ≡ site_of t.now id) }
-        ensures fits { IfOk result PlaceFits }
+        ensures site { IfOk result (λ s. s ≡ local_node t.now id) }
+        ensures fits { IfOk result LocalNodeFits }
     {
         let convert = converts(t.node(id));
         let own = copy_own(alloc, t.links(), id)?;

@@ -20,8 +20,8 @@ use Rattle.ason_base.specs.declared.tables.Leg.{Leg}
 use Rattle.ason_base.specs.declared.tables.Out.{Out}
 use Rattle.ason_base.specs.Routes.{makes_route}
 use Rattle.mesh_rules.specs.Changes.{Answer, nothing, changed}
-use Rattle.mesh_rules.specs.Sites.{Place, site_of, own_link, fibre_out}
-use Rattle.mesh_rules.proofs.SiteLemmas.{and_first}
+use Rattle.mesh_rules.specs.LocalNodes.{LocalNode, local_node, own_link, fibre_out}
+use Rattle.mesh_rules.proofs.Conjunctions.{and_first}
 use Rattle.mesh_rules.specs.State.{NodeState}
 use Rattle.mesh_rules.specs.Setups.{SetupRequest, refused_setup, is_full, is_order_here, admitted_setup, first_leg, next_lsp, begins, is_spent, over_first, new_call, setup_with}
 use Rattle.mesh_rules.specs.Machine.{Mesh, commit}
@@ -114,18 +114,18 @@ stepped_quiet t s n l o a f quiet =
 
 module _ (t : Network) (s : Mesh) (n : NodeId) (w : SetupRequest) (out : LinkSpec) (hop : Step) (further : List Step)
     (route : IsRoute t n (plan (hop ∷ further) w.egress)) (made : makes_route t n w.egress (hop ∷ further) ≡ true)
-    (over : own_link (site_of t n) hop.link ≡ Some out) where
+    (over : own_link (local_node t n) hop.link ≡ Some out) where
   abbrev new : Lsp
-  new = next_lsp (site_of t n) (s.nodes n.0)
+  new = next_lsp (local_node t n) (s.nodes n.0)
 
   abbrev p : Plan
   p = plan (hop ∷ further) w.egress
 
   abbrev answer : Answer
-  answer = begins (site_of t n) (s.nodes n.0) w out further
+  answer = begins (local_node t n) (s.nodes n.0) w out further
 
   abbrev leg : Leg
-  leg = first_leg (site_of t n) new w.egress out further
+  leg = first_leg (local_node t n) new w.egress out further
 
   abbrev path : Msg
   path = Path new w.egress out.id further (up_to out.labels) None (Work false)
@@ -138,9 +138,9 @@ module _ (t : Network) (s : Mesh) (n : NodeId) (w : SetupRequest) (out : LinkSpe
 
   link_is : first.link ≡ out
   link_is =
-      let found : own_link (site_of t hop.node) hop.link ≡ Some first.link =
+      let found : own_link (local_node t hop.node) hop.link ≡ Some first.link =
       own_near t hop.link hop.node (node_at p 1) first in
-      let over' : own_link (site_of t hop.node) hop.link ≡ Some out = rw at_n over in
+      let over' : own_link (local_node t hop.node) hop.link ≡ Some out = rw at_n over in
       cc (found, over')
 
   id_is : out.id ≡ hop.link
@@ -206,17 +206,17 @@ module _ (t : Network) (s : Mesh) (n : NodeId) (w : SetupRequest) (out : LinkSpe
     number = rw (same n.0) (omega arith);
   }
 
-  new_stepped : IsUntouched s (next_lsp (site_of t n) (s.nodes n.0)) →
-      Stepped t s n (next_lsp (site_of t n) (s.nodes n.0)) None answer
+  new_stepped : IsUntouched s (next_lsp (local_node t n) (s.nodes n.0)) →
+      Stepped t s n (next_lsp (local_node t n) (s.nodes n.0)) None answer
   new_stepped blank = record {
-    follows = rw (same n.0, same_lsp-refl (next_lsp (site_of t n) (s.nodes n.0)))
-        (subst (λ h. (e : NodeId) × Planned t (commit s n.0 answer) (next_lsp (site_of t n) (s.nodes n.0))
+    follows = rw (same n.0, same_lsp-refl (next_lsp (local_node t n) (s.nodes n.0)))
+        (subst (λ h. (e : NodeId) × Planned t (commit s n.0 answer) (next_lsp (local_node t n) (s.nodes n.0))
         (plan (h ∷ further) e)) hop_is (w.egress, new_planned blank));
   }
 
-  other_same : (l : Lsp) → same_lsp (next_lsp (site_of t n) (s.nodes n.0)) l ≡ false → SameOf s (commit s n.0 answer) l
+  other_same : (l : Lsp) → same_lsp (next_lsp (local_node t n) (s.nodes n.0)) l ≡ false → SameOf s (commit s n.0 answer) l
   other_same l apart =
-      let of : IsOf (next_lsp (site_of t n) (s.nodes n.0)) answer =
+      let of : IsOf (next_lsp (local_node t n) (s.nodes n.0)) answer =
       record { legs = (refl, tt); sent = (refl, refl, tt) } in
       record {
         legs = λ m. leg-other s n m new l answer of apart;
@@ -230,23 +230,23 @@ module _ (t : Network) (s : Mesh) (n : NodeId) (w : SetupRequest) (out : LinkSpe
       more false e = omega arith
 
   pub begins_stepped : (l : Lsp) (o : Option (List Step)) → Follows t s l o → (b : Bool) →
-      same_lsp (next_lsp (site_of t n) (s.nodes n.0)) l ≡ b → Stepped t s n l o answer
+      same_lsp (next_lsp (local_node t n) (s.nodes n.0)) l ≡ b → Stepped t s n l o answer
   begins_stepped l o f false e =
       stepped_none t s n l o answer (follows_same t s (commit s n.0 answer) l o (other_same l e) f) (rw e refl)
   begins_stepped l None f true e =
-      let is = same_lsp-eq (next_lsp (site_of t n) (s.nodes n.0)) l e in
+      let is = same_lsp-eq (next_lsp (local_node t n) (s.nodes n.0)) l e in
       subst (λ l. Stepped t s n l None answer) is (new_stepped (rw is f))
   begins_stepped l (Some r) f true e =
-      let is = same_lsp-eq (next_lsp (site_of t n) (s.nodes n.0)) l e in
-      let f' : Follows t s (next_lsp (site_of t n) (s.nodes n.0)) (Some r) = rw is f in
+      let is = same_lsp-eq (next_lsp (local_node t n) (s.nodes n.0)) l e in
+      let f' : Follows t s (next_lsp (local_node t n) (s.nodes n.0)) (Some r) = rw is f in
       let number : (s.nodes n.0).lsp < (s.nodes n.0).lsp = f'.1.number in
       absurd (omega arith)
 
 -- A setup
 
 module _ (t : Network) (s : Mesh) (n : NodeId) (l : Lsp) (o : Option (List Step)) (f : Follows t s l o) where
-  abbrev place : Place
-  place = site_of t n
+  abbrev place : LocalNode
+  place = local_node t n
 
   abbrev state : NodeState
   state = s.nodes n.0
@@ -261,13 +261,13 @@ module _ (t : Network) (s : Mesh) (n : NodeId) (l : Lsp) (o : Option (List Step)
   module _ (w : SetupRequest) where
     admitted_stepped : (out : LinkSpec) (hop : Step) (further : List Step) →
         makes_route t n w.egress (hop ∷ further) ≡ true →
-        own_link (site_of t n) hop.link ≡ Some out → Stepped t s n l o (admitted_setup place state w out further)
+        own_link (local_node t n) hop.link ≡ Some out → Stepped t s n l o (admitted_setup place state w out further)
     admitted_stepped out hop further made over =
         if_cases (Stepped t s n l o) (is_spent state) _ _ (λ h. refused_stepped w Spent) (λ h.
         if_cases (Stepped t s n l o) (is_full state) _ _ (λ h. refused_stepped w Full) (λ h.
         begins_stepped t s n w out hop further (route_made t n w.egress (hop ∷ further) (omega arith) made) made over
         l o f
-        (same_lsp (next_lsp (site_of t n) (s.nodes n.0)) l) refl))
+        (same_lsp (next_lsp (local_node t n) (s.nodes n.0)) l) refl))
 
     via_stepped : (via : Option (List Step)) →
         ((route : List Step) → via ≡ Some route → makes_route t n w.egress route ≡ true) →
@@ -276,19 +276,19 @@ module _ (t : Network) (s : Mesh) (n : NodeId) (l : Lsp) (o : Option (List Step)
     via_stepped (Some []) made = stepped_nothing
     via_stepped (Some (hop ∷ further)) made = go (nat_eq hop.node.0 n.0 && nat_lt (length further) 63)
       where
-        over : (link : Option LinkSpec) → own_link (site_of t n) hop.link ≡ link →
+        over : (link : Option LinkSpec) → own_link (local_node t n) hop.link ≡ link →
             Stepped t s n l o (over_first place state w (hop ∷ further) link)
         over None e = stepped_nothing
         over (Some out) e = admitted_stepped out hop further (made (hop ∷ further) refl) e
 
         go : (b : Bool) →
-            Stepped t s n l o (over_first place state w (hop ∷ further) (cond b (own_link (site_of t n) hop.link) None))
-        go true = over (own_link (site_of t n) hop.link) refl
+            Stepped t s n l o (over_first place state w (hop ∷ further) (cond b (own_link (local_node t n) hop.link) None))
+        go true = over (own_link (local_node t n) hop.link) refl
         go false = stepped_nothing
 
     pub setup_stepped : ((route : List Step) → w.via ≡ Some route → makes_route t w.from w.egress route ≡ true) →
         (known : Option CallRec) →
-        Stepped t s n l o (setup_with (site_of t n) (s.nodes n.0) w known)
+        Stepped t s n l o (setup_with (local_node t n) (s.nodes n.0) w known)
     setup_stepped made (Some c) = stepped_nothing
     setup_stepped made None =
         if_cases (Stepped t s n l o) (is_order_here place w) _ _

@@ -3,9 +3,9 @@ use Rattle.std.proofs.Common.{◌≡◌, ℕ, Bool, true, false, cond, nat_eq, L
 use Rattle.std.specs.Prelude.{Some}
 use Rattle.ason_base.specs.Labels.{has, meet, least}
 use Rattle.ason_base.proofs.MaskMembers.{has-filter}
-use Rattle.mesh_rules.specs.Sites.{Place}
+use Rattle.mesh_rules.specs.LocalNodes.{LocalNode}
 use Rattle.mesh_rules.specs.Resvs.{only, label_back}
-use Rattle.mesh_rules.proofs.SiteLemmas.{and_first}
+use Rattle.mesh_rules.proofs.Conjunctions.{and_first}
 
 pub has_least : (labels : List ℕ) (x : ℕ) → least labels ≡ Some x → has labels x ≡ true
 has_least [] x e = cc
@@ -18,7 +18,7 @@ has_only : (labels : List ℕ) (x y : ℕ) (b : Bool) → has labels x ≡ b →
 has_only labels x y true here e = let q : x ≡ y = cc in rw (← q) here
 has_only labels x y false here e = cc
 
-pub has_label_back : (p : Place) (labels : List ℕ) (x y : ℕ) → label_back p labels x ≡ Some y → has labels y ≡ true
+pub has_label_back : (p : LocalNode) (labels : List ℕ) (x y : ℕ) → label_back p labels x ≡ Some y → has labels y ≡ true
 has_label_back p labels x y e = go p.convert e
   where
     go : (b : Bool) → cond b (least labels) (only x (has labels x)) ≡ Some y → has labels y ≡ true

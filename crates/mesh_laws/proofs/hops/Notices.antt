@@ -19,7 +19,7 @@ use Rattle.mesh_rules.specs.declared.events.MeshEvent.{MeshEvent}
 use Rattle.mesh_rules.specs.declared.events.MeshEvent.TheVariants.{Take, Desk, Tick, Learn, Post}
 use Rattle.mesh_rules.specs.State.{NodeState}
 use Rattle.mesh_rules.specs.Changes.{Answer, nothing}
-use Rattle.mesh_rules.specs.Sites.{Place, site_of}
+use Rattle.mesh_rules.specs.LocalNodes.{LocalNode, local_node}
 use Rattle.mesh_rules.specs.Legs.{following, leg_of}
 use Rattle.mesh_rules.specs.Calls.{find_call}
 use Rattle.mesh_rules.specs.Setups.{SetupRequest, is_spent, is_full, first_link, is_order_here, over_first, new_call, setup_with}
@@ -53,22 +53,22 @@ sent-plain : (l : Lsp) (outs : List Out) → AllSent l outs → SendsNoNotice ou
 sent-plain l [] own = tt
 sent-plain l (o ∷ outs) own = (own.1, sent-plain l outs own.2)
 
-first-plain : (p : Place) (s : NodeState) (u : NodeId) (ms : List Msg) → IsPlain (on_first p s u ms)
+first-plain : (p : LocalNode) (s : NodeState) (u : NodeId) (ms : List Msg) → IsPlain (on_first p s u ms)
 first-plain p s u [] = record { sent = tt }
 first-plain p s u (m ∷ ms) = record { sent = sent-plain (lsp_of m) _ (own-on_message p s u m).sent }
 
-over-plain : (p : Place) (s : NodeState) (w : SetupRequest) (route : List Step) (o : Option LinkSpec) →
+over-plain : (p : LocalNode) (s : NodeState) (w : SetupRequest) (route : List Step) (o : Option LinkSpec) →
     IsPlain (over_first p s w route o)
 over-plain p s w route None = record { sent = tt }
 over-plain p s w route (Some out) =
     if_cases IsPlain (is_spent s) _ _ (λ h. record { sent = tt }) (λ h.
     if_cases IsPlain (is_full s) _ _ (λ f. record { sent = tt }) (λ f. record { sent = (refl, tt) }))
 
-via-plain : (p : Place) (s : NodeState) (w : SetupRequest) (via : Option (List Step)) → IsPlain (new_call p s w via)
+via-plain : (p : LocalNode) (s : NodeState) (w : SetupRequest) (via : Option (List Step)) → IsPlain (new_call p s w via)
 via-plain p s w None = record { sent = tt }
 via-plain p s w (Some route) = over-plain p s w route (first_link p route)
 
-setup-plain : (p : Place) (s : NodeState) (w : SetupRequest) (c : Option CallRec) → IsPlain (setup_with p s w c)
+setup-plain : (p : LocalNode) (s : NodeState) (w : SetupRequest) (c : Option CallRec) → IsPlain (setup_with p s w c)
 setup-plain p s w (Some c) = record { sent = tt }
 setup-plain p s w None =
     if_cases IsPlain (is_order_here p w) _ _ (λ h. via-plain p s w w.via) (λ h. record { sent = tt })
@@ -81,7 +81,7 @@ tears-plain (Some g) = to_next (following g)
     to_next None = tt
     to_next (Some h) = (refl, tt)
 
-release-plain : (p : Place) (s : NodeState) (from : NodeId) (c : Option CallRec) → IsPlain (release_with p s from c)
+release-plain : (p : LocalNode) (s : NodeState) (from : NodeId) (c : Option CallRec) → IsPlain (release_with p s from c)
 release-plain p s from None = record { sent = tt }
 release-plain p s from (Some c) =
     if_cases IsPlain (nat_eq from.0 p.id.0) _ _
@@ -91,7 +91,7 @@ release-plain p s from (Some c) =
     })
     (λ h. record { sent = tt })
 
-order-plain : (p : Place) (s : NodeState) (c : Command) → IsPlain (on_order p s c)
+order-plain : (p : LocalNode) (s : NodeState) (c : Command) → IsPlain (on_order p s c)
 order-plain p s (Setup n from to protected both via backup) =
     setup-plain p s
     (record { call = n; from = from; egress = to; protected = protected; both = both; via = via; backup = backup })
@@ -103,7 +103,7 @@ order-plain p s (Revert n from) = record { sent = tt }
 order-plain p s (Fail g) = record { sent = tt }
 order-plain p s (Repair g) = record { sent = tt }
 
-item-plain : (p : Place) (s : NodeState) (items : List DeskItem) → IsPlain (on_first_item p s items)
+item-plain : (p : LocalNode) (s : NodeState) (items : List DeskItem) → IsPlain (on_first_item p s items)
 item-plain p s [] = record { sent = tt }
 item-plain p s (Order c ∷ items) = order-plain p s c
 item-plain p s (Alarm f ∷ items) = record { sent = tt }
@@ -152,12 +152,12 @@ posted-quiet s (Repair g) h = h
 
 step-quiet : (t : Network) (s : Mesh) (e : MeshEvent) → NoNotices s → NoNotices (step t s e)
 step-quiet t s (Take d u) h = λ a b.
-    committed _ b (on_first (site_of t d) (s.nodes d.0) u (s.mail u.0 d.0)) (nat_eq a d.0)
+    committed _ b (on_first (local_node t d) (s.nodes d.0) u (s.mail u.0 d.0)) (nat_eq a d.0)
     (without (s.mail a b) (nat_eq a u.0 && nat_eq b d.0) (h a b))
-    (first-plain (site_of t d) (s.nodes d.0) u (s.mail u.0 d.0))
+    (first-plain (local_node t d) (s.nodes d.0) u (s.mail u.0 d.0))
 step-quiet t s (Desk n) h = λ a b.
-    committed (s.mail a b) b (on_first_item (site_of t n) (s.nodes n.0) (s.desks n.0)) (nat_eq a n.0) (h a b)
-    (item-plain (site_of t n) (s.nodes n.0) (s.desks n.0))
+    committed (s.mail a b) b (on_first_item (local_node t n) (s.nodes n.0) (s.desks n.0)) (nat_eq a n.0) (h a b)
+    (item-plain (local_node t n) (s.nodes n.0) (s.desks n.0))
 step-quiet t s (Tick n) h = λ a b. committed (s.mail a b) b nothing (nat_eq a n.0) (h a b) (record { sent = tt })
 step-quiet t s (Learn n k) h = h
 step-quiet t s (Post c) h = posted-quiet s c h

@@ -21,7 +21,7 @@ use Rattle.mesh_rules.specs.declared.changes.LegChange.TheVariants.{Goes, Put}
 use Rattle.mesh_rules.specs.declared.neighbours.Neighbour.{Neighbour}
 use Rattle.mesh_rules.specs.State.{NodeState}
 use Rattle.mesh_rules.specs.Changes.{Answer, nothing, puts, removes, followed_by, to_node}
-use Rattle.mesh_rules.specs.Sites.{Place, own_link, leads}
+use Rattle.mesh_rules.specs.LocalNodes.{LocalNode, own_link, leads}
 use Rattle.mesh_rules.specs.Legs.{find_leg, is_asked, is_closing, connected, previous, following, is_node, is_over, usable}
 use Rattle.mesh_rules.specs.Calls.{call_of, is_asking}
 use Rattle.mesh_rules.specs.Paths.{PathRequest, is_for_work, first_failure, checks, offered_labels, at_egress, in_transit, admitted, judged, first_path, path_with}
@@ -109,7 +109,7 @@ own-then n l a b own quiet = record {
 
 -- Path
 
-own-at_egress : (n : ℕ) (p : Place) (m : PathRequest) (link : LinkSpec) (offered : List ℕ) (x : Option ℕ) →
+own-at_egress : (n : ℕ) (p : LocalNode) (m : PathRequest) (link : LinkSpec) (offered : List ℕ) (x : Option ℕ) →
     Own n m.arrival.lsp (at_egress p m link offered x)
 own-at_egress n p m link offered None = own-nothing n m.arrival.lsp
 own-at_egress n p m link offered (Some x) =
@@ -119,7 +119,7 @@ other_ingress : (l k : Lsp) (n : ℕ) → nat_eq l.ingress.0 n ≡ false → nat
 other_ingress l k n e f = grind arith
 
 -- the Path that goes on is of another node's LSP
-own-in_transit : (p : Place) (m : PathRequest) (link : LinkSpec) (route : List Step) (offered : List ℕ)
+own-in_transit : (p : LocalNode) (m : PathRequest) (link : LinkSpec) (route : List Step) (offered : List ℕ)
     (o : Option LinkSpec) →
     nat_eq m.arrival.lsp.ingress.0 p.id.0 ≡ false → Own p.id.0 m.arrival.lsp (in_transit p m link route offered o)
 own-in_transit p m link route offered None away = own-nothing p.id.0 m.arrival.lsp
@@ -130,18 +130,18 @@ own-in_transit p m link route offered (Some out) away = record {
   none_begins = λ k e. rw (other_ingress m.arrival.lsp k p.id.0 away e) refl;
 }
 
-own-admitted : (p : Place) (m : PathRequest) (link : LinkSpec) (offered : List ℕ) (route : List Step) →
+own-admitted : (p : LocalNode) (m : PathRequest) (link : LinkSpec) (offered : List ℕ) (route : List Step) →
     nat_eq m.arrival.lsp.ingress.0 p.id.0 ≡ false → Own p.id.0 m.arrival.lsp (admitted p m link offered route)
 own-admitted p m link offered [] away = own-at_egress p.id.0 p m link offered (least offered)
 own-admitted p m link offered (hop ∷ route) away = own-in_transit p m link route offered (own_link p hop.link) away
 
-own-judged : (p : Place) (s : NodeState) (m : PathRequest) (link : LinkSpec) (o : Option ErrCode) →
+own-judged : (p : LocalNode) (s : NodeState) (m : PathRequest) (link : LinkSpec) (o : Option ErrCode) →
     nat_eq m.arrival.lsp.ingress.0 p.id.0 ≡ false → Own p.id.0 m.arrival.lsp (judged p s m link o)
 own-judged p s m link (Some code) away =
     record { legs = tt; sent = (refl, refl, tt); numbers = refl; none_begins = λ k e. refl }
 own-judged p s m link None away = own-admitted p m link (offered_labels p s m link) m.route away
 
-own-first_path : (p : Place) (s : NodeState) (m : PathRequest) (o : Option LinkSpec) →
+own-first_path : (p : LocalNode) (s : NodeState) (m : PathRequest) (o : Option LinkSpec) →
     Own p.id.0 m.arrival.lsp (first_path p s m o)
 own-first_path p s m None = own-nothing p.id.0 m.arrival.lsp
 own-first_path p s m (Some link) =
@@ -152,14 +152,14 @@ own-first_path p s m (Some link) =
     own-judged p s m link (first_failure (checks p s m link)) (not-true (nat_eq m.arrival.lsp.ingress.0 p.id.0) away))
     (λ h. own-nothing p.id.0 m.arrival.lsp)
 
-own-on_path : (p : Place) (s : NodeState) (m : PathRequest) (o : Option Leg) →
+own-on_path : (p : LocalNode) (s : NodeState) (m : PathRequest) (o : Option Leg) →
     Own p.id.0 m.arrival.lsp (path_with p s m o)
 own-on_path p s m None = own-first_path p s m (own_link p m.arrival.link)
 own-on_path p s m (Some g) = own-nothing p.id.0 m.arrival.lsp
 
 -- Resv
 
-own-passed_back : (n : ℕ) (l : Lsp) (p : Place) (a : Arrival) (g : Leg) (h : Neighbour) (x : ℕ) (o : Option ℕ) →
+own-passed_back : (n : ℕ) (l : Lsp) (p : LocalNode) (a : Arrival) (g : Leg) (h : Neighbour) (x : ℕ) (o : Option ℕ) →
     g.lsp ≡ l →
     Own n l (passed_back p a g h x o)
 own-passed_back n l p a g h x None is =
@@ -167,7 +167,7 @@ own-passed_back n l p a g h x None is =
 own-passed_back n l p a g h x (Some y) is =
     record { legs = (is, tt); sent = (is, refl, tt); numbers = refl; none_begins = λ k e. refl }
 
-own-answered : (n : ℕ) (l : Lsp) (p : Place) (s : NodeState) (a : Arrival) (x : ℕ) (g : Leg) (o : Option Neighbour) →
+own-answered : (n : ℕ) (l : Lsp) (p : LocalNode) (s : NodeState) (a : Arrival) (x : ℕ) (g : Leg) (o : Option Neighbour) →
     g.lsp ≡ l →
     Own n l (answered p s a x g o)
 own-answered n l p s a x g None is =
@@ -182,7 +182,7 @@ own-answered n l p s a x g None is =
 own-answered n l p s a x g (Some h) is =
     own-passed_back n l p a g h x (label_back p (meet g.offered (usable p s.legs h.fibre)) x) is
 
-own-on_resv : (n : ℕ) (l : Lsp) (p : Place) (s : NodeState) (a : Arrival) (x : ℕ) (o : Option Leg) → IsLegOf l o →
+own-on_resv : (n : ℕ) (l : Lsp) (p : LocalNode) (s : NodeState) (a : Arrival) (x : ℕ) (o : Option Leg) → IsLegOf l o →
     Own n l (resv_with p s a x o)
 own-on_resv n l p s a x None is = own-nothing n l
 own-on_resv n l p s a x (Some g) is =
@@ -249,7 +249,7 @@ own-torn n l g to m (Some h) is on = record {
   none_begins = λ k e. rw (on.begins_none k) refl;
 }
 
-own-on_tear : (n : ℕ) (l : Lsp) (p : Place) (a : Arrival) (o : Option Leg) → IsLegOf l o → Own n l (tear_with p a o)
+own-on_tear : (n : ℕ) (l : Lsp) (p : LocalNode) (a : Arrival) (o : Option Leg) → IsLegOf l o → Own n l (tear_with p a o)
 own-on_tear n l p a None is = own-nothing n l
 own-on_tear n l p a (Some g) is =
     if_cases (Own n l) (not (is_closing g.phase) && is_over (previous g) a.from a.link) _ _
@@ -257,7 +257,7 @@ own-on_tear n l p a (Some g) is =
     (record { own = is; plain = refl; begins_none = λ k. refl }))
     (λ h. own-nothing n l)
 
-pub own-on_message : (p : Place) (s : NodeState) (u : NodeId) (m : Msg) → Own p.id.0 (lsp_of m) (on_message p s u m)
+pub own-on_message : (p : LocalNode) (s : NodeState) (u : NodeId) (m : Msg) → Own p.id.0 (lsp_of m) (on_message p s u m)
 own-on_message p s u (Path l e k route set up r) =
     own-on_path p s (record { arrival = arrival l e u k; route = route; set = set; role = r }) (find_leg l s.legs)
 own-on_message p s u (Resv l e k x) =

@@ -16,7 +16,7 @@ use Rattle.ason_base.specs.declared.messages.Msg.TheVariants.{Path, Resv, PathEr
 use Rattle.ason_base.specs.declared.tables.Leg.{Leg}
 use Rattle.mesh_rules.specs.State.{NodeState}
 use Rattle.mesh_rules.specs.Changes.{Answer, sends}
-use Rattle.mesh_rules.specs.Sites.{Place, site_of, fibre_in}
+use Rattle.mesh_rules.specs.LocalNodes.{LocalNode, local_node, fibre_in}
 use Rattle.mesh_rules.specs.Paths.{PathRequest, is_none, first_failure, checks, error_to, egress_leg, set_on, transit_leg}
 use Rattle.mesh_rules.specs.Paths.{offered_labels, at_egress, in_transit, admitted, judged}
 use Rattle.mesh_rules.specs.Messages.{arrival, on_message}
@@ -70,7 +70,7 @@ drop-some (suc j) (x ∷ xs) h r e =
 -- Refusals
 
 -- where a Path isn't refused, a label is left
-some_label : (p : Place) (s : NodeState) (m : PathRequest) (link : LinkSpec) →
+some_label : (p : LocalNode) (s : NodeState) (m : PathRequest) (link : LinkSpec) →
     first_failure (checks p s m link) ≡ None →
     is_none (least (offered_labels p s m link)) ≡ false
 some_label p s m link none = (none_fails (checks p s m link) none).1.1.0
@@ -88,8 +88,8 @@ module _ (t : Network) (s : Mesh) (l : Lsp) (p : Plan) (i : ℕ) (route : IsRout
   abbrev next : NodeId
   next = node_at p (suc (suc i))
 
-  abbrev place : Place
-  place = site_of t d
+  abbrev place : LocalNode
+  place = local_node t d
 
   abbrev state : NodeState
   state = s.nodes d.0

@@ -8,8 +8,8 @@ use Rattle.ason_base.specs.declared.ids.Fibre.{Fibre}
 use Rattle.ason_base.specs.declared.steps.Step.{Step}
 use Rattle.ason_base.specs.declared.network.LinkSpec.{LinkSpec}
 use Rattle.ason_base.specs.Network.{Network, find_link, is_distinct, touches, other_end}
-use Rattle.mesh_rules.specs.Sites.{site_of, own_link, leads, fibre_in, fibre_out}
-use Rattle.mesh_rules.proofs.SiteLemmas.{and_first, and_second}
+use Rattle.mesh_rules.specs.LocalNodes.{local_node, own_link, leads, fibre_in, fibre_out}
+use Rattle.mesh_rules.proofs.Conjunctions.{and_first, and_second}
 use Rattle.ason_base.specs.Routes.{across, one_step, route_end, is_end, nodes_of, makes_route}
 
 pub record Plan : Type 0 where
@@ -82,7 +82,7 @@ find-filter q p (y ∷ ys) x e h = go (q y) (p y) refl refl e (λ later. find-fi
     go false false test passes is later = later is
 
 pub own_near : (t : Network) (k : LinkId) (u d : NodeId) (over : Leads t k u d) →
-    own_link (site_of t u) k ≡ Some over.link
+    own_link (local_node t u) k ≡ Some over.link
 own_near t k u d over = find-filter (λ l. nat_eq l.id.0 k.0) (touches u) t.links over.link over.found over.touches
 
 pub record Joins (link : LinkSpec) (u d : NodeId) : Type 0 where
@@ -110,7 +110,7 @@ pub joined : (t : Network) (k : LinkId) (u d : NodeId) → u.0 ≢ d.0 → (over
 joined t k u d apart over = ends_join over.link u d over.touches over.far apart
 
 pub own_far : (t : Network) (k : LinkId) (u d : NodeId) → u.0 ≢ d.0 → (over : Leads t k u d) →
-    own_link (site_of t d) k ≡ Some over.link
+    own_link (local_node t d) k ≡ Some over.link
 own_far t k u d apart over =
     find-filter (λ l. nat_eq l.id.0 k.0) (touches d) t.links over.link over.found (joined t k u d apart over).touches_far
 

@@ -14,7 +14,7 @@ use Rattle.mesh_rules.specs.declared.neighbours.Neighbour.{Neighbour}
 use Rattle.mesh_rules.specs.declared.changes.CallChange.TheVariants as call
 use Rattle.mesh_rules.specs.State.{NodeState}
 use Rattle.mesh_rules.specs.Changes.{Answer, nothing, changes_calls, followed_by}
-use Rattle.mesh_rules.specs.Sites.{site_of}
+use Rattle.mesh_rules.specs.LocalNodes.{local_node}
 use Rattle.mesh_rules.specs.Legs.{find_leg, closed, following, is_closing, leg_of}
 use Rattle.mesh_rules.specs.Releases.{tear_to, tears, releases, release_with}
 use Rattle.mesh_rules.specs.Machine.{Mesh, commit}
@@ -149,7 +149,7 @@ no_route_sent l (Some g) = go (following g)
 
 pub release_leaves : (t : Network) (s : Mesh) (n from : NodeId) (l : Lsp) (o : Option (List Step)) → Follows t s l o →
     (c : Option CallRec) → ((d : CallRec) → c ≡ Some d → CallStands n.0 (s.nodes n.0) d) →
-    Released t s n l o (release_with (site_of t n) (s.nodes n.0) from c)
+    Released t s n l o (release_with (local_node t n) (s.nodes n.0) from c)
 release_leaves t s n from l o f None stands = record { follows = tears_none t s n l o f; none = refl }
 release_leaves t s n from l o f (Some c) stands =
     let facts = stands c refl in

@@ -16,7 +16,7 @@ use Rattle.ason_base.specs.declared.tables.Leg.{Leg}
 use Rattle.mesh_rules.specs.declared.arrivals.Arrival.{Arrival}
 use Rattle.mesh_rules.specs.State.{NodeState}
 use Rattle.mesh_rules.specs.Changes.{Answer, nothing, puts, followed_by, to_node}
-use Rattle.mesh_rules.specs.Sites.{Place, site_of}
+use Rattle.mesh_rules.specs.LocalNodes.{LocalNode, local_node}
 use Rattle.mesh_rules.specs.Legs.{closed, connected, previous, usable}
 use Rattle.mesh_rules.specs.Calls.{call_of}
 use Rattle.mesh_rules.specs.Resvs.{is_expected, call_connected, label_back, passed_back, answered, resv_with}
@@ -53,8 +53,8 @@ module _ (t : Network) (s : Mesh) (l : Lsp) (p : Plan) (i : ℕ) (route : IsRout
   abbrev came : Arrival
   came = arrival l e far k
 
-  abbrev place : Place
-  place = site_of t n
+  abbrev place : LocalNode
+  place = local_node t n
 
   abbrev state : NodeState
   state = s.nodes n.0
@@ -187,7 +187,7 @@ module _ (t : Network) (s : Mesh) (l : Lsp) (p : Plan) (i : ℕ) (route : IsRout
         rw (torn_not_asked Work g.phase torn') (kept torn')
 
   pub resv_keeps : (o : Option Leg) → leg_at s l (node_at p i) ≡ o →
-      Keeps (resv_with (site_of t (node_at p i)) (s.nodes (node_at p i).0) (arrival l e (node_at p (suc i)) k) x o)
+      Keeps (resv_with (local_node t (node_at p i)) (s.nodes (node_at p i).0) (arrival l e (node_at p (suc i)) k) x o)
   resv_keeps None here = absurd (no_leg (takes_resv Work _ _ _ _ (rw here at hop.shape)))
     where
       no_leg : TakesResv Work NoLeg → ⊥

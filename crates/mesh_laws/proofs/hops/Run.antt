@@ -15,14 +15,14 @@ use Rattle.ason_base.specs.Routes.{makes_route, is_given_route}
 use Rattle.mesh_rules.specs.declared.events.MeshEvent.{MeshEvent}
 use Rattle.mesh_rules.specs.declared.events.MeshEvent.TheVariants.{Take, Desk, Tick, Learn, Post}
 use Rattle.mesh_rules.specs.Changes.{Answer}
-use Rattle.mesh_rules.specs.Sites.{site_of}
+use Rattle.mesh_rules.specs.LocalNodes.{local_node}
 use Rattle.mesh_rules.specs.Calls.{find_call}
 use Rattle.mesh_rules.specs.Orders.{on_order, on_item}
 use Rattle.mesh_rules.specs.Releases.{release_with}
 use Rattle.mesh_rules.specs.Commands.{is_valid}
 use Rattle.mesh_rules.specs.Machine.{Mesh, commit, without_item}
 use Rattle.mesh_rules.specs.Events.{is_enabled, on_first_item, posted, step, IsRun, after, first_route, or_route, sent_at_ingress, route_of}
-use Rattle.mesh_rules.proofs.SiteLemmas.{and_first, and_second}
+use Rattle.mesh_rules.proofs.Conjunctions.{and_first, and_second}
 use Rattle.mesh_laws.proofs.hops.Planned.{Follows, SameOf, follows_same, or_none}
 use Rattle.mesh_laws.proofs.hops.Traced.{traced_take}
 use Rattle.mesh_laws.proofs.hops.Begun.{Stepped, stepped_none, stepped_nothing, setup_stepped}
@@ -48,13 +48,13 @@ given t from to (Some r) e route q = let is : r ≡ route = cc in rw (← is) e
 
 release_stepped : (t : Network) (s : Mesh) (n from : NodeId) (l : Lsp) (k : CallNo) (o : Option (List Step)) →
     Follows t s l o →
-    StepFacts t s → Stepped t s n l o (release_with (site_of t n) (s.nodes n.0) from (find_call k (s.nodes n.0).calls))
+    StepFacts t s → Stepped t s n l o (release_with (local_node t n) (s.nodes n.0) from (find_call k (s.nodes n.0).calls))
 release_stepped t s n from l k o f facts =
     let r = release_leaves t s n from l o f (find_call k (s.nodes n.0).calls) (λ d e. facts.call n.0 k d e) in
     stepped_none t s n l o _ r.follows r.none
 
 order_stepped : (t : Network) (s : Mesh) (n : NodeId) (l : Lsp) (o : Option (List Step)) (c : Command) →
-    Follows t s l o → StepFacts t s → is_valid t c ≡ true → Stepped t s n l o (on_order (site_of t n) (s.nodes n.0) c)
+    Follows t s l o → StepFacts t s → is_valid t c ≡ true → Stepped t s n l o (on_order (local_node t n) (s.nodes n.0) c)
 order_stepped t s n l o (Setup k from to protected both via backup) f facts valid =
     setup_stepped t s n l o f
     (record { call = k; from = from; egress = to; protected = protected; both = both; via = via; backup = backup })
@@ -67,14 +67,14 @@ order_stepped t s n l o (Fail g) f facts valid = stepped_nothing t s n l o f
 order_stepped t s n l o (Repair g) f facts valid = stepped_nothing t s n l o f
 
 item_stepped : (t : Network) (s : Mesh) (n : NodeId) (l : Lsp) (o : Option (List Step)) (i : DeskItem) →
-    Follows t s l o → StepFacts t s → ItemFits t i → Stepped t s n l o (on_item (site_of t n) (s.nodes n.0) i)
+    Follows t s l o → StepFacts t s → ItemFits t i → Stepped t s n l o (on_item (local_node t n) (s.nodes n.0) i)
 item_stepped t s n l o (Order c) f facts fits = order_stepped t s n l o c f facts fits
 item_stepped t s n l o (Alarm g) f facts fits = stepped_nothing t s n l o f
 item_stepped t s n l o (Clear g) f facts fits = stepped_nothing t s n l o f
 
 first_stepped : (t : Network) (s : Mesh) (n : NodeId) (l : Lsp) (o : Option (List Step)) (items : List DeskItem) →
     Follows t s l o → StepFacts t s → s.desks n.0 ≡ items →
-    Stepped t s n l o (on_first_item (site_of t n) (s.nodes n.0) items)
+    Stepped t s n l o (on_first_item (local_node t n) (s.nodes n.0) items)
 first_stepped t s n l o [] f facts is = stepped_nothing t s n l o f
 first_stepped t s n l o (i ∷ items) f facts is = item_stepped t s n l o i f facts (facts.desk n.0 i items is)
 
@@ -100,8 +100,8 @@ pub step_follows : (t : Network) (s : Mesh) (e : MeshEvent) (l : Lsp) (o : Optio
     Follows t (step t s e) l (or_route o (first_route l (sent_at_ingress t s e l)))
 step_follows t s (Take d u) l o enabled facts f = traced_take t s d u (s.mail u.0 d.0) l o refl enabled f
 step_follows t s (Desk n) l o enabled facts f =
-    follows_same t (commit s n.0 (on_first_item (site_of t n) (s.nodes n.0) (s.desks n.0))) (step t s (Desk n)) l _
-    (desk_same t s n (on_first_item (site_of t n) (s.nodes n.0) (s.desks n.0)) l)
+    follows_same t (commit s n.0 (on_first_item (local_node t n) (s.nodes n.0) (s.desks n.0))) (step t s (Desk n)) l _
+    (desk_same t s n (on_first_item (local_node t n) (s.nodes n.0) (s.desks n.0)) l)
     (first_stepped t s n l o (s.desks n.0) f facts refl).follows
 step_follows t s (Tick n) l o enabled facts f = (stepped_nothing t s n l o f).follows
 step_follows t s (Learn n k) l o enabled facts f = rw or_none f

@@ -12,7 +12,7 @@ use Rattle.ason_base.specs.declared.messages.Msg.TheVariants.{PathTear, PathErr}
 use Rattle.ason_base.specs.declared.tables.Leg.{Leg}
 use Rattle.mesh_rules.specs.declared.neighbours.Neighbour.{Neighbour}
 use Rattle.mesh_rules.specs.Changes.{Answer, nothing, to_node}
-use Rattle.mesh_rules.specs.Sites.{site_of}
+use Rattle.mesh_rules.specs.LocalNodes.{local_node}
 use Rattle.mesh_rules.specs.Legs.{is_closing, closed, previous, following, is_over}
 use Rattle.mesh_rules.specs.Tears.{torn, tear_with}
 use Rattle.mesh_rules.specs.Messages.{arrival}
@@ -114,7 +114,7 @@ module _ (t : Network) (q : Purpose) (s : Mesh) (l : Lsp) (p : Plan) (i : ℕ) (
     tears (inr end) = rw (following_none t q l p (suc i) g fits end) (ends end)
 
   pub tear_keeps : (o : Option Leg) → leg_at s l (node_at p (suc i)) ≡ o →
-      Keeps (tear_with (site_of t (node_at p (suc i))) (arrival l e (node_at p i) k) o)
+      Keeps (tear_with (local_node t (node_at p (suc i))) (arrival l e (node_at p i) k) o)
   tear_keeps None here = kept None here tt NothingLeft
   tear_keeps (Some g) here = by_phase (rw here at (chain.fits (suc i) (omega arith))) (is_closing g.phase) refl
     where

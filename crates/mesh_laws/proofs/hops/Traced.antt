@@ -13,7 +13,7 @@ use Rattle.ason_base.specs.declared.messages.Msg.TheVariants.{Path, Resv, PathTe
 use Rattle.mesh_rules.specs.declared.events.MeshEvent.TheVariants.{Take}
 use Rattle.mesh_rules.specs.State.{NodeState}
 use Rattle.mesh_rules.specs.Changes.{Answer}
-use Rattle.mesh_rules.specs.Sites.{Place, site_of}
+use Rattle.mesh_rules.specs.LocalNodes.{LocalNode, local_node}
 use Rattle.mesh_rules.specs.Legs.{find_leg}
 use Rattle.mesh_rules.specs.Messages.{on_message}
 use Rattle.mesh_rules.specs.Machine.{Mesh, commit, without_first}
@@ -41,7 +41,7 @@ module _ (t : Network) (s : Mesh) (rest : List Msg) (p : Plan) (i : ℕ) (below 
   taken_down : (m : Msg) (own : is_message_of (lsp_of m) m ≡ true)
       (was : s.mail (node_at p i).0 (node_at p (suc i)).0 ≡ m ∷ rest)
       (pl : Planned t s (lsp_of m) p) → KeepsDown t Carries s (lsp_of m) p i pl.route pl.chain below m rest was own
-      (on_message (site_of t (node_at p (suc i))) (s.nodes (node_at p (suc i)).0) (node_at p i) m)
+      (on_message (local_node t (node_at p (suc i))) (s.nodes (node_at p (suc i)).0) (node_at p i) m)
   taken_down (Path l e k r set label (Work guard)) own was pl =
       path_keeps t s l p i pl.route pl.chain below e k r set label guard rest was
   taken_down (Path l e k r set label (Back active work primary)) own was pl =
@@ -67,7 +67,7 @@ module _ (t : Network) (s : Mesh) (rest : List Msg) (p : Plan) (i : ℕ) (below 
   taken_up : (m : Msg) (own : is_message_of (lsp_of m) m ≡ true)
       (was : s.mail (node_at p (suc i)).0 (node_at p i).0 ≡ m ∷ rest)
       (pl : Planned t s (lsp_of m) p) → KeepsUp t Carries s (lsp_of m) p i pl.route pl.chain below m rest was own
-      (on_message (site_of t (node_at p i)) (s.nodes (node_at p i).0) (node_at p (suc i)) m)
+      (on_message (local_node t (node_at p i)) (s.nodes (node_at p i).0) (node_at p (suc i)) m)
   taken_up (Path l e k r set label (Work guard)) own was pl =
       absurd (no_path_up role.Work _ _ _ _
       (up_hop t Carries s l p i pl.route pl.chain below (Path l e k r set label (Work guard)) rest was own).shape)
@@ -91,7 +91,7 @@ module _ (t : Network) (s : Mesh) (rest : List Msg) (p : Plan) (i : ℕ) (below 
 
 -- the state after a message is taken
 abbrev pub after_take : Network → Mesh → NodeId → NodeId → Msg → Mesh
-after_take t s d u m = commit (without_first s u.0 d.0) d.0 (on_message (site_of t d) (s.nodes d.0) u m)
+after_take t s d u m = commit (without_first s u.0 d.0) d.0 (on_message (local_node t d) (s.nodes d.0) u m)
 
 take_here : (t : Network) (s : Mesh) (d u : NodeId) (m : Msg) (rest : List Msg) (p : Plan) → s.mail u.0 d.0 ≡ m ∷ rest →
     is_message_of (lsp_of m) m ≡ true → Planned t s (lsp_of m) p →
@@ -111,20 +111,20 @@ take_here t s d u m rest p was own planned (inr (i, below, inr (at_u, at_d))) =
     rw (u_is, d_is) (taken_up t s rest p i below m own (rw (u_is, d_is) at was) planned)
 
 own_take : (t : Network) (s : Mesh) (d u : NodeId) (m : Msg) →
-    Own d.0 (lsp_of m) (on_message (site_of t d) (s.nodes d.0) u m)
-own_take t s d u m = own-on_message (site_of t d) (s.nodes d.0) u m
+    Own d.0 (lsp_of m) (on_message (local_node t d) (s.nodes d.0) u m)
+own_take t s d u m = own-on_message (local_node t d) (s.nodes d.0) u m
 
 take_next : (t : Network) (s : Mesh) (d u : NodeId) (m : Msg) (n : ℕ) →
     ((after_take t s d u m).nodes n).lsp ≡ (s.nodes n).lsp
 take_next t s d u m n =
-    next_same (without_first s u.0 d.0) d.0 n (on_message (site_of t d) (s.nodes d.0) u m) (own_take t s d u m).numbers
+    next_same (without_first s u.0 d.0) d.0 n (on_message (local_node t d) (s.nodes d.0) u m) (own_take t s d u m).numbers
 
 -- a message of another LSP, or a Notify
 take_other : (t : Network) (s : Mesh) (d u : NodeId) (m : Msg) (rest : List Msg) (l : Lsp) → s.mail u.0 d.0 ≡ m ∷ rest →
     same_lsp (lsp_of m) l ≡ false → SameOf s (after_take t s d u m) l
 take_other t s d u m rest l was apart =
     let own = own_take t s d u m in
-    let a : Answer = on_message (site_of t d) (s.nodes d.0) u m in
+    let a : Answer = on_message (local_node t d) (s.nodes d.0) u m in
     let of : IsOf (lsp_of m) a = record { legs = own.legs; sent = own.sent } in
     record {
       legs = λ n. leg-other (without_first s u.0 d.0) d n (lsp_of m) l a of apart;
@@ -138,16 +138,16 @@ take_notice : (t : Network) (s : Mesh) (d u : NodeId) (m : Msg) (rest : List Msg
     s.mail u.0 d.0 ≡ m ∷ rest →
     is_notice m ≡ true → SameOf s (after_take t s d u m) l
 take_notice t s d u m rest l was notice =
-    let a : Answer = on_message (site_of t d) (s.nodes d.0) u m in
+    let a : Answer = on_message (local_node t d) (s.nodes d.0) u m in
     let quiet : SameOf (without_first s u.0 d.0) (after_take t s d u m) l =
-    same_quiet (without_first s u.0 d.0) d a l (notice_quiet (site_of t d) (s.nodes d.0) u m notice) in
+    same_quiet (without_first s u.0 d.0) d a l (notice_quiet (local_node t d) (s.nodes d.0) u m notice) in
     record {
       legs = quiet.legs;
       mail = λ x b. quiet.mail x b ∙ without-other s u d x b m rest l was (rw notice refl);
       next = quiet.next;
     }
   where
-    notice_quiet : (p : Place) (n : NodeState) (u : NodeId) (m : Msg) → is_notice m ≡ true →
+    notice_quiet : (p : LocalNode) (n : NodeState) (u : NodeId) (m : Msg) → is_notice m ≡ true →
         IsQuiet (on_message p n u m)
     notice_quiet p n u (Path l e k route set up r) e' = absurd cc
     notice_quiet p n u (Resv l e k x) e' = absurd cc
@@ -198,13 +198,13 @@ none_sent : (t : Network) (s : Mesh) (d u : NodeId) (m : Msg) (rest : List Msg) 
 none_sent t s d u m rest l was = rw was (go (nat_eq d.0 l.ingress.0) refl)
   where
     go : (b : Bool) → nat_eq d.0 l.ingress.0 ≡ b →
-        first_route l (cond b (on_message (site_of t d) (s.nodes d.0) u m).sent []) ≡ None
+        first_route l (cond b (on_message (local_node t d) (s.nodes d.0) u m).sent []) ≡ None
     go true e = (own_take t s d u m).none_begins l (grind arith)
     go false e = refl
 
 pub traced_take : (t : Network) (s : Mesh) (d u : NodeId) (ms : List Msg) (l : Lsp) (o : Option (List Step)) →
     s.mail u.0 d.0 ≡ ms → has_first ms ≡ true → Follows t s l o →
-    Follows t (commit (without_first s u.0 d.0) d.0 (on_first (site_of t d) (s.nodes d.0) u ms)) l
+    Follows t (commit (without_first s u.0 d.0) d.0 (on_first (local_node t d) (s.nodes d.0) u ms)) l
     (or_route o (first_route l (sent_at_ingress t s (Take d u) l)))
 traced_take t s d u [] l o was some f = absurd cc
 traced_take t s d u (m ∷ rest) l o was some f =

@@ -14,7 +14,7 @@ use Rattle.ason_base.specs.declared.tables.Leg.{Leg}
 use Rattle.ason_base.specs.declared.tables.Out.{Out}
 use Rattle.mesh_rules.specs.declared.arrivals.Arrival.{Arrival}
 use Rattle.mesh_rules.specs.declared.neighbours.Neighbour.{Neighbour}
-use Rattle.mesh_rules.specs.Sites.{Place}
+use Rattle.mesh_rules.specs.LocalNodes.{LocalNode}
 use Rattle.mesh_rules.specs.Legs.{find_leg, is_asked, is_closing, is_work, closed, connected, previous, following, neighbour_over, is_node, is_over, usable}
 use Rattle.mesh_rules.specs.Calls.{call_of, is_asking}
 use Rattle.mesh_rules.specs.State.{NodeState}
@@ -68,7 +68,7 @@ asked-is Falling e = absurd (cc e)
 phase_answered : (f : Phase) → is_asked f ≡ true → is_closing f ≡ false
 phase_answered f e = ap is_closing (asked-is f e)
 
-keeps-passed_back : (p : Place) (s : NodeState) (a : Arrival) (g : Leg) (h : Neighbour) (x : ℕ) (o : Option ℕ) →
+keeps-passed_back : (p : LocalNode) (s : NodeState) (a : Arrival) (g : Leg) (h : Neighbour) (x : ℕ) (o : Option ℕ) →
     NodeFacts p.id.0 s → LegFacts p.id.0 s.lsp g → previous g ≡ Some h → is_some g.next ≡ true → has g.sent x ≡ true →
     label_back p (meet g.offered (usable p s.legs h.fibre)) x ≡ o → Keeps p s (passed_back p a g h x o)
 keeps-passed_back p s a g h x None facts leg is goes_on sent looked =
@@ -77,7 +77,7 @@ keeps-passed_back p s a g h x (Some y) facts leg is goes_on sent looked =
     keeps-leg p.id.0 s (connected g (Some y) x) (has_previous-away p.id.0 s.lsp g h leg is)
     (connected-stands p s.lsp s.legs g h x y leg (beside g.prev g.in_fibre h is).fibre goes_on sent (back-has p (meet g.offered (usable p s.legs h.fibre)) x y looked)) facts
 
-keeps-answered : (p : Place) (s : NodeState) (a : Arrival) (x : ℕ) (g : Leg) (o : Option Neighbour) →
+keeps-answered : (p : LocalNode) (s : NodeState) (a : Arrival) (x : ℕ) (g : Leg) (o : Option Neighbour) →
     NodeFacts p.id.0 s → find_leg g.lsp s.legs ≡ Some g → g.phase ≡ Asked → is_some g.next ≡ true →
     has g.sent x ≡ true → previous g ≡ o →
     Keeps p s (answered p s a x g o)
@@ -97,7 +97,7 @@ keeps-answered p s a x g None facts here asked goes_on sent is = go (call_of g.l
 keeps-answered p s a x g (Some h) facts here asked goes_on sent is =
     keeps-passed_back p s a g h x (label_back p (meet g.offered (usable p s.legs h.fibre)) x) facts (facts.leg g.lsp g here) is goes_on sent refl
 
-pub keeps-on_resv : (p : Place) (s : NodeState) (a : Arrival) (x : ℕ) (o : Option Leg) → NodeFacts p.id.0 s →
+pub keeps-on_resv : (p : LocalNode) (s : NodeState) (a : Arrival) (x : ℕ) (o : Option Leg) → NodeFacts p.id.0 s →
     find_leg a.lsp s.legs ≡ o → Keeps p s (resv_with p s a x o)
 keeps-on_resv p s a x None facts is = facts
 keeps-on_resv p s a x (Some g) facts is =
@@ -114,7 +114,7 @@ keeps-on_resv p s a x (Some g) facts is =
 
 -- PathErr
 
-keeps-err_passed : (p : Place) (s : NodeState) (g : Leg) (e : PathFailure) (o : Option Neighbour) → NodeFacts p.id.0 s →
+keeps-err_passed : (p : LocalNode) (s : NodeState) (g : Leg) (e : PathFailure) (o : Option Neighbour) → NodeFacts p.id.0 s →
     find_leg g.lsp s.legs ≡ Some g → g.phase ≡ Asked → previous g ≡ o → Keeps p s (err_passed s g e o)
 keeps-err_passed p s g e None facts here asked is = go (call_of g.lsp s.calls) refl
   where
@@ -133,7 +133,7 @@ keeps-err_passed p s g e (Some h) facts here asked is =
     (call_part p.id.0 s facts))
     facts
 
-keeps-removed : (p : Place) (s : NodeState) (g : Leg) (e : PathFailure) → NodeFacts p.id.0 s →
+keeps-removed : (p : LocalNode) (s : NodeState) (g : Leg) (e : PathFailure) → NodeFacts p.id.0 s →
     find_leg g.lsp s.legs ≡ Some g →
     Keeps p s (removed s g e)
 keeps-removed p s g e facts here =
@@ -144,7 +144,7 @@ keeps-removed p s g e facts here =
     keeps-gone p.id.0 s g.lsp (unnamed-torn p.id.0 s.lsp s.legs s.calls g.lsp g here f (call_part p.id.0 s facts)) facts)
     (λ f. facts))
 
-pub keeps-on_path_err : (p : Place) (s : NodeState) (u : NodeId) (l : Lsp) (e : PathFailure) (o : Option Leg) →
+pub keeps-on_path_err : (p : LocalNode) (s : NodeState) (u : NodeId) (l : Lsp) (e : PathFailure) (o : Option Leg) →
     NodeFacts p.id.0 s →
     find_leg l s.legs ≡ o → Keeps p s (path_err_with s u e o)
 keeps-on_path_err p s u l e None facts is = facts
@@ -158,7 +158,7 @@ keeps-on_path_err p s u l e (Some g) facts is =
 following-some : (o : Option NodeId) (f : Option Fibre) (h : Neighbour) → neighbour_over o f ≡ Some h → is_some o ≡ true
 following-some o f h e = ap is_some (beside o f h e).node
 
-keeps-torn : (p : Place) (s : NodeState) (g : Leg) (answer : Out) (o : Option Neighbour) → NodeFacts p.id.0 s →
+keeps-torn : (p : LocalNode) (s : NodeState) (g : Leg) (answer : Out) (o : Option Neighbour) → NodeFacts p.id.0 s →
     find_leg g.lsp s.legs ≡ Some g → nat_eq g.lsp.ingress.0 p.id.0 ≡ false → following g ≡ o →
     Keeps p s (torn g answer o)
 keeps-torn p s g answer None facts here away is =
@@ -172,7 +172,7 @@ previous-away : (n next : ℕ) (g : Leg) (u : NodeId) (k : LinkId) → LegFacts 
 previous-away n next g u k facts over =
     not-true (nat_eq g.lsp.ingress.0 n) (sym facts.prev ∙ over-some g.prev g.in_fibre u k over)
 
-pub keeps-on_tear : (p : Place) (s : NodeState) (a : Arrival) (o : Option Leg) → NodeFacts p.id.0 s →
+pub keeps-on_tear : (p : LocalNode) (s : NodeState) (a : Arrival) (o : Option Leg) → NodeFacts p.id.0 s →
     find_leg a.lsp s.legs ≡ o → Keeps p s (tear_with p a o)
 keeps-on_tear p s a None facts is = facts
 keeps-on_tear p s a (Some g) facts is =

@@ -4,14 +4,14 @@ use Rattle.ason_base.specs.declared.ids.NodeId.{NodeId}
 use Rattle.ason_base.specs.declared.messages.Msg.{Msg}
 use Rattle.ason_base.specs.declared.messages.Msg.TheVariants.{Path, Resv, PathTear, PathErr, Notify}
 use Rattle.mesh_rules.specs.Legs.{find_leg}
-use Rattle.mesh_rules.specs.Sites.{Place}
+use Rattle.mesh_rules.specs.LocalNodes.{LocalNode}
 use Rattle.mesh_rules.specs.State.{NodeState}
 use Rattle.mesh_rules.specs.Messages.{arrival, on_message}
 use Rattle.mesh_laws.proofs.nodes.Facts.{NodeFacts}
 use Rattle.mesh_laws.proofs.nodes.PathKeeps.{Keeps, keeps-on_path}
 use Rattle.mesh_laws.proofs.nodes.AnswerKeeps.{keeps-on_resv, keeps-on_path_err, keeps-on_tear}
 
-pub keeps-on_message : (p : Place) (s : NodeState) (u : NodeId) (m : Msg) → NodeFacts p.id.0 s →
+pub keeps-on_message : (p : LocalNode) (s : NodeState) (u : NodeId) (m : Msg) → NodeFacts p.id.0 s →
     Keeps p s (on_message p s u m)
 keeps-on_message p s u (Path l e k route set up r) facts =
     keeps-on_path p s (record { arrival = arrival l e u k; route = route; set = set; role = r }) facts

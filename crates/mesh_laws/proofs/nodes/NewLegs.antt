@@ -13,7 +13,7 @@ use Rattle.ason_base.specs.declared.calls.Phase.TheVariants.{Asked, Held, Armed,
 use Rattle.ason_base.specs.declared.calls.Role.TheVariants.{Work}
 use Rattle.ason_base.specs.declared.tables.Leg.{Leg}
 use Rattle.mesh_rules.specs.declared.neighbours.Neighbour.{Neighbour}
-use Rattle.mesh_rules.specs.Sites.{Place, own_link, labels_of, fibre_in}
+use Rattle.mesh_rules.specs.LocalNodes.{LocalNode, own_link, labels_of, fibre_in}
 use Rattle.mesh_rules.specs.Legs.{is_free, usable, closed, closing_phase, connected, neighbour_over}
 use Rattle.mesh_rules.specs.Setups.{first_leg}
 use Rattle.mesh_rules.specs.State.{NodeState}
@@ -36,14 +36,14 @@ pub has-right : (a b : List ℕ) (x : ℕ) → has (meet a b) x ≡ true → has
 has-right a b x h = both_right (has a x) (has b x) (sym (has-filter (has b) a x) ∙ h)
 
 -- a usable label is free
-pub usable-free : (p : Place) (legs : List Leg) (f : Fibre) (x : ℕ) → has (usable p legs f) x ≡ true →
+pub usable-free : (p : LocalNode) (legs : List Leg) (f : Fibre) (x : ℕ) → has (usable p legs f) x ≡ true →
     is_free legs f x ≡ true
 usable-free p legs f x h =
     let all = up_to (labels_of (own_link p f.link)) in
     both_right (has all x) (is_free legs f x) (sym (has-filter (is_free legs f) all x) ∙ h)
 
 -- the label that goes back is one of those that were looked at
-pub back-has : (p : Place) (labels : List ℕ) (x y : ℕ) → label_back p labels x ≡ Some y → has labels y ≡ true
+pub back-has : (p : LocalNode) (labels : List ℕ) (x y : ℕ) → label_back p labels x ≡ Some y → has labels y ≡ true
 back-has p labels x y e = go p.convert e
   where
     one : (b : Bool) → has labels x ≡ b → only x b ≡ Some y → has labels y ≡ true
@@ -62,7 +62,7 @@ no_label n next legs g none facts =
 
 -- At the ingress
 
-pub first-stands : (p : Place) (l : Lsp) (e : NodeId) (out : LinkSpec) (route : List Step) (next : ℕ) (legs : List Leg) → nat_eq l.ingress.0 p.id.0 ≡ true → nat_eq e.0 p.id.0 ≡ false → l.lsp < next →
+pub first-stands : (p : LocalNode) (l : Lsp) (e : NodeId) (out : LinkSpec) (route : List Step) (next : ℕ) (legs : List Leg) → nat_eq l.ingress.0 p.id.0 ≡ true → nat_eq e.0 p.id.0 ≡ false → l.lsp < next →
     MayStand p.id.0 next legs (first_leg p l e out route)
 first-stands p l e out route next legs here away small =
     no_label p.id.0 next legs (first_leg p l e out route) refl (record {
@@ -88,7 +88,7 @@ away a n P e f = let same : nat_eq a n ≡ true = grind arith in absurd (cc (e, 
 some : {X : Type 0} (x y : X) → Some x ≡ Some y → x ≡ y
 some x y e = cc e
 
-module _ (p : Place) (s : NodeState) (m : PathRequest) (link : LinkSpec) (next : ℕ)
+module _ (p : LocalNode) (s : NodeState) (m : PathRequest) (link : LinkSpec) (next : ℕ)
     (far : nat_eq m.arrival.lsp.ingress.0 p.id.0 ≡ false) where
   pub egress-stands : (x : ℕ) → nat_eq m.arrival.egress.0 p.id.0 ≡ true → has (offered_labels p s m link) x ≡ true →
       MayStand p.id.0 next s.legs (egress_leg p m link (offered_labels p s m link) x)
@@ -210,7 +210,7 @@ connected-facts n next g label x facts fits goes_on offered sent = record {
   back_out = facts.back_out;
 }
 
-pub connected-stands : (p : Place) (next : ℕ) (legs : List Leg) (g : Leg) (h : Neighbour) (x y : ℕ) →
+pub connected-stands : (p : LocalNode) (next : ℕ) (legs : List Leg) (g : Leg) (h : Neighbour) (x y : ℕ) →
     LegFacts p.id.0 next g → g.in_fibre ≡ Some h.fibre → is_some g.next ≡ true → has g.sent x ≡ true →
     has (meet g.offered (usable p legs h.fibre)) y ≡ true → MayStand p.id.0 next legs (connected g (Some y) x)
 connected-stands p next legs g h x y facts fibre goes_on sent looked = record {

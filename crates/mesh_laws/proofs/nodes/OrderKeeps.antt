@@ -20,7 +20,7 @@ use Rattle.ason_base.specs.declared.tables.CallRec.{CallRec}
 use Rattle.ason_base.specs.declared.tables.Leg.{Leg}
 use Rattle.ason_base.specs.Lsps.{same_lsp}
 use Rattle.ason_base.specs.Network.{Network}
-use Rattle.mesh_rules.specs.Sites.{Place}
+use Rattle.mesh_rules.specs.LocalNodes.{LocalNode}
 use Rattle.mesh_rules.specs.Legs.{find_leg, is_closing, closed, closing_phase, with_leg, leg_of}
 use Rattle.mesh_rules.specs.Calls.{find_call, with_call, without_call}
 use Rattle.mesh_rules.specs.Commands.{is_given_backup}
@@ -44,7 +44,7 @@ use Rattle.mesh_laws.proofs.nodes.PathKeeps.{Keeps}
 
 -- Setup
 
-keeps-refused : (p : Place) (s : NodeState) (w : SetupRequest) (cause : Cause) → w.backup ≡ None →
+keeps-refused : (p : LocalNode) (s : NodeState) (w : SetupRequest) (cause : Cause) → w.backup ≡ None →
     find_call w.call s.calls ≡ None → NodeFacts p.id.0 s → Keeps p s (refused_setup w cause)
 keeps-refused p s w cause unbacked unknown facts =
     let c = call_record w Blocked None cause in
@@ -59,7 +59,7 @@ keeps-refused p s w cause unbacked unknown facts =
     (λ d is. let one : c ≡ d = cc is in ap (λ x. x.call) (sym one))
     (call_part p.id.0 s facts))
 
-keeps-begins : (p : Place) (s : NodeState) (w : SetupRequest) (out : LinkSpec) (route : List Step) →
+keeps-begins : (p : LocalNode) (s : NodeState) (w : SetupRequest) (out : LinkSpec) (route : List Step) →
     w.backup ≡ None → nat_eq w.egress.0 p.id.0 ≡ false → find_call w.call s.calls ≡ None → NodeFacts p.id.0 s →
     Keeps p s (begins p s w out route)
 keeps-begins p s w out route unbacked away unknown facts =
@@ -117,7 +117,7 @@ keeps-begins p s w out route unbacked away unknown facts =
           (let is = same_lsp-eq l x same in (c, refl, subst (λ y. names c y ≡ true) is (names-work c l refl)));
     }
 
-keeps-admitted : (p : Place) (s : NodeState) (w : SetupRequest) (out : LinkSpec) (route : List Step) →
+keeps-admitted : (p : LocalNode) (s : NodeState) (w : SetupRequest) (out : LinkSpec) (route : List Step) →
     w.backup ≡ None → nat_eq w.egress.0 p.id.0 ≡ false → find_call w.call s.calls ≡ None → NodeFacts p.id.0 s →
     Keeps p s (admitted_setup p s w out route)
 keeps-admitted p s w out route unbacked away unknown facts =
@@ -125,14 +125,14 @@ keeps-admitted p s w out route unbacked away unknown facts =
     (λ e. if_cases (Keeps p s) (is_full s) _ _ (λ f. keeps-refused p s w Full unbacked unknown facts)
     (λ f. keeps-begins p s w out route unbacked away unknown facts))
 
-keeps-over_first : (p : Place) (s : NodeState) (w : SetupRequest) (route : List Step) (o : Option LinkSpec) →
+keeps-over_first : (p : LocalNode) (s : NodeState) (w : SetupRequest) (route : List Step) (o : Option LinkSpec) →
     w.backup ≡ None → nat_eq w.egress.0 p.id.0 ≡ false → find_call w.call s.calls ≡ None → NodeFacts p.id.0 s →
     Keeps p s (over_first p s w route o)
 keeps-over_first p s w route None unbacked away unknown facts = facts
 keeps-over_first p s w route (Some out) unbacked away unknown facts =
     keeps-admitted p s w out (drop 1 route) unbacked away unknown facts
 
-keeps-new_call : (p : Place) (s : NodeState) (w : SetupRequest) (o : Option (List Step)) → w.backup ≡ None →
+keeps-new_call : (p : LocalNode) (s : NodeState) (w : SetupRequest) (o : Option (List Step)) → w.backup ≡ None →
     nat_eq w.egress.0 p.id.0 ≡ false → find_call w.call s.calls ≡ None → NodeFacts p.id.0 s →
     Keeps p s (new_call p s w o)
 keeps-new_call p s w None unbacked away unknown facts = facts
@@ -146,7 +146,7 @@ unprotected t from to protected via None e off = refl
 unprotected t from to protected via (Some route) e off =
     let on : protected ≡ true = both_left protected _ e in absurd (cc (on, off))
 
-keeps-on_setup : (t : Network) (p : Place) (s : NodeState) (w : SetupRequest) (o : Option CallRec) →
+keeps-on_setup : (t : Network) (p : LocalNode) (s : NodeState) (w : SetupRequest) (o : Option CallRec) →
     is_given_backup t w.from w.egress w.protected w.via w.backup ≡ true → find_call w.call s.calls ≡ o →
     NodeFacts p.id.0 s →
     Keeps p s (setup_with p s w o)
@@ -182,7 +182,7 @@ ingress-goes_on n next g facts here =
 abbrev goes : CallNo → Option Leg → Answer
 goes n o = followed_by (tears o) (followed_by nothing (changes_calls (call.Goes n ∷ [])))
 
-keeps-lone : (p : Place) (s : NodeState) (n : CallNo) (c : CallRec) → find_call n s.calls ≡ Some c → c.work ≡ None →
+keeps-lone : (p : LocalNode) (s : NodeState) (n : CallNo) (c : CallRec) → find_call n s.calls ≡ Some c → c.work ≡ None →
     NodeFacts p.id.0 s → Keeps p s (goes n None)
 keeps-lone p s n c found none facts =
     node_facts p.id.0 (changed s (goes n None)) (leg_part p.id.0 s facts)
@@ -193,7 +193,7 @@ keeps-lone p s n c found none facts =
     (λ d is. absurd (cc is)) (λ d is. absurd (cc is)) (λ d is. absurd (cc is))
     (call_part p.id.0 s facts))
 
-keeps-released : (p : Place) (s : NodeState) (n : CallNo) (c : CallRec) (g : Leg) → find_call n s.calls ≡ Some c →
+keeps-released : (p : LocalNode) (s : NodeState) (n : CallNo) (c : CallRec) (g : Leg) → find_call n s.calls ≡ Some c →
     c.work ≡ Some g.lsp → find_leg g.lsp s.legs ≡ Some g → g.lsp.ingress.0 ≡ p.id.0 → NodeFacts p.id.0 s →
     Keeps p s (goes n (Some g))
 keeps-released p s n c g found work here ingress facts =
@@ -235,7 +235,7 @@ keeps-released p s n c g found work here ingress facts =
           absurd (cc (not_torn, torn)));
     }
 
-keeps-releases : (p : Place) (s : NodeState) (c : CallRec) → find_call c.call s.calls ≡ Some c → NodeFacts p.id.0 s →
+keeps-releases : (p : LocalNode) (s : NodeState) (c : CallRec) → find_call c.call s.calls ≡ Some c → NodeFacts p.id.0 s →
     Keeps p s (releases s c)
 keeps-releases p s c found facts =
     subst (λ o. Keeps p s (followed_by (tears (leg_of c.work s.legs))
@@ -256,7 +256,7 @@ keeps-releases p s c found facts =
         (subst (λ k. find_leg k s.legs ≡ Some g) (sym is) name.leg.1)
         (ap (λ k. k.ingress.0) is ∙ name.ingress) facts)
 
-keeps-on_release : (p : Place) (s : NodeState) (n : CallNo) (from : NodeId) (o : Option CallRec) →
+keeps-on_release : (p : LocalNode) (s : NodeState) (n : CallNo) (from : NodeId) (o : Option CallRec) →
     find_call n s.calls ≡ o →
     NodeFacts p.id.0 s → Keeps p s (release_with p s from o)
 keeps-on_release p s n from None is facts = facts
@@ -267,7 +267,7 @@ keeps-on_release p s n from (Some c) is facts =
 
 -- Items of a desk
 
-keeps-on_order : (t : Network) (p : Place) (s : NodeState) (c : Command) → FitsDesk t p.id.0 (Order c) →
+keeps-on_order : (t : Network) (p : LocalNode) (s : NodeState) (c : Command) → FitsDesk t p.id.0 (Order c) →
     NodeFacts p.id.0 s → Keeps p s (on_order p s c)
 keeps-on_order t p s (Setup n from to protected both via backup) fits facts =
     keeps-on_setup t p s
@@ -280,7 +280,7 @@ keeps-on_order t p s (Revert n from) fits facts = facts
 keeps-on_order t p s (Fail g) fits facts = facts
 keeps-on_order t p s (Repair g) fits facts = facts
 
-pub keeps-on_item : (t : Network) (p : Place) (s : NodeState) (i : DeskItem) → FitsDesk t p.id.0 i →
+pub keeps-on_item : (t : Network) (p : LocalNode) (s : NodeState) (i : DeskItem) → FitsDesk t p.id.0 i →
     NodeFacts p.id.0 s → Keeps p s (on_item p s i)
 keeps-on_item t p s (Order c) fits facts = keeps-on_order t p s c fits facts
 keeps-on_item t p s (Alarm f) fits facts = facts

@@ -7,7 +7,7 @@ use Rattle.ason_base.specs.declared.steps.Step.{Step}
 use Rattle.ason_base.specs.declared.network.LinkSpec.{LinkSpec}
 use Rattle.ason_base.specs.declared.tables.Leg.{Leg}
 use Rattle.mesh_rules.specs.Changes.{Answer, changed}
-use Rattle.mesh_rules.specs.Sites.{Place, own_link, leads}
+use Rattle.mesh_rules.specs.LocalNodes.{LocalNode, own_link, leads}
 use Rattle.mesh_rules.specs.State.{NodeState}
 use Rattle.mesh_rules.specs.Paths.{PathRequest, Check, is_for_work, leads_on, first_failure, checks, offered_labels, egress_leg, transit_leg}
 use Rattle.mesh_rules.specs.Paths.{at_egress, in_transit, admitted, judged, first_path, path_with}
@@ -17,7 +17,7 @@ use Rattle.mesh_laws.proofs.nodes.NewLegs.{least-has, egress-stands, transit-sta
 use Rattle.mesh_laws.proofs.nodes.Parts.{keeps-leg}
 
 -- the answer keeps the facts
-abbrev pub Keeps : Place → NodeState → Answer → Type 0
+abbrev pub Keeps : LocalNode → NodeState → Answer → Type 0
 Keeps p s a = NodeFacts p.id.0 (changed s a)
 
 -- Where no check fails
@@ -40,7 +40,7 @@ not-false : (b : Bool) → not b ≡ false → b ≡ true
 not-false true e = refl
 not-false false e = cc
 
-module _ (p : Place) (s : NodeState) (m : PathRequest) (facts : NodeFacts p.id.0 s) where
+module _ (p : LocalNode) (s : NodeState) (m : PathRequest) (facts : NodeFacts p.id.0 s) where
   module _ (link : LinkSpec) (far : nat_eq m.arrival.lsp.ingress.0 p.id.0 ≡ false) where
     keeps-at_egress : (o : Option ℕ) → nat_eq p.id.0 m.arrival.egress.0 ≡ true → least (offered_labels p s m link) ≡ o →
         Keeps p s (at_egress p m link (offered_labels p s m link) o)

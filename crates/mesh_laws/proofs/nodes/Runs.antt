@@ -10,7 +10,7 @@ use Rattle.ason_base.specs.Network.{Network}
 use Rattle.mesh_rules.specs.declared.events.MeshEvent.{MeshEvent}
 use Rattle.mesh_rules.specs.declared.events.MeshEvent.TheVariants.{Take, Desk, Tick, Learn, Post}
 use Rattle.mesh_rules.specs.Changes.{Answer, changed}
-use Rattle.mesh_rules.specs.Sites.{Place, site_of}
+use Rattle.mesh_rules.specs.LocalNodes.{LocalNode, local_node}
 use Rattle.mesh_rules.specs.State.{NodeState, new_node}
 use Rattle.mesh_rules.specs.Orders.{on_tick}
 use Rattle.mesh_rules.specs.Commands.{is_again, is_valid}
@@ -46,12 +46,12 @@ keeps-commit t s n a here facts = record { node = λ m. each m (nat_eq m n) refl
     each m true e = let is : m ≡ n = grind arith in subst (λ k. NodeFacts k (changed (s.nodes k) a)) (sym is) here
     each m false e = facts.node m
 
-keeps-first : (p : Place) (s : NodeState) (u : NodeId) (ms : List Msg) → NodeFacts p.id.0 s →
+keeps-first : (p : LocalNode) (s : NodeState) (u : NodeId) (ms : List Msg) → NodeFacts p.id.0 s →
     Keeps p s (on_first p s u ms)
 keeps-first p s u [] facts = facts
 keeps-first p s u (m ∷ ms) facts = keeps-on_message p s u m facts
 
-keeps-first_item : (t : Network) (p : Place) (s : NodeState) (items : List DeskItem) → DeskFits t p.id.0 items →
+keeps-first_item : (t : Network) (p : LocalNode) (s : NodeState) (items : List DeskItem) → DeskFits t p.id.0 items →
     NodeFacts p.id.0 s → Keeps p s (on_first_item p s items)
 keeps-first_item t p s [] fits facts = facts
 keeps-first_item t p s (i ∷ items) fits facts = keeps-on_item t p s i fits.0 facts
@@ -100,11 +100,11 @@ keeps-posted t s (Repair g) valid facts = facts
 pub facts-step : (t : Network) (s : Mesh) (e : MeshEvent) → is_enabled t s e ≡ true → MeshFacts t s →
     MeshFacts t (step t s e)
 facts-step t s (Take d u) enabled facts =
-    keeps-commit t (without_first s u.0 d.0) d.0 (on_first (site_of t d) (s.nodes d.0) u (s.mail u.0 d.0)) (keeps-first (site_of t d) (s.nodes d.0) u (s.mail u.0 d.0) (facts.node d.0)) (record { node = facts.node; desk = facts.desk })
+    keeps-commit t (without_first s u.0 d.0) d.0 (on_first (local_node t d) (s.nodes d.0) u (s.mail u.0 d.0)) (keeps-first (local_node t d) (s.nodes d.0) u (s.mail u.0 d.0) (facts.node d.0)) (record { node = facts.node; desk = facts.desk })
 facts-step t s (Desk n) enabled facts =
-    keeps-commit t (without_item s n.0) n.0 (on_first_item (site_of t n) (s.nodes n.0) (s.desks n.0)) (keeps-first_item t (site_of t n) (s.nodes n.0) (s.desks n.0) (facts.desk n.0) (facts.node n.0)) (without_item-facts t s n.0 facts)
+    keeps-commit t (without_item s n.0) n.0 (on_first_item (local_node t n) (s.nodes n.0) (s.desks n.0)) (keeps-first_item t (local_node t n) (s.nodes n.0) (s.desks n.0) (facts.desk n.0) (facts.node n.0)) (without_item-facts t s n.0 facts)
 facts-step t s (Tick n) enabled facts =
-    keeps-commit t s n.0 (on_tick (site_of t n) (s.nodes n.0)) (facts.node n.0) facts
+    keeps-commit t s n.0 (on_tick (local_node t n) (s.nodes n.0)) (facts.node n.0) facts
 facts-step t s (Learn n k) enabled facts = facts
 facts-step t s (Post c) enabled facts =
     keeps-posted t s c (both_left (is_valid t c) (not (is_again s.posted c)) enabled) facts

@@ -1,6 +1,6 @@
 use Rattle.std.proofs.Common.{◌≡◌, ◌++◌, ◌∷◌, [], ◌+◌, sym, ◌∙◌, ap, take}
 use Rattle.ason_base.specs.Labels.{up_to, without}
-use Rattle.mesh_rules.specs.Sites.{labels_of, own_link}
+use Rattle.mesh_rules.specs.LocalNodes.{labels_of, own_link}
 use Rattle.node_core.proofs.FreeLabels.{take_item, free-no_leg, free-one_more, free-one_more_without}
 use Rattle.node_core.proofs.legs.usable.Goals as goal
 use Rattle.node_core.proofs.legs.usable.Goals.{in-Some, in_default}

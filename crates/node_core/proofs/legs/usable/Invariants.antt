@@ -1,7 +1,7 @@
 use Rattle.std.proofs.Common.{◌≡◌, take}
 use Rattle.std.specs.Prelude.{filter}
 use Rattle.ason_base.specs.Labels.{up_to}
-use Rattle.mesh_rules.specs.Sites.{labels_of, own_link}
+use Rattle.mesh_rules.specs.LocalNodes.{labels_of, own_link}
 use Rattle.mesh_rules.specs.Legs.{is_free}
 use Rattle.node_core.proofs.legs.usable.Given as goal
 

@@ -1,5 +1,5 @@
 use Rattle.std.specs.List.{AllByRecursion}
-use Rattle.mesh_nodes.specs.Places.{IsOwnLink}
+use Rattle.mesh_nodes.specs.LocalNodes.{IsOwnLink}
 use Rattle.mesh_nodes.proofs.NewNodes.{new-place}
 use Rattle.node_core.proofs.sites.Site.new.Goals as goal
 

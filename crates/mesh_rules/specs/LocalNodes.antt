@@ -1,6 +1,5 @@
 -- What a node knows of itself.
-use Rattle.std.specs.Prelude.{ℕ, ◌==◌, ◌||◌, ◌&&◌, nat_le, Bool, true, false, List, find, filter, Option, Some, None}
-use Rattle.std.specs.List.{AllPass}
+use Rattle.std.specs.Prelude.{ℕ, ◌==◌, ◌||◌, ◌&&◌, Bool, true, false, List, find, filter, Option, Some, None}
 use Rattle.ason_base.specs.declared.ids.NodeId.{NodeId}
 use Rattle.ason_base.specs.declared.ids.LinkId.{LinkId}
 use Rattle.ason_base.specs.declared.ids.Fibre.{Fibre}
@@ -9,7 +8,7 @@ use Rattle.ason_base.specs.declared.network.LinkSpec.{LinkSpec}
 use Rattle.ason_base.specs.Network.{Network, find_node, touches}
 
 -- a node's number, whether it converts, and its own links, in order of number
-pub record Place : Type 0 where
+pub record LocalNode : Type 0 where
   pub id : NodeId
   pub convert : Bool
   pub own : List LinkSpec
@@ -18,19 +17,15 @@ abbrev pub converts : Option NodeSpec → Bool
 converts None = false
 converts (Some n) = n.convert
 
-abbrev pub site_of : Network → NodeId → Place
-site_of t n = record { id = n; convert = converts (find_node t n); own = filter (touches n) t.links }
+abbrev pub local_node : Network → NodeId → LocalNode
+local_node t n = record { id = n; convert = converts (find_node t n); own = filter (touches n) t.links }
 
-abbrev pub own_link : Place → LinkId → Option LinkSpec
+abbrev pub own_link : LocalNode → LinkId → Option LinkSpec
 own_link p k = find (λ l. l.id.0 == k.0) p.own
 
 abbrev pub is_link_there : Option LinkSpec → Bool
 is_link_there None = false
 is_link_there (Some l) = true
-
--- no link has more labels than a label set holds
-abbrev pub AllNarrow : List LinkSpec → Type 0
-AllNarrow links = AllPass (λ l. nat_le l.labels 80) links
 
 abbrev pub labels_of : Option LinkSpec → ℕ
 labels_of None = 0

@@ -6,7 +6,7 @@ use Rattle.ason_base.specs.declared.network.LinkSpec.{LinkSpec}
 use Rattle.ason_base.specs.Lsps.{same_fibre}
 use Rattle.ason_base.specs.Network.{other_end, touches}
 use Rattle.mesh_rules.specs.declared.neighbours.Neighbour.{Neighbour}
-use Rattle.mesh_rules.specs.Sites.{Place, fibre_in, fibre_out}
+use Rattle.mesh_rules.specs.LocalNodes.{LocalNode, fibre_in, fibre_out}
 
 -- the node is one end of the link, whose low end has the lesser number, and which has 1 to 80 labels
 pub record IsOwnLink (n : NodeId) (l : LinkSpec) : Type 0 where
@@ -16,17 +16,17 @@ pub record IsOwnLink (n : NodeId) (l : LinkSpec) : Type 0 where
   pub narrow : l.labels ≤ 80
 
 -- all links that the node knows as its own are such links
-abbrev pub PlaceFits : Place → Type 0
-PlaceFits p = AllByRecursion (IsOwnLink p.id) p.own
+abbrev pub LocalNodeFits : LocalNode → Type 0
+LocalNodeFits p = AllByRecursion (IsOwnLink p.id) p.own
 
 -- the node n is the other end of a link of p
-abbrev pub is_neighbour : Place → NodeId → Bool
+abbrev pub is_neighbour : LocalNode → NodeId → Bool
 is_neighbour p n = list_any (λ l. (other_end l p.id).0 == n.0) p.own
 
 -- the neighbour is the other end of a link of p, over the fibre of it that comes in at p
-abbrev pub is_upstream : Place → Neighbour → Bool
+abbrev pub is_upstream : LocalNode → Neighbour → Bool
 is_upstream p h = list_any (λ l. (other_end l p.id).0 == h.node.0 && same_fibre (fibre_in l p.id) h.fibre) p.own
 
 -- the neighbour is the other end of a link of p, over the fibre of it that goes out from p
-abbrev pub is_downstream : Place → Neighbour → Bool
+abbrev pub is_downstream : LocalNode → Neighbour → Bool
 is_downstream p h = list_any (λ l. (other_end l p.id).0 == h.node.0 && same_fibre (fibre_out l p.id) h.fibre) p.own
