@@ -18,7 +18,7 @@ use Rattle.rsvp_messages.specs.declared.fields.Subject.{Subject}
 use Rattle.rsvp_messages.specs.declared.path.Head.{Head}
 use Rattle.rsvp_messages.specs.Messages.{HasProtection, HasRole, HasRoute, SpellsMsg, SpellsPath, Ties}
 use Rattle.rsvp_messages.specs.Objects.{Object, of_class}
-use Rattle.rsvp_messages.specs.Packets.{type_of}
+use Rattle.rsvp_messages.specs.Packets.{SpellsTyped, type_of}
 use Rattle.rsvp_messages.specs.Parts.{HasOne}
 use Rattle.rsvp_messages.proofs.Lookups.{means_here, of_list}
 use Rattle.rsvp_messages.proofs.Subjects.{some_is}
@@ -49,9 +49,14 @@ empty_route os none (s ∷ ss) has = absurd (both _ (sym none ∙ has.one))
 
 -- the head
 
-pub head_is : (subject : Subject) (link : LinkId) (upstream : Option ℕ) (l : Lsp) (e : NodeId) (k : LinkId) (u : Option ℕ) → Some subject ≡ Some (record { lsp = l; egress = e }) → Some link ≡ Some k → Some upstream ≡ Some u →
-    (let made : Head = record { subject = subject; link = link; upstream = upstream } in Some made ≡ Some (record { subject = record { lsp = l; egress = e }; link = k; upstream = u }))
-head_is subject link upstream l e k u a b d = let s = some_is _ _ a in let q = some_is _ _ b in let y = some_is _ _ d in λ i. Some (record { subject = s i; link = q i; upstream = y i })
+pub head_is : (subject : Subject) (link : LinkId) (upstream : Option ℕ) (h : Head) → Some subject ≡ Some h.subject →
+    Some link ≡ Some h.link → Some upstream ≡ Some h.upstream →
+    (let made : Head = record { subject = subject; link = link; upstream = upstream } in Some made ≡ Some h)
+head_is subject link upstream h a b d =
+    let s = some_is _ _ a in
+    let q = some_is _ _ b in
+    let y = some_is _ _ d in
+    λ i. Some (record { subject = s i; link = q i; upstream = y i })
 
 -- ASSOCIATION
 
@@ -117,12 +122,12 @@ back_is active work w primary p a b = let s = some_is _ _ a in λ i. Back active
 -- whole Paths
 
 pub only_path : (os : List Object) (P : Msg → Type 0) → ((l : Lsp) (e : NodeId) (k : LinkId) (r : List Step) (s : List ℕ) (u : Option ℕ) (role : PathRole) → SpellsPath os l e k r s u role → P (Path l e k r s u role)) →
-    (m : Msg) → type_of (Some m) ≡ 1 → SpellsMsg os m → P m
-only_path os P is (Path l e k r s u role) t h = is l e k r s u role h
-only_path os P is (Resv l e k x) t s = absurd (omega arith)
-only_path os P is (PathTear l e k) t s = absurd (omega arith)
-only_path os P is (PathErr l e n b x) t s = absurd (omega arith)
-only_path os P is (Notify l e n k x) t s = absurd (omega arith)
+    (m : Msg) → SpellsTyped 1 os m → P m
+only_path os P is (Path l e k r s u role) typed = is l e k r s u role typed.1
+only_path os P is (Resv l e k x) typed = absurd (omega (arith, typed.0))
+only_path os P is (PathTear l e k) typed = absurd (omega (arith, typed.0))
+only_path os P is (PathErr l e n b x) typed = absurd (omega (arith, typed.0))
+only_path os P is (Notify l e n k x) typed = absurd (omega (arith, typed.0))
 
 pub path_is : (head : Head) (route : List Step) (set : List ℕ) (role : PathRole) (l : Lsp) (e : NodeId) (k : LinkId) (r : List Step) (s : List ℕ) (u : Option ℕ) (p : PathRole) →
     Some head ≡ Some (record { subject = record { lsp = l; egress = e }; link = k; upstream = u }) → route ≡ r → set ≡ s → role ≡ p → Path head.subject.lsp head.subject.egress head.link route set head.upstream role ≡ Path l e k r s u p

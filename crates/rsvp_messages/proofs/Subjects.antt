@@ -13,7 +13,7 @@ use Rattle.rsvp_objects.specs.Bodies.{IsError, IsErrorIpv4, IsLabel, IsSenderRef
 use Rattle.rsvp_messages.specs.declared.fields.Subject.{Subject}
 use Rattle.rsvp_messages.specs.Messages.{ComesOver, HasError, NamesLsp, SpellsMsg, is_removed}
 use Rattle.rsvp_messages.specs.Objects.{Object, of_class}
-use Rattle.rsvp_messages.specs.Packets.{type_of}
+use Rattle.rsvp_messages.specs.Packets.{SpellsTyped, type_of}
 use Rattle.rsvp_messages.specs.Parts.{HasOne}
 use Rattle.rsvp_messages.proofs.Lookups.{means_here, same_ctype}
 
@@ -38,39 +38,46 @@ same_subject class os session sender lsp egress sessions senders n =
     λ i. Some (record { lsp = l i; egress = e i })
 
 pub only_tear : (os : List Object) (r : Option Msg) → ((l : Lsp) (e : NodeId) (k : LinkId) → NamesLsp 11 os l e → ComesOver os k → r ≡ Some (PathTear l e k)) →
-    (m : Msg) → type_of (Some m) ≡ 5 → SpellsMsg os m → r ≡ Some m
-only_tear os r is (PathTear l e k) t s = is l e k s.0 s.1
-only_tear os r is (Path l e k route set up role) t s = absurd (omega arith)
-only_tear os r is (Resv l e k x) t s = absurd (omega arith)
-only_tear os r is (PathErr l e n b x) t s = absurd (omega arith)
-only_tear os r is (Notify l e n k x) t s = absurd (omega arith)
+    (m : Msg) → SpellsTyped 5 os m → r ≡ Some m
+only_tear os r is (PathTear l e k) typed = is l e k typed.1.0 typed.1.1
+only_tear os r is (Path l e k route set up role) typed = absurd (omega (arith, typed.0))
+only_tear os r is (Resv l e k x) typed = absurd (omega (arith, typed.0))
+only_tear os r is (PathErr l e n b x) typed = absurd (omega (arith, typed.0))
+only_tear os r is (Notify l e n k x) typed = absurd (omega (arith, typed.0))
 
 pub only_resv : (os : List Object) (r : Option Msg) → ((l : Lsp) (e : NodeId) (k : LinkId) (x : ℕ) → NamesLsp 10 os l e → ComesOver os k → HasOne 16 2 (λ body. IsLabel body x) os → r ≡ Some (Resv l e k x)) →
-    (m : Msg) → type_of (Some m) ≡ 2 → SpellsMsg os m → r ≡ Some m
-only_resv os r is (Resv l e k x) t s = is l e k x s.0 s.1 s.2
-only_resv os r is (Path l e k route set up role) t s = absurd (omega arith)
-only_resv os r is (PathTear l e k) t s = absurd (omega arith)
-only_resv os r is (PathErr l e n b x) t s = absurd (omega arith)
-only_resv os r is (Notify l e n k x) t s = absurd (omega arith)
+    (m : Msg) → SpellsTyped 2 os m → r ≡ Some m
+only_resv os r is (Resv l e k x) typed = is l e k x typed.1.0 typed.1.1 typed.1.2
+only_resv os r is (Path l e k route set up role) typed = absurd (omega (arith, typed.0))
+only_resv os r is (PathTear l e k) typed = absurd (omega (arith, typed.0))
+only_resv os r is (PathErr l e n b x) typed = absurd (omega (arith, typed.0))
+only_resv os r is (Notify l e n k x) typed = absurd (omega (arith, typed.0))
 
 pub only_path_err : (os : List Object) (r : Option Msg) → ((l : Lsp) (e : NodeId) (x : ErrorSpec) → NamesLsp 11 os l e → HasError os x → r ≡ Some (PathErr l e x.node (is_removed x) x.code)) →
-    (m : Msg) → type_of (Some m) ≡ 3 → SpellsMsg os m → r ≡ Some m
-only_path_err os r is (PathErr l e n b x) t s =
-    let w = s.1 in let a : w.0.node ≡ n = sym w.2 in let q : is_removed w.0 ≡ b = sym w.3 in let z : w.0.code ≡ x = sym w.4 in is l e w.0 s.0 w.1 ∙ (λ i. Some (PathErr l e (a i) (q i) (z i)))
-only_path_err os r is (Path l e k route set up role) t s = absurd (omega arith)
-only_path_err os r is (Resv l e k x) t s = absurd (omega arith)
-only_path_err os r is (PathTear l e k) t s = absurd (omega arith)
-only_path_err os r is (Notify l e n k x) t s = absurd (omega arith)
+    (m : Msg) → SpellsTyped 3 os m → r ≡ Some m
+only_path_err os r is (PathErr l e n b x) typed =
+    let w = typed.1.1 in
+    let a : w.0.node ≡ n = sym w.2 in
+    let q : is_removed w.0 ≡ b = sym w.3 in
+    let z : w.0.code ≡ x = sym w.4 in
+    is l e w.0 typed.1.0 w.1 ∙ (λ i. Some (PathErr l e (a i) (q i) (z i)))
+only_path_err os r is (Path l e k route set up role) typed = absurd (omega (arith, typed.0))
+only_path_err os r is (Resv l e k x) typed = absurd (omega (arith, typed.0))
+only_path_err os r is (PathTear l e k) typed = absurd (omega (arith, typed.0))
+only_path_err os r is (Notify l e n k x) typed = absurd (omega (arith, typed.0))
 
 pub only_notify : (os : List Object) (r : Option Msg) →
     ((l : Lsp) (e : NodeId) (x : ErrorSpec) (k : LinkId) → NamesLsp 11 os l e → HasOne 6 3 (λ body. IsError body x) os → x.link ≡ Some k → r ≡ Some (Notify l e x.node k x.code)) →
-    (m : Msg) → type_of (Some m) ≡ 21 → SpellsMsg os m → r ≡ Some m
-only_notify os r is (Notify l e n k x) t s =
-    let w = s.1 in let a : w.0.node ≡ n = sym w.3 in let z : w.0.code ≡ x = sym w.4 in is l e w.0 k s.0 w.1 w.2 ∙ (λ i. Some (Notify l e (a i) k (z i)))
-only_notify os r is (Path l e k route set up role) t s = absurd (omega arith)
-only_notify os r is (Resv l e k x) t s = absurd (omega arith)
-only_notify os r is (PathTear l e k) t s = absurd (omega arith)
-only_notify os r is (PathErr l e n b x) t s = absurd (omega arith)
+    (m : Msg) → SpellsTyped 21 os m → r ≡ Some m
+only_notify os r is (Notify l e n k x) typed =
+    let w = typed.1.1 in
+    let a : w.0.node ≡ n = sym w.3 in
+    let z : w.0.code ≡ x = sym w.4 in
+    is l e w.0 k typed.1.0 w.1 w.2 ∙ (λ i. Some (Notify l e (a i) k (z i)))
+only_notify os r is (Path l e k route set up role) typed = absurd (omega (arith, typed.0))
+only_notify os r is (Resv l e k x) typed = absurd (omega (arith, typed.0))
+only_notify os r is (PathTear l e k) typed = absurd (omega (arith, typed.0))
+only_notify os r is (PathErr l e n b x) typed = absurd (omega (arith, typed.0))
 
 -- the same subject, link and label
 pub tear_is : (subject : Subject) (link : LinkId) (l : Lsp) (e : NodeId) (k : LinkId) → Some subject ≡ Some (record { lsp = l; egress = e }) → Some link ≡ Some k → Some (PathTear subject.lsp subject.egress link) ≡ Some (PathTear l e k)

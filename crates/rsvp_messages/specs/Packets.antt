@@ -33,6 +33,13 @@ pub record SpellsPacket (os : List Object) (p : Packet) : Type 0 where
   pub acks : HasAcks os p.acks
   pub body : SpellsBody os p.id p.acks p.body
 
+-- objects that spell this message or packet, which is of this type
+abbrev pub SpellsTyped : ℕ → List Object → Msg → Type 0
+SpellsTyped kind os m = (type_of (Some m) ≡ kind) × SpellsMsg os m
+
+abbrev pub SpellsTypedPacket : ℕ → List Object → Packet → Type 0
+SpellsTypedPacket kind os p = (type_of p.body ≡ kind) × SpellsPacket os p
+
 -- a header, and objects to the end that spell the packet
 pub record SpelledBy (bytes : List ℕ) (os : List Object) (p : Packet) : Type 0 where
   pub header : HasHeader bytes (type_of p.body)

@@ -1,11 +1,10 @@
 //! PathErr (RFC 2205, section 3.1.8; RFC 3473, section 4.4) and Notify (RFC 3473, section 4.3).
 
-ghost use Rattle.std.specs.Prelude.{◌≡◌, ◌++◌, Some, IfSome, OnOk};
-ghost use Rattle.ason_base.specs.declared.messages.Msg.{Msg};
-ghost use Rattle.rsvp_objects.specs.declared.error.ErrorSpec.{ErrorSpec};
+ghost use Rattle.std.specs.Prelude.{◌≡◌, ◌++◌, Some, OnOk};
+ghost use Rattle.wire_buf.specs.Codecs.{Reads};
 ghost use Rattle.rsvp_objects.specs.Bodies.{IsError};
-ghost use Rattle.rsvp_messages.specs.Messages.{HasError, SpellsMsg, is_removed};
-ghost use Rattle.rsvp_messages.specs.Packets.{type_of};
+ghost use Rattle.rsvp_messages.specs.Messages.{HasError, is_removed};
+ghost use Rattle.rsvp_messages.specs.Packets.{SpellsTyped};
 ghost use Rattle.rsvp_messages.specs.Parts.{HasOne};
 ghost use Rattle.rsvp_messages.specs.Seen.{all_seen};
 ghost use Rattle.rsvp_messages.specs.Written.{all_bytes, bytes_of, error_object, flags_of, notify_objects, path_err_objects};
@@ -27,16 +26,14 @@ const PATH_STATE_REMOVED: u8 = 0x04;
 
 // The error of an ERROR_SPEC with an interface.
 fn error_with_interface(objects: &[RawObject]) -> Option<ErrorSpec>
-    ensures found { IfSome result (λ e. HasOne 6 3 (λ body. IsError body e) (all_seen objects.now)) }
-    ensures only { (e : ErrorSpec) → HasOne 6 3 (λ body. IsError body e) (all_seen objects.now) → result ≡ Some e }
+    ensures { Reads (λ e. HasOne 6 3 (λ body. IsError body e) (all_seen objects.now)) result }
 {
     let body = one(objects, ERROR_SPEC, IF_ID)?;
     read_error(body)
 }
 
 fn error(objects: &[RawObject]) -> Option<ErrorSpec>
-    ensures found { IfSome result (HasError (all_seen objects.now)) }
-    ensures only { (e : ErrorSpec) → HasError (all_seen objects.now) e → result ≡ Some e }
+    ensures { Reads (HasError (all_seen objects.now)) result }
 {
     match one(objects, ERROR_SPEC, IPV4) {
         Some(body) => read_error_ipv4(body),
@@ -52,8 +49,7 @@ fn is_removed(e: &ErrorSpec) -> bool
 
 /// The PathErr that the objects spell. None exactly where they spell none.
 pub(crate) fn read_path_err(objects: &[RawObject]) -> Option<Msg>
-    ensures found { IfSome result (λ m. (type_of (Some m) ≡ 3) × SpellsMsg (all_seen objects.now) m) }
-    ensures only { (m : Msg) → type_of (Some m) ≡ 3 → SpellsMsg (all_seen objects.now) m → result ≡ Some m }
+    ensures { Reads (SpellsTyped 3 (all_seen objects.now)) result }
 {
     let subject = read_subject(objects, SENDER_TEMPLATE)?;
     let error = error(objects)?;
@@ -68,8 +64,7 @@ pub(crate) fn read_path_err(objects: &[RawObject]) -> Option<Msg>
 
 /// The Notify that the objects spell. None exactly where they spell none.
 pub(crate) fn read_notify(objects: &[RawObject]) -> Option<Msg>
-    ensures found { IfSome result (λ m. (type_of (Some m) ≡ 21) × SpellsMsg (all_seen objects.now) m) }
-    ensures only { (m : Msg) → type_of (Some m) ≡ 21 → SpellsMsg (all_seen objects.now) m → result ≡ Some m }
+    ensures { Reads (SpellsTyped 21 (all_seen objects.now)) result }
 {
     let subject = read_subject(objects, SENDER_TEMPLATE)?;
     let error = error_with_interface(objects)?;

@@ -1,11 +1,7 @@
 //! The objects that several messages read: what names the LSP, and the link that a message came over.
 
-ghost use Rattle.std.specs.Prelude.{◌≡◌, ◌++◌, Some, IfSome, OnOk};
-ghost use Rattle.ason_base.specs.declared.ids.LinkId.{LinkId};
-ghost use Rattle.ason_base.specs.declared.ids.Lsp.{Lsp};
-ghost use Rattle.ason_base.specs.declared.ids.NodeId.{NodeId};
-ghost use Rattle.rsvp_objects.specs.declared.sender.SenderRef.{SenderRef};
-ghost use Rattle.rsvp_objects.specs.declared.session.Session.{Session};
+ghost use Rattle.std.specs.Prelude.{◌≡◌, ◌++◌, OnOk};
+ghost use Rattle.wire_buf.specs.Codecs.{Reads};
 ghost use Rattle.rsvp_objects.specs.Bodies.{IsSenderRef, IsSession};
 ghost use Rattle.rsvp_messages.specs.Messages.{ComesOver, NamesLsp};
 ghost use Rattle.rsvp_messages.specs.Parts.{HasOne};
@@ -35,8 +31,7 @@ pub(crate) struct Subject {
 }
 
 fn session(objects: &[RawObject]) -> Option<Session>
-    ensures found { IfSome result (λ s. HasOne 1 7 (λ body. IsSession body s) (all_seen objects.now)) }
-    ensures only { (s : Session) → HasOne 1 7 (λ body. IsSession body s) (all_seen objects.now) → result ≡ Some s }
+    ensures { Reads (λ s. HasOne 1 7 (λ body. IsSession body s) (all_seen objects.now)) result }
 {
     let body = one(objects, SESSION, LSP_TUNNEL)?;
     read_session(body)
@@ -44,8 +39,7 @@ fn session(objects: &[RawObject]) -> Option<Session>
 
 // The sender by its SENDER_TEMPLATE or FILTER_SPEC.
 fn sender(objects: &[RawObject], class: u8) -> Option<SenderRef>
-    ensures found { IfSome result (λ s. HasOne class 7 (λ body. IsSenderRef body s) (all_seen objects.now)) }
-    ensures only { (s : SenderRef) → HasOne class 7 (λ body. IsSenderRef body s) (all_seen objects.now) → result ≡ Some s }
+    ensures { Reads (λ s. HasOne class 7 (λ body. IsSenderRef body s) (all_seen objects.now)) result }
 {
     let body = one(objects, class, LSP_TUNNEL)?;
     if class == FILTER_SPEC {
@@ -57,8 +51,7 @@ fn sender(objects: &[RawObject], class: u8) -> Option<SenderRef>
 
 /// The LSP by its SESSION and the object of this class.
 pub(crate) fn read_subject(objects: &[RawObject], class: u8) -> Option<Subject>
-    ensures found { IfSome result (λ n. NamesLsp class (all_seen objects.now) n.lsp n.egress) }
-    ensures only { (lsp : Lsp) (egress : NodeId) → NamesLsp class (all_seen objects.now) lsp egress → result ≡ Some (record { lsp = lsp; egress = egress }) }
+    ensures { Reads (λ n. NamesLsp class (all_seen objects.now) n.lsp n.egress) result }
 {
     let session = session(objects)?;
     let sender = sender(objects, class)?;
@@ -74,8 +67,7 @@ pub(crate) fn read_subject(objects: &[RawObject], class: u8) -> Option<Subject>
 
 /// The link of the RSVP_HOP.
 pub(crate) fn link(objects: &[RawObject]) -> Option<LinkId>
-    ensures found { IfSome result (ComesOver (all_seen objects.now)) }
-    ensures only { (link : LinkId) → ComesOver (all_seen objects.now) link → result ≡ Some link }
+    ensures { Reads (ComesOver (all_seen objects.now)) result }
 {
     let body = one(objects, RSVP_HOP, IF_ID)?;
     let hop = read_hop(body)?;

@@ -1,7 +1,7 @@
 //! Numbers of messages and their acknowledgements (RFC 2961, sections 4.2 and 4.3).
 
-ghost use Rattle.std.specs.Prelude.{◌≡◌, ◌<◌, ◌^◌, ◌++◌, map, All, List, Option, Some, IfOk, IfSome, IsErrOf, OnOk};
-ghost use Rattle.ason_base.specs.declared.messages.MsgId.{MsgId};
+ghost use Rattle.std.specs.Prelude.{◌≡◌, ◌++◌, map, All, IfSome, OnOk};
+ghost use Rattle.wire_buf.specs.Codecs.{Decodes, Reads};
 ghost use Rattle.rsvp_objects.specs.Bodies.{IsMsgId};
 ghost use Rattle.rsvp_messages.specs.Packets.{HasAcks};
 ghost use Rattle.rsvp_messages.specs.Parts.{HasAtMostOne, HasEach};
@@ -24,8 +24,7 @@ const MOST_ACKS: usize = 64;
 
 /// The message's number, if it has one. None exactly where its MESSAGE_IDs spell none.
 pub(crate) fn message_id(objects: &[RawObject]) -> Option<Option<MsgId>>
-    ensures found { IfSome result (HasAtMostOne 23 1 IsMsgId (all_seen objects.now)) }
-    ensures only { (id : Option MsgId) → HasAtMostOne 23 1 IsMsgId (all_seen objects.now) id → result ≡ Some id }
+    ensures { Reads (HasAtMostOne 23 1 IsMsgId (all_seen objects.now)) result }
 {
     match optional(objects, MESSAGE_ID, NUMBER)? {
         None => Some(None),
@@ -35,9 +34,7 @@ pub(crate) fn message_id(objects: &[RawObject]) -> Option<Option<MsgId>>
 
 // The numbers of all MESSAGE_ID_ACKs, however many there are.
 fn all_acks(alloc: Global, objects: &[RawObject]) -> Result<Ids, DecodeError>
-    ensures found { IfOk result (HasEach 24 1 IsMsgId (all_seen objects.now)) }
-    ensures only { (acks : List MsgId) → HasEach 24 1 IsMsgId (all_seen objects.now) acks → IfOk result (λ read. read ≡ acks) }
-    ensures not_message { IsErrOf result DecodeError.NotMessage → (acks : List MsgId) → ¬ HasEach 24 1 IsMsgId (all_seen objects.now) acks }
+    ensures { Decodes (HasEach 24 1 IsMsgId (all_seen objects.now)) result }
 {
     let mut acks = Ids::new(alloc);
     'objects: for object in objects {
@@ -60,9 +57,7 @@ fn all_acks(alloc: Global, objects: &[RawObject]) -> Result<Ids, DecodeError>
 
 /// The acknowledgements. NotMessage exactly where the MESSAGE_ID_ACKs spell none, as where there are too many.
 pub(crate) fn acks(alloc: Global, objects: &[RawObject]) -> Result<Ids, DecodeError>
-    ensures found { IfOk result (HasAcks (all_seen objects.now)) }
-    ensures only { (acks : List MsgId) → HasAcks (all_seen objects.now) acks → IfOk result (λ read. read ≡ acks) }
-    ensures not_message { IsErrOf result DecodeError.NotMessage → (acks : List MsgId) → ¬ HasAcks (all_seen objects.now) acks }
+    ensures { Decodes (HasAcks (all_seen objects.now)) result }
 {
     let acks = all_acks(alloc, objects)?;
     if acks.items().len() > MOST_ACKS {

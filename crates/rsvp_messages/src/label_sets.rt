@@ -1,6 +1,6 @@
 //! The labels that a Path's LABEL_SETs allow (RFC 3473, section 2.6).
 
-ghost use Rattle.std.specs.Prelude.{◌≡◌, ◌≤◌, List, ℕ, filter, if◌then◌else◌, IfOk, IsErrOf};
+ghost use Rattle.std.specs.Prelude.{◌≡◌, ◌≤◌, List, filter, if◌then◌else◌, IfOk, IsErrOf};
 ghost use Rattle.ason_base.specs.Labels.{up_to, with_label};
 ghost use Rattle.rsvp_objects.specs.declared.label_set.LabelSetObject.{LabelSetObject};
 ghost use Rattle.rsvp_objects.specs.LabelSets.{IsLabelSet};
@@ -8,6 +8,7 @@ ghost use Rattle.rsvp_messages.specs.Messages.{HasSet, allows, excludes, include
 ghost use Rattle.rsvp_messages.specs.Parts.{HasEach};
 ghost use Rattle.rsvp_messages.specs.Seen.{all_seen};
 ghost use Rattle.std.specs.List.{list_any};
+ghost use Rattle.wire_buf.specs.Codecs.{Decodes};
 
 use crate::classes::LABEL_SET;
 use crate::raw::RawObject;
@@ -90,9 +91,7 @@ fn allowed(sets: &[LabelSetObject]) -> LabelSet
 
 /// The labels that the LABEL_SETs allow. NotMessage exactly where one of them has no meaning.
 pub(crate) fn label_set(alloc: Global, objects: &[RawObject]) -> Result<LabelSet, DecodeError>
-    ensures found { IfOk result (HasSet (all_seen objects.now)) }
-    ensures only { (set : List ℕ) → HasSet (all_seen objects.now) set → IfOk result (λ read. read ≡ set) }
-    ensures not_message { IsErrOf result DecodeError.NotMessage → (set : List ℕ) → ¬ HasSet (all_seen objects.now) set }
+    ensures { Decodes (HasSet (all_seen objects.now)) result }
 {
     let sets = label_sets(alloc, objects)?;
     Ok(allowed(&sets))

@@ -1,14 +1,10 @@
 //! Path (RFC 2205, section 3.1.3; RFC 3209; RFC 3473; RFC 4872).
 
-ghost use Rattle.std.specs.Prelude.{◌≡◌, ◌≤◌, ◌++◌, ℕ, List, Option, Some, false, length, IfOk, IfSome, IsErrOf, IsTrue, OnOk};
-ghost use Rattle.ason_base.specs.declared.ids.LinkId.{LinkId};
-ghost use Rattle.ason_base.specs.declared.ids.Lsp.{Lsp};
-ghost use Rattle.ason_base.specs.declared.ids.NodeId.{NodeId};
-ghost use Rattle.ason_base.specs.declared.messages.Msg.{Msg};
-ghost use Rattle.ason_base.specs.declared.steps.Step.{Step};
+ghost use Rattle.std.specs.Prelude.{◌≡◌, ◌≤◌, ◌++◌, Some, false, length, IsTrue, OnOk};
+ghost use Rattle.wire_buf.specs.Codecs.{Decodes, Reads};
 ghost use Rattle.rsvp_objects.specs.Bodies.{IsLabel, IsRequest};
-ghost use Rattle.rsvp_messages.specs.Messages.{HasRoute, SpellsHead, SpellsMsg};
-ghost use Rattle.rsvp_messages.specs.Packets.{type_of};
+ghost use Rattle.rsvp_messages.specs.Messages.{HasRoute, SpellsHead};
+ghost use Rattle.rsvp_messages.specs.Packets.{SpellsTyped};
 ghost use Rattle.rsvp_messages.specs.Parts.{HasAtMostOne, HasOne};
 ghost use Rattle.rsvp_messages.specs.Seen.{all_seen};
 ghost use Rattle.rsvp_messages.specs.Written.{all_bytes, bytes_of, path_end, path_head, protection_object, request_objects, route_objects, set_object, upstream_objects};
@@ -50,8 +46,7 @@ fn requests(objects: &[RawObject]) -> bool
 }
 
 fn upstream(objects: &[RawObject]) -> Option<Option<Label>>
-    ensures found { IfSome result (HasAtMostOne 35 2 IsLabel (all_seen objects.now)) }
-    ensures only { (label : Option ℕ) → HasAtMostOne 35 2 IsLabel (all_seen objects.now) label → result ≡ Some label }
+    ensures { Reads (HasAtMostOne 35 2 IsLabel (all_seen objects.now)) result }
 {
     match optional(objects, UPSTREAM_LABEL, GENERALIZED)? {
         None => Some(None),
@@ -60,9 +55,7 @@ fn upstream(objects: &[RawObject]) -> Option<Option<Label>>
 }
 
 fn route(alloc: Global, objects: &[RawObject]) -> Result<Steps, DecodeError>
-    ensures found { IfOk result (HasRoute (all_seen objects.now)) }
-    ensures only { (route : List Step) → HasRoute (all_seen objects.now) route → IfOk result (λ read. read ≡ route) }
-    ensures not_message { IsErrOf result DecodeError.NotMessage → (route : List Step) → ¬ HasRoute (all_seen objects.now) route }
+    ensures { Decodes (HasRoute (all_seen objects.now)) result }
 {
     match optional(objects, EXPLICIT_ROUTE, EXPLICIT) {
         Some(Some(body)) => read_route(alloc, body),
@@ -80,8 +73,7 @@ struct Head {
 }
 
 fn read_head(objects: &[RawObject]) -> Option<Head>
-    ensures found { IfSome result (λ h. SpellsHead (all_seen objects.now) h.subject.lsp h.subject.egress h.link h.upstream) }
-    ensures only { (l : Lsp) (e : NodeId) (k : LinkId) (u : Option ℕ) → SpellsHead (all_seen objects.now) l e k u → result ≡ Some (record { subject = record { lsp = l; egress = e }; link = k; upstream = u }) }
+    ensures { Reads (λ h. SpellsHead (all_seen objects.now) h.subject.lsp h.subject.egress h.link h.upstream) result }
 {
     if !requests(objects) {
         return None;
@@ -98,9 +90,7 @@ fn read_head(objects: &[RawObject]) -> Option<Head>
 
 /// The Path that the objects spell. NotMessage exactly where they spell none.
 pub(crate) fn read_path(alloc: Global, objects: &[RawObject]) -> Result<Msg, DecodeError>
-    ensures found { IfOk result (λ m. (type_of (Some m) ≡ 1) × SpellsMsg (all_seen objects.now) m) }
-    ensures only { (m : Msg) → type_of (Some m) ≡ 1 → SpellsMsg (all_seen objects.now) m → IfOk result (λ read. read ≡ m) }
-    ensures not_message { IsErrOf result DecodeError.NotMessage → (m : Msg) → type_of (Some m) ≡ 1 → ¬ SpellsMsg (all_seen objects.now) m }
+    ensures { Decodes (SpellsTyped 1 (all_seen objects.now)) result }
 {
     let Some(head) = read_head(objects) else {
         return Err(DecodeError::NotMessage);

@@ -1,7 +1,7 @@
 //! Objects one after the other (RFC 2205, section 3.1.2).
 
 ghost use Rattle.std.specs.Prelude.{◌≡◌, ◌≤◌, List, length, drop, All, IfOk, IfSome, IsErrOf, IsSome};
-ghost use Rattle.rsvp_messages.specs.Objects.{AreObjects, BeginsWith, Object, is_among, known_classes, may_stand, size_of};
+ghost use Rattle.rsvp_messages.specs.Objects.{AreObjects, BeginsWith, Object, is_among, may_stand, size_of};
 ghost use Rattle.rsvp_messages.specs.Seen.{all_seen, seen};
 
 use crate::classes::KNOWN_CLASSES;

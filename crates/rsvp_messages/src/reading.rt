@@ -1,11 +1,10 @@
 //! Reading whole messages: header, numbers and what the objects spell.
 
-ghost use Rattle.std.specs.Prelude.{◌≡◌, ◌≢◌, ◌<◌, ◌^◌, List, Some, All, IfOk, IfSome, IsErrOf};
-ghost use Rattle.ason_base.specs.declared.messages.Msg.{Msg};
+ghost use Rattle.std.specs.Prelude.{◌≡◌, ◌≢◌, ◌<◌, ◌^◌, List, Some, All, IfOk, IsErrOf};
 ghost use Rattle.ason_base.specs.declared.messages.Packet.{Packet};
-ghost use Rattle.rsvp_messages.specs.Messages.{SpellsMsg};
+ghost use Rattle.wire_buf.specs.Codecs.{Decodes, Reads};
 ghost use Rattle.rsvp_messages.specs.Objects.{Object, size_of};
-ghost use Rattle.rsvp_messages.specs.Packets.{SpelledBy, Spells, SpellsPacket, type_of};
+ghost use Rattle.rsvp_messages.specs.Packets.{SpelledBy, Spells, SpellsPacket, SpellsTyped, SpellsTypedPacket};
 ghost use Rattle.rsvp_messages.specs.Seen.{all_seen, seen};
 
 use crate::errors::{read_notify, read_path_err};
@@ -22,8 +21,7 @@ use std::alloc::Global;
 // The message of another type than Path that the objects spell.
 fn read_other(kind: u8, objects: &[RawObject]) -> Option<Msg>
     requires { kind ≢ 1 }
-    ensures found { IfSome result (λ m. (type_of (Some m) ≡ kind) × SpellsMsg (all_seen objects.now) m) }
-    ensures only { (m : Msg) → type_of (Some m) ≡ kind → SpellsMsg (all_seen objects.now) m → result ≡ Some m }
+    ensures { Reads (SpellsTyped kind (all_seen objects.now)) result }
 {
     match kind {
         RESV => read_resv(objects),
@@ -35,9 +33,7 @@ fn read_other(kind: u8, objects: &[RawObject]) -> Option<Msg>
 }
 
 fn read_msg(alloc: Global, kind: u8, objects: &[RawObject]) -> Result<Msg, DecodeError>
-    ensures found { IfOk result (λ m. (type_of (Some m) ≡ kind) × SpellsMsg (all_seen objects.now) m) }
-    ensures only { (m : Msg) → type_of (Some m) ≡ kind → SpellsMsg (all_seen objects.now) m → IfOk result (λ read. read ≡ m) }
-    ensures not_message { IsErrOf result DecodeError.NotMessage → (m : Msg) → type_of (Some m) ≡ kind → ¬ SpellsMsg (all_seen objects.now) m }
+    ensures { Decodes (SpellsTyped kind (all_seen objects.now)) result }
 {
     if kind == PATH {
         return read_path(alloc, objects);
@@ -49,9 +45,7 @@ fn read_msg(alloc: Global, kind: u8, objects: &[RawObject]) -> Result<Msg, Decod
 }
 
 fn read_ack_message(alloc: Global, objects: &[RawObject]) -> Result<Packet, DecodeError>
-    ensures found { IfOk result (λ p. (type_of p.body ≡ 13) × SpellsPacket (all_seen objects.now) p) }
-    ensures only { (p : Packet) → type_of p.body ≡ 13 → SpellsPacket (all_seen objects.now) p → IfOk result (λ read. read ≡ p) }
-    ensures not_message { IsErrOf result DecodeError.NotMessage → (p : Packet) → type_of p.body ≡ 13 → ¬ SpellsPacket (all_seen objects.now) p }
+    ensures { Decodes (SpellsTypedPacket 13 (all_seen objects.now)) result }
 {
     let acks = acks(alloc, objects)?;
     if acks.items().is_empty() {
@@ -67,9 +61,7 @@ fn read_ack_message(alloc: Global, objects: &[RawObject]) -> Result<Packet, Deco
 // What the objects of a message of this type, with a body, spell.
 fn read_body(alloc: Global, kind: u8, objects: &[RawObject]) -> Result<Packet, DecodeError>
     requires { kind ≢ 13 }
-    ensures found { IfOk result (λ p. (type_of p.body ≡ kind) × SpellsPacket (all_seen objects.now) p) }
-    ensures only { (p : Packet) → type_of p.body ≡ kind → SpellsPacket (all_seen objects.now) p → IfOk result (λ read. read ≡ p) }
-    ensures not_message { IsErrOf result DecodeError.NotMessage → (p : Packet) → type_of p.body ≡ kind → ¬ SpellsPacket (all_seen objects.now) p }
+    ensures { Decodes (SpellsTypedPacket kind (all_seen objects.now)) result }
 {
     let Some(id) = message_id(objects) else {
         return Err(DecodeError::NotMessage);
@@ -84,9 +76,7 @@ fn read_body(alloc: Global, kind: u8, objects: &[RawObject]) -> Result<Packet, D
 }
 
 fn read_packet(alloc: Global, kind: u8, objects: &[RawObject]) -> Result<Packet, DecodeError>
-    ensures found { IfOk result (λ p. (type_of p.body ≡ kind) × SpellsPacket (all_seen objects.now) p) }
-    ensures only { (p : Packet) → type_of p.body ≡ kind → SpellsPacket (all_seen objects.now) p → IfOk result (λ read. read ≡ p) }
-    ensures not_message { IsErrOf result DecodeError.NotMessage → (p : Packet) → type_of p.body ≡ kind → ¬ SpellsPacket (all_seen objects.now) p }
+    ensures { Decodes (SpellsTypedPacket kind (all_seen objects.now)) result }
 {
     if kind == ACK {
         read_ack_message(alloc, objects)

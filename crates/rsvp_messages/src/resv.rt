@@ -1,10 +1,10 @@
 //! Resv (RFC 2205, section 3.1.4; RFC 3473, section 2.3).
 
-ghost use Rattle.std.specs.Prelude.{◌≡◌, ◌++◌, ℕ, Some, IfSome, OnOk};
+ghost use Rattle.std.specs.Prelude.{◌≡◌, ◌++◌, Some, OnOk};
 ghost use Rattle.ason_base.specs.declared.messages.Msg.{Msg};
+ghost use Rattle.wire_buf.specs.Codecs.{Reads};
 ghost use Rattle.rsvp_objects.specs.Bodies.{IsLabel};
-ghost use Rattle.rsvp_messages.specs.Messages.{SpellsMsg};
-ghost use Rattle.rsvp_messages.specs.Packets.{type_of};
+ghost use Rattle.rsvp_messages.specs.Packets.{SpellsTyped};
 ghost use Rattle.rsvp_messages.specs.Parts.{HasOne};
 ghost use Rattle.rsvp_messages.specs.Seen.{all_seen};
 ghost use Rattle.rsvp_messages.specs.Written.{all_bytes, msg_objects};
@@ -21,8 +21,7 @@ use rsvp_objects::{read_label, write_label};
 const GENERALIZED: u8 = 2;
 
 fn label(objects: &[RawObject]) -> Option<Label>
-    ensures found { IfSome result (λ l. HasOne 16 2 (λ body. IsLabel body l) (all_seen objects.now)) }
-    ensures only { (l : ℕ) → HasOne 16 2 (λ body. IsLabel body l) (all_seen objects.now) → result ≡ Some l }
+    ensures { Reads (λ l. HasOne 16 2 (λ body. IsLabel body l) (all_seen objects.now)) result }
 {
     let body = one(objects, LABEL, GENERALIZED)?;
     read_label(body)
@@ -30,8 +29,7 @@ fn label(objects: &[RawObject]) -> Option<Label>
 
 /// The Resv that the objects spell. None exactly where they spell none.
 pub(crate) fn read_resv(objects: &[RawObject]) -> Option<Msg>
-    ensures found { IfSome result (λ m. (type_of (Some m) ≡ 2) × SpellsMsg (all_seen objects.now) m) }
-    ensures only { (m : Msg) → type_of (Some m) ≡ 2 → SpellsMsg (all_seen objects.now) m → result ≡ Some m }
+    ensures { Reads (SpellsTyped 2 (all_seen objects.now)) result }
 {
     let subject = read_subject(objects, FILTER_SPEC)?;
     let link = link(objects)?;

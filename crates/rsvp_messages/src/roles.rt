@@ -1,10 +1,8 @@
 //! What a Path's LSP is for (RFC 4872, sections 14 to 16).
 
-ghost use Rattle.std.specs.Prelude.{◌≡◌, ◌++◌, ℕ, List, Some, IfOk, IfSome, IsErrOf, OnOk};
-ghost use Rattle.ason_base.specs.declared.messages.PathRole.{PathRole};
-ghost use Rattle.ason_base.specs.declared.steps.Step.{Step};
+ghost use Rattle.std.specs.Prelude.{◌≡◌, ◌++◌, OnOk};
+ghost use Rattle.wire_buf.specs.Codecs.{Decodes, Reads};
 ghost use Rattle.wire_buf.specs.Routes.{IsRoute};
-ghost use Rattle.rsvp_recovery.specs.declared.protection.Protection.{Protection};
 ghost use Rattle.rsvp_messages.specs.Messages.{HasProtection, HasRole, Ties};
 ghost use Rattle.rsvp_messages.specs.Parts.{HasOne};
 ghost use Rattle.rsvp_messages.specs.Seen.{all_seen};
@@ -31,8 +29,7 @@ const IPV4: u8 = 1;
 const RECOVERY: u16 = 1;
 
 fn protection(objects: &[RawObject]) -> Option<Protection>
-    ensures found { IfSome result (HasProtection (all_seen objects.now)) }
-    ensures only { (p : Protection) → HasProtection (all_seen objects.now) p → result ≡ Some p }
+    ensures { Reads (HasProtection (all_seen objects.now)) result }
 {
     match optional(objects, PROTECTION, LSP_FLAGS)? {
         None => Some(Protection::Work { guard: false }),
@@ -42,8 +39,7 @@ fn protection(objects: &[RawObject]) -> Option<Protection>
 
 // The number of the LSP that the backup is for.
 fn tied(objects: &[RawObject]) -> Option<u16>
-    ensures found { IfSome result (λ work. HasOne 199 1 (Ties work) (all_seen objects.now)) }
-    ensures only { (work : ℕ) → HasOne 199 1 (Ties work) (all_seen objects.now) → result ≡ Some work }
+    ensures { Reads (λ work. HasOne 199 1 (Ties work) (all_seen objects.now)) result }
 {
     let body = one(objects, ASSOCIATION, IPV4)?;
     let association = read_association(body)?;
@@ -55,9 +51,7 @@ fn tied(objects: &[RawObject]) -> Option<u16>
 }
 
 fn primary(alloc: Global, objects: &[RawObject]) -> Result<Steps, DecodeError>
-    ensures found { IfOk result (λ route. HasOne 38 1 (λ body. IsRoute body route) (all_seen objects.now)) }
-    ensures only { (route : List Step) → HasOne 38 1 (λ body. IsRoute body route) (all_seen objects.now) → IfOk result (λ read. read ≡ route) }
-    ensures not_message { IsErrOf result DecodeError.NotMessage → (route : List Step) → ¬ HasOne 38 1 (λ body. IsRoute body route) (all_seen objects.now) }
+    ensures { Decodes (λ route. HasOne 38 1 (λ body. IsRoute body route) (all_seen objects.now)) result }
 {
     match one(objects, PRIMARY_PATH_ROUTE, IPV4) {
         Some(body) => read_primary(alloc, body),
@@ -67,9 +61,7 @@ fn primary(alloc: Global, objects: &[RawObject]) -> Result<Steps, DecodeError>
 
 /// What the LSP is for. NotMessage exactly where the objects tell nothing.
 pub(crate) fn role(alloc: Global, objects: &[RawObject]) -> Result<PathRole, DecodeError>
-    ensures found { IfOk result (HasRole (all_seen objects.now)) }
-    ensures only { (role : PathRole) → HasRole (all_seen objects.now) role → IfOk result (λ read. read ≡ role) }
-    ensures not_message { IsErrOf result DecodeError.NotMessage → (role : PathRole) → ¬ HasRole (all_seen objects.now) role }
+    ensures { Decodes (HasRole (all_seen objects.now)) result }
 {
     let active = match protection(objects) {
         Some(Protection::Back { active }) => active,

@@ -1,9 +1,9 @@
 //! PathTear (RFC 2205, section 3.1.5).
 
-ghost use Rattle.std.specs.Prelude.{◌≡◌, ◌++◌, [], ◌∷◌, Some, IfSome, OnOk};
+ghost use Rattle.std.specs.Prelude.{◌≡◌, ◌++◌, Some, OnOk};
 ghost use Rattle.ason_base.specs.declared.messages.Msg.{Msg};
-ghost use Rattle.rsvp_messages.specs.Messages.{SpellsMsg};
-ghost use Rattle.rsvp_messages.specs.Packets.{type_of};
+ghost use Rattle.wire_buf.specs.Codecs.{Reads};
+ghost use Rattle.rsvp_messages.specs.Packets.{SpellsTyped};
 ghost use Rattle.rsvp_messages.specs.Seen.{all_seen};
 ghost use Rattle.rsvp_messages.specs.Written.{all_bytes, msg_objects};
 
@@ -14,8 +14,7 @@ use ason_base::{LinkId, Lsp, Msg, NodeId, OutOfMemory};
 
 /// The PathTear that the objects spell. None exactly where they spell none.
 pub(crate) fn read_tear(objects: &[RawObject]) -> Option<Msg>
-    ensures found { IfSome result (λ m. (type_of (Some m) ≡ 5) × SpellsMsg (all_seen objects.now) m) }
-    ensures only { (m : Msg) → type_of (Some m) ≡ 5 → SpellsMsg (all_seen objects.now) m → result ≡ Some m }
+    ensures { Reads (SpellsTyped 5 (all_seen objects.now)) result }
 {
     let subject = read_subject(objects, SENDER_TEMPLATE)?;
     let link = link(objects)?;

@@ -14,8 +14,14 @@ use Rattle.rsvp_objects.specs.Bodies.{HasWidths, IsError, IsHop, IsSession, erro
 pub session_again : (s : Session) → s.endpoint.0 < 2 ^ 32 → s.tunnel < 2 ^ 16 → s.extended < 2 ^ 32 → IsSession (session_bytes s) s
 session_again s a b c = (refl, λ i. record { endpoint = record { 0 = sym (again_4 s.endpoint.0 a) i }; tunnel = sym (again_2 s.tunnel b) i; extended = sym (again_4 s.extended c) i })
 
-if_index_again : (node : NodeId) (link : LinkId) → link.0 < 2 ^ 32 → HasIfIndexes (if_index_bytes node link) (link ∷ [])
-if_index_again node link h = (record { kind = 3; value = big_bytes 4 node.0 ++ big_bytes 4 link.0 } ∷ [], ((refl, refl, omega arith, refl), refl), (λ e. refl, tt), λ i. record { 0 = sym (again_4 link.0 h) i } ∷ [])
+if_index_again : (node : NodeId) (link : LinkId) → link.0 < 2 ^ 32 →
+    HasIfIndexes (if_index_bytes node link) (link ∷ [])
+if_index_again node link h = (
+  record { kind = 3; value = big_bytes 4 node.0 ++ big_bytes 4 link.0 } ∷ [],
+  (record { size = omega arith; kind = refl; len = refl; value = refl }, refl),
+  (refl, tt),
+  λ i. record { 0 = sym (again_4 link.0 h) i } ∷ [],
+)
 
 none_again : (node : NodeId) (link : Option LinkId) → IfSome link (λ l. l.0 < 2 ^ 32) → HasIfIndexes (if_index_or_none node link) (option_to_list link)
 none_again node None h = ([], refl, tt, refl)

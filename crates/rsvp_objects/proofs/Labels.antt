@@ -231,11 +231,17 @@ or_zero-length : (ls : List ℕ) → length (or_zero ls) ≡ max (length ls) 1
 or_zero-length [] = refl
 or_zero-length (l ∷ ls) = omega arith
 
-pub label_set_written : (old reserved headed acted typed new : List ℕ) (o : LabelSetObject) (len count : ℕ) → count ≡ length (among o.labels) → len ≡ 8 + 4 * max count 1 → reserved ≡ old → headed ≡ reserved ++ header len 36 1
-    → acted ≡ headed ++ big_bytes 1 (action_of o.include) → typed ≡ acted ++ big_bytes 3 2 → new ≡ typed ++ labels_bytes (or_zero (among o.labels)) → new ≡ old ++ object 36 1 (label_set_bytes o)
+-- how long the body of a LABEL_SET is
+pub label_set-length : (o : LabelSetObject) → length (label_set_bytes o) ≡ 4 + 4 * max (length (among o.labels)) 1
+label_set-length o =
+    let ls = or_zero (among o.labels) in omega (arith, labels_bytes-length ls, or_zero-length (among o.labels))
+
+pub label_set_written : (old reserved headed acted typed new : List ℕ) (o : LabelSetObject) (len count : ℕ) →
+    count ≡ length (among o.labels) → len ≡ 8 + 4 * max count 1 → reserved ≡ old → headed ≡ reserved ++ header len 36 1 →
+    acted ≡ headed ++ big_bytes 1 (action_of o.include) → typed ≡ acted ++ big_bytes 3 2 →
+    new ≡ typed ++ labels_bytes (or_zero (among o.labels)) → new ≡ old ++ object 36 1 (label_set_bytes o)
 label_set_written old reserved headed acted typed new o len count is_count is_len e1 e2 e3 e4 e5 =
-    let body : length (label_set_bytes o) ≡ 4 + length (labels_bytes (or_zero (among o.labels))) = omega arith in
-    let total : len ≡ 4 + length (label_set_bytes o) = omega (arith, body, labels_bytes-length (or_zero (among o.labels)), or_zero-length (among o.labels)) in
+    let total : len ≡ 4 + length (label_set_bytes o) = omega (arith, label_set-length o) in
     rw (e5, e4, e3, e2, e1, total) (simp append_assoc)
 
 -- ---- what is written is read again

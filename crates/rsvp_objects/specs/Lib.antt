@@ -1,4 +1,3 @@
 pub mod Bodies
 pub mod LabelSets
-pub mod Seen
 pub mod Tlvs

@@ -1,6 +1,7 @@
 //! ERROR_SPEC (RFC 2205, appendix A.5), also with an interface (RFC 3473, section 8.2.1).
 
-ghost use Rattle.std.specs.Prelude.{◌≡◌, ◌≤◌, ◌<◌, ◌+◌, ◌++◌, length, None, Some, IfSome, OnErr, OnOk, vec_len, vec_capacity};
+ghost use Rattle.std.specs.Prelude.{◌≡◌, ◌≤◌, ◌+◌, ◌++◌, length, None, Some, vec_len, vec_capacity};
+ghost use Rattle.wire_buf.specs.Codecs.{Appends, Reads};
 ghost use Rattle.wire_buf.specs.Objects.{object};
 ghost use Rattle.rsvp_objects.specs.declared.error.ErrorSpec.{ErrorSpec};
 ghost use Rattle.rsvp_objects.specs.Bodies.{HasWidths, IsError, IsErrorIpv4, error_bytes, spec_at, spec_bytes};
@@ -51,9 +52,7 @@ fn put_spec(out: &mut Vec<u8>, x: &ErrorSpec)
 }
 
 fn write_plain(out: &mut Vec<u8>, ctype: u8, x: &ErrorSpec) -> Result<(), OutOfMemory>
-    ensures ok { OnOk result (out.new.items ≡ out.old.items ++ object 6 ctype (spec_bytes x.now)) }
-    ensures err { OnErr result (out.new.items ≡ out.old.items) }
-    ensures full { OnErr result (vec_capacity out.old < vec_len out.old + 12) }
+    ensures { Appends out.old out.new (object 6 ctype (spec_bytes x.now)) result }
 {
     out.reserve(12)?;
     put_header(out, 12, 6, ctype);
@@ -63,9 +62,7 @@ fn write_plain(out: &mut Vec<u8>, ctype: u8, x: &ErrorSpec) -> Result<(), OutOfM
 
 fn write_with_link(out: &mut Vec<u8>, x: &ErrorSpec, link: LinkId) -> Result<(), OutOfMemory>
     requires { x.now.link ≡ Some link }
-    ensures ok { OnOk result (out.new.items ≡ out.old.items ++ object 6 3 (error_bytes x.now)) }
-    ensures err { OnErr result (out.new.items ≡ out.old.items) }
-    ensures full { OnErr result (vec_capacity out.old < vec_len out.old + 24) }
+    ensures { Appends out.old out.new (object 6 3 (error_bytes x.now)) result }
 {
     out.reserve(24)?;
     put_header(out, 24, 6, IF_ID);
@@ -76,8 +73,7 @@ fn write_with_link(out: &mut Vec<u8>, x: &ErrorSpec, link: LinkId) -> Result<(),
 
 /// The error of an ERROR_SPEC's body with an interface. None exactly where the body is none, as where it has two IF_INDEXes.
 pub fn read_error(body: &[u8]) -> Option<ErrorSpec>
-    ensures found { IfSome result (IsError body.now) }
-    ensures only { (e : ErrorSpec) → IsError body.now e → result ≡ Some e }
+    ensures { Reads (IsError body.now) result }
 {
     if body.len() < 8 {
         return None;
@@ -90,9 +86,7 @@ pub fn read_error(body: &[u8]) -> Option<ErrorSpec>
 
 /// Appends the ERROR_SPEC object with an interface: an IF_INDEX where the error has a link, and no TLV where it has none.
 pub fn write_error(out: &mut Vec<u8>, x: &ErrorSpec) -> Result<(), OutOfMemory>
-    ensures ok { OnOk result (out.new.items ≡ out.old.items ++ object 6 3 (error_bytes x.now)) }
-    ensures err { OnErr result (out.new.items ≡ out.old.items) }
-    ensures full { OnErr result (vec_capacity out.old < vec_len out.old + 24) }
+    ensures { Appends out.old out.new (object 6 3 (error_bytes x.now)) result }
 {
     match x.link {
         None => write_plain(out, IF_ID, x),
@@ -102,8 +96,7 @@ pub fn write_error(out: &mut Vec<u8>, x: &ErrorSpec) -> Result<(), OutOfMemory>
 
 /// The error of an ERROR_SPEC's body without an interface. None exactly where the body is none.
 pub fn read_error_ipv4(body: &[u8]) -> Option<ErrorSpec>
-    ensures found { IfSome result (IsErrorIpv4 body.now) }
-    ensures only { (e : ErrorSpec) → IsErrorIpv4 body.now e → result ≡ Some e }
+    ensures { Reads (IsErrorIpv4 body.now) result }
 {
     if body.len() != 8 {
         return None;
@@ -114,9 +107,7 @@ pub fn read_error_ipv4(body: &[u8]) -> Option<ErrorSpec>
 /// Appends the ERROR_SPEC object without an interface.
 pub fn write_error_ipv4(out: &mut Vec<u8>, x: &ErrorSpec) -> Result<(), OutOfMemory>
     requires { x.now.link ≡ None }
-    ensures ok { OnOk result (out.new.items ≡ out.old.items ++ object 6 1 (spec_bytes x.now)) }
-    ensures err { OnErr result (out.new.items ≡ out.old.items) }
-    ensures full { OnErr result (vec_capacity out.old < vec_len out.old + 12) }
+    ensures { Appends out.old out.new (object 6 1 (spec_bytes x.now)) result }
 {
     write_plain(out, IPV4, x)
 }

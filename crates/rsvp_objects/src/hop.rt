@@ -1,6 +1,7 @@
 //! RSVP_HOP with an interface (RFC 3473, section 8.1.1).
 
-ghost use Rattle.std.specs.Prelude.{◌≡◌, ◌<◌, ◌+◌, ◌^◌, ◌++◌, Some, IfSome, OnErr, OnOk, vec_len, vec_capacity};
+ghost use Rattle.std.specs.Prelude.{◌<◌, ◌^◌};
+ghost use Rattle.wire_buf.specs.Codecs.{Appends, Reads};
 ghost use Rattle.wire_buf.specs.Objects.{object};
 ghost use Rattle.rsvp_objects.specs.declared.hop.HopObject.{HopObject};
 ghost use Rattle.rsvp_objects.specs.Bodies.{IsHop, hop_bytes};
@@ -19,8 +20,7 @@ pub struct HopObject {
 
 /// The hop of an RSVP_HOP's body. None exactly where the body is none, as where it has no IF_INDEX or two.
 pub fn read_hop(body: &[u8]) -> Option<HopObject>
-    ensures found { IfSome result (IsHop body.now) }
-    ensures only { (h : HopObject) → IsHop body.now h → result ≡ Some h }
+    ensures { Reads (IsHop body.now) result }
 {
     if body.len() < 8 {
         return None;
@@ -36,9 +36,7 @@ pub fn read_hop(body: &[u8]) -> Option<HopObject>
 
 /// Appends the RSVP_HOP object. The sender is its address and that of its IF_INDEX.
 pub fn write_hop(out: &mut Vec<u8>, x: &HopObject) -> Result<(), OutOfMemory>
-    ensures ok { OnOk result (out.new.items ≡ out.old.items ++ object 3 3 (hop_bytes x.now)) }
-    ensures err { OnErr result (out.new.items ≡ out.old.items) }
-    ensures full { OnErr result (vec_capacity out.old < vec_len out.old + 24) }
+    ensures { Appends out.old out.new (object 3 3 (hop_bytes x.now)) result }
 {
     out.reserve(24)?;
     put_header(out, 24, 3, 3);

@@ -1,7 +1,8 @@
 //! MESSAGE_ID and MESSAGE_ID_ACK (RFC 2961, sections 4.2 and 4.3).
 
-ghost use Rattle.std.specs.Prelude.{◌≡◌, ◌<◌, ◌+◌, ◌^◌, ◌++◌, ℕ, Some, IfSome, OnErr, OnOk, vec_len, vec_capacity};
+ghost use Rattle.std.specs.Prelude.{◌<◌, ◌^◌, ℕ};
 ghost use Rattle.ason_base.specs.declared.messages.MsgId.{MsgId};
+ghost use Rattle.wire_buf.specs.Codecs.{Appends, Reads};
 ghost use Rattle.wire_buf.specs.Objects.{object};
 ghost use Rattle.rsvp_objects.specs.Bodies.{IsMsgId, msg_id_bytes};
 
@@ -17,8 +18,7 @@ const MESSAGE_ID_ACK: u8 = 24;
 const ACK_DESIRED: u8 = 1;
 
 fn id_of(body: &[u8]) -> Option<MsgId>
-    ensures found { IfSome result (IsMsgId body.now) }
-    ensures only { (m : MsgId) → IsMsgId body.now m → result ≡ Some m }
+    ensures { Reads (IsMsgId body.now) result }
 {
     if body.len() != 8 {
         return None;
@@ -31,9 +31,7 @@ fn id_of(body: &[u8]) -> Option<MsgId>
 
 fn write_as(out: &mut Vec<u8>, class: u8, flags: u8, x: &MsgId) -> Result<(), OutOfMemory>
     requires { x.now.epoch < 2 ^ 24 }
-    ensures ok { OnOk result (out.new.items ≡ out.old.items ++ object class 1 (msg_id_bytes flags x.now)) }
-    ensures err { OnErr result (out.new.items ≡ out.old.items) }
-    ensures full { OnErr result (vec_capacity out.old < vec_len out.old + 12) }
+    ensures { Appends out.old out.new (object class 1 (msg_id_bytes flags x.now)) result }
 {
     out.reserve(12)?;
     put_header(out, 12, class, 1);
@@ -45,8 +43,7 @@ fn write_as(out: &mut Vec<u8>, class: u8, flags: u8, x: &MsgId) -> Result<(), Ou
 
 /// The number of a MESSAGE_ID's body. None exactly where the body is none.
 pub fn read_id(body: &[u8]) -> Option<MsgId>
-    ensures found { IfSome result (IsMsgId body.now) }
-    ensures only { (m : MsgId) → IsMsgId body.now m → result ≡ Some m }
+    ensures { Reads (IsMsgId body.now) result }
 {
     id_of(body)
 }
@@ -54,17 +51,14 @@ pub fn read_id(body: &[u8]) -> Option<MsgId>
 /// Appends the MESSAGE_ID object, which asks for an acknowledgement.
 pub fn write_id(out: &mut Vec<u8>, x: &MsgId) -> Result<(), OutOfMemory>
     requires { x.now.epoch < 2 ^ 24 }
-    ensures ok { OnOk result (out.new.items ≡ out.old.items ++ object 23 1 (msg_id_bytes 1 x.now)) }
-    ensures err { OnErr result (out.new.items ≡ out.old.items) }
-    ensures full { OnErr result (vec_capacity out.old < vec_len out.old + 12) }
+    ensures { Appends out.old out.new (object 23 1 (msg_id_bytes 1 x.now)) result }
 {
     write_as(out, MESSAGE_ID, ACK_DESIRED, x)
 }
 
 /// The number of a MESSAGE_ID_ACK's body. None exactly where the body is none.
 pub fn read_ack(body: &[u8]) -> Option<MsgId>
-    ensures found { IfSome result (IsMsgId body.now) }
-    ensures only { (m : MsgId) → IsMsgId body.now m → result ≡ Some m }
+    ensures { Reads (IsMsgId body.now) result }
 {
     id_of(body)
 }
@@ -72,9 +66,7 @@ pub fn read_ack(body: &[u8]) -> Option<MsgId>
 /// Appends the MESSAGE_ID_ACK object.
 pub fn write_ack(out: &mut Vec<u8>, x: &MsgId) -> Result<(), OutOfMemory>
     requires { x.now.epoch < 2 ^ 24 }
-    ensures ok { OnOk result (out.new.items ≡ out.old.items ++ object 24 1 (msg_id_bytes 0 x.now)) }
-    ensures err { OnErr result (out.new.items ≡ out.old.items) }
-    ensures full { OnErr result (vec_capacity out.old < vec_len out.old + 12) }
+    ensures { Appends out.old out.new (object 24 1 (msg_id_bytes 0 x.now)) result }
 {
     write_as(out, MESSAGE_ID_ACK, 0, x)
 }

@@ -1,6 +1,7 @@
 //! LABEL and UPSTREAM_LABEL, generalized (RFC 3473, sections 2.3 and 3).
 
-ghost use Rattle.std.specs.Prelude.{◌≡◌, ◌≤◌, ◌<◌, ◌+◌, ◌++◌, ℕ, Some, IfSome, OnErr, OnOk, vec_len, vec_capacity};
+ghost use Rattle.std.specs.Prelude.{◌≤◌, ℕ};
+ghost use Rattle.wire_buf.specs.Codecs.{Appends, Reads};
 ghost use Rattle.wire_buf.specs.Objects.{object};
 ghost use Rattle.rsvp_objects.specs.Bodies.{IsLabel, label_bytes};
 
@@ -13,8 +14,7 @@ const LABEL: u8 = 16;
 const UPSTREAM_LABEL: u8 = 35;
 
 fn label_of(body: &[u8]) -> Option<Label>
-    ensures found { IfSome result (IsLabel body.now) }
-    ensures only { (l : ℕ) → IsLabel body.now l → result ≡ Some l }
+    ensures { Reads (IsLabel body.now) result }
 {
     if body.len() != 4 {
         return None;
@@ -27,9 +27,7 @@ fn label_of(body: &[u8]) -> Option<Label>
 }
 
 fn write_as(out: &mut Vec<u8>, class: u8, x: &Label) -> Result<(), OutOfMemory>
-    ensures ok { OnOk result (out.new.items ≡ out.old.items ++ object class 2 (label_bytes x.now)) }
-    ensures err { OnErr result (out.new.items ≡ out.old.items) }
-    ensures full { OnErr result (vec_capacity out.old < vec_len out.old + 8) }
+    ensures { Appends out.old out.new (object class 2 (label_bytes x.now)) result }
 {
     out.reserve(8)?;
     put_header(out, 8, class, 2);
@@ -39,34 +37,28 @@ fn write_as(out: &mut Vec<u8>, class: u8, x: &Label) -> Result<(), OutOfMemory>
 
 /// The label of a LABEL's body. None exactly where the body is none, as where the label isn't 1 to 80.
 pub fn read_label(body: &[u8]) -> Option<Label>
-    ensures found { IfSome result (IsLabel body.now) }
-    ensures only { (l : ℕ) → IsLabel body.now l → result ≡ Some l }
+    ensures { Reads (IsLabel body.now) result }
 {
     label_of(body)
 }
 
 /// Appends the LABEL object.
 pub fn write_label(out: &mut Vec<u8>, x: &Label) -> Result<(), OutOfMemory>
-    ensures ok { OnOk result (out.new.items ≡ out.old.items ++ object 16 2 (label_bytes x.now)) }
-    ensures err { OnErr result (out.new.items ≡ out.old.items) }
-    ensures full { OnErr result (vec_capacity out.old < vec_len out.old + 8) }
+    ensures { Appends out.old out.new (object 16 2 (label_bytes x.now)) result }
 {
     write_as(out, LABEL, x)
 }
 
 /// The label of an UPSTREAM_LABEL's body. None exactly where the body is none, as where the label isn't 1 to 80.
 pub fn read_upstream(body: &[u8]) -> Option<Label>
-    ensures found { IfSome result (IsLabel body.now) }
-    ensures only { (l : ℕ) → IsLabel body.now l → result ≡ Some l }
+    ensures { Reads (IsLabel body.now) result }
 {
     label_of(body)
 }
 
 /// Appends the UPSTREAM_LABEL object.
 pub fn write_upstream(out: &mut Vec<u8>, x: &Label) -> Result<(), OutOfMemory>
-    ensures ok { OnOk result (out.new.items ≡ out.old.items ++ object 35 2 (label_bytes x.now)) }
-    ensures err { OnErr result (out.new.items ≡ out.old.items) }
-    ensures full { OnErr result (vec_capacity out.old < vec_len out.old + 8) }
+    ensures { Appends out.old out.new (object 35 2 (label_bytes x.now)) result }
 {
     write_as(out, UPSTREAM_LABEL, x)
 }

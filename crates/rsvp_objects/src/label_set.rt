@@ -1,7 +1,8 @@
 //! LABEL_SET (RFC 3473, section 2.6; RFC 3471, section 3.5).
 
-ghost use Rattle.std.specs.Prelude.{◌≡◌, ◌≤◌, ◌<◌, ◌+◌, ◌*◌, ◌++◌, [], ◌∷◌, ℕ, List, length, Some, IfSome, SomeIff, OnErr, OnOk, vec_len, vec_capacity};
+ghost use Rattle.std.specs.Prelude.{◌≡◌, ◌≤◌, ◌+◌, ◌*◌, ◌++◌, [], ◌∷◌, ℕ, List, length, SomeIff, vec_len, vec_capacity};
 ghost use Rattle.ason_base.specs.Labels.{has};
+ghost use Rattle.wire_buf.specs.Codecs.{Appends, Reads};
 ghost use Rattle.wire_buf.specs.Objects.{object};
 ghost use Rattle.rsvp_objects.specs.declared.label_set.LabelSetObject.{LabelSetObject};
 ghost use Rattle.rsvp_objects.specs.LabelSets.{HasLabels, IsLabelSet, action_of, among, between, is_between, label_set_bytes, labels_bytes, listed, numbers, or_zero, ranged};
@@ -90,8 +91,7 @@ fn read_range(body: &[u8], include: bool) -> Option<LabelSetObject>
 /// What a LABEL_SET's body includes or excludes. None exactly where the body is none: its action isn't 0 to 3, it has no
 /// label, a label isn't whole, or a range hasn't exactly two.
 pub fn read_label_set(body: &[u8]) -> Option<LabelSetObject>
-    ensures found { IfSome result (IsLabelSet body.now) }
-    ensures only { (o : LabelSetObject) → IsLabelSet body.now o → result ≡ Some o }
+    ensures { Reads (IsLabelSet body.now) result }
 {
     match body {
         [0, ..] => read_list(body, true),
@@ -159,9 +159,7 @@ fn action(include: bool) -> u8
 /// Appends the LABEL_SET object, with action 0 or 1 and the labels rising. A set without labels is written as the one label
 /// 0, which names none.
 pub fn write_label_set(out: &mut Vec<u8>, x: &LabelSetObject) -> Result<(), OutOfMemory>
-    ensures ok { OnOk result (out.new.items ≡ out.old.items ++ object 36 1 (label_set_bytes x.now)) }
-    ensures err { OnErr result (out.new.items ≡ out.old.items) }
-    ensures full { OnErr result (vec_capacity out.old < vec_len out.old + (8 + 4 * length (or_zero (among x.now.labels)))) }
+    ensures { Appends out.old out.new (object 36 1 (label_set_bytes x.now)) result }
 {
     let count = count(&x.labels);
     let len = 8 + 4 * count.max(1);

@@ -1,6 +1,7 @@
 //! LABEL_REQUEST, generalized (RFC 3473, section 2.1).
 
-ghost use Rattle.std.specs.Prelude.{◌≡◌, ◌<◌, ◌+◌, ◌++◌, ◌↔◌, IsSome, OnErr, OnOk, vec_len, vec_capacity};
+ghost use Rattle.std.specs.Prelude.{◌↔◌, IsSome};
+ghost use Rattle.wire_buf.specs.Codecs.{Appends};
 ghost use Rattle.wire_buf.specs.Objects.{object};
 ghost use Rattle.rsvp_objects.specs.Bodies.{IsRequest, request_bytes};
 
@@ -29,9 +30,7 @@ pub fn read_request(body: &[u8]) -> Option<LabelRequest>
 
 /// Appends the LABEL_REQUEST object, with the G-PID 0.
 pub fn write_request(out: &mut Vec<u8>, _x: &LabelRequest) -> Result<(), OutOfMemory>
-    ensures ok { OnOk result (out.new.items ≡ out.old.items ++ object 19 4 request_bytes) }
-    ensures err { OnErr result (out.new.items ≡ out.old.items) }
-    ensures full { OnErr result (vec_capacity out.old < vec_len out.old + 8) }
+    ensures { Appends out.old out.new (object 19 4 request_bytes) result }
 {
     out.reserve(8)?;
     put_header(out, 8, 19, 4);

@@ -1,6 +1,7 @@
 //! SENDER_TEMPLATE and FILTER_SPEC of an LSP tunnel (RFC 3209, sections 4.6.2.1 and 4.6.3.1).
 
-ghost use Rattle.std.specs.Prelude.{◌≡◌, ◌<◌, ◌+◌, ◌^◌, ◌++◌, Some, IfSome, OnErr, OnOk, vec_len, vec_capacity};
+ghost use Rattle.std.specs.Prelude.{◌<◌, ◌^◌};
+ghost use Rattle.wire_buf.specs.Codecs.{Appends, Reads};
 ghost use Rattle.wire_buf.specs.Objects.{object};
 ghost use Rattle.rsvp_objects.specs.declared.sender.SenderRef.{SenderRef};
 ghost use Rattle.rsvp_objects.specs.Bodies.{IsSenderRef, sender_bytes};
@@ -21,8 +22,7 @@ pub struct SenderRef {
 }
 
 fn sender_of(body: &[u8]) -> Option<SenderRef>
-    ensures found { IfSome result (IsSenderRef body.now) }
-    ensures only { (s : SenderRef) → IsSenderRef body.now s → result ≡ Some s }
+    ensures { Reads (IsSenderRef body.now) result }
 {
     if body.len() != 8 {
         return None;
@@ -34,9 +34,7 @@ fn sender_of(body: &[u8]) -> Option<SenderRef>
 }
 
 fn write_as(out: &mut Vec<u8>, class: u8, x: &SenderRef) -> Result<(), OutOfMemory>
-    ensures ok { OnOk result (out.new.items ≡ out.old.items ++ object class 7 (sender_bytes x.now)) }
-    ensures err { OnErr result (out.new.items ≡ out.old.items) }
-    ensures full { OnErr result (vec_capacity out.old < vec_len out.old + 12) }
+    ensures { Appends out.old out.new (object class 7 (sender_bytes x.now)) result }
 {
     out.reserve(12)?;
     put_header(out, 12, class, 7);
@@ -48,34 +46,28 @@ fn write_as(out: &mut Vec<u8>, class: u8, x: &SenderRef) -> Result<(), OutOfMemo
 
 /// The sender of a FILTER_SPEC's body. None exactly where the body is none.
 pub fn read_filter(body: &[u8]) -> Option<SenderRef>
-    ensures found { IfSome result (IsSenderRef body.now) }
-    ensures only { (s : SenderRef) → IsSenderRef body.now s → result ≡ Some s }
+    ensures { Reads (IsSenderRef body.now) result }
 {
     sender_of(body)
 }
 
 /// Appends the FILTER_SPEC object.
 pub fn write_filter(out: &mut Vec<u8>, x: &SenderRef) -> Result<(), OutOfMemory>
-    ensures ok { OnOk result (out.new.items ≡ out.old.items ++ object 10 7 (sender_bytes x.now)) }
-    ensures err { OnErr result (out.new.items ≡ out.old.items) }
-    ensures full { OnErr result (vec_capacity out.old < vec_len out.old + 12) }
+    ensures { Appends out.old out.new (object 10 7 (sender_bytes x.now)) result }
 {
     write_as(out, FILTER_SPEC, x)
 }
 
 /// The sender of a SENDER_TEMPLATE's body. None exactly where the body is none.
 pub fn read_sender(body: &[u8]) -> Option<SenderRef>
-    ensures found { IfSome result (IsSenderRef body.now) }
-    ensures only { (s : SenderRef) → IsSenderRef body.now s → result ≡ Some s }
+    ensures { Reads (IsSenderRef body.now) result }
 {
     sender_of(body)
 }
 
 /// Appends the SENDER_TEMPLATE object.
 pub fn write_sender(out: &mut Vec<u8>, x: &SenderRef) -> Result<(), OutOfMemory>
-    ensures ok { OnOk result (out.new.items ≡ out.old.items ++ object 11 7 (sender_bytes x.now)) }
-    ensures err { OnErr result (out.new.items ≡ out.old.items) }
-    ensures full { OnErr result (vec_capacity out.old < vec_len out.old + 12) }
+    ensures { Appends out.old out.new (object 11 7 (sender_bytes x.now)) result }
 {
     write_as(out, SENDER_TEMPLATE, x)
 }

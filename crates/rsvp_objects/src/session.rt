@@ -1,6 +1,7 @@
 //! SESSION of an LSP tunnel (RFC 3209, section 4.6.1.1).
 
-ghost use Rattle.std.specs.Prelude.{◌≡◌, ◌<◌, ◌+◌, ◌^◌, ◌++◌, Some, IfSome, OnErr, OnOk, vec_len, vec_capacity};
+ghost use Rattle.std.specs.Prelude.{◌<◌, ◌^◌};
+ghost use Rattle.wire_buf.specs.Codecs.{Appends, Reads};
 ghost use Rattle.wire_buf.specs.Objects.{object};
 ghost use Rattle.rsvp_objects.specs.declared.session.Session.{Session};
 ghost use Rattle.rsvp_objects.specs.Bodies.{IsSession, session_bytes};
@@ -19,8 +20,7 @@ pub struct Session {
 
 /// The session of a SESSION's body. None exactly where the body is none.
 pub fn read_session(body: &[u8]) -> Option<Session>
-    ensures found { IfSome result (IsSession body.now) }
-    ensures only { (s : Session) → IsSession body.now s → result ≡ Some s }
+    ensures { Reads (IsSession body.now) result }
 {
     if body.len() != 12 {
         return None;
@@ -34,9 +34,7 @@ pub fn read_session(body: &[u8]) -> Option<Session>
 
 /// Appends the SESSION object.
 pub fn write_session(out: &mut Vec<u8>, x: &Session) -> Result<(), OutOfMemory>
-    ensures ok { OnOk result (out.new.items ≡ out.old.items ++ object 1 7 (session_bytes x.now)) }
-    ensures err { OnErr result (out.new.items ≡ out.old.items) }
-    ensures full { OnErr result (vec_capacity out.old < vec_len out.old + 16) }
+    ensures { Appends out.old out.new (object 1 7 (session_bytes x.now)) result }
 {
     out.reserve(16)?;
     put_header(out, 16, 1, 7);

@@ -1,6 +1,7 @@
 //! ASSOCIATION (RFC 4872, section 16.1).
 
-ghost use Rattle.std.specs.Prelude.{◌≡◌, ◌<◌, ◌+◌, ◌^◌, ◌++◌, Some, IfSome, OnErr, OnOk, vec_len, vec_capacity};
+ghost use Rattle.std.specs.Prelude.{◌<◌, ◌^◌};
+ghost use Rattle.wire_buf.specs.Codecs.{Appends, Reads};
 ghost use Rattle.wire_buf.specs.Objects.{object};
 ghost use Rattle.rsvp_recovery.specs.declared.association.Association.{Association};
 ghost use Rattle.rsvp_recovery.specs.Bodies.{IsAssociation, association_bytes};
@@ -20,8 +21,7 @@ pub struct Association {
 
 /// The association of an ASSOCIATION's body. None exactly where the body is none.
 pub fn read_association(body: &[u8]) -> Option<Association>
-    ensures found { IfSome result (IsAssociation body.now) }
-    ensures only { (a : Association) → IsAssociation body.now a → result ≡ Some a }
+    ensures { Reads (IsAssociation body.now) result }
 {
     if body.len() != 8 {
         return None;
@@ -35,9 +35,7 @@ pub fn read_association(body: &[u8]) -> Option<Association>
 
 /// Appends the ASSOCIATION object.
 pub fn write_association(out: &mut Vec<u8>, x: &Association) -> Result<(), OutOfMemory>
-    ensures ok { OnOk result (out.new.items ≡ out.old.items ++ object 199 1 (association_bytes x.now)) }
-    ensures err { OnErr result (out.new.items ≡ out.old.items) }
-    ensures full { OnErr result (vec_capacity out.old < vec_len out.old + 12) }
+    ensures { Appends out.old out.new (object 199 1 (association_bytes x.now)) result }
 {
     out.reserve(12)?;
     put_header(out, 12, 199, 1);

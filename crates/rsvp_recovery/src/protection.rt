@@ -1,6 +1,7 @@
 //! PROTECTION (RFC 4872, section 14).
 
-ghost use Rattle.std.specs.Prelude.{◌≡◌, ◌==◌, ◌<◌, ◌+◌, ◌++◌, Some, IfSome, OnErr, OnOk, vec_len, vec_capacity};
+ghost use Rattle.std.specs.Prelude.{◌≡◌, ◌==◌};
+ghost use Rattle.wire_buf.specs.Codecs.{Appends, Reads};
 ghost use Rattle.wire_buf.specs.Objects.{object};
 ghost use Rattle.rsvp_recovery.specs.declared.protection.Protection.{Protection};
 ghost use Rattle.rsvp_recovery.specs.Bodies.{IsProtection, first_word, lsp_flags, protecting, protection_bytes, secondary};
@@ -48,8 +49,7 @@ fn flags_of(word: u32) -> u32
 /// The protection of a PROTECTION's body. None exactly where the body is none: its bits S and P and its LSP flags are none
 /// of the four that are used here.
 pub fn read_protection(body: &[u8]) -> Option<Protection>
-    ensures found { IfSome result (IsProtection body.now) }
-    ensures only { (p : Protection) → IsProtection body.now p → result ≡ Some p }
+    ensures { Reads (IsProtection body.now) result }
 {
     if body.len() != 8 {
         return None;
@@ -77,9 +77,7 @@ fn word_of(x: &Protection) -> u32
 
 /// Appends the PROTECTION object.
 pub fn write_protection(out: &mut Vec<u8>, x: &Protection) -> Result<(), OutOfMemory>
-    ensures ok { OnOk result (out.new.items ≡ out.old.items ++ object 37 2 (protection_bytes x.now)) }
-    ensures err { OnErr result (out.new.items ≡ out.old.items) }
-    ensures full { OnErr result (vec_capacity out.old < vec_len out.old + 12) }
+    ensures { Appends out.old out.new (object 37 2 (protection_bytes x.now)) result }
 {
     out.reserve(12)?;
     put_header(out, 12, 37, 2);

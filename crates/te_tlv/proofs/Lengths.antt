@@ -6,7 +6,7 @@ use Rattle.std.specs.List.{flat_map}
 use Rattle.byteorder.specs.Endian.{big_bytes}
 use Rattle.ason_base.specs.declared.ids.NodeId.{NodeId}
 use Rattle.ason_base.specs.declared.network.TeRow.{TeRow}
-use Rattle.te_tlv.specs.SubTlvs.{padded}
+use Rattle.wire_buf.specs.Tlvs.{padded}
 use Rattle.te_tlv.specs.Written.{sub_tlv, srlgs_tlv, link_body, peer_of}
 
 zeros-length : (n : ℕ) → length {A = ℕ} (replicate n 0) ≡ n

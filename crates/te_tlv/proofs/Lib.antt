@@ -1,4 +1,3 @@
-pub mod Scanning
 pub mod Rising
 pub mod Once
 pub mod Lengths

@@ -1,28 +1,32 @@
 -- Bytes spell one row at most.
-use Rattle.std.proofs.Common.{◌≡◌, ℕ, Option, Some, None, List, [], ◌∷◌, drop, min, max, refl, ap, sym, subst, ◌∙◌, IfNone}
+use Rattle.std.proofs.Common.{◌≡◌, ℕ, Option, Ok, Some, None, List, [], ◌∷◌, drop, min, max, refl, ap, sym, subst, ◌∙◌, IfNone}
 use Rattle.byteorder.specs.Endian.{big_number}
 use Rattle.ason_base.specs.declared.ids.NodeId.{NodeId}
 use Rattle.ason_base.specs.declared.network.TeRow.{TeRow}
-use Rattle.te_tlv.specs.SubTlvs.{SubTlv, AreSubTlvs, IsLinkTlv, values_of}
+use Rattle.wire_buf.specs.Codecs.{Decodes}
+use Rattle.wire_buf.specs.Tlvs.{TypeValue, values_of}
+use Rattle.wire_buf.proofs.Codecs.{decodes_some}
+use Rattle.wire_buf.proofs.Sequences.{same_items}
+use Rattle.wire_buf.proofs.Tlvs.{tlvs_once}
+use Rattle.te_tlv.specs.SubTlvs.{AreSubTlvs, IsLinkTlv}
 use Rattle.te_tlv.specs.Rows.{IsOnly, HasPeer, HasMetric, HasLink, HasSrlgs, SrlgsOf, HasFields, row_between, SpellsRow}
-use Rattle.te_tlv.proofs.Scanning.{same_subs}
 use Rattle.te_tlv.proofs.Rising.{srlgs_once}
 
-pub no_fields : {X : Type 0} (o : Option X) (origin : NodeId) (body : List ℕ) → ((subs : List SubTlv) → AreSubTlvs body subs → (peer metric link : ℕ) → HasFields origin subs peer metric link → ⊥) →
-    IfNone o ((subs : List SubTlv) → AreSubTlvs body subs → (peer metric link : ℕ) → HasFields origin subs peer metric link → ⊥)
+pub no_fields : {X : Type 0} (o : Option X) (origin : NodeId) (body : List ℕ) → ((subs : List TypeValue) → AreSubTlvs body subs → (peer metric link : ℕ) → HasFields origin subs peer metric link → ⊥) →
+    IfNone o ((subs : List TypeValue) → AreSubTlvs body subs → (peer metric link : ℕ) → HasFields origin subs peer metric link → ⊥)
 no_fields None origin body none = none
 no_fields (Some x) origin body none = tt
 
-value_once : (kind : ℕ) (subs : List SubTlv) (v w : List ℕ) → IsOnly kind subs v → IsOnly kind subs w → v ≡ w
+value_once : (kind : ℕ) (subs : List TypeValue) (v w : List ℕ) → IsOnly kind subs v → IsOnly kind subs w → v ≡ w
 value_once kind subs v w p q = cc
 
-peer_once : (origin : NodeId) (subs : List SubTlv) (a b : ℕ) → HasPeer origin subs a → HasPeer origin subs b → a ≡ b
+peer_once : (origin : NodeId) (subs : List TypeValue) (a b : ℕ) → HasPeer origin subs a → HasPeer origin subs b → a ≡ b
 peer_once origin subs a b p q = p.2.1 ∙ ap (big_number 4) (value_once 2 subs p.0 q.0 p.1 q.1) ∙ sym q.2.1
 
-metric_once : (subs : List SubTlv) (a b : ℕ) → HasMetric subs a → HasMetric subs b → a ≡ b
+metric_once : (subs : List TypeValue) (a b : ℕ) → HasMetric subs a → HasMetric subs b → a ≡ b
 metric_once subs a b p q = p.2.1 ∙ ap (big_number 4) (value_once 5 subs p.0 q.0 p.1 q.1) ∙ sym q.2.1
 
-link_once : (subs : List SubTlv) (a b : ℕ) → HasLink subs a → HasLink subs b → a ≡ b
+link_once : (subs : List TypeValue) (a b : ℕ) → HasLink subs a → HasLink subs b → a ≡ b
 link_once subs a b p q = p.3 ∙ ap (big_number 4) (value_once 11 subs p.0 q.0 p.1 q.1) ∙ sym q.3
 
 srlgs_of_once : (values : List (List ℕ)) (s t : List ℕ) → SrlgsOf values s → SrlgsOf values t → s ≡ t
@@ -32,10 +36,10 @@ srlgs_of_once (v ∷ w ∷ vs) s t p q = absurd p
 
 pub spelled_once : (origin : NodeId) (bytes : List ℕ) (a b : TeRow) → SpellsRow origin bytes a → SpellsRow origin bytes b → a ≡ b
 spelled_once origin bytes a b p q =
-    let same : q.subs ≡ p.subs = same_subs (drop 4 bytes) q.subs p.subs q.tlv.subs_are p.tlv.subs_are in
+    let same : q.subs ≡ p.subs = same_items (tlvs_once 0) (drop 4 bytes) q.subs p.subs q.tlv.subs_are p.tlv.subs_are in
     let fields : HasFields origin p.subs q.fields.peer b.metric b.link.0 =
-    subst (λ (subs : List SubTlv). HasFields origin subs q.fields.peer b.metric b.link.0) same q.fields.fields in
-    let srlgs : HasSrlgs p.subs b.srlgs = subst (λ (subs : List SubTlv). HasSrlgs subs b.srlgs) same q.fields.has_srlgs in
+    subst (λ (subs : List TypeValue). HasFields origin subs q.fields.peer b.metric b.link.0) same q.fields.fields in
+    let srlgs : HasSrlgs p.subs b.srlgs = subst (λ (subs : List TypeValue). HasSrlgs subs b.srlgs) same q.fields.has_srlgs in
     let peer_is : p.fields.peer ≡ q.fields.peer = peer_once origin p.subs p.fields.peer q.fields.peer p.fields.fields.has_peer fields.has_peer in
     let metric_is : a.metric ≡ b.metric = metric_once p.subs a.metric b.metric p.fields.fields.has_metric fields.has_metric in
     let link_is : a.link.0 ≡ b.link.0 = link_once p.subs a.link.0 b.link.0 p.fields.fields.has_link fields.has_link in
@@ -44,15 +48,25 @@ spelled_once origin bytes a b p q =
     λ i. row_between origin (peer_is i) (metric_is i) (link_is i) (srlgs_is i) in
     p.fields.is ∙ between ∙ sym q.fields.is
 
--- what was read is what is spelled
-pub read_is_spelled : (origin : NodeId) (bytes body : List ℕ) (peer metric link low high : ℕ) (srlgs : List ℕ) → ((subs : List SubTlv) → AreSubTlvs body subs → IsLinkTlv bytes subs) → (subs : List SubTlv) × AreSubTlvs body subs →
-    ((subs : List SubTlv) → AreSubTlvs body subs → HasFields origin subs peer metric link) → ((subs : List SubTlv) → AreSubTlvs body subs → HasSrlgs subs srlgs) →
-    low ≡ min origin.0 peer → high ≡ max origin.0 peer → (row : TeRow) → SpellsRow origin bytes row →
-    record { link = record { 0 = link }; low = record { 0 = low }; high = record { 0 = high }; metric = metric; srlgs = srlgs } ≡ row
-read_is_spelled origin bytes body peer metric link low high srlgs tlv some fields has_srlgs is_low is_high row spelled =
-    let found : SpellsRow origin bytes (row_between origin peer metric link srlgs) = record {
+-- what was read is what is spelled, and nothing else is
+pub row_read : (origin : NodeId) (bytes body : List ℕ) (peer metric link low high : ℕ) (srlgs : List ℕ) →
+    ((subs : List TypeValue) → AreSubTlvs body subs → IsLinkTlv bytes subs) →
+    (subs : List TypeValue) × AreSubTlvs body subs →
+    ((subs : List TypeValue) → AreSubTlvs body subs → HasFields origin subs peer metric link) →
+    ((subs : List TypeValue) → AreSubTlvs body subs → HasSrlgs subs srlgs) →
+    low ≡ min origin.0 peer → high ≡ max origin.0 peer →
+    Decodes (SpellsRow origin bytes) (Ok (record {
+      link = record { 0 = link };
+      low = record { 0 = low };
+      high = record { 0 = high };
+      metric = metric;
+      srlgs = srlgs;
+    }))
+row_read origin bytes body peer metric link low high srlgs tlv some fields has_srlgs is_low is_high =
+    let row : TeRow = row_between origin peer metric link srlgs in
+    let found : SpellsRow origin bytes row = record {
       subs = some.0;
       tlv = tlv some.0 some.1;
       fields = record { peer = peer; fields = fields some.0 some.1; has_srlgs = has_srlgs some.0 some.1; is = refl };
     } in
-    rw (is_low, is_high) (spelled_once origin bytes (row_between origin peer metric link srlgs) row found spelled)
+    rw (is_low, is_high) (decodes_some row found (λ other spelled. spelled_once origin bytes row other found spelled))

@@ -9,7 +9,8 @@ use Rattle.byteorder.specs.Endian.{big_bytes, big_number}
 use Rattle.byteorder.specs.Numbers.{big_number-reads_back}
 use Rattle.ason_base.specs.declared.ids.NodeId.{NodeId}
 use Rattle.ason_base.specs.declared.network.TeRow.{TeRow}
-use Rattle.te_tlv.specs.SubTlvs.{SubTlv, AreSubTlvs, BeginsWith, IsLinkTlv, padded, values_of}
+use Rattle.wire_buf.specs.Tlvs.{BeginsTlv, TypeValue, padded, values_of}
+use Rattle.te_tlv.specs.SubTlvs.{AreSubTlvs, IsLinkTlv}
 use Rattle.te_tlv.specs.Rows.{AreSrlgs, HasFields, HasSrlgs, numbers_of, SpellsRow}
 use Rattle.te_tlv.specs.Written.{IsWritable, HasNumbers, sub_tlv, srlgs_tlv, peer_of, link_body, link_tlv}
 use Rattle.te_tlv.proofs.Lengths.{length-sub_tlv, length-numbers, length-body, srlgs-most}
@@ -17,29 +18,30 @@ use Rattle.te_tlv.proofs.Lengths.{length-sub_tlv, length-numbers, length-body, s
 sub_size : (kind : ℕ) (value rest : List ℕ) → 4 + padded (length value) ≤ length (sub_tlv kind value ++ rest)
 sub_size kind value rest = omega (arith, length-append (sub_tlv kind value) rest, length-sub_tlv kind value)
 
-sub_begins : (kind : ℕ) (value rest : List ℕ) → kind < 2 ^ 16 → length value < 2 ^ 16 → BeginsWith (sub_tlv kind value ++ rest) (record { kind = kind; value = value })
+sub_begins : (kind : ℕ) (value rest : List ℕ) → kind < 2 ^ 16 → length value < 2 ^ 16 → BeginsTlv 0 (sub_tlv kind value ++ rest) (record { kind = kind; value = value })
 unfolding sub_tlv
 sub_begins kind value rest small short =
     let pad : List ℕ = replicate (padded (length value) - length value) 0 in
+    let alone : length value + 0 ≡ length value = omega arith in
     record {
       size = sub_size kind value rest;
       kind = sym (big_number-reads_back 2 kind (big_bytes 2 (length value) ++ ((value ++ pad) ++ rest)) small);
-      len = sym (big_number-reads_back 2 (length value) ((value ++ pad) ++ rest) short);
+      len = alone ∙ sym (big_number-reads_back 2 (length value) ((value ++ pad) ++ rest) short);
       value = sym (ap (take (length value)) (append_assoc value pad rest) ∙ take-append_seam value (pad ++ rest));
     }
 
-are_cons : (kind : ℕ) (value rest : List ℕ) (ss : List SubTlv) → kind < 2 ^ 16 → length value < 2 ^ 16 → AreSubTlvs rest ss → AreSubTlvs (sub_tlv kind value ++ rest) (record { kind = kind; value = value } ∷ ss)
+are_cons : (kind : ℕ) (value rest : List ℕ) (ss : List TypeValue) → kind < 2 ^ 16 → length value < 2 ^ 16 → AreSubTlvs rest ss → AreSubTlvs (sub_tlv kind value ++ rest) (record { kind = kind; value = value } ∷ ss)
 are_cons kind value rest ss small short are =
     (sub_begins kind value rest small short, subst (λ (l : List ℕ). AreSubTlvs l ss) (sym (drop_at (sub_tlv kind value) rest (4 + padded (length value)) (length-sub_tlv kind value))) are)
 
 value_of : List ℕ → List ℕ
 value_of ns = flat_map (λ n. big_bytes 4 n) ns
 
-srlg_subs : List ℕ → List SubTlv
+srlg_subs : List ℕ → List TypeValue
 srlg_subs [] = []
 srlg_subs (n ∷ ns) = record { kind = 16; value = value_of (n ∷ ns) } ∷ []
 
-row_subs : ℕ → ℕ → ℕ → List ℕ → List SubTlv
+row_subs : ℕ → ℕ → ℕ → List ℕ → List TypeValue
 row_subs peer metric link ns =
     record { kind = 1; value = 1 ∷ [] } ∷ record { kind = 2; value = big_bytes 4 peer } ∷ record { kind = 5; value = big_bytes 4 metric }
     ∷ record { kind = 11; value = big_bytes 4 link ++ big_bytes 4 link } ∷ srlg_subs ns
@@ -77,7 +79,7 @@ are_body origin row few =
 headed : (a b c d : ℕ) (body : List ℕ) → 4 + length body ≡ length (a ∷ b ∷ c ∷ d ∷ body)
 headed a b c d body = omega arith
 
-tlv_body : (body : List ℕ) (subs : List SubTlv) → length body < 2 ^ 16 → AreSubTlvs body subs → IsLinkTlv (big_bytes 2 2 ++ big_bytes 2 (length body) ++ body) subs
+tlv_body : (body : List ℕ) (subs : List TypeValue) → length body < 2 ^ 16 → AreSubTlvs body subs → IsLinkTlv (big_bytes 2 2 ++ big_bytes 2 (length body) ++ body) subs
 tlv_body body subs short are = record {
   kind = refl;
   len = ap (λ (n : ℕ). 4 + n) (big_number-reads_back 2 (length body) body short) ∙ headed 0 2 (length body / 256 % 256) (length body % 256) body;

@@ -4,10 +4,14 @@ use Rattle.std.specs.List.Sorted.{IsStrictlyIncreasing}
 use Rattle.byteorder.specs.Endian.{big_number}
 use Rattle.ason_base.specs.declared.ids.NodeId.{NodeId}
 use Rattle.ason_base.specs.declared.network.TeRow.{TeRow}
-use Rattle.te_tlv.specs.SubTlvs.{SubTlv, IsLinkTlv, values_of}
+use Rattle.ason_base.specs.declared.network.TheConstants.{MOST_SRLGS}
+use Rattle.wire_buf.specs.Tlvs.{TypeValue, values_of}
+use Rattle.te_tlv.specs.declared.reading.TheConstants.{IDENTIFIERS, LINK_ID, LINK_TYPE, METRIC, POINT_TO_POINT}
+use Rattle.te_tlv.specs.declared.srlgs.TheConstants.{SRLG}
+use Rattle.te_tlv.specs.SubTlvs.{IsLinkTlv}
 
 -- There is just one sub-TLV of this type, and this is its value.
-abbrev pub IsOnly : ℕ → List SubTlv → List ℕ → Type 0
+abbrev pub IsOnly : ℕ → List TypeValue → List ℕ → Type 0
 IsOnly kind subs value = values_of kind subs ≡ value ∷ []
 
 -- a value of four bytes
@@ -15,33 +19,33 @@ abbrev pub IsNumber : List ℕ → ℕ → Type 0
 IsNumber value n = (length value ≡ 4) × (n ≡ big_number 4 value)
 
 -- link type: point-to-point
-abbrev pub IsPointToPoint : List SubTlv → Type 0
-IsPointToPoint subs = IsOnly 1 subs (1 ∷ [])
+abbrev pub IsPointToPoint : List TypeValue → Type 0
+IsPointToPoint subs = IsOnly LINK_TYPE subs (POINT_TO_POINT ∷ [])
 
 -- link id: the node at the other end
-abbrev pub HasPeer : NodeId → List SubTlv → ℕ → Type 0
-HasPeer origin subs peer = (value : List ℕ) × IsOnly 2 subs value × IsNumber value peer × (peer ≢ origin.0)
+abbrev pub HasPeer : NodeId → List TypeValue → ℕ → Type 0
+HasPeer origin subs peer = (value : List ℕ) × IsOnly LINK_ID subs value × IsNumber value peer × (peer ≢ origin.0)
 
 -- traffic engineering metric
-abbrev pub HasMetric : List SubTlv → ℕ → Type 0
-HasMetric subs metric = (value : List ℕ) × IsOnly 5 subs value × IsNumber value metric × (1 ≤ metric) × (metric ≤ 65535)
+abbrev pub HasMetric : List TypeValue → ℕ → Type 0
+HasMetric subs metric = (value : List ℕ) × IsOnly METRIC subs value × IsNumber value metric × (1 ≤ metric) × (metric ≤ 65535)
 
 -- local and remote identifiers, both the link's number
-abbrev pub HasLink : List SubTlv → ℕ → Type 0
+abbrev pub HasLink : List TypeValue → ℕ → Type 0
 HasLink subs link =
-    (value : List ℕ) × IsOnly 11 subs value × (length value ≡ 8) × (link ≡ big_number 4 value) × (link ≡ big_number 4 (drop 4 value))
+    (value : List ℕ) × IsOnly IDENTIFIERS subs value × (length value ≡ 8) × (link ≡ big_number 4 value) × (link ≡ big_number 4 (drop 4 value))
 
 -- the numbers of four bytes each, one after the other
 abbrev pub numbers_of : List ℕ → List ℕ
 numbers_of (a ∷ b ∷ c ∷ d ∷ bytes) = big_number 4 (a ∷ b ∷ c ∷ d ∷ []) ∷ numbers_of bytes
 numbers_of bytes = []
 
--- The SRLGs of a value: the same numbers, each once, rising. There are at most 16.
+-- The SRLGs of a value: the same numbers, each once, rising, and not too many.
 pub record AreSrlgs (value : List ℕ) (srlgs : List ℕ) : Type 0 where
   pub whole : length value % 4 ≡ 0
   pub rising : IsStrictlyIncreasing srlgs
   pub same : (n : ℕ) → Contains srlgs n ↔ Contains (numbers_of value) n
-  pub most : length srlgs ≤ 16
+  pub most : length srlgs ≤ MOST_SRLGS
 
 -- without a sub-TLV of SRLGs there are none
 abbrev pub SrlgsOf : List (List ℕ) → List ℕ → Type 0
@@ -49,11 +53,11 @@ SrlgsOf [] srlgs = srlgs ≡ []
 SrlgsOf (value ∷ []) srlgs = AreSrlgs value srlgs
 SrlgsOf (value ∷ again ∷ others) srlgs = ⊥
 
-abbrev pub HasSrlgs : List SubTlv → List ℕ → Type 0
-HasSrlgs subs srlgs = SrlgsOf (values_of 16 subs) srlgs
+abbrev pub HasSrlgs : List TypeValue → List ℕ → Type 0
+HasSrlgs subs srlgs = SrlgsOf (values_of SRLG subs) srlgs
 
 -- What each row has, beside its SRLGs: the other end, the metric and the link's number.
-pub record HasFields (origin : NodeId) (subs : List SubTlv) (peer metric link : ℕ) : Type 0 where
+pub record HasFields (origin : NodeId) (subs : List TypeValue) (peer metric link : ℕ) : Type 0 where
   pub point_to_point : IsPointToPoint subs
   pub has_peer : HasPeer origin subs peer
   pub has_metric : HasMetric subs metric
@@ -70,7 +74,7 @@ row_between origin peer metric link srlgs = record {
 }
 
 -- The row that sub-TLVs of this origin spell, in any order; other types are skipped.
-pub record IsRow (origin : NodeId) (subs : List SubTlv) (row : TeRow) : Type 0 where
+pub record IsRow (origin : NodeId) (subs : List TypeValue) (row : TeRow) : Type 0 where
   pub peer : ℕ
   pub fields : HasFields origin subs peer row.metric row.link.0
   pub has_srlgs : HasSrlgs subs row.srlgs
@@ -78,6 +82,6 @@ pub record IsRow (origin : NodeId) (subs : List SubTlv) (row : TeRow) : Type 0 w
 
 -- the bytes from this origin spell this row
 pub record SpellsRow (origin : NodeId) (bytes : List ℕ) (row : TeRow) : Type 0 where
-  pub subs : List SubTlv
+  pub subs : List TypeValue
   pub tlv : IsLinkTlv bytes subs
   pub fields : IsRow origin subs row

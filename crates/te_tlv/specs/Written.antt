@@ -5,11 +5,16 @@ use Rattle.std.specs.List.Sorted.{IsStrictlyIncreasing}
 use Rattle.byteorder.specs.Endian.{big_bytes}
 use Rattle.ason_base.specs.declared.ids.NodeId.{NodeId}
 use Rattle.ason_base.specs.declared.network.TeRow.{TeRow}
+use Rattle.ason_base.specs.declared.network.TheConstants.{MOST_SRLGS}
 use Rattle.ason_base.specs.Network.{end_beside}
-use Rattle.te_tlv.specs.SubTlvs.{padded}
+use Rattle.wire_buf.specs.Tlvs.{padded}
+use Rattle.te_tlv.specs.declared.reading.TheConstants.{IDENTIFIERS, LINK_ID, LINK_TYPE, METRIC, POINT_TO_POINT}
+use Rattle.te_tlv.specs.declared.srlgs.TheConstants.{SRLG}
+use Rattle.te_tlv.specs.declared.sub_tlvs.TheConstants.{LINK}
 
 unfoldable pub sub_tlv : ℕ → List ℕ → List ℕ
-sub_tlv kind value = big_bytes 2 kind ++ big_bytes 2 (length value) ++ value ++ replicate (padded (length value) - length value) 0
+sub_tlv kind value =
+    big_bytes 2 kind ++ big_bytes 2 (length value) ++ value ++ replicate (padded (length value) - length value) 0
 
 -- the end that isn't the origin
 abbrev pub peer_of : NodeId → TeRow → ℕ
@@ -17,15 +22,15 @@ peer_of origin row = (end_beside row.low row.high origin).0
 
 abbrev pub srlgs_tlv : List ℕ → List ℕ
 srlgs_tlv [] = []
-srlgs_tlv (s ∷ ss) = sub_tlv 16 (flat_map (λ n. big_bytes 4 n) (s ∷ ss))
+srlgs_tlv (s ∷ ss) = sub_tlv SRLG (flat_map (λ n. big_bytes 4 n) (s ∷ ss))
 
 abbrev pub link_body : NodeId → TeRow → List ℕ
 link_body origin row =
-    sub_tlv 1 (1 ∷ []) ++ sub_tlv 2 (big_bytes 4 (peer_of origin row)) ++ sub_tlv 5 (big_bytes 4 row.metric)
-    ++ sub_tlv 11 (big_bytes 4 row.link.0 ++ big_bytes 4 row.link.0) ++ srlgs_tlv row.srlgs
+    sub_tlv LINK_TYPE (POINT_TO_POINT ∷ []) ++ sub_tlv LINK_ID (big_bytes 4 (peer_of origin row))
+    ++ sub_tlv METRIC (big_bytes 4 row.metric) ++ sub_tlv IDENTIFIERS (big_bytes 4 row.link.0 ++ big_bytes 4 row.link.0) ++ srlgs_tlv row.srlgs
 
 abbrev pub link_tlv : NodeId → TeRow → List ℕ
-link_tlv origin row = big_bytes 2 2 ++ big_bytes 2 (length (link_body origin row)) ++ link_body origin row
+link_tlv origin row = big_bytes 2 LINK ++ big_bytes 2 (length (link_body origin row)) ++ link_body origin row
 
 -- what has a written form
 pub record IsWritable (origin : NodeId) (row : TeRow) : Type 0 where
@@ -33,7 +38,7 @@ pub record IsWritable (origin : NodeId) (row : TeRow) : Type 0 where
   pub ends : row.low.0 < row.high.0
   pub positive : 1 ≤ row.metric
   pub small : row.metric ≤ 65535
-  pub few : length row.srlgs ≤ 16
+  pub few : length row.srlgs ≤ MOST_SRLGS
 
 -- the numbers of a row have 32 bits, and its SRLGs rise, as those of every row of the program do
 pub record HasNumbers (row : TeRow) : Type 0 where

@@ -3,8 +3,10 @@
 ghost use Rattle.std.specs.Prelude.{◌≡◌, ◌≤◌, ℕ, List, length, IfSome, IfNone, IfOk, IsTrue, IsErrOf, SomeIff, false};
 ghost use Rattle.byteorder.specs.Endian.{big_number};
 ghost use Rattle.ason_base.specs.declared.network.TeRow.{TeRow};
+ghost use Rattle.wire_buf.specs.Codecs.{Decodes};
+ghost use Rattle.wire_buf.specs.Tlvs.{TypeValue};
 ghost use Rattle.te_tlv.specs.Rows.{HasFields, HasLink, HasMetric, HasPeer, IsPointToPoint, SpellsRow};
-ghost use Rattle.te_tlv.specs.SubTlvs.{SubTlv, AreSubTlvs};
+ghost use Rattle.te_tlv.specs.SubTlvs.{AreSubTlvs};
 
 use crate::srlgs::srlgs_of;
 use crate::sub_tlvs::{link_body, only};
@@ -35,8 +37,8 @@ fn number(value: &[u8]) -> Option<u32>
 }
 
 fn is_point_to_point(body: &[u8]) -> bool
-    ensures yes { IsTrue result → (subs : List SubTlv) → AreSubTlvs body.now subs → IsPointToPoint subs }
-    ensures no { result ≡ false → (subs : List SubTlv) → AreSubTlvs body.now subs → ¬ IsPointToPoint subs }
+    ensures yes { IsTrue result → (subs : List TypeValue) → AreSubTlvs body.now subs → IsPointToPoint subs }
+    ensures no { result ≡ false → (subs : List TypeValue) → AreSubTlvs body.now subs → ¬ IsPointToPoint subs }
 {
     match only(body, LINK_TYPE) {
         Some(value) => value.len() == 1 && value[0] == POINT_TO_POINT,
@@ -46,16 +48,16 @@ fn is_point_to_point(body: &[u8]) -> bool
 
 /// The node at the other end.
 fn peer(origin: NodeId, body: &[u8]) -> Option<u32>
-    ensures found { IfSome result (λ n. (subs : List SubTlv) → AreSubTlvs body.now subs → HasPeer origin subs n) }
-    ensures none { IfNone result ((subs : List SubTlv) → AreSubTlvs body.now subs → (n : ℕ) → ¬ HasPeer origin subs n) }
+    ensures found { IfSome result (λ n. (subs : List TypeValue) → AreSubTlvs body.now subs → HasPeer origin subs n) }
+    ensures none { IfNone result ((subs : List TypeValue) → AreSubTlvs body.now subs → (n : ℕ) → ¬ HasPeer origin subs n) }
 {
     let peer = number(only(body, LINK_ID)?)?;
     if peer == origin.0 { None } else { Some(peer) }
 }
 
 fn metric(body: &[u8]) -> Option<u32>
-    ensures found { IfSome result (λ n. (subs : List SubTlv) → AreSubTlvs body.now subs → HasMetric subs n) }
-    ensures none { IfNone result ((subs : List SubTlv) → AreSubTlvs body.now subs → (n : ℕ) → ¬ HasMetric subs n) }
+    ensures found { IfSome result (λ n. (subs : List TypeValue) → AreSubTlvs body.now subs → HasMetric subs n) }
+    ensures none { IfNone result ((subs : List TypeValue) → AreSubTlvs body.now subs → (n : ℕ) → ¬ HasMetric subs n) }
 {
     let metric = number(only(body, METRIC)?)?;
     if metric < 1 || metric > 65_535 {
@@ -67,9 +69,9 @@ fn metric(body: &[u8]) -> Option<u32>
 
 /// The link's number, which both identifiers are.
 fn link(body: &[u8]) -> Option<u32>
-    ensures some { IfSome result (λ _. (subs : List SubTlv) × AreSubTlvs body.now subs) }
-    ensures found { IfSome result (λ n. (subs : List SubTlv) → AreSubTlvs body.now subs → HasLink subs n) }
-    ensures none { IfNone result ((subs : List SubTlv) → AreSubTlvs body.now subs → (n : ℕ) → ¬ HasLink subs n) }
+    ensures some { IfSome result (λ _. (subs : List TypeValue) × AreSubTlvs body.now subs) }
+    ensures found { IfSome result (λ n. (subs : List TypeValue) → AreSubTlvs body.now subs → HasLink subs n) }
+    ensures none { IfNone result ((subs : List TypeValue) → AreSubTlvs body.now subs → (n : ℕ) → ¬ HasLink subs n) }
 {
     let value = only(body, IDENTIFIERS)?;
     if value.len() != 8 {
@@ -92,9 +94,9 @@ struct Fields {
 }
 
 fn read_fields(origin: NodeId, body: &[u8]) -> Option<Fields>
-    ensures some { IfSome result (λ _. (subs : List SubTlv) × AreSubTlvs body.now subs) }
-    ensures found { IfSome result (λ f. (subs : List SubTlv) → AreSubTlvs body.now subs → HasFields origin subs f.peer f.metric f.link) }
-    ensures none { IfNone result ((subs : List SubTlv) → AreSubTlvs body.now subs → (peer metric link : ℕ) → ¬ HasFields origin subs peer metric link) }
+    ensures some { IfSome result (λ _. (subs : List TypeValue) × AreSubTlvs body.now subs) }
+    ensures found { IfSome result (λ f. (subs : List TypeValue) → AreSubTlvs body.now subs → HasFields origin subs f.peer f.metric f.link) }
+    ensures none { IfNone result ((subs : List TypeValue) → AreSubTlvs body.now subs → (peer metric link : ℕ) → ¬ HasFields origin subs peer metric link) }
 {
     let link = link(body)?;
     let metric = metric(body)?;
@@ -108,11 +110,7 @@ fn read_fields(origin: NodeId, body: &[u8]) -> Option<Fields>
 
 /// The row that a Link TLV of this origin spells. NotMessage exactly where the bytes spell none.
 pub fn read_row(alloc: Global, origin: NodeId, bytes: &[u8]) -> Result<TeRow, DecodeError>
-    // What is read is spelled so.
-    ensures found { IfOk result (λ row. SpellsRow origin bytes.now row) }
-    // What is spelled so is read, unless memory runs out.
-    ensures only { (row : TeRow) → SpellsRow origin bytes.now row → IfOk result (λ read. read ≡ row) }
-    ensures not_message { IsErrOf result DecodeError.NotMessage → (row : TeRow) → ¬ SpellsRow origin bytes.now row }
+    ensures { Decodes (SpellsRow origin bytes.now) result }
 {
     let Some(body) = link_body(bytes) else {
         return Err(DecodeError::NotMessage);

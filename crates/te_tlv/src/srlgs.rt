@@ -2,14 +2,15 @@
 
 ghost use Rattle.std.specs.Prelude.{◌≡◌, ◌↔◌, ℕ, List, Contains, IfOk, IsErrOf};
 ghost use Rattle.std.specs.List.Sorted.{IsStrictlyIncreasing};
+ghost use Rattle.wire_buf.specs.Tlvs.{TypeValue};
 ghost use Rattle.te_tlv.specs.Rows.{AreSrlgs, HasSrlgs, numbers_of};
-ghost use Rattle.te_tlv.specs.SubTlvs.{SubTlv, AreSubTlvs};
+ghost use Rattle.te_tlv.specs.SubTlvs.{AreSubTlvs};
 
-use crate::sub_tlvs::at_most_one;
+use crate::sub_tlvs::UNCOUNTED;
 use ason_base::network::MOST_SRLGS;
 use ason_base::{DecodeError, OutOfMemory, Srlgs};
 use std::alloc::Global;
-use wire_buf::Cursor;
+use wire_buf::{Cursor, at_most_one};
 
 /// The type of the sub-TLV of SRLGs.
 pub(crate) const SRLG: u16 = 16;
@@ -57,10 +58,10 @@ fn srlgs_of_value(alloc: Global, value: &[u8]) -> Result<Srlgs, DecodeError>
 
 /// The SRLGs of a text of sub-TLVs. NotMessage exactly where they are not in order.
 pub(crate) fn srlgs_of(alloc: Global, body: &[u8]) -> Result<Srlgs, DecodeError>
-    ensures found { IfOk result (λ s. (subs : List SubTlv) → AreSubTlvs body.now subs → HasSrlgs subs s) }
-    ensures not_message { IsErrOf result DecodeError.NotMessage → (subs : List SubTlv) → AreSubTlvs body.now subs → (s : List ℕ) → ¬ HasSrlgs subs s }
+    ensures found { IfOk result (λ s. (subs : List TypeValue) → AreSubTlvs body.now subs → HasSrlgs subs s) }
+    ensures not_message { IsErrOf result DecodeError.NotMessage → (subs : List TypeValue) → AreSubTlvs body.now subs → (s : List ℕ) → ¬ HasSrlgs subs s }
 {
-    match at_most_one(body, SRLG) {
+    match at_most_one(body, UNCOUNTED, SRLG) {
         None => Err(DecodeError::NotMessage),
         Some(None) => Ok(Srlgs::new(alloc)),
         Some(Some(value)) => srlgs_of_value(alloc, value),

@@ -1,3 +1,6 @@
 pub mod Sums
 pub mod Steps
 pub mod Numbers
+pub mod Sequences
+pub mod Codecs
+pub mod Tlvs

@@ -1,3 +1,6 @@
 pub mod Checksum
 pub mod Objects
 pub mod Routes
+pub mod Codecs
+pub mod Sequences
+pub mod Tlvs

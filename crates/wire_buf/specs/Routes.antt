@@ -3,23 +3,30 @@ use Rattle.std.specs.Prelude.{◌≡◌, ◌≤◌, ◌<◌, ◌^◌, ℕ, List,
 use Rattle.std.specs.List.{flat_map}
 use Rattle.byteorder.specs.Endian.{big_bytes}
 use Rattle.ason_base.specs.declared.steps.Step.{Step}
+use Rattle.wire_buf.specs.declared.routes.TheConstants.{MOST_STEPS, STEP, STRICT_UNNUMBERED}
 use Rattle.wire_buf.specs.Objects.{number_at}
+use Rattle.wire_buf.specs.Sequences.{AreItems}
 
 -- A strict step: the L bit is 0 and the type 4 in the first byte, the length is 12. Then two bytes that nothing reads, the
 -- router id and the interface id.
 abbrev pub IsStep : List ℕ → Step → Type 0
 IsStep bytes s =
-    (length bytes ≡ 12) × (number_at 0 1 bytes ≡ 4) × (number_at 1 1 bytes ≡ 12)
+    (length bytes ≡ STEP) × (number_at 0 1 bytes ≡ STRICT_UNNUMBERED) × (number_at 1 1 bytes ≡ STEP)
     × (s ≡ record { node = record { 0 = number_at 4 4 bytes }; link = record { 0 = number_at 8 4 bytes } })
 
 -- steps one after the other, to the end
-abbrev pub AreSteps : List ℕ → List Step → Type 0
-AreSteps bytes [] = bytes ≡ []
-AreSteps bytes (s ∷ ss) = IsStep (take 12 bytes) s × AreSteps (drop 12 bytes) ss
+abbrev pub BeginsStep : List ℕ → Step → Type 0
+BeginsStep bytes s = IsStep (take STEP bytes) s
 
--- a route has 1 to 64 steps
+abbrev pub step_size : Step → ℕ
+step_size s = STEP
+
+abbrev pub AreSteps : List ℕ → List Step → Type 0
+AreSteps bytes steps = AreItems BeginsStep step_size bytes steps
+
+-- a route has at least one step, and at most 64
 abbrev pub IsRoute : List ℕ → List Step → Type 0
-IsRoute body steps = (1 ≤ length steps) × (length steps ≤ 64) × AreSteps body steps
+IsRoute body steps = (1 ≤ length steps) × (length steps ≤ MOST_STEPS) × AreSteps body steps
 
 -- both ids have 32 bits
 abbrev pub HasIds : Step → Type 0
@@ -27,7 +34,7 @@ HasIds s = (s.node.0 < 2 ^ 32) × (s.link.0 < 2 ^ 32)
 
 -- the written form of a step
 abbrev pub step_bytes : Step → List ℕ
-step_bytes s = big_bytes 1 4 ++ big_bytes 1 12 ++ big_bytes 2 0 ++ big_bytes 4 s.node.0 ++ big_bytes 4 s.link.0
+step_bytes s = big_bytes 1 STRICT_UNNUMBERED ++ big_bytes 1 STEP ++ big_bytes 2 0 ++ big_bytes 4 s.node.0 ++ big_bytes 4 s.link.0
 
 -- the written form of a route
 abbrev pub route_bytes : List Step → List ℕ

@@ -1,16 +1,15 @@
 //! Writing fields at the end of bytes.
 
-ghost use Rattle.std.specs.Prelude.{◌≡◌, ◌<◌, ◌≤◌, ◌+◌, ◌^◌, ◌++◌, [], ◌∷◌, length, OnOk, OnErr, vec_len, vec_capacity};
+ghost use Rattle.std.specs.Prelude.{◌≡◌, ◌<◌, ◌≤◌, ◌+◌, ◌^◌, ◌++◌, length, vec_len, vec_capacity};
 ghost use Rattle.byteorder.specs.Endian.{big_bytes};
+ghost use Rattle.wire_buf.specs.Codecs.{Appends};
 
 use ason_base::OutOfMemory;
 use byteorder::{BigEndian, ByteOrder};
 
 /// Appends a byte.
 pub fn push_u8(out: &mut Vec<u8>, n: u8) -> Result<(), OutOfMemory>
-    ensures ok { OnOk result (out.new.items ≡ out.old.items ++ big_bytes 1 n) }
-    ensures err { OnErr result (out.new.items ≡ out.old.items) }
-    ensures full { OnErr result (vec_capacity out.old < vec_len out.old + 1) }
+    ensures { Appends out.old out.new (big_bytes 1 n) result }
 {
     out.reserve(1)?;
     put_u8(out, n);
@@ -19,9 +18,7 @@ pub fn push_u8(out: &mut Vec<u8>, n: u8) -> Result<(), OutOfMemory>
 
 /// Appends a number as two bytes.
 pub fn push_u16(out: &mut Vec<u8>, n: u16) -> Result<(), OutOfMemory>
-    ensures ok { OnOk result (out.new.items ≡ out.old.items ++ big_bytes 2 n) }
-    ensures err { OnErr result (out.new.items ≡ out.old.items) }
-    ensures full { OnErr result (vec_capacity out.old < vec_len out.old + 2) }
+    ensures { Appends out.old out.new (big_bytes 2 n) result }
 {
     out.reserve(2)?;
     put_u16(out, n);
@@ -31,9 +28,7 @@ pub fn push_u16(out: &mut Vec<u8>, n: u16) -> Result<(), OutOfMemory>
 /// Appends a number as three bytes.
 pub fn push_u24(out: &mut Vec<u8>, n: u32) -> Result<(), OutOfMemory>
     requires { n < 2 ^ 24 }
-    ensures ok { OnOk result (out.new.items ≡ out.old.items ++ big_bytes 3 n) }
-    ensures err { OnErr result (out.new.items ≡ out.old.items) }
-    ensures full { OnErr result (vec_capacity out.old < vec_len out.old + 3) }
+    ensures { Appends out.old out.new (big_bytes 3 n) result }
 {
     out.reserve(3)?;
     put_u24(out, n);
@@ -42,9 +37,7 @@ pub fn push_u24(out: &mut Vec<u8>, n: u32) -> Result<(), OutOfMemory>
 
 /// Appends a number as four bytes.
 pub fn push_u32(out: &mut Vec<u8>, n: u32) -> Result<(), OutOfMemory>
-    ensures ok { OnOk result (out.new.items ≡ out.old.items ++ big_bytes 4 n) }
-    ensures err { OnErr result (out.new.items ≡ out.old.items) }
-    ensures full { OnErr result (vec_capacity out.old < vec_len out.old + 4) }
+    ensures { Appends out.old out.new (big_bytes 4 n) result }
 {
     out.reserve(4)?;
     put_u32(out, n);

@@ -1,9 +1,10 @@
 //! Routes: strict lists of unnumbered interfaces (RFC 3209, section 4.3; RFC 3477, section 4).
 
-ghost use Rattle.std.specs.Prelude.{◌≡◌, ◌≤◌, ◌<◌, ◌+◌, ◌*◌, ◌++◌, [], ◌∷◌, List, take, drop, length, Some, All, IfSome, IfOk, IsErrOf, OnErr, OnOk, vec_len, vec_capacity};
+ghost use Rattle.std.specs.Prelude.{◌≡◌, ◌≤◌, ◌+◌, ◌*◌, ◌++◌, List, drop, length, All, IfSome, vec_len, vec_capacity};
 ghost use Rattle.ason_base.specs.declared.steps.Step.{Step};
+ghost use Rattle.wire_buf.specs.Codecs.{Appends, Decodes, Reads};
 ghost use Rattle.wire_buf.specs.Objects.{object};
-ghost use Rattle.wire_buf.specs.Routes.{AreSteps, HasIds, IsRoute, IsStep, route_bytes, step_bytes};
+ghost use Rattle.wire_buf.specs.Routes.{BeginsStep, HasIds, IsRoute, IsStep, route_bytes, step_bytes};
 
 use crate::cursor::Cursor;
 use crate::objects::put_header;
@@ -22,8 +23,7 @@ const STEP: usize = 12;
 const STRICT_UNNUMBERED: u8 = 4;
 
 fn step_of(bytes: &[u8]) -> Option<Step>
-    ensures found { IfSome result (IsStep bytes.now) }
-    ensures only { (s : Step) → IsStep bytes.now s → result ≡ Some s }
+    ensures { Reads (IsStep bytes.now) result }
 {
     if bytes.len() != STEP || bytes[0] != STRICT_UNNUMBERED || bytes[1] != 12 {
         return None;
@@ -35,8 +35,8 @@ fn step_of(bytes: &[u8]) -> Option<Step>
 }
 
 fn next_step(cursor: &mut Cursor) -> Option<Step>
-    ensures found { IfSome result (λ s. IsStep (take 12 cursor.old) s × (cursor.new ≡ drop 12 cursor.old)) }
-    ensures only { (s : Step) → IsStep (take 12 cursor.old) s → result ≡ Some s }
+    ensures step { Reads (BeginsStep cursor.old) result }
+    ensures left { IfSome result (λ _. cursor.new ≡ drop 12 cursor.old) }
 {
     let bytes = cursor.take(STEP)?;
     step_of(bytes)
@@ -44,9 +44,7 @@ fn next_step(cursor: &mut Cursor) -> Option<Step>
 
 /// The route of an object's body. NotMessage exactly where the body is none.
 pub fn read_steps(alloc: Global, body: &[u8]) -> Result<Steps, DecodeError>
-    ensures found { IfOk result (IsRoute body.now) }
-    ensures only { (steps : List Step) → IsRoute body.now steps → IfOk result (λ r. r ≡ steps) }
-    ensures not_message { IsErrOf result DecodeError.NotMessage → (steps : List Step) → ¬ IsRoute body.now steps }
+    ensures { Decodes (IsRoute body.now) result }
 {
     if body.is_empty() || body.len() > MOST_STEPS * STEP {
         return Err(DecodeError::NotMessage);
@@ -100,9 +98,7 @@ pub fn write_steps(
     steps: &Steps,
 ) -> Result<(), OutOfMemory>
     requires { length steps.now ≤ 64 }
-    ensures ok { OnOk result (out.new.items ≡ out.old.items ++ object class ctype (route_bytes steps.now)) }
-    ensures err { OnErr result (out.new.items ≡ out.old.items) }
-    ensures full { OnErr result (vec_capacity out.old < vec_len out.old + (4 + 12 * length steps.now)) }
+    ensures { Appends out.old out.new (object class ctype (route_bytes steps.now)) result }
 {
     let steps = steps.items();
     let len = 4 + STEP * steps.len();

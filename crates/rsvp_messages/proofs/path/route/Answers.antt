@@ -1,16 +1,19 @@
+use Rattle.std.proofs.Common.{rules}
 use Rattle.rsvp_messages.specs.Seen.{all_seen}
 use Rattle.rsvp_messages.proofs.Lookups.{optional_at}
 use Rattle.rsvp_messages.proofs.Paths.{has_route, no_route, route_here}
 use Rattle.rsvp_messages.proofs.path.route.Goals as goal
 
-pub returns-in-Some-Some-clause-found : goal.returns-in-Some-Some-clause-found
-returns-in-Some-Some-clause-found c = has_route (all_seen c.args.objects.now) c.in-Some-Some.body.now (optional_at 20 1 (all_seen c.args.objects.now) _ _ c.in-Some-Some.ensures.found c.in-Some-Some.field-0-is) _ c.read_route.ensures.found
+pub returns-in-Some-Some : goal.returns-in-Some-Some
+returns-in-Some-Some c = record {
+  found = has_route (all_seen c.args.objects.now) c.in-Some-Some.body.now (optional_at 20 1 (all_seen c.args.objects.now) _ _ c.in-Some-Some.ensures.found c.in-Some-Some.field-0-is) _ c.read_route.ensures.found;
+  only = λ route has. c.read_route.ensures.only route (route_here (all_seen c.args.objects.now) c.in-Some-Some.body.now (optional_at 20 1 (all_seen c.args.objects.now) _ _ c.in-Some-Some.ensures.found c.in-Some-Some.field-0-is) route has);
+  not_message = λ e route has. c.read_route.ensures.not_message e route (route_here (all_seen c.args.objects.now) c.in-Some-Some.body.now (optional_at 20 1 (all_seen c.args.objects.now) _ _ c.in-Some-Some.ensures.found c.in-Some-Some.field-0-is) route has);
+}
 
-pub returns-in-Some-Some-clause-only : goal.returns-in-Some-Some-clause-only
-returns-in-Some-Some-clause-only c = λ route has. c.read_route.ensures.only route (route_here (all_seen c.args.objects.now) c.in-Some-Some.body.now (optional_at 20 1 (all_seen c.args.objects.now) _ _ c.in-Some-Some.ensures.found c.in-Some-Some.field-0-is) route has)
-
-pub returns-in-Some-Some-clause-not_message : goal.returns-in-Some-Some-clause-not_message
-returns-in-Some-Some-clause-not_message c = λ e route has. c.read_route.ensures.not_message e route (route_here (all_seen c.args.objects.now) c.in-Some-Some.body.now (optional_at 20 1 (all_seen c.args.objects.now) _ _ c.in-Some-Some.ensures.found c.in-Some-Some.field-0-is) route has)
-
-pub returns-in-None-clause-not_message : goal.returns-in-None-clause-not_message
-returns-in-None-clause-not_message c = λ e. no_route (all_seen c.args.objects.now) c.in-None.ensures.only
+pub returns-in-None : goal.returns-in-None
+returns-in-None c = record {
+  found = search rules;
+  only = search rules;
+  not_message = λ e. no_route (all_seen c.args.objects.now) c.in-None.ensures.only;
+}

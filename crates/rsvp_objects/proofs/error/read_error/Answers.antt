@@ -1,8 +1,8 @@
-use Rattle.rsvp_objects.proofs.Links.{to_the_end, no_link, error_is}
+use Rattle.rsvp_objects.proofs.Links.{error_read, no_error}
 use Rattle.rsvp_objects.proofs.error.read_error.Goals as goal
 
-pub returns-in-Some-clause-only : goal.returns-in-Some-clause-only
-returns-in-Some-clause-only c = λ e is. error_is _ e _ _ c.spec_of.ensures (c.in-Some.ensures.only e.link (to_the_end _ _ is.2)) is
+pub returns-in-Some : goal.returns-in-Some
+returns-in-Some c = error_read _ _ _ c.if-body-lt8.false c.spec_of.ensures c.in-Some.ensures
 
-pub returns-in-None-clause-only : goal.returns-in-None-clause-only
-returns-in-None-clause-only c = λ e is. absurd (no_link _ (c.in-None.ensures.only e.link (to_the_end _ _ is.2)))
+pub returns-in-None : goal.returns-in-None
+returns-in-None c = no_error _ c.in-None.ensures

@@ -1,8 +1,8 @@
-use Rattle.std.proofs.Common.{Some}
+use Rattle.rsvp_objects.proofs.Tlvs.{just_one, not_one}
 use Rattle.rsvp_objects.proofs.tlv.one_if_index.Goals as goal
 
-pub returns-in-Some-clause-only : goal.returns-in-Some-clause-only
-returns-in-Some-clause-only c = λ link has. cc (c.in-Some.ensures.only (Some link) has)
+pub returns-in-Some : goal.returns-in-Some
+returns-in-Some c = just_one _ _ c.in-Some.ensures
 
-pub returns-in-None-clause-only : goal.returns-in-None-clause-only
-returns-in-None-clause-only c = λ link has. cc (c.in-None.ensures.only (Some link) has)
+pub returns-in-None : goal.returns-in-None
+returns-in-None c = not_one _ c.in-None.ensures

@@ -1,25 +1,32 @@
-use Rattle.std.proofs.Common.{arith}
-use Rattle.wire_buf.proofs.Steps.{goes_on, stops, ends, out_of_size, not_empty, is_empty}
+use Rattle.std.proofs.Common.{ap, arith, length}
+use Rattle.wire_buf.proofs.Codecs.{decodes_none, decodes_some}
+use Rattle.wire_buf.proofs.Sequences.{goes_on, is_empty, not_empty, stops}
+use Rattle.wire_buf.proofs.Steps.{is_route, out_of_size, steps_once}
 use Rattle.wire_buf.proofs.routes.read_steps.Goals as goal
 use Rattle.wire_buf.proofs.routes.read_steps.Goals.{then-is_empty-via-then-is_empty, then-is_empty-via-else-is_empty+then-body}
 
-pub returns-then-is_empty-clause-not_message : goal.returns-then-is_empty-clause-not_message
-returns-then-is_empty-clause-not_message c = λ e steps route.
+pub returns-then-is_empty : goal.returns-then-is_empty
+returns-then-is_empty c = decodes_none (λ steps route.
     let o = out_of_size c.args.body.now steps route in
     elim c.then-is_empty.branch [
-      | then-is_empty-via-then-is_empty w ↦ absurd (omega (arith, o.0, is_empty _ _ c.is_empty.ensures w.if-is_empty.true))
+      | then-is_empty-via-then-is_empty w ↦
+          let none = is_empty _ _ c.is_empty.ensures w.if-is_empty.true in absurd (omega (arith, o.0, ap length none))
       | then-is_empty-via-else-is_empty+then-body w ↦ absurd (omega (arith, o.1))
-    ]
+    ])
 
-pub returns-in_default-clause-not_message : goal.returns-in_default-clause-not_message
-returns-in_default-clause-not_message c = λ e.
-    stops _ _ _ (not_empty _ _ c.is_empty-in-steps.ensures c.steps-test.true) (λ s is. c.in_default.not-Some s (c.next_step.ensures.only s is)) c.steps.invariant
+pub returns-in_default : goal.returns-in_default
+returns-in_default c = decodes_none (λ steps route.
+    stops _ _ _ (not_empty _ _ c.is_empty-in-steps.ensures c.steps-test.true)
+    (λ s is. c.in_default.not-Some s (c.next_step.ensures.step.only s is)) c.steps.invariant steps route.2)
 
 pub steps-preserved : goal.steps-preserved
-steps-preserved c = rw c.in-Ok.ensures.ok (goes_on _ _ _ _ _ c.in-Some.ensures.found.0 c.in-Some.ensures.found.1 c.steps.invariant)
+steps-preserved c =
+    rw c.in-Ok.ensures.ok
+    (goes_on steps_once _ _ _ _ _ c.in-Some.ensures.step.found c.in-Some.ensures.left c.steps.invariant)
 
-pub returns-clause-found : goal.returns-clause-found
-returns-clause-found c = (ends _ _ _ (is_empty _ _ c.is_empty-in-steps.ensures c.steps-test.false) (not_empty _ _ c.is_empty.ensures c.if-is_empty.false) (omega arith) c.steps.invariant).0
-
-pub returns-clause-only : goal.returns-clause-only
-returns-clause-only c = (ends _ _ _ (is_empty _ _ c.is_empty-in-steps.ensures c.steps-test.false) (not_empty _ _ c.is_empty.ensures c.if-is_empty.false) (omega arith) c.steps.invariant).1
+pub returns : goal.returns
+returns c =
+    let route =
+    is_route _ _ _ (is_empty _ _ c.is_empty-in-steps.ensures c.steps-test.false)
+    (not_empty _ _ c.is_empty.ensures c.if-is_empty.false) (omega arith) c.steps.invariant in
+    decodes_some _ route.0 route.1
