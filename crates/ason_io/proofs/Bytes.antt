@@ -1,5 +1,6 @@
 -- Bytes that are handed out, and bytes that are appended.
-use Rattle.std.proofs.Common.{◌≡◌, ◌≤◌, ◌+◌, ◌-◌, ℕ, List, [], Option, Some, None, IfSome, ◌++◌, length, take, drop, refl, arith, sym, ◌∙◌, ap, subst, append_assoc}
+use Rattle.std.proofs.Common.{◌≡◌, ◌≤◌, ◌+◌, ◌-◌, ℕ, List, [], Option, Some, None, IfSome, ◌++◌, length, take, drop}
+use Rattle.std.proofs.Common.{refl, arith, sym, ◌∙◌, ap, subst, append_assoc}
 use Rattle.std.proofs.lemmas.List.{append-nil, take-append-drop}
 use Rattle.std.proofs.lemmas.Grind.{common_steps}
 use Rattle.std.proofs.Math.Seq.{take-add}
@@ -61,7 +62,8 @@ read_still left handed goes_on old now new bs before more keeps = record {
 }
 
 -- a read that came to the end
-pub read_last : {S : Type 0} (left : S → Option (List ℕ)) (handed : S → List ℕ → S → Type 0) (ended : S → Type 0) → GoesOn handed
+pub read_last : {S : Type 0} (left : S → Option (List ℕ)) (handed : S → List ℕ → S → Type 0) (ended : S → Type 0) →
+    GoesOn handed
     → (old now new : S) (bs : List ℕ) → WasRead left handed old now bs → handed now [] new → ended new
     → Consumes (left now) (left new) [] → IsAtEnd (left new) → WasReadToEnd left handed ended old new bs
 read_last left handed ended goes_on old now new bs before more end consumed ends = record {

@@ -44,10 +44,14 @@ impl<I: Read> Source for StdSource<I> {
 
     fn read(&mut self, buf: &mut [u8]) -> Result<usize, Failed>
         ensures fits { IfOk result (λ n. n ≤ length buf.old) }
-        ensures bytes { ReadConsumes (I.remaining self.old.reader) (I.remaining self.new.reader) result buf.new }
-        ensures hands { IfOk result (λ n. Consumes (I.remaining self.old.reader) (I.remaining self.new.reader) (take n buf.new)) }
-        ensures end { IfOk result (λ n. n ≡ 0 → 0 < length buf.old → IsAtEnd (I.remaining self.new.reader)) }
-        ensures kept { OnErr result (Consumes (I.remaining self.old.reader) (I.remaining self.new.reader) []) }
+        ensures bytes { ReadConsumes (I.remaining self.old.reader)
+            (I.remaining self.new.reader) result buf.new }
+        ensures hands { IfOk result (λ n. Consumes (I.remaining self.old.reader)
+            (I.remaining self.new.reader) (take n buf.new)) }
+        ensures end { IfOk result (λ n. n ≡ 0 → 0 < length buf.old
+            → IsAtEnd (I.remaining self.new.reader)) }
+        ensures kept { OnErr result (Consumes (I.remaining self.old.reader)
+            (I.remaining self.new.reader) []) }
         ensures failed { IsErr result → Rose self.old.faults self.new.faults }
         ensures rises { self.old.faults ≤ self.new.faults }
 
@@ -90,7 +94,8 @@ impl<O: Write> Sink for StdSink<O> {
 
     fn write(&mut self, piece: &[u8]) -> Result<usize, Failed>
         ensures fits { IfOk result (λ n. n ≤ length piece.now) }
-        ensures bytes { WriteAppends (O.contents self.old.writer) (O.contents self.new.writer) result piece.now }
+        ensures bytes { WriteAppends (O.contents self.old.writer)
+            (O.contents self.new.writer) result piece.now }
         ensures some { IfOk result (λ n. n ≡ 0 → piece.now ≡ []) }
         ensures failed { IsErr result → Rose self.old.faults self.new.faults }
         ensures rises { self.old.faults ≤ self.new.faults }

@@ -1,6 +1,7 @@
 //! A source and a sink in memory, of which chosen calls fail.
 
-ghost use Rattle.std.specs.Prelude.{◌≡◌, ◌≤◌, ◌<◌, ◌↔◌, ◌⊎◌, ◌++◌, ◌-◌, [], Some, Contains, IfOk, IsErr, IsTrue, OnErr, OnOk, length, max, min, take, drop};
+ghost use Rattle.std.specs.Prelude.{◌≡◌, ◌≤◌, ◌<◌, ◌↔◌, ◌⊎◌, ◌++◌, ◌-◌, [], Some, Contains, IfOk, IsErr, IsTrue, OnErr};
+ghost use Rattle.std.specs.Prelude.{OnOk, length, max, min, take, drop};
 ghost use Rattle.std.specs.Io.KnownBytes.{ReadConsumes, WriteAppends};
 ghost use Rattle.ason_io.specs.Faults.{Rose, counted};
 ghost use Rattle.ason_io.specs.Reading.{consumes_both, consumes_none};
@@ -74,7 +75,8 @@ impl Model for MemSource {
 impl MemSource {
     /// All of these bytes are still to come. `failing` lists the calls, from 1, that fail.
     pub fn new(bytes: Vec<u8>, failing: Vec<u64>) -> MemSource
-        ensures { result ≡ record { left = bytes.items; failing = failing.items; calls = 0; faults = 0 } }
+        ensures { result
+            ≡ record { left = bytes.items; failing = failing.items; calls = 0; faults = 0 } }
     {
         MemSource {
             rest: SureSource::new(bytes),
@@ -96,12 +98,14 @@ impl Source for MemSource {
 
     ghost rests = { λ s. consumes_none (Some s.left) };
 
-    ghost goes_on = { λ s t u xs ys first then. consumes_both (Some s.left) (Some t.left) (Some u.left) xs ys first then };
+    ghost goes_on = { λ s t u xs ys first then.
+        consumes_both (Some s.left) (Some t.left) (Some u.left) xs ys first then };
 
     fn read(&mut self, buf: &mut [u8]) -> Result<usize, Failed>
         ensures fits { IfOk result (λ n. n ≤ length buf.old) }
         ensures bytes { ReadConsumes (Some self.old.left) (Some self.new.left) result buf.new }
-        ensures hands { IfOk result (λ n. Consumes (Some self.old.left) (Some self.new.left) (take n buf.new)) }
+        ensures hands { IfOk result (λ n. Consumes (Some self.old.left) (Some self.new.left)
+            (take n buf.new)) }
         ensures end { IfOk result (λ n. n ≡ 0 → 0 < length buf.old → IsAtEnd (Some self.new.left)) }
         ensures kept { OnErr result (Consumes (Some self.old.left) (Some self.new.left) []) }
         ensures failed { IsErr result → Rose self.old.faults self.new.faults }
@@ -110,8 +114,10 @@ impl Source for MemSource {
         ensures listed { IsErr result ↔ Contains self.old.failing (counted self.old.calls) }
         ensures count { IfOk result (λ n. n ≡ min (length self.old.left) (length buf.old)) }
         ensures given { IfOk result (λ n. buf.new ≡ take n self.old.left ++ drop n buf.old) }
-        ensures after { IfOk result (λ n. self.new ≡ record self.old { left = drop n self.old.left; calls = counted self.old.calls }) }
-        ensures after_fault { OnErr result (self.new ≡ record self.old { calls = counted self.old.calls; faults = counted self.old.faults }) }
+        ensures after { IfOk result (λ n. self.new
+            ≡ record self.old { left = drop n self.old.left; calls = counted self.old.calls }) }
+        ensures after_fault { OnErr result (self.new
+            ≡ record self.old { calls = counted self.old.calls; faults = counted self.old.faults }) }
         ensures buffer { OnErr result (buf.new ≡ buf.old) }
     {
         if self.failures.begin_call() {
@@ -153,7 +159,8 @@ impl MemSink {
     /// from 1, that fail.
     pub fn new(alloc: Global, most: usize, failing: Vec<u64>) -> MemSink
         requires { 1 ≤ most }
-        ensures { result ≡ record { written = []; room = 0; most = most; failing = failing.items; calls = 0; faults = 0 } }
+        ensures { result
+            ≡ record { written = []; room = 0; most = most; failing = failing.items; calls = 0; faults = 0 } }
     {
         MemSink {
             bytes: Vec::new(alloc),
@@ -188,7 +195,8 @@ impl Sink for MemSink {
 
     fn write(&mut self, piece: &[u8]) -> Result<usize, Failed>
         ensures fits { IfOk result (λ n. n ≤ length piece.now) }
-        ensures bytes { WriteAppends (Some self.old.written) (Some self.new.written) result piece.now }
+        ensures bytes { WriteAppends (Some self.old.written)
+            (Some self.new.written) result piece.now }
         ensures some { IfOk result (λ n. n ≡ 0 → piece.now ≡ []) }
         ensures failed { IsErr result → Rose self.old.faults self.new.faults }
         ensures rises { self.old.faults ≤ self.new.faults }
@@ -201,7 +209,8 @@ impl Sink for MemSink {
           room = self.old.room - n;
           calls = counted self.old.calls;
         }) }
-        ensures after_fault { OnErr result (self.new ≡ record self.old { calls = counted self.old.calls; faults = counted self.old.faults }) }
+        ensures after_fault { OnErr result (self.new
+            ≡ record self.old { calls = counted self.old.calls; faults = counted self.old.faults }) }
     {
         let n = piece.len().min(self.most);
         let listed = self.failures.begin_call();

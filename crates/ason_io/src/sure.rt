@@ -1,6 +1,7 @@
 //! A source and a sink that never fail.
 
-ghost use Rattle.std.specs.Prelude.{◌≡◌, ◌≤◌, ◌<◌, ◌++◌, [], Some, None, IfOk, IsErr, IsOk, OnErr, length, min, take, drop};
+ghost use Rattle.std.specs.Prelude.{◌≡◌, ◌≤◌, ◌<◌, ◌++◌, [], Some, None, IfOk, IsErr, IsOk, OnErr, length, min, take};
+ghost use Rattle.std.specs.Prelude.{drop};
 ghost use Rattle.std.specs.Io.KnownBytes.{ReadConsumes, WriteAppends};
 ghost use Rattle.ason_io.specs.Faults.{Rose};
 ghost use Rattle.ason_io.specs.Reading.{consumes_both, consumes_none};
@@ -54,7 +55,8 @@ impl Source for SureSource {
     fn read(&mut self, buf: &mut [u8]) -> Result<usize, Failed>
         ensures fits { IfOk result (λ n. n ≤ length buf.old) }
         ensures bytes { ReadConsumes (Some self.old) (Some self.new) result buf.new }
-        ensures hands { IfOk result (λ n. Consumes (Some self.old) (Some self.new) (take n buf.new)) }
+        ensures hands { IfOk result (λ n. Consumes (Some self.old) (Some self.new)
+            (take n buf.new)) }
         ensures end { IfOk result (λ n. n ≡ 0 → 0 < length buf.old → IsAtEnd (Some self.new)) }
         ensures kept { OnErr result (Consumes (Some self.old) (Some self.new) []) }
         ensures failed { IsErr result → Rose 0 0 }

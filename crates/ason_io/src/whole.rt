@@ -48,16 +48,22 @@ pub fn read_all<S: Source>(
     src: &mut S,
     limit: usize,
 ) -> Result<Vec<u8>, ReadAllFault>
-    ensures to_end { IfOk result (λ v. WasReadToEnd S.left S.handed S.ended src.old src.new v.items) }
+    ensures to_end { IfOk result
+        (λ v. WasReadToEnd S.left S.handed S.ended src.old src.new v.items) }
     ensures within { IfOk result (λ v. length v.items ≤ limit) }
 
     // TooLong comes exactly where `limit` + 1 bytes were read.
-    ensures too_long { IsErrOf result ReadAllFault.TooLong → HasRead S.left S.handed src.old src.new (λ n. n ≡ limit + 1) }
-    ensures failed_within { IsErrOf result ReadAllFault.Failed → HasRead S.left S.handed src.old src.new (λ n. n ≤ limit) }
-    ensures memory_within { IsErrOf result ReadAllFault.OutOfMemory → HasRead S.left S.handed src.old src.new (λ n. n ≤ limit) }
-    ensures too_long_told { IsErrOf result ReadAllFault.TooLong → IfSome (S.left src.old) (λ all. limit < length all) }
+    ensures too_long { IsErrOf result ReadAllFault.TooLong
+        → HasRead S.left S.handed src.old src.new (λ n. n ≡ limit + 1) }
+    ensures failed_within { IsErrOf result ReadAllFault.Failed
+        → HasRead S.left S.handed src.old src.new (λ n. n ≤ limit) }
+    ensures memory_within { IsErrOf result ReadAllFault.OutOfMemory
+        → HasRead S.left S.handed src.old src.new (λ n. n ≤ limit) }
+    ensures too_long_told { IsErrOf result ReadAllFault.TooLong
+        → IfSome (S.left src.old) (λ all. limit < length all) }
 
-    ensures failed { IsErrOf result ReadAllFault.Failed → Rose (S.faults src.old) (S.faults src.new) }
+    ensures failed { IsErrOf result ReadAllFault.Failed
+        → Rose (S.faults src.old) (S.faults src.new) }
     ensures rises { S.faults src.old ≤ S.faults src.new }
 {
     let mut out = Vec::new(alloc);

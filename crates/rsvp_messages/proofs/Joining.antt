@@ -1,5 +1,6 @@
 -- Bytes that are written one object after the other.
-use Rattle.std.proofs.Common.{◌≡◌, ℕ, ◌+◌, ◌<◌, Result, Ok, Err, List, [], ◌∷◌, ◌++◌, length, map, take, get_or, refl, ap, sym, subst, ◌∙◌, append_assoc, OnOk}
+use Rattle.std.proofs.Common.{◌≡◌, ℕ, ◌+◌, ◌<◌, Result, Ok, Err, List, [], ◌∷◌, ◌++◌, length, map, take, get_or, refl}
+use Rattle.std.proofs.Common.{ap, sym, subst, ◌∙◌, append_assoc, OnOk}
 use Rattle.std.proofs.lemmas.List.{append-nil, map_more}
 use Rattle.std.proofs.lemmas.List.Concat.{flat_map-append}
 use Rattle.ason_base.specs.declared.ids.NodeId.{NodeId}
@@ -8,37 +9,58 @@ use Rattle.ason_base.specs.declared.messages.MsgId.{MsgId}
 use Rattle.ason_base.specs.declared.messages.Packet.{Packet}
 use Rattle.rsvp_messages.specs.Objects.{Object}
 use Rattle.rsvp_messages.specs.Packets.{type_of}
-use Rattle.rsvp_messages.specs.Written.{ack_object, all_bytes, bytes_of, header_bytes, message, msg_objects, packet_objects, written}
+use Rattle.rsvp_messages.specs.Written.{ack_object, all_bytes, bytes_of, header_bytes, message, msg_objects}
+use Rattle.rsvp_messages.specs.Written.{packet_objects, written}
 
-pub acks_more : (old so_far new : List ℕ) (acks : List MsgId) (i : ℕ) (d : MsgId) → i < length acks → so_far ≡ old ++ all_bytes (map ack_object (take i acks)) → new ≡ so_far ++ bytes_of (ack_object (get_or acks i d)) →
+pub acks_more : (old so_far new : List ℕ) (acks : List MsgId) (i : ℕ) (d : MsgId) → i < length acks →
+    so_far ≡ old ++ all_bytes (map ack_object (take i acks)) → new ≡ so_far ++ bytes_of (ack_object (get_or acks i d)) →
     new ≡ old ++ all_bytes (map ack_object (take (i + 1) acks))
 acks_more old so_far new acks i d within e written =
-    let one : all_bytes (map ack_object (take (i + 1) acks)) ≡ all_bytes (map ack_object (take i acks)) ++ bytes_of (ack_object (get_or acks i d)) =
-    ap all_bytes (map_more ack_object acks i d within) ∙ flat_map-append bytes_of (map ack_object (take i acks)) (ack_object (get_or acks i d) ∷ []) ∙ ap (λ (l : List ℕ). all_bytes (map ack_object (take i acks)) ++ l) (append-nil (bytes_of (ack_object (get_or acks i d)))) in
-    written ∙ ap (λ (l : List ℕ). l ++ bytes_of (ack_object (get_or acks i d))) e ∙ append_assoc old (all_bytes (map ack_object (take i acks))) (bytes_of (ack_object (get_or acks i d))) ∙ ap (λ (l : List ℕ). old ++ l) (sym one)
+    let one : all_bytes (map ack_object (take (i + 1) acks)) ≡ all_bytes (map ack_object (take i acks)) ++ bytes_of
+    (ack_object (get_or acks i d)) =
+    ap all_bytes (map_more ack_object acks i d within)
+    ∙ flat_map-append bytes_of (map ack_object (take i acks)) (ack_object (get_or acks i d) ∷ [])
+    ∙ ap (λ (l : List ℕ). all_bytes (map ack_object (take i acks)) ++ l)
+    (append-nil (bytes_of (ack_object (get_or acks i d)))) in
+    written ∙ ap (λ (l : List ℕ). l ++ bytes_of (ack_object (get_or acks i d))) e
+    ∙ append_assoc old (all_bytes (map ack_object (take i acks))) (bytes_of (ack_object (get_or acks i d)))
+    ∙ ap (λ (l : List ℕ). old ++ l) (sym one)
 
 -- two objects, and a last one
-pub three : {T E : Type 0} (r : Result T E) (old n1 n2 n3 a b d : List ℕ) → n1 ≡ old ++ a → n2 ≡ n1 ++ b → OnOk r (n3 ≡ n2 ++ d) → OnOk r (n3 ≡ old ++ (a ++ (b ++ (d ++ []))))
+pub three : {T E : Type 0} (r : Result T E) (old n1 n2 n3 a b d : List ℕ) → n1 ≡ old ++ a → n2 ≡ n1 ++ b →
+    OnOk r (n3 ≡ n2 ++ d) → OnOk r (n3 ≡ old ++ (a ++ (b ++ (d ++ []))))
 three (Ok t) old n1 n2 n3 a b d e1 e2 e3 = rw (e3, e2, e1, append-nil d) (simp append_assoc refl)
 three (Err e) old n1 n2 n3 a b d e1 e2 e3 = tt
 
-pub as_msg : {T E : Type 0} (r : Result T E) (old new : List ℕ) (sender : NodeId) (m n : Msg) → m ≡ n → OnOk r (new ≡ old ++ all_bytes (msg_objects sender n)) → OnOk r (new ≡ old ++ all_bytes (msg_objects sender m))
-as_msg r old new sender m n e written = subst (λ (x : Msg). OnOk r (new ≡ old ++ all_bytes (msg_objects sender x))) (sym e) written
+pub as_msg : {T E : Type 0} (r : Result T E) (old new : List ℕ) (sender : NodeId) (m n : Msg) → m ≡ n →
+    OnOk r (new ≡ old ++ all_bytes (msg_objects sender n)) → OnOk r (new ≡ old ++ all_bytes (msg_objects sender m))
+as_msg r old new sender m n e written =
+    subst (λ (x : Msg). OnOk r (new ≡ old ++ all_bytes (msg_objects sender x))) (sym e) written
 
 apart : (xs ys : List Object) → all_bytes (xs ++ ys) ≡ all_bytes xs ++ all_bytes ys
 apart xs ys = flat_map-append bytes_of xs ys
 
 -- the pieces of a Path
-pub five : {T E : Type 0} (r : Result T E) (old n1 n2 n3 n4 n5 : List ℕ) (a b d e f : List Object) → n1 ≡ old ++ all_bytes a → n2 ≡ n1 ++ all_bytes b → n3 ≡ n2 ++ all_bytes d → n4 ≡ n3 ++ all_bytes e → OnOk r (n5 ≡ n4 ++ all_bytes f) →
+pub five : {T E : Type 0} (r : Result T E) (old n1 n2 n3 n4 n5 : List ℕ) (a b d e f : List Object) →
+    n1 ≡ old ++ all_bytes a → n2 ≡ n1 ++ all_bytes b → n3 ≡ n2 ++ all_bytes d → n4 ≡ n3 ++ all_bytes e →
+    OnOk r (n5 ≡ n4 ++ all_bytes f) →
     OnOk r (n5 ≡ old ++ all_bytes (a ++ (b ++ (d ++ (e ++ f)))))
-five (Ok t) old n1 n2 n3 n4 n5 a b d e f e1 e2 e3 e4 e5 = rw (e5, e4, e3, e2, e1, apart a (b ++ (d ++ (e ++ f))), apart b (d ++ (e ++ f)), apart d (e ++ f), apart e f) (simp append_assoc refl)
+five (Ok t) old n1 n2 n3 n4 n5 a b d e f e1 e2 e3 e4 e5 =
+    rw (e5, e4, e3, e2, e1, apart a (b ++ (d ++ (e ++ f))), apart b (d ++ (e ++ f)), apart d (e ++ f), apart e f)
+    (simp append_assoc refl)
 five (Err x) old n1 n2 n3 n4 n5 a b d e f e1 e2 e3 e4 e5 = tt
 
 -- the pieces of a packet
-pub packet_bytes : (head n1 n2 n3 n4 : List ℕ) (id acks body : List Object) → n1 ≡ head → n2 ≡ n1 ++ all_bytes id → n3 ≡ n2 ++ all_bytes acks → n4 ≡ n3 ++ all_bytes body → n4 ≡ head ++ all_bytes (id ++ (acks ++ body))
-packet_bytes head n1 n2 n3 n4 id acks body e1 e2 e3 e4 = rw (e4, e3, e2, e1, apart id (acks ++ body), apart acks body) (simp append_assoc refl)
+pub packet_bytes : (head n1 n2 n3 n4 : List ℕ) (id acks body : List Object) → n1 ≡ head → n2 ≡ n1 ++ all_bytes id →
+    n3 ≡ n2 ++ all_bytes acks → n4 ≡ n3 ++ all_bytes body → n4 ≡ head ++ all_bytes (id ++ (acks ++ body))
+packet_bytes head n1 n2 n3 n4 id acks body e1 e2 e3 e4 =
+    rw (e4, e3, e2, e1, apart id (acks ++ body), apart acks body) (simp append_assoc refl)
 
 -- what is written once it is sealed
-pub sealed : (v new : List ℕ) (kind : ℕ) (sender : NodeId) (p : Packet) → v ≡ header_bytes kind 0 0 ++ all_bytes (packet_objects sender p) →
-    ((k : ℕ) (body : List ℕ) → v ≡ header_bytes k 0 0 ++ body → new ≡ message k body) → kind ≡ type_of p.body → new ≡ written sender p
-sealed v new kind sender p e is same = is kind (all_bytes (packet_objects sender p)) e ∙ ap (λ (k : ℕ). message k (all_bytes (packet_objects sender p))) same
+pub sealed : (v new : List ℕ) (kind : ℕ) (sender : NodeId) (p : Packet) →
+    v ≡ header_bytes kind 0 0 ++ all_bytes (packet_objects sender p) →
+    ((k : ℕ) (body : List ℕ) → v ≡ header_bytes k 0 0 ++ body → new ≡ message k body) → kind ≡ type_of p.body →
+    new ≡ written sender p
+sealed v new kind sender p e is same =
+    is kind (all_bytes (packet_objects sender p)) e ∙ ap (λ (k : ℕ). message k (all_bytes (packet_objects sender p)))
+    same

@@ -1,5 +1,6 @@
 -- How long a written packet is at most.
-use Rattle.std.proofs.Common.{◌≡◌, ◌≤◌, ◌<◌, ℕ, zero, suc, ◌+◌, ◌*◌, ◌^◌, Bool, true, false, cond, Option, None, Some, List, [], ◌∷◌, ◌++◌, length, map, filter, refl, ap, ◌∙◌, arith, length-append}
+use Rattle.std.proofs.Common.{◌≡◌, ◌≤◌, ◌<◌, ℕ, zero, suc, ◌+◌, ◌*◌, ◌^◌, Bool, true, false, cond, Option, None, Some}
+use Rattle.std.proofs.Common.{List, [], ◌∷◌, ◌++◌, length, map, filter, refl, ap, ◌∙◌, arith, length-append}
 use Rattle.std.proofs.lemmas.List.Concat.{flat_map-append}
 use Rattle.ason_base.specs.declared.ids.Lsp.{Lsp}
 use Rattle.ason_base.specs.declared.ids.NodeId.{NodeId}
@@ -15,11 +16,13 @@ use Rattle.wire_buf.specs.Routes.{route_bytes}
 use Rattle.wire_buf.proofs.Steps.{route_bytes-length}
 use Rattle.rsvp_objects.specs.Bodies.{request_bytes}
 use Rattle.rsvp_objects.specs.LabelSets.{among, label_set_bytes, or_zero}
-use Rattle.rsvp_objects.proofs.Labels.{labels_bytes-length}
+use Rattle.wire_buf.proofs.Numbers.{numbers-length}
 use Rattle.rsvp_messages.specs.Objects.{Object, size_of}
 use Rattle.ason_base.specs.Writable.{IsWritableMsg, IsWritableRole}
 use Rattle.rsvp_messages.specs.Writable.{IsWritable, IsWritableBody}
-use Rattle.rsvp_messages.specs.Written.{ack_object, all_bytes, bytes_of, body_objects, header_bytes, id_objects, made, msg_objects, packet_objects, path_end, path_head, protection_object, request_objects, role_objects, route_objects, set_object}
+use Rattle.rsvp_messages.specs.Written.{ack_object, all_bytes, bytes_of, body_objects, header_bytes, id_objects, made}
+use Rattle.rsvp_messages.specs.Written.{msg_objects, packet_objects, path_end, path_head, protection_object}
+use Rattle.rsvp_messages.specs.Written.{request_objects, role_objects, route_objects, set_object}
 
 pub length-apart : (xs ys : List Object) → length (all_bytes (xs ++ ys)) ≡ length (all_bytes xs) + length (all_bytes ys)
 length-apart xs ys = ap length (flat_map-append bytes_of xs ys) ∙ length-append (all_bytes xs) (all_bytes ys)
@@ -27,14 +30,19 @@ length-apart xs ys = ap length (flat_map-append bytes_of xs ys) ∙ length-appen
 filter-few : (p : ℕ → Bool) (n first : ℕ) → length (filter p (numbers_from first n)) ≤ n
 unfolding numbers_from
 filter-few p zero first = omega arith
-filter-few p (suc n) first = let others = filter-few p n (first + 1) in elim (p first) as (λ b. length (cond b (first ∷ filter p (numbers_from (first + 1) n)) (filter p (numbers_from (first + 1) n))) ≤ suc n) [ true ↦ omega (arith, others) | false ↦ omega (arith, others) ]
+filter-few p (suc n) first =
+    let others = filter-few p n (first + 1) in
+    elim (p first) as (λ b. length (cond b (first ∷ filter p (numbers_from (first + 1) n))
+    (filter p (numbers_from (first + 1) n))) ≤ suc n)
+    [ true ↦ omega (arith, others) | false ↦ omega (arith, others) ]
 
 or_zero-few : (ls : List ℕ) → length (or_zero ls) ≤ length ls + 1
 or_zero-few [] = omega arith
 or_zero-few (l ∷ ls) = omega arith
 
-pub set-length : (set : List ℕ) → length (label_set_bytes (record { include = true; labels = set })) ≡ 4 + 4 * length (or_zero (among set))
-set-length set = omega (arith, labels_bytes-length (or_zero (among set)))
+pub set-length : (set : List ℕ) → length (label_set_bytes (record { include = true; labels = set })) ≡ 4 + 4 * length
+    (or_zero (among set))
+set-length set = omega (arith, numbers-length (or_zero (among set)))
 
 pub set-few : (set : List ℕ) → length (or_zero (among set)) ≤ 81
 set-few set = omega (arith, or_zero-few (among set), filter-few (has set) 80 1)
@@ -48,11 +56,20 @@ route-few (s ∷ ss) few = omega (arith, length-cons (made 20 1 (route_bytes (s 
 
 request-few : (set : List ℕ) (role : PathRole) → length (all_bytes (request_objects set role)) ≤ 352
 request-few set role =
-    omega (arith, length-cons (made 19 4 request_bytes) (protection_object role ∷ set_object set ∷ []), length-cons (protection_object role) (set_object set ∷ []), length-cons (set_object set) [], set-length set, set-few set)
+    omega (
+      arith,
+      length-cons (made 19 4 request_bytes) (protection_object role ∷ set_object set ∷ []),
+      length-cons
+          (protection_object role) (set_object set ∷ []),
+      length-cons (set_object set) [],
+      set-length set,
+      set-few set,
+    )
 
 role-few : (lsp : Lsp) (role : PathRole) → IsWritableRole role → length (all_bytes (role_objects lsp role)) ≤ 784
 role-few lsp (Work guard) w = omega arith
-role-few lsp (Back active work primary) w = omega (arith, length-cons (made 38 1 (route_bytes primary)) [], route_bytes-length primary, w.1)
+role-few lsp (Back active work primary) w =
+    omega (arith, length-cons (made 38 1 (route_bytes primary)) [], route_bytes-length primary, w.1)
 
 end-few : (lsp : Lsp) (upstream : Option ℕ) → length (all_bytes (path_end lsp upstream)) ≤ 56
 end-few lsp None = omega arith
@@ -62,7 +79,8 @@ msg-few : (sender : NodeId) (m : Msg) → IsWritableMsg m → length (all_bytes 
 msg-few sender (Path lsp egress link route set upstream role) w =
     omega (
       arith,
-      length-apart (path_head sender lsp egress link) (route_objects route ++ (request_objects set role ++ (role_objects lsp role ++ path_end lsp upstream))),
+      length-apart (path_head sender lsp egress link) (route_objects route ++
+          (request_objects set role ++ (role_objects lsp role ++ path_end lsp upstream))),
       length-apart (route_objects route) (request_objects set role ++ (role_objects lsp role ++ path_end lsp upstream)),
       length-apart (request_objects set role) (role_objects lsp role ++ path_end lsp upstream),
       length-apart (role_objects lsp role) (path_end lsp upstream),
@@ -76,7 +94,8 @@ msg-few sender (PathTear lsp egress link) w = omega arith
 msg-few sender (PathErr lsp egress at removed code) w = omega arith
 msg-few sender (Notify lsp egress at link code) w = omega arith
 
-body-few : (sender : NodeId) (id : Option MsgId) (acks : List MsgId) (body : Option Msg) → IsWritableBody id acks body → length (all_bytes (body_objects sender body)) ≤ 3000
+body-few : (sender : NodeId) (id : Option MsgId) (acks : List MsgId) (body : Option Msg) → IsWritableBody id acks body →
+    length (all_bytes (body_objects sender body)) ≤ 3000
 body-few sender id acks None w = omega arith
 body-few sender id acks (Some m) w = msg-few sender m w
 
@@ -90,8 +109,24 @@ acks-length (a ∷ acks) = omega (arith, length-cons (ack_object a) (map ack_obj
 
 pub packet-few : (sender : NodeId) (p : Packet) → IsWritable p → length (all_bytes (packet_objects sender p)) ≤ 4000
 packet-few sender p w =
-    omega (arith, length-apart (id_objects p.id) (map ack_object p.acks ++ body_objects sender p.body), length-apart (map ack_object p.acks) (body_objects sender p.body), id-few p.id, acks-length p.acks, w.few, body-few sender p.id p.acks p.body w.body)
+    omega (
+      arith,
+      length-apart (id_objects p.id) (map ack_object p.acks ++ body_objects sender p.body),
+      length-apart
+          (map ack_object p.acks) (body_objects sender p.body),
+      id-few p.id,
+      acks-length p.acks,
+      w.few,
+      body-few sender p.id p.acks p.body w.body,
+    )
 
 -- the message fits the length field
-pub packet-short : (sender : NodeId) (p : Packet) (kind : ℕ) (out : List ℕ) → IsWritable p → out ≡ header_bytes kind 0 0 ++ all_bytes (packet_objects sender p) → length out < 2 ^ 16
-packet-short sender p kind out w e = omega (arith, ap length e, length-append (header_bytes kind 0 0) (all_bytes (packet_objects sender p)), packet-few sender p w)
+pub packet-short : (sender : NodeId) (p : Packet) (kind : ℕ) (out : List ℕ) → IsWritable p →
+    out ≡ header_bytes kind 0 0 ++ all_bytes (packet_objects sender p) → length out < 2 ^ 16
+packet-short sender p kind out w e =
+    omega (
+      arith,
+      ap length e,
+      length-append (header_bytes kind 0 0) (all_bytes (packet_objects sender p)),
+      packet-few sender p w,
+    )

@@ -1,5 +1,6 @@
 -- The written form of a packet spells it.
-use Rattle.std.proofs.Common.{◌≡◌, ◌≢◌, ◌≤◌, ◌<◌, ℕ, ◌+◌, ◌*◌, ◌%◌, ◌^◌, ◌==◌, true, false, Option, None, Some, List, [], ◌∷◌, ◌++◌, length, map, All, refl, ap, sym, subst, ◌∙◌, arith, IfSome}
+use Rattle.std.proofs.Common.{◌≡◌, ◌≢◌, ◌≤◌, ◌<◌, ℕ, ◌+◌, ◌*◌, ◌%◌, ◌^◌, ◌==◌, true, false, Option, None, Some, List}
+use Rattle.std.proofs.Common.{[], ◌∷◌, ◌++◌, length, map, All, refl, ap, sym, subst, ◌∙◌, arith, IfSome}
 use Rattle.std.proofs.lemmas.List.{append-nil}
 use Rattle.std.proofs.lemmas.List.Elements.{All-head, All-tail}
 use Rattle.std.specs.List.{AllByRecursion}
@@ -22,7 +23,8 @@ use Rattle.rsvp_messages.specs.Packets.{HasAcks, Spells, SpellsBody, type_of}
 use Rattle.rsvp_messages.specs.Parts.{AreEach, HasAtMostOne}
 use Rattle.ason_base.specs.Writable.{IsWritableMsg, IsWritableRole}
 use Rattle.rsvp_messages.specs.Writable.{Fits, FitsId, FitsMsg, IsShort, IsWritable, IsWritableBody}
-use Rattle.rsvp_messages.specs.Written.{ack_object, all_bytes, body_objects, id_objects, made, msg_objects, packet_objects, path_end, request_objects, role_objects, route_objects, written}
+use Rattle.rsvp_messages.specs.Written.{ack_object, all_bytes, body_objects, id_objects, made, msg_objects}
+use Rattle.rsvp_messages.specs.Written.{packet_objects, path_end, request_objects, role_objects, route_objects, written}
 use Rattle.rsvp_messages.proofs.Lengths.{packet-few, set-few, set-length}
 use Rattle.rsvp_messages.proofs.Moves.{SameOthers, move_msg}
 use Rattle.rsvp_messages.proofs.Spelled.{ComeBack, apart, msg_again, plain}
@@ -37,7 +39,8 @@ both (x ∷ xs) ys a b = (a.0, both xs ys a.1 b)
 fourfold : (n : ℕ) → (4 + 12 * n) % 4 ≡ 0
 fourfold n = omega arith
 
-whole_route : (class : ℕ) (steps : List Step) → length steps ≤ 64 → class < 2 ^ 8 → IsTrue (may_stand class) → IsWhole (made class 1 (route_bytes steps))
+whole_route : (class : ℕ) (steps : List Step) → length steps ≤ 64 → class < 2 ^ 8 → IsTrue (may_stand class) →
+    IsWhole (made class 1 (route_bytes steps))
 whole_route class steps few small stands = record {
   short = omega (arith, route_bytes-length steps);
   whole = ap (λ (n : ℕ). (4 + n) % 4) (route_bytes-length steps) ∙ fourfold (length steps);
@@ -59,16 +62,37 @@ routes : (steps : List Step) → length steps ≤ 64 → AllByRecursion IsWhole 
 routes [] few = tt
 routes (s ∷ ss) few = (whole_route 20 (s ∷ ss) few (omega arith) refl, tt)
 
-fixed : (class ctype n : ℕ) (body : List ℕ) → length body ≡ n → n < 100 → (4 + n) % 4 ≡ 0 → class < 2 ^ 8 → ctype < 2 ^ 8 → IsTrue (may_stand class) → IsWhole (made class ctype body)
-fixed class ctype n body is small four a b stands = record { short = omega (arith, is); whole = ap (λ (k : ℕ). (4 + k) % 4) is ∙ four; class = a; ctype = b; stands = stands }
+fixed : (class ctype n : ℕ) (body : List ℕ) → length body ≡ n → n < 100 → (4 + n) % 4 ≡ 0 → class < 2 ^ 8 →
+    ctype < 2 ^ 8 → IsTrue (may_stand class) → IsWhole (made class ctype body)
+fixed class ctype n body is small four a b stands =
+    record {
+      short = omega (arith, is);
+      whole = ap (λ (k : ℕ). (4 + k) % 4) is
+          ∙ four;
+      class = a;
+      ctype = b;
+      stands = stands;
+    }
 
 roles : (lsp : Lsp) (role : PathRole) → IsWritableRole role → AllByRecursion IsWhole (role_objects lsp role)
 roles lsp (Work guard) w = tt
-roles lsp (Back active work primary) w = (fixed 199 1 8 _ refl (omega arith) refl (omega arith) (omega arith) refl, (whole_route 38 primary w.1 (omega arith) refl, tt))
+roles lsp (Back active work primary) w = (
+  fixed 199 1 8 _ refl (omega arith) refl (omega arith) (omega arith) refl,
+  (whole_route 38 primary w.1 (omega arith) refl, tt),
+)
 
 ends : (lsp : Lsp) (upstream : Option ℕ) → AllByRecursion IsWhole (path_end lsp upstream)
-ends lsp None = (fixed 11 7 8 _ refl (omega arith) refl (omega arith) (omega arith) refl, (fixed 12 2 32 _ refl (omega arith) refl (omega arith) (omega arith) refl, tt))
-ends lsp (Some label) = (fixed 11 7 8 _ refl (omega arith) refl (omega arith) (omega arith) refl, (fixed 12 2 32 _ refl (omega arith) refl (omega arith) (omega arith) refl, (fixed 35 2 4 _ refl (omega arith) refl (omega arith) (omega arith) refl, tt)))
+ends lsp None = (
+  fixed 11 7 8 _ refl (omega arith) refl (omega arith) (omega arith) refl,
+  (fixed 12 2 32 _ refl (omega arith) refl (omega arith) (omega arith) refl, tt),
+)
+ends lsp (Some label) = (
+  fixed 11 7 8 _ refl (omega arith) refl (omega arith) (omega arith) refl,
+  (
+    fixed 12 2 32 _ refl (omega arith) refl (omega arith) (omega arith) refl,
+    (fixed 35 2 4 _ refl (omega arith) refl (omega arith) (omega arith) refl, tt),
+  ),
+)
 
 session_whole : (body : List ℕ) → length body ≡ 12 → IsWhole (made 1 7 body)
 session_whole body e = fixed 1 7 12 body e (omega arith) refl (omega arith) (omega arith) refl
@@ -76,7 +100,8 @@ session_whole body e = fixed 1 7 12 body e (omega arith) refl (omega arith) (ome
 hop_whole : (body : List ℕ) → length body ≡ 20 → IsWhole (made 3 3 body)
 hop_whole body e = fixed 3 3 20 body e (omega arith) refl (omega arith) (omega arith) refl
 
-sender_whole : (class : ℕ) (body : List ℕ) → length body ≡ 8 → class < 2 ^ 8 → IsTrue (may_stand class) → IsWhole (made class 7 body)
+sender_whole : (class : ℕ) (body : List ℕ) → length body ≡ 8 → class < 2 ^ 8 → IsTrue (may_stand class) →
+    IsWhole (made class 7 body)
 sender_whole class body e small stands = fixed class 7 8 body e (omega arith) refl small (omega arith) stands
 
 times_whole : (body : List ℕ) → length body ≡ 4 → IsWhole (made 5 1 body)
@@ -89,8 +114,14 @@ msg_whole sender (Path l e k route set u role) w = (
     hop_whole _ refl,
     (
       times_whole _ refl,
-      both (route_objects route) (request_objects set role ++ (role_objects l role ++ path_end l u)) (routes route w.1)
-          (fixed 19 4 4 _ refl (omega arith) refl (omega arith) (omega arith) refl, (fixed 37 2 8 _ refl (omega arith) refl (omega arith) (omega arith) refl, (whole_set set, both (role_objects l role) (path_end l u) (roles l role w.2) (ends l u)))),
+      both (route_objects route) (request_objects set role ++ (role_objects l role ++ path_end l u))
+          (routes route w.1) (
+            fixed 19 4 4 _ refl (omega arith) refl (omega arith) (omega arith) refl,
+            (
+              fixed 37 2 8 _ refl (omega arith) refl (omega arith) (omega arith) refl,
+              (whole_set set, both (role_objects l role) (path_end l u) (roles l role w.2) (ends l u)),
+            ),
+          ),
     ),
   ),
 )
@@ -113,9 +144,19 @@ msg_whole sender (Resv l e k x) w = (
     ),
   ),
 )
-msg_whole sender (PathTear l e k) w = (session_whole _ refl, (hop_whole _ refl, (sender_whole 11 _ refl (omega arith) refl, tt)))
-msg_whole sender (PathErr l e n b x) w = (session_whole _ refl, (fixed 6 3 8 _ refl (omega arith) refl (omega arith) (omega arith) refl, (sender_whole 11 _ refl (omega arith) refl, tt)))
-msg_whole sender (Notify l e n k x) w = (fixed 6 3 20 _ refl (omega arith) refl (omega arith) (omega arith) refl, (session_whole _ refl, (sender_whole 11 _ refl (omega arith) refl, tt)))
+msg_whole sender (PathTear l e k) w =
+    (session_whole _ refl, (hop_whole _ refl, (sender_whole 11 _ refl (omega arith) refl, tt)))
+msg_whole sender (PathErr l e n b x) w = (
+  session_whole _ refl,
+  (
+    fixed 6 3 8 _ refl (omega arith) refl (omega arith) (omega arith) refl,
+    (sender_whole 11 _ refl (omega arith) refl, tt),
+  ),
+)
+msg_whole sender (Notify l e n k x) w = (
+  fixed 6 3 20 _ refl (omega arith) refl (omega arith) (omega arith) refl,
+  (session_whole _ refl, (sender_whole 11 _ refl (omega arith) refl, tt)),
+)
 
 id_whole : (id : Option MsgId) → AllByRecursion IsWhole (id_objects id)
 id_whole None = tt
@@ -125,12 +166,16 @@ acks_whole : (acks : List MsgId) → AllByRecursion IsWhole (map ack_object acks
 acks_whole [] = tt
 acks_whole (a ∷ acks) = (fixed 24 1 8 _ refl (omega arith) refl (omega arith) (omega arith) refl, acks_whole acks)
 
-body_whole : (sender : NodeId) (id : Option MsgId) (acks : List MsgId) (body : Option Msg) → IsWritableBody id acks body → AllByRecursion IsWhole (body_objects sender body)
+body_whole : (sender : NodeId) (id : Option MsgId) (acks : List MsgId) (body : Option Msg) →
+    IsWritableBody id acks body → AllByRecursion IsWhole (body_objects sender body)
 body_whole sender id acks None w = tt
 body_whole sender id acks (Some m) w = msg_whole sender m w
 
 packet_whole : (sender : NodeId) (p : Packet) → IsWritable p → AllByRecursion IsWhole (packet_objects sender p)
-packet_whole sender p w = both (id_objects p.id) (map ack_object p.acks ++ body_objects sender p.body) (id_whole p.id) (both (map ack_object p.acks) (body_objects sender p.body) (acks_whole p.acks) (body_whole sender p.id p.acks p.body w.body))
+packet_whole sender p w =
+    both (id_objects p.id) (map ack_object p.acks ++ body_objects sender p.body) (id_whole p.id)
+    (both (map ack_object p.acks) (body_objects sender p.body) (acks_whole p.acks)
+    (body_whole sender p.id p.acks p.body w.body))
 
 -- the objects of each class
 
@@ -170,39 +215,59 @@ no_more_acks sender (Some (PathTear l n k)) = refl
 no_more_acks sender (Some (PathErr l n a b x)) = refl
 no_more_acks sender (Some (Notify l n a k x)) = refl
 
-three : (class : ℕ) (a b d : List Object) → of_class class (a ++ (b ++ d)) ≡ of_class class a ++ (of_class class b ++ of_class class d)
+three : (class : ℕ) (a b d : List Object) → of_class class (a ++ (b ++ d)) ≡ of_class class a ++
+    (of_class class b ++ of_class class d)
 three class a b d = apart class a (b ++ d) ∙ ap (λ (l : List Object). of_class class a ++ l) (apart class b d)
 
-others : (id : Option MsgId) (acks : List MsgId) (os : List Object) → SameOthers os (id_objects id ++ (map ack_object acks ++ os))
+others : (id : Option MsgId) (acks : List MsgId) (os : List Object) →
+    SameOthers os (id_objects id ++ (map ack_object acks ++ os))
 others id acks os class a b =
-    sym (three class (id_objects id) (map ack_object acks) os ∙ rw (no_id class id (test_other class 23 a), no_acks class acks (test_other class 24 b)) refl)
+    sym (three class (id_objects id) (map ack_object acks) os
+    ∙ rw (no_id class id (test_other class 23 a), no_acks class acks (test_other class 24 b)) refl)
 
 -- the numbers
 
-acks_again : (back : ComeBack) (acks : List MsgId) → All IsShort acks → All FitsId acks → AreEach 1 IsMsgId (map ack_object acks) acks
+acks_again : (back : ComeBack) (acks : List MsgId) → All IsShort acks → All FitsId acks →
+    AreEach 1 IsMsgId (map ack_object acks) acks
 acks_again back [] short fits = tt
-acks_again back (a ∷ acks) short fits =
-    (refl, back.id 0 a (All-head IsShort a acks short) (All-head FitsId a acks fits), acks_again back acks (All-tail IsShort a acks short) (All-tail FitsId a acks fits))
+acks_again back (a ∷ acks) short fits = (
+  refl,
+  back.id 0 a (All-head IsShort a acks short) (All-head FitsId a acks fits),
+  acks_again back acks
+      (All-tail IsShort a acks short) (All-tail FitsId a acks fits),
+)
 
-has_acks : (back : ComeBack) (sender : NodeId) (p : Packet) → IsWritable p → Fits p → HasAcks (packet_objects sender p) p.acks
+has_acks : (back : ComeBack) (sender : NodeId) (p : Packet) → IsWritable p → Fits p →
+    HasAcks (packet_objects sender p) p.acks
 has_acks back sender p w f =
     let one : of_class 24 (packet_objects sender p) ≡ map ack_object p.acks =
-    three 24 (id_objects p.id) (map ack_object p.acks) (body_objects sender p.body) ∙ rw (no_id 24 p.id refl, just_acks p.acks, no_more_acks sender p.body) (append-nil (map ack_object p.acks)) in
+    three 24 (id_objects p.id) (map ack_object p.acks) (body_objects sender p.body)
+    ∙ rw (no_id 24 p.id refl, just_acks p.acks, no_more_acks sender p.body) (append-nil (map ack_object p.acks)) in
     (w.few, subst (λ (os : List Object). AreEach 1 IsMsgId os p.acks) (sym one) (acks_again back p.acks w.acks f.acks))
 
-has_id : (back : ComeBack) (sender : NodeId) (id : Option MsgId) (acks : List MsgId) (m : Msg) → IfSome id IsShort → IfSome id FitsId → HasAtMostOne 23 1 IsMsgId (id_objects id ++ (map ack_object acks ++ msg_objects sender m)) id
-has_id back sender None acks m short fits = apart 23 (map ack_object acks) (msg_objects sender m) ∙ rw (no_acks 23 acks refl, no_numbers 23 sender m refl) refl
+has_id : (back : ComeBack) (sender : NodeId) (id : Option MsgId) (acks : List MsgId) (m : Msg) → IfSome id IsShort →
+    IfSome id FitsId → HasAtMostOne 23 1 IsMsgId (id_objects id ++ (map ack_object acks ++ msg_objects sender m)) id
+has_id back sender None acks m short fits =
+    apart 23 (map ack_object acks) (msg_objects sender m) ∙ rw (no_acks 23 acks refl, no_numbers 23 sender m refl) refl
 has_id back sender (Some n) acks m short fits = record {
   body = msg_id_bytes 1 n;
-  one = ap (λ (os : List Object). made 23 1 (msg_id_bytes 1 n) ∷ os) (apart 23 (map ack_object acks) (msg_objects sender m) ∙ rw (no_acks 23 acks refl, no_numbers 23 sender m refl) refl);
+  one =
+      ap (λ (os : List Object). made 23 1 (msg_id_bytes 1 n) ∷ os)
+      (apart 23 (map ack_object acks) (msg_objects sender m)
+      ∙ rw (no_acks 23 acks refl, no_numbers 23 sender m refl) refl);
   means = back.id 1 n short fits;
 }
 
-has_body : (back : ComeBack) (sender : NodeId) (id : Option MsgId) (acks : List MsgId) (body : Option Msg) → sender.0 < 2 ^ 32 → IfSome id IsShort → IfSome id FitsId → IsWritableBody id acks body → IfSome body FitsMsg →
+has_body : (back : ComeBack) (sender : NodeId) (id : Option MsgId) (acks : List MsgId) (body : Option Msg) →
+    sender.0 < 2 ^ 32 → IfSome id IsShort → IfSome id FitsId → IsWritableBody id acks body → IfSome body FitsMsg →
     SpellsBody (id_objects id ++ (map ack_object acks ++ body_objects sender body)) id acks body
 has_body back sender id acks None s short fits w f = w
-has_body back sender id acks (Some m) s short fits w f =
-    (has_id back sender id acks m short fits, move_msg (msg_objects sender m) (id_objects id ++ (map ack_object acks ++ msg_objects sender m)) m (others id acks (msg_objects sender m)) (msg_again back sender m s w f))
+has_body back sender id acks (Some m) s short fits w f = (
+  has_id back sender id acks m short fits,
+  move_msg (msg_objects sender m)
+      (id_objects id ++ (map ack_object acks ++ msg_objects sender m)) m (others id acks (msg_objects sender m))
+      (msg_again back sender m s w f),
+)
 
 type-small : (body : Option Msg) → type_of body < 2 ^ 8
 type-small None = omega arith
@@ -212,12 +277,20 @@ type-small (Some (PathTear l n k)) = omega arith
 type-small (Some (PathErr l n a b x)) = omega arith
 type-small (Some (Notify l n a k x)) = omega arith
 
-pub packet_again : (back : ComeBack) (sender : NodeId) (p : Packet) → sender.0 < 2 ^ 32 → IsWritable p → Fits p → Spells (written sender p) p
+pub packet_again : (back : ComeBack) (sender : NodeId) (p : Packet) → sender.0 < 2 ^ 32 → IsWritable p → Fits p →
+    Spells (written sender p) p
 packet_again back sender p s w f = (
   packet_objects sender p,
   record {
-    header = header_again (type_of p.body) (all_bytes (packet_objects sender p)) (type-small p.body) (let few = packet-few sender p w in omega (arith, few));
+    header =
+        header_again (type_of p.body) (all_bytes (packet_objects sender p)) (type-small p.body)
+        (let few = packet-few sender p w in omega (arith, few));
     objects = objects_again (packet_objects sender p) (packet_whole sender p w);
-    packet = record { acks = has_acks back sender p w f; body = has_body back sender p.id p.acks p.body s w.id f.id w.body f.body };
+    packet =
+        record {
+          acks = has_acks back sender p w f;
+          body = has_body back sender p.id p.acks p.body s w.id f.id w.body
+              f.body;
+        };
   },
 )

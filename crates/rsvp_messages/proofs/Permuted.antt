@@ -1,5 +1,6 @@
 -- Objects in another order spell the same; the acknowledgements are read in theirs.
-use Rattle.std.proofs.Common.{◌≡◌, inl, inr, ℕ, Bool, true, false, cond, nat_eq, not, Option, None, Some, List, [], ◌∷◌, length, refl, sym, ap, ◌∙◌, subst, arith, Contains}
+use Rattle.std.proofs.Common.{◌≡◌, inl, inr, ℕ, Bool, true, false, cond, nat_eq, not, Option, None, Some, List, [], ◌∷◌}
+use Rattle.std.proofs.Common.{length, refl, sym, ap, ◌∙◌, subst, arith, Contains}
 use Rattle.std.specs.Prelude.{◌&&◌, ◌||◌, filter}
 use Rattle.std.specs.List.{list_any}
 use Rattle.std.specs.List.Sorted.{IsPermutation}
@@ -16,13 +17,15 @@ use Rattle.ason_base.specs.declared.messages.PathRole.{PathRole}
 use Rattle.ason_base.specs.declared.messages.PathRole.TheVariants.{Work, Back}
 use Rattle.ason_base.specs.declared.steps.Step.{Step}
 use Rattle.ason_base.specs.Labels.{up_to}
-use Rattle.ason_base.proofs.Ordered.{contains-head, contains-tail, contains-cases, contains-none, any-there, there-any, same_test}
+use Rattle.ason_base.proofs.Ordered.{contains-head, contains-tail, contains-cases, contains-none, any-there, there-any}
+use Rattle.ason_base.proofs.Ordered.{same_test}
 use Rattle.rsvp_objects.specs.declared.error.ErrorSpec.{ErrorSpec}
 use Rattle.rsvp_objects.specs.declared.label_set.LabelSetObject.{LabelSetObject}
 use Rattle.rsvp_objects.specs.Bodies.{IsMsgId}
 use Rattle.rsvp_objects.specs.LabelSets.{IsLabelSet}
 use Rattle.rsvp_recovery.specs.declared.protection.Protection.{Protection}
-use Rattle.rsvp_messages.specs.Messages.{allows, includes, excludes, HasError, HasProtection, HasRole, HasRoute, HasSet, NamesLsp, SpellsMsg}
+use Rattle.rsvp_messages.specs.Messages.{allows, includes, excludes, HasError, HasProtection, HasRole, HasRoute, HasSet}
+use Rattle.rsvp_messages.specs.Messages.{NamesLsp, SpellsMsg}
 use Rattle.rsvp_messages.specs.Objects.{Object, of_class}
 use Rattle.rsvp_messages.specs.Packets.{ObjectsComeInAnyOrder, SpellsBody, SpellsPacket}
 use Rattle.rsvp_messages.specs.Parts.{AreEach, HasAtMostOne, HasOne}

@@ -1,5 +1,6 @@
 -- The labels that LABEL_SETs allow, one by one.
-use Rattle.std.proofs.Common.{◌≡◌, ℕ, ◌+◌, ◌≤◌, ◌&&◌, ◌||◌, ltb, eqb, cond, Bool, true, false, List, [], filter, refl, ap, ◌∙◌, arith}
+use Rattle.std.proofs.Common.{◌≡◌, ℕ, ◌+◌, ◌≤◌, ◌&&◌, ◌||◌, ltb, eqb, cond, Bool, true, false, List, [], filter, refl}
+use Rattle.std.proofs.Common.{ap, ◌∙◌, arith}
 use Rattle.ason_base.specs.Labels.{has, numbers_from, up_to, with_label}
 use Rattle.ason_base.proofs.MaskMembers.{has-filter, filter-agree, has-bound}
 
@@ -24,14 +25,23 @@ none_above false x n h = grind arith
 
 with_next : (p : ℕ → Bool) (n : ℕ) (s : List ℕ) → s ≡ below p n → p n ≡ true → with_label s n ≡ below p (n + 1)
 with_next p n s e passes = filter-agree (λ x. eqb x n || has s x) (λ x. ltb x (n + 1) && p x) (up_to 80) (λ x h.
-    ap (λ (b : Bool). eqb x n || b) (ap (λ (t : List ℕ). has t x) e ∙ has-filter (λ y. ltb y n && p y) (up_to 80) x ∙ ap (λ (b : Bool). b && (ltb x n && p x)) h)
+    ap (λ (b : Bool). eqb x n || b) (ap (λ (t : List ℕ). has t x) e ∙ has-filter (λ y. ltb y n && p y) (up_to 80) x
+    ∙ ap (λ (b : Bool). b && (ltb x n && p x)) h)
     ∙ one_above (p x) x n (λ same. ap p same ∙ passes))
 
 without_next : (p : ℕ → Bool) (n : ℕ) (s : List ℕ) → s ≡ below p n → p n ≡ false → s ≡ below p (n + 1)
-without_next p n s e fails = e ∙ filter-agree (λ x. ltb x n && p x) (λ x. ltb x (n + 1) && p x) (up_to 80) (λ x h. none_above (p x) x n (λ same. ap p same ∙ fails))
+without_next p n s e fails =
+    e ∙ filter-agree (λ x. ltb x n && p x) (λ x. ltb x (n + 1) && p x) (up_to 80)
+    (λ x h. none_above (p x) x n (λ same. ap p same ∙ fails))
 
-pub next : (p : ℕ → Bool) (n : ℕ) (s new : List ℕ) → s ≡ below p n → new ≡ cond (p n) (with_label s n) s → new ≡ below p (n + 1)
-next p n s new e is = is ∙ (elim (p n) as (λ b. p n ≡ b → cond b (with_label s n) s ≡ below p (n + 1)) [ true ↦ with_next p n s e | false ↦ without_next p n s e ] refl)
+pub next : (p : ℕ → Bool) (n : ℕ) (s new : List ℕ) → s ≡ below p n → new ≡ cond (p n) (with_label s n) s →
+    new ≡ below p (n + 1)
+next p n s new e is =
+    is ∙ (elim (p n) as (λ b. p n ≡ b → cond b (with_label s n) s ≡ below p (n + 1))
+    [ true ↦ with_next p n s e | false ↦ without_next p n s e ] refl)
 
 pub whole : (p : ℕ → Bool) (n : ℕ) (s : List ℕ) → 81 ≤ n → s ≡ below p n → s ≡ filter p (up_to 80)
-whole p n s end e = e ∙ filter-agree (λ x. ltb x n && p x) p (up_to 80) (λ x h. let top = has-bound 80 1 x h in let inside : ltb x n ≡ true = grind arith in ap (λ (b : Bool). b && p x) inside)
+whole p n s end e =
+    e ∙ filter-agree (λ x. ltb x n && p x) p (up_to 80)
+    (λ x h. let top = has-bound 80 1 x h in let inside : ltb x n ≡ true = grind arith in
+    ap (λ (b : Bool). b && p x) inside)

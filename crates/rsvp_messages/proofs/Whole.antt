@@ -1,5 +1,6 @@
 -- Bytes that are written as objects are those objects, and a sealed message has its header.
-use Rattle.std.proofs.Common.{◌≡◌, ◌<◌, ℕ, ◌+◌, ◌%◌, ◌^◌, List, [], ◌∷◌, ◌++◌, length, inr, refl, sym, subst, ◌∙◌, arith, length-append}
+use Rattle.std.proofs.Common.{◌≡◌, ◌<◌, ℕ, ◌+◌, ◌%◌, ◌^◌, List, [], ◌∷◌, ◌++◌, length, inr, refl, sym, subst, ◌∙◌}
+use Rattle.std.proofs.Common.{arith, length-append}
 use Rattle.std.proofs.Math.Seq.{take-append_seam}
 use Rattle.std.proofs.lemmas.List.{drop_at}
 use Rattle.std.specs.List.{AllByRecursion}
@@ -37,12 +38,17 @@ begins_again o rest w =
 
 pub objects_again : (os : List Object) → AllByRecursion IsWhole os → AreObjects (all_bytes os) os
 objects_again [] whole = refl
-objects_again (o ∷ os) whole = (begins_again o (all_bytes os) whole.0, subst (λ (l : List ℕ). AreObjects l os) (sym (drop_at (bytes_of o) (all_bytes os) (size_of o) (bytes-length o))) (objects_again os whole.1))
+objects_again (o ∷ os) whole = (
+  begins_again o (all_bytes os) whole.0,
+  subst (λ (l : List ℕ). AreObjects l os)
+      (sym (drop_at (bytes_of o) (all_bytes os) (size_of o) (bytes-length o))) (objects_again os whole.1),
+)
 
 checksum-small : (bytes : List ℕ) → checksum_of bytes < 2 ^ 16
 checksum-small bytes = omega arith
 
-pub header_again : (kind : ℕ) (body : List ℕ) → kind < 2 ^ 8 → 8 + length body < 2 ^ 16 → HasHeader (message kind body) kind
+pub header_again : (kind : ℕ) (body : List ℕ) → kind < 2 ^ 8 → 8 + length body < 2 ^ 16 →
+    HasHeader (message kind body) kind
 header_again kind body small short =
     let len : ℕ = 8 + length body in
     let checksum : ℕ = checksum_of (header_bytes kind 0 len ++ body) in
@@ -50,6 +56,9 @@ header_again kind body small short =
       long = omega (arith, length-append (header_bytes kind checksum len) body);
       version = refl;
       type_is = omega arith;
-      checksum = inr (big_number-reads_back 2 checksum ((0x01 ∷ 0x00 ∷ big_bytes 2 len) ++ body) (checksum-small (header_bytes kind 0 len ++ body)));
-      size = big_number-reads_back 2 len body short ∙ omega (arith, length-append (header_bytes kind checksum len) body);
+      checksum =
+          inr (big_number-reads_back 2 checksum ((0x01 ∷ 0x00 ∷ big_bytes 2 len) ++ body)
+          (checksum-small (header_bytes kind 0 len ++ body)));
+      size =
+          big_number-reads_back 2 len body short ∙ omega (arith, length-append (header_bytes kind checksum len) body);
     }

@@ -11,7 +11,8 @@ without_checksum bytes = take 2 bytes ++ 0 ∷ 0 ∷ drop 4 bytes
 abbrev pub HasChecksum : List ℕ → Type 0
 HasChecksum bytes = (number_at 2 2 bytes ≡ 0) ⊎ (number_at 2 2 bytes ≡ checksum_of (without_checksum bytes))
 
--- version 1, a message of this type, and the length of all the bytes; nothing reads flags, Send_TTL and the reserved byte
+-- version 1, a message of this type, and the length of all the bytes; nothing reads flags, Send_TTL and the reserved
+-- byte
 pub record HasHeader (bytes : List ℕ) (kind : ℕ) : Type 0 where
   pub long : 8 ≤ length bytes
   pub version : number_at 0 1 bytes / 16 ≡ 1

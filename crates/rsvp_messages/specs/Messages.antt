@@ -1,5 +1,6 @@
 -- What the objects of each message spell (RFC 2205, section 3.1; RFC 3209; RFC 3473; RFC 4872).
-use Rattle.std.specs.Prelude.{◌≡◌, ◌⊎◌, ℕ, ◌/◌, ◌%◌, ◌==◌, ◌&&◌, ◌||◌, Bool, false, not, List, [], ◌∷◌, Option, Some, filter}
+use Rattle.std.specs.Prelude.{◌≡◌, ◌⊎◌, ℕ, ◌/◌, ◌%◌, ◌==◌, ◌&&◌, ◌||◌, Bool, false, not, List, [], ◌∷◌, Option, Some}
+use Rattle.std.specs.Prelude.{filter}
 use Rattle.std.specs.List.{list_any}
 use Rattle.ason_base.specs.declared.ids.LinkId.{LinkId}
 use Rattle.ason_base.specs.declared.ids.Lsp.{Lsp}
@@ -23,8 +24,8 @@ use Rattle.rsvp_recovery.specs.Bodies.{IsAssociation, IsProtection}
 use Rattle.rsvp_messages.specs.Objects.{Object}
 use Rattle.rsvp_messages.specs.Parts.{HasAtMostOne, HasEach, HasNone, HasOne}
 
--- The LSP: its tunnel and egress are those of SESSION (class 1), its ingress and number those of the SENDER_TEMPLATE (class 11)
--- or the FILTER_SPEC (class 10).
+-- The LSP: its tunnel and egress are those of SESSION (class 1), its ingress and number those of the SENDER_TEMPLATE
+-- (class 11) or the FILTER_SPEC (class 10).
 pub record NamesLsp (class : ℕ) (os : List Object) (lsp : Lsp) (egress : NodeId) : Type 0 where
   pub session : Session
   pub sender : SenderRef
@@ -71,13 +72,15 @@ HasRole os (Back active work primary) =
     HasProtection os (bits.Back active) × HasOne 199 1 (Ties work) os × HasOne 38 1 (λ body. IsRoute body primary) os
 
 -- the parts of a Path that aren't lists: LABEL_REQUEST, and UPSTREAM_LABEL where there is one
-pub record SpellsHead (os : List Object) (lsp : Lsp) (egress : NodeId) (link : LinkId) (upstream : Option ℕ) : Type 0 where
+pub record SpellsHead (os : List Object) (lsp : Lsp) (egress : NodeId) (link : LinkId) (upstream : Option ℕ)
+    : Type 0 where
   pub names : NamesLsp 11 os lsp egress
   pub comes : ComesOver os link
   pub request : HasOne 19 4 IsRequest os
   pub has_upstream : HasAtMostOne 35 2 IsLabel os upstream
 
-pub record SpellsPath (os : List Object) (lsp : Lsp) (egress : NodeId) (link : LinkId) (route : List Step) (set : List ℕ) (upstream : Option ℕ) (role : PathRole) : Type 0 where
+pub record SpellsPath (os : List Object) (lsp : Lsp) (egress : NodeId) (link : LinkId) (route : List Step)
+    (set : List ℕ) (upstream : Option ℕ) (role : PathRole) : Type 0 where
   pub head : SpellsHead os lsp egress link upstream
   pub has_route : HasRoute os route
   pub has_set : HasSet os set
@@ -102,4 +105,5 @@ SpellsMsg os (PathErr lsp egress at removed code) =
     × ((e : ErrorSpec) × HasError os e × (at ≡ e.node) × (removed ≡ is_removed e) × (code ≡ e.code))
 SpellsMsg os (Notify lsp egress at link code) =
     NamesLsp 11 os lsp egress
-    × ((e : ErrorSpec) × HasOne 6 3 (λ body. IsError body e) os × (e.link ≡ Some link) × (at ≡ e.node) × (code ≡ e.code))
+    × ((e : ErrorSpec) × HasOne 6 3 (λ body. IsError body e) os × (e.link ≡ Some link) × (at ≡ e.node)
+    × (code ≡ e.code))

@@ -1,7 +1,9 @@
 -- The objects of a message, one after the other (RFC 2205, section 3.1.2).
-use Rattle.std.specs.Prelude.{◌≡◌, ◌≤◌, ℕ, ◌+◌, ◌%◌, ◌==◌, ◌||◌, nat_le, Bool, IsTrue, List, [], ◌∷◌, length, take, drop, filter}
+use Rattle.std.specs.Prelude.{◌≡◌, ◌≤◌, ℕ, ◌+◌, ◌%◌, ◌==◌, ◌||◌, nat_le, Bool, IsTrue, List, [], ◌∷◌, length, take}
+use Rattle.std.specs.Prelude.{drop, filter}
 use Rattle.std.specs.List.{list_any}
 use Rattle.wire_buf.specs.Objects.{number_at}
+use Rattle.wire_buf.specs.Sequences.{AreItems}
 
 pub record Object : Type 0 where
   pub class : ℕ
@@ -25,8 +27,8 @@ known_classes =
 abbrev pub may_stand : ℕ → Bool
 may_stand class = nat_le 128 class || is_among known_classes class
 
--- The bytes begin with this object. Its length counts the four bytes of its header, is a multiple of four, and doesn't go past
--- the end.
+-- The bytes begin with this object. Its length counts the four bytes of its header, is a multiple of four, and doesn't
+-- go past the end.
 pub record BeginsWith (bytes : List ℕ) (o : Object) : Type 0 where
   pub size : size_of o ≡ number_at 0 2 bytes
   pub whole : size_of o % 4 ≡ 0
@@ -38,8 +40,7 @@ pub record BeginsWith (bytes : List ℕ) (o : Object) : Type 0 where
 
 -- objects one after the other, to the end
 abbrev pub AreObjects : List ℕ → List Object → Type 0
-AreObjects bytes [] = bytes ≡ []
-AreObjects bytes (o ∷ os) = BeginsWith bytes o × AreObjects (drop (size_of o) bytes) os
+AreObjects bytes os = AreItems BeginsWith size_of bytes os
 
 -- the objects of a class, in order
 abbrev pub of_class : ℕ → List Object → List Object

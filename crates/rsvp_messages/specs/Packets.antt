@@ -11,7 +11,8 @@ use Rattle.rsvp_messages.specs.Messages.{SpellsMsg}
 use Rattle.rsvp_messages.specs.Objects.{AreObjects, Object, of_class}
 use Rattle.rsvp_messages.specs.Parts.{HasAtMostOne, HasEach}
 
--- the types of messages (RFC 2205, section 3.1.1; RFC 2961, section 4.4; RFC 3473, section 4.3); without a message an Ack
+-- the types of messages (RFC 2205, section 3.1.1; RFC 2961, section 4.4; RFC 3473, section 4.3); without a message an
+-- Ack
 abbrev pub type_of : Option Msg → ℕ
 type_of (Some (Path lsp egress link route set upstream role)) = 1
 type_of (Some (Resv lsp egress link label)) = 2
@@ -49,8 +50,8 @@ pub record SpelledBy (bytes : List ℕ) (os : List Object) (p : Packet) : Type 0
 abbrev pub Spells : List ℕ → Packet → Type 0
 Spells bytes p = (os : List Object) × SpelledBy bytes os p
 
--- A whole message with its objects in another order spells the same packet, whether its checksum is right or wasn't sent.
--- Acknowledgements keep theirs, since they are a list.
+-- A whole message with its objects in another order spells the same packet, whether its checksum is right or wasn't
+-- sent. Acknowledgements keep theirs, since they are a list.
 abbrev pub ObjectsComeInAnyOrder : Type 0
 ObjectsComeInAnyOrder =
     (bytes others : List ℕ) (os moved : List Object) (p : Packet) → SpelledBy bytes os p →

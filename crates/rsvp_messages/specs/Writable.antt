@@ -42,8 +42,8 @@ ReadIsWritable =
     (bytes : List ℕ) (p : Packet) → All (λ b. b < 2 ^ 8) bytes → Spells bytes p →
     LeavesLabel p.body → IsWritable p
 
--- What the types of the program say of a packet: each number has its width, a label is one of 1 to 80, and a set of labels is
--- the rising list of those that it has.
+-- What the types of the program say of a packet: each number has its width, a label is one of 1 to 80, and a set of
+-- labels is the rising list of those that it has.
 abbrev pub FitsLsp : Lsp → Type 0
 FitsLsp l = (l.ingress.0 < 2 ^ 32) × (l.tunnel < 2 ^ 16) × (l.lsp < 2 ^ 16)
 
@@ -59,11 +59,13 @@ FitsRole (Back active work primary) = (work < 2 ^ 16) × All HasIds primary
 
 abbrev pub FitsMsg : Msg → Type 0
 FitsMsg (Path lsp egress link route set upstream role) =
-    FitsLsp lsp × (egress.0 < 2 ^ 32) × (link.0 < 2 ^ 32) × All HasIds route × (set ≡ among set) × IfSome upstream IsLabelNumber × FitsRole role
+    FitsLsp lsp × (egress.0 < 2 ^ 32) × (link.0 < 2 ^ 32) × All HasIds route × (set ≡ among set)
+    × IfSome upstream IsLabelNumber × FitsRole role
 FitsMsg (Resv lsp egress link label) = FitsLsp lsp × (egress.0 < 2 ^ 32) × (link.0 < 2 ^ 32) × IsLabelNumber label
 FitsMsg (PathTear lsp egress link) = FitsLsp lsp × (egress.0 < 2 ^ 32) × (link.0 < 2 ^ 32)
 FitsMsg (PathErr lsp egress at removed code) = FitsLsp lsp × (egress.0 < 2 ^ 32) × (at.0 < 2 ^ 32) × FitsCode code
-FitsMsg (Notify lsp egress at link code) = FitsLsp lsp × (egress.0 < 2 ^ 32) × (at.0 < 2 ^ 32) × (link.0 < 2 ^ 32) × FitsCode code
+FitsMsg (Notify lsp egress at link code) =
+    FitsLsp lsp × (egress.0 < 2 ^ 32) × (at.0 < 2 ^ 32) × (link.0 < 2 ^ 32) × FitsCode code
 
 abbrev pub FitsId : MsgId → Type 0
 FitsId m = m.number < 2 ^ 32

@@ -16,7 +16,8 @@ use Rattle.ason_base.specs.declared.steps.Step.{Step}
 use Rattle.wire_buf.specs.Checksum.{checksum_of}
 use Rattle.wire_buf.specs.Objects.{object}
 use Rattle.wire_buf.specs.Routes.{route_bytes}
-use Rattle.rsvp_objects.specs.Bodies.{error_bytes, hop_bytes, label_bytes, msg_id_bytes, request_bytes, sender_bytes, session_bytes}
+use Rattle.rsvp_objects.specs.Bodies.{error_bytes, hop_bytes, label_bytes, msg_id_bytes, request_bytes, sender_bytes}
+use Rattle.rsvp_objects.specs.Bodies.{session_bytes}
 use Rattle.rsvp_objects.specs.LabelSets.{label_set_bytes}
 use Rattle.rsvp_recovery.specs.declared.protection.Protection.{Protection}
 use Rattle.rsvp_recovery.specs.declared.protection.Protection.TheVariants as bits
@@ -44,7 +45,8 @@ ack_object m = made 24 1 (msg_id_bytes 0 m)
 
 -- SESSION: the extended tunnel is the ingress
 abbrev pub session_object : Lsp → NodeId → Object
-session_object lsp egress = made 1 7 (session_bytes (record { endpoint = egress; tunnel = lsp.tunnel; extended = lsp.ingress.0 }))
+session_object lsp egress =
+    made 1 7 (session_bytes (record { endpoint = egress; tunnel = lsp.tunnel; extended = lsp.ingress.0 }))
 
 abbrev pub hop_object : NodeId → LinkId → Object
 hop_object sender link = made 3 3 (hop_bytes (record { sender = sender; link = link }))
@@ -86,7 +88,12 @@ protection_of (Back active work primary) = bits.Back active
 abbrev pub role_objects : Lsp → PathRole → List Object
 role_objects lsp (Work guard) = []
 role_objects lsp (Back active work primary) =
-    made 199 1 (association_bytes (record { kind = 1; id = work; source = lsp.ingress.0 })) ∷ made 38 1 (route_bytes primary) ∷ []
+    made 199 1 (association_bytes (record {
+      kind =
+          1;
+      id = work;
+      source = lsp.ingress.0;
+    })) ∷ made 38 1 (route_bytes primary) ∷ []
 
 abbrev pub upstream_objects : Option ℕ → List Object
 upstream_objects None = []
@@ -128,9 +135,11 @@ notify_objects lsp egress at link code =
 
 abbrev pub msg_objects : NodeId → Msg → List Object
 msg_objects sender (Path lsp egress link route set upstream role) =
-    path_head sender lsp egress link ++ (route_objects route ++ (request_objects set role ++ (role_objects lsp role ++ path_end lsp upstream)))
+    path_head sender lsp egress link ++ (route_objects route ++
+    (request_objects set role ++ (role_objects lsp role ++ path_end lsp upstream)))
 msg_objects sender (Resv lsp egress link label) =
-    session_object lsp egress ∷ hop_object sender link ∷ time_values ∷ style ∷ flowspec ∷ sender_object 10 lsp ∷ made 16 2 (label_bytes label) ∷ []
+    session_object lsp egress ∷ hop_object sender link ∷ time_values ∷ style ∷ flowspec ∷ sender_object 10 lsp ∷ made 16
+    2 (label_bytes label) ∷ []
 msg_objects sender (PathTear lsp egress link) =
     session_object lsp egress ∷ hop_object sender link ∷ sender_object 11 lsp ∷ []
 msg_objects sender (PathErr lsp egress at removed code) = path_err_objects lsp egress at removed code

@@ -7,7 +7,8 @@ ghost use Rattle.rsvp_messages.specs.Messages.{HasError, is_removed};
 ghost use Rattle.rsvp_messages.specs.Packets.{SpellsTyped};
 ghost use Rattle.rsvp_messages.specs.Parts.{HasOne};
 ghost use Rattle.rsvp_messages.specs.Seen.{all_seen};
-ghost use Rattle.rsvp_messages.specs.Written.{all_bytes, bytes_of, error_object, flags_of, notify_objects, path_err_objects};
+ghost use Rattle.rsvp_messages.specs.Written.{all_bytes, bytes_of, error_object, flags_of, notify_objects};
+ghost use Rattle.rsvp_messages.specs.Written.{path_err_objects};
 
 use crate::classes::{ERROR_SPEC, SENDER_TEMPLATE};
 use crate::fields::{read_subject, write_lsp_sender, write_lsp_session};
@@ -91,7 +92,8 @@ fn write_error_of(
     code: ErrCode,
     link: Option<LinkId>,
 ) -> Result<(), OutOfMemory>
-    ensures { OnOk result (out.new.items ≡ out.old.items ++ bytes_of (error_object at (flags_of removed) code link)) }
+    ensures { OnOk result (out.new.items ≡ out.old.items ++ bytes_of
+        (error_object at (flags_of removed) code link)) }
 {
     let error = ErrorSpec {
         node: at,
@@ -111,7 +113,8 @@ pub(crate) fn write_path_err(
     removed: bool,
     code: ErrCode,
 ) -> Result<(), OutOfMemory>
-    ensures { OnOk result (out.new.items ≡ out.old.items ++ all_bytes (path_err_objects lsp.now egress at removed code)) }
+    ensures { OnOk result (out.new.items ≡ out.old.items ++ all_bytes
+        (path_err_objects lsp.now egress at removed code)) }
 {
     write_lsp_session(out, lsp, egress)?;
     write_error_of(out, at, removed, code, None)?;
@@ -127,7 +130,8 @@ pub(crate) fn write_notify(
     link: LinkId,
     code: ErrCode,
 ) -> Result<(), OutOfMemory>
-    ensures { OnOk result (out.new.items ≡ out.old.items ++ all_bytes (notify_objects lsp.now egress at link code)) }
+    ensures { OnOk result (out.new.items ≡ out.old.items ++ all_bytes
+        (notify_objects lsp.now egress at link code)) }
 {
     write_error_of(out, at, false, code, Some(link))?;
     write_lsp_session(out, lsp, egress)?;

@@ -39,7 +39,8 @@ fn session(objects: &[RawObject]) -> Option<Session>
 
 // The sender by its SENDER_TEMPLATE or FILTER_SPEC.
 fn sender(objects: &[RawObject], class: u8) -> Option<SenderRef>
-    ensures { Reads (λ s. HasOne class 7 (λ body. IsSenderRef body s) (all_seen objects.now)) result }
+    ensures { Reads (λ s. HasOne class 7 (λ body. IsSenderRef body s)
+        (all_seen objects.now)) result }
 {
     let body = one(objects, class, LSP_TUNNEL)?;
     if class == FILTER_SPEC {
@@ -80,7 +81,8 @@ pub(crate) fn write_lsp_session(
     lsp: &Lsp,
     egress: NodeId,
 ) -> Result<(), OutOfMemory>
-    ensures { OnOk result (out.new.items ≡ out.old.items ++ bytes_of (session_object lsp.now egress)) }
+    ensures { OnOk result (out.new.items ≡ out.old.items ++ bytes_of
+        (session_object lsp.now egress)) }
 {
     let session = Session {
         endpoint: egress,

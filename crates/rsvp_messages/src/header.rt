@@ -1,6 +1,7 @@
 //! The common header (RFC 2205, section 3.1.1).
 
-ghost use Rattle.std.specs.Prelude.{◌≡◌, ◌≤◌, ◌<◌, ◌^◌, ◌++◌, ℕ, List, Some, false, length, slice_index, IfOk, IfSome, IsTrue};
+ghost use Rattle.std.specs.Prelude.{◌≡◌, ◌≤◌, ◌<◌, ◌^◌, ◌++◌, ℕ, List, Some, false, length, slice_index, IfOk, IfSome};
+ghost use Rattle.std.specs.Prelude.{IsTrue};
 ghost use Rattle.rsvp_messages.specs.Headers.{HasChecksum, HasHeader};
 ghost use Rattle.rsvp_messages.specs.Written.{header_bytes, message};
 
@@ -17,7 +18,8 @@ const VERSION_AND_FLAGS: u8 = 0x11;
 
 const SEND_TTL: u8 = 1;
 
-// A right field makes the checksum of the whole 0. So would 0xFFFF where 0 is right, which is no checksum of any message.
+// A right field makes the checksum of the whole 0. So would 0xFFFF where 0 is right, which is no checksum of any
+// message.
 fn has_checksum(bytes: &[u8]) -> bool
     requires long { 4 ≤ length bytes.now }
     requires some { 0 < slice_index bytes.now 0 }
@@ -28,8 +30,8 @@ fn has_checksum(bytes: &[u8]) -> bool
     field == 0 || (field != 0xFFFF && internet_checksum(bytes) == 0)
 }
 
-/// The type of a message by its header. None exactly where the header is none of these bytes: a version other than 1, a length
-/// other than the number of bytes, or a checksum that is neither 0 nor right.
+/// The type of a message by its header. None exactly where the header is none of these bytes: a version other than 1, a
+/// length other than the number of bytes, or a checksum that is neither 0 nor right.
 pub(crate) fn read_header(bytes: &[u8]) -> Option<u8>
     ensures found { IfSome result (HasHeader bytes.now) }
     ensures short { IfSome result (λ _. length bytes.now < 2 ^ 16) }
@@ -57,7 +59,8 @@ pub(crate) fn begin(alloc: Global, kind: u8) -> Result<Vec<u8>, OutOfMemory>
 pub(crate) fn seal(out: &mut [u8])
     requires long { 8 ≤ length out.old }
     requires short { length out.old < 2 ^ 16 }
-    ensures { (kind : ℕ) (body : List ℕ) → out.old ≡ header_bytes kind 0 0 ++ body → out.new ≡ message kind body }
+    ensures { (kind : ℕ) (body : List ℕ) → out.old ≡ header_bytes kind 0 0 ++ body
+        → out.new ≡ message kind body }
 {
     let len = out.len() as u16;
     BigEndian::write_u16(&mut out[6..8], len);

@@ -20,9 +20,13 @@ use std::alloc::Global;
 const GENERALIZED: u8 = 1;
 
 fn label_sets(alloc: Global, objects: &[RawObject]) -> Result<Vec<LabelSetObject>, DecodeError>
-    ensures found { IfOk result (λ sets. HasEach 36 1 IsLabelSet (all_seen objects.now) sets.items) }
-    ensures only { (sets : List LabelSetObject) → HasEach 36 1 IsLabelSet (all_seen objects.now) sets → IfOk result (λ read. read.items ≡ sets) }
-    ensures not_message { IsErrOf result DecodeError.NotMessage → (sets : List LabelSetObject) → ¬ HasEach 36 1 IsLabelSet (all_seen objects.now) sets }
+    ensures found { IfOk result (λ sets. HasEach 36 1 IsLabelSet
+        (all_seen objects.now) sets.items) }
+    ensures only { (sets : List LabelSetObject)
+        → HasEach 36 1 IsLabelSet (all_seen objects.now) sets
+        → IfOk result (λ read. read.items ≡ sets) }
+    ensures not_message { IsErrOf result DecodeError.NotMessage → (sets : List LabelSetObject)
+        → ¬ HasEach 36 1 IsLabelSet (all_seen objects.now) sets }
 {
     let mut sets = Vec::new(alloc);
     'objects: for object in objects {

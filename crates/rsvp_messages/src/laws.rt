@@ -22,7 +22,8 @@ use wire_buf::routes::routes_come_back;
 
 /// The written form of a packet that can be written spells it.
 pub fn packets_come_back()
-    ensures { (sender : NodeId) (p : Packet) → sender.0 < 2 ^ 32 → IsWritable p → Fits p → Spells (written sender p) p }
+    ensures { (sender : NodeId) (p : Packet) → sender.0 < 2 ^ 32 → IsWritable p → Fits p
+        → Spells (written sender p) p }
 {
     errors_come_back();
     hops_come_back();
@@ -39,16 +40,20 @@ pub fn packets_come_back()
 
 /// Objects come in any order: those with the same objects of each class, in order, spell the same packets.
 pub fn order_of_classes_is_free()
-    ensures { (os others : List Object) (p : Packet) → ((class : ℕ) → of_class class os ≡ of_class class others) → SpellsPacket os p → SpellsPacket others p }
+    ensures { (os others : List Object) (p : Packet)
+        → ((class : ℕ) → of_class class os ≡ of_class class others) → SpellsPacket os p
+        → SpellsPacket others p }
 {}
 
-/// The objects of a whole message come in any order: one of that type with the same objects in another order, whose checksum
-/// is right or wasn't sent, spells the same packet. Acknowledgements are a list, so their order is that of the packet.
+/// The objects of a whole message come in any order: one of that type with the same objects in another order, whose
+/// checksum is right or wasn't sent, spells the same packet. Acknowledgements are a list, so their order is that of the
+/// packet.
 pub fn order_of_objects_is_free()
     ensures { ObjectsComeInAnyOrder }
 {}
 
-/// What is read can be written: bytes spell a packet that has a written form, but for a Path whose LABEL_SETs leave no label.
+/// What is read can be written: bytes spell a packet that has a written form, but for a Path whose LABEL_SETs leave no
+/// label.
 pub fn what_is_read_can_be_written()
     ensures { ReadIsWritable }
 {}

@@ -159,8 +159,10 @@ fn lines_of(
 pub fn objects(alloc: Global, bytes: &[u8]) -> Result<Vec<ObjectLine>, DecodeError>
     ensures found { IfOk result (λ lines. HasLines bytes.now lines.items) }
     // What a packet is spelled by is listed, unless memory runs out.
-    ensures only { (os : List Object) (p : Packet) → SpelledBy bytes.now os p → IfOk result (λ lines. lines.items ≡ map (line_of p.body) os) }
-    ensures not_message { IsErrOf result DecodeError.NotMessage → (os : List Object) (p : Packet) → ¬ SpelledBy bytes.now os p }
+    ensures only { (os : List Object) (p : Packet) → SpelledBy bytes.now os p
+        → IfOk result (λ lines. lines.items ≡ map (line_of p.body) os) }
+    ensures not_message { IsErrOf result DecodeError.NotMessage → (os : List Object) (p : Packet)
+        → ¬ SpelledBy bytes.now os p }
 {
     let spelled = read_message(alloc, bytes)?;
     match lines_of(alloc, &spelled.packet.body, &spelled.objects) {

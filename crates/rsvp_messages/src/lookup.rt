@@ -9,7 +9,8 @@ use crate::raw::RawObject;
 
 // The object of a class, if there is one. None exactly where there are two.
 fn at_most_one<'a>(objects: &[RawObject<'a>], class: u8) -> Option<Option<RawObject<'a>>>
-    ensures found { IfSome result (λ found. of_class class (all_seen objects.now) ≡ option_to_list (option_map seen found)) }
+    ensures found { IfSome result (λ found. of_class class (all_seen objects.now) ≡ option_to_list
+        (option_map seen found)) }
     ensures many { IfNone result (2 ≤ length (of_class class (all_seen objects.now))) }
 {
     let mut found = None;
@@ -27,8 +28,10 @@ fn at_most_one<'a>(objects: &[RawObject<'a>], class: u8) -> Option<Option<RawObj
 
 /// The body of the one object of a class. None exactly where there isn't one, or it has another C-Type.
 pub(crate) fn one<'a>(objects: &[RawObject<'a>], class: u8, ctype: u8) -> Option<&'a [u8]>
-    ensures found { IfSome result (λ body. of_class class (all_seen objects.now) ≡ record { class = class; ctype = ctype; body = body.now } ∷ []) }
-    ensures only { (body : List ℕ) → of_class class (all_seen objects.now) ≡ record { class = class; ctype = ctype; body = body } ∷ [] → IsSome result }
+    ensures found { IfSome result (λ body. of_class class (all_seen objects.now)
+        ≡ record { class = class; ctype = ctype; body = body.now } ∷ []) }
+    ensures only { (body : List ℕ) → of_class class (all_seen objects.now)
+        ≡ record { class = class; ctype = ctype; body = body } ∷ [] → IsSome result }
 {
     match at_most_one(objects, class) {
         Some(Some(object)) if object.ctype == ctype => Some(object.body),
@@ -42,8 +45,12 @@ pub(crate) fn optional<'a>(
     class: u8,
     ctype: u8,
 ) -> Option<Option<&'a [u8]>>
-    ensures found { IfSome result (λ found. of_class class (all_seen objects.now) ≡ option_to_list (option_map (λ body. record { class = class; ctype = ctype; body = body.now }) found)) }
-    ensures only { (found : Option (List ℕ)) → of_class class (all_seen objects.now) ≡ option_to_list (option_map (λ body. record { class = class; ctype = ctype; body = body }) found) → IsSome result }
+    ensures found { IfSome result (λ found. of_class class (all_seen objects.now) ≡ option_to_list
+        (option_map (λ body. record { class = class; ctype = ctype; body = body.now }) found)) }
+    ensures only { (found : Option (List ℕ))
+        → of_class class (all_seen objects.now) ≡ option_to_list
+        (option_map (λ body. record { class = class; ctype = ctype; body = body }) found)
+        → IsSome result }
 {
     match at_most_one(objects, class)? {
         None => Some(None),

@@ -7,7 +7,8 @@ ghost use Rattle.rsvp_messages.specs.Messages.{HasRoute, SpellsHead};
 ghost use Rattle.rsvp_messages.specs.Packets.{SpellsTyped};
 ghost use Rattle.rsvp_messages.specs.Parts.{HasAtMostOne, HasOne};
 ghost use Rattle.rsvp_messages.specs.Seen.{all_seen};
-ghost use Rattle.rsvp_messages.specs.Written.{all_bytes, bytes_of, path_end, path_head, protection_object, request_objects, route_objects, set_object, upstream_objects};
+ghost use Rattle.rsvp_messages.specs.Written.{all_bytes, bytes_of, path_end, path_head, protection_object};
+ghost use Rattle.rsvp_messages.specs.Written.{request_objects, route_objects, set_object, upstream_objects};
 
 use crate::classes::{EXPLICIT_ROUTE, LABEL_REQUEST, SENDER_TEMPLATE, UPSTREAM_LABEL};
 use crate::fields::{Subject, link, read_subject, write_link, write_lsp_sender, write_lsp_session};
@@ -73,7 +74,9 @@ struct Head {
 }
 
 fn read_head(objects: &[RawObject]) -> Option<Head>
-    ensures { Reads (λ h. SpellsHead (all_seen objects.now) h.subject.lsp h.subject.egress h.link h.upstream) result }
+    ensures { Reads
+        (λ h. SpellsHead
+        (all_seen objects.now) h.subject.lsp h.subject.egress h.link h.upstream) result }
 {
     if !requests(objects) {
         return None;
@@ -117,7 +120,8 @@ pub(crate) fn write_path_head(
     egress: NodeId,
     link: LinkId,
 ) -> Result<(), OutOfMemory>
-    ensures { OnOk result (out.new.items ≡ out.old.items ++ all_bytes (path_head sender lsp.now egress link)) }
+    ensures { OnOk result (out.new.items ≡ out.old.items ++ all_bytes
+        (path_head sender lsp.now egress link)) }
 {
     write_lsp_session(out, lsp, egress)?;
     write_link(out, sender, link)?;
@@ -167,7 +171,8 @@ pub(crate) fn write_path_request(
     set: &LabelSet,
     role: &PathRole,
 ) -> Result<(), OutOfMemory>
-    ensures { OnOk result (out.new.items ≡ out.old.items ++ all_bytes (request_objects set.now role.now)) }
+    ensures { OnOk result (out.new.items ≡ out.old.items ++ all_bytes
+        (request_objects set.now role.now)) }
 {
     write_request(out, &LabelRequest)?;
     write_protection_of(out, role)?;

@@ -31,7 +31,8 @@ fn may_stand(class: u8) -> bool
 
 // The object at the front. None exactly where there is none; then the cursor may be anywhere.
 fn next_object<'a>(cursor: &mut Cursor<'a>) -> Option<RawObject<'a>>
-    ensures found { IfSome result (λ o. BeginsWith cursor.old (seen o) × (cursor.new ≡ drop (size_of (seen o)) cursor.old)) }
+    ensures found { IfSome result (λ o. BeginsWith cursor.old (seen o)
+        × (cursor.new ≡ drop (size_of (seen o)) cursor.old)) }
     ensures only { (o : Object) → BeginsWith cursor.old o → IsSome result }
 {
     let len = usize::from(cursor.u16()?);
@@ -51,8 +52,10 @@ pub(crate) fn read_objects<'a>(
 ) -> Result<Vec<RawObject<'a>>, DecodeError>
     ensures found { IfOk result (λ os. AreObjects bytes.now (all_seen os.items)) }
     ensures short { IfOk result (λ os. All (λ o. size_of (seen o) ≤ length bytes.now) os.items) }
-    ensures only { (os : List Object) → AreObjects bytes.now os → IfOk result (λ read. all_seen read.items ≡ os) }
-    ensures not_message { IsErrOf result DecodeError.NotMessage → (os : List Object) → ¬ AreObjects bytes.now os }
+    ensures only { (os : List Object) → AreObjects bytes.now os
+        → IfOk result (λ read. all_seen read.items ≡ os) }
+    ensures not_message { IsErrOf result DecodeError.NotMessage → (os : List Object)
+        → ¬ AreObjects bytes.now os }
 {
     let mut cursor = Cursor::new(bytes);
     let mut objects = Vec::new(alloc);

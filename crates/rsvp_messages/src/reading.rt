@@ -96,8 +96,10 @@ pub(crate) struct Spelled<'a> {
 pub(crate) fn read_message<'a>(alloc: Global, bytes: &'a [u8]) -> Result<Spelled<'a>, DecodeError>
     ensures found { IfOk result (λ s. SpelledBy bytes.now (all_seen s.objects.items) s.packet) }
     ensures short { IfOk result (λ s. All (λ o. size_of (seen o) < 2 ^ 16) s.objects.items) }
-    ensures only { (os : List Object) (p : Packet) → SpelledBy bytes.now os p → IfOk result (λ s. (all_seen s.objects.items ≡ os) × (s.packet ≡ p)) }
-    ensures not_message { IsErrOf result DecodeError.NotMessage → (os : List Object) (p : Packet) → ¬ SpelledBy bytes.now os p }
+    ensures only { (os : List Object) (p : Packet) → SpelledBy bytes.now os p
+        → IfOk result (λ s. (all_seen s.objects.items ≡ os) × (s.packet ≡ p)) }
+    ensures not_message { IsErrOf result DecodeError.NotMessage → (os : List Object) (p : Packet)
+        → ¬ SpelledBy bytes.now os p }
 {
     let Some(kind) = read_header(bytes) else {
         return Err(DecodeError::NotMessage);
@@ -114,7 +116,8 @@ pub fn decode(alloc: Global, bytes: &[u8]) -> Result<Packet, DecodeError>
     ensures found { IfOk result (Spells bytes.now) }
     // What is spelled so is read, unless memory runs out.
     ensures only { (p : Packet) → Spells bytes.now p → IfOk result (λ read. read ≡ p) }
-    ensures not_message { IsErrOf result DecodeError.NotMessage → (p : Packet) → ¬ Spells bytes.now p }
+    ensures not_message { IsErrOf result DecodeError.NotMessage → (p : Packet)
+        → ¬ Spells bytes.now p }
 {
     let spelled = read_message(alloc, bytes)?;
     Ok(spelled.packet)

@@ -51,7 +51,8 @@ pub(crate) fn write_resv(
     link: LinkId,
     label: &Label,
 ) -> Result<(), OutOfMemory>
-    ensures { OnOk result (out.new.items ≡ out.old.items ++ all_bytes (msg_objects sender (Msg.Resv lsp.now egress link label.now))) }
+    ensures { OnOk result (out.new.items ≡ out.old.items ++ all_bytes
+        (msg_objects sender (Msg.Resv lsp.now egress link label.now))) }
 {
     write_lsp_session(out, lsp, egress)?;
     write_link(out, sender, link)?;

@@ -51,7 +51,8 @@ fn tied(objects: &[RawObject]) -> Option<u16>
 }
 
 fn primary(alloc: Global, objects: &[RawObject]) -> Result<Steps, DecodeError>
-    ensures { Decodes (λ route. HasOne 38 1 (λ body. IsRoute body route) (all_seen objects.now)) result }
+    ensures { Decodes (λ route. HasOne 38 1 (λ body. IsRoute body route)
+        (all_seen objects.now)) result }
 {
     match one(objects, PRIMARY_PATH_ROUTE, IPV4) {
         Some(body) => read_primary(alloc, body),
@@ -92,7 +93,8 @@ pub(crate) fn protection_of(role: &PathRole) -> Protection
 /// Appends a backup's ASSOCIATION and PRIMARY_PATH_ROUTE, and nothing for a working LSP.
 pub(crate) fn write_role(out: &mut Vec<u8>, lsp: &Lsp, role: &PathRole) -> Result<(), OutOfMemory>
     requires { IsWritableRole role.now }
-    ensures { OnOk result (out.new.items ≡ out.old.items ++ all_bytes (role_objects lsp.now role.now)) }
+    ensures { OnOk result (out.new.items ≡ out.old.items ++ all_bytes
+        (role_objects lsp.now role.now)) }
 {
     match role {
         PathRole::Work { .. } => Ok(()),

@@ -33,7 +33,8 @@ pub(crate) fn write_tear(
     egress: NodeId,
     link: LinkId,
 ) -> Result<(), OutOfMemory>
-    ensures { OnOk result (out.new.items ≡ out.old.items ++ all_bytes (msg_objects sender (Msg.PathTear lsp.now egress link))) }
+    ensures { OnOk result (out.new.items ≡ out.old.items ++ all_bytes
+        (msg_objects sender (Msg.PathTear lsp.now egress link))) }
 {
     write_lsp_session(out, lsp, egress)?;
     write_link(out, sender, link)?;

@@ -68,8 +68,9 @@ fn has_writable_body(p: &Packet) -> bool
     }
 }
 
-/// Whether the packet has a written form: a Path's set of labels isn't empty, nor is a backup's primary route, lists have at
-/// most 64 members, epochs are below 2^24, and a packet without a body has no number and at least one acknowledgement.
+/// Whether the packet has a written form: a Path's set of labels isn't empty, nor is a backup's primary route, lists
+/// have at most 64 members, epochs are below 2^24, and a packet without a body has no number and at least one
+/// acknowledgement.
 pub fn is_writable(p: &Packet) -> bool
     ensures { IsTrue result ↔ IsWritable p.now }
 {

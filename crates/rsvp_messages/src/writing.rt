@@ -34,7 +34,8 @@ fn kind_of(body: &Option<Msg>) -> u8
 
 fn write_msg(out: &mut Vec<u8>, sender: NodeId, msg: &Msg) -> Result<(), OutOfMemory>
     requires { IsWritableMsg msg.now }
-    ensures { OnOk result (out.new.items ≡ out.old.items ++ all_bytes (msg_objects sender msg.now)) }
+    ensures { OnOk result (out.new.items ≡ out.old.items ++ all_bytes
+        (msg_objects sender msg.now)) }
 {
     match msg {
         Msg::Path {
@@ -78,7 +79,8 @@ fn write_msg(out: &mut Vec<u8>, sender: NodeId, msg: &Msg) -> Result<(), OutOfMe
 
 fn write_body(out: &mut Vec<u8>, sender: NodeId, body: &Option<Msg>) -> Result<(), OutOfMemory>
     requires { IfSome body.now IsWritableMsg }
-    ensures { OnOk result (out.new.items ≡ out.old.items ++ all_bytes (body_objects sender body.now)) }
+    ensures { OnOk result (out.new.items ≡ out.old.items ++ all_bytes
+        (body_objects sender body.now)) }
 {
     match body {
         Some(msg) => write_msg(out, sender, msg),

@@ -11,8 +11,17 @@ use Rattle.rsvp_objects.specs.declared.hop.HopObject.{HopObject}
 use Rattle.rsvp_objects.specs.declared.session.Session.{Session}
 use Rattle.rsvp_objects.specs.Bodies.{HasWidths, IsError, IsHop, IsSession, error_bytes, hop_bytes, session_bytes}
 
-pub session_again : (s : Session) → s.endpoint.0 < 2 ^ 32 → s.tunnel < 2 ^ 16 → s.extended < 2 ^ 32 → IsSession (session_bytes s) s
-session_again s a b c = (refl, λ i. record { endpoint = record { 0 = sym (again_4 s.endpoint.0 a) i }; tunnel = sym (again_2 s.tunnel b) i; extended = sym (again_4 s.extended c) i })
+pub session_again : (s : Session) → s.endpoint.0 < 2 ^ 32 → s.tunnel < 2 ^ 16 → s.extended < 2 ^ 32 →
+    IsSession (session_bytes s) s
+session_again s a b c = (
+  refl,
+  λ i. record {
+    endpoint = record { 0 = sym (again_4 s.endpoint.0 a) i };
+    tunnel = sym (again_2 s.tunnel b)
+        i;
+    extended = sym (again_4 s.extended c) i;
+  },
+)
 
 if_index_again : (node : NodeId) (link : LinkId) → link.0 < 2 ^ 32 →
     HasIfIndexes (if_index_bytes node link) (link ∷ [])
@@ -23,7 +32,8 @@ if_index_again node link h = (
   λ i. record { 0 = sym (again_4 link.0 h) i } ∷ [],
 )
 
-none_again : (node : NodeId) (link : Option LinkId) → IfSome link (λ l. l.0 < 2 ^ 32) → HasIfIndexes (if_index_or_none node link) (option_to_list link)
+none_again : (node : NodeId) (link : Option LinkId) → IfSome link (λ l. l.0 < 2 ^ 32) →
+    HasIfIndexes (if_index_or_none node link) (option_to_list link)
 none_again node None h = ([], refl, tt, refl)
 none_again node (Some link) h = if_index_again node link h
 
@@ -31,4 +41,18 @@ pub hop_again : (h : HopObject) → h.sender.0 < 2 ^ 32 → h.link.0 < 2 ^ 32 �
 hop_again h a b = (omega arith, λ i. record { 0 = sym (again_4 h.sender.0 a) i }, if_index_again h.sender h.link b)
 
 pub error_again : (e : ErrorSpec) → HasWidths e → IsError (error_bytes e) e
-error_again e w = (omega arith, λ i. record { node = record { 0 = sym (again_4 e.node.0 w.0) i }; flags = sym (again_1 e.flags w.1) i; code = record { code = sym (again_1 e.code.code w.2) i; value = sym (again_2 e.code.value w.3) i }; link = e.link }, none_again e.node e.link w.4)
+error_again e w = (
+  omega arith,
+  λ i. record {
+    node = record { 0 = sym (again_4 e.node.0 w.0) i };
+    flags = sym (again_1 e.flags w.1)
+        i;
+    code = record {
+      code = sym (again_1 e.code.code w.2) i;
+      value = sym (again_2 e.code.value w.3)
+          i;
+    };
+    link = e.link;
+  },
+  none_again e.node e.link w.4,
+)

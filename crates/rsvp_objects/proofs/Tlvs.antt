@@ -7,7 +7,8 @@ use Rattle.wire_buf.proofs.Codecs.{reads_none, reads_some}
 use Rattle.rsvp_objects.specs.Tlvs.{HasIfIndexes}
 
 -- where at most one link is read, that one is, or none
-pub just_one : (bytes : List ℕ) (link : Option LinkId) → Reads (λ l. HasIfIndexes bytes (option_to_list l)) (Some link) →
+pub just_one : (bytes : List ℕ) (link : Option LinkId) →
+    Reads (λ l. HasIfIndexes bytes (option_to_list l)) (Some link) →
     Reads (λ l. HasIfIndexes bytes (l ∷ [])) link
 just_one bytes None read = reads_none (λ l has. let e : Some None ≡ Some (Some l) = read.only (Some l) has in absurd cc)
 just_one bytes (Some k) read =

@@ -1,4 +1,5 @@
--- What the bodies of objects mean, field by field, and how they are written. A field that isn't named is read by nothing.
+-- What the bodies of objects mean, field by field, and how they are written. A field that isn't named is read by
+-- nothing.
 use Rattle.std.specs.Prelude.{◌≡◌, ◌≤◌, ◌<◌, ◌^◌, ℕ, List, [], ◌∷◌, ◌++◌, length, drop, Option, None, IfSome}
 use Rattle.std.specs.Option.{option_to_list}
 use Rattle.byteorder.specs.Endian.{big_bytes}
@@ -17,7 +18,13 @@ node_at place body = record { 0 = number_at place 4 body }
 
 -- SESSION, LSP tunnel (RFC 3209, section 4.6.1.1): endpoint, two bytes, tunnel, extended tunnel
 abbrev pub IsSession : List ℕ → Session → Type 0
-IsSession body s = (length body ≡ 12) × (s ≡ record { endpoint = node_at 0 body; tunnel = number_at 6 2 body; extended = number_at 8 4 body })
+IsSession body s =
+    (length body ≡ 12) × (s ≡ record {
+      endpoint = node_at 0 body;
+      tunnel = number_at 6 2 body;
+      extended = number_at 8 4
+          body;
+    })
 
 abbrev pub session_bytes : Session → List ℕ
 session_bytes s = big_bytes 4 s.endpoint.0 ++ big_bytes 2 0 ++ big_bytes 2 s.tunnel ++ big_bytes 4 s.extended
@@ -52,7 +59,8 @@ IsMsgId body m = (length body ≡ 8) × (m ≡ record { epoch = number_at 1 3 bo
 abbrev pub msg_id_bytes : ℕ → MsgId → List ℕ
 msg_id_bytes flags m = big_bytes 1 flags ++ big_bytes 3 m.epoch ++ big_bytes 4 m.number
 
--- RSVP_HOP with an interface (RFC 3473, section 8.1.1): address, logical interface handle, TLVs with exactly one IF_INDEX
+-- RSVP_HOP with an interface (RFC 3473, section 8.1.1): address, logical interface handle, TLVs with exactly one
+-- IF_INDEX
 abbrev pub IsHop : List ℕ → HopObject → Type 0
 IsHop body h = (8 ≤ length body) × (h.sender ≡ node_at 0 body) × HasIfIndexes (drop 8 body) (h.link ∷ [])
 
@@ -61,7 +69,14 @@ hop_bytes h = big_bytes 4 h.sender.0 ++ big_bytes 4 0 ++ if_index_bytes h.sender
 
 -- ERROR_SPEC (RFC 2205, appendix A.5): node, flags, code, value
 abbrev pub spec_at : List ℕ → Option LinkId → ErrorSpec
-spec_at body link = record { node = node_at 0 body; flags = number_at 4 1 body; code = record { code = number_at 5 1 body; value = number_at 6 2 body }; link = link }
+spec_at body link =
+    record {
+      node = node_at 0 body;
+      flags = number_at 4 1
+          body;
+      code = record { code = number_at 5 1 body; value = number_at 6 2 body };
+      link = link;
+    }
 
 abbrev pub IsErrorIpv4 : List ℕ → ErrorSpec → Type 0
 IsErrorIpv4 body e = (length body ≡ 8) × (e ≡ spec_at body None)
@@ -79,4 +94,5 @@ error_bytes e = spec_bytes e ++ if_index_or_none e.node e.link
 -- each field of an error has its width
 abbrev pub HasWidths : ErrorSpec → Type 0
 HasWidths e =
-    (e.node.0 < 2 ^ 32) × (e.flags < 2 ^ 8) × (e.code.code < 2 ^ 8) × (e.code.value < 2 ^ 16) × IfSome e.link (λ link. link.0 < 2 ^ 32)
+    (e.node.0 < 2 ^ 32) × (e.flags < 2 ^ 8) × (e.code.code < 2 ^ 8) × (e.code.value < 2 ^ 16)
+    × IfSome e.link (λ link. link.0 < 2 ^ 32)

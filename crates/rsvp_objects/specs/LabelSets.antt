@@ -1,15 +1,12 @@
--- LABEL_SET (RFC 3473, section 2.6; RFC 3471, section 3.5): action, reserved bits and label type in three bytes, labels.
-use Rattle.std.specs.Prelude.{◌≡◌, ◌≤◌, ℕ, ◌%◌, ◌==◌, nat_le, ◌&&◌, ◌||◌, Bool, true, false, if◌then◌else◌, ◌⊎◌, List, [], ◌∷◌, ◌++◌, length, drop, filter}
+-- LABEL_SET (RFC 3473, section 2.6; RFC 3471, section 3.5): action, reserved bits and label type in three bytes,
+-- labels.
+use Rattle.std.specs.Prelude.{◌≡◌, ◌≤◌, ℕ, ◌%◌, ◌==◌, nat_le, ◌&&◌, ◌||◌, Bool, true, false, if◌then◌else◌, ◌⊎◌, List}
+use Rattle.std.specs.Prelude.{[], ◌∷◌, ◌++◌, length, drop, filter}
 use Rattle.std.specs.List.{flat_map}
-use Rattle.byteorder.specs.Endian.{big_number, big_bytes}
+use Rattle.byteorder.specs.Endian.{big_bytes}
 use Rattle.ason_base.specs.Labels.{has, up_to}
-use Rattle.wire_buf.specs.Objects.{number_at}
+use Rattle.wire_buf.specs.Objects.{number_at, numbers}
 use Rattle.rsvp_objects.specs.declared.label_set.LabelSetObject.{LabelSetObject}
-
--- the numbers of four bytes each
-abbrev pub numbers : List ℕ → List ℕ
-numbers (a ∷ b ∷ c ∷ d ∷ bytes) = big_number 4 (a ∷ b ∷ c ∷ d ∷ []) ∷ numbers bytes
-numbers _ = []
 
 -- the labels that are among these numbers
 abbrev pub among : List ℕ → List ℕ
@@ -32,8 +29,8 @@ listed include body = record { include = include; labels = among (numbers (drop 
 abbrev pub ranged : Bool → List ℕ → LabelSetObject
 ranged include body = record { include = include; labels = between (number_at 4 4 body) (number_at 8 4 body) }
 
--- The actions: 0 includes these labels, 1 excludes them. 2 includes the range between exactly two labels, with both, and 3
--- excludes it.
+-- The actions: 0 includes these labels, 1 excludes them. 2 includes the range between exactly two labels, with both,
+-- and 3 excludes it.
 abbrev pub IsLabelSet : List ℕ → LabelSetObject → Type 0
 IsLabelSet body o =
     ((number_at 0 1 body ≡ 0) × HasLabels body × (o ≡ listed true body))

@@ -14,7 +14,8 @@ IsIfIndexSized value = length value ≡ 8
 abbrev pub link_in : List ℕ → LinkId
 link_in value = record { 0 = number_at 4 4 value }
 
--- The bytes are TLVs, whose length counts its header of four bytes, and their IF_INDEXes have these interface ids, in order.
+-- The bytes are TLVs, whose length counts its header of four bytes, and their IF_INDEXes have these interface ids, in
+-- order.
 abbrev pub HasIfIndexes : List ℕ → List LinkId → Type 0
 HasIfIndexes bytes links =
     (ts : List TypeValue) × AreTlvs 4 bytes ts × AllByRecursion IsIfIndexSized (values_of 3 ts)

@@ -71,7 +71,8 @@ fn write_with_link(out: &mut Vec<u8>, x: &ErrorSpec, link: LinkId) -> Result<(),
     Ok(())
 }
 
-/// The error of an ERROR_SPEC's body with an interface. None exactly where the body is none, as where it has two IF_INDEXes.
+/// The error of an ERROR_SPEC's body with an interface. None exactly where the body is none, as where it has two
+/// IF_INDEXes.
 pub fn read_error(body: &[u8]) -> Option<ErrorSpec>
     ensures { Reads (IsError body.now) result }
 {
@@ -84,7 +85,8 @@ pub fn read_error(body: &[u8]) -> Option<ErrorSpec>
     }
 }
 
-/// Appends the ERROR_SPEC object with an interface: an IF_INDEX where the error has a link, and no TLV where it has none.
+/// Appends the ERROR_SPEC object with an interface: an IF_INDEX where the error has a link, and no TLV where it has
+/// none.
 pub fn write_error(out: &mut Vec<u8>, x: &ErrorSpec) -> Result<(), OutOfMemory>
     ensures { Appends out.old out.new (object 6 3 (error_bytes x.now)) result }
 {

@@ -73,5 +73,6 @@ pub fn write_ack(out: &mut Vec<u8>, x: &MsgId) -> Result<(), OutOfMemory>
 
 /// Law: what is written of a number, with any flags, is read as that number again.
 pub fn ids_come_back()
-    ensures { (flags : ℕ) (m : MsgId) → m.epoch < 2 ^ 24 → m.number < 2 ^ 32 → IsMsgId (msg_id_bytes flags m) m }
+    ensures { (flags : ℕ) (m : MsgId) → m.epoch < 2 ^ 24 → m.number < 2 ^ 32
+        → IsMsgId (msg_id_bytes flags m) m }
 {}

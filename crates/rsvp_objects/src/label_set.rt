@@ -3,9 +3,10 @@
 ghost use Rattle.std.specs.Prelude.{◌≡◌, ◌≤◌, ◌+◌, ◌*◌, ◌++◌, [], ◌∷◌, ℕ, List, length, SomeIff, vec_len, vec_capacity};
 ghost use Rattle.ason_base.specs.Labels.{has};
 ghost use Rattle.wire_buf.specs.Codecs.{Appends, Reads};
-ghost use Rattle.wire_buf.specs.Objects.{object};
+ghost use Rattle.wire_buf.specs.Objects.{numbers, object};
 ghost use Rattle.rsvp_objects.specs.declared.label_set.LabelSetObject.{LabelSetObject};
-ghost use Rattle.rsvp_objects.specs.LabelSets.{HasLabels, IsLabelSet, action_of, among, between, is_between, label_set_bytes, labels_bytes, listed, numbers, or_zero, ranged};
+ghost use Rattle.rsvp_objects.specs.LabelSets.{HasLabels, IsLabelSet, action_of, among, between, is_between};
+ghost use Rattle.rsvp_objects.specs.LabelSets.{label_set_bytes, labels_bytes, listed, or_zero, ranged};
 
 use ason_base::{Label, LabelSet, OutOfMemory};
 use byteorder::{BigEndian, ByteOrder};
@@ -88,8 +89,8 @@ fn read_range(body: &[u8], include: bool) -> Option<LabelSetObject>
     Some(LabelSetObject { include, labels })
 }
 
-/// What a LABEL_SET's body includes or excludes. None exactly where the body is none: its action isn't 0 to 3, it has no
-/// label, a label isn't whole, or a range hasn't exactly two.
+/// What a LABEL_SET's body includes or excludes. None exactly where the body is none: its action isn't 0 to 3, it has
+/// no label, a label isn't whole, or a range hasn't exactly two.
 pub fn read_label_set(body: &[u8]) -> Option<LabelSetObject>
     ensures { Reads (IsLabelSet body.now) result }
 {
@@ -156,8 +157,8 @@ fn action(include: bool) -> u8
     if include { 0 } else { 1 }
 }
 
-/// Appends the LABEL_SET object, with action 0 or 1 and the labels rising. A set without labels is written as the one label
-/// 0, which names none.
+/// Appends the LABEL_SET object, with action 0 or 1 and the labels rising. A set without labels is written as the one
+/// label 0, which names none.
 pub fn write_label_set(out: &mut Vec<u8>, x: &LabelSetObject) -> Result<(), OutOfMemory>
     ensures { Appends out.old out.new (object 36 1 (label_set_bytes x.now)) result }
 {

@@ -74,5 +74,6 @@ pub fn write_sender(out: &mut Vec<u8>, x: &SenderRef) -> Result<(), OutOfMemory>
 
 /// Law: what is written of a sender is read as that sender again.
 pub fn senders_come_back()
-    ensures { (s : SenderRef) → s.sender.0 < 2 ^ 32 → s.lsp < 2 ^ 16 → IsSenderRef (sender_bytes s) s }
+    ensures { (s : SenderRef) → s.sender.0 < 2 ^ 32 → s.lsp < 2 ^ 16
+        → IsSenderRef (sender_bytes s) s }
 {}

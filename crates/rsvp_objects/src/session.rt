@@ -47,5 +47,6 @@ pub fn write_session(out: &mut Vec<u8>, x: &Session) -> Result<(), OutOfMemory>
 
 /// Law: what is written of a session is read as that session again.
 pub fn sessions_come_back()
-    ensures { (s : Session) → s.endpoint.0 < 2 ^ 32 → s.tunnel < 2 ^ 16 → s.extended < 2 ^ 32 → IsSession (session_bytes s) s }
+    ensures { (s : Session) → s.endpoint.0 < 2 ^ 32 → s.tunnel < 2 ^ 16 → s.extended < 2 ^ 32
+        → IsSession (session_bytes s) s }
 {}

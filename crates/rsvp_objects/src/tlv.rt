@@ -22,8 +22,8 @@ fn link_of(value: &[u8]) -> LinkId
     LinkId(BigEndian::read_u32(&value[4..]))
 }
 
-/// The interface id of the IF_INDEX among the TLVs, if there is one. None exactly where the bytes aren't TLVs, an IF_INDEX
-/// isn't of eight bytes, or there are two.
+/// The interface id of the IF_INDEX among the TLVs, if there is one. None exactly where the bytes aren't TLVs, an
+/// IF_INDEX isn't of eight bytes, or there are two.
 pub(crate) fn if_index(tlvs: &[u8]) -> Option<Option<LinkId>>
     ensures { Reads (λ link. HasIfIndexes tlvs.now (option_to_list link)) result }
 {

@@ -8,13 +8,14 @@ use Rattle.rsvp_recovery.specs.declared.protection.Protection.TheVariants.{Work,
 
 -- ASSOCIATION, IPv4 (section 16.1): type, id, source
 abbrev pub IsAssociation : List ℕ → Association → Type 0
-IsAssociation body a = (length body ≡ 8) × (a ≡ record { kind = number_at 0 2 body; id = number_at 2 2 body; source = number_at 4 4 body })
+IsAssociation body a =
+    (length body ≡ 8) × (a ≡ record { kind = number_at 0 2 body; id = number_at 2 2 body; source = number_at 4 4 body })
 
 abbrev pub association_bytes : Association → List ℕ
 association_bytes a = big_bytes 2 a.kind ++ big_bytes 2 a.id ++ big_bytes 4 a.source
 
--- The first word of PROTECTION (section 14.1), from its highest bit on: S, P, N, O, six reserved bits, six LSP flags, ten
--- reserved bits, six link flags. Bit 0 is the lowest.
+-- The first word of PROTECTION (section 14.1), from its highest bit on: S, P, N, O, six reserved bits, six LSP flags,
+-- ten reserved bits, six link flags. Bit 0 is the lowest.
 abbrev pub secondary : ℕ → ℕ
 secondary word = word / 2 ^ 31 % 2
 
@@ -26,8 +27,10 @@ lsp_flags word = word / 2 ^ 16 % 2 ^ 6
 
 -- LSP flag 0x02 is rerouting without extra traffic, that is shared mesh restoration (section 14.1).
 abbrev pub HasBits : ℕ → Protection → Type 0
-HasBits word (Work guard) = (secondary word ≡ 0) × (protecting word ≡ 0) × (lsp_flags word ≡ (if guard then 0x02 else 0x00))
-HasBits word (Back active) = (secondary word ≡ (if active then 0 else 1)) × (protecting word ≡ 1) × (lsp_flags word ≡ 0x02)
+HasBits word (Work guard) =
+    (secondary word ≡ 0) × (protecting word ≡ 0) × (lsp_flags word ≡ (if guard then 0x02 else 0x00))
+HasBits word (Back active) =
+    (secondary word ≡ (if active then 0 else 1)) × (protecting word ≡ 1) × (lsp_flags word ≡ 0x02)
 
 -- two words, of which the second is read by nothing
 abbrev pub IsProtection : List ℕ → Protection → Type 0

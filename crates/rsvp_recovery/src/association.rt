@@ -10,8 +10,8 @@ use ason_base::OutOfMemory;
 use byteorder::{BigEndian, ByteOrder};
 use wire_buf::{put_header, put_u16, put_u32};
 
-/// What ties LSPs together: the type of association, its id, and the source that gave the id. In recovery (type 1) the id is
-/// the number of the LSP that is protected.
+/// What ties LSPs together: the type of association, its id, and the source that gave the id. In recovery (type 1) the
+/// id is the number of the LSP that is protected.
 #[derive(Clone, Copy, Debug, PartialEq, Eq, Drop)]
 pub struct Association {
     pub kind: u16,
@@ -47,5 +47,6 @@ pub fn write_association(out: &mut Vec<u8>, x: &Association) -> Result<(), OutOf
 
 /// Law: what is written of an association is read as that association again.
 pub fn associations_come_back()
-    ensures { (a : Association) → a.kind < 2 ^ 16 → a.id < 2 ^ 16 → a.source < 2 ^ 32 → IsAssociation (association_bytes a) a }
+    ensures { (a : Association) → a.kind < 2 ^ 16 → a.id < 2 ^ 16 → a.source < 2 ^ 32
+        → IsAssociation (association_bytes a) a }
 {}

@@ -4,7 +4,8 @@ ghost use Rattle.std.specs.Prelude.{◌≡◌, ◌==◌};
 ghost use Rattle.wire_buf.specs.Codecs.{Appends, Reads};
 ghost use Rattle.wire_buf.specs.Objects.{object};
 ghost use Rattle.rsvp_recovery.specs.declared.protection.Protection.{Protection};
-ghost use Rattle.rsvp_recovery.specs.Bodies.{IsProtection, first_word, lsp_flags, protecting, protection_bytes, secondary};
+ghost use Rattle.rsvp_recovery.specs.Bodies.{IsProtection, first_word, lsp_flags, protecting, protection_bytes};
+ghost use Rattle.rsvp_recovery.specs.Bodies.{secondary};
 
 use ason_base::OutOfMemory;
 use byteorder::{BigEndian, ByteOrder};
@@ -46,8 +47,8 @@ fn flags_of(word: u32) -> u32
     (word >> 16) % 64
 }
 
-/// The protection of a PROTECTION's body. None exactly where the body is none: its bits S and P and its LSP flags are none
-/// of the four that are used here.
+/// The protection of a PROTECTION's body. None exactly where the body is none: its bits S and P and its LSP flags are
+/// none of the four that are used here.
 pub fn read_protection(body: &[u8]) -> Option<Protection>
     ensures { Reads (IsProtection body.now) result }
 {

@@ -1,5 +1,6 @@
 -- How long the written form is.
-use Rattle.std.proofs.Common.{◌≡◌, ◌≤◌, ℕ, ◌+◌, ◌-◌, ◌*◌, ◌==◌, false, zero, suc, List, [], ◌∷◌, ◌++◌, length, refl, ap, sym, ◌∙◌, arith, length-append, append_assoc, replicate, take}
+use Rattle.std.proofs.Common.{◌≡◌, ◌≤◌, ℕ, ◌+◌, ◌-◌, ◌*◌, ◌==◌, false, zero, suc, List, [], ◌∷◌, ◌++◌, length, refl, ap}
+use Rattle.std.proofs.Common.{sym, ◌∙◌, arith, length-append, append_assoc, replicate, take}
 use Rattle.std.proofs.Math.Seq.{take-length}
 use Rattle.std.proofs.lemmas.List.{append-nil}
 use Rattle.std.specs.List.{flat_map}
@@ -7,6 +8,7 @@ use Rattle.byteorder.specs.Endian.{big_bytes}
 use Rattle.ason_base.specs.declared.ids.NodeId.{NodeId}
 use Rattle.ason_base.specs.declared.network.TeRow.{TeRow}
 use Rattle.wire_buf.specs.Tlvs.{padded}
+use Rattle.wire_buf.proofs.Numbers.{numbers-length}
 use Rattle.te_tlv.specs.Written.{sub_tlv, srlgs_tlv, link_body, peer_of}
 
 zeros-length : (n : ℕ) → length {A = ℕ} (replicate n 0) ≡ n
@@ -20,23 +22,22 @@ pub length-sub_tlv : (kind : ℕ) (value : List ℕ) → length (sub_tlv kind va
 unfolding sub_tlv
 length-sub_tlv kind value =
     let least : length value ≤ padded (length value) = padded_least (length value) in
-    let zeros : length {A = ℕ} (replicate (padded (length value) - length value) 0) ≡ padded (length value) - length value = zeros-length (padded (length value) - length value) in
-    let rest : length (value ++ replicate (padded (length value) - length value) 0) ≡ length value + length (replicate (padded (length value) - length value) 0) =
+    let zeros : length {A = ℕ} (replicate (padded (length value) - length value) 0) ≡ padded (length value)
+    - length value = zeros-length (padded (length value) - length value) in
+    let rest : length (value ++ replicate (padded (length value) - length value) 0) ≡ length value + length
+    (replicate (padded (length value) - length value) 0) =
     length-append value (replicate (padded (length value) - length value) 0) in
     omega (arith, rest, zeros, least)
 
 padded-four : (n : ℕ) → padded (4 * n) ≡ 4 * n
 padded-four n = omega arith
 
-pub length-numbers : (ns : List ℕ) → length (flat_map (λ n. big_bytes 4 n) ns) ≡ 4 * length ns
-length-numbers [] = refl
-length-numbers (n ∷ ns) = let others = length-numbers ns in omega (arith, others)
-
 pub length-srlgs : (ns : List ℕ) → (length ns == 0) ≡ false → length (srlgs_tlv ns) ≡ 4 + 4 * length ns
 length-srlgs [] some = absurd (cc)
 length-srlgs (n ∷ ns) some =
-    let numbers : length (flat_map (λ m. big_bytes 4 m) (n ∷ ns)) ≡ 4 * length (n ∷ ns) = length-numbers (n ∷ ns) in
-    length-sub_tlv 16 (flat_map (λ m. big_bytes 4 m) (n ∷ ns)) ∙ ap (λ (k : ℕ). 4 + padded k) numbers ∙ ap (λ (k : ℕ). 4 + k) (padded-four (length (n ∷ ns)))
+    let numbers : length (flat_map (λ m. big_bytes 4 m) (n ∷ ns)) ≡ 4 * length (n ∷ ns) = numbers-length (n ∷ ns) in
+    length-sub_tlv 16 (flat_map (λ m. big_bytes 4 m) (n ∷ ns)) ∙ ap (λ (k : ℕ). 4 + padded k) numbers
+    ∙ ap (λ (k : ℕ). 4 + k) (padded-four (length (n ∷ ns)))
 
 not_zero : (k : ℕ) → (suc k == 0) ≡ false
 not_zero k = grind arith
@@ -47,9 +48,17 @@ srlgs-most (n ∷ ns) few = omega (arith, length-srlgs (n ∷ ns) (not_zero (len
 
 pub length-body : (origin : NodeId) (row : TeRow) → length (link_body origin row) ≡ 36 + length (srlgs_tlv row.srlgs)
 length-body origin row =
-    simp length-append (omega (arith, length-sub_tlv 1 (1 ∷ []), length-sub_tlv 2 (big_bytes 4 (peer_of origin row)), length-sub_tlv 5 (big_bytes 4 row.metric), length-sub_tlv 11 (big_bytes 4 row.link.0 ++ big_bytes 4 row.link.0)))
+    simp length-append (omega (
+      arith,
+      length-sub_tlv 1 (1 ∷ []),
+      length-sub_tlv 2 (big_bytes 4 (peer_of origin row)),
+      length-sub_tlv 5 (big_bytes 4 row.metric),
+      length-sub_tlv 11
+          (big_bytes 4 row.link.0 ++ big_bytes 4 row.link.0),
+    ))
 
-sub_tlv-whole : (kind : ℕ) (value : List ℕ) → padded (length value) ≡ length value → sub_tlv kind value ≡ big_bytes 2 kind ++ big_bytes 2 (length value) ++ value
+sub_tlv-whole : (kind : ℕ) (value : List ℕ) → padded (length value) ≡ length value →
+    sub_tlv kind value ≡ big_bytes 2 kind ++ big_bytes 2 (length value) ++ value
 unfolding sub_tlv
 sub_tlv-whole kind value whole =
     let none : padded (length value) - length value ≡ 0 = omega arith in
@@ -59,24 +68,31 @@ joined : (old a b v : List ℕ) → ((old ++ a) ++ b) ++ v ≡ old ++ ((a ++ b) 
 joined old a b v = simp append_assoc
 
 -- the sub-TLV of SRLGs, as it is pushed
-pub srlgs_pushed : (old kinds lens new ns : List ℕ) (len : ℕ) → (length ns == 0) ≡ false → len ≡ 4 * length ns → kinds ≡ old ++ big_bytes 2 16 → lens ≡ kinds ++ big_bytes 2 len →
+pub srlgs_pushed : (old kinds lens new ns : List ℕ) (len : ℕ) → (length ns == 0) ≡ false → len ≡ 4 * length ns →
+    kinds ≡ old ++ big_bytes 2 16 → lens ≡ kinds ++ big_bytes 2 len →
     new ≡ lens ++ flat_map (λ n. big_bytes 4 n) ns → new ≡ old ++ srlgs_tlv ns
 srlgs_pushed old kinds lens new [] len some is e1 e2 e3 = absurd (cc)
 srlgs_pushed old kinds lens new (n ∷ ns) len some is e1 e2 e3 =
     let value : List ℕ = flat_map (λ m. big_bytes 4 m) (n ∷ ns) in
-    let numbers : length value ≡ 4 * length (n ∷ ns) = length-numbers (n ∷ ns) in
+    let numbers : length value ≡ 4 * length (n ∷ ns) = numbers-length (n ∷ ns) in
     let len_is : len ≡ length value = is ∙ sym numbers in
-    let whole : padded (length value) ≡ length value = ap padded numbers ∙ padded-four (length (n ∷ ns)) ∙ sym numbers in
+    let whole : padded (length value) ≡ length value = ap padded numbers ∙ padded-four (length (n ∷ ns))
+    ∙ sym numbers in
     let pushed : new ≡ ((old ++ big_bytes 2 16) ++ big_bytes 2 (length value)) ++ value =
-    e3 ∙ ap (λ (l : List ℕ). l ++ value) (e2 ∙ ap (λ (l : List ℕ). l ++ big_bytes 2 len) e1 ∙ ap (λ (k : ℕ). (old ++ big_bytes 2 16) ++ big_bytes 2 k) len_is) in
-    pushed ∙ joined old (big_bytes 2 16) (big_bytes 2 (length value)) value ∙ ap (λ (l : List ℕ). old ++ l) (sym (sub_tlv-whole 16 value whole))
+    e3 ∙ ap (λ (l : List ℕ). l ++ value) (e2 ∙ ap (λ (l : List ℕ). l ++ big_bytes 2 len) e1
+    ∙ ap (λ (k : ℕ). (old ++ big_bytes 2 16) ++ big_bytes 2 k) len_is) in
+    pushed ∙ joined old (big_bytes 2 16) (big_bytes 2 (length value)) value
+    ∙ ap (λ (l : List ℕ). old ++ l) (sym (sub_tlv-whole 16 value whole))
 
-pub all_pushed : (lens new ns : List ℕ) (i : ℕ) → i ≤ length ns → length ns ≤ i → new ≡ lens ++ flat_map (λ n. big_bytes 4 n) (take i ns) → new ≡ lens ++ flat_map (λ n. big_bytes 4 n) ns
+pub all_pushed : (lens new ns : List ℕ) (i : ℕ) → i ≤ length ns → length ns ≤ i →
+    new ≡ lens ++ flat_map (λ n. big_bytes 4 n) (take i ns) → new ≡ lens ++ flat_map (λ n. big_bytes 4 n) ns
 all_pushed lens new ns i low high pushed =
     let all : i ≡ length ns = omega arith in
-    pushed ∙ ap (λ (ms : List ℕ). lens ++ flat_map (λ n. big_bytes 4 n) ms) (ap (λ (k : ℕ). take k ns) all ∙ take-length ns)
+    pushed ∙ ap (λ (ms : List ℕ). lens ++ flat_map (λ n. big_bytes 4 n) ms)
+    (ap (λ (k : ℕ). take k ns) all ∙ take-length ns)
 
 -- the Link TLV, as it is pushed
-pub tlv_pushed : (empty kinds lens new body : List ℕ) (len : ℕ) → empty ≡ [] → len ≡ length body → kinds ≡ empty ++ big_bytes 2 2 → lens ≡ kinds ++ big_bytes 2 len → new ≡ lens ++ body →
+pub tlv_pushed : (empty kinds lens new body : List ℕ) (len : ℕ) → empty ≡ [] → len ≡ length body →
+    kinds ≡ empty ++ big_bytes 2 2 → lens ≡ kinds ++ big_bytes 2 len → new ≡ lens ++ body →
     new ≡ big_bytes 2 2 ++ big_bytes 2 (length body) ++ body
 tlv_pushed empty kinds lens new body len none is e1 e2 e3 = rw (e3, e2, e1, none, is) refl

@@ -1,5 +1,6 @@
 -- Bytes spell one row at most.
-use Rattle.std.proofs.Common.{◌≡◌, ℕ, Option, Ok, Some, None, List, [], ◌∷◌, drop, min, max, refl, ap, sym, subst, ◌∙◌, IfNone}
+use Rattle.std.proofs.Common.{◌≡◌, ℕ, Option, Ok, Some, None, List, [], ◌∷◌, drop, min, max, refl, ap, sym, subst, ◌∙◌}
+use Rattle.std.proofs.Common.{IfNone}
 use Rattle.byteorder.specs.Endian.{big_number}
 use Rattle.ason_base.specs.declared.ids.NodeId.{NodeId}
 use Rattle.ason_base.specs.declared.network.TeRow.{TeRow}
@@ -12,8 +13,11 @@ use Rattle.te_tlv.specs.SubTlvs.{AreSubTlvs, IsLinkTlv}
 use Rattle.te_tlv.specs.Rows.{IsOnly, HasPeer, HasMetric, HasLink, HasSrlgs, SrlgsOf, HasFields, row_between, SpellsRow}
 use Rattle.te_tlv.proofs.Rising.{srlgs_once}
 
-pub no_fields : {X : Type 0} (o : Option X) (origin : NodeId) (body : List ℕ) → ((subs : List TypeValue) → AreSubTlvs body subs → (peer metric link : ℕ) → HasFields origin subs peer metric link → ⊥) →
-    IfNone o ((subs : List TypeValue) → AreSubTlvs body subs → (peer metric link : ℕ) → HasFields origin subs peer metric link → ⊥)
+pub no_fields : {X : Type 0} (o : Option X) (origin : NodeId) (body : List ℕ) →
+    ((subs : List TypeValue) → AreSubTlvs body subs → (peer metric link : ℕ) → HasFields origin subs peer metric link →
+    ⊥) →
+    IfNone o ((subs : List TypeValue) → AreSubTlvs body subs → (peer metric link : ℕ) →
+    HasFields origin subs peer metric link → ⊥)
 no_fields None origin body none = none
 no_fields (Some x) origin body none = tt
 
@@ -34,17 +38,22 @@ srlgs_of_once [] s t p q = p ∙ sym q
 srlgs_of_once (v ∷ []) s t p q = srlgs_once v s t p q
 srlgs_of_once (v ∷ w ∷ vs) s t p q = absurd p
 
-pub spelled_once : (origin : NodeId) (bytes : List ℕ) (a b : TeRow) → SpellsRow origin bytes a → SpellsRow origin bytes b → a ≡ b
+pub spelled_once : (origin : NodeId) (bytes : List ℕ) (a b : TeRow) → SpellsRow origin bytes a →
+    SpellsRow origin bytes b → a ≡ b
 spelled_once origin bytes a b p q =
     let same : q.subs ≡ p.subs = same_items (tlvs_once 0) (drop 4 bytes) q.subs p.subs q.tlv.subs_are p.tlv.subs_are in
     let fields : HasFields origin p.subs q.fields.peer b.metric b.link.0 =
     subst (λ (subs : List TypeValue). HasFields origin subs q.fields.peer b.metric b.link.0) same q.fields.fields in
-    let srlgs : HasSrlgs p.subs b.srlgs = subst (λ (subs : List TypeValue). HasSrlgs subs b.srlgs) same q.fields.has_srlgs in
-    let peer_is : p.fields.peer ≡ q.fields.peer = peer_once origin p.subs p.fields.peer q.fields.peer p.fields.fields.has_peer fields.has_peer in
-    let metric_is : a.metric ≡ b.metric = metric_once p.subs a.metric b.metric p.fields.fields.has_metric fields.has_metric in
+    let srlgs : HasSrlgs p.subs b.srlgs = subst (λ (subs : List TypeValue). HasSrlgs subs b.srlgs)
+    same q.fields.has_srlgs in
+    let peer_is : p.fields.peer ≡ q.fields.peer = peer_once origin p.subs p.fields.peer q.fields.peer
+    p.fields.fields.has_peer fields.has_peer in
+    let metric_is : a.metric ≡ b.metric = metric_once p.subs a.metric b.metric p.fields.fields.has_metric
+    fields.has_metric in
     let link_is : a.link.0 ≡ b.link.0 = link_once p.subs a.link.0 b.link.0 p.fields.fields.has_link fields.has_link in
     let srlgs_is : a.srlgs ≡ b.srlgs = srlgs_of_once (values_of 16 p.subs) a.srlgs b.srlgs p.fields.has_srlgs srlgs in
-    let between : row_between origin p.fields.peer a.metric a.link.0 a.srlgs ≡ row_between origin q.fields.peer b.metric b.link.0 b.srlgs =
+    let between : row_between origin p.fields.peer a.metric a.link.0 a.srlgs ≡ row_between origin q.fields.peer b.metric
+    b.link.0 b.srlgs =
     λ i. row_between origin (peer_is i) (metric_is i) (link_is i) (srlgs_is i) in
     p.fields.is ∙ between ∙ sym q.fields.is
 

@@ -5,6 +5,7 @@ use Rattle.byteorder.specs.Endian.{big_number}
 use Rattle.ason_base.specs.declared.ids.NodeId.{NodeId}
 use Rattle.ason_base.specs.declared.network.TeRow.{TeRow}
 use Rattle.ason_base.specs.declared.network.TheConstants.{MOST_SRLGS}
+use Rattle.wire_buf.specs.Objects.{numbers}
 use Rattle.wire_buf.specs.Tlvs.{TypeValue, values_of}
 use Rattle.te_tlv.specs.declared.reading.TheConstants.{IDENTIFIERS, LINK_ID, LINK_TYPE, METRIC, POINT_TO_POINT}
 use Rattle.te_tlv.specs.declared.srlgs.TheConstants.{SRLG}
@@ -28,23 +29,20 @@ HasPeer origin subs peer = (value : List ℕ) × IsOnly LINK_ID subs value × Is
 
 -- traffic engineering metric
 abbrev pub HasMetric : List TypeValue → ℕ → Type 0
-HasMetric subs metric = (value : List ℕ) × IsOnly METRIC subs value × IsNumber value metric × (1 ≤ metric) × (metric ≤ 65535)
+HasMetric subs metric =
+    (value : List ℕ) × IsOnly METRIC subs value × IsNumber value metric × (1 ≤ metric) × (metric ≤ 65535)
 
 -- local and remote identifiers, both the link's number
 abbrev pub HasLink : List TypeValue → ℕ → Type 0
 HasLink subs link =
-    (value : List ℕ) × IsOnly IDENTIFIERS subs value × (length value ≡ 8) × (link ≡ big_number 4 value) × (link ≡ big_number 4 (drop 4 value))
-
--- the numbers of four bytes each, one after the other
-abbrev pub numbers_of : List ℕ → List ℕ
-numbers_of (a ∷ b ∷ c ∷ d ∷ bytes) = big_number 4 (a ∷ b ∷ c ∷ d ∷ []) ∷ numbers_of bytes
-numbers_of bytes = []
+    (value : List ℕ) × IsOnly IDENTIFIERS subs value × (length value ≡ 8) × (link ≡ big_number 4 value)
+    × (link ≡ big_number 4 (drop 4 value))
 
 -- The SRLGs of a value: the same numbers, each once, rising, and not too many.
 pub record AreSrlgs (value : List ℕ) (srlgs : List ℕ) : Type 0 where
   pub whole : length value % 4 ≡ 0
   pub rising : IsStrictlyIncreasing srlgs
-  pub same : (n : ℕ) → Contains srlgs n ↔ Contains (numbers_of value) n
+  pub same : (n : ℕ) → Contains srlgs n ↔ Contains (numbers value) n
   pub most : length srlgs ≤ MOST_SRLGS
 
 -- without a sub-TLV of SRLGs there are none

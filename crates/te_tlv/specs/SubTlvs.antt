@@ -8,6 +8,10 @@ use Rattle.te_tlv.specs.declared.sub_tlvs.TheConstants.{LINK}
 abbrev pub AreSubTlvs : List ℕ → List TypeValue → Type 0
 AreSubTlvs bytes subs = AreTlvs 0 bytes subs
 
+-- this holds of the sub-TLVs that the text is, where it is any
+abbrev pub OfSubTlvs : List ℕ → (List TypeValue → Type 0) → Type 0
+OfSubTlvs bytes P = (subs : List TypeValue) → AreSubTlvs bytes subs → P subs
+
 -- The Link TLV: its type, the length of its sub-TLVs, and these to the end. So its length is a multiple of four.
 pub record IsLinkTlv (bytes : List ℕ) (subs : List TypeValue) : Type 0 where
   pub kind : number_at 0 2 bytes ≡ LINK

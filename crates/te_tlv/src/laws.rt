@@ -8,6 +8,8 @@ ghost use Rattle.te_tlv.specs.Written.{HasNumbers, IsWritable, link_tlv};
 
 /// What is written of a row spells that row, and no bytes of one origin spell two rows.
 pub fn rows_come_back()
-    ensures written { (origin : NodeId) (row : TeRow) → IsWritable origin row → HasNumbers row → SpellsRow origin (link_tlv origin row) row }
-    ensures once { (origin : NodeId) (bytes : List ℕ) (a b : TeRow) → SpellsRow origin bytes a → SpellsRow origin bytes b → a ≡ b }
+    ensures written { (origin : NodeId) (row : TeRow) → IsWritable origin row → HasNumbers row
+        → SpellsRow origin (link_tlv origin row) row }
+    ensures once { (origin : NodeId) (bytes : List ℕ) (a b : TeRow) → SpellsRow origin bytes a
+        → SpellsRow origin bytes b → a ≡ b }
 {}

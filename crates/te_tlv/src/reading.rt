@@ -6,7 +6,7 @@ ghost use Rattle.ason_base.specs.declared.network.TeRow.{TeRow};
 ghost use Rattle.wire_buf.specs.Codecs.{Decodes};
 ghost use Rattle.wire_buf.specs.Tlvs.{TypeValue};
 ghost use Rattle.te_tlv.specs.Rows.{HasFields, HasLink, HasMetric, HasPeer, IsPointToPoint, SpellsRow};
-ghost use Rattle.te_tlv.specs.SubTlvs.{AreSubTlvs};
+ghost use Rattle.te_tlv.specs.SubTlvs.{AreSubTlvs, OfSubTlvs};
 
 use crate::srlgs::srlgs_of;
 use crate::sub_tlvs::{link_body, only};
@@ -14,7 +14,8 @@ use ason_base::{DecodeError, LinkId, NodeId, TeRow};
 use byteorder::{BigEndian, ByteOrder};
 use std::alloc::Global;
 
-/// The types of the sub-TLVs that each row has, and the link type of a point-to-point link (RFC 3630, section 2.5; RFC 4203, section 1.1).
+/// The types of the sub-TLVs that each row has, and the link type of a point-to-point link (RFC 3630, section 2.5; RFC
+/// 4203, section 1.1).
 pub(crate) const LINK_TYPE: u16 = 1;
 
 pub(crate) const LINK_ID: u16 = 2;
@@ -37,8 +38,8 @@ fn number(value: &[u8]) -> Option<u32>
 }
 
 fn is_point_to_point(body: &[u8]) -> bool
-    ensures yes { IsTrue result → (subs : List TypeValue) → AreSubTlvs body.now subs → IsPointToPoint subs }
-    ensures no { result ≡ false → (subs : List TypeValue) → AreSubTlvs body.now subs → ¬ IsPointToPoint subs }
+    ensures yes { IsTrue result → OfSubTlvs body.now (λ subs. IsPointToPoint subs) }
+    ensures no { result ≡ false → OfSubTlvs body.now (λ subs. ¬ IsPointToPoint subs) }
 {
     match only(body, LINK_TYPE) {
         Some(value) => value.len() == 1 && value[0] == POINT_TO_POINT,
@@ -48,16 +49,16 @@ fn is_point_to_point(body: &[u8]) -> bool
 
 /// The node at the other end.
 fn peer(origin: NodeId, body: &[u8]) -> Option<u32>
-    ensures found { IfSome result (λ n. (subs : List TypeValue) → AreSubTlvs body.now subs → HasPeer origin subs n) }
-    ensures none { IfNone result ((subs : List TypeValue) → AreSubTlvs body.now subs → (n : ℕ) → ¬ HasPeer origin subs n) }
+    ensures found { IfSome result (λ n. OfSubTlvs body.now (λ subs. HasPeer origin subs n)) }
+    ensures none { IfNone result (OfSubTlvs body.now (λ subs. (n : ℕ) → ¬ HasPeer origin subs n)) }
 {
     let peer = number(only(body, LINK_ID)?)?;
     if peer == origin.0 { None } else { Some(peer) }
 }
 
 fn metric(body: &[u8]) -> Option<u32>
-    ensures found { IfSome result (λ n. (subs : List TypeValue) → AreSubTlvs body.now subs → HasMetric subs n) }
-    ensures none { IfNone result ((subs : List TypeValue) → AreSubTlvs body.now subs → (n : ℕ) → ¬ HasMetric subs n) }
+    ensures found { IfSome result (λ n. OfSubTlvs body.now (λ subs. HasMetric subs n)) }
+    ensures none { IfNone result (OfSubTlvs body.now (λ subs. (n : ℕ) → ¬ HasMetric subs n)) }
 {
     let metric = number(only(body, METRIC)?)?;
     if metric < 1 || metric > 65_535 {
@@ -70,8 +71,8 @@ fn metric(body: &[u8]) -> Option<u32>
 /// The link's number, which both identifiers are.
 fn link(body: &[u8]) -> Option<u32>
     ensures some { IfSome result (λ _. (subs : List TypeValue) × AreSubTlvs body.now subs) }
-    ensures found { IfSome result (λ n. (subs : List TypeValue) → AreSubTlvs body.now subs → HasLink subs n) }
-    ensures none { IfNone result ((subs : List TypeValue) → AreSubTlvs body.now subs → (n : ℕ) → ¬ HasLink subs n) }
+    ensures found { IfSome result (λ n. OfSubTlvs body.now (λ subs. HasLink subs n)) }
+    ensures none { IfNone result (OfSubTlvs body.now (λ subs. (n : ℕ) → ¬ HasLink subs n)) }
 {
     let value = only(body, IDENTIFIERS)?;
     if value.len() != 8 {
@@ -95,8 +96,10 @@ struct Fields {
 
 fn read_fields(origin: NodeId, body: &[u8]) -> Option<Fields>
     ensures some { IfSome result (λ _. (subs : List TypeValue) × AreSubTlvs body.now subs) }
-    ensures found { IfSome result (λ f. (subs : List TypeValue) → AreSubTlvs body.now subs → HasFields origin subs f.peer f.metric f.link) }
-    ensures none { IfNone result ((subs : List TypeValue) → AreSubTlvs body.now subs → (peer metric link : ℕ) → ¬ HasFields origin subs peer metric link) }
+    ensures found { IfSome result (λ f. OfSubTlvs body.now
+        (λ subs. HasFields origin subs f.peer f.metric f.link)) }
+    ensures none { IfNone result (OfSubTlvs body.now
+        (λ subs. (peer metric link : ℕ) → ¬ HasFields origin subs peer metric link)) }
 {
     let link = link(body)?;
     let metric = metric(body)?;

@@ -2,9 +2,9 @@
 
 ghost use Rattle.std.specs.Prelude.{◌≡◌, ◌↔◌, ℕ, List, Contains, IfOk, IsErrOf};
 ghost use Rattle.std.specs.List.Sorted.{IsStrictlyIncreasing};
-ghost use Rattle.wire_buf.specs.Tlvs.{TypeValue};
-ghost use Rattle.te_tlv.specs.Rows.{AreSrlgs, HasSrlgs, numbers_of};
-ghost use Rattle.te_tlv.specs.SubTlvs.{AreSubTlvs};
+ghost use Rattle.wire_buf.specs.Objects.{numbers};
+ghost use Rattle.te_tlv.specs.Rows.{AreSrlgs, HasSrlgs};
+ghost use Rattle.te_tlv.specs.SubTlvs.{OfSubTlvs};
 
 use crate::sub_tlvs::UNCOUNTED;
 use ason_base::network::MOST_SRLGS;
@@ -17,7 +17,7 @@ pub(crate) const SRLG: u16 = 16;
 
 /// The numbers of four bytes each, in order.
 fn numbers(alloc: Global, value: &[u8]) -> Result<Vec<u32>, OutOfMemory>
-    ensures { IfOk result (λ ns. ns.items ≡ numbers_of value.now) }
+    ensures { IfOk result (λ ns. ns.items ≡ numbers value.now) }
 {
     let mut cursor = Cursor::new(value);
     let mut numbers = Vec::new(alloc);
@@ -30,7 +30,7 @@ fn numbers(alloc: Global, value: &[u8]) -> Result<Vec<u32>, OutOfMemory>
 /// The numbers of four bytes each, as SRLGs.
 fn distinct(alloc: Global, value: &[u8]) -> Result<Srlgs, OutOfMemory>
     ensures rising { IfOk result IsStrictlyIncreasing }
-    ensures same { IfOk result (λ s. (n : ℕ) → Contains s n ↔ Contains (numbers_of value.now) n) }
+    ensures same { IfOk result (λ s. (n : ℕ) → Contains s n ↔ Contains (numbers value.now) n) }
 {
     let numbers = numbers(alloc, value)?;
     Srlgs::of(alloc, &numbers)
@@ -39,7 +39,8 @@ fn distinct(alloc: Global, value: &[u8]) -> Result<Srlgs, OutOfMemory>
 /// The SRLGs of a value. NotMessage exactly where it has none.
 fn srlgs_of_value(alloc: Global, value: &[u8]) -> Result<Srlgs, DecodeError>
     ensures found { IfOk result (λ s. AreSrlgs value.now s) }
-    ensures not_message { IsErrOf result DecodeError.NotMessage → (s : List ℕ) → ¬ AreSrlgs value.now s }
+    ensures not_message { IsErrOf result DecodeError.NotMessage → (s : List ℕ)
+        → ¬ AreSrlgs value.now s }
 {
     if value.len() % 4 != 0 {
         return Err(DecodeError::NotMessage);
@@ -58,8 +59,9 @@ fn srlgs_of_value(alloc: Global, value: &[u8]) -> Result<Srlgs, DecodeError>
 
 /// The SRLGs of a text of sub-TLVs. NotMessage exactly where they are not in order.
 pub(crate) fn srlgs_of(alloc: Global, body: &[u8]) -> Result<Srlgs, DecodeError>
-    ensures found { IfOk result (λ s. (subs : List TypeValue) → AreSubTlvs body.now subs → HasSrlgs subs s) }
-    ensures not_message { IsErrOf result DecodeError.NotMessage → (subs : List TypeValue) → AreSubTlvs body.now subs → (s : List ℕ) → ¬ HasSrlgs subs s }
+    ensures found { IfOk result (λ s. OfSubTlvs body.now (λ subs. HasSrlgs subs s)) }
+    ensures not_message { IsErrOf result DecodeError.NotMessage
+        → OfSubTlvs body.now (λ subs. (s : List ℕ) → ¬ HasSrlgs subs s) }
 {
     match at_most_one(body, UNCOUNTED, SRLG) {
         None => Err(DecodeError::NotMessage),

@@ -3,7 +3,7 @@
 ghost use Rattle.std.specs.Prelude.{◌≡◌, ℕ, List, drop, IfSome, IfNone};
 ghost use Rattle.wire_buf.specs.Tlvs.{TypeValue};
 ghost use Rattle.te_tlv.specs.Rows.{IsOnly};
-ghost use Rattle.te_tlv.specs.SubTlvs.{AreSubTlvs, IsLinkTlv};
+ghost use Rattle.te_tlv.specs.SubTlvs.{AreSubTlvs, IsLinkTlv, OfSubTlvs};
 
 use wire_buf::{Cursor, at_most_one};
 
@@ -15,7 +15,7 @@ pub(crate) const UNCOUNTED: usize = 0;
 
 /// The sub-TLVs of a Link TLV, as one text. None where the bytes are no Link TLV.
 pub(crate) fn link_body(bytes: &[u8]) -> Option<&[u8]>
-    ensures found { IfSome result (λ body. (subs : List TypeValue) → AreSubTlvs body.now subs → IsLinkTlv bytes.now subs) }
+    ensures found { IfSome result (λ body. OfSubTlvs body.now (λ subs. IsLinkTlv bytes.now subs)) }
     ensures same { IfSome result (λ body. body.now ≡ drop 4 bytes.now) }
     ensures none { IfNone result ((subs : List TypeValue) → ¬ IsLinkTlv bytes.now subs) }
 {
@@ -33,8 +33,10 @@ pub(crate) fn link_body(bytes: &[u8]) -> Option<&[u8]>
 /// The value of the one sub-TLV of this type. None where there isn't just one.
 pub(crate) fn only<'a>(body: &'a [u8], kind: u16) -> Option<&'a [u8]>
     ensures some { IfSome result (λ _. (subs : List TypeValue) × AreSubTlvs body.now subs) }
-    ensures value { IfSome result (λ value. (subs : List TypeValue) → AreSubTlvs body.now subs → IsOnly kind subs value.now) }
-    ensures none { IfNone result ((subs : List TypeValue) → AreSubTlvs body.now subs → (value : List ℕ) → ¬ IsOnly kind subs value) }
+    ensures value { IfSome result (λ value. OfSubTlvs body.now
+        (λ subs. IsOnly kind subs value.now)) }
+    ensures none { IfNone result (OfSubTlvs body.now
+        (λ subs. (value : List ℕ) → ¬ IsOnly kind subs value)) }
 {
     at_most_one(body, UNCOUNTED, kind)?
 }

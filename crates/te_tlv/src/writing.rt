@@ -66,7 +66,8 @@ fn push_number(out: &mut Vec<u8>, kind: u16, n: u32) -> Result<(), OutOfMemory>
 /// Appends the sub-TLV of both identifiers.
 #[tactic(auto, unfolding(crate::specs::Written::sub_tlv))]
 fn push_identifiers(out: &mut Vec<u8>, link: u32) -> Result<(), OutOfMemory>
-    ensures { OnOk result (out.new.items ≡ out.old.items ++ sub_tlv 11 (big_bytes 4 link ++ big_bytes 4 link)) }
+    ensures { OnOk result (out.new.items ≡ out.old.items ++ sub_tlv 11
+        (big_bytes 4 link ++ big_bytes 4 link)) }
 {
     push_u16(out, IDENTIFIERS)?;
     push_u16(out, 8)?;

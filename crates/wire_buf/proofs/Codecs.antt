@@ -1,7 +1,7 @@
 -- What a reader and a writer show at each of their ends.
-use Rattle.std.proofs.Common.{◌≡◌, Option, Some, None, Result, Ok, Err, ap, ◌<◌, ◌+◌, ◌++◌, ℕ, List, length, IsErr, vec_len, vec_capacity}
+use Rattle.std.proofs.Common.{◌≡◌, Some, None, Result, Ok, Err, ap, ◌<◌, ◌+◌, ◌++◌, ℕ, List, length, IsErr}
+use Rattle.std.proofs.Common.{vec_len, vec_capacity}
 use Rattle.std.specs.Global.{Vec}
-use Rattle.ason_base.specs.declared.messages.DecodeError.{DecodeError}
 use Rattle.ason_base.specs.declared.messages.DecodeError.TheVariants.{NotMessage}
 use Rattle.wire_buf.specs.Codecs.{Appends, Decodes, Reads}
 
@@ -21,7 +21,8 @@ module _ {X : Type 0} {Means : X → Type 0} where
   decodes_some x means once = record { found = means; only = once; not_message = λ e y other. absurd cc }
 
 module _ {X E : Type 0} {old new : Vec ℕ} {bytes : List ℕ} where
-  pub appends_none : (r : Result X E) → IsErr r → new.items ≡ old.items → vec_capacity old < vec_len old + length bytes →
+  pub appends_none : (r : Result X E) → IsErr r → new.items ≡ old.items →
+      vec_capacity old < vec_len old + length bytes →
       Appends old new bytes r
   appends_none (Ok x) failed same full = absurd cc
   appends_none (Err e) failed same full = record { ok = tt; err = same; full = full }

@@ -1,5 +1,6 @@
 -- Reading items one after the other.
-use Rattle.std.proofs.Common.{◌≡◌, ℕ, ◌<◌, ◌≤◌, ◌==◌, Bool, true, false, List, [], ◌∷◌, ◌++◌, length, drop, refl, ap, sym, subst, ◌∙◌, arith, append_assoc, length-drop}
+use Rattle.std.proofs.Common.{◌≡◌, ℕ, ◌<◌, ◌≤◌, ◌==◌, Bool, true, false, List, [], ◌∷◌, ◌++◌, length, map, drop, refl}
+use Rattle.std.proofs.Common.{ap, sym, subst, ◌∙◌, arith, append_assoc, length-drop}
 use Rattle.std.proofs.lemmas.List.{append-nil}
 use Rattle.std.specs.List.{AllByRecursion}
 use Rattle.wire_buf.specs.Sequences.{AreItems}
@@ -10,7 +11,8 @@ pub record BeginsOnce {X : Type 0} (Begins : List ℕ → X → Type 0) (size : 
   pub within : (bytes : List ℕ) (x : X) → Begins bytes x → (0 < size x) × (size x ≤ length bytes)
 
 -- the items read so far, and the bytes left
-pub record ReadItems {X : Type 0} (Begins : List ℕ → X → Type 0) (size : X → ℕ) (bytes left : List ℕ) (xs : List X) : Type 0
+pub record ReadItems {X : Type 0} (Begins : List ℕ → X → Type 0) (size : X → ℕ) (bytes left : List ℕ) (xs : List X)
+    : Type 0
   where
     pub found : (others : List X) → AreItems Begins size left others → AreItems Begins size bytes (xs ++ others)
     pub only : (all : List X) → AreItems Begins size bytes all →
@@ -36,7 +38,8 @@ module _ {X : Type 0} {Begins : List ℕ → X → Type 0} {size : X → ℕ} wh
       )
 
   pub goes_on : (once : BeginsOnce Begins size) (bytes left after : List ℕ) (xs : List X) (x : X) → Begins left x →
-      after ≡ drop (size x) left → ReadItems Begins size bytes left xs → ReadItems Begins size bytes after (xs ++ x ∷ [])
+      after ≡ drop (size x) left → ReadItems Begins size bytes left xs →
+      ReadItems Begins size bytes after (xs ++ x ∷ [])
   goes_on once bytes left after xs x is e so_far =
       subst (λ (l : List ℕ). ReadItems Begins size bytes l (xs ++ x ∷ [])) (sym e) (record {
         found = λ others are.
@@ -61,8 +64,10 @@ module _ {X : Type 0} {Begins : List ℕ → X → Type 0} {size : X → ℕ} wh
   pub same_items : (once : BeginsOnce Begins size) (bytes : List ℕ) (xs ys : List X) → AreItems Begins size bytes xs →
       AreItems Begins size bytes ys → xs ≡ ys
   same_items once bytes [] [] p q = refl
-  same_items once bytes [] (y ∷ ys) p q = absurd (let w = once.within bytes y q.0 in omega (arith, ap length p, w.0, w.1))
-  same_items once bytes (x ∷ xs) [] p q = absurd (let w = once.within bytes x p.0 in omega (arith, ap length q, w.0, w.1))
+  same_items once bytes [] (y ∷ ys) p q =
+      absurd (let w = once.within bytes y q.0 in omega (arith, ap length p, w.0, w.1))
+  same_items once bytes (x ∷ xs) [] p q =
+      absurd (let w = once.within bytes x p.0 in omega (arith, ap length q, w.0, w.1))
   same_items once bytes (x ∷ xs) (y ∷ ys) p q =
       let same : x ≡ y = once.same bytes x y p.0 q.0 in
       let others : AreItems Begins size (drop (size x) bytes) ys =
@@ -71,14 +76,14 @@ module _ {X : Type 0} {Begins : List ℕ → X → Type 0} {size : X → ℕ} wh
       λ i. same i ∷ tails i
 
   -- no item is longer than all the bytes
-  pub all_within : (once : BeginsOnce Begins size) (bytes : List ℕ) (xs : List X) (most : ℕ) →
-      AreItems Begins size bytes xs → length bytes ≤ most → AllByRecursion (λ x. size x ≤ most) xs
-  all_within once bytes [] most are few = tt
-  all_within once bytes (x ∷ xs) most are few =
-      let w = once.within bytes x are.0 in (
-        omega (arith, w.1),
-        all_within once (drop (size x) bytes) xs most are.1 (omega (arith, length-drop (size x) bytes)),
-      )
+  pub all_within : {Y : Type 0} (once : BeginsOnce Begins size) (seen : Y → X) (bytes : List ℕ) (ys : List Y) (most : ℕ)
+      →
+      AreItems Begins size bytes (map seen ys) → length bytes ≤ most → AllByRecursion (λ y. size (seen y) ≤ most) ys
+  all_within once seen bytes [] most are few = tt
+  all_within once seen bytes (y ∷ ys) most are few =
+      let w = once.within bytes (seen y) are.0 in
+      let left : length (drop (size (seen y)) bytes) ≤ most = omega (arith, length-drop (size (seen y)) bytes) in
+      (omega (arith, w.1), all_within once seen (drop (size (seen y)) bytes) ys most are.1 left)
 
 -- a cursor's answer to whether bytes are left
 pub not_empty : (bytes : List ℕ) (b : Bool) → b ≡ (length bytes == 0) → b ≡ false → 0 < length bytes

@@ -1,5 +1,6 @@
 -- Reading the steps of a route.
-use Rattle.std.proofs.Common.{◌≡◌, ℕ, ◌+◌, ◌*◌, ◌<◌, ◌≤◌, List, [], ◌∷◌, ◌++◌, length, take, drop, refl, ap, sym, subst, ◌∙◌, arith, append_assoc, length-drop, length-append}
+use Rattle.std.proofs.Common.{◌≡◌, ℕ, ◌+◌, ◌*◌, ◌<◌, ◌≤◌, List, [], ◌∷◌, ◌++◌, length, take, drop, refl, ap, sym, subst}
+use Rattle.std.proofs.Common.{◌∙◌, arith, append_assoc, length-drop, length-append}
 use Rattle.std.proofs.lemmas.List.{length-take, take_at, drop_at}
 use Rattle.std.proofs.lemmas.List.Elements.{All-head, All-tail}
 use Rattle.std.specs.List.{All}
@@ -23,7 +24,8 @@ AreSteps-length bytes (s ∷ ss) are =
 
 -- a body that isn't empty nor longer than 64 steps, and was read to its end, is the route that was read and no other
 pub is_route : (body left : List ℕ) (steps : List Step) → left ≡ [] → 0 < length body → length body ≤ 768 →
-    ReadItems BeginsStep step_size body left steps → IsRoute body steps × ((all : List Step) → IsRoute body all → steps ≡ all)
+    ReadItems BeginsStep step_size body left steps → IsRoute body steps
+    × ((all : List Step) → IsRoute body all → steps ≡ all)
 is_route body left steps none some few so_far =
     let are : AreSteps body steps = ends body left steps none so_far in
     let len = AreSteps-length body steps are in

@@ -1,5 +1,6 @@
 -- The one's complement sum, word by word.
-use Rattle.std.proofs.Common.{◌≡◌, ℕ, zero, suc, ◌+◌, ◌-◌, ◌*◌, ◌%◌, ◌<◌, ◌≤◌, List, [], ◌∷◌, ◌++◌, length, drop, refl, ap, ◌∙◌, arith, cond, ltb, true, false}
+use Rattle.std.proofs.Common.{◌≡◌, ℕ, zero, suc, ◌+◌, ◌-◌, ◌*◌, ◌%◌, ◌<◌, ◌≤◌, List, [], ◌∷◌, ◌++◌, length, drop, refl}
+use Rattle.std.proofs.Common.{ap, ◌∙◌, arith, cond, ltb, true, false}
 use Rattle.std.specs.Prelude.{◌↔◌, sum, All}
 use Rattle.std.proofs.lemmas.Bool.{ltb-true, ltb-false}
 use Rattle.std.proofs.lemmas.List.Sums.{sum_by-cons}
@@ -37,25 +38,40 @@ first_word (suc w) h = let shape : 0 + suc w ≡ suc w = omega arith in rw shape
 
 -- a word more
 pub ones_more : (n w : ℕ) → w < 65536 → ones_add (ones_of n) w ≡ ones_of (n + w)
-ones_more zero w h = elim (ltb 65535 (0 + w)) as (λ b. ltb 65535 (0 + w) ≡ b → cond b (0 + w - 65535) (0 + w) ≡ ones_of (0 + w)) [ true ↦ λ t. let big = ltb-true _ _ t in absurd (omega arith) | false ↦ λ t. let small = ltb-false _ _ t in first_word w h ] refl
+ones_more zero w h =
+    elim (ltb 65535 (0 + w)) as (λ b. ltb 65535 (0 + w) ≡ b → cond b (0 + w - 65535) (0 + w) ≡ ones_of (0 + w)) [
+      | true ↦ λ t. let big = ltb-true _ _ t in absurd (omega arith)
+      | false ↦ λ t. let small = ltb-false _ _ t in
+          first_word w h
+    ] refl
 ones_more (suc n) w h =
     let shape : suc n + w ≡ suc (n + w) = omega arith in
-    rw shape (elim (ltb 65535 (n % 65535 + 1 + w)) as (λ b. ltb 65535 (n % 65535 + 1 + w) ≡ b → cond b (n % 65535 + 1 + w - 65535) (n % 65535 + 1 + w) ≡ (n + w) % 65535 + 1) [ true ↦ λ t. let big = ltb-true _ _ t in omega arith | false ↦ λ t. let small = ltb-false _ _ t in omega arith ] refl)
+    rw shape (elim (ltb 65535 (n % 65535 + 1 + w)) as (λ b. ltb 65535 (n % 65535 + 1 + w) ≡ b →
+    cond b (n % 65535 + 1 + w - 65535) (n % 65535 + 1 + w) ≡ (n + w) % 65535 + 1) [
+      | true ↦ λ t. let big = ltb-true _ _ t in omega arith
+      | false ↦ λ t. let small = ltb-false _ _ t in
+          omega arith
+    ] refl)
 
-pub adds_word : (bytes left after : List ℕ) (so_far word new : ℕ) → 2 ≤ length left → word ≡ big_number 2 left → word < 65536 → after ≡ drop 2 left → new ≡ ones_add so_far word → SumsTo bytes left so_far → SumsTo bytes after new
+pub adds_word : (bytes left after : List ℕ) (so_far word new : ℕ) → 2 ≤ length left → word ≡ big_number 2 left →
+    word < 65536 → after ≡ drop 2 left → new ≡ ones_add so_far word → SumsTo bytes left so_far → SumsTo bytes after new
 adds_word bytes left after so_far word new long is_word fits is_after is_new sums = record {
   total = sums.total + word;
   is = is_new ∙ ap (λ (n : ℕ). ones_add n word) sums.is ∙ ones_more sums.total word fits;
   whole = rw is_after (let front = words_front left long in omega (arith, sums.whole));
 }
 
-pub ends_even : (bytes left : List ℕ) (so_far : ℕ) → length left ≡ 0 → SumsTo bytes left so_far → so_far ≡ ones_of (sum (words bytes))
-ends_even bytes left so_far none sums = let e : sums.total ≡ sum (words bytes) = omega (arith, sums.whole, words_none left none) in sums.is ∙ ap ones_of e
+pub ends_even : (bytes left : List ℕ) (so_far : ℕ) → length left ≡ 0 → SumsTo bytes left so_far →
+    so_far ≡ ones_of (sum (words bytes))
+ends_even bytes left so_far none sums =
+    let e : sums.total ≡ sum (words bytes) = omega (arith, sums.whole, words_none left none) in sums.is ∙ ap ones_of e
 
-pub ends_odd : (bytes left : List ℕ) (so_far last new : ℕ) → length left ≡ 1 → last ≡ big_number 1 left → last < 256 → new ≡ ones_add so_far (last * 256) → SumsTo bytes left so_far → new ≡ ones_of (sum (words bytes))
+pub ends_odd : (bytes left : List ℕ) (so_far last new : ℕ) → length left ≡ 1 → last ≡ big_number 1 left → last < 256 →
+    new ≡ ones_add so_far (last * 256) → SumsTo bytes left so_far → new ≡ ones_of (sum (words bytes))
 ends_odd bytes left so_far last new one is_last fits is_new sums =
     let e : sums.total + last * 256 ≡ sum (words bytes) = omega (arith, sums.whole, words_last left one) in
-    is_new ∙ ap (λ (n : ℕ). ones_add n (last * 256)) sums.is ∙ ones_more sums.total (last * 256) (omega arith) ∙ ap ones_of e
+    is_new ∙ ap (λ (n : ℕ). ones_add n (last * 256)) sums.is ∙ ones_more sums.total (last * 256) (omega arith)
+    ∙ ap ones_of e
 
 add_all : (n : ℕ) (ws : List ℕ) → All (λ w. w < 65536) ws → fold ones_add (ones_of n) ws ≡ ones_of (n + sum ws)
 add_all n [] fit = ap ones_of (omega arith)
@@ -70,17 +86,23 @@ all_at_once ws fit = let e : 0 + sum ws ≡ sum ws = omega arith in add_all 0 ws
 pub words-append : (front back : List ℕ) → length front % 2 ≡ 0 → words (front ++ back) ≡ words front ++ words back
 words-append [] back even = refl
 words-append (a ∷ []) back even = absurd (omega arith)
-words-append (a ∷ b ∷ front) back even = ap (λ (ws : List ℕ). (a * 256 + b) ∷ ws) (words-append front back (omega arith))
+words-append (a ∷ b ∷ front) back even =
+    ap (λ (ws : List ℕ). (a * 256 + b) ∷ ws) (words-append front back (omega arith))
 
 ones-positive : (n : ℕ) → 0 < n → ones_of n ≡ (n - 1) % 65535 + 1
 ones-positive zero h = absurd (omega arith)
 ones-positive (suc n) h = ap (λ (m : ℕ). m % 65535 + 1) (omega arith)
 
-cancels : (others field : ℕ) → 0 < others → field < 65535 → field ≡ 65535 - ones_of others → 65535 - ones_of (others + field) ≡ 0
-cancels others field some small right = omega (arith, ones-positive others some, ones-positive (others + field) (omega arith))
+cancels : (others field : ℕ) → 0 < others → field < 65535 → field ≡ 65535 - ones_of others →
+    65535 - ones_of (others + field) ≡ 0
+cancels others field some small right =
+    omega (arith, ones-positive others some, ones-positive (others + field) (omega arith))
 
-is_right : (others field : ℕ) → 0 < others → field < 65535 → 65535 - ones_of (others + field) ≡ 0 → field ≡ 65535 - ones_of others
-is_right others field some small zero_sum = omega (arith, ones-positive others some, ones-positive (others + field) (omega arith))
+is_right : (others field : ℕ) → 0 < others → field < 65535 → 65535 - ones_of (others + field) ≡ 0 →
+    field ≡ 65535 - ones_of others
+is_right others field some small zero_sum =
+    omega (arith, ones-positive others some, ones-positive (others + field) (omega arith))
 
-pub cancels_iff : (others field : ℕ) → 0 < others → field < 65535 → (field ≡ 65535 - ones_of others) ↔ (65535 - ones_of (others + field) ≡ 0)
+pub cancels_iff : (others field : ℕ) → 0 < others → field < 65535 →
+    (field ≡ 65535 - ones_of others) ↔ (65535 - ones_of (others + field) ≡ 0)
 cancels_iff others field some small = (cancels others field some small, is_right others field some small)

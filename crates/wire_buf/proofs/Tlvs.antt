@@ -1,5 +1,6 @@
 -- Reading TLVs for the value of a type.
-use Rattle.std.proofs.Common.{◌≡◌, ◌≢◌, ℕ, ◌+◌, ◌<◌, ◌≤◌, ◌==◌, Bool, true, false, Option, Some, None, List, [], ◌∷◌, ◌++◌, length, take, drop, map, refl, ap, sym, ◌∙◌, arith, Bor}
+use Rattle.std.proofs.Common.{◌≡◌, ◌≢◌, ℕ, ◌≤◌, ◌==◌, Bool, true, false, Option, Some, None, List, [], ◌∷◌}
+use Rattle.std.proofs.Common.{◌++◌, length, take, drop, map, refl, ap, sym, ◌∙◌, arith, Bor}
 use Rattle.std.proofs.lemmas.List.{append-nil, map-append}
 use Rattle.std.proofs.lemmas.List.Elements.{filter-append}
 use Rattle.std.specs.List.{filter}
@@ -16,7 +17,8 @@ tlvs_once counted = record { same = same; within = λ bytes t is. (omega arith, 
       let value : a.value ≡ b.value = p.value ∙ ap (λ (n : ℕ). take n (drop 4 bytes)) len ∙ sym q.value in
       λ i. record { kind = kind i; value = value i }
 
-values_of-append : (kind : ℕ) (xs ys : List TypeValue) → values_of kind (xs ++ ys) ≡ values_of kind xs ++ values_of kind ys
+values_of-append : (kind : ℕ) (xs ys : List TypeValue) →
+    values_of kind (xs ++ ys) ≡ values_of kind xs ++ values_of kind ys
 values_of-append kind xs ys =
     ap (map (λ t. t.value)) (filter-append (λ t. t.kind == kind) xs ys)
     ∙ map-append (λ t. t.value) (filter (λ t. t.kind == kind) xs) (filter (λ t. t.kind == kind) ys)
@@ -81,7 +83,8 @@ pub scan_value : (counted kind : ℕ) (bytes left : List ℕ) (found : Option (L
     Scanned counted kind bytes left found → (all : List TypeValue) → AreTlvs counted bytes all →
     values_of kind all ≡ option_to_list found
 scan_value counted kind bytes left found none f all are =
-    ap (values_of kind) (same_items (tlvs_once counted) bytes all f.ts are (ends bytes left f.ts none f.read)) ∙ f.values
+    ap (values_of kind) (same_items (tlvs_once counted) bytes all f.ts are (ends bytes left f.ts none f.read))
+    ∙ f.values
 
 pub found_none : (o : Option (Bor (List ℕ))) (b : Bool) → b ≡ is_some o → b ≡ false → option_copied o ≡ None
 found_none None b is test = refl

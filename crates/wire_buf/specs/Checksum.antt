@@ -7,7 +7,8 @@ words [] = []
 words (high ∷ []) = high * 256 ∷ []
 words (high ∷ low ∷ bytes) = (high * 256 + low) ∷ words bytes
 
--- A sum in one's complement counts modulo 65,535. Zero stands for no sum but 0; the other multiples of 65,535 are 65,535.
+-- A sum in one's complement counts modulo 65,535. Zero stands for no sum but 0; the other multiples of 65,535 are
+-- 65,535.
 abbrev pub ones_of : ℕ → ℕ
 ones_of zero = zero
 ones_of (suc n) = n % 65535 + 1

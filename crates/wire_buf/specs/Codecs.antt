@@ -1,5 +1,6 @@
 -- What every reader and every writer of fields and objects promises, whatever the object is.
-use Rattle.std.specs.Prelude.{◌≡◌, ◌<◌, ℕ, ◌+◌, List, ◌++◌, length, Option, Some, IfSome, Result, IfOk, OnOk, OnErr, IsErrOf, vec_len, vec_capacity}
+use Rattle.std.specs.Prelude.{◌≡◌, ◌<◌, ℕ, ◌+◌, List, ◌++◌, length, Option, Some, IfSome, Result, IfOk, OnOk, OnErr}
+use Rattle.std.specs.Prelude.{IsErrOf, vec_len, vec_capacity}
 use Rattle.std.specs.Global.{Vec}
 use Rattle.ason_base.specs.declared.messages.DecodeError.{DecodeError}
 use Rattle.ason_base.specs.declared.messages.DecodeError.TheVariants.{NotMessage}
@@ -9,13 +10,15 @@ pub record Reads {X : Type 0} (Means : X → Type 0) (result : Option X) : Type 
   pub found : IfSome result Means
   pub only : (x : X) → Means x → result ≡ Some x
 
--- What is read is what the bytes mean, and NotMessage comes exactly where they mean nothing; the other error is want of memory.
+-- What is read is what the bytes mean, and NotMessage comes exactly where they mean nothing; the other error is want of
+-- memory.
 pub record Decodes {X : Type 0} (Means : X → Type 0) (result : Result X DecodeError) : Type 0 where
   pub found : IfOk result Means
   pub only : (x : X) → Means x → IfOk result (λ read. read ≡ x)
   pub not_message : IsErrOf result NotMessage → (x : X) → Means x → ⊥
 
--- These bytes come behind those that were there. After want of memory nothing has changed, and it comes only where the room was too small.
+-- These bytes come behind those that were there. After want of memory nothing has changed, and it comes only where the
+-- room was too small.
 pub record Appends {X E : Type 0} (old new : Vec ℕ) (bytes : List ℕ) (result : Result X E) : Type 0 where
   pub ok : OnOk result (new.items ≡ old.items ++ bytes)
   pub err : OnErr result (new.items ≡ old.items)

@@ -1,5 +1,5 @@
 -- Routes as subobjects for unnumbered interfaces (RFC 3209, section 4.3; RFC 3477, section 4).
-use Rattle.std.specs.Prelude.{◌≡◌, ◌≤◌, ◌<◌, ◌^◌, ℕ, List, [], ◌∷◌, ◌++◌, length, take, drop}
+use Rattle.std.specs.Prelude.{◌≡◌, ◌≤◌, ◌<◌, ◌^◌, ℕ, List, ◌++◌, length, take}
 use Rattle.std.specs.List.{flat_map}
 use Rattle.byteorder.specs.Endian.{big_bytes}
 use Rattle.ason_base.specs.declared.steps.Step.{Step}
@@ -7,8 +7,8 @@ use Rattle.wire_buf.specs.declared.routes.TheConstants.{MOST_STEPS, STEP, STRICT
 use Rattle.wire_buf.specs.Objects.{number_at}
 use Rattle.wire_buf.specs.Sequences.{AreItems}
 
--- A strict step: the L bit is 0 and the type 4 in the first byte, the length is 12. Then two bytes that nothing reads, the
--- router id and the interface id.
+-- A strict step: the L bit is 0 and the type 4 in the first byte, the length is 12. Then two bytes that nothing reads,
+-- the router id and the interface id.
 abbrev pub IsStep : List ℕ → Step → Type 0
 IsStep bytes s =
     (length bytes ≡ STEP) × (number_at 0 1 bytes ≡ STRICT_UNNUMBERED) × (number_at 1 1 bytes ≡ STEP)
@@ -34,7 +34,8 @@ HasIds s = (s.node.0 < 2 ^ 32) × (s.link.0 < 2 ^ 32)
 
 -- the written form of a step
 abbrev pub step_bytes : Step → List ℕ
-step_bytes s = big_bytes 1 STRICT_UNNUMBERED ++ big_bytes 1 STEP ++ big_bytes 2 0 ++ big_bytes 4 s.node.0 ++ big_bytes 4 s.link.0
+step_bytes s =
+    big_bytes 1 STRICT_UNNUMBERED ++ big_bytes 1 STEP ++ big_bytes 2 0 ++ big_bytes 4 s.node.0 ++ big_bytes 4 s.link.0
 
 -- the written form of a route
 abbrev pub route_bytes : List Step → List ℕ

@@ -19,18 +19,21 @@ fn ones_sum(a: u16, b: u16) -> u16
 
 /// Law: words that are added one by one in one's complement have the sum that all of them have at once.
 pub fn carries_may_wait()
-    ensures { (words : List ℕ) → All (λ w. w < 65536) words → fold ones_add 0 words ≡ ones_of (sum words) }
+    ensures { (words : List ℕ) → All (λ w. w < 65536) words
+        → fold ones_add 0 words ≡ ones_of (sum words) }
 {}
 
-/// Law: where the other words have a sum above 0, the field between them has their checksum exactly where the checksum of the
-/// whole is 0 (RFC 1071, section 1). 0xFFFF is no checksum of such words.
+/// Law: where the other words have a sum above 0, the field between them has their checksum exactly where the checksum
+/// of the whole is 0 (RFC 1071, section 1). 0xFFFF is no checksum of such words.
 pub fn right_checksums_cancel()
-    ensures { (others field : ℕ) → 0 < others → field < 65535 → (field ≡ 65535 - ones_of others) ↔ (65535 - ones_of (others + field) ≡ 0) }
+    ensures { (others field : ℕ) → 0 < others → field < 65535
+        → (field ≡ 65535 - ones_of others) ↔ (65535 - ones_of (others + field) ≡ 0) }
 {}
 
 /// Law: the words of two pieces, of which the first has no odd byte, are the words of the whole.
 pub fn pieces_keep_words()
-    ensures { (front back : List ℕ) → length front % 2 ≡ 0 → words (front ++ back) ≡ words front ++ words back }
+    ensures { (front back : List ℕ) → length front % 2 ≡ 0
+        → words (front ++ back) ≡ words front ++ words back }
 {}
 
 /// The one's complement of the one's complement sum of the 16-bit words. An odd last byte is the high byte of a word

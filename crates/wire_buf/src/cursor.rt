@@ -1,6 +1,7 @@
 //! Reading fields from the front of bytes.
 
-ghost use Rattle.std.specs.Prelude.{◌≡◌, ◌==◌, ◌<◌, ◌≤◌, length, take, drop, is_some, if◌then◌else◌, MatchOption, SomeIff};
+ghost use Rattle.std.specs.Prelude.{◌≡◌, ◌==◌, ◌<◌, ◌≤◌, length, take, drop, is_some, if◌then◌else◌, MatchOption};
+ghost use Rattle.std.specs.Prelude.{SomeIff};
 ghost use Rattle.byteorder.specs.Endian.{big_number};
 
 use byteorder::{BigEndian, ByteOrder};
@@ -73,7 +74,8 @@ impl<'a> Cursor<'a> {
 
     /// The next n bytes as they are. None, and the cursor unchanged, exactly where fewer are left.
     pub fn take(&mut self, n: usize) -> Option<&'a [u8]>
-        ensures value { MatchOption result (length self.old < n) (λ taken. (n ≤ length self.old) × (taken.now ≡ take n self.old)) }
+        ensures value { MatchOption result (length self.old < n)
+            (λ taken. (n ≤ length self.old) × (taken.now ≡ take n self.old)) }
         ensures left { self.new ≡ (if is_some result then drop n self.old else self.old) }
     {
         if self.left.len() < n {

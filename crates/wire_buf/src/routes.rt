@@ -65,7 +65,8 @@ pub fn read_steps(alloc: Global, body: &[u8]) -> Result<Steps, DecodeError>
 
 /// Law: what is written of a route is read as that route again.
 pub fn routes_come_back()
-    ensures { (steps : List Step) → 1 ≤ length steps → length steps ≤ 64 → All HasIds steps → IsRoute (route_bytes steps) steps }
+    ensures { (steps : List Step) → 1 ≤ length steps → length steps ≤ 64 → All HasIds steps
+        → IsRoute (route_bytes steps) steps }
 {}
 
 fn put_step(out: &mut Vec<u8>, step: &Step)

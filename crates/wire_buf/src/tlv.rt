@@ -2,14 +2,16 @@
 
 ghost use Rattle.std.specs.Prelude.{◌≡◌, ◌≤◌, List, drop, length, IfNone, IfSome};
 ghost use Rattle.std.specs.Option.{option_copied, option_to_list};
-ghost use Rattle.wire_buf.specs.Tlvs.{AreTlvs, BeginsTlv, TypeValue, tlv_size, values_of};
+ghost use Rattle.wire_buf.specs.Tlvs.{AreTlvs, BeginsTlv, OfTlvs, TypeValue, tlv_size, values_of};
 
 use crate::cursor::Cursor;
 
 // The type and the value of the next TLV.
 fn next_tlv<'a>(cursor: &mut Cursor<'a>, counted: usize) -> Option<(u16, &'a [u8])>
-    ensures found { IfSome result (λ t. BeginsTlv counted cursor.old (record { kind = t.0; value = t.1.now })) }
-    ensures left { IfSome result (λ t. cursor.new ≡ drop (tlv_size (record { kind = t.0; value = t.1.now })) cursor.old) }
+    ensures found { IfSome result (λ t. BeginsTlv counted cursor.old
+        (record { kind = t.0; value = t.1.now })) }
+    ensures left { IfSome result (λ t. cursor.new ≡ drop
+        (tlv_size (record { kind = t.0; value = t.1.now })) cursor.old) }
     ensures none { IfNone result ((t : TypeValue) → ¬ BeginsTlv counted cursor.old t) }
 {
     let kind = cursor.u16()?;
@@ -18,13 +20,13 @@ fn next_tlv<'a>(cursor: &mut Cursor<'a>, counted: usize) -> Option<(u16, &'a [u8
     Some((kind, &padded[..len]))
 }
 
-/// The value of the one TLV of this type, where there is one. None exactly where the bytes aren't TLVs whose lengths count
-/// so many bytes beside the value, or where two are of this type.
+/// The value of the one TLV of this type, where there is one. None exactly where the bytes aren't TLVs whose lengths
+/// count so many bytes beside the value, or where two are of this type.
 pub fn at_most_one<'a>(bytes: &'a [u8], counted: usize, kind: u16) -> Option<Option<&'a [u8]>>
     ensures some { IfSome result (λ _. (ts : List TypeValue) × AreTlvs counted bytes.now ts) }
-    ensures value { IfSome result (λ value. (ts : List TypeValue) → AreTlvs counted bytes.now ts
-        → values_of kind ts ≡ option_to_list (option_copied value)) }
-    ensures none { IfNone result ((ts : List TypeValue) → AreTlvs counted bytes.now ts → 2 ≤ length (values_of kind ts)) }
+    ensures value { IfSome result (λ value.
+        OfTlvs counted bytes.now (λ ts. values_of kind ts ≡ option_to_list (option_copied value))) }
+    ensures none { IfNone result (OfTlvs counted bytes.now (λ ts. 2 ≤ length (values_of kind ts))) }
 {
     let mut cursor = Cursor::new(bytes);
     let mut found = None;

@@ -5,7 +5,8 @@ use Rattle.rsvp_messages.proofs.errors.read_notify.Goals as goal
 pub returns-in_err-subject : goal.returns-in_err-subject
 returns-in_err-subject c = record {
   found = search rules;
-  only = only_notify _ _ (λ l e x k n h g. absurd (none_is _ (c.in_err-subject.ensures.only (record { lsp = l; egress = e }) n)));
+  only = only_notify _ _ (λ l e x k n h g. absurd (none_is _
+      (c.in_err-subject.ensures.only (record { lsp = l; egress = e }) n)));
 }
 
 pub returns-in_err-error : goal.returns-in_err-error
@@ -23,5 +24,7 @@ returns-in_err-link c = record {
 pub returns : goal.returns
 returns c = record {
   found = search rules;
-  only = only_notify _ _ (λ l e x k n h g. notify_is _ _ _ l e x k (c.in_ok-subject.ensures.only (record { lsp = l; egress = e }) n) (c.in_ok-error.ensures.only x h) c.in_ok-link.was g);
+  only = only_notify _ _ (λ l e x k n h g. notify_is _ _ _ l e x k
+      (c.in_ok-subject.ensures.only (record { lsp = l; egress = e }) n) (c.in_ok-error.ensures.only x h)
+      c.in_ok-link.was g);
 }

@@ -5,7 +5,8 @@ use Rattle.rsvp_messages.proofs.errors.read_path_err.Goals as goal
 pub returns-in_err-subject : goal.returns-in_err-subject
 returns-in_err-subject c = record {
   found = search rules;
-  only = only_path_err _ _ (λ l e x n h. absurd (none_is _ (c.in_err-subject.ensures.only (record { lsp = l; egress = e }) n)));
+  only = only_path_err _ _ (λ l e x n h. absurd (none_is _
+      (c.in_err-subject.ensures.only (record { lsp = l; egress = e }) n)));
 }
 
 pub returns-in_err-error : goal.returns-in_err-error

@@ -5,4 +5,5 @@ use Rattle.rsvp_messages.specs.Seen.{all_seen, seen}
 use Rattle.rsvp_messages.proofs.lookup.at_most_one.Given as goal
 
 abbrev pub invariant-objects : goal.invariant-objects
-invariant-objects l = of_class l.class (all_seen (take l.object-index l.objects)) ≡ option_to_list (option_map seen l.found)
+invariant-objects l =
+    of_class l.class (all_seen (take l.object-index l.objects)) ≡ option_to_list (option_map seen l.found)

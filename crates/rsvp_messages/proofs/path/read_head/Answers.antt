@@ -4,10 +4,12 @@ use Rattle.rsvp_messages.proofs.Subjects.{none_is}
 use Rattle.rsvp_messages.proofs.path.read_head.Goals as goal
 
 pub returns-in_err-subject : goal.returns-in_err-subject
-returns-in_err-subject c = record { found = search rules; only = λ x h. absurd (none_is _ (c.in_err-subject.ensures.only x.subject h.names)) }
+returns-in_err-subject c =
+    record { found = search rules; only = λ x h. absurd (none_is _ (c.in_err-subject.ensures.only x.subject h.names)) }
 
 pub returns-in_err-link : goal.returns-in_err-link
-returns-in_err-link c = record { found = search rules; only = λ x h. absurd (none_is _ (c.in_err-link.ensures.only x.link h.comes)) }
+returns-in_err-link c =
+    record { found = search rules; only = λ x h. absurd (none_is _ (c.in_err-link.ensures.only x.link h.comes)) }
 
 pub returns : goal.returns
 returns c = record {

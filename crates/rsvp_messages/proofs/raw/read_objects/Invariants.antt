@@ -1,10 +1,11 @@
 use Rattle.std.proofs.Common.{length}
+use Rattle.wire_buf.proofs.Sequences.{ReadItems}
+use Rattle.rsvp_messages.specs.Objects.{BeginsWith, size_of}
 use Rattle.rsvp_messages.specs.Seen.{all_seen}
-use Rattle.rsvp_messages.proofs.Scanning.{ReadSoFar}
 use Rattle.rsvp_messages.proofs.raw.read_objects.Given as goal
 
 abbrev pub invariant-objects : goal.invariant-objects
-invariant-objects l = ReadSoFar l.bytes l.cursor (all_seen l.objects.items)
+invariant-objects l = ReadItems BeginsWith size_of l.bytes l.cursor (all_seen l.objects.items)
 
 abbrev pub decreases-objects : goal.decreases-objects
 decreases-objects l = length l.cursor

@@ -5,7 +5,8 @@ use Rattle.rsvp_messages.proofs.resv.read_resv.Goals as goal
 pub returns-in_err-subject : goal.returns-in_err-subject
 returns-in_err-subject c = record {
   found = search rules;
-  only = only_resv _ _ (λ l e k x n h g. absurd (none_is _ (c.in_err-subject.ensures.only (record { lsp = l; egress = e }) n)));
+  only = only_resv _ _ (λ l e k x n h g. absurd (none_is _
+      (c.in_err-subject.ensures.only (record { lsp = l; egress = e }) n)));
 }
 
 pub returns-in_err-link : goal.returns-in_err-link
@@ -23,5 +24,7 @@ returns-in_err-label c = record {
 pub returns : goal.returns
 returns c = record {
   found = search rules;
-  only = only_resv _ _ (λ l e k x n h g. resv_is _ _ _ l e k x (c.in_ok-subject.ensures.only (record { lsp = l; egress = e }) n) (c.in_ok-link.ensures.only k h) (c.in_ok-label.ensures.only x g));
+  only = only_resv _ _ (λ l e k x n h g. resv_is _ _ _ l e k x
+      (c.in_ok-subject.ensures.only (record { lsp = l; egress = e }) n) (c.in_ok-link.ensures.only k h)
+      (c.in_ok-label.ensures.only x g));
 }

@@ -12,6 +12,9 @@ returns-in_err-optional c = record {
 
 pub returns-in-Some : goal.returns-in-Some
 returns-in-Some c = record {
-  found = has_protection (all_seen c.args.objects.now) c.in-Some.body.now (optional_at 37 2 (all_seen c.args.objects.now) _ _ c.in_ok-optional.ensures.found c.in-Some.is) _ c.read_protection.ensures.found;
-  only = λ p has. c.read_protection.ensures.only p (protection_here (all_seen c.args.objects.now) c.in-Some.body.now (optional_at 37 2 (all_seen c.args.objects.now) _ _ c.in_ok-optional.ensures.found c.in-Some.is) p has);
+  found = has_protection (all_seen c.args.objects.now) c.in-Some.body.now
+      (optional_at 37 2 (all_seen c.args.objects.now) _ _ c.in_ok-optional.ensures.found c.in-Some.is)
+      _ c.read_protection.ensures.found;
+  only = λ p has. c.read_protection.ensures.only p (protection_here (all_seen c.args.objects.now) c.in-Some.body.now
+      (optional_at 37 2 (all_seen c.args.objects.now) _ _ c.in_ok-optional.ensures.found c.in-Some.is) p has);
 }

@@ -5,7 +5,8 @@ use Rattle.rsvp_messages.proofs.tear.read_tear.Goals as goal
 pub returns-in_err-subject : goal.returns-in_err-subject
 returns-in_err-subject c = record {
   found = search rules;
-  only = only_tear _ _ (λ l e k n h. absurd (none_is _ (c.in_err-subject.ensures.only (record { lsp = l; egress = e }) n)));
+  only = only_tear _ _ (λ l e k n h. absurd (none_is _
+      (c.in_err-subject.ensures.only (record { lsp = l; egress = e }) n)));
 }
 
 pub returns-in_err-link : goal.returns-in_err-link
@@ -17,5 +18,6 @@ returns-in_err-link c = record {
 pub returns : goal.returns
 returns c = record {
   found = search rules;
-  only = only_tear _ _ (λ l e k n h. tear_is _ _ l e k (c.in_ok-subject.ensures.only (record { lsp = l; egress = e }) n) (c.in_ok-link.ensures.only k h));
+  only = only_tear _ _ (λ l e k n h. tear_is _ _ l e k (c.in_ok-subject.ensures.only (record { lsp = l; egress = e }) n)
+      (c.in_ok-link.ensures.only k h));
 }

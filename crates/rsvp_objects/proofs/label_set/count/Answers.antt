@@ -9,8 +9,19 @@ labels-init c = record { is = sym (ap length (none_below c.args.set.now)); small
 pub labels-preserved : goal.labels-preserved
 labels-preserved c =
     elim c.if-holds.branch [
-      | then-holds w ↦ record { is = w.count-is ∙ count_takes c.args.set.now c.labels.n _ c.labels.auto.n (sym c.holds.ensures ∙ w.if-holds.true) c.labels.invariant.is; small = let e = w.count-is in omega arith }
-      | else-holds w ↦ record { is = w.count-is ∙ count_skips c.args.set.now c.labels.n _ c.labels.auto.n (sym c.holds.ensures ∙ w.if-holds.false) c.labels.invariant.is; small = let e = w.count-is in omega arith }
+      | then-holds w ↦ record {
+        is =
+            w.count-is ∙ count_takes c.args.set.now c.labels.n _ c.labels.auto.n (sym c.holds.ensures ∙ w.if-holds.true)
+            c.labels.invariant.is;
+        small = let e = w.count-is in omega arith;
+      }
+      | else-holds w ↦ record {
+        is =
+            w.count-is
+            ∙ count_skips c.args.set.now c.labels.n _ c.labels.auto.n (sym c.holds.ensures ∙ w.if-holds.false)
+            c.labels.invariant.is;
+        small = let e = w.count-is in omega arith;
+      }
     ]
 
 pub returns-clause-value : goal.returns-clause-value

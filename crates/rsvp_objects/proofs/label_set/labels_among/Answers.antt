@@ -6,7 +6,9 @@ pub labels-init : goal.labels-init
 labels-init c = rw c.new-cursor.ensures (numbers_begin _ _ c.upto-set.ensures)
 
 pub labels-preserved : goal.labels-preserved
-labels-preserved c = numbers_go_on _ _ _ _ _ _ c.in-Some.ensures.value.0 c.in-Some.ensures.value.1 c.in-Some.ensures.left c.with_number-set.ensures c.labels.invariant
+labels-preserved c =
+    numbers_go_on _ _ _ _ _ _ c.in-Some.ensures.value.0 c.in-Some.ensures.value.1 c.in-Some.ensures.left
+    c.with_number-set.ensures c.labels.invariant
 
 pub returns : goal.returns
 returns c = numbers_end _ _ _ (let none = c.in_default.ensures.value in omega arith) c.labels.invariant

@@ -9,8 +9,10 @@ labels-init c = range_begins c.args.low c.args.high _ c.upto-set.ensures
 pub labels-preserved : goal.labels-preserved
 labels-preserved c =
     elim c.if-is_inside.branch [
-      | then-is_inside w ↦ w.set-is ∙ range_takes c.args.low c.args.high c.labels.n _ _ c.labels.invariant (sym c.is_inside.ensures ∙ w.if-is_inside.true) w.with_number-set.ensures
-      | else-is_inside w ↦ w.set-is ∙ range_skips c.args.low c.args.high c.labels.n _ c.labels.invariant (sym c.is_inside.ensures ∙ w.if-is_inside.false)
+      | then-is_inside w ↦ w.set-is ∙ range_takes c.args.low c.args.high c.labels.n _ _ c.labels.invariant
+          (sym c.is_inside.ensures ∙ w.if-is_inside.true) w.with_number-set.ensures
+      | else-is_inside w ↦ w.set-is ∙ range_skips c.args.low c.args.high c.labels.n _ c.labels.invariant
+          (sym c.is_inside.ensures ∙ w.if-is_inside.false)
     ]
 
 pub returns : goal.returns

@@ -1,9 +1,9 @@
 use Rattle.std.proofs.Common.{◌≡◌, ◌++◌, length}
-use Rattle.te_tlv.specs.Rows.{numbers_of}
+use Rattle.wire_buf.specs.Objects.{numbers}
 use Rattle.te_tlv.proofs.srlgs.numbers.Given as goal
 
 abbrev pub invariant-numbers : goal.invariant-numbers
-invariant-numbers l = numbers_of l.value ≡ l.numbers.items ++ numbers_of l.cursor
+invariant-numbers l = numbers l.value ≡ l.numbers.items ++ numbers l.cursor
 
 abbrev pub decreases-numbers : goal.decreases-numbers
 decreases-numbers l = length l.cursor

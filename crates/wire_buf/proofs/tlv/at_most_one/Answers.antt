@@ -4,7 +4,8 @@ use Rattle.wire_buf.proofs.tlv.at_most_one.Goals as goal
 
 pub returns-in_default-clause-none : goal.returns-in_default-clause-none
 returns-in_default-clause-none c ts are =
-    absurd (stops _ _ _ (not_empty _ _ c.is_empty.ensures c.tlvs-test.true) c.in_default.ensures.none c.tlvs.invariant.read
+    absurd (stops _ _ _ (not_empty _ _ c.is_empty.ensures c.tlvs-test.true)
+    c.in_default.ensures.none c.tlvs.invariant.read
     ts are)
 
 pub returns-then-is_some-clause-none : goal.returns-then-is_some-clause-none
