@@ -2,6 +2,7 @@
 use Rattle.std.proofs.Common.{◌≡◌, ℕ, ◌+◌, ◌≤◌, ◌&&◌, ◌||◌, ltb, eqb, cond, Bool, true, false, List, [], filter, refl}
 use Rattle.std.proofs.Common.{ap, ◌∙◌, arith}
 use Rattle.ason_base.specs.Labels.{has, numbers_from, up_to, with_label}
+use Rattle.rsvp_messages.proofs.Lookups.{test_other}
 use Rattle.ason_base.proofs.MaskMembers.{has-filter, filter-agree, has-bound}
 
 -- those below n that pass
@@ -12,12 +13,9 @@ pub below_first : (p : ℕ → Bool) → [] ≡ below p 1
 unfolding numbers_from
 below_first p = refl
 
-differ : (x n : ℕ) → (x ≡ n → ⊥) → eqb x n ≡ false
-differ x n h = grind arith
-
 one_above : (a : Bool) (x n : ℕ) → (x ≡ n → a ≡ true) → (eqb x n || (ltb x n && a)) ≡ (ltb x (n + 1) && a)
 one_above true x n h = grind arith
-one_above false x n h = let other : eqb x n ≡ false = differ x n (λ e. cc (h e)) in grind arith
+one_above false x n h = let other : eqb x n ≡ false = test_other x n (λ e. cc (h e)) in grind arith
 
 none_above : (a : Bool) (x n : ℕ) → (x ≡ n → a ≡ false) → (ltb x n && a) ≡ (ltb x (n + 1) && a)
 none_above true x n h = let other : x ≡ n → ⊥ = (λ e. cc (h e)) in grind arith

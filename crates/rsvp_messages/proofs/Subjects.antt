@@ -1,5 +1,6 @@
 -- What the messages of each type share: only such messages, with these parts, are spelled.
 use Rattle.std.proofs.Common.{◌≡◌, ℕ, Option, Some, None, Bool, true, false, List, [], ◌∷◌, inl, inr, ap, sym, ◌∙◌}
+use Rattle.std.proofs.lemmas.Option.{none-some}
 use Rattle.std.proofs.Common.{arith}
 use Rattle.ason_base.specs.declared.ids.LinkId.{LinkId}
 use Rattle.ason_base.specs.declared.ids.Lsp.{Lsp}
@@ -20,9 +21,6 @@ use Rattle.rsvp_messages.proofs.Lookups.{means_here, same_ctype}
 
 pub some_is : {X : Type 0} (x y : X) → Some x ≡ Some y → x ≡ y
 some_is x y e = cc
-
-pub none_is : {X : Type 0} (x : X) → None ≡ Some x → ⊥
-none_is x e = cc
 
 abbrev subject_of : Session → SenderRef → Subject
 subject_of session sender =
@@ -127,7 +125,7 @@ error_is_other os r none only e (inl has) = only e has
 error_is_other os r none only e (inr has) = absurd (cc (none has.body has.one))
 
 pub no_link : (error x : ErrorSpec) (k : LinkId) → Some error ≡ Some x → x.link ≡ Some k → error.link ≡ None → ⊥
-no_link error x k e g none = let same = some_is _ _ e in none_is k (sym none ∙ (λ i. (same i).link) ∙ g)
+no_link error x k e g none = let same = some_is _ _ e in none-some k (sym none ∙ (λ i. (same i).link) ∙ g)
 
 pub notify_is : (subject : Subject) (error : ErrorSpec) (link : LinkId) (l : Lsp) (e : NodeId) (x : ErrorSpec)
     (k : LinkId) → Some subject ≡ Some (record { lsp = l; egress = e }) → Some error ≡ Some x → error.link ≡ Some link →

@@ -2,7 +2,7 @@
 use Rattle.std.proofs.Common.{◌≡◌, ℕ, zero, suc, ◌+◌, ◌-◌, ◌*◌, ◌<◌, ◌≤◌, ◌^◌, ◌&&◌, ◌||◌, List, [], ◌∷◌, ◌++◌, length}
 use Rattle.std.proofs.Common.{drop, filter, Bool, true, false, cond, eqb, ltb, refl, ap, sym, ◌∙◌, arith, append_assoc}
 use Rattle.std.proofs.Common.{All, length-append, zero-add, suc-add, max, inl, inr}
-use Rattle.std.proofs.Math.Bool.{and-false, and-true, or-false, or_assoc}
+use Rattle.std.proofs.Math.Bool.{and-false, and-true, or-false, or_assoc, or_comm}
 use Rattle.std.proofs.lemmas.List.{append-nil}
 use Rattle.std.proofs.lemmas.List.Elements.{filter-append, All-filter, All-nil, All-cons}
 use Rattle.std.proofs.lemmas.List.Concat.{flat_map-append}
@@ -34,19 +34,13 @@ has_more (x ∷ front) n l =
 has_among : (front : List ℕ) (l : ℕ) → has (up_to 80) l ≡ true → has (among front) l ≡ has front l
 has_among front l h = has-filter (has front) (up_to 80) l ∙ ap (λ (b : Bool). b && has front l) h
 
-or_commutes : (a b : Bool) → (a || b) ≡ (b || a)
-or_commutes true true = refl
-or_commutes true false = refl
-or_commutes false true = refl
-or_commutes false false = refl
-
 eqb_commutes : (a b : ℕ) → eqb a b ≡ eqb b a
 eqb_commutes a b = grind arith
 
 pub one_more : (s front : List ℕ) (n : ℕ) → s ≡ among front → with_label s n ≡ among (front ++ n ∷ [])
 one_more s front n e = filter-agree (λ x. eqb x n || has s x) (has (front ++ n ∷ [])) (up_to 80) (λ l h.
     ap (λ (b : Bool). eqb l n || b) (ap (λ (t : List ℕ). has t l) e ∙ has_among front l h)
-    ∙ or_commutes (eqb l n) (has front l) ∙ ap (λ (b : Bool). has front l || b) (eqb_commutes l n)
+    ∙ or_comm (eqb l n) (has front l) ∙ ap (λ (b : Bool). has front l || b) (eqb_commutes l n)
     ∙ sym (has_more front n l))
 
 differ : (n l : ℕ) → (n ≡ l → ⊥) → eqb n l ≡ false

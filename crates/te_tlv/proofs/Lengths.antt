@@ -2,7 +2,7 @@
 use Rattle.std.proofs.Common.{◌≡◌, ◌≤◌, ℕ, ◌+◌, ◌-◌, ◌*◌, ◌==◌, false, zero, suc, List, [], ◌∷◌, ◌++◌, length, refl, ap}
 use Rattle.std.proofs.Common.{sym, ◌∙◌, arith, length-append, append_assoc, replicate, take}
 use Rattle.std.proofs.Math.Seq.{take-length}
-use Rattle.std.proofs.lemmas.List.{append-nil}
+use Rattle.std.proofs.lemmas.List.{append-nil, length-replicate}
 use Rattle.std.specs.List.{flat_map}
 use Rattle.byteorder.specs.Endian.{big_bytes}
 use Rattle.ason_base.specs.declared.ids.NodeId.{NodeId}
@@ -10,10 +10,6 @@ use Rattle.ason_base.specs.declared.network.TeRow.{TeRow}
 use Rattle.wire_buf.specs.Tlvs.{padded}
 use Rattle.wire_buf.proofs.Numbers.{numbers-length}
 use Rattle.te_tlv.specs.Written.{sub_tlv, srlgs_tlv, link_body, peer_of}
-
-zeros-length : (n : ℕ) → length {A = ℕ} (replicate n 0) ≡ n
-zeros-length zero = refl
-zeros-length (suc n) = ap suc (zeros-length n)
 
 padded_least : (n : ℕ) → n ≤ padded n
 padded_least n = omega arith
@@ -23,7 +19,7 @@ unfolding sub_tlv
 length-sub_tlv kind value =
     let least : length value ≤ padded (length value) = padded_least (length value) in
     let zeros : length {A = ℕ} (replicate (padded (length value) - length value) 0) ≡ padded (length value)
-    - length value = zeros-length (padded (length value) - length value) in
+    - length value = length-replicate (padded (length value) - length value) 0 in
     let rest : length (value ++ replicate (padded (length value) - length value) 0) ≡ length value + length
     (replicate (padded (length value) - length value) 0) =
     length-append value (replicate (padded (length value) - length value) 0) in

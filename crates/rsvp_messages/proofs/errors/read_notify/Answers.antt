@@ -1,18 +1,19 @@
 use Rattle.std.proofs.Common.{rules}
-use Rattle.rsvp_messages.proofs.Subjects.{none_is, no_link, notify_is, only_notify}
+use Rattle.std.proofs.lemmas.Option.{none-some}
+use Rattle.rsvp_messages.proofs.Subjects.{no_link, notify_is, only_notify}
 use Rattle.rsvp_messages.proofs.errors.read_notify.Goals as goal
 
 pub returns-in_err-subject : goal.returns-in_err-subject
 returns-in_err-subject c = record {
   found = search rules;
-  only = only_notify _ _ (λ l e x k n h g. absurd (none_is _
+  only = only_notify _ _ (λ l e x k n h g. absurd (none-some _
       (c.in_err-subject.ensures.only (record { lsp = l; egress = e }) n)));
 }
 
 pub returns-in_err-error : goal.returns-in_err-error
 returns-in_err-error c = record {
   found = search rules;
-  only = only_notify _ _ (λ l e x k n h g. absurd (none_is _ (c.in_err-error.ensures.only x h)));
+  only = only_notify _ _ (λ l e x k n h g. absurd (none-some _ (c.in_err-error.ensures.only x h)));
 }
 
 pub returns-in_err-link : goal.returns-in_err-link

@@ -1,7 +1,7 @@
 use Rattle.std.proofs.Common.{rules}
+use Rattle.std.proofs.lemmas.Option.{none-some}
 use Rattle.rsvp_objects.specs.Bodies.{IsMsgId}
 use Rattle.rsvp_messages.proofs.Eaches.{breaks, takes}
-use Rattle.rsvp_messages.proofs.Subjects.{none_is}
 use Rattle.rsvp_messages.proofs.ids.all_acks.Goals as goal
 
 pub returns-then-object-ne-NUMBER : goal.returns-then-object-ne-NUMBER
@@ -17,7 +17,7 @@ returns-in_default c = record {
   found = search rules;
   only = search rules;
   not_message = λ e. breaks 24 1 IsMsgId c.args.objects.now c.objects.object-index _ c.objects-test.true
-      c.if-object-ne-MESSAGE_ID_ACK.false (λ x t m. none_is x (c.in_default.ensures.only x m));
+      c.if-object-ne-MESSAGE_ID_ACK.false (λ x t m. none-some x (c.in_default.ensures.only x m));
 }
 
 pub objects-preserved : goal.objects-preserved

@@ -1,15 +1,18 @@
 use Rattle.std.proofs.Common.{rules}
+use Rattle.std.proofs.lemmas.Option.{none-some}
 use Rattle.rsvp_messages.proofs.Paths.{head_is}
-use Rattle.rsvp_messages.proofs.Subjects.{none_is}
 use Rattle.rsvp_messages.proofs.path.read_head.Goals as goal
 
 pub returns-in_err-subject : goal.returns-in_err-subject
 returns-in_err-subject c =
-    record { found = search rules; only = λ x h. absurd (none_is _ (c.in_err-subject.ensures.only x.subject h.names)) }
+    record {
+      found = search rules;
+      only = λ x h. absurd (none-some _ (c.in_err-subject.ensures.only x.subject h.names));
+    }
 
 pub returns-in_err-link : goal.returns-in_err-link
 returns-in_err-link c =
-    record { found = search rules; only = λ x h. absurd (none_is _ (c.in_err-link.ensures.only x.link h.comes)) }
+    record { found = search rules; only = λ x h. absurd (none-some _ (c.in_err-link.ensures.only x.link h.comes)) }
 
 pub returns : goal.returns
 returns c = record {

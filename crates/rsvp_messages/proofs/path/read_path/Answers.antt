@@ -1,7 +1,7 @@
 use Rattle.std.proofs.Common.{rules, ◌≡◌}
+use Rattle.std.proofs.lemmas.Option.{none-some}
 use Rattle.rsvp_messages.specs.Seen.{all_seen}
 use Rattle.rsvp_messages.proofs.Paths.{only_path, passed, path_is}
-use Rattle.rsvp_messages.proofs.Subjects.{none_is}
 use Rattle.rsvp_messages.proofs.path.read_path.Goals as goal
 
 pub returns-in_default : goal.returns-in_default
@@ -9,7 +9,7 @@ returns-in_default c = record {
   found = search rules;
   only = search rules;
   not_message = λ e. only_path (all_seen c.args.objects.now) (λ m. ⊥)
-      (λ l e k r s u p h. none_is _ (c.in_default.ensures.only
+      (λ l e k r s u p h. none-some _ (c.in_default.ensures.only
       (record { subject = record { lsp = l; egress = e }; link = k; upstream = u }) h.head));
 }
 

@@ -1,7 +1,7 @@
 use Rattle.std.proofs.Common.{rules, ◌≡◌}
+use Rattle.std.proofs.lemmas.Option.{none-some}
 use Rattle.rsvp_messages.specs.Seen.{all_seen}
 use Rattle.rsvp_messages.proofs.Paths.{found_back, no_role, only_back, back_is, passed}
-use Rattle.rsvp_messages.proofs.Subjects.{none_is}
 use Rattle.rsvp_messages.proofs.roles.role.Goals as goal
 
 pub returns-in_default : goal.returns-in_default
@@ -10,7 +10,7 @@ returns-in_default c = record {
   only = search rules;
   not_message = λ e. only_back (all_seen c.args.objects.now) (λ r. ⊥) c.in-Some-Back.active
       (found_back (all_seen c.args.objects.now) c.in-Some-Back.field-0 c.in-Some-Back.active c.in-Some-Back.ensures.only
-      c.in-Some-Back.field-0-is) (λ work primary tie route. none_is work (c.in_default.ensures.only work tie));
+      c.in-Some-Back.field-0-is) (λ work primary tie route. none-some work (c.in_default.ensures.only work tie));
 }
 
 pub returns-in_err-primary : goal.returns-in_err-primary
@@ -37,5 +37,5 @@ pub returns-in-None : goal.returns-in-None
 returns-in-None c = record {
   found = search rules;
   only = search rules;
-  not_message = λ e. no_role (all_seen c.args.objects.now) (λ p has. none_is p (c.in-None.ensures.only p has));
+  not_message = λ e. no_role (all_seen c.args.objects.now) (λ p has. none-some p (c.in-None.ensures.only p has));
 }

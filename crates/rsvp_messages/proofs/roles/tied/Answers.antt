@@ -1,14 +1,14 @@
 use Rattle.std.proofs.Common.{rules}
+use Rattle.std.proofs.lemmas.Option.{none-some}
 use Rattle.rsvp_messages.proofs.Lookups.{means_here}
 use Rattle.rsvp_messages.proofs.Paths.{ties, tie_is, no_tie}
-use Rattle.rsvp_messages.proofs.Subjects.{none_is}
 use Rattle.rsvp_messages.proofs.roles.tied.Goals as goal
 
 pub returns-in_err-association : goal.returns-in_err-association
 returns-in_err-association c = record {
   found = search rules;
   only = λ work has. let t = means_here _ _ _ _ _ c.in_ok-body.ensures.found has in
-      absurd (none_is _ (c.in_err-association.ensures.only (record { kind = 1; id = work; source = t.0 }) t.1));
+      absurd (none-some _ (c.in_err-association.ensures.only (record { kind = 1; id = work; source = t.0 }) t.1));
 }
 
 pub returns-then-association-eq-RECOVERY : goal.returns-then-association-eq-RECOVERY

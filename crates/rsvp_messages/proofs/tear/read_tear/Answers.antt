@@ -1,18 +1,19 @@
 use Rattle.std.proofs.Common.{rules}
-use Rattle.rsvp_messages.proofs.Subjects.{none_is, only_tear, tear_is}
+use Rattle.std.proofs.lemmas.Option.{none-some}
+use Rattle.rsvp_messages.proofs.Subjects.{only_tear, tear_is}
 use Rattle.rsvp_messages.proofs.tear.read_tear.Goals as goal
 
 pub returns-in_err-subject : goal.returns-in_err-subject
 returns-in_err-subject c = record {
   found = search rules;
-  only = only_tear _ _ (λ l e k n h. absurd (none_is _
+  only = only_tear _ _ (λ l e k n h. absurd (none-some _
       (c.in_err-subject.ensures.only (record { lsp = l; egress = e }) n)));
 }
 
 pub returns-in_err-link : goal.returns-in_err-link
 returns-in_err-link c = record {
   found = search rules;
-  only = only_tear _ _ (λ l e k n h. absurd (none_is _ (c.in_err-link.ensures.only k h)));
+  only = only_tear _ _ (λ l e k n h. absurd (none-some _ (c.in_err-link.ensures.only k h)));
 }
 
 pub returns : goal.returns
