@@ -88,12 +88,8 @@ protection_of (Back active work primary) = bits.Back active
 abbrev pub role_objects : Lsp → PathRole → List Object
 role_objects lsp (Work guard) = []
 role_objects lsp (Back active work primary) =
-    made 199 1 (association_bytes (record {
-      kind =
-          1;
-      id = work;
-      source = lsp.ingress.0;
-    })) ∷ made 38 1 (route_bytes primary) ∷ []
+    made 199 1 (association_bytes (record { kind = 1; id = work; source = lsp.ingress.0 }))
+    ∷ made 38 1 (route_bytes primary) ∷ []
 
 abbrev pub upstream_objects : Option ℕ → List Object
 upstream_objects None = []
@@ -135,11 +131,11 @@ notify_objects lsp egress at link code =
 
 abbrev pub msg_objects : NodeId → Msg → List Object
 msg_objects sender (Path lsp egress link route set upstream role) =
-    path_head sender lsp egress link ++ (route_objects route ++
-    (request_objects set role ++ (role_objects lsp role ++ path_end lsp upstream)))
+    path_head sender lsp egress link
+    ++ (route_objects route ++ (request_objects set role ++ (role_objects lsp role ++ path_end lsp upstream)))
 msg_objects sender (Resv lsp egress link label) =
-    session_object lsp egress ∷ hop_object sender link ∷ time_values ∷ style ∷ flowspec ∷ sender_object 10 lsp ∷ made 16
-    2 (label_bytes label) ∷ []
+    session_object lsp egress ∷ hop_object sender link ∷ time_values ∷ style ∷ flowspec ∷ sender_object 10 lsp
+    ∷ made 16 2 (label_bytes label) ∷ []
 msg_objects sender (PathTear lsp egress link) =
     session_object lsp egress ∷ hop_object sender link ∷ sender_object 11 lsp ∷ []
 msg_objects sender (PathErr lsp egress at removed code) = path_err_objects lsp egress at removed code

@@ -19,12 +19,8 @@ node_at place body = record { 0 = number_at place 4 body }
 -- SESSION, LSP tunnel (RFC 3209, section 4.6.1.1): endpoint, two bytes, tunnel, extended tunnel
 abbrev pub IsSession : List ℕ → Session → Type 0
 IsSession body s =
-    (length body ≡ 12) × (s ≡ record {
-      endpoint = node_at 0 body;
-      tunnel = number_at 6 2 body;
-      extended = number_at 8 4
-          body;
-    })
+    (length body ≡ 12)
+    × (s ≡ record { endpoint = node_at 0 body; tunnel = number_at 6 2 body; extended = number_at 8 4 body })
 
 abbrev pub session_bytes : Session → List ℕ
 session_bytes s = big_bytes 4 s.endpoint.0 ++ big_bytes 2 0 ++ big_bytes 2 s.tunnel ++ big_bytes 4 s.extended
@@ -69,14 +65,12 @@ hop_bytes h = big_bytes 4 h.sender.0 ++ big_bytes 4 0 ++ if_index_bytes h.sender
 
 -- ERROR_SPEC (RFC 2205, appendix A.5): node, flags, code, value
 abbrev pub spec_at : List ℕ → Option LinkId → ErrorSpec
-spec_at body link =
-    record {
-      node = node_at 0 body;
-      flags = number_at 4 1
-          body;
-      code = record { code = number_at 5 1 body; value = number_at 6 2 body };
-      link = link;
-    }
+spec_at body link = record {
+  node = node_at 0 body;
+  flags = number_at 4 1 body;
+  code = record { code = number_at 5 1 body; value = number_at 6 2 body };
+  link = link;
+}
 
 abbrev pub IsErrorIpv4 : List ℕ → ErrorSpec → Type 0
 IsErrorIpv4 body e = (length body ≡ 8) × (e ≡ spec_at body None)

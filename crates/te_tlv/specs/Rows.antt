@@ -38,7 +38,7 @@ HasLink subs link =
     (value : List ℕ) × IsOnly IDENTIFIERS subs value × (length value ≡ 8) × (link ≡ big_number 4 value)
     × (link ≡ big_number 4 (drop 4 value))
 
--- The SRLGs of a value: the same numbers, each once, rising, and not too many.
+-- The SRLGs of a value: the same numbers, each once, rising. There are at most 16.
 pub record AreSrlgs (value : List ℕ) (srlgs : List ℕ) : Type 0 where
   pub whole : length value % 4 ≡ 0
   pub rising : IsStrictlyIncreasing srlgs

@@ -14,13 +14,14 @@ IsStep bytes s =
     (length bytes ≡ STEP) × (number_at 0 1 bytes ≡ STRICT_UNNUMBERED) × (number_at 1 1 bytes ≡ STEP)
     × (s ≡ record { node = record { 0 = number_at 4 4 bytes }; link = record { 0 = number_at 8 4 bytes } })
 
--- steps one after the other, to the end
+-- the bytes begin with this step
 abbrev pub BeginsStep : List ℕ → Step → Type 0
 BeginsStep bytes s = IsStep (take STEP bytes) s
 
 abbrev pub step_size : Step → ℕ
 step_size s = STEP
 
+-- steps one after the other, to the end
 abbrev pub AreSteps : List ℕ → List Step → Type 0
 AreSteps bytes steps = AreItems BeginsStep step_size bytes steps
 
