@@ -244,7 +244,6 @@ class ToolTest(unittest.TestCase):
         cases = [
             (["--labels", "81"], "plan-from: --labels is 1 to 80\n"),
             (["--per", "0"], "plan-from: --per is a number above 0\n"),
-            (["--no-convert"], "plan-from: this version of ason doesn't run nodes that convert no wavelengths\n"),
             (["--routes", "found"], "plan-from: this version of ason doesn't run setups without a route\n"),
         ]
         for words, sentence in cases:

@@ -5,9 +5,6 @@ from .errors import ToolError
 FINDS_ROUTES = False
 """Whether a setup may leave its route to the program."""
 
-RUNS_WITHOUT_CONVERSION = False
-"""Whether a node may be without `convert = true`."""
-
 
 def need(is_built: bool, form: str) -> None:
     """Refuses a form that the program doesn't build."""

@@ -143,8 +143,6 @@ def _value_fault(top: Placed, row: Placed, word: str, number: int, refused: Refu
         return _wrong_count(row, entry)
     if refused.kind == "ends":
         return "ends", _ends(top, row, entry)
-    if word == "node":
-        return "convert", f"{entry} has no `convert = true`, and this version runs only nodes that convert wavelengths"
     return "srlg", f"{entry} has SRLGs, which this version doesn't run"
 
 

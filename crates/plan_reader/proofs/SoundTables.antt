@@ -8,7 +8,7 @@ use Rattle.ason_base.specs.Network.{IsTopology, is_distinct, is_link, is_link_he
 use Rattle.ason_base.specs.declared.ids.NodeId.{NodeId}
 use Rattle.ason_base.specs.declared.network.LinkSpec.{LinkSpec}
 use Rattle.ason_base.specs.declared.network.NodeSpec.{NodeSpec}
-use Rattle.plan_reader.specs.PlanTables.{are_srlgs_within, elements_at, end_ids, end_name, ends_of, fault_at, has_link_counts, has_link_kinds, has_node_kinds, has_strange, has_top_counts, id_in, id_number, labels_in, lacks, lacks_link_key, link_kind, link_of, links_fault, metric_in, name_of, no_ends, node_kind, node_of, nodes_fault, number_in, number_of, number_or, srlgs_of, is_link_within, converts}
+use Rattle.plan_reader.specs.PlanTables.{are_srlgs_within, elements_at, end_ids, end_name, ends_of, fault_at, has_link_counts, has_link_kinds, has_node_kinds, has_strange, has_top_counts, id_in, id_number, labels_in, lacks, lacks_link_key, link_kind, link_of, links_fault, metric_in, name_of, no_ends, node_kind, node_of, nodes_fault, number_in, number_of, number_or, srlgs_of, is_link_within}
 use Rattle.plan_reader.specs.PlanTexts.{id_at_place, node_named}
 use Rattle.plan_reader.specs.Names.{has_name, is_name, place_of}
 use Rattle.plan_reader.specs.Plans.{links_fault_in, links_in, names_in, network_in, nodes_fault_in, nodes_in}
@@ -33,21 +33,21 @@ shift num last x xs (suc k) h = rw (not_zero (suc k), one_less (suc k)) (rw (not
 -- Nodes
 
 node_tests :
-    (strange lacking kind name id order twice converting : Bool)
-    → cond strange (Some kinds.Key) (cond lacking (Some kinds.Missing) (cond (not kind) (Some kinds.Kind) (cond (not name) (Some kinds.Name) (cond id (Some kinds.Range) (cond (not order) (Some kinds.Order) (cond twice (Some kinds.Twice) (cond (not converting) (Some kinds.Unbuilt) None))))))) ≡ None
+    (strange lacking kind name id order twice : Bool)
+    → cond strange (Some kinds.Key) (cond lacking (Some kinds.Missing) (cond (not kind) (Some kinds.Kind) (cond (not name) (Some kinds.Name) (cond id (Some kinds.Range) (cond (not order) (Some kinds.Order) (cond twice (Some kinds.Twice) None)))))) ≡ None
     → order ≡ true
-node_tests true lacking kind name id order twice converting h = absurd (cc (h))
-node_tests false true kind name id order twice converting h = absurd (cc (h))
-node_tests false false false name id order twice converting h = absurd (cc (h))
-node_tests false false true false id order twice converting h = absurd (cc (h))
-node_tests false false true true true order twice converting h = absurd (cc (h))
-node_tests false false true true false false twice converting h = absurd (cc (h))
-node_tests false false true true false true twice converting h = refl
+node_tests true lacking kind name id order twice h = absurd (cc (h))
+node_tests false true kind name id order twice h = absurd (cc (h))
+node_tests false false false name id order twice h = absurd (cc (h))
+node_tests false false true false id order twice h = absurd (cc (h))
+node_tests false false true true true order twice h = absurd (cc (h))
+node_tests false false true true false false twice h = absurd (cc (h))
+node_tests false false true true false true twice h = refl
 
 nodes_rise : (n last : ℕ) (names : List (List ℕ)) (ds : List Data) → nodes_fault n last names ds ≡ None → (k : ℕ) → k < length (map node_of ds) → nat_lt (cond (k == 0) last (node_number (slice_get (map node_of ds) (k - 1)))) (node_number (slice_get (map node_of ds) k)) ≡ true
 nodes_rise n last names [] h k below = absurd (omega arith)
 nodes_rise n last names (d ∷ ds) h zero below =
-    node_tests (has_strange OfNode d) (lacks (codes "name") d || lacks (codes "id") d) (has_node_kinds d) (is_name (name_of d)) (is_none (id_in d)) (nat_lt last (id_number d)) (has_name names (name_of d)) (converts d) (no_fault_here _ (node_kind last names d) _ h)
+    node_tests (has_strange OfNode d) (lacks (codes "name") d || lacks (codes "id") d) (has_node_kinds d) (is_name (name_of d)) (is_none (id_in d)) (nat_lt last (id_number d)) (has_name names (name_of d)) (no_fault_here _ (node_kind last names d) _ h)
 nodes_rise n last names (d ∷ ds) h (suc k) below =
     shift node_number last (node_of d) (map node_of ds) k (nodes_rise (n + 1) (id_number d) (names ++ name_of d ∷ []) ds (no_fault_later (fault_at _ (node_kind last names d)) _ h) k (omega arith))
 

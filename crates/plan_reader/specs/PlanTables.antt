@@ -204,7 +204,6 @@ node_value_kind last names d =
     else if is_none (id_in d) then Some kinds.Range
     else if not (nat_lt last (id_number d)) then Some kinds.Order
     else if has_name names (name_of d) then Some kinds.Twice
-    else if not (converts d) then Some kinds.Unbuilt
     else None
 
 -- the first fault of a node after nodes of which the last has this id and which have these names

@@ -80,9 +80,6 @@ fn value_kind(value: &Value, last: u32, names: &Names) -> Option<PlanKind>
     if names.has(name(value)) {
         return Some(PlanKind::Twice);
     }
-    if !converts(value) {
-        return Some(PlanKind::Unbuilt);
-    }
     None
 }
 
