@@ -15,38 +15,78 @@ use Rattle.message_text.specs.Hex.{hex_bytes}
 use Rattle.message_text.specs.LinesLeft.{lines_left}
 
 pub no_newline : (bytes : List ℕ) → position (λ c. c == 10) bytes ≡ None → lines_of bytes ≡ bytes ∷ []
-no_newline bytes none = slice_split_none (λ c. c == 10) bytes (All-from_get_or (λ x. (x == 10) ≡ false) bytes 0 (λ i within. fails_before_first (λ c. c == 10) bytes i 0 (before (position_or_len (λ c. c == 10) bytes) (length bytes) i within none))) where
-  before : (place len i : ℕ) → i < len → cond (ltb place len) (Some place) None ≡ None → i < place
-  before place len i within e = elim (ltb place len) as (λ b. ltb place len ≡ b → cond b (Some place) None ≡ None → i < place) [ true ↦ λ t f. absurd cc | false ↦ λ t f. let past = ltb-false _ _ t in omega arith ] refl e
+no_newline bytes none =
+    let first = position_or_len newline bytes in
+    slice_split_none newline bytes
+    (All-from_get_or (λ x. (x == 10) ≡ false) bytes 0
+    (λ i within. fails_before_first newline bytes i 0 (before first (length bytes) i within none)))
+  where
+    newline : ℕ → Bool
+    newline c = c == 10
 
-splits : (bytes : List ℕ) (end : ℕ) → end < length bytes → (get_or bytes end 0 == 10) ≡ true → bytes ≡ take end bytes ++ 10 ∷ drop (end + 1) bytes
+    before : (place len i : ℕ) → i < len → cond (ltb place len) (Some place) None ≡ None → i < place
+    before place len i within e = go (ltb place len) refl e
+      where
+        go : (b : Bool) → ltb place len ≡ b → cond b (Some place) None ≡ None → i < place
+        go true t f = absurd cc
+        go false t f = let past = ltb-false _ _ t in omega arith
+
+splits :
+    (bytes : List ℕ) (end : ℕ) → end < length bytes → (get_or bytes end 0 == 10) ≡ true
+    → bytes ≡ take end bytes ++ 10 ∷ drop (end + 1) bytes
 splits bytes end within here =
     let newline : get_or bytes end 0 ≡ 10 = grind arith in
-    split_at bytes end 0 within ∙ (λ i. take end bytes ++ newline i ∷ drop (suc end) bytes) ∙ (let e : suc end ≡ end + 1 = omega arith in ap (λ (n : ℕ). take end bytes ++ 10 ∷ drop n bytes) e)
+    let e : suc end ≡ end + 1 = omega arith in
+    split_at bytes end 0 within ∙ (λ i. take end bytes ++ newline i ∷ drop (suc end) bytes)
+    ∙ ap (λ (n : ℕ). take end bytes ++ 10 ∷ drop n bytes) e
 
-front_is : (bytes : List ℕ) (end : ℕ) → end < length bytes → ((k : ℕ) → k < end → (get_or bytes k 0 == 10) ≡ false) → All (λ x. (x == 10) ≡ false) (take end bytes)
+front_is :
+    (bytes : List ℕ) (end : ℕ) → end < length bytes → ((k : ℕ) → k < end → (get_or bytes k 0 == 10) ≡ false)
+    → All (λ x. (x == 10) ≡ false) (take end bytes)
 front_is bytes end within none =
-    All-from_get_or (λ x. (x == 10) ≡ false) (take end bytes) 0 (λ i lt. let low : i < end = omega (arith, lt, length-take end bytes) in ap (λ (x : ℕ). x == 10) (get_or-take end bytes i 0 low) ∙ none i low)
+    All-from_get_or (λ x. (x == 10) ≡ false) (take end bytes) 0
+    (λ i lt.
+    let low : i < end = omega (arith, lt, length-take end bytes) in
+    ap (λ (x : ℕ). x == 10) (get_or-take end bytes i 0 low) ∙ none i low)
 
-pub to_newline : (bytes : List ℕ) (end : ℕ) → position (λ c. c == 10) bytes ≡ Some end → lines_of bytes ≡ take end bytes ∷ lines_of (drop (end + 1) bytes)
+pub to_newline :
+    (bytes : List ℕ) (end : ℕ) → position (λ c. c == 10) bytes ≡ Some end
+    → lines_of bytes ≡ take end bytes ∷ lines_of (drop (end + 1) bytes)
 to_newline bytes end some =
     let found = position-Some (λ c. c == 10) bytes end 0 some in
-    ap lines_of (splits bytes end found.0 found.1) ∙ slice_split_at (λ c. c == 10) (take end bytes) 10 (drop (end + 1) bytes) (front_is bytes end found.0 found.2) refl
+    let front = front_is bytes end found.0 found.2 in
+    ap lines_of (splits bytes end found.0 found.1)
+    ∙ slice_split_at (λ c. c == 10) (take end bytes) 10 (drop (end + 1) bytes) front refl
 
 pub not_none : (len count : ℕ) (b : Bool) → count ≡ len → b ≡ (len == 0) → b ≡ false → (count == 0) ≡ false
 not_none len count b e is test = ap (λ (n : ℕ). n == 0) e ∙ sym is ∙ test
 
 -- a slice to the end
-pub to_the_end : (bytes : List ℕ) (end : ℕ) → take end bytes ∷ lines_of (drop (end + 1) bytes) ≡ take end bytes ∷ lines_of (take (length bytes - (end + 1)) (drop (end + 1) bytes))
-to_the_end bytes end = ap (λ (l : List ℕ). take end bytes ∷ lines_of l) (sym (take_all (length bytes - (end + 1)) (drop (end + 1) bytes) (omega (arith, length-drop (end + 1) bytes))))
+pub to_the_end :
+    (bytes : List ℕ) (end : ℕ)
+    → take end bytes ∷ lines_of (drop (end + 1) bytes)
+    ≡ take end bytes ∷ lines_of (take (length bytes - (end + 1)) (drop (end + 1) bytes))
+to_the_end bytes end =
+    let behind = drop (end + 1) bytes in
+    let all = take_all (length bytes - (end + 1)) behind (omega (arith, length-drop (end + 1) bytes)) in
+    ap (λ (l : List ℕ). take end bytes ∷ lines_of l) (sym all)
 
 -- the texts so far, and those of the lines left
-pub next_line : (bytes old new t line : List ℕ) (rest : Option (Bor (List ℕ))) (all : List (List ℕ)) → all ≡ line ∷ lines_left rest → IsBytesText (hex_bytes line) t → new ≡ old ++ t →
-    ((others : List ℕ) → AreTexts all others → AreTexts (lines_of bytes) (old ++ others)) → (others : List ℕ) → AreTexts (lines_left rest) others → AreTexts (lines_of bytes) (new ++ others)
+pub next_line :
+    (bytes old new t line : List ℕ) (rest : Option (Bor (List ℕ))) (all : List (List ℕ)) → all ≡ line ∷ lines_left rest
+    → IsBytesText (hex_bytes line) t → new ≡ old ++ t
+    → ((others : List ℕ) → AreTexts all others → AreTexts (lines_of bytes) (old ++ others))
+    → (others : List ℕ) → AreTexts (lines_left rest) others → AreTexts (lines_of bytes) (new ++ others)
 next_line bytes old new t line rest all is text appended so_far others are =
-    subst (AreTexts (lines_of bytes)) (sym (append_assoc old t others) ∙ ap (λ (l : List ℕ). l ++ others) (sym appended))
-    (so_far (t ++ others) (subst (λ (ls : List (List ℕ)). AreTexts ls (t ++ others)) (sym is) (t, others, text, are, refl)))
+    let here = subst (λ (ls : List (List ℕ)). AreTexts ls (t ++ others)) (sym is) (t, others, text, are, refl) in
+    subst (AreTexts (lines_of bytes))
+    (sym (append_assoc old t others) ∙ ap (λ (l : List ℕ). l ++ others) (sym appended))
+    (so_far (t ++ others) here)
 
-pub all_printed : (bytes text out : List ℕ) (left : Option (Bor (List ℕ))) → left ≡ None → ((others : List ℕ) → AreTexts (lines_left left) others → AreTexts (lines_of bytes) (text ++ others)) → out ≡ text → AreTexts (lines_of bytes) out
-all_printed bytes text out None none so_far is = subst (AreTexts (lines_of bytes)) (append-nil text ∙ sym is) (so_far [] refl)
+pub all_printed :
+    (bytes text out : List ℕ) (left : Option (Bor (List ℕ))) → left ≡ None
+    → ((others : List ℕ) → AreTexts (lines_left left) others → AreTexts (lines_of bytes) (text ++ others)) → out ≡ text
+    → AreTexts (lines_of bytes) out
+all_printed bytes text out None none so_far is =
+    subst (AreTexts (lines_of bytes)) (append-nil text ∙ sym is) (so_far [] refl)
 all_printed bytes text out (Some b) none so_far is = absurd cc

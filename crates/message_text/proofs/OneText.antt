@@ -3,17 +3,16 @@ use Rattle.std.proofs.Common.{◌≡◌, ℕ, ◌==◌, Result, Ok, Err, OnOk, O
 use Rattle.std.specs.Global.{Global}
 use Rattle.std.specs.Prelude.{String, string_bytes}
 use Rattle.std.proofs.lemmas.List.{append-nil}
-use Rattle.std.specs.List.{flat_map}
 use Rattle.std.specs.Borrow.{Bor}
 use Rattle.ason_base.specs.declared.messages.Packet.{Packet}
 use Rattle.rsvp_messages.specs.declared.lines.ObjectLine.{ObjectLine}
 use Rattle.rsvp_messages.specs.Lines.{line_of}
 use Rattle.rsvp_messages.specs.Objects.{Object}
 use Rattle.rsvp_messages.specs.Packets.{SpelledBy, Spells}
-use Rattle.message_text.specs.DecodeText.{AreTexts, IsBytesText, IsMessageText, head_text, message_text, object_text}
+use Rattle.message_text.specs.DecodeText.{AreTexts, IsBytesText, IsMessageText, message_text, packet_text}
 use Rattle.message_text.specs.Hex.{hex_bytes}
 use Rattle.message_text.specs.LinesLeft.{lines_left}
-use Rattle.message_text.specs.OneText.{AppendsOne, IsOne}
+use Rattle.message_text.specs.OneText.{Appends, AppendsOne, IsOne}
 
 pub is_one : (Is : List ℕ → Type 0) (text other : List ℕ) → other ≡ text → IsOne Is text → IsOne Is other
 is_one Is text other e one = subst (IsOne Is) (sym e) one
@@ -32,7 +31,7 @@ one_packet bytes p os spelled one same = record { is = inl (os, p, spelled, refl
     only other (inl told) =
         let packet = one told.1 (told.0, told.2) in
         let lines = same told.0 told.1 told.2 in
-        told.3 ∙ sym (λ i. head_text (packet i) ++ flat_map object_text (lines i))
+        told.3 ∙ sym (λ i. packet_text (packet i) (lines i))
     only other (inr none) = absurd (none.0 os p spelled)
 
 -- the text of bytes that spell none
@@ -48,7 +47,7 @@ pub packet_told : {T E : Type 0} (r : Result T E) (bytes : List ℕ) (old new : 
     (lines shown : List ObjectLine) →
     Spells bytes p → ((q : Packet) → Spells bytes q → p ≡ q) →
     ((os : List Object) (q : Packet) → SpelledBy bytes os q → lines ≡ map (line_of q.body) os) → shown ≡ lines →
-    OnOk r (string_bytes new ≡ string_bytes old ++ (head_text p ++ flat_map object_text shown)) →
+    OnOk r (Appends old new (packet_text p shown)) →
     OnOk r (AppendsOne (IsMessageText bytes) old new)
 packet_told (Err e) bytes old new p lines shown found one listed same printed = tt
 packet_told (Ok x) bytes old new p lines shown found one listed same printed =
@@ -61,8 +60,8 @@ packet_told (Ok x) bytes old new p lines shown found one listed same printed =
         map (line_of p.body) found.0 ≡ map (line_of q.body) others
     same_lines others q is = sym (listed found.0 p found.1) ∙ listed others q is
 
-    text : string_bytes old ++ (head_text p ++ flat_map object_text shown) ≡ string_bytes old ++ message_text found.0 p
-    text = ap (λ (l : List ObjectLine). string_bytes old ++ (head_text p ++ flat_map object_text l)) (same ∙ here)
+    text : string_bytes old ++ packet_text p shown ≡ string_bytes old ++ message_text found.0 p
+    text = ap (λ (l : List ObjectLine). string_bytes old ++ packet_text p l) (same ∙ here)
 
 -- Lines
 
@@ -87,7 +86,7 @@ nothing_told o text is =
 
 -- a line of another form
 pub not_hex_told : (o : Option (List ℕ)) (old new : String Global) → None ≡ o →
-    string_bytes new ≡ string_bytes old ++ codes "not hex\n" → AppendsOne (IsBytesText o) old new
+    Appends old new (codes "not hex\n") → AppendsOne (IsBytesText o) old new
 not_hex_told o old new is printed =
     subst (λ (q : Option (List ℕ)). AppendsOne (IsBytesText q) old new) is
     (codes "not hex\n", record { is = refl; only = λ other e. e }, printed)

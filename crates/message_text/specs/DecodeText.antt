@@ -49,7 +49,8 @@ subject_of (Notify lsp egress at link code) = (lsp, egress)
 -- ` lsp INGRESS.TUNNEL.LSP egress E`, all in decimal
 abbrev pub lsp_and_egress : Lsp × NodeId → List ℕ
 lsp_and_egress s =
-    codes " lsp " ++ decimal s.0.ingress.0 ++ codes "." ++ decimal s.0.tunnel ++ codes "." ++ decimal s.0.lsp ++ codes " egress " ++ decimal s.1.0
+    codes " lsp " ++ decimal s.0.ingress.0 ++ codes "." ++ decimal s.0.tunnel ++ codes "." ++ decimal s.0.lsp
+    ++ codes " egress " ++ decimal s.1.0
 
 abbrev pub subject_text : Option Msg → List ℕ
 subject_text None = codes " lsp - egress -"
@@ -58,7 +59,8 @@ subject_text (Some m) = lsp_and_egress (subject_of m)
 -- `TYPE id ID acks ACKS lsp LSP egress E`
 abbrev pub head_text : Packet → List ℕ
 head_text p =
-    type_word p.body ++ codes " id " ++ id_text p.id ++ codes " acks " ++ acks_text p.acks ++ subject_text p.body ++ codes "\n"
+    type_word p.body ++ codes " id " ++ id_text p.id ++ codes " acks " ++ acks_text p.acks ++ subject_text p.body
+    ++ codes "\n"
 
 abbrev pub fate_word : Fate → List ℕ
 fate_word Read = codes "read"
@@ -68,11 +70,16 @@ fate_word Ignored = codes "ignored"
 -- ` CLASS/CTYPE LENGTH FATE`
 abbrev pub object_text : ObjectLine → List ℕ
 object_text o =
-    codes " " ++ decimal o.class ++ codes "/" ++ decimal o.ctype ++ codes " " ++ decimal o.length ++ codes " " ++ fate_word o.fate ++ codes "\n"
+    codes " " ++ decimal o.class ++ codes "/" ++ decimal o.ctype ++ codes " " ++ decimal o.length
+    ++ codes " " ++ fate_word o.fate ++ codes "\n"
+
+-- the head of a message, and a line for each of these objects
+abbrev pub packet_text : Packet → List ObjectLine → List ℕ
+packet_text p lines = head_text p ++ flat_map object_text lines
 
 -- the head of a message, and a line for each of its objects
 abbrev pub message_text : List Object → Packet → List ℕ
-message_text os p = head_text p ++ flat_map object_text (map (line_of p.body) os)
+message_text os p = packet_text p (map (line_of p.body) os)
 
 -- What is printed of the bytes of a line.
 abbrev pub IsMessageText : List ℕ → List ℕ → Type 0
@@ -89,7 +96,8 @@ IsBytesText (Some (b ∷ bytes)) text = IsMessageText (b ∷ bytes) text
 -- what is printed of each of these lines
 abbrev pub AreTexts : List (List ℕ) → List ℕ → Type 0
 AreTexts [] text = text ≡ []
-AreTexts (line ∷ lines) text = (first others : List ℕ) × IsBytesText (hex_bytes line) first × AreTexts lines others × (text ≡ first ++ others)
+AreTexts (line ∷ lines) text =
+    (first others : List ℕ) × IsBytesText (hex_bytes line) first × AreTexts lines others × (text ≡ first ++ others)
 
 -- lines end at a newline or at the end
 abbrev pub lines_of : List ℕ → List (List ℕ)

@@ -16,9 +16,10 @@ byte_of (Some high) (Some low) others = option_map (λ bytes. (16 * high + low) 
 byte_of (Some high) None others = None
 byte_of None low others = None
 
--- The bytes of a line: two digits each, with spaces anywhere between bytes, before the first and behind the last. None where
--- the line is of another form.
+-- The bytes of a line: two digits each, with spaces anywhere between bytes, before the first and behind the last. None
+-- where the line is of another form.
 abbrev pub hex_bytes : List ℕ → Option (List ℕ)
 hex_bytes [] = Some []
 hex_bytes (c ∷ []) = if c == 32 then Some [] else None
-hex_bytes (c ∷ d ∷ cs) = if c == 32 then hex_bytes (d ∷ cs) else byte_of (digit_value c) (digit_value d) (hex_bytes cs)
+hex_bytes (c ∷ d ∷ cs) =
+    if c == 32 then hex_bytes (d ∷ cs) else byte_of (digit_value c) (digit_value d) (hex_bytes cs)

@@ -7,6 +7,10 @@ pub record IsOne (Is : List ℕ → Type 0) (text : List ℕ) : Type 0 where
   pub is : Is text
   pub only : (other : List ℕ) → Is other → other ≡ text
 
+-- the new text is the old one with this part at its end
+abbrev pub Appends : String Global → String Global → List ℕ → Type 0
+Appends old new part = string_bytes new ≡ string_bytes old ++ part
+
 -- the one text of this kind was appended
 abbrev pub AppendsOne : (List ℕ → Type 0) → String Global → String Global → Type 0
-AppendsOne Is old new = (text : List ℕ) × IsOne Is text × (string_bytes new ≡ string_bytes old ++ text)
+AppendsOne Is old new = (text : List ℕ) × IsOne Is text × Appends old new text

@@ -1,8 +1,9 @@
 //! What is printed of a message.
 
-ghost use Rattle.std.specs.Prelude.{◌≡◌, ◌++◌, string_bytes, OnOk};
+ghost use Rattle.std.specs.Prelude.{◌≡◌, OnOk};
 ghost use Rattle.std.specs.List.{flat_map};
-ghost use Rattle.message_text.specs.DecodeText.{acks_text, fate_word, head_text, id_text, lsp_and_egress, more_text, object_text, subject_text, type_word};
+ghost use Rattle.message_text.specs.DecodeText.{acks_text, fate_word, head_text, id_text, lsp_and_egress, more_text, object_text, packet_text, subject_text, type_word};
+ghost use Rattle.message_text.specs.OneText.{Appends};
 
 use ason_base::{Lsp, Msg, MsgId, NodeId, OutOfMemory, Packet};
 use rsvp_messages::{Fate, ObjectLine};
@@ -21,7 +22,7 @@ fn type_word(body: &Option<Msg>) -> &'static str
 }
 
 fn push_id(text: &mut String, id: Option<MsgId>) -> Result<(), OutOfMemory>
-    ensures { OnOk result (string_bytes text.new ≡ string_bytes text.old ++ id_text id) }
+    ensures { OnOk result (Appends text.old text.new (id_text id)) }
 {
     match id {
         None => text.push_str("-")?,
@@ -32,7 +33,7 @@ fn push_id(text: &mut String, id: Option<MsgId>) -> Result<(), OutOfMemory>
 
 // Each number with a comma in front.
 fn push_more(text: &mut String, acks: &[MsgId]) -> Result<(), OutOfMemory>
-    ensures { OnOk result (string_bytes text.new ≡ string_bytes text.old ++ flat_map more_text acks.now) }
+    ensures { OnOk result (Appends text.old text.new (flat_map more_text acks.now)) }
 {
     for ack in acks {
         write!(text, ",{}", ack.number)?;
@@ -41,7 +42,7 @@ fn push_more(text: &mut String, acks: &[MsgId]) -> Result<(), OutOfMemory>
 }
 
 fn push_acks(text: &mut String, acks: &[MsgId]) -> Result<(), OutOfMemory>
-    ensures { OnOk result (string_bytes text.new ≡ string_bytes text.old ++ acks_text acks.now) }
+    ensures { OnOk result (Appends text.old text.new (acks_text acks.now)) }
 {
     match acks {
         [] => {
@@ -56,7 +57,7 @@ fn push_acks(text: &mut String, acks: &[MsgId]) -> Result<(), OutOfMemory>
 }
 
 fn push_lsp(text: &mut String, lsp: &Lsp, egress: NodeId) -> Result<(), OutOfMemory>
-    ensures { OnOk result (string_bytes text.new ≡ string_bytes text.old ++ lsp_and_egress (lsp.now, egress)) }
+    ensures { OnOk result (Appends text.old text.new (lsp_and_egress (lsp.now, egress))) }
 {
     let ingress = lsp.ingress.0;
     let tunnel = lsp.tunnel;
@@ -67,7 +68,7 @@ fn push_lsp(text: &mut String, lsp: &Lsp, egress: NodeId) -> Result<(), OutOfMem
 }
 
 fn push_subject(text: &mut String, body: &Option<Msg>) -> Result<(), OutOfMemory>
-    ensures { OnOk result (string_bytes text.new ≡ string_bytes text.old ++ subject_text body.now) }
+    ensures { OnOk result (Appends text.old text.new (subject_text body.now)) }
 {
     match body {
         None => {
@@ -85,7 +86,7 @@ fn push_subject(text: &mut String, body: &Option<Msg>) -> Result<(), OutOfMemory
 }
 
 fn push_head(text: &mut String, packet: &Packet) -> Result<(), OutOfMemory>
-    ensures { OnOk result (string_bytes text.new ≡ string_bytes text.old ++ head_text packet.now) }
+    ensures { OnOk result (Appends text.old text.new (head_text packet.now)) }
 {
     text.push_str(type_word(&packet.body))?;
     text.push_str(" id ")?;
@@ -108,7 +109,7 @@ fn fate_word(fate: Fate) -> &'static str
 }
 
 fn push_object(text: &mut String, object: &ObjectLine) -> Result<(), OutOfMemory>
-    ensures { OnOk result (string_bytes text.new ≡ string_bytes text.old ++ object_text object.now) }
+    ensures { OnOk result (Appends text.old text.new (object_text object.now)) }
 {
     let class = object.class;
     let ctype = object.ctype;
@@ -119,7 +120,7 @@ fn push_object(text: &mut String, object: &ObjectLine) -> Result<(), OutOfMemory
 }
 
 fn push_objects(text: &mut String, objects: &[ObjectLine]) -> Result<(), OutOfMemory>
-    ensures { OnOk result (string_bytes text.new ≡ string_bytes text.old ++ flat_map object_text objects.now) }
+    ensures { OnOk result (Appends text.old text.new (flat_map object_text objects.now)) }
 {
     for object in objects {
         push_object(text, object)?;
@@ -133,7 +134,7 @@ pub(crate) fn push_packet(
     packet: &Packet,
     objects: &[ObjectLine],
 ) -> Result<(), OutOfMemory>
-    ensures { OnOk result (string_bytes text.new ≡ string_bytes text.old ++ (head_text packet.now ++ flat_map object_text objects.now)) }
+    ensures { OnOk result (Appends text.old text.new (packet_text packet.now objects.now)) }
 {
     push_head(text, packet)?;
     push_objects(text, objects)

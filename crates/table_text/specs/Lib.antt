@@ -1,2 +1,3 @@
 pub mod FaultText
 pub mod TableText
+pub mod Writers

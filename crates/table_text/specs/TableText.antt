@@ -127,20 +127,31 @@ back_text g =
 -- Lines
 
 abbrev pub head_text : TableRows → List ℕ
-head_text rows = codes "calls " ++ decimal (length rows.calls) ++ codes " legs " ++ decimal (length rows.legs) ++ codes "\n"
+head_text rows =
+    codes "calls " ++ decimal (length rows.calls) ++ codes " legs " ++ decimal (length rows.legs) ++ codes "\n"
+
+-- `call NAME FROM TO STATE`
+abbrev pub call_ends : Plan → CallRow → List ℕ
+call_ends p c =
+    codes "call " ++ call_name p c.call ++ codes " " ++ node_name p c.ingress ++ codes " " ++ node_name p c.egress
+    ++ codes " " ++ state_word c.state
+
+-- ` WORK BACK `
+abbrev pub call_lsps : Plan → CallRow → List ℕ
+call_lsps p c = codes " " ++ lsp_or_dash p c.work ++ codes " " ++ lsp_or_dash p c.back ++ codes " "
 
 -- `call NAME FROM TO STATE WORK BACK CAUSE`
 abbrev pub call_text : Plan → CallRow → List ℕ
-call_text p c =
-    codes "call " ++ call_name p c.call ++ codes " " ++ node_name p c.ingress ++ codes " " ++ node_name p c.egress
-    ++ codes " " ++ state_word c.state ++ codes " " ++ lsp_or_dash p c.work ++ codes " " ++ lsp_or_dash p c.back
-    ++ codes " " ++ cause_text c.cause ++ codes "\n"
+call_text p c = call_ends p c ++ call_lsps p c ++ cause_text c.cause ++ codes "\n"
+
+-- ` NODE ROLE PHASE `
+abbrev pub leg_standing : Plan → LegRow → List ℕ
+leg_standing p g =
+    codes " " ++ node_name p g.node ++ codes " " ++ role_word g.role ++ codes " " ++ phase_word g.phase ++ codes " "
 
 -- `leg LSP NODE ROLE PHASE`, and a space
 abbrev pub leg_place : Plan → LegRow → List ℕ
-leg_place p g =
-    codes "leg " ++ lsp_text p g.lsp ++ codes " " ++ node_name p g.node ++ codes " " ++ role_word g.role
-    ++ codes " " ++ phase_word g.phase ++ codes " "
+leg_place p g = codes "leg " ++ lsp_text p g.lsp ++ leg_standing p g
 
 -- `IN OUT`
 abbrev pub leg_labels : LegRow → List ℕ
@@ -156,7 +167,9 @@ table_text p rows = head_text rows ++ flat_map (call_text p) rows.calls ++ flat_
 
 -- what is unsettled: desk items, unacknowledged messages, unacknowledged floods
 abbrev pub unsettled_text : ℕ → ℕ → ℕ → List ℕ
-unsettled_text desk hop flood = codes "unsettled desk " ++ decimal desk ++ codes " hop " ++ decimal hop ++ codes " flood " ++ decimal flood ++ codes "\n"
+unsettled_text desk hop flood =
+    codes "unsettled desk " ++ decimal desk ++ codes " hop " ++ decimal hop ++ codes " flood " ++ decimal flood
+    ++ codes "\n"
 
 -- the run is stopped at the limit of a node
 abbrev pub stopped_text : Plan → NodeId → List ℕ

@@ -1,7 +1,8 @@
 //! The line that tells a plan's first fault.
 
-ghost use Rattle.std.specs.Prelude.{◌≡◌, ◌++◌, IfOk, OnOk, string_bytes};
+ghost use Rattle.std.specs.Prelude.{◌≡◌, IfOk, OnOk, string_bytes};
 ghost use Rattle.table_text.specs.FaultText.{entry_text, kind_word, refused_text};
+ghost use Rattle.table_text.specs.Writers.{Appends};
 
 use ason_base::OutOfMemory;
 use plan_reader::{PlanEntry, PlanFault, PlanKind};
@@ -27,7 +28,7 @@ fn line(alloc: Global, fault: PlanFault) -> Result<String, OutOfMemory>
 }
 
 fn push_entry(text: &mut String, entry: PlanEntry) -> Result<(), OutOfMemory>
-    ensures { OnOk result (string_bytes text.new ≡ string_bytes text.old ++ entry_text entry) }
+    ensures { OnOk result (Appends text.old text.new (entry_text entry)) }
 {
     match entry {
         PlanEntry::Toml => text.push_str("toml")?,

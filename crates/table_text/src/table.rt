@@ -1,8 +1,9 @@
 //! The table of calls and legs, as text.
 
-ghost use Rattle.std.specs.Prelude.{◌≡◌, ◌==◌, ◌++◌, IfOk, OnErr, OnOk, codes, option_map, position, string_bytes};
+ghost use Rattle.std.specs.Prelude.{◌≡◌, ◌==◌, ◌++◌, IfOk, OnErr, OnOk, position, string_bytes};
 ghost use Rattle.std.specs.List.{flat_map};
-ghost use Rattle.table_text.specs.TableText.{back_label_text, back_text, call_name, call_text, cause_text, code_name, head_text, label_or_dash, label_text, leg_labels, leg_place, leg_text, lsp_or_dash, lsp_text, name_at, named_or_decimal, node_name, phase_word, role_word, state_word, stopped_text, table_text, unsettled_text};
+ghost use Rattle.table_text.specs.TableText.{back_label_text, back_text, call_name, call_text, cause_text, code_name, call_lsps, head_text, label_text, leg_labels, leg_place, leg_standing, leg_text, lsp_or_dash, lsp_text, name_at, named_or_decimal, node_name, phase_word, role_word, state_word, stopped_text, table_text, unsettled_text};
+ghost use Rattle.table_text.specs.Writers.{Appends};
 
 use crate::words::{code_name, phase_word, role_word, state_word};
 use ason_base::{
@@ -96,7 +97,7 @@ fn head(alloc: Global, rows: &TableRows) -> Result<String, OutOfMemory>
 }
 
 fn push_calls(text: &mut String, plan: &Plan, calls: &[CallRow]) -> Result<(), OutOfMemory>
-    ensures { OnOk result (string_bytes text.new ≡ string_bytes text.old ++ flat_map (call_text plan.now) calls.now) }
+    ensures { OnOk result (Appends text.old text.new (flat_map (call_text plan.now) calls.now)) }
 {
     for call in calls {
         push_call(text, plan, call)?;
@@ -105,7 +106,7 @@ fn push_calls(text: &mut String, plan: &Plan, calls: &[CallRow]) -> Result<(), O
 }
 
 fn push_legs(text: &mut String, plan: &Plan, legs: &[LegRow]) -> Result<(), OutOfMemory>
-    ensures { OnOk result (string_bytes text.new ≡ string_bytes text.old ++ flat_map (leg_text plan.now) legs.now) }
+    ensures { OnOk result (Appends text.old text.new (flat_map (leg_text plan.now) legs.now)) }
 {
     for leg in legs {
         push_leg(text, plan, leg)?;
@@ -114,7 +115,7 @@ fn push_legs(text: &mut String, plan: &Plan, legs: &[LegRow]) -> Result<(), OutO
 }
 
 fn push_call(text: &mut String, plan: &Plan, row: &CallRow) -> Result<(), OutOfMemory>
-    ensures { OnOk result (string_bytes text.new ≡ string_bytes text.old ++ call_text plan.now row.now) }
+    ensures { OnOk result (Appends text.old text.new (call_text plan.now row.now)) }
 {
     let name = call_name(plan, row.call);
     let from = node_name(plan, row.ingress);
@@ -129,7 +130,7 @@ fn push_call(text: &mut String, plan: &Plan, row: &CallRow) -> Result<(), OutOfM
 
 // The LSPs of a call, each with a space in front, and a space after them.
 fn push_lsps(text: &mut String, plan: &Plan, row: &CallRow) -> Result<(), OutOfMemory>
-    ensures { OnOk result (string_bytes text.new ≡ string_bytes text.old ++ codes " " ++ lsp_or_dash plan.now row.now.work ++ codes " " ++ lsp_or_dash plan.now row.now.back ++ codes " ") }
+    ensures { OnOk result (Appends text.old text.new (call_lsps plan.now row.now)) }
 {
     text.push_str(" ")?;
     push_lsp_or_dash(text, plan, row.work)?;
@@ -140,7 +141,7 @@ fn push_lsps(text: &mut String, plan: &Plan, row: &CallRow) -> Result<(), OutOfM
 }
 
 fn push_leg(text: &mut String, plan: &Plan, row: &LegRow) -> Result<(), OutOfMemory>
-    ensures { OnOk result (string_bytes text.new ≡ string_bytes text.old ++ leg_text plan.now row.now) }
+    ensures { OnOk result (Appends text.old text.new (leg_text plan.now row.now)) }
 {
     push_place(text, plan, row)?;
     push_labels(text, row)?;
@@ -151,7 +152,7 @@ fn push_leg(text: &mut String, plan: &Plan, row: &LegRow) -> Result<(), OutOfMem
 
 // The LSP, the node, the role and the phase, with a space after them.
 fn push_place(text: &mut String, plan: &Plan, row: &LegRow) -> Result<(), OutOfMemory>
-    ensures { OnOk result (string_bytes text.new ≡ string_bytes text.old ++ leg_place plan.now row.now) }
+    ensures { OnOk result (Appends text.old text.new (leg_place plan.now row.now)) }
 {
     text.push_str("leg ")?;
     push_lsp(text, plan, row.lsp)?;
@@ -161,7 +162,7 @@ fn push_place(text: &mut String, plan: &Plan, row: &LegRow) -> Result<(), OutOfM
 
 // The node, the role and the phase, with a space on either side.
 fn push_standing(text: &mut String, plan: &Plan, row: &LegRow) -> Result<(), OutOfMemory>
-    ensures { OnOk result (string_bytes text.new ≡ string_bytes text.old ++ (codes " " ++ node_name plan.now row.now.node ++ codes " " ++ role_word row.now.role ++ codes " " ++ phase_word row.now.phase ++ codes " ")) }
+    ensures { OnOk result (Appends text.old text.new (leg_standing plan.now row.now)) }
 {
     let node = node_name(plan, row.node);
     let role = role_word(row.role);
@@ -172,7 +173,7 @@ fn push_standing(text: &mut String, plan: &Plan, row: &LegRow) -> Result<(), Out
 
 // What comes in and what goes out, with a space between them.
 fn push_labels(text: &mut String, row: &LegRow) -> Result<(), OutOfMemory>
-    ensures { OnOk result (string_bytes text.new ≡ string_bytes text.old ++ leg_labels row.now) }
+    ensures { OnOk result (Appends text.old text.new (leg_labels row.now)) }
 {
     push_label(text, row.in_link, row.in_label)?;
     text.push_str(" ")?;
@@ -181,7 +182,7 @@ fn push_labels(text: &mut String, row: &LegRow) -> Result<(), OutOfMemory>
 
 // The backward labels, where there is one.
 fn push_back(text: &mut String, row: &LegRow) -> Result<(), OutOfMemory>
-    ensures { OnOk result (string_bytes text.new ≡ string_bytes text.old ++ back_text row.now) }
+    ensures { OnOk result (Appends text.old text.new (back_text row.now)) }
 {
     if row.back_in.is_none() && row.back_out.is_none() {
         return Ok(());
@@ -197,7 +198,7 @@ fn push_back_label(
     link: Option<LinkId>,
     label: Option<Label>,
 ) -> Result<(), OutOfMemory>
-    ensures { OnOk result (string_bytes text.new ≡ string_bytes text.old ++ back_label_text link label) }
+    ensures { OnOk result (Appends text.old text.new (back_label_text link label)) }
 {
     match label {
         None => text.push_str("-")?,
@@ -211,7 +212,7 @@ fn push_label(
     link: Option<LinkId>,
     label: Option<Label>,
 ) -> Result<(), OutOfMemory>
-    ensures { OnOk result (string_bytes text.new ≡ string_bytes text.old ++ label_text link label) }
+    ensures { OnOk result (Appends text.old text.new (label_text link label)) }
 {
     match (link, label) {
         (None, _) => text.push_str("-")?,
@@ -222,7 +223,7 @@ fn push_label(
 }
 
 fn push_lsp_or_dash(text: &mut String, plan: &Plan, lsp: Option<Lsp>) -> Result<(), OutOfMemory>
-    ensures { OnOk result (string_bytes text.new ≡ string_bytes text.old ++ lsp_or_dash plan.now lsp) }
+    ensures { OnOk result (Appends text.old text.new (lsp_or_dash plan.now lsp)) }
 {
     match lsp {
         None => text.push_str("-")?,
@@ -232,7 +233,7 @@ fn push_lsp_or_dash(text: &mut String, plan: &Plan, lsp: Option<Lsp>) -> Result<
 }
 
 fn push_lsp(text: &mut String, plan: &Plan, lsp: Lsp) -> Result<(), OutOfMemory>
-    ensures { OnOk result (string_bytes text.new ≡ string_bytes text.old ++ lsp_text plan.now lsp) }
+    ensures { OnOk result (Appends text.old text.new (lsp_text plan.now lsp)) }
 {
     let ingress = node_name(plan, lsp.ingress);
     write!(text, "{ingress}.{}.{}", lsp.tunnel, lsp.lsp)?;
@@ -240,7 +241,7 @@ fn push_lsp(text: &mut String, plan: &Plan, lsp: Lsp) -> Result<(), OutOfMemory>
 }
 
 fn push_cause(text: &mut String, cause: Cause) -> Result<(), OutOfMemory>
-    ensures { OnOk result (string_bytes text.new ≡ string_bytes text.old ++ cause_text cause) }
+    ensures { OnOk result (Appends text.old text.new (cause_text cause)) }
 {
     match cause {
         Cause::Unset => text.push_str("-")?,
@@ -256,7 +257,7 @@ fn push_cause(text: &mut String, cause: Cause) -> Result<(), OutOfMemory>
 
 // The code's name, or code and value in decimal.
 fn push_code(text: &mut String, code: ErrCode) -> Result<(), OutOfMemory>
-    ensures { OnOk result (string_bytes text.new ≡ string_bytes text.old ++ named_or_decimal (code_name code) code) }
+    ensures { OnOk result (Appends text.old text.new (named_or_decimal (code_name code) code)) }
 {
     match code_name(code) {
         None => write!(text, "{}/{}", code.code, code.value)?,

@@ -12,13 +12,21 @@ lines-preserved c =
     let t = c.in_ok-push_line.ensures in
     record {
       printed = next_line c.args.bytes.now _ _ t.0 _ c.first_line.result.1 _ c.first_line.ensures.lines t.1.is t.2
-          (λ others are. c.lines.invariant.printed others (subst (λ (o : Option (Bor (List ℕ))). AreTexts (lines_left o) others) (sym c.in-Some.is) are));
-      only = λ u told. goes_on u _ _ _ c.first_line.result.1 _ t.0 c.first_line.ensures.lines t.1 t.2
-          (subst (λ (o : Option (Bor (List ℕ))). GoesOn u (lines_left o) (string_bytes c.lines.text)) c.in-Some.is (c.lines.invariant.only u told));
+          (λ others are.
+          let here = subst (λ (o : Option (Bor (List ℕ))). AreTexts (lines_left o) others) (sym c.in-Some.is) are in
+          c.lines.invariant.printed others here);
+      only = λ u told.
+          let so_far = string_bytes c.lines.text in
+          goes_on u _ _ _ c.first_line.result.1 _ t.0 c.first_line.ensures.lines t.1 t.2
+          (subst (λ (o : Option (Bor (List ℕ))). GoesOn u (lines_left o) so_far) c.in-Some.is
+          (c.lines.invariant.only u told));
     }
 
 pub returns : goal.returns
-returns c = record {
-  is = all_printed c.args.bytes.now _ _ c.lines.left c.in_default.is c.lines.invariant.printed (ap (λ (v : Vec ℕ Global). v.items) c.into_bytes.ensures.value);
-  only = λ t told. no_more t _ _ c.lines.left c.in_default.is (c.lines.invariant.only t told) (ap (λ (v : Vec ℕ Global). v.items) c.into_bytes.ensures.value);
-}
+returns c =
+    let none = c.in_default.is in
+    let bytes = ap (λ (v : Vec ℕ Global). v.items) c.into_bytes.ensures.value in
+    record {
+      is = all_printed c.args.bytes.now _ _ c.lines.left none c.lines.invariant.printed bytes;
+      only = λ t told. no_more t _ _ c.lines.left none (c.lines.invariant.only t told) bytes;
+    }

@@ -7,7 +7,9 @@ use Rattle.message_text.proofs.decode_text.Given as goal
 
 abbrev pub invariant-lines : goal.invariant-lines
 invariant-lines l = record {
-  printed : (others : List ℕ) → AreTexts (lines_left l.left) others → AreTexts (lines_of l.bytes) (string_bytes l.text ++ others);
+  printed :
+      (others : List ℕ) → AreTexts (lines_left l.left) others
+      → AreTexts (lines_of l.bytes) (string_bytes l.text ++ others);
   only : (t : List ℕ) → AreTexts (lines_of l.bytes) t → GoesOn t (lines_left l.left) (string_bytes l.text);
 }
 

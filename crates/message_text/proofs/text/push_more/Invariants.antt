@@ -1,8 +1,9 @@
-use Rattle.std.proofs.Common.{◌≡◌, ◌++◌, take}
-use Rattle.std.specs.Prelude.{string_bytes}
+use Rattle.std.proofs.Common.{take}
 use Rattle.std.specs.List.{flat_map}
 use Rattle.message_text.specs.DecodeText.{more_text}
+use Rattle.message_text.specs.OneText.{Appends}
 use Rattle.message_text.proofs.text.push_more.Given as goal
 
 abbrev pub invariant-loop-ack : goal.invariant-loop-ack
-invariant-loop-ack l = string_bytes l.text ≡ string_bytes l.initial.text ++ flat_map more_text (take l.ack-index l.acks)
+invariant-loop-ack l =
+    Appends l.initial.text l.text (flat_map more_text (take l.ack-index l.acks))

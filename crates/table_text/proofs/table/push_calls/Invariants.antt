@@ -1,8 +1,9 @@
-use Rattle.std.proofs.Common.{◌≡◌, ◌++◌, take}
-use Rattle.std.specs.Prelude.{string_bytes}
+use Rattle.std.proofs.Common.{take}
 use Rattle.std.specs.List.{flat_map}
 use Rattle.table_text.specs.TableText.{call_text}
+use Rattle.table_text.specs.Writers.{Appends}
 use Rattle.table_text.proofs.table.push_calls.Given as goal
 
 abbrev pub invariant-loop-call : goal.invariant-loop-call
-invariant-loop-call l = string_bytes l.text ≡ string_bytes l.initial.text ++ flat_map (call_text l.plan) (take l.call-index l.calls)
+invariant-loop-call l =
+    Appends l.initial.text l.text (flat_map (call_text l.plan) (take l.call-index l.calls))

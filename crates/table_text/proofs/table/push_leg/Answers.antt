@@ -5,6 +5,12 @@ use Rattle.table_text.proofs.table.push_leg.Goals as goal
 
 pub returns : goal.returns
 returns c =
-    four_parts (string_bytes c.args.text.now) (string_bytes c.push_place.new.text) (string_bytes c.push_labels.new.text) (string_bytes c.push_back.new.text) (string_bytes c.push_str.new.self)
-    (leg_place c.args.plan.now c.args.row.now) (leg_labels c.args.row.now) (back_text c.args.row.now) (codes "\n")
+    let start = c.args.text.now in
+    let place = c.push_place.new.text in
+    let labels = c.push_labels.new.text in
+    let back = c.push_back.new.text in
+    let end = c.push_str.new.self in
+    let row = c.args.row.now in
+    four_parts (string_bytes start) (string_bytes place) (string_bytes labels) (string_bytes back) (string_bytes end)
+    (leg_place c.args.plan.now row) (leg_labels row) (back_text row) (codes "\n")
     c.in_ok-push_place.ensures c.in_ok-push_labels.ensures c.in_ok-push_back.ensures c.in_ok-push_str.ensures.bytes
