@@ -1,14 +1,13 @@
 -- Elements and keys of TOML values beside what they stand for.
-use Rattle.std.proofs.Common.{◌≡◌, ℕ, ◌+◌, ◌<◌, List, [], ◌∷◌, ◌++◌, length, drop, get_or, append_assoc, Bool, true, false, ◌&&◌, ◌||◌, not, map, string_bytes, refl, sym, ap, ◌∙◌}
+use Rattle.std.proofs.Common.{◌≡◌, ℕ, ◌+◌, ◌<◌, List, [], ◌∷◌, length, drop, get_or, Bool, true, false, ◌&&◌, ◌||◌, not, map, string_bytes, refl, sym, ap, ◌∙◌}
 use Rattle.std.proofs.lemmas.List.{drop-map, drop_more}
 use Rattle.std.specs.List.{list_all}
 use Rattle.std.specs.declared.alloc.Global.{Global}
 use Rattle.std.specs.Prelude.{String}
-use Rattle.toml.specs.Data.{Data}
 use Rattle.toml.specs.View.{view, items_view, members_view}
 use Rattle.toml.specs.declared.value.Value.{Value}
 use Rattle.plan_reader.specs.declared.values.Shape.{Shape}
-use Rattle.plan_reader.specs.PlanTables.{listed, is_key, has_strange_member}
+use Rattle.plan_reader.specs.PlanTables.{listed, is_key, has_strange_member, views}
 
 pub listed-view : (vs : List Value) → listed (items_view vs) ≡ map (λ v. view v) vs
 listed-view [] = refl
@@ -18,36 +17,36 @@ step : (a b : Bool) → (a && not b) ≡ not (not a || b)
 step true b = refl
 step false b = refl
 
-pub known_keys : (shape : Shape) (es : List (String Global × Value)) → list_all (λ (k : String Global). is_key shape (string_bytes k)) (map (λ e. e.0) es) ≡ not (has_strange_member shape (members_view es))
+pub known_keys :
+    (shape : Shape) (es : List (String Global × Value))
+    → list_all (λ (k : String Global). is_key shape (string_bytes k)) (map (λ e. e.0) es)
+    ≡ not (has_strange_member shape (members_view es))
 known_keys shape [] = refl
-known_keys shape (e ∷ es) = ap (λ b. is_key shape (string_bytes e.0) && b) (known_keys shape es) ∙ step (is_key shape (string_bytes e.0)) (has_strange_member shape (members_view es))
+known_keys shape (e ∷ es) =
+    let known = is_key shape (string_bytes e.0) in
+    ap (λ b. known && b) (known_keys shape es) ∙ step known (has_strange_member shape (members_view es))
 
 pub not-not : (b : Bool) → not (not b) ≡ b
 not-not true = refl
 not-not false = refl
 
 -- what is left from a place on, where there is an element
-pub views-from : (vs : List Value) (i : ℕ) (d : Value) → i < length vs → drop i (map (λ v. view v) vs) ≡ view (get_or vs i d) ∷ drop (i + 1) (map (λ v. view v) vs)
+pub views-from :
+    (vs : List Value) (i : ℕ) (d : Value) → i < length vs
+    → drop i (views vs) ≡ view (get_or vs i d) ∷ drop (i + 1) (views vs)
 views-from vs i d h =
+    let later = sym (drop-map (λ v. view v) (i + 1) vs) in
     drop-map (λ v. view v) i vs
-    ∙ (ap (λ xs. map (λ v. view v) xs) (drop_more vs i d h) ∙ ap (λ ds. view (get_or vs i d) ∷ ds) (sym (drop-map (λ v. view v) (i + 1) vs)))
+    ∙ (ap (λ xs. views xs) (drop_more vs i d h) ∙ ap (λ ds. view (get_or vs i d) ∷ ds) later)
 
 -- nothing is left at the end
-pub views-end : (vs : List Value) → drop (length vs) (map (λ v. view v) vs) ≡ []
+pub views-end : (vs : List Value) → drop (length vs) (views vs) ≡ []
 views-end [] = refl
 views-end (v ∷ vs) = views-end vs
 
--- one more element is done
-pub one_more : {A B : Type 0} (f : A → B) (done all : List B) (x : A) (left : List A) → done ++ map f (x ∷ left) ≡ all → (done ++ f x ∷ []) ++ map f left ≡ all
-one_more f done all x left h = rw append_assoc h
-
 -- the same, where the element is known by its place
-pub views_here : (vs : List Value) (i : ℕ) (v : Value) → i < length vs → v ≡ get_or vs i v → drop i (map (λ v. view v) vs) ≡ view v ∷ drop (i + 1) (map (λ v. view v) vs)
-views_here vs i v below here = views-from vs i v below ∙ ap (λ x. view x ∷ drop (i + 1) (map (λ v. view v) vs)) (sym here)
-
-pub one_more_at :
-    {B : Type 0} (f : Data → B) (vs : List Value) (i : ℕ) (v : Value) (done more all : List B) (x : B) → i < length vs → v ≡ get_or vs i v
-    → x ≡ f (view v) → more ≡ done ++ x ∷ [] → done ++ map f (drop i (map (λ v. view v) vs)) ≡ all → more ++ map f (drop (i + 1) (map (λ v. view v) vs)) ≡ all
-one_more_at f vs i v done more all x below here value grown h =
-    let before : done ++ map f (view v ∷ drop (i + 1) (map (λ v. view v) vs)) ≡ all = rw (views_here vs i v below here) at h in
-    rw (grown, value) (one_more f done all (view v) (drop (i + 1) (map (λ v. view v) vs)) before)
+pub views_here :
+    (vs : List Value) (i : ℕ) (v : Value) → i < length vs → v ≡ get_or vs i v
+    → drop i (views vs) ≡ view v ∷ drop (i + 1) (views vs)
+views_here vs i v below here =
+    views-from vs i v below ∙ ap (λ x. view x ∷ drop (i + 1) (views vs)) (sym here)

@@ -1,8 +1,12 @@
 pub mod Agree
 pub mod Elements
+pub mod Entries
+pub mod KnownNodes
 pub mod NameTexts
 pub mod Numbers
 pub mod PostableLines
-pub mod Reading
-pub mod SoundTables
+pub mod Rising
+pub mod SoundLinks
+pub mod SoundNodes
+pub mod SrlgLists
 pub mod Texts

@@ -3,6 +3,7 @@ use Rattle.std.specs.Prelude.{ℕ, ◌==◌, ◌&&◌, ◌||◌, nat_eq, nat_le,
 use Rattle.std.specs.List.{list_all, list_any}
 use Rattle.std.specs.Char.{is_ascii_alphabetic, is_ascii_alphanumeric}
 use lib.Pointwise.{pointwise}
+use Rattle.plan_reader.specs.declared.limits.TheConstants.{MOST_MORE_CHARACTERS}
 
 -- the texts have the same bytes
 abbrev pub same_text : List ℕ → List ℕ → Bool
@@ -19,7 +20,7 @@ are_name_bytes bs = list_all is_name_byte bs
 
 -- at most 15 such characters
 abbrev pub is_name_rest : List ℕ → Bool
-is_name_rest bs = nat_le (length bs) 15 && are_name_bytes bs
+is_name_rest bs = nat_le (length bs) MOST_MORE_CHARACTERS && are_name_bytes bs
 
 -- 1 to 16 characters, the first an ASCII letter, the others ASCII letters, digits, `_` or `-`
 abbrev pub is_name : List ℕ → Bool

@@ -1,7 +1,11 @@
 -- The calls that a script sets up, each with its ingress, in order of number.
-use Rattle.std.specs.Prelude.{ℕ, ◌≤◌, length, List, [], ◌∷◌, ◌++◌, Option, Some, None, slice_get, unwrap_or}
+use Rattle.std.specs.Prelude.{ℕ, ◌≤◌, length, List, [], ◌∷◌, ◌++◌, Option, Some, None, option_map, slice_get}
 use Rattle.ason_base.specs.declared.ids.NodeId.{NodeId}
+use Rattle.ason_base.specs.declared.commands.Command.{Command}
+use Rattle.ason_base.specs.declared.commands.Command.TheVariants.{Setup, Release, Protect, Retry, Revert, Fail, Repair}
+use Rattle.plan_reader.specs.declared.limits.TheConstants.{MOST_CALLS}
 use Rattle.plan_reader.specs.Names.{place_of}
+use Rattle.plan_reader.specs.PlanTexts.{word_at}
 
 pub record CallList : Type 0 where
   pub names : List (List ℕ)
@@ -13,17 +17,23 @@ no_calls = record { names = []; ingresses = [] }
 abbrev pub with_call : CallList → List ℕ → NodeId → CallList
 with_call calls name from = record { names = calls.names ++ name ∷ []; ingresses = calls.ingresses ++ from ∷ [] }
 
--- no node has this id
-abbrev pub no_node : NodeId
-no_node = record { 0 = 0 }
+abbrev pub call_at : CallList → Option ℕ → Option (ℕ × NodeId)
+call_at calls None = None
+call_at calls (Some k) = option_map (λ from. (k, from)) (slice_get calls.ingresses k)
 
-abbrev pub ingress_at : List NodeId → Option ℕ → NodeId
-ingress_at ingresses None = no_node
-ingress_at ingresses (Some k) = unwrap_or (slice_get ingresses k) no_node
+-- the number and the ingress of the call of this name
+abbrev pub call_named : CallList → List ℕ → Option (ℕ × NodeId)
+call_named calls name = call_at calls (place_of calls.names name)
 
-abbrev pub ingress_of : CallList → List ℕ → NodeId
-ingress_of calls name = ingress_at calls.ingresses (place_of calls.names name)
+-- the calls after the command of a line of these words, of which the second is the call's name
+abbrev pub calls_with : CallList → List (List ℕ) → Command → CallList
+calls_with calls ws (Setup n from to protected both via backup) = with_call calls (word_at ws 1) from
+calls_with calls ws (Release n from) = calls
+calls_with calls ws (Protect n from) = calls
+calls_with calls ws (Retry n from) = calls
+calls_with calls ws (Revert n from) = calls
+calls_with calls ws (Fail g) = calls
+calls_with calls ws (Repair g) = calls
 
--- at most 4,096 calls
 abbrev pub AreFew : CallList → Type 0
-AreFew calls = length calls.names ≤ 4096
+AreFew calls = length calls.names ≤ MOST_CALLS

@@ -1,44 +1,22 @@
--- The tables of a plan: the top, its nodes and its links, each with its first fault and what it says.
-use Rattle.std.specs.Prelude.{◌≡◌, ℕ, ◌+◌, ◌++◌, ◌==◌, ◌&&◌, ◌||◌, nat_lt, nat_le, ℤ, pos, negsuc, Bool, true, false, not, List, [], ◌∷◌, length, map, codes, Option, Some, None, slice_get, unwrap_or, is_some, is_none, if◌then◌else◌}
+-- The tables of a plan: the top, its nodes and its links, each with what it says or its first fault.
+use Rattle.std.specs.Prelude.{ℕ, ◌-◌, ◌++◌, ◌==◌, ◌&&◌, ◌||◌, nat_lt, nat_le, ℤ, pos, negsuc, Bool, true, false, not, List, [], ◌∷◌, length, map, filter_map, codes, Option, Some, None, Result, Ok, Err, slice_get, unwrap_or, is_some, is_none, if◌then◌else◌}
 use Rattle.std.specs.List.{list_all}
-use Rattle.ason_base.specs.Network.{is_distinct}
+use Rattle.ason_base.specs.Network.{is_distinct, link_number, node_number}
 use Rattle.ason_base.specs.declared.ids.NodeId.{NodeId}
 use Rattle.ason_base.specs.declared.network.NodeSpec.{NodeSpec}
 use Rattle.ason_base.specs.declared.network.LinkSpec.{LinkSpec}
+use Rattle.ason_base.specs.declared.network.TheConstants.{MOST_LINKS, MOST_NODES, MOST_SRLGS}
 use Rattle.toml.specs.View.{view}
 use Rattle.toml.specs.declared.value.Value.{Value}
 use Rattle.toml.specs.Data.{Data, integer, boolean, array, table, Items, no_items, item, Members, no_members, member, get, as_str, as_integer, as_bool, as_table}
-use Rattle.plan_reader.specs.declared.faults.EntryError.{EntryError}
-use Rattle.plan_reader.specs.declared.faults.PlanEntry.{PlanEntry}
-use Rattle.plan_reader.specs.declared.faults.PlanEntry.TheVariants.{Node, Link}
-use Rattle.plan_reader.specs.declared.faults.PlanError.{PlanError}
-use Rattle.plan_reader.specs.declared.faults.PlanFault.{PlanFault}
 use Rattle.plan_reader.specs.declared.faults.PlanKind.{PlanKind}
 use Rattle.plan_reader.specs.declared.faults.PlanKind.TheVariants as kinds
+use Rattle.plan_reader.specs.declared.links.LinkNumbers.{LinkNumbers}
+use Rattle.plan_reader.specs.declared.limits.TheConstants.{MOST_LABELS, MOST_LINES, MOST_METRIC, MOST_NUMBER, MOST_WAIT}
 use Rattle.plan_reader.specs.declared.values.Shape.{Shape}
 use Rattle.plan_reader.specs.declared.values.Shape.TheVariants.{OfTop, OfNode, OfLink}
 use Rattle.plan_reader.specs.PlanTexts.{node_named}
 use Rattle.plan_reader.specs.Names.{same_text, is_name, has_name}
-
--- Faults
-
--- this fault, or else the later one
-abbrev pub first_of : Option PlanFault → Option PlanFault → Option PlanFault
-first_of None later = later
-first_of (Some f) later = Some f
-
--- the fault of this kind at this entry
-abbrev pub fault_at : PlanEntry → Option PlanKind → Option PlanFault
-fault_at entry None = None
-fault_at entry (Some kind) = Some (record { entry = entry; kind = kind })
-
--- an error that tells a fault tells this one
-abbrev pub TellsFirst : PlanError → Option PlanFault → Type 0
-TellsFirst e first = (f : PlanFault) → e ≡ PlanError.Fault f → first ≡ Some f
-
--- an error that tells a fault of a part tells this one
-abbrev pub TellsKind : EntryError → Option PlanKind → Type 0
-TellsKind e first = (k : PlanKind) → e ≡ EntryError.Fault k → first ≡ Some k
 
 -- Values
 
@@ -133,11 +111,14 @@ lacks key d = is_none (get key d)
 -- Keys
 
 unfoldable pub is_key : Shape → List ℕ → Bool
-is_key OfTop k = same_text k (codes "wait") || (same_text k (codes "script") || (same_text k (codes "node") || same_text k (codes "link")))
+is_key OfTop k =
+    same_text k (codes "wait")
+    || (same_text k (codes "script") || (same_text k (codes "node") || same_text k (codes "link")))
 is_key OfNode k = same_text k (codes "name") || (same_text k (codes "id") || same_text k (codes "convert"))
 is_key OfLink k =
     same_text k (codes "id")
-    || (same_text k (codes "ends") || (same_text k (codes "labels") || (same_text k (codes "metric") || same_text k (codes "srlg"))))
+    || (same_text k (codes "ends")
+    || (same_text k (codes "labels") || (same_text k (codes "metric") || same_text k (codes "srlg"))))
 
 abbrev pub has_strange_member : Shape → Members → Bool
 has_strange_member shape no_members = false
@@ -159,16 +140,18 @@ has_top_kinds d =
 abbrev pub has_top_counts : Data → Bool
 has_top_counts d =
     nat_le 1 (length (elements_at (codes "node") d))
-    && (nat_le (length (elements_at (codes "node") d)) 64
-    && (nat_le (length (elements_at (codes "link") d)) 256 && nat_le (length (elements_at (codes "script") d)) 10000))
+    && (nat_le (length (elements_at (codes "node") d)) MOST_NODES
+    && (nat_le (length (elements_at (codes "link") d)) MOST_LINKS
+    && nat_le (length (elements_at (codes "script") d)) MOST_LINES))
 
 abbrev pub top_value_kind : Data → Option PlanKind
 top_value_kind d =
     if not (has_top_counts d) then Some kinds.Count
-    else if is_none (number_or 0 0 10000 (get (codes "wait") d)) then Some kinds.Range
+    else if is_none (number_or 0 0 MOST_WAIT (get (codes "wait") d)) then Some kinds.Range
     else if not (lacks (codes "wait") d) then Some kinds.Unbuilt
     else None
 
+-- the first fault of the top itself
 abbrev pub top_kind : Data → Option PlanKind
 top_kind d =
     if has_strange OfTop d then Some kinds.Key
@@ -178,49 +161,59 @@ top_kind d =
 
 -- Nodes
 
+-- nodes, and their names in the same order
+pub record NodeList : Type 0 where
+  pub names : List (List ℕ)
+  pub nodes : List NodeSpec
+
+abbrev pub no_nodes : NodeList
+no_nodes = record { names = []; nodes = [] }
+
+abbrev pub with_named : NodeList → List ℕ → NodeSpec → NodeList
+with_named before name node = record { names = before.names ++ name ∷ []; nodes = before.nodes ++ node ∷ [] }
+
+-- the id of the last of these nodes, below which no further id is
+abbrev pub last_node : List NodeSpec → ℕ
+last_node nodes = node_number (slice_get nodes (length nodes - 1))
+
 abbrev pub name_of : Data → List ℕ
 name_of d = text_at (codes "name") d
 
--- an id of a node or a link
+-- the id of a node or a link
 abbrev pub id_in : Data → Option ℕ
-id_in d = number_at (codes "id") 1 4294967295 d
-
-abbrev pub id_number : Data → ℕ
-id_number d = unwrap_or (id_in d) 0
+id_in d = number_at (codes "id") 1 MOST_NUMBER d
 
 abbrev pub converts : Data → Bool
 converts d = flag_in (get (codes "convert") d)
 
-abbrev pub node_of : Data → NodeSpec
-node_of d = record { id = record { 0 = id_number d }; convert = converts d }
-
 abbrev pub has_node_kinds : Data → Bool
 has_node_kinds d =
-    passes is_text (get (codes "name") d) && (passes is_integer (get (codes "id") d) && passes is_boolean (get (codes "convert") d))
+    passes is_text (get (codes "name") d)
+    && (passes is_integer (get (codes "id") d) && passes is_boolean (get (codes "convert") d))
 
-abbrev pub node_value_kind : ℕ → List (List ℕ) → Data → Option PlanKind
-node_value_kind last names d =
-    if not (is_name (name_of d)) then Some kinds.Name
-    else if is_none (id_in d) then Some kinds.Range
-    else if not (nat_lt last (id_number d)) then Some kinds.Order
-    else if has_name names (name_of d) then Some kinds.Twice
-    else None
+abbrev pub lacks_node_key : Data → Bool
+lacks_node_key d = lacks (codes "name") d || lacks (codes "id") d
 
--- the first fault of a node after nodes of which the last has this id and which have these names
-abbrev pub node_kind : ℕ → List (List ℕ) → Data → Option PlanKind
-node_kind last names d =
-    if has_strange OfNode d then Some kinds.Key
-    else if lacks (codes "name") d || lacks (codes "id") d then Some kinds.Missing
-    else if not (has_node_kinds d) then Some kinds.Kind
-    else node_value_kind last names d
+abbrev pub with_node_of : NodeList → Data → Option ℕ → Result NodeList PlanKind
+with_node_of before d None = Err kinds.Range
+with_node_of before d (Some id) =
+    if not (nat_lt (last_node before.nodes) id) then Err kinds.Order
+    else if has_name before.names (name_of d) then Err kinds.Twice
+    else Ok (with_named before (name_of d) (record { id = record { 0 = id }; convert = converts d }))
 
--- the first fault of nodes, of which the first is node n
-abbrev pub nodes_fault : ℕ → ℕ → List (List ℕ) → List Data → Option PlanFault
-nodes_fault n last names [] = None
-nodes_fault n last names (d ∷ ds) =
-    first_of (fault_at (Node n) (node_kind last names d)) (nodes_fault (n + 1) (id_number d) (names ++ name_of d ∷ []) ds)
+-- a node behind those before it, or its first fault
+abbrev pub with_node : NodeList → Data → Result NodeList PlanKind
+with_node before d =
+    if has_strange OfNode d then Err kinds.Key
+    else if lacks_node_key d then Err kinds.Missing
+    else if not (has_node_kinds d) then Err kinds.Kind
+    else if not (is_name (name_of d)) then Err kinds.Name
+    else with_node_of before d (id_in d)
 
 -- Links
+
+abbrev pub last_link : List LinkSpec → ℕ
+last_link links = link_number (slice_get links (length links - 1))
 
 abbrev pub end_ids : Option NodeId → Option NodeId → Option (NodeId × NodeId)
 end_ids (Some a) (Some b) = if nat_lt a.0 b.0 then Some (a, b) else if nat_lt b.0 a.0 then Some (b, a) else None
@@ -231,20 +224,25 @@ abbrev pub end_name : Data → ℕ → List ℕ
 end_name d k = text_in (slice_get (elements_at (codes "ends") d) k)
 
 -- the two ends of a link, the lesser first: none where one is unknown or they are the same
-abbrev pub ends_of : List (List ℕ) → List NodeSpec → Data → Option (NodeId × NodeId)
-ends_of names nodes d = end_ids (node_named names nodes (end_name d 0)) (node_named names nodes (end_name d 1))
+abbrev pub ends_of : NodeList → Data → Option (NodeId × NodeId)
+ends_of known d =
+    end_ids (node_named known.names known.nodes (end_name d 0)) (node_named known.names known.nodes (end_name d 1))
 
 abbrev pub labels_in : Data → Option ℕ
-labels_in d = number_at (codes "labels") 1 80 d
+labels_in d = number_at (codes "labels") 1 MOST_LABELS d
 
 abbrev pub metric_in : Data → Option ℕ
-metric_in d = number_or 1 1 65535 (get (codes "metric") d)
+metric_in d = number_or 1 1 MOST_METRIC (get (codes "metric") d)
 
 abbrev pub srlg_in : Data → Option ℕ
-srlg_in d = number_of 0 4294967295 d
+srlg_in d = number_of 0 MOST_NUMBER d
 
-abbrev pub srlgs_of : Data → List ℕ
-srlgs_of d = map (λ s. unwrap_or (srlg_in s) 0) (elements_at (codes "srlg") d)
+-- the SRLGs of a link: none where one is out of reach
+abbrev pub srlgs_in : Data → Option (List ℕ)
+srlgs_in d =
+    if list_all (λ s. is_some (srlg_in s)) (elements_at (codes "srlg") d)
+    then Some (filter_map srlg_in (elements_at (codes "srlg") d))
+    else None
 
 abbrev pub has_link_kinds : Data → Bool
 has_link_kinds d =
@@ -254,55 +252,59 @@ has_link_kinds d =
     && (passes is_integer (get (codes "metric") d) && is_array_of is_integer (get (codes "srlg") d))))
 
 abbrev pub has_link_counts : Data → Bool
-has_link_counts d = length (elements_at (codes "ends") d) == 2 && nat_le (length (elements_at (codes "srlg") d)) 16
-
-abbrev pub are_srlgs_within : Data → Bool
-are_srlgs_within d = list_all (λ s. is_some (srlg_in s)) (elements_at (codes "srlg") d)
-
--- the SRLGs of a link, where each is within reach
-abbrev pub srlgs_in : Data → Option (List ℕ)
-srlgs_in d = if are_srlgs_within d then Some (srlgs_of d) else None
-
-abbrev pub is_link_within : Data → Bool
-is_link_within d = is_some (id_in d) && (is_some (labels_in d) && (is_some (metric_in d) && are_srlgs_within d))
-
--- no node has this id
-abbrev pub no_ends : NodeId × NodeId
-no_ends = (record { 0 = 0 }, record { 0 = 0 })
-
-abbrev pub link_of : List (List ℕ) → List NodeSpec → Data → LinkSpec
-link_of names nodes d = record {
-  id = record { 0 = id_number d };
-  low = (unwrap_or (ends_of names nodes d) no_ends).0;
-  high = (unwrap_or (ends_of names nodes d) no_ends).1;
-  labels = unwrap_or (labels_in d) 0;
-  metric = unwrap_or (metric_in d) 0;
-  srlgs = srlgs_of d;
-}
-
-abbrev pub link_value_kind : List (List ℕ) → List NodeSpec → ℕ → Data → Option PlanKind
-link_value_kind names nodes last d =
-    if not (is_link_within d) then Some kinds.Range
-    else if not (nat_lt last (id_number d)) then Some kinds.Order
-    else if is_none (ends_of names nodes d) then Some kinds.Ends
-    else if not (is_distinct (srlgs_of d)) then Some kinds.Twice
-    else if not (lacks (codes "srlg") d) then Some kinds.Unbuilt
-    else None
+has_link_counts d =
+    length (elements_at (codes "ends") d) == 2 && nat_le (length (elements_at (codes "srlg") d)) MOST_SRLGS
 
 abbrev pub lacks_link_key : Data → Bool
 lacks_link_key d = lacks (codes "id") d || (lacks (codes "ends") d || lacks (codes "labels") d)
 
--- the first fault of a link after links of which the last has this id
-abbrev pub link_kind : List (List ℕ) → List NodeSpec → ℕ → Data → Option PlanKind
-link_kind names nodes last d =
-    if has_strange OfLink d then Some kinds.Key
-    else if lacks_link_key d then Some kinds.Missing
-    else if not (has_link_kinds d) then Some kinds.Kind
-    else if not (has_link_counts d) then Some kinds.Count
-    else link_value_kind names nodes last d
+abbrev pub all_numbers : Option ℕ → Option ℕ → Option ℕ → Option (List ℕ) → Option LinkNumbers
+all_numbers None labels metric srlgs = None
+all_numbers (Some id) None metric srlgs = None
+all_numbers (Some id) (Some labels) None srlgs = None
+all_numbers (Some id) (Some labels) (Some metric) None = None
+all_numbers (Some id) (Some labels) (Some metric) (Some srlgs) =
+    Some (record { id = id; labels = labels; metric = metric; srlgs = srlgs })
 
--- the first fault of links, of which the first is link n
-abbrev pub links_fault : List (List ℕ) → List NodeSpec → ℕ → ℕ → List Data → Option PlanFault
-links_fault names nodes n last [] = None
-links_fault names nodes n last (d ∷ ds) =
-    first_of (fault_at (Link n) (link_kind names nodes last d)) (links_fault names nodes (n + 1) (id_number d) ds)
+-- what a link has besides its ends: none where one is out of reach
+abbrev pub numbers_of : Data → Option LinkNumbers
+numbers_of d = all_numbers (id_in d) (labels_in d) (metric_in d) (srlgs_in d)
+
+abbrev pub link_with : LinkNumbers → NodeId × NodeId → LinkSpec
+link_with n ends = record {
+  id = record { 0 = n.id };
+  low = ends.0;
+  high = ends.1;
+  labels = n.labels;
+  metric = n.metric;
+  srlgs = n.srlgs;
+}
+
+abbrev pub link_between : Data → LinkNumbers → Option (NodeId × NodeId) → Result LinkSpec PlanKind
+link_between d n None = Err kinds.Ends
+link_between d n (Some ends) =
+    if not (is_distinct n.srlgs) then Err kinds.Twice
+    else if not (lacks (codes "srlg") d) then Err kinds.Unbuilt
+    else Ok (link_with n ends)
+
+abbrev pub link_of_numbers : NodeList → ℕ → Data → Option LinkNumbers → Result LinkSpec PlanKind
+link_of_numbers known last d None = Err kinds.Range
+link_of_numbers known last d (Some n) =
+    if not (nat_lt last n.id) then Err kinds.Order else link_between d n (ends_of known d)
+
+-- a link between these nodes after one with this id, or its first fault
+abbrev pub link_of : NodeList → ℕ → Data → Result LinkSpec PlanKind
+link_of known last d =
+    if has_strange OfLink d then Err kinds.Key
+    else if lacks_link_key d then Err kinds.Missing
+    else if not (has_link_kinds d) then Err kinds.Kind
+    else if not (has_link_counts d) then Err kinds.Count
+    else link_of_numbers known last d (numbers_of d)
+
+abbrev pub put_behind : List LinkSpec → Result LinkSpec PlanKind → Result (List LinkSpec) PlanKind
+put_behind before (Ok link) = Ok (before ++ link ∷ [])
+put_behind before (Err kind) = Err kind
+
+-- a link behind those before it, or its first fault
+abbrev pub with_link : NodeList → List LinkSpec → Data → Result (List LinkSpec) PlanKind
+with_link known before d = put_behind before (link_of known (last_link before) d)

@@ -1,11 +1,12 @@
 -- Nodes by name, words and numbers in the texts of a plan.
-use Rattle.std.specs.Prelude.{ℕ, ◌==◌, ◌&&◌, ◌||◌, nat_le, Bool, true, false, not, List, [], ◌∷◌, filter, map, Option, Some, None, slice_get, unwrap_or, is_some, if◌then◌else◌}
+use Rattle.std.specs.Prelude.{ℕ, ◌==◌, ◌&&◌, ◌||◌, nat_le, Bool, true, false, not, List, [], ◌∷◌, filter, filter_map, map, Option, Some, None, slice_get, unwrap_or, is_some, if◌then◌else◌}
 use Rattle.std.specs.List.{list_all, slice_split}
 use Rattle.std.specs.Borrow.{Bor}
 use Rattle.std.specs.Char.{is_ascii_digit}
 use Rattle.std.specs.Str.Parse.{digits_value}
 use Rattle.ason_base.specs.declared.ids.NodeId.{NodeId}
 use Rattle.ason_base.specs.declared.network.NodeSpec.{NodeSpec}
+use Rattle.plan_reader.specs.declared.limits.TheConstants.{MOST_NUMBER}
 use Rattle.plan_reader.specs.Names.{place_of}
 
 abbrev pub id_at : Option NodeSpec → Option NodeId
@@ -48,9 +49,13 @@ abbrev pub is_number : List ℕ → Bool
 is_number [] = false
 is_number (b ∷ bs) = is_ascii_digit b && (are_digits bs && (not (b == 48) || is_empty bs))
 
+-- what these digits write, where it is at most this
+abbrev pub value_up_to : ℕ → List ℕ → Option ℕ
+value_up_to most digits = if nat_le (digits_value 10 digits) most then Some (digits_value 10 digits) else None
+
 -- the number that the word writes, where it is one and is at most this
 abbrev pub number_up_to : ℕ → List ℕ → Option ℕ
-number_up_to most word = if is_number word && nat_le (digits_value 10 word) most then Some (digits_value 10 word) else None
+number_up_to most word = if is_number word then value_up_to most word else None
 
 -- the parts of a word between its commas
 abbrev pub parts_of : List ℕ → List (List ℕ)
@@ -61,11 +66,12 @@ abbrev pub are_numbers : List ℕ → Bool
 are_numbers word = list_all is_number (parts_of word)
 
 abbrev pub link_id : List ℕ → Option ℕ
-link_id part = number_up_to 4294967295 part
+link_id part = number_up_to MOST_NUMBER part
 
 -- each number is a link id within reach
 abbrev pub are_link_ids : List ℕ → Bool
 are_link_ids word = list_all (λ p. is_some (link_id p)) (parts_of word)
 
-abbrev pub link_ids : List ℕ → List ℕ
-link_ids word = map (λ p. unwrap_or (link_id p) 0) (parts_of word)
+-- the link ids that a word writes: none where one is out of reach
+abbrev pub link_ids : List ℕ → Option (List ℕ)
+link_ids word = if are_link_ids word then Some (filter_map link_id (parts_of word)) else None

@@ -5,80 +5,71 @@ use Rattle.toml.specs.Data.{Data, Members, table}
 use Rattle.toml.specs.Parse.{parse_document}
 use Rattle.ason_base.specs.Network.{Network}
 use Rattle.ason_base.specs.declared.network.LinkSpec.{LinkSpec}
-use Rattle.ason_base.specs.declared.network.NodeSpec.{NodeSpec}
 use Rattle.ason_base.specs.declared.ids.CallNo.{CallNo}
 use Rattle.ason_base.specs.declared.commands.Command.{Command}
 use Rattle.ason_base.specs.declared.commands.Command.TheVariants.{Setup, Release, Protect, Retry, Revert, Fail, Repair}
 use Rattle.mesh_rules.specs.Commands.{is_valid, is_again}
-use Rattle.plan_reader.specs.declared.faults.PlanEntry.TheVariants.{Toml, Top}
+use Rattle.plan_reader.specs.declared.faults.PlanEntry.{PlanEntry}
+use Rattle.plan_reader.specs.declared.faults.PlanEntry.TheVariants.{Toml, Top, Node, Link}
 use Rattle.plan_reader.specs.declared.faults.PlanError.{PlanError}
 use Rattle.plan_reader.specs.declared.faults.PlanError.TheVariants.{Fault, OutOfMemory}
 use Rattle.plan_reader.specs.declared.faults.PlanFault.{PlanFault}
+use Rattle.plan_reader.specs.declared.faults.PlanKind.{PlanKind}
 use Rattle.plan_reader.specs.declared.faults.PlanKind.TheVariants.{Syntax}
 use Rattle.plan_reader.specs.declared.lines.Line.{Line}
 use Rattle.plan_reader.specs.declared.lines.Line.TheVariants.{Post, Settle, Show}
 use Rattle.plan_reader.specs.declared.plan.Plan.{Plan}
-use Rattle.plan_reader.specs.PlanTables.{first_of, fault_at, elements_at, text_of, top_kind, name_of, node_of, nodes_fault, link_of, links_fault}
-use Rattle.plan_reader.specs.PlanCalls.{no_calls}
-use Rattle.plan_reader.specs.PlanScript.{script_fault, lines_of, calls_of}
+use Rattle.plan_reader.specs.declared.script.Script.{Script}
+use Rattle.plan_reader.specs.Entries.{and_then, read_all}
+use Rattle.plan_reader.specs.PlanTables.{NodeList, elements_at, no_nodes, top_kind, with_link, with_node}
+use Rattle.plan_reader.specs.PlanScript.{no_script, with_line}
 
--- The parts of a plan's table
+-- The parts of a plan's table, each read onto those before it, or the first fault
 
-abbrev pub names_in : Data → List (List ℕ)
-names_in d = map name_of (elements_at (codes "node") d)
+abbrev pub nodes_of : List Data → Result NodeList PlanFault
+nodes_of ds = read_all Node with_node 1 no_nodes ds
 
-abbrev pub nodes_in : Data → List NodeSpec
-nodes_in d = map node_of (elements_at (codes "node") d)
+abbrev pub links_of : NodeList → List Data → Result (List LinkSpec) PlanFault
+links_of known ds = read_all Link (with_link known) 1 [] ds
 
-abbrev pub links_in : Data → List LinkSpec
-links_in d = map (link_of (names_in d) (nodes_in d)) (elements_at (codes "link") d)
+abbrev pub script_of : Network → List (List ℕ) → List Data → Result Script PlanFault
+script_of t names ds = read_all PlanEntry.Script (with_line t names) 1 no_script ds
 
-abbrev pub network_in : Data → Network
-network_in d = record { wait = 0; nodes = nodes_in d; links = links_in d }
-
-abbrev pub script_in : Data → List (List ℕ)
-script_in d = map text_of (elements_at (codes "script") d)
-
-abbrev pub call_names_in : Data → List (List ℕ)
-call_names_in d = (calls_of (network_in d) (names_in d) no_calls (script_in d)).names
-
-abbrev pub lines_in : Data → List Line
-lines_in d = lines_of (network_in d) (names_in d) no_calls (script_in d)
-
--- Its first fault
-
-abbrev pub top_fault_in : Data → Option PlanFault
-top_fault_in d = fault_at Top (top_kind d)
-
-abbrev pub nodes_fault_in : Data → Option PlanFault
-nodes_fault_in d = nodes_fault 1 0 [] (elements_at (codes "node") d)
-
-abbrev pub links_fault_in : Data → Option PlanFault
-links_fault_in d = links_fault (names_in d) (nodes_in d) 1 0 (elements_at (codes "link") d)
-
-abbrev pub script_fault_in : Data → Option PlanFault
-script_fault_in d = script_fault (network_in d) (names_in d) 1 no_calls (script_in d)
-
--- the top, then the nodes, the links and the script lines, each in order
-abbrev pub fault_in : Data → Option PlanFault
-fault_in d = first_of (top_fault_in d) (first_of (nodes_fault_in d) (first_of (links_fault_in d) (script_fault_in d)))
+abbrev pub network_of : NodeList → List LinkSpec → Network
+network_of known links = record { wait = 0; nodes = known.nodes; links = links }
 
 -- what a table without fault says
-abbrev pub plan_in : Data → Plan
-plan_in d = record { topology = network_in d; node_names = names_in d; call_names = call_names_in d; lines = lines_in d }
+abbrev pub plan_with : NodeList → List LinkSpec → Script → Plan
+plan_with known links script = record {
+  topology = network_of known links;
+  node_names = known.names;
+  call_names = script.calls.names;
+  lines = script.lines;
+}
 
-abbrev pub unless_fault : Option PlanFault → Plan → Result Plan PlanFault
-unless_fault None p = Ok p
-unless_fault (Some f) p = Err f
+abbrev pub with_script : Data → NodeList → List LinkSpec → Result Plan PlanFault
+with_script d known links =
+    and_then (script_of (network_of known links) known.names (elements_at (codes "script") d))
+    (λ script. Ok (plan_with known links script))
 
--- the plan, or its first fault
+abbrev pub with_links : Data → NodeList → Result Plan PlanFault
+with_links d known = and_then (links_of known (elements_at (codes "link") d)) (λ links. with_script d known links)
+
+abbrev pub with_nodes : Data → Result Plan PlanFault
+with_nodes d = and_then (nodes_of (elements_at (codes "node") d)) (λ known. with_links d known)
+
+abbrev pub unless_fault : Option PlanKind → Result Plan PlanFault → Result Plan PlanFault
+unless_fault None plan = plan
+unless_fault (Some kind) plan = Err (record { entry = Top; kind = kind })
+
+-- the plan, or its first fault: the top, then the nodes, the links and the script lines, each in order
 abbrev pub plan_of : Data → Result Plan PlanFault
-plan_of d = unless_fault (fault_in d) (plan_in d)
+plan_of d = unless_fault (top_kind d) (with_nodes d)
 
 abbrev pub not_toml : PlanFault
 not_toml = record { entry = Toml; kind = Syntax }
 
--- The bytes are UTF-8 and a TOML document with that plan or first fault; or they are none, and the fault is that
+-- The bytes are UTF-8 and a TOML document with that plan or first fault; or they are none, and that is the fault
 abbrev pub PlanOf : List ℕ → Result Plan PlanFault → Type 0
 PlanOf bs r =
     ((ms : Members) × IsUtf8 bs × (parse_document bs ≡ Some ms) × (plan_of (table ms) ≡ r))
@@ -111,7 +102,8 @@ calls_after_line before Show = before
 abbrev pub calls_after_lines : List CallNo → List Line → List CallNo
 calls_after_lines before lines = fold calls_after_line before lines
 
--- Each node and each call has its name: there are as many names as nodes, and as many as setups, whose numbers are below that.
+-- Each node and each call has its name: there are as many names as nodes, and as many as setups, whose numbers are
+-- below that.
 pub record HasNames (p : Plan) : Type 0 where
   pub nodes : length p.node_names ≡ length p.topology.nodes
   pub calls : length p.call_names ≡ length (calls_after_lines [] p.lines)

@@ -1,16 +1,14 @@
 //! The calls that a script sets up.
 
 ghost use Rattle.std.specs.Prelude.{◌≡◌, ◌<◌, length, IfSome, OnErr, OnOk};
-ghost use Rattle.plan_reader.specs.PlanCalls.{ingress_at, ingress_of, no_calls, with_call};
-ghost use Rattle.plan_reader.specs.Names.{has_name, place_of};
+ghost use Rattle.plan_reader.specs.PlanCalls.{call_at, call_named, no_calls, with_call};
+ghost use Rattle.plan_reader.specs.Names.{has_name};
 
+use crate::limits::MOST_CALLS;
 use crate::names::{Name, Names};
 use ason_base::{NodeId, OutOfMemory};
 use std::alloc::Global;
 use std::marker::Model;
-
-/// The most calls that a plan sets up.
-pub const MOST_CALLS: usize = 4_096;
 
 /// Calls by their names, each with its ingress, in order of number.
 #[derive(Debug, Drop)]
@@ -61,12 +59,14 @@ impl Calls {
         self.names.items().len()
     }
 
-    /// The number of the call of this name: none exactly where there is none.
-    pub fn place(&self, name: &[u8]) -> Option<usize>
-        ensures place { result ≡ place_of self.now.names name.now }
-        ensures within { IfSome result (λ k. k < MOST_CALLS) }
+    /// The number and the ingress of the call of this name: none exactly where there is none.
+    pub fn find(&self, name: &[u8]) -> Option<(usize, NodeId)>
+        ensures call { result ≡ call_named self.now name.now }
+        ensures within { IfSome result (λ call. call.0 < MOST_CALLS) }
     {
-        self.names.place(name)
+        let place = self.names.place(name)?;
+        let ingress = *self.ingresses.get(place)?;
+        Some((place, ingress))
     }
 
     /// Whether there is a call of this name.
@@ -74,19 +74,6 @@ impl Calls {
         ensures { result ≡ has_name self.now.names name.now }
     {
         self.names.has(name)
-    }
-
-    /// The ingress of the call of this name; node 0 where there is none.
-    pub fn ingress(&self, name: &[u8]) -> NodeId
-        ensures { result ≡ ingress_of self.now name.now }
-    {
-        match self.place(name) {
-            None => NodeId(0),
-            Some(place) => match self.ingresses.get(place) {
-                None => NodeId(0),
-                Some(ingress) => *ingress,
-            },
-        }
     }
 
     /// The names, in order of number.

@@ -1,6 +1,7 @@
 //! Why bytes are no plan.
 
 ghost use Rattle.std.specs.Prelude.{◌≡◌};
+ghost use Rattle.plan_reader.specs.Entries.{error_at};
 ghost use Rattle.plan_reader.specs.declared.faults.EntryError.{EntryError};
 ghost use Rattle.plan_reader.specs.declared.faults.PlanError.{PlanError};
 
@@ -122,9 +123,12 @@ impl From<OutOfMemory> for EntryError {
     }
 }
 
-/// The error that tells this fault.
-pub fn fault(entry: PlanEntry, kind: PlanKind) -> PlanError
-    ensures { result ≡ PlanError.Fault (record { entry = entry; kind = kind }) }
+/// The same error, of this entry.
+pub fn error_at(entry: PlanEntry, error: EntryError) -> PlanError
+    ensures { result ≡ error_at entry error }
 {
-    PlanError::Fault(PlanFault { entry, kind })
+    match error {
+        EntryError::Fault(kind) => PlanError::Fault(PlanFault { entry, kind }),
+        EntryError::OutOfMemory => PlanError::OutOfMemory,
+    }
 }

@@ -4,6 +4,7 @@
 mod calls;
 pub mod faults;
 mod forms;
+pub mod limits;
 pub mod lines;
 mod links;
 pub mod names;

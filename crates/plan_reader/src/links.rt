@@ -1,37 +1,26 @@
 //! The links of a plan.
 
-ghost use Rattle.std.specs.Prelude.{◌≡◌, ◌≤◌, map, length, IfErr, IfOk, OnOk, None, Some, unwrap_or, is_some};
+ghost use Rattle.std.specs.Prelude.{◌≡◌, ◌≤◌, Err, IfOk, Ok, length, option_map};
 ghost use Rattle.std.specs.List.{list_all};
 ghost use Rattle.toml.specs.View.{view};
 ghost use Rattle.ason_base.specs.Network.{is_distinct};
-ghost use Rattle.plan_reader.specs.PlanTexts.{node_named};
-ghost use Rattle.plan_reader.specs.PlanTables.{TellsFirst, TellsKind, views, end_ids, end_name, ends_of, has_link_counts, has_link_kinds, labels_in, lacks_link_key, link_kind, link_of, link_value_kind, links_fault, metric_in, srlg_in, srlgs_in};
+ghost use Rattle.plan_reader.specs.Entries.{FailsBy, FailsFirst};
+ghost use Rattle.plan_reader.specs.PlanTables.{all_numbers, end_ids, end_name, ends_of, has_link_counts, has_link_kinds, labels_in, lacks_link_key, last_link, link_between, link_of, link_of_numbers, metric_in, numbers_of, srlg_in, srlgs_in, views};
+ghost use Rattle.plan_reader.specs.Plans.{links_of};
 ghost use Rattle.plan_reader.specs.declared.faults.PlanError.{PlanError};
 ghost use Rattle.plan_reader.specs.declared.faults.PlanFault.{PlanFault};
 
-use crate::faults::{EntryError, PlanEntry, PlanError, PlanKind, fault};
-use crate::names::Names;
-use crate::nodes::id;
+use crate::faults::{EntryError, PlanEntry, PlanError, PlanKind, error_at};
+use crate::limits::{MOST_LABELS, MOST_METRIC, MOST_NUMBER};
+use crate::nodes::{Nodes, id, node_named};
 use crate::values::{
     Shape, are_integers_at, are_texts_at, count, elements, has_strange, is_integer_at, lacks,
     number, number_of, number_or, text_of,
 };
-use ason_base::{LinkId, LinkSpec, NodeId, NodeSpec, Numbers, OutOfMemory};
+use ason_base::network::{MOST_LINKS, MOST_SRLGS};
+use ason_base::{LinkId, LinkSpec, NodeId, Numbers, OutOfMemory};
 use std::alloc::Global;
 use toml::Value;
-
-/// The node of this name, where names and nodes stand in the same order.
-pub fn node_named(names: &Names, nodes: &[NodeSpec], name: &[u8]) -> Option<NodeId>
-    ensures { result ≡ node_named names.now nodes.now name.now }
-{
-    match names.place(name) {
-        None => None,
-        Some(place) => match nodes.get(place) {
-            None => None,
-            Some(node) => Some(node.id),
-        },
-    }
-}
 
 fn end_name(value: &Value, k: usize) -> &[u8]
     ensures { result.now ≡ end_name (view value.now) k }
@@ -60,33 +49,33 @@ fn end_ids(a: Option<NodeId>, b: Option<NodeId>) -> Option<(NodeId, NodeId)>
 }
 
 // The two ends of a link, the lesser first: none where one is unknown or they are the same.
-fn ends(value: &Value, names: &Names, nodes: &[NodeSpec]) -> Option<(NodeId, NodeId)>
-    ensures { result ≡ ends_of names.now nodes.now (view value.now) }
+fn ends(value: &Value, known: &Nodes) -> Option<(NodeId, NodeId)>
+    ensures { result ≡ ends_of known.now (view value.now) }
 {
-    let first = node_named(names, nodes, end_name(value, 0));
-    let second = node_named(names, nodes, end_name(value, 1));
+    let first = node_named(known.names(), known.nodes(), end_name(value, 0));
+    let second = node_named(known.names(), known.nodes(), end_name(value, 1));
     end_ids(first, second)
 }
 
 fn labels(value: &Value) -> Option<u32>
     ensures { result ≡ labels_in (view value.now) }
 {
-    number(value, "labels", 1, 80)
+    number(value, "labels", 1, MOST_LABELS)
 }
 
 fn metric(value: &Value) -> Option<u32>
     ensures { result ≡ metric_in (view value.now) }
 {
-    number_or(value, "metric", 1, 1, 65_535)
+    number_or(value, "metric", 1, 1, MOST_METRIC)
 }
 
 fn srlg(value: &Value) -> Option<u32>
     ensures { result ≡ srlg_in (view value.now) }
 {
-    number_of(value, 0, u32::MAX)
+    number_of(value, 0, MOST_NUMBER)
 }
 
-// The SRLGs of a link: none where one is beyond reach.
+// The SRLGs of a link: none where one is out of reach.
 fn srlgs(alloc: Global, value: &Value) -> Result<Option<Numbers>, OutOfMemory>
     ensures { IfOk result (λ s. s ≡ srlgs_in (view value.now)) }
 {
@@ -123,7 +112,7 @@ fn has_kinds(value: &Value) -> bool
 fn has_counts(value: &Value) -> bool
     ensures { result ≡ has_link_counts (view value.now) }
 {
-    count(value, "ends") == 2 && count(value, "srlg") <= 16
+    count(value, "ends") == 2 && count(value, "srlg") <= MOST_SRLGS
 }
 
 fn lacks_key(value: &Value) -> bool
@@ -132,57 +121,37 @@ fn lacks_key(value: &Value) -> bool
     lacks(value, "id") || lacks(value, "ends") || lacks(value, "labels")
 }
 
-// A link whose keys, types and counts are right, after links of which the last has this id.
-fn read_values(
-    alloc: Global,
-    value: &Value,
-    names: &Names,
-    nodes: &[NodeSpec],
-    last: u32,
-) -> Result<LinkSpec, EntryError>
-    ensures link { IfOk result (λ l. l ≡ link_of names.now nodes.now (view value.now)) }
-    ensures sound { OnOk result (link_value_kind names.now nodes.now last (view value.now) ≡ None) }
-    ensures fault { IfErr result (λ e. TellsKind e (link_value_kind names.now nodes.now last (view value.now))) }
+// What a link has besides its ends.
+#[derive(Drop)]
+pub struct LinkNumbers {
+    id: u32,
+    labels: u32,
+    metric: u32,
+    srlgs: Numbers,
+}
+
+// None where one is out of reach.
+fn numbers(alloc: Global, value: &Value) -> Result<Option<LinkNumbers>, OutOfMemory>
+    ensures { IfOk result (λ n. n ≡ numbers_of (view value.now)) }
 {
     let (Some(id), Some(labels), Some(metric)) = (id(value), labels(value), metric(value)) else {
-        return Err(EntryError::Fault(PlanKind::Range));
+        return Ok(None);
     };
     let Some(srlgs) = srlgs(alloc, value)? else {
-        return Err(EntryError::Fault(PlanKind::Range));
+        return Ok(None);
     };
-    if last >= id {
-        return Err(EntryError::Fault(PlanKind::Order));
-    }
-    let Some((low, high)) = ends(value, names, nodes) else {
-        return Err(EntryError::Fault(PlanKind::Ends));
-    };
-    if !is_distinct(srlgs.items()) {
-        return Err(EntryError::Fault(PlanKind::Twice));
-    }
-    if !lacks(value, "srlg") {
-        return Err(EntryError::Fault(PlanKind::Unbuilt));
-    }
-    Ok(LinkSpec {
-        id: LinkId(id),
-        low,
-        high,
-        labels: labels as u8,
+    Ok(Some(LinkNumbers {
+        id,
+        labels,
         metric,
         srlgs,
-    })
+    }))
 }
 
 // A link, or its first fault, after links of which the last has this id.
-fn read_link(
-    alloc: Global,
-    value: &Value,
-    names: &Names,
-    nodes: &[NodeSpec],
-    last: u32,
-) -> Result<LinkSpec, EntryError>
-    ensures link { IfOk result (λ l. l ≡ link_of names.now nodes.now (view value.now)) }
-    ensures sound { OnOk result (link_kind names.now nodes.now last (view value.now) ≡ None) }
-    ensures fault { IfErr result (λ e. TellsKind e (link_kind names.now nodes.now last (view value.now))) }
+fn read_link(alloc: Global, known: &Nodes, last: u32, value: &Value) -> Result<LinkSpec, EntryError>
+    ensures link { IfOk result (λ l. link_of known.now last (view value.now) ≡ Ok l) }
+    ensures fault { FailsBy result (link_of known.now last (view value.now)) }
 {
     if has_strange(Shape::OfLink, value) {
         return Err(EntryError::Fault(PlanKind::Key));
@@ -196,31 +165,56 @@ fn read_link(
     if !has_counts(value) {
         return Err(EntryError::Fault(PlanKind::Count));
     }
-    read_values(alloc, value, names, nodes, last)
+    let Some(numbers) = numbers(alloc, value)? else {
+        return Err(EntryError::Fault(PlanKind::Range));
+    };
+    if last >= numbers.id {
+        return Err(EntryError::Fault(PlanKind::Order));
+    }
+    let Some((low, high)) = ends(value, known) else {
+        return Err(EntryError::Fault(PlanKind::Ends));
+    };
+    if !is_distinct(numbers.srlgs.items()) {
+        return Err(EntryError::Fault(PlanKind::Twice));
+    }
+    if !lacks(value, "srlg") {
+        return Err(EntryError::Fault(PlanKind::Unbuilt));
+    }
+    Ok(LinkSpec {
+        id: LinkId(numbers.id),
+        low,
+        high,
+        labels: numbers.labels as u8,
+        metric: numbers.metric,
+        srlgs: numbers.srlgs,
+    })
 }
 
-/// Reads the links, or gives the first fault.
+// The id of the last link; 0, which no link has, where there is none.
+fn last_link(links: &[LinkSpec]) -> u32
+    ensures { result ≡ last_link links.now }
+{
+    match links.last() {
+        None => 0,
+        Some(link) => link.id.0,
+    }
+}
+
+/// Reads the links between these nodes, or gives the first fault.
 pub fn read_links(
     alloc: Global,
-    names: &Names,
-    nodes: &[NodeSpec],
+    known: &Nodes,
     values: &[Value],
 ) -> Result<Vec<LinkSpec>, PlanError>
-    requires { length values.now ≤ 256 }
-    ensures links { IfOk result (λ r. r.items ≡ map (link_of names.now nodes.now) (views values.now)) }
-    ensures sound { OnOk result (links_fault names.now nodes.now 1 0 (views values.now) ≡ None) }
-    ensures fault { IfErr result (λ e. TellsFirst e (links_fault names.now nodes.now 1 0 (views values.now))) }
+    requires { length values.now ≤ MOST_LINKS }
+    ensures links { IfOk result (λ r. links_of known.now (views values.now) ≡ Ok r.items) }
+    ensures fault { FailsFirst result (links_of known.now (views values.now)) }
 {
     let mut links = Vec::new(alloc);
-    let mut last = 0;
     'reading: for i in 0..values.len() {
-        match read_link(alloc, &values[i], names, nodes, last) {
-            Ok(link) => {
-                last = link.id.0;
-                links.push(link)?;
-            }
-            Err(EntryError::Fault(kind)) => return Err(fault(PlanEntry::Link(i as u32 + 1), kind)),
-            Err(EntryError::OutOfMemory) => return Err(PlanError::OutOfMemory),
+        match read_link(alloc, known, last_link(&links), &values[i]) {
+            Ok(link) => links.push(link)?,
+            Err(error) => return Err(error_at(PlanEntry::Link(i as u32 + 1), error)),
         }
     }
     Ok(links)

@@ -3,6 +3,7 @@
 ghost use Rattle.std.specs.Prelude.{◌≡◌, ◌<◌, [], ◌∷◌, ◌++◌, length, IfOk, IfSome, IsTrue, OnErr, OnOk};
 ghost use Rattle.plan_reader.specs.Names.{are_name_bytes, has_name, is_name, is_name_byte, is_name_rest, place_of, same_text};
 
+use crate::limits::MOST_MORE_CHARACTERS;
 use ason_base::OutOfMemory;
 use std::alloc::Global;
 use std::marker::Model;
@@ -23,7 +24,7 @@ fn are_name_bytes(text: &[u8]) -> bool
 fn is_name_rest(text: &[u8]) -> bool
     ensures { result ≡ is_name_rest text.now }
 {
-    text.len() <= 15 && are_name_bytes(text)
+    text.len() <= MOST_MORE_CHARACTERS && are_name_bytes(text)
 }
 
 /// Whether the text is a name: 1 to 16 characters, the first an ASCII letter, the others ASCII letters, digits, `_` or `-`.

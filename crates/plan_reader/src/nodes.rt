@@ -1,26 +1,112 @@
 //! The nodes of a plan.
 
-ghost use Rattle.std.specs.Prelude.{◌≡◌, ◌≤◌, [], map, length, IfErr, IfNone, IfOk, IsTrue, OnOk, None, Some};
+ghost use Rattle.std.specs.Prelude.{◌≡◌, ◌≤◌, Err, IfOk, Ok, OnErr, OnOk, length};
 ghost use Rattle.toml.specs.View.{view};
-ghost use Rattle.plan_reader.specs.Names.{is_name};
-ghost use Rattle.plan_reader.specs.PlanTables.{TellsFirst, views, converts, has_node_kinds, id_in, id_number, name_of, node_kind, node_of, node_value_kind, nodes_fault};
+ghost use Rattle.plan_reader.specs.Entries.{FailsBy, FailsFirst};
+ghost use Rattle.plan_reader.specs.PlanTables.{converts, has_node_kinds, id_in, lacks_node_key, last_node, name_of, no_nodes, views, with_named, with_node, with_node_of};
+ghost use Rattle.plan_reader.specs.PlanTexts.{node_named};
+ghost use Rattle.plan_reader.specs.Plans.{nodes_of};
 ghost use Rattle.plan_reader.specs.declared.faults.PlanError.{PlanError};
 ghost use Rattle.plan_reader.specs.declared.faults.PlanFault.{PlanFault};
 
-use crate::faults::{PlanEntry, PlanError, PlanKind, fault};
+use crate::faults::{EntryError, PlanEntry, PlanError, PlanKind, error_at};
+use crate::limits::MOST_NUMBER;
 use crate::names::{Name, Names, is_name};
 use crate::values::{
     Shape, flag, has_strange, is_boolean_at, is_integer_at, is_text_at, lacks, number, text,
 };
-use ason_base::{NodeId, NodeSpec};
+use ason_base::network::MOST_NODES;
+use ason_base::{NodeId, NodeSpec, OutOfMemory};
 use std::alloc::Global;
+use std::marker::Model;
 use toml::Value;
 
-/// The names and the numbers of nodes, in the same order.
+/// Nodes, and their names in the same order.
 #[derive(Debug, Drop)]
 pub struct Nodes {
-    pub names: Names,
-    pub nodes: Vec<NodeSpec>,
+    names: Names,
+    nodes: Vec<NodeSpec>,
+}
+
+impl Model for Nodes {
+    ghost use Rattle.plan_reader.specs.PlanTables.{NodeList};
+
+    ghost Value = { NodeList };
+
+    ghost view = { λ s. record { names = s.names; nodes = s.nodes.items } };
+}
+
+impl Nodes {
+    /// No node.
+    pub fn new(alloc: Global) -> Nodes
+        ensures { result ≡ no_nodes }
+    {
+        Nodes {
+            names: Names::new(alloc),
+            nodes: Vec::new(alloc),
+        }
+    }
+
+    fn push(&mut self, name: Name, node: NodeSpec) -> Result<(), OutOfMemory>
+        ensures ok { OnOk result (self.new ≡ with_named self.old name node) }
+        ensures err { OnErr result (self.new ≡ self.old) }
+    {
+        self.nodes.reserve(1)?;
+        self.names.push(name)?;
+        match self.nodes.push(node) {
+            Ok(()) => Ok(()),
+            Err(_) => unreachable!(),
+        }
+    }
+
+    pub fn names(&self) -> &Names
+        ensures { result.now ≡ self.now.names }
+    {
+        &self.names
+    }
+
+    pub fn nodes(&self) -> &[NodeSpec]
+        ensures { result.now ≡ self.now.nodes }
+    {
+        &self.nodes
+    }
+
+    /// The names, in order of the nodes.
+    pub fn into_names(self) -> Names
+        ensures { result ≡ self.names }
+    {
+        self.names
+    }
+
+    // The id of the last node; 0, which no node has, where there is none.
+    fn last(&self) -> u32
+        ensures { result ≡ last_node self.now.nodes }
+    {
+        match self.nodes.last() {
+            None => 0,
+            Some(node) => node.id.0,
+        }
+    }
+}
+
+/// The node of this name, where names and nodes stand in the same order.
+pub fn node_named(names: &Names, nodes: &[NodeSpec], name: &[u8]) -> Option<NodeId>
+    ensures { result ≡ node_named names.now nodes.now name.now }
+{
+    match names.place(name) {
+        None => None,
+        Some(place) => match nodes.get(place) {
+            None => None,
+            Some(node) => Some(node.id),
+        },
+    }
+}
+
+/// The id of a node or a link, where one within reach stands there.
+pub fn id(value: &Value) -> Option<u32>
+    ensures { result ≡ id_in (view value.now) }
+{
+    number(value, "id", 1, MOST_NUMBER)
 }
 
 fn has_kinds(value: &Value) -> bool
@@ -29,24 +115,10 @@ fn has_kinds(value: &Value) -> bool
     is_text_at(value, "name") && is_integer_at(value, "id") && is_boolean_at(value, "convert")
 }
 
-/// The id of a node or a link, where one within reach stands there.
-pub fn id(value: &Value) -> Option<u32>
-    ensures { result ≡ id_in (view value.now) }
+fn lacks_key(value: &Value) -> bool
+    ensures { result ≡ lacks_node_key (view value.now) }
 {
-    number(value, "id", 1, u32::MAX)
-}
-
-/// The same; 0 where there is none.
-pub fn id_number(value: &Value) -> u32
-    ensures { result ≡ id_number (view value.now) }
-{
-    id(value).unwrap_or(0)
-}
-
-fn name(value: &Value) -> &[u8]
-    ensures { result.now ≡ name_of (view value.now) }
-{
-    text(value, "name")
+    lacks(value, "name") || lacks(value, "id")
 }
 
 fn converts(value: &Value) -> bool
@@ -55,71 +127,57 @@ fn converts(value: &Value) -> bool
     flag(value, "convert")
 }
 
-fn node(value: &Value) -> NodeSpec
-    ensures { result ≡ node_of (view value.now) }
+fn name_of(value: &Value) -> &[u8]
+    ensures { result.now ≡ name_of (view value.now) }
 {
-    NodeSpec {
-        id: NodeId(id_number(value)),
-        convert: converts(value),
-    }
+    text(value, "name")
 }
 
-fn value_kind(value: &Value, last: u32, names: &Names) -> Option<PlanKind>
-    ensures first { result ≡ node_value_kind last names.now (view value.now) }
-    ensures named { IfNone result (IsTrue (is_name (name_of (view value.now)))) }
-{
-    if !is_name(name(value)) {
-        return Some(PlanKind::Name);
-    }
-    if id(value).is_none() {
-        return Some(PlanKind::Range);
-    }
-    if last >= id_number(value) {
-        return Some(PlanKind::Order);
-    }
-    if names.has(name(value)) {
-        return Some(PlanKind::Twice);
-    }
-    None
-}
-
-// The first fault of a node after nodes of which the last has this id and which have these names.
-fn node_kind(value: &Value, last: u32, names: &Names) -> Option<PlanKind>
-    ensures first { result ≡ node_kind last names.now (view value.now) }
-    ensures named { IfNone result (IsTrue (is_name (name_of (view value.now)))) }
+// A node behind those before it, or its first fault.
+fn read_node(alloc: Global, nodes: &mut Nodes, value: &Value) -> Result<(), EntryError>
+    ensures ok { OnOk result (with_node nodes.old (view value.now) ≡ Ok nodes.new) }
+    ensures fault { FailsBy result (with_node nodes.old (view value.now)) }
 {
     if has_strange(Shape::OfNode, value) {
-        return Some(PlanKind::Key);
+        return Err(EntryError::Fault(PlanKind::Key));
     }
-    if lacks(value, "name") || lacks(value, "id") {
-        return Some(PlanKind::Missing);
+    if lacks_key(value) {
+        return Err(EntryError::Fault(PlanKind::Missing));
     }
     if !has_kinds(value) {
-        return Some(PlanKind::Kind);
+        return Err(EntryError::Fault(PlanKind::Kind));
     }
-    value_kind(value, last, names)
+    let name = name_of(value);
+    if !is_name(name) {
+        return Err(EntryError::Fault(PlanKind::Name));
+    }
+    let Some(id) = id(value) else {
+        return Err(EntryError::Fault(PlanKind::Range));
+    };
+    if nodes.last() >= id {
+        return Err(EntryError::Fault(PlanKind::Order));
+    }
+    if nodes.names.has(name) {
+        return Err(EntryError::Fault(PlanKind::Twice));
+    }
+    let name = Name::new(alloc, name)?;
+    let id = NodeId(id);
+    let convert = converts(value);
+    nodes.push(name, NodeSpec { id, convert })?;
+    Ok(())
 }
 
 /// Reads the nodes, or gives the first fault.
 pub fn read_nodes(alloc: Global, values: &[Value]) -> Result<Nodes, PlanError>
-    requires { length values.now ≤ 64 }
-    ensures names { IfOk result (λ r. r.names ≡ map name_of (views values.now)) }
-    ensures nodes { IfOk result (λ r. r.nodes.items ≡ map node_of (views values.now)) }
-    ensures sound { OnOk result (nodes_fault 1 0 [] (views values.now) ≡ None) }
-    ensures fault { IfErr result (λ e. TellsFirst e (nodes_fault 1 0 [] (views values.now))) }
+    requires { length values.now ≤ MOST_NODES }
+    ensures nodes { IfOk result (λ r. nodes_of (views values.now) ≡ Ok r) }
+    ensures fault { FailsFirst result (nodes_of (views values.now)) }
 {
-    let mut names = Names::new(alloc);
-    let mut nodes = Vec::new(alloc);
-    let mut last = 0;
+    let mut nodes = Nodes::new(alloc);
     'reading: for i in 0..values.len() {
-        let value = &values[i];
-        if let Some(kind) = node_kind(value, last, &names) {
-            return Err(fault(PlanEntry::Node(i as u32 + 1), kind));
+        if let Err(error) = read_node(alloc, &mut nodes, &values[i]) {
+            return Err(error_at(PlanEntry::Node(i as u32 + 1), error));
         }
-        let name = Name::new(alloc, name(value))?;
-        names.push(name)?;
-        nodes.push(node(value))?;
-        last = id_number(value);
     }
-    Ok(Nodes { names, nodes })
+    Ok(nodes)
 }

@@ -5,9 +5,11 @@ ghost use Rattle.toml.specs.View.{view};
 ghost use Rattle.plan_reader.specs.PlanTables.{has_top_counts, has_top_kinds, top_kind, top_value_kind};
 
 use crate::faults::PlanKind;
+use crate::limits::{MOST_LINES, MOST_WAIT};
 use crate::values::{
     Shape, are_tables_at, are_texts_at, count, has_strange, is_integer_at, lacks, number_or,
 };
+use ason_base::network::{MOST_LINKS, MOST_NODES};
 use toml::Value;
 
 fn has_kinds(value: &Value) -> bool
@@ -23,7 +25,10 @@ fn has_counts(value: &Value) -> bool
     ensures { result ≡ has_top_counts (view value.now) }
 {
     let nodes = count(value, "node");
-    1 <= nodes && nodes <= 64 && count(value, "link") <= 256 && count(value, "script") <= 10_000
+    1 <= nodes
+        && nodes <= MOST_NODES
+        && count(value, "link") <= MOST_LINKS
+        && count(value, "script") <= MOST_LINES
 }
 
 fn value_kind(value: &Value) -> Option<PlanKind>
@@ -33,7 +38,7 @@ fn value_kind(value: &Value) -> Option<PlanKind>
     if !has_counts(value) {
         return Some(PlanKind::Count);
     }
-    if number_or(value, "wait", 0, 0, 10_000).is_none() {
+    if number_or(value, "wait", 0, 0, MOST_WAIT).is_none() {
         return Some(PlanKind::Range);
     }
     if !lacks(value, "wait") {

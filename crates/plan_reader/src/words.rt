@@ -1,9 +1,9 @@
 //! Words and numbers in texts.
 
-ghost use Rattle.std.specs.Prelude.{◌≡◌, [], length, map, slice_get, option_map, nat_le, if◌then◌else◌, Some, None, IsTrue, IfOk};
-ghost use Rattle.std.specs.Str.Parse.{digits_value};
-ghost use Rattle.plan_reader.specs.PlanTexts.{are_digits, are_link_ids, are_numbers, is_number, link_id, link_ids, number_up_to, texts, word_at, words_of};
+ghost use Rattle.std.specs.Prelude.{◌≡◌, filter_map, option_map, IsTrue, IfOk};
+ghost use Rattle.plan_reader.specs.PlanTexts.{are_digits, are_link_ids, are_numbers, is_number, link_id, link_ids, number_up_to, parts_of, texts, value_up_to, word_at, words_of};
 
+use crate::limits::MOST_NUMBER;
 use ason_base::OutOfMemory;
 use std::alloc::{AllocError, Global};
 
@@ -53,7 +53,7 @@ pub fn is_number(word: &[u8]) -> bool
 
 fn digits(word: &[u8]) -> Option<u32>
     requires { IsTrue (is_number word.now) }
-    ensures { result ≡ (if nat_le (digits_value 10 word.now) 4294967295 then Some (digits_value 10 word.now) else None) }
+    ensures { result ≡ value_up_to MOST_NUMBER word.now }
 {
     match std::str::from_utf8(word) {
         Ok(text) => match text.parse::<u32>() {
@@ -80,7 +80,7 @@ pub fn number(word: &[u8], most: u32) -> Option<u32>
 fn link_id(part: &[u8]) -> Option<u32>
     ensures { result ≡ link_id part.now }
 {
-    number(part, u32::MAX)
+    number(part, MOST_NUMBER)
 }
 
 /// Whether the word is numbers with commas between them.
@@ -90,8 +90,7 @@ pub fn are_numbers(word: &[u8]) -> bool
     word.split(|b| *b == b',').all(is_number)
 }
 
-/// Whether the word is link ids within reach, with commas between them.
-pub fn are_link_ids(word: &[u8]) -> bool
+fn are_link_ids(word: &[u8]) -> bool
     ensures { result ≡ are_link_ids word.now }
 {
     word.split(|b| *b == b',')
@@ -99,17 +98,20 @@ pub fn are_link_ids(word: &[u8]) -> bool
 }
 
 fn collect_ids(alloc: Global, word: &[u8]) -> Result<Vec<u32>, AllocError>
-    ensures { IfOk result (λ v. v.items ≡ link_ids word.now) }
+    ensures { IfOk result (λ v. v.items ≡ filter_map link_id (parts_of word.now)) }
 {
     word.split(|b| *b == b',')
-        .map(|part| link_id(part).unwrap_or(0))
+        .filter_map(|part| link_id(part))
         .collect(alloc)
 }
 
-/// The link ids of the word, which has commas between them.
-pub fn link_ids(alloc: Global, word: &[u8]) -> Result<Vec<u32>, OutOfMemory>
-    ensures { IfOk result (λ v. v.items ≡ link_ids word.now) }
+/// The link ids of the word, which has commas between them: none where one is out of reach.
+pub fn link_ids(alloc: Global, word: &[u8]) -> Result<Option<Vec<u32>>, OutOfMemory>
+    ensures { IfOk result (λ ids. option_map (λ v. v.items) ids ≡ link_ids word.now) }
 {
+    if !are_link_ids(word) {
+        return Ok(None);
+    }
     let ids = collect_ids(alloc, word)?;
-    Ok(ids)
+    Ok(Some(ids))
 }

@@ -1,10 +1,8 @@
-use Rattle.std.proofs.Common.{◌≡◌, map, ◌+◌, ◌++◌, drop}
-use Rattle.toml.specs.View.{view}
-use Rattle.plan_reader.specs.PlanTables.{link_of, links_fault}
+use Rattle.plan_reader.specs.PlanTables.{views, with_link}
+use Rattle.plan_reader.specs.Plans.{links_of}
+use Rattle.plan_reader.specs.declared.faults.PlanEntry.TheVariants.{Link}
+use Rattle.plan_reader.proofs.Entries.{GoesOn}
 use Rattle.plan_reader.proofs.links.read_links.Given as goal
 
 abbrev pub invariant-reading : goal.invariant-reading
-invariant-reading l = record {
-  links : l.links.items ++ map (link_of l.names l.nodes) (drop l.i (map (λ v. view v) l.values)) ≡ map (link_of l.names l.nodes) (map (λ v. view v) l.values);
-  left : links_fault l.names l.nodes 1 0 (map (λ v. view v) l.values) ≡ links_fault l.names l.nodes (l.i + 1) l.last (drop l.i (map (λ v. view v) l.values));
-}
+invariant-reading l = GoesOn Link (with_link l.known) (links_of l.known (views l.values)) l.i l.links.items l.values

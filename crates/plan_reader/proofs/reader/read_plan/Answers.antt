@@ -3,7 +3,9 @@ use Rattle.plan_reader.proofs.PostableLines.{plan_is_named, plan_is_postable}
 use Rattle.plan_reader.proofs.reader.read_plan.Goals as goal
 
 pub returns-in-Ok-clause-postable : goal.returns-in-Ok-clause-postable
-returns-in-Ok-clause-postable c = IfOk-weaker c.read_table.result _ _ (λ p h. plan_is_postable _ p h) c.read_table.ensures.plan
+returns-in-Ok-clause-postable c =
+    IfOk-weaker c.read_table.result _ _ (λ p h. plan_is_postable _ p h) c.read_table.ensures.plan
 
 pub returns-in-Ok-clause-named : goal.returns-in-Ok-clause-named
-returns-in-Ok-clause-named c = IfOk-weaker c.read_table.result _ _ (λ p h. plan_is_named _ p h) c.read_table.ensures.plan
+returns-in-Ok-clause-named c =
+    IfOk-weaker c.read_table.result _ _ (λ p h. plan_is_named _ p h) c.read_table.ensures.plan

@@ -1,15 +1,11 @@
-use Rattle.std.proofs.Common.{◌≡◌, List, ℕ, IfErr, IfOk, ap, subst, ◌∙◌}
-use Rattle.plan_reader.specs.PlanScript.{line_kind, line_of}
-use Rattle.plan_reader.specs.PlanTables.{TellsKind}
-use Rattle.plan_reader.specs.PlanTexts.{texts}
+use Rattle.std.proofs.Common.{List, ℕ, ap, subst, ◌∙◌}
+use Rattle.plan_reader.specs.Entries.{FailsBy}
+use Rattle.plan_reader.specs.PlanScript.{by_words}
+use Rattle.plan_reader.specs.PlanTexts.{texts, words_of}
 use Rattle.plan_reader.proofs.script.read_text.Goals as goal
-
-pub returns-clause-line : goal.returns-clause-line
-returns-clause-line c =
-    subst (λ (ws : List (List ℕ)). IfOk c.read_line.result (λ l. l ≡ line_of c.args.t.now c.args.names.now c.args.calls.now ws))
-    (ap texts c.deref.ensures.value ∙ c.in_ok-words.ensures) c.read_line.ensures.line
 
 pub returns-clause-fault : goal.returns-clause-fault
 returns-clause-fault c =
-    subst (λ (ws : List (List ℕ)). IfErr c.read_line.result (λ e. TellsKind e (line_kind c.args.t.now c.args.names.now c.args.calls.now ws)))
-    (ap texts c.deref.ensures.value ∙ c.in_ok-words.ensures) c.read_line.ensures.fault
+    let says = by_words c.args.t.now c.args.names.now c.args.read.now in
+    subst (λ (ws : List (List ℕ)). FailsBy c.read_words.result (says ws))
+    (ap texts c.deref.ensures.value ∙ c.in_ok-words.ensures ∙ ap words_of c.text_of.ensures) c.read_words.ensures.fault

@@ -7,5 +7,6 @@ use Rattle.plan_reader.proofs.words.are_numbers.Goals as goal
 pub returns : goal.returns
 returns c =
     all_from_yields_List is_number _ _ c.all.result c.all.ensures.ran
-    (YieldsList-from_slice_split _ (λ b. b == 44) c.args.word.now c.split.ensures.rest c.split.ensures.done c.split.ensures.closure (λ x r q k. search (rules, tests)))
+    (YieldsList-from_slice_split _ (λ b. b == 44) c.args.word.now c.split.ensures.rest c.split.ensures.done
+    c.split.ensures.closure (λ x r q k. search (rules, tests)))
     (λ x r q k. search (rules, tests))

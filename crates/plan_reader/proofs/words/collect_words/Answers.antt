@@ -8,5 +8,7 @@ pub returns : goal.returns
 returns c =
     map_from_collect c.collect.result c.collect.ensures.ran
     (YieldsList-from_filter _ (λ w. not (is_empty w))
-    (YieldsList-at c.filter.ensures.source (YieldsList-from_slice_split _ (λ b. b == 32) c.args.line.now c.split.ensures.rest c.split.ensures.done c.split.ensures.closure (λ x r q k. search (rules, tests))))
+    (YieldsList-at c.filter.ensures.source
+    (YieldsList-from_slice_split _ (λ b. b == 32) c.args.line.now c.split.ensures.rest c.split.ensures.done
+    c.split.ensures.closure (λ x r q k. search (rules, tests))))
     c.filter.ensures.closure (λ x r q k. search (rules, tests)))

@@ -1,0 +1,94 @@
+-- Entries one after the other: in the program's loops, and what holds of what was read.
+use Rattle.std.proofs.Common.{◌≡◌, ℕ, ◌+◌, ◌<◌, arith, Bool, true, false, cond, List, [], ◌∷◌, drop, get_or, length, Result, Ok, Err, refl, subst, ◌∙◌}
+use Rattle.toml.specs.Data.{Data}
+use Rattle.toml.specs.View.{view}
+use Rattle.toml.specs.declared.value.Value.{Value}
+use Rattle.plan_reader.specs.Entries.{TellsFirst, TellsKind, and_then, at_entry, error_at, read_all}
+use Rattle.plan_reader.specs.PlanTables.{views}
+use Rattle.plan_reader.specs.declared.faults.EntryError.{EntryError}
+use Rattle.plan_reader.specs.declared.faults.EntryError.TheVariants.{Fault, OutOfMemory}
+use Rattle.plan_reader.specs.declared.faults.PlanEntry.{PlanEntry}
+use Rattle.plan_reader.specs.declared.faults.PlanFault.{PlanFault}
+use Rattle.plan_reader.specs.declared.faults.PlanKind.{PlanKind}
+use Rattle.plan_reader.proofs.Elements.{views_here}
+
+-- what a loop comes to is what is there so far, with the values that are left
+abbrev pub GoesOn :
+    {S : Type 0} → (ℕ → PlanEntry) → (S → Data → Result S PlanKind) → Result S PlanFault → ℕ → S → List Value
+    → Type 0
+GoesOn entry read all i so_far values = all ≡ read_all entry read (i + 1) so_far (drop i (views values))
+
+-- one value more
+pub one_read :
+    {S : Type 0} (entry : ℕ → PlanEntry) (read : S → Data → Result S PlanKind) (all : Result S PlanFault) (i : ℕ)
+    (before after : S) (values : List Value) (v : Value) → i < length values → v ≡ get_or values i v
+    → read before (view v) ≡ Ok after → GoesOn entry read all i before values
+    → GoesOn entry read all (i + 1) after values
+one_read entry read all i before after values v below here ok so_far =
+    so_far ∙ rw (views_here values i v below here, ok) refl
+
+-- a value with a fault
+pub one_faulty :
+    {S : Type 0} (entry : ℕ → PlanEntry) (read : S → Data → Result S PlanKind) (all : Result S PlanFault) (i : ℕ)
+    (before : S) (values : List Value) (v : Value) (e : EntryError) → i < length values → v ≡ get_or values i v
+    → TellsKind e (read before (view v)) → GoesOn entry read all i before values
+    → TellsFirst (error_at (entry (i + 1)) e) all
+one_faulty entry read all i before values v (Fault k) below here tells so_far =
+    λ f same.
+    let fault : record { entry = entry (i + 1); kind = k } ≡ f = cc (same) in
+    so_far ∙ rw (views_here values i v below here, tells k refl, fault) refl
+one_faulty entry read all i before values v OutOfMemory below here tells so_far = λ f same. absurd (cc (same))
+
+-- what each entry keeps holds at the end
+pub kept :
+    {S D : Type 0} (Holds : S → Type 0) (entry : ℕ → PlanEntry) (read : S → D → Result S PlanKind)
+    → ((before after : S) (d : D) → read before d ≡ Ok after → Holds before → Holds after)
+    → (n : ℕ) (before : S) (ds : List D) (end : S) → read_all entry read n before ds ≡ Ok end → Holds before
+    → Holds end
+kept Holds entry read keeps n before [] end h holds = let same : before ≡ end = cc (h) in subst Holds same holds
+kept {S} {D} Holds entry read keeps n before (d ∷ ds) end h holds =
+    go (λ after. kept Holds entry read keeps (n + 1) after ds end) (read before d) refl h
+  where
+    go :
+        ((after : S) → read_all entry read (n + 1) after ds ≡ Ok end → Holds after → Holds end)
+        → (r : Result S PlanKind) → read before d ≡ r
+        → and_then (at_entry (entry n) r) (λ after. read_all entry read (n + 1) after ds) ≡ Ok end → Holds end
+    go later (Ok after) e more = later after more (keeps before after d e holds)
+    go later (Err kind) e more = absurd (cc (more))
+
+-- where each entry counts for one, there are as many as there are entries
+pub as_many :
+    {S D : Type 0} (count : S → ℕ) (entry : ℕ → PlanEntry) (read : S → D → Result S PlanKind)
+    → ((before after : S) (d : D) → read before d ≡ Ok after → count after ≡ count before + 1)
+    → (n : ℕ) (before : S) (ds : List D) (end : S) → read_all entry read n before ds ≡ Ok end
+    → count end ≡ count before + length ds
+as_many count entry read one n before [] end h =
+    let same : before ≡ end = cc (h) in
+    subst (λ s. count s ≡ count before + 0) same (omega arith)
+as_many {S} {D} count entry read one n before (d ∷ ds) end h =
+    go (λ after. as_many count entry read one (n + 1) after ds end) (read before d) refl h
+  where
+    go :
+        ((after : S) → read_all entry read (n + 1) after ds ≡ Ok end → count end ≡ count after + length ds)
+        → (r : Result S PlanKind) → read before d ≡ r
+        → and_then (at_entry (entry n) r) (λ after. read_all entry read (n + 1) after ds) ≡ Ok end
+        → count end ≡ count before + length (d ∷ ds)
+    go later (Ok after) e more =
+        let others = later after more in
+        let this = one before after d e in
+        omega (arith, others, this)
+    go later (Err kind) e more = absurd (cc (more))
+
+-- a test that comes first and finds no fault
+pub passed :
+    {A E : Type 0} (test : Bool) (e : E) (rest : Result A E) (a : A) → cond test (Err e) rest ≡ Ok a
+    → (test ≡ false) × (rest ≡ Ok a)
+passed true e rest a h = absurd (cc (h))
+passed false e rest a h = (refl, h)
+
+-- two readings without fault
+pub both_read :
+    {A B E : Type 0} (first : Result A E) (next : A → Result B E) (b : B) → and_then first next ≡ Ok b
+    → (a : A) × (first ≡ Ok a) × (next a ≡ Ok b)
+both_read (Ok a) next b h = (a, refl, h)
+both_read (Err e) next b h = absurd (cc (h))

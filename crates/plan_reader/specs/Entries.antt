@@ -1,0 +1,46 @@
+-- The entries of a plan are read one after the other, up to the first fault.
+use Rattle.std.specs.Prelude.{◌≡◌, ℕ, ◌+◌, List, [], ◌∷◌, Result, Ok, Err, IfErr}
+use Rattle.plan_reader.specs.declared.faults.EntryError.{EntryError}
+use Rattle.plan_reader.specs.declared.faults.PlanEntry.{PlanEntry}
+use Rattle.plan_reader.specs.declared.faults.PlanError.{PlanError}
+use Rattle.plan_reader.specs.declared.faults.PlanFault.{PlanFault}
+use Rattle.plan_reader.specs.declared.faults.PlanKind.{PlanKind}
+
+-- the next reading of what one gave, where it gave no fault
+abbrev pub and_then : {A B E : Type 0} → Result A E → (A → Result B E) → Result B E
+and_then (Ok a) next = next a
+and_then (Err e) next = Err e
+
+-- a fault of this entry
+abbrev pub at_entry : {A : Type 0} → PlanEntry → Result A PlanKind → Result A PlanFault
+at_entry entry (Ok a) = Ok a
+at_entry entry (Err kind) = Err (record { entry = entry; kind = kind })
+
+-- what is there after entries of which the first is number n, each read onto what is there before it, or the first
+-- fault
+abbrev pub read_all :
+    {S D : Type 0} → (ℕ → PlanEntry) → (S → D → Result S PlanKind) → ℕ → S → List D → Result S PlanFault
+read_all entry read n before [] = Ok before
+read_all entry read n before (d ∷ ds) =
+    and_then (at_entry (entry n) (read before d)) (λ after. read_all entry read (n + 1) after ds)
+
+-- an error that tells a fault tells this one
+abbrev pub TellsFirst : {A : Type 0} → PlanError → Result A PlanFault → Type 0
+TellsFirst e says = (f : PlanFault) → e ≡ PlanError.Fault f → says ≡ Err f
+
+-- an error that tells a fault of an entry tells this one
+abbrev pub TellsKind : {A : Type 0} → EntryError → Result A PlanKind → Type 0
+TellsKind e says = (k : PlanKind) → e ≡ EntryError.Fault k → says ≡ Err k
+
+-- where a reading of an entry fails, its error tells the fault
+abbrev pub FailsBy : {A B : Type 0} → Result A EntryError → Result B PlanKind → Type 0
+FailsBy result says = IfErr result (λ e. TellsKind e says)
+
+-- where a reading of the plan fails, its error tells the first fault
+abbrev pub FailsFirst : {A B : Type 0} → Result A PlanError → Result B PlanFault → Type 0
+FailsFirst result says = IfErr result (λ e. TellsFirst e says)
+
+-- the same error, of this entry
+abbrev pub error_at : PlanEntry → EntryError → PlanError
+error_at entry (EntryError.Fault k) = PlanError.Fault (record { entry = entry; kind = k })
+error_at entry EntryError.OutOfMemory = PlanError.OutOfMemory

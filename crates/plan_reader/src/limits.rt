@@ -1,0 +1,25 @@
+//! How much a plan may have.
+
+/// The most calls that a plan sets up.
+pub const MOST_CALLS: usize = 4_096;
+
+/// The most lines of a script.
+pub const MOST_LINES: usize = 10_000;
+
+/// The most rounds of a `settle`.
+pub const MOST_ROUNDS: u32 = 1_000;
+
+/// The most ticks until a call is restored.
+pub const MOST_WAIT: u32 = 10_000;
+
+/// The most labels of a link.
+pub const MOST_LABELS: u32 = 80;
+
+/// The greatest metric of a link.
+pub const MOST_METRIC: u32 = 65_535;
+
+/// The greatest id of a node or a link, and the greatest SRLG.
+pub const MOST_NUMBER: u32 = 4_294_967_295;
+
+/// The most characters of a name behind its first.
+pub const MOST_MORE_CHARACTERS: usize = 15;
