@@ -1,1 +1,3 @@
+pub mod LegClaims
+pub mod States
 pub mod Tables

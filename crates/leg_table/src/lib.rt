@@ -1,9 +1,13 @@
-//! What a node keeps: its own links and those that it knows, its legs and its calls.
+//! What a node keeps: its own links and those that it knows, its legs and its calls; and what a rule changes of it.
 #![tactic(auto)]
 
 mod calls;
+pub mod changes;
+pub mod labels;
 mod legs;
 mod tables;
 
 pub use calls::Calls;
+pub use changes::Change;
+pub use labels::TakenLabel;
 pub use tables::{NodeTables, PutFault};

@@ -1,0 +1,95 @@
+-- Which labels the legs of a node take, and the claims of its owner that they have (RFC 4872, section 8).
+use Rattle.std.specs.Prelude.{◌≡◌, ℕ, Bool, List, [], ◌∷◌, Option, Some, None, IfSome, IsTrue, if◌then◌else◌}
+use Rattle.std.specs.List.{AllByRecursion, list_any}
+use Rattle.ason_base.specs.Labels.{has}
+use Rattle.ason_base.specs.Lsps.{same_fibre}
+use Rattle.ason_base.specs.declared.calls.Phase.{Phase}
+use Rattle.ason_base.specs.declared.calls.Phase.TheVariants as phase
+use Rattle.ason_base.specs.declared.calls.Role.{Role}
+use Rattle.ason_base.specs.declared.calls.Role.TheVariants.{Work, Back}
+use Rattle.ason_base.specs.declared.ids.Fibre.{Fibre}
+use Rattle.ason_base.specs.declared.ids.Lsp.{Lsp}
+use Rattle.ason_base.specs.declared.tables.Leg.{Leg}
+use Rattle.link_owner.specs.Claims.{FibreClaims}
+use Rattle.link_owner.specs.Owners.{claims_of, comes_in, has_label, labels_of}
+use Rattle.link_owner.specs.declared.claims.Claim.{Claim}
+use Rattle.link_owner.specs.declared.claims.ClaimKind.{ClaimKind}
+use Rattle.link_owner.specs.declared.claims.ClaimKind.TheVariants.{Working, Backup, Armed}
+use Rattle.mesh_rules.specs.Legs.{find_leg, is_beyond_asked, is_work, takes, usable}
+use Rattle.mesh_rules.specs.LocalNodes.{LocalNode, fibre_in, own_link}
+use Rattle.mesh_rules.specs.LocalNodes as local
+use Rattle.mesh_rules.specs.declared.changes.LegChange.{LegChange}
+use Rattle.mesh_rules.specs.declared.changes.LegChange.TheVariants.{Goes, Put}
+use Rattle.leg_table.specs.declared.labels.TakenLabel.{TakenLabel}
+
+-- The label that a leg takes
+
+abbrev pub taken_over : Option Fibre → Option ℕ → Option TakenLabel
+taken_over None x = None
+taken_over (Some f) None = None
+taken_over (Some f) (Some x) = Some (record { fibre = f; label = x })
+
+-- the label in of a leg beyond Asked, and the fibre that it is on
+abbrev pub taken : Leg → Option TakenLabel
+taken g = if is_beyond_asked g.phase then taken_over g.in_fibre g.in_label else None
+
+-- Claims of legs
+
+-- a working leg has its label alone; a backup shares it, and is armed exactly where it is Armed or Live
+abbrev pub claim_kind : Role → Phase → ClaimKind
+claim_kind Work p = Working
+claim_kind Back phase.Armed = Armed
+claim_kind Back phase.Live = Armed
+claim_kind Back p = Backup
+
+-- how the leg has the label, if it takes it
+abbrev pub kind_here : Fibre → ℕ → Option Leg → Option ClaimKind
+kind_here f x None = None
+kind_here f x (Some g) = if takes f x g then Some (claim_kind g.role g.phase) else None
+
+-- the leg of the claim's LSP takes the label, and has it in this way
+abbrev pub IsClaimOfLeg : List Leg → Fibre → Claim → Type 0
+IsClaimOfLeg legs f c = kind_here f c.label (find_leg c.lsp legs) ≡ Some c.kind
+
+-- the claims are exactly the labels that legs take
+pub record ClaimsFit (legs : List Leg) (o : List FibreClaims) : Type 0 where
+  -- each claim is one of a leg
+  pub each : (f : Fibre) → AllByRecursion (IsClaimOfLeg legs f) (claims_of f o)
+  -- each label that a leg takes is claimed by its LSP
+  pub all : (f : Fibre) (x : ℕ) (l : Lsp) (g : Leg) → find_leg l legs ≡ Some g → IsTrue (takes f x g) →
+      IsTrue (has_label o f x l)
+
+-- Fibres that come in
+
+-- the fibre in of a link of the node
+abbrev pub is_fibre_in : LocalNode → Fibre → Bool
+is_fibre_in p f = list_any (λ l. same_fibre (fibre_in l p.id) f) p.own
+
+-- the owner has the fibres in of the node's own links, with their labels
+pub record OwnerFits (p : LocalNode) (o : List FibreClaims) : Type 0 where
+  pub fibres : (f : Fibre) → comes_in o f ≡ is_fibre_in p f
+  pub labels : (f : Fibre) → IsTrue (comes_in o f) → labels_of f o ≡ local.labels_of (own_link p f.link)
+
+-- Changes of legs
+
+-- a working leg takes a label that is usable
+pub record MayTake (p : LocalNode) (legs : List Leg) (g : Leg) (t : TakenLabel) : Type 0 where
+  pub work : IsTrue (is_work g.role)
+  pub comes_in : IsTrue (is_fibre_in p t.fibre)
+  pub usable : IsTrue (has (usable p legs t.fibre) t.label)
+
+abbrev pub MayBePut : LocalNode → List Leg → Leg → Type 0
+MayBePut p legs g = IfSome (taken g) (MayTake p legs g)
+
+abbrev pub MayBeFirst : LocalNode → List Leg → LegChange → Type 0
+MayBeFirst p legs (Goes l) = Unit {0}
+MayBeFirst p legs (Put g) = MayBePut p legs g
+
+abbrev pub TakesNone : LegChange → Type 0
+TakesNone (Goes l) = Unit {0}
+TakesNone (Put g) = taken g ≡ None
+
+-- of the changes of one answer just the first may take a label
+abbrev pub MayBeMade : LocalNode → List Leg → List LegChange → Type 0
+MayBeMade p legs [] = Unit {0}
+MayBeMade p legs (c ∷ cs) = MayBeFirst p legs c × AllByRecursion TakesNone cs

@@ -1,0 +1,122 @@
+//! What a rule answers: the legs and calls that change, and the messages that are sent.
+
+ghost use Rattle.std.specs.Prelude.{◌≡◌, [], ◌∷◌, IfOk, OnOk, Some};
+ghost use Rattle.mesh_rules.specs.declared.changes.CallChange.TheVariants as calls;
+ghost use Rattle.mesh_rules.specs.Changes.{changes_calls, followed_by, nothing, puts, removes, sends, to_node};
+
+use ason_base::{CallNo, CallRec, Leg, Lsp, Msg, NodeId, Out, OutOfMemory, Outs};
+use mesh_rules::{CallChange, LegChange, NextNumbers};
+use std::alloc::Global;
+use std::marker::Model;
+
+/// What a rule changes at its node, and what it sends, in order. All else stays.
+#[derive(Debug, Drop)]
+pub struct Change {
+    pub(crate) legs: Vec<LegChange>,
+    pub(crate) calls: Vec<CallChange>,
+    pub(crate) numbers: Option<NextNumbers>,
+    pub(crate) sent: Outs,
+}
+
+impl Model for Change {
+    ghost use Rattle.std.specs.Prelude.{None};
+    ghost use Rattle.mesh_rules.specs.Changes.{Answer};
+
+    ghost Value = { Answer };
+
+    ghost view = { λ c. record { legs = c.legs.items; calls = c.calls.items; numbers = c.numbers; down = None; sent = c.sent } };
+}
+
+impl Change {
+    /// Nothing changes, and nothing is sent.
+    pub fn nothing(alloc: Global) -> Change
+        ensures { result ≡ nothing }
+    {
+        Change {
+            legs: Vec::new(alloc),
+            calls: Vec::new(alloc),
+            numbers: None,
+            sent: Outs::new(alloc),
+        }
+    }
+
+    /// One message is sent.
+    pub fn sends(alloc: Global, to: NodeId, msg: Msg) -> Result<Change, OutOfMemory>
+        ensures { IfOk result (λ c. c ≡ sends (to_node to msg ∷ [])) }
+    {
+        let mut change = Change::nothing(alloc);
+        change.send(to, msg)?;
+        Ok(change)
+    }
+
+    /// The leg is put in its place, and one message is sent.
+    pub fn puts(alloc: Global, leg: Leg, to: NodeId, msg: Msg) -> Result<Change, OutOfMemory>
+        ensures { IfOk result (λ c. c ≡ puts leg (to_node to msg ∷ [])) }
+    {
+        let mut change = Change::sends(alloc, to, msg)?;
+        change.put(leg)?;
+        Ok(change)
+    }
+
+    /// The leg of this LSP goes, and one message is sent.
+    pub fn removes(alloc: Global, lsp: Lsp, to: NodeId, msg: Msg) -> Result<Change, OutOfMemory>
+        ensures { IfOk result (λ c. c ≡ removes lsp (to_node to msg ∷ [])) }
+    {
+        let mut change = Change::sends(alloc, to, msg)?;
+        change.remove(lsp)?;
+        Ok(change)
+    }
+
+    /// Then a message is sent.
+    pub fn send(&mut self, to: NodeId, msg: Msg) -> Result<(), OutOfMemory>
+        ensures { OnOk result (self.new ≡ followed_by self.old (sends (to_node to msg ∷ []))) }
+    {
+        self.sent.push(Out { to, msg })
+    }
+
+    /// Then the leg is put in its place.
+    pub fn put(&mut self, leg: Leg) -> Result<(), OutOfMemory>
+        ensures { OnOk result (self.new ≡ followed_by self.old (puts leg [])) }
+    {
+        self.legs.push(LegChange::Put(leg))?;
+        Ok(())
+    }
+
+    /// Then the leg of this LSP goes.
+    pub fn remove(&mut self, lsp: Lsp) -> Result<(), OutOfMemory>
+        ensures { OnOk result (self.new ≡ followed_by self.old (removes lsp [])) }
+    {
+        self.legs.push(LegChange::Goes(lsp))?;
+        Ok(())
+    }
+
+    /// Then the call is put in its place.
+    pub fn put_call(&mut self, call: CallRec) -> Result<(), OutOfMemory>
+        ensures { OnOk result (self.new ≡ followed_by self.old (changes_calls (calls.Put call ∷ []))) }
+    {
+        self.calls.push(CallChange::Put(call))?;
+        Ok(())
+    }
+
+    /// Then the call of this number goes.
+    pub fn remove_call(&mut self, number: CallNo) -> Result<(), OutOfMemory>
+        ensures { OnOk result (self.new ≡ followed_by self.old (changes_calls (calls.Goes number ∷ []))) }
+    {
+        self.calls.push(CallChange::Goes(number))?;
+        Ok(())
+    }
+
+    /// Then the tunnel and LSP numbers that are given out next are these.
+    pub fn use_numbers(&mut self, numbers: NextNumbers)
+        ensures { self.new ≡ record self.old { numbers = Some numbers } }
+    {
+        self.numbers = Some(numbers);
+    }
+
+    /// The messages that are sent, in order.
+    pub fn sent(&self) -> &Outs
+        ensures { result.now ≡ self.now.sent }
+    {
+        &self.sent
+    }
+}
