@@ -1,5 +1,11 @@
+pub mod Carried
+pub mod ClaimChanges
 mod Halved
+pub mod LegOrder
 mod LspOrder
 mod NewPlaces
 mod Orders
+pub mod OwnerFibres
 mod Places
+pub mod TakenLabels
+pub mod UsableLabels

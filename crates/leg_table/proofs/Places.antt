@@ -1,5 +1,5 @@
 -- Where a leg or a call stands in its list.
-use Rattle.std.proofs.Common.{◌≡◌, ◌≤◌, ◌+◌, ℕ, suc, Bool, true, false, cond, not, nat_eq, nat_lt, List, [], ◌∷◌, length, set, refl, arith}
+use Rattle.std.proofs.Common.{◌≡◌, ◌≤◌, ◌+◌, ℕ, suc, Bool, true, false, cond, not, nat_eq, nat_lt, List, [], ◌∷◌, length, set, refl, sym, ◌∙◌, arith}
 use Rattle.std.specs.Prelude.{◌||◌, nat_le, Some, None, insert, position, slice_get}
 use Rattle.std.specs.List.{position_or_len}
 use Rattle.ason_base.specs.Lsps.{same_lsp, lsp_before}
@@ -76,3 +76,14 @@ with_call-place c (d ∷ calls) = go (with_call-place c calls) (nat_eq d.call.0 
     go rest true e b f = rw (at_or_above d.call.0 c.call.0 e, e) refl
     go rest false e true f = rw (below_or_above d.call.0 c.call.0 e, f, e) refl
     go rest false e false f = rw (below_or_above d.call.0 c.call.0 e, f, one_more n, rest) (cons-cond (has_number (slice_get calls n) c.call) d (set calls n c) (insert calls n c))
+
+-- Put at the place
+
+pub leg_put : (g : Leg) (legs : List Leg) (i : ℕ) (b : Bool) (after : List Leg) → i ≡ position_or_len (is_at_or_after g.lsp) legs →
+    b ≡ has_lsp (slice_get legs i) g.lsp → after ≡ cond b (set legs i g) (insert legs i g) → after ≡ with_leg g legs
+leg_put g legs i b after place there is = is ∙ rw (there, place) (sym (with_leg-place g legs))
+
+pub call_put : (c : CallRec) (calls : List CallRec) (i : ℕ) (b : Bool) (after : List CallRec) →
+    i ≡ position_or_len (is_call_at_or_after c.call) calls → b ≡ has_number (slice_get calls i) c.call →
+    after ≡ cond b (set calls i c) (insert calls i c) → after ≡ with_call c calls
+call_put c calls i b after place there is = is ∙ rw (there, place) (sym (with_call-place c calls))

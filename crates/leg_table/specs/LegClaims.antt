@@ -1,5 +1,5 @@
 -- Which labels the legs of a node take, and the claims of its owner that they have (RFC 4872, section 8).
-use Rattle.std.specs.Prelude.{◌≡◌, ℕ, Bool, List, [], ◌∷◌, Option, Some, None, IfSome, IsTrue, if◌then◌else◌}
+use Rattle.std.specs.Prelude.{◌≡◌, ◌≤◌, ℕ, Bool, List, [], ◌∷◌, Option, Some, None, IfSome, IsTrue, if◌then◌else◌}
 use Rattle.std.specs.List.{AllByRecursion, list_any}
 use Rattle.ason_base.specs.Labels.{has}
 use Rattle.ason_base.specs.Lsps.{same_fibre}
@@ -10,8 +10,9 @@ use Rattle.ason_base.specs.declared.calls.Role.TheVariants.{Work, Back}
 use Rattle.ason_base.specs.declared.ids.Fibre.{Fibre}
 use Rattle.ason_base.specs.declared.ids.Lsp.{Lsp}
 use Rattle.ason_base.specs.declared.tables.Leg.{Leg}
-use Rattle.link_owner.specs.Claims.{FibreClaims}
-use Rattle.link_owner.specs.Owners.{claims_of, comes_in, has_label, labels_of}
+use Rattle.link_owner.specs.Claims.{FibreClaims, NoClaim, working_claim}
+use Rattle.link_owner.specs.Claims as claims
+use Rattle.link_owner.specs.Owners.{claim_added, claims_of, comes_in, has_label, label_freed, labels_of}
 use Rattle.link_owner.specs.declared.claims.Claim.{Claim}
 use Rattle.link_owner.specs.declared.claims.ClaimKind.{ClaimKind}
 use Rattle.link_owner.specs.declared.claims.ClaimKind.TheVariants.{Working, Backup, Armed}
@@ -20,6 +21,8 @@ use Rattle.mesh_rules.specs.LocalNodes.{LocalNode, fibre_in, own_link}
 use Rattle.mesh_rules.specs.LocalNodes as local
 use Rattle.mesh_rules.specs.declared.changes.LegChange.{LegChange}
 use Rattle.mesh_rules.specs.declared.changes.LegChange.TheVariants.{Goes, Put}
+use Rattle.leg_table.specs.States.{local_of}
+use Rattle.leg_table.specs.Tables.{LegTable}
 use Rattle.leg_table.specs.declared.labels.TakenLabel.{TakenLabel}
 
 -- The label that a leg takes
@@ -32,6 +35,10 @@ taken_over (Some f) (Some x) = Some (record { fibre = f; label = x })
 -- the label in of a leg beyond Asked, and the fibre that it is on
 abbrev pub taken : Leg → Option TakenLabel
 taken g = if is_beyond_asked g.phase then taken_over g.in_fibre g.in_label else None
+
+abbrev pub taken_of : Option Leg → Option TakenLabel
+taken_of None = None
+taken_of (Some g) = taken g
 
 -- Claims of legs
 
@@ -70,11 +77,32 @@ pub record OwnerFits (p : LocalNode) (o : List FibreClaims) : Type 0 where
   pub fibres : (f : Fibre) → comes_in o f ≡ is_fibre_in p f
   pub labels : (f : Fibre) → IsTrue (comes_in o f) → labels_of f o ≡ local.labels_of (own_link p f.link)
 
+-- these are the tables and the owner of one node
+pub record IsOwnerOf (t : LegTable) (o : List FibreClaims) : Type 0 where
+  pub claims : ClaimsFit t.legs o
+  pub fibres : OwnerFits (local_of t) o
+
+-- the same fibres come in, with as many labels
+pub record SameFibres (o after : List FibreClaims) : Type 0 where
+  pub fibres : (f : Fibre) → comes_in after f ≡ comes_in o f
+  pub labels : (f : Fibre) → labels_of f after ≡ labels_of f o
+
+-- the claim of the LSP on the label, if it has one, is freed
+abbrev pub freed_of : Lsp → Option TakenLabel → List FibreClaims → List FibreClaims
+freed_of l None o = o
+freed_of l (Some t) o = label_freed t.fibre t.label l o
+
+-- the label, if there is one, is claimed for a working leg of the LSP
+abbrev pub claimed_for : Lsp → Option TakenLabel → List FibreClaims → List FibreClaims
+claimed_for l None o = o
+claimed_for l (Some t) o = claim_added t.fibre (working_claim t.label l) o
+
 -- Changes of legs
 
--- a working leg takes a label that is usable
+-- a working leg, whose LSP took no label, takes one that is usable
 pub record MayTake (p : LocalNode) (legs : List Leg) (g : Leg) (t : TakenLabel) : Type 0 where
   pub work : IsTrue (is_work g.role)
+  pub fresh : taken_of (find_leg g.lsp legs) ≡ None
   pub comes_in : IsTrue (is_fibre_in p t.fibre)
   pub usable : IsTrue (has (usable p legs t.fibre) t.label)
 
@@ -88,6 +116,22 @@ MayBeFirst p legs (Put g) = MayBePut p legs g
 abbrev pub TakesNone : LegChange → Type 0
 TakesNone (Goes l) = Unit {0}
 TakesNone (Put g) = taken g ≡ None
+
+-- the same, by the owner: no claim has the label
+pub record MayClaim (o : List FibreClaims) (legs : List Leg) (g : Leg) (t : TakenLabel) : Type 0 where
+  pub work : IsTrue (is_work g.role)
+  pub fresh : taken_of (find_leg g.lsp legs) ≡ None
+  pub comes_in : IsTrue (comes_in o t.fibre)
+  pub within : t.label ≤ labels_of t.fibre o
+  pub free : NoClaim (claims.has t.label) (claims_of t.fibre o)
+
+abbrev pub MayEnter : List FibreClaims → List Leg → LegChange → Type 0
+MayEnter o legs (Goes l) = Unit {0}
+MayEnter o legs (Put g) = IfSome (taken g) (MayClaim o legs g)
+
+abbrev pub MayAllEnter : List FibreClaims → List Leg → List LegChange → Type 0
+MayAllEnter o legs [] = Unit {0}
+MayAllEnter o legs (c ∷ cs) = MayEnter o legs c × AllByRecursion TakesNone cs
 
 -- of the changes of one answer just the first may take a label
 abbrev pub MayBeMade : LocalNode → List Leg → List LegChange → Type 0

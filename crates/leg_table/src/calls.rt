@@ -1,14 +1,16 @@
 //! The calls of an ingress, in order of number and found by halving, and the tunnel and LSP numbers that come next.
 
-ghost use Rattle.std.specs.Prelude.{◌≡◌, ◌≤◌, ◌<◌, ◌+◌, [], IfOk, IsSome, None, OnErr, OnOk, Some, find, insert, length, position, slice_get, true};
+ghost use Rattle.std.specs.Prelude.{◌≡◌, ◌≤◌, ◌<◌, ◌+◌, [], IfOk, IsSome, None, OnErr, OnOk, Some, find, insert, length, position, slice_get, true, vec_capacity, vec_len};
 ghost use Rattle.std.specs.List.{position_or_len};
 ghost use Rattle.std.specs.Option.{option_copied};
 ghost use Rattle.ason_base.specs.Lsps.{is_lsp};
-ghost use Rattle.mesh_rules.specs.Calls.{find_call, has_number, is_call_at_or_after, with_call, without_call};
+ghost use Rattle.mesh_rules.specs.Calls.{calls_changed, find_call, has_number, is_call_at_or_after, with_call, without_call};
 ghost use Rattle.leg_table.specs.Tables.{CallsRise, call_changed, in_state, is_kept, is_of_number, number_of, reported, reports_left, serves, unreported, with_lsps};
 
+use crate::edits::{insert_here, replace_here};
 use crate::tables::add_fibre;
 use ason_base::{CallNo, CallRec, CallState, Cause, Fibre, Fibres, Lsp, OutOfMemory, Role};
+use mesh_rules::CallChange;
 use std::alloc::Global;
 use std::marker::Model;
 
@@ -86,15 +88,59 @@ fn put_call(calls: &mut Vec<CallRec>, call: CallRec) -> Result<(), OutOfMemory>
     insert_call(calls, place, call)
 }
 
+// Puts the call in the place of the one of its number, or before the greater ones. There is room for it.
+fn set_call(calls: &mut Vec<CallRec>, call: CallRec)
+    requires rising { CallsRise calls.old.items }
+    requires room { vec_len calls.old < vec_capacity calls.old }
+    ensures items { calls.new.items ≡ with_call call calls.old.items }
+    ensures rising { CallsRise calls.new.items }
+    ensures len { vec_len calls.new ≤ vec_len calls.old + 1 }
+    ensures capacity { vec_capacity calls.new ≡ vec_capacity calls.old }
+{
+    let place = place_of(calls, call.call);
+    if is_call_at(calls, place, call.call) {
+        replace_here(calls, place, call);
+    } else {
+        insert_here(calls, place, call);
+    }
+}
+
 fn take_call(calls: &mut Vec<CallRec>, number: CallNo) -> Option<CallRec>
     requires { CallsRise calls.old.items }
     ensures call { result ≡ find_call number calls.old.items }
     ensures left { calls.new.items ≡ without_call number calls.old.items }
     ensures rising { CallsRise calls.new.items }
+    ensures len { vec_len calls.new ≤ vec_len calls.old }
+    ensures capacity { vec_capacity calls.new ≡ vec_capacity calls.old }
 {
     match find_place(calls, number) {
         None => None,
         Some(place) => Some(calls.remove(place)),
+    }
+}
+
+fn drop_call(calls: &mut Vec<CallRec>, number: CallNo)
+    requires { CallsRise calls.old.items }
+    ensures left { calls.new.items ≡ without_call number calls.old.items }
+    ensures rising { CallsRise calls.new.items }
+    ensures len { vec_len calls.new ≤ vec_len calls.old }
+    ensures capacity { vec_capacity calls.new ≡ vec_capacity calls.old }
+{
+    let _call = take_call(calls, number);
+}
+
+/// Makes the changes, one after the other. There is room for them.
+pub(crate) fn change_calls(calls: &mut Vec<CallRec>, changes: Vec<CallChange>)
+    requires rising { CallsRise calls.old.items }
+    requires room { vec_len calls.old + vec_len changes ≤ vec_capacity calls.old }
+    ensures items { calls.new.items ≡ calls_changed changes.items calls.old.items }
+    ensures rising { CallsRise calls.new.items }
+{
+    for change in changes {
+        match change {
+            CallChange::Goes(number) => drop_call(calls, number),
+            CallChange::Put(call) => set_call(calls, call),
+        }
     }
 }
 
@@ -240,10 +286,10 @@ fn copy_calls(alloc: Global, calls: &[CallRec]) -> Result<Vec<CallRec>, OutOfMem
 /// The calls of an ingress, and the tunnel and LSP numbers that it gives out next.
 #[derive(Drop)]
 pub struct Calls {
-    alloc: Global,
-    calls: Vec<CallRec>,
-    tunnel: u32,
-    lsp: u32,
+    pub(crate) alloc: Global,
+    pub(crate) calls: Vec<CallRec>,
+    pub(crate) tunnel: u32,
+    pub(crate) lsp: u32,
 }
 
 impl Model for Calls {

@@ -1,11 +1,12 @@
 //! Legs in order of LSP, found by halving.
 
-ghost use Rattle.std.specs.Prelude.{◌≡◌, ◌≤◌, ◌<◌, ◌+◌, IfOk, None, OnErr, OnOk, Some, insert, length, position, slice_get, true};
+ghost use Rattle.std.specs.Prelude.{◌≡◌, ◌≤◌, ◌<◌, ◌+◌, IfOk, None, OnErr, OnOk, Some, insert, length, position, slice_get, true, vec_capacity, vec_len};
 ghost use Rattle.std.specs.List.{position_or_len};
 ghost use Rattle.std.specs.Option.{option_copied};
 ghost use Rattle.mesh_rules.specs.Legs.{find_leg, has_lsp, is_at_or_after, with_leg, without_leg};
 ghost use Rattle.leg_table.specs.Tables.{LegsRise, in_phase, is_of_lsp, leg_changed, with_back_labels, with_labels};
 
+use crate::edits::{insert_here, replace_here};
 use ason_base::{Label, Leg, Lsp, OutOfMemory, Phase};
 use std::alloc::Global;
 
@@ -86,6 +87,23 @@ pub(crate) fn put_leg(legs: &mut Vec<Leg>, leg: Leg) -> Result<(), OutOfMemory>
     insert_leg(legs, place, leg)
 }
 
+/// Puts the leg in the place of the one of its LSP, or before the later ones. There is room for it.
+pub(crate) fn set_leg(legs: &mut Vec<Leg>, leg: Leg)
+    requires rising { LegsRise legs.old.items }
+    requires room { vec_len legs.old < vec_capacity legs.old }
+    ensures items { legs.new.items ≡ with_leg leg legs.old.items }
+    ensures rising { LegsRise legs.new.items }
+    ensures len { vec_len legs.new ≤ vec_len legs.old + 1 }
+    ensures capacity { vec_capacity legs.new ≡ vec_capacity legs.old }
+{
+    let place = place_of(legs, leg.lsp);
+    if is_leg_at(legs, place, leg.lsp) {
+        replace_here(legs, place, leg);
+    } else {
+        insert_here(legs, place, leg);
+    }
+}
+
 /// Takes the leg of this LSP off.
 pub(crate) fn take_leg(legs: &mut Vec<Leg>, lsp: Lsp) -> Option<Leg>
     requires { LegsRise legs.old.items }
@@ -93,6 +111,7 @@ pub(crate) fn take_leg(legs: &mut Vec<Leg>, lsp: Lsp) -> Option<Leg>
     ensures left { legs.new.items ≡ without_leg lsp legs.old.items }
     ensures rising { LegsRise legs.new.items }
     ensures len { length legs.new.items ≤ length legs.old.items }
+    ensures capacity { vec_capacity legs.new ≡ vec_capacity legs.old }
 {
     match find_place(legs, lsp) {
         None => None,

@@ -2,7 +2,9 @@
 #![tactic(auto)]
 
 mod calls;
+pub mod carrying;
 pub mod changes;
+mod edits;
 pub mod labels;
 mod legs;
 mod tables;

@@ -35,7 +35,7 @@ pub struct NodeTables {
     own: Vec<LinkSpec>,
     rows: Vec<TeRow>,
     down: Fibres,
-    legs: Vec<Leg>,
+    pub(crate) legs: Vec<Leg>,
 }
 
 impl Model for NodeTables {

@@ -10,7 +10,7 @@ use Rattle.ason_base.specs.declared.network.NodeSpec.{NodeSpec}
 use Rattle.ason_base.specs.Lsps.{same_bool}
 use Rattle.ason_base.specs.Network.{IsTopology, Network, far_end, is_after, is_link, is_link_here, is_link_at, link_number, touches}
 use Rattle.link_owner.specs.Claims.{FibreClaims}
-use Rattle.link_owner.specs.Owners.{HasFibresInto, fibre_unclaimed, is_fibre, is_node, none_claimed}
+use Rattle.link_owner.specs.Owners.{HasFibresInto, comes_in, fibre_unclaimed, is_fibre, is_node, labels_of, none_claimed}
 
 both_left : (a b : Bool) → (a && b) ≡ true → a ≡ true
 both_left true b h = refl
@@ -149,3 +149,34 @@ fibres_into b (l ∷ links) rises f n = go (touches n l) refl (nat_eq l.id.0 f.l
 pub has_fibres_into : (t : Network) → IsTopology t → (n : NodeId) → HasFibresInto t n (none_claimed t n)
 unfolding coming
 has_fibres_into t valid n f = fibres_into 0 t.links (rise t.nodes 0 t.links (in_place t valid)) f n
+
+-- A fibre that comes in has the labels of its link.
+
+link_of : NodeId → Fibre → List LinkSpec → Option LinkSpec
+link_of n f links = find (λ l. nat_eq l.id.0 f.link.0) (filter (touches n) links)
+
+labels_into : (labels : Option LinkSpec → ℕ) → ((l : LinkSpec) → labels (Some l) ≡ l.labels) → (b : ℕ) (links : List LinkSpec) → RiseFrom b links →
+    (f : Fibre) (n : NodeId) → list_any (is_fibre f) (coming n links) ≡ true → labels_of f (coming n links) ≡ labels (link_of n f links)
+unfolding coming link_of
+labels_into labels of b [] rises f n comes = absurd (cc comes)
+labels_into labels of b (l ∷ links) rises f n comes = go (touches n l) comes (labels_into labels of l.id.0 links rises.2 f n)
+  where
+    Later : Type 0
+    Later = list_any (is_fibre f) (coming n links) ≡ true → labels_of f (coming n links) ≡ labels (link_of n f links)
+
+    first : (e : Bool) → nat_eq l.id.0 f.link.0 ≡ e → (d : Bool) → ((e && d) || list_any (is_fibre f) (coming n links)) ≡ true → Later →
+        cond (e && d) l.labels (labels_of f (coming n links)) ≡ labels (cond e (Some l) (link_of n f links))
+    first true e true comes later = sym (of l)
+    first true e false comes later = absurd (cc (comes, nowhere l.id.0 links rises.2 f n (grind arith)))
+    first false e d comes later = later comes
+
+    go : (t : Bool) → list_any (is_fibre f) (map (fibre_unclaimed n) (cond t (l ∷ filter (touches n) links) (filter (touches n) links))) ≡ true → Later →
+        labels_of f (map (fibre_unclaimed n) (cond t (l ∷ filter (touches n) links) (filter (touches n) links))) ≡ labels (find (λ m. nat_eq m.id.0 f.link.0) (cond t (l ∷ filter (touches n) links) (filter (touches n) links)))
+    go true comes later = first (nat_eq l.id.0 f.link.0) refl (same_bool (nat_eq l.high.0 n.0) f.forward) comes later
+    go false comes later = later comes
+
+pub has_labels_into : (labels : Option LinkSpec → ℕ) → ((l : LinkSpec) → labels (Some l) ≡ l.labels) → (t : Network) → IsTopology t → (n : NodeId)
+    (f : Fibre) → comes_in (none_claimed t n) f ≡ true →
+    labels_of f (none_claimed t n) ≡ labels (find (λ l. nat_eq l.id.0 f.link.0) (filter (touches n) t.links))
+unfolding coming link_of
+has_labels_into labels of t valid n f comes = labels_into labels of 0 t.links (rise t.nodes 0 t.links (in_place t valid)) f n comes

@@ -124,7 +124,6 @@ impl Owner {
     /// Takes the LSP's claim off.
     pub fn free(&mut self, f: Fibre, l: Label, lsp: Lsp)
         requires comes_in { IsTrue (comes_in self.old f) }
-        requires label { l ≤ labels_of f self.old }
         requires there { IsTrue (has_label self.old f l lsp) }
         ensures { self.new ≡ label_freed f l lsp self.old }
     {

@@ -30,7 +30,7 @@ any-more : (b c : Bool) → c ≡ true → (b || c) ≡ true
 any-more true c e = refl
 any-more false c e = e
 
-any-found : {X : Type 0} (p test : X → Bool) (xs : List X) (x : X) → find test xs ≡ Some x → p x ≡ true → list_any p xs ≡ true
+pub any-found : {X : Type 0} (p test : X → Bool) (xs : List X) (x : X) → find test xs ≡ Some x → p x ≡ true → list_any p xs ≡ true
 any-found p test [] x found passes = absurd (cc found)
 any-found p test (y ∷ xs) x found passes = go (test y) found (λ f. any-found p test xs x f passes)
   where
@@ -39,7 +39,7 @@ any-found p test (y ∷ xs) x found passes = go (test y) found (λ f. any-found 
     go true f later = let is : y ≡ x = cc in let first : p y ≡ true = subst (λ z. p z ≡ true) (sym is) passes in rw first refl
     go false f later = any-more (p y) _ (later f)
 
-any-left : {X : Type 0} (p q : X → Bool) (xs : List X) → list_any (λ x. p x && q x) xs ≡ true → list_any p xs ≡ true
+pub any-left : {X : Type 0} (p q : X → Bool) (xs : List X) → list_any (λ x. p x && q x) xs ≡ true → list_any p xs ≡ true
 any-left p q [] e = e
 any-left p q (x ∷ xs) e = go (p x) (q x) e (any-left p q xs)
   where

@@ -1,0 +1,150 @@
+-- One change of a leg, and the claims after it.
+use Rattle.std.proofs.Common.{◌≡◌, ◌≤◌, ◌++◌, ℕ, Bool, true, false, not, nat_eq, List, [], ◌∷◌, refl, sym, ap, subst, ◌∙◌}
+use Rattle.std.specs.Prelude.{Option, Some, None, IfSome}
+use Rattle.std.specs.List.{list_any}
+use Rattle.ason_base.specs.declared.ids.Fibre.{Fibre}
+use Rattle.ason_base.specs.declared.ids.Lsp.{Lsp}
+use Rattle.ason_base.specs.declared.tables.Leg.{Leg}
+use Rattle.ason_base.specs.Lsps.{same_lsp}
+use Rattle.link_owner.specs.Claims.{FibreClaims, IsLeast, NoClaim, freed, has, is_of_lsp, working_claim}
+use Rattle.link_owner.specs.Owners.{claim_added, claims_of, comes_in, has_label}
+use Rattle.link_owner.specs.declared.claims.Claim.{Claim}
+use Rattle.mesh_rules.specs.Legs.{find_leg, with_leg, without_leg}
+use Rattle.mesh_rules.specs.LocalNodes.{LocalNode}
+use Rattle.mesh_rules.specs.declared.changes.LegChange.{LegChange}
+use Rattle.mesh_rules.specs.declared.changes.LegChange.TheVariants.{Goes, Put}
+use Rattle.mesh_nodes.specs.Order as order
+use Rattle.mesh_nodes.proofs.LegList.{find-with_leg, find-without_leg, same_lsp-refl}
+use Rattle.mesh_nodes.proofs.Links.{any-left}
+use Rattle.leg_table.specs.declared.labels.TakenLabel.{TakenLabel}
+use Rattle.leg_table.specs.LegClaims.{ClaimsFit, MayAllEnter, MayBeFirst, MayBeMade, MayClaim, MayEnter, MayTake, OwnerFits, SameFibres, freed_of, kind_here, taken, taken_of}
+use Rattle.leg_table.proofs.ClaimChanges.{Entered, Left, claimed-fit, freed-fit, left-fit, none-kind}
+use Rattle.leg_table.proofs.OwnerFibres.{comes-kept, labels-kept}
+use Rattle.leg_table.proofs.TakenLabels.{taken-takes}
+use Rattle.leg_table.proofs.UsableLabels.{usable-unclaimed, usable-within}
+
+-- Legs that give up their label, or take one
+
+kind-none : (f : Fibre) (x : ℕ) (o : Option Leg) → taken_of o ≡ None → kind_here f x o ≡ None
+kind-none f x None e = refl
+kind-none f x (Some g) e = none-kind f x g e
+
+pub left-without : (l : Lsp) (legs : List Leg) → Left l legs (without_leg l legs)
+left-without l legs =
+    let here : find_leg l (without_leg l legs) ≡ None = find-without_leg l legs l ∙ rw (same_lsp-refl l) refl in
+    record { others = λ m apart. find-without_leg l legs m ∙ rw apart refl; none = λ f x. ap (kind_here f x) here }
+
+pub left-with : (g : Leg) (legs : List Leg) → taken g ≡ None → Left g.lsp legs (with_leg g legs)
+left-with g legs e =
+    let here : find_leg g.lsp (with_leg g legs) ≡ Some g = find-with_leg g legs g.lsp ∙ rw (same_lsp-refl g.lsp) refl in
+    record {
+      others = λ m apart. find-with_leg g legs m ∙ rw apart refl;
+      none = λ f x. ap (kind_here f x) here ∙ none-kind f x g e;
+    }
+
+pub entered-with : (g : Leg) (legs : List Leg) → taken_of (find_leg g.lsp legs) ≡ None → Entered g legs (with_leg g legs)
+entered-with g legs e = record {
+  others = λ m apart. find-with_leg g legs m ∙ rw apart refl;
+  here = find-with_leg g legs g.lsp ∙ rw (same_lsp-refl g.lsp) refl;
+  bare = λ f x. kind-none f x (find_leg g.lsp legs) e;
+}
+
+-- Claims after the change
+
+pub given-up : (l : Lsp) (legs after : List Leg) (o : List FibreClaims) → ClaimsFit legs o → Left l legs after →
+    ClaimsFit after (freed_of l (taken_of (find_leg l legs)) o)
+given-up l legs after o fit left = go (find_leg l legs) refl
+  where
+    go : (k : Option Leg) → find_leg l legs ≡ k → ClaimsFit after (freed_of l (taken_of k) o)
+    go None found = left-fit l legs after o fit left (λ f x. ap (kind_here f x) found)
+    go (Some k) found = one (taken k) refl
+      where
+        one : (t : Option TakenLabel) → taken k ≡ t → ClaimsFit after (freed_of l t o)
+        one None has = left-fit l legs after o fit left (λ f x. ap (kind_here f x) found ∙ none-kind f x k has)
+        one (Some t) has = freed-fit l legs after o k t fit left found has
+
+pub claimed-here : (l : Lsp) (legs : List Leg) (o : List FibreClaims) → ClaimsFit legs o →
+    IfSome (taken_of (find_leg l legs)) (λ t. has_label o t.fibre t.label l ≡ true)
+claimed-here l legs o fit = go (find_leg l legs) refl
+  where
+    go : (k : Option Leg) → find_leg l legs ≡ k → IfSome (taken_of k) (λ t. has_label o t.fibre t.label l ≡ true)
+    go None found = tt
+    go (Some k) found = one (taken k) refl
+      where
+        one : (t : Option TakenLabel) → taken k ≡ t → IfSome t (λ t. has_label o t.fibre t.label l ≡ true)
+        one None has = tt
+        one (Some t) has = fit.all t.fibre t.label l k found (taken-takes k t has)
+
+pub entered-fit : (g : Leg) (legs : List Leg) (o : List FibreClaims) (t : TakenLabel) → ClaimsFit legs o → taken g ≡ Some t →
+    MayClaim o legs g t → ClaimsFit (with_leg g legs) (claim_added t.fibre (working_claim t.label g.lsp) o)
+entered-fit g legs o t fit has may =
+    claimed-fit g legs (with_leg g legs) o t fit (entered-with g legs may.fresh) has may.work may.comes_in
+
+-- The fibres stay
+
+pub same-fibres : (o : List FibreClaims) → SameFibres o o
+same-fibres o = record { fibres = λ f. refl; labels = λ f. refl }
+
+pub freed-fibres : (l : Lsp) (t : Option TakenLabel) (o : List FibreClaims) → SameFibres o (freed_of l t o)
+freed-fibres l None o = same-fibres o
+freed-fibres l (Some t) o = record {
+  fibres = λ f. comes-kept t.fibre f (freed t.label l (claims_of t.fibre o)) o;
+  labels = λ f. labels-kept t.fibre f (freed t.label l (claims_of t.fibre o)) o;
+}
+
+pub claimed-fibres : (l : Lsp) (t : TakenLabel) (o : List FibreClaims) → SameFibres o (claim_added t.fibre (working_claim t.label l) o)
+claimed-fibres l t o = record {
+  fibres = λ f. comes-kept t.fibre f (claims_of t.fibre o ++ working_claim t.label l ∷ []) o;
+  labels = λ f. labels-kept t.fibre f (claims_of t.fibre o ++ working_claim t.label l ∷ []) o;
+}
+
+pub fibres-then : (a b c : List FibreClaims) → SameFibres a b → SameFibres b c → SameFibres a c
+fibres-then a b c first second = record { fibres = λ f. second.fibres f ∙ first.fibres f; labels = λ f. second.labels f ∙ first.labels f }
+
+pub owner-kept : (p : LocalNode) (o after : List FibreClaims) → SameFibres o after → OwnerFits p o → OwnerFits p after
+owner-kept p o after same fits = record {
+  fibres = λ f. same.fibres f ∙ fits.fibres f;
+  labels = λ f comes. same.labels f ∙ fits.labels f (sym (same.fibres f) ∙ comes);
+}
+
+-- What the owner allows
+
+pub may-enter : (p : LocalNode) (legs : List Leg) (o : List FibreClaims) (c : LegChange) → order.LegsRise legs → ClaimsFit legs o →
+    OwnerFits p o → MayBeFirst p legs c → MayEnter o legs c
+may-enter p legs o (Goes l) rise fit owner may = tt
+may-enter p legs o (Put g) rise fit owner may = go (taken g) may
+  where
+    go : (t : Option TakenLabel) → IfSome t (MayTake p legs g) → IfSome t (MayClaim o legs g)
+    go None may = tt
+    go (Some t) may =
+        let comes : comes_in o t.fibre ≡ true = owner.fibres t.fibre ∙ may.comes_in in
+        record {
+          work = may.work;
+          fresh = may.fresh;
+          comes_in = comes;
+          within = subst (λ n. t.label ≤ n) (sym (owner.labels t.fibre comes)) (usable-within p legs t.fibre t.label may.usable);
+          free = ap not (usable-unclaimed p legs o t.fibre t.label rise fit may.usable);
+        }
+
+no-true : (b : Bool) → not b ≡ true → b ≡ true → ⊥
+no-true true e f = cc e
+no-true false e f = cc f
+
+is-none : (b : Bool) → (b ≡ true → ⊥) → not b ≡ true
+is-none true f = absurd (f refl)
+is-none false f = refl
+
+-- where no claim has the label, no claim of the LSP has it
+pub none-of_lsp : (x : ℕ) (l : Lsp) (claims : List Claim) → NoClaim (has x) claims → not (list_any (is_of_lsp x l) claims) ≡ true
+none-of_lsp x l claims none =
+    is-none (list_any (is_of_lsp x l) claims)
+    (λ h. no-true (list_any (has x) claims) none (any-left (λ c. nat_eq c.label x) (λ c. same_lsp c.lsp l) claims h))
+
+pub none-least : (x : ℕ) (l : Lsp) (claims : List Claim) → NoClaim (has x) claims → IsLeast (has x) claims l → ⊥
+none-least x l claims none least =
+    no-true (list_any (has x) claims) none (any-left (has x) (λ c. same_lsp c.lsp l) claims least.passes)
+
+pub may-all-enter : (p : LocalNode) (legs : List Leg) (o : List FibreClaims) (cs : List LegChange) → order.LegsRise legs → ClaimsFit legs o →
+    OwnerFits p o → MayBeMade p legs cs → MayAllEnter o legs cs
+may-all-enter p legs o [] rise fit owner may = tt
+may-all-enter p legs o (c ∷ cs) rise fit owner may = (may-enter p legs o c rise fit owner may.0, may.1)

@@ -1,0 +1,285 @@
+-- The claims and the legs, after a leg gives up its label or takes one.
+use Rattle.std.proofs.Common.{◌≡◌, ℕ, Bool, true, false, cond, not, nat_eq, List, [], ◌∷◌, ◌++◌, refl, sym, ap, subst, ◌∙◌, arith}
+use Rattle.std.specs.Prelude.{◌&&◌, ◌||◌, Some, None, filter}
+use Rattle.std.specs.List.{AllByRecursion, list_any}
+use Rattle.std.proofs.lemmas.List.Folds.{list_any-append}
+use Rattle.ason_base.specs.declared.calls.Role.{Role}
+use Rattle.ason_base.specs.declared.calls.Role.TheVariants.{Work, Back}
+use Rattle.ason_base.specs.declared.calls.Phase.{Phase}
+use Rattle.ason_base.specs.declared.ids.Fibre.{Fibre}
+use Rattle.ason_base.specs.declared.ids.Lsp.{Lsp}
+use Rattle.ason_base.specs.declared.tables.Leg.{Leg}
+use Rattle.ason_base.specs.Lsps.{same_fibre, same_lsp}
+use Rattle.link_owner.specs.Claims.{FibreClaims, freed, is_of_lsp, working_claim}
+use Rattle.link_owner.specs.Owners.{claim_added, claims_of, comes_in, has_label, label_freed}
+use Rattle.link_owner.specs.declared.claims.Claim.{Claim}
+use Rattle.link_owner.specs.declared.claims.ClaimKind.{ClaimKind}
+use Rattle.link_owner.specs.declared.claims.ClaimKind.TheVariants.{Working}
+use Rattle.mesh_rules.specs.Legs.{find_leg, is_work, takes}
+use Rattle.mesh_nodes.proofs.Cases.{both_right}
+use Rattle.mesh_nodes.proofs.LegList.{same_lsp-eq, same_lsp-refl}
+use Rattle.leg_table.specs.declared.labels.TakenLabel.{TakenLabel}
+use Rattle.leg_table.specs.LegClaims.{ClaimsFit, IsClaimOfLeg, claim_kind, kind_here, taken}
+use Rattle.leg_table.proofs.OwnerFibres.{claimed-comes, claims-elsewhere, claims-there, same_fibre-eq, same_fibre-refl}
+use Rattle.leg_table.proofs.TakenLabels.{none-takes, taken-takes, takes-taken}
+
+-- Lists of claims
+
+all-left : {X : Type 0} (P Q : X → Type 0) (q : X → Bool) (xs : List X) → ((x : X) → P x → q x ≡ true → Q x) → AllByRecursion P xs →
+    AllByRecursion Q (filter q xs)
+all-left P Q q [] f all = tt
+all-left {X} P Q q (x ∷ xs) f all = go (q x) refl (all-left P Q q xs f all.1)
+  where
+    go : (b : Bool) → q x ≡ b → AllByRecursion Q (filter q xs) → AllByRecursion Q (cond b (x ∷ filter q xs) (filter q xs))
+    go true e rest = (f x all.0 e, rest)
+    go false e rest = rest
+
+all-to : {X : Type 0} (P Q : X → Type 0) (xs : List X) → ((x : X) → P x → Q x) → AllByRecursion P xs → AllByRecursion Q xs
+all-to P Q [] f all = tt
+all-to P Q (x ∷ xs) f all = (f x all.0, all-to P Q xs f all.1)
+
+all-one_more : {X : Type 0} (P : X → Type 0) (xs : List X) (x : X) → AllByRecursion P xs → P x → AllByRecursion P (xs ++ x ∷ [])
+all-one_more P [] x all here = (here, tt)
+all-one_more P (y ∷ xs) x all here = (all.0, all-one_more P xs x all.1 here)
+
+or_true : (b : Bool) → (b || true) ≡ true
+or_true true = refl
+or_true false = refl
+
+any-left_in : {X : Type 0} (t q : X → Bool) (xs : List X) → ((x : X) → t x ≡ true → q x ≡ true) → list_any t xs ≡ true →
+    list_any t (filter q xs) ≡ true
+any-left_in t q [] f h = h
+any-left_in {X} t q (x ∷ xs) f h = go (q x) refl (t x) refl h (any-left_in t q xs f)
+  where
+    go : (b : Bool) → q x ≡ b → (a : Bool) → t x ≡ a → (a || list_any t xs) ≡ true →
+        (list_any t xs ≡ true → list_any t (filter q xs) ≡ true) → list_any t (cond b (x ∷ filter q xs) (filter q xs)) ≡ true
+    go true e true k h later = rw k refl
+    go true e false k h later = rw k (later h)
+    go false e true k h later = absurd (cc (e, f x k))
+    go false e false k h later = later h
+
+any-first : {X : Type 0} (t : X → Bool) (xs ys : List X) → list_any t xs ≡ true → list_any t (xs ++ ys) ≡ true
+any-first t xs ys h = list_any-append t xs ys ∙ rw h refl
+
+any-last : {X : Type 0} (t : X → Bool) (xs : List X) (x : X) → t x ≡ true → list_any t (xs ++ x ∷ []) ≡ true
+any-last t xs x h = list_any-append t xs (x ∷ []) ∙ rw h (or_true (list_any t xs))
+
+number : (a b : ℕ) → nat_eq a b ≡ true → a ≡ b
+number a b e = grind arith
+
+same_number : (n : ℕ) → nat_eq n n ≡ true
+same_number n = grind arith
+
+not-of : (b : Bool) → not b ≡ true → b ≡ false
+not-of true e = absurd (cc e)
+not-of false e = refl
+
+-- Kinds
+
+pub kind-of : (f : Fibre) (x : ℕ) (g : Leg) (k : ClaimKind) → kind_here f x (Some g) ≡ Some k → takes f x g ≡ true
+kind-of f x g k e = go (takes f x g) refl e
+  where
+    go : (b : Bool) → takes f x g ≡ b → cond b (Some (claim_kind g.role g.phase)) None ≡ Some k → b ≡ true
+    go true t e = refl
+    go false t e = absurd (cc e)
+
+pub none-kind : (f : Fibre) (x : ℕ) (g : Leg) → taken g ≡ None → kind_here f x (Some g) ≡ None
+none-kind f x g e = rw (none-takes g f x e) refl
+
+work-kind : (r : Role) (p : Phase) → is_work r ≡ true → claim_kind r p ≡ Working
+work-kind Work p e = refl
+work-kind Back p e = absurd (cc e)
+
+-- A leg that gives up its label: those of other LSPs stay, and none of this LSP takes one
+
+pub record Left (l : Lsp) (legs after : List Leg) : Type 0 where
+  pub others : (m : Lsp) → same_lsp l m ≡ false → find_leg m after ≡ find_leg m legs
+  pub none : (f : Fibre) (x : ℕ) → kind_here f x (find_leg l after) ≡ None
+
+-- the leg of the LSP took no label: nothing has to be freed
+pub left-fit : (l : Lsp) (legs after : List Leg) (o : List FibreClaims) → ClaimsFit legs o → Left l legs after →
+    ((f : Fibre) (x : ℕ) → kind_here f x (find_leg l legs) ≡ None) → ClaimsFit after o
+left-fit l legs after o fit left bare = record {
+  each = λ f. all-to (IsClaimOfLeg legs f) (IsClaimOfLeg after f) (claims_of f o) (λ c e. kept f c (same_lsp l c.lsp) refl e) (fit.each f);
+  all = λ f x m g found t. fit.all f x m g (there f x m g (same_lsp l m) refl found t) t;
+}
+  where
+    kept : (f : Fibre) (c : Claim) (b : Bool) → same_lsp l c.lsp ≡ b → IsClaimOfLeg legs f c → IsClaimOfLeg after f c
+    kept f c true s e =
+        let is : l ≡ c.lsp = same_lsp-eq l c.lsp s in
+        let none = bare f c.label in
+        let none' : kind_here f c.label (find_leg c.lsp legs) ≡ None = subst (λ m. kind_here f c.label (find_leg m legs) ≡ None) is none in
+        absurd (cc (none', e))
+    kept f c false s e = subst (λ o. kind_here f c.label o ≡ Some c.kind) (sym (left.others c.lsp s)) e
+
+    there : (f : Fibre) (x : ℕ) (m : Lsp) (g : Leg) (b : Bool) → same_lsp l m ≡ b → find_leg m after ≡ Some g → takes f x g ≡ true →
+        find_leg m legs ≡ Some g
+    there f x m g true s found t =
+        let is : l ≡ m = same_lsp-eq l m s in
+        let none : kind_here f x (find_leg m after) ≡ None = subst (λ k. kind_here f x (find_leg k after) ≡ None) is (left.none f x) in
+        let some : kind_here f x (find_leg m after) ≡ Some (claim_kind g.role g.phase) = rw (found, t) refl in
+        absurd (cc (none, some))
+    there f x m g false s found t = sym (left.others m s) ∙ found
+
+-- the label that the leg of the LSP took is freed
+pub freed-fit : (l : Lsp) (legs after : List Leg) (o : List FibreClaims) (k : Leg) (t : TakenLabel) → ClaimsFit legs o → Left l legs after →
+    find_leg l legs ≡ Some k → taken k ≡ Some t → ClaimsFit after (label_freed t.fibre t.label l o)
+freed-fit l legs after o k t fit left found has = record {
+  each = λ f. go f (same_fibre t.fibre f) refl;
+  all = λ f x m g there takes. stays f x m g (same_lsp l m) refl there takes;
+}
+  where
+    claimed : has_label o t.fibre t.label l ≡ true
+    claimed = fit.all t.fibre t.label l k found (taken-takes k t has)
+
+    comes : comes_in o t.fibre ≡ true
+    comes = claimed-comes o t.fibre t.label l claimed
+
+    -- a claim of the LSP is that of its leg
+    its : (f : Fibre) (c : Claim) → same_lsp l c.lsp ≡ true → IsClaimOfLeg legs f c → Some (record { fibre = f; label = c.label }) ≡ Some t
+    its f c s e =
+        let is : l ≡ c.lsp = same_lsp-eq l c.lsp s in
+        let here : find_leg c.lsp legs ≡ Some k = subst (λ m. find_leg m legs ≡ Some k) is found in
+        let kind : kind_here f c.label (Some k) ≡ Some c.kind = subst (λ o. kind_here f c.label o ≡ Some c.kind) here e in
+        sym (takes-taken f c.label k (kind-of f c.label k c.kind kind)) ∙ has
+
+    other : (f : Fibre) (c : Claim) → same_lsp l c.lsp ≡ false → IsClaimOfLeg legs f c → IsClaimOfLeg after f c
+    other f c s e = subst (λ o. kind_here f c.label o ≡ Some c.kind) (sym (left.others c.lsp s)) e
+
+    kept : (c : Claim) (b : Bool) → same_lsp l c.lsp ≡ b → IsClaimOfLeg legs t.fibre c → not (is_of_lsp t.label l c) ≡ true → IsClaimOfLeg after t.fibre c
+    kept c true s e q =
+        let same : record { fibre = t.fibre; label = c.label } ≡ t = some (its t.fibre c s e) in
+        let label : c.label ≡ t.label = ap (λ u. u.label) same in
+        let is : l ≡ c.lsp = same_lsp-eq l c.lsp s in
+        let here : is_of_lsp t.label l c ≡ true =
+        subst (λ m. (nat_eq c.label t.label && same_lsp c.lsp m) ≡ true) (sym is) (rw (label, same_number t.label) (same_lsp-refl c.lsp)) in
+        absurd (cc (q, here))
+      where
+        some : {a b : TakenLabel} → Some a ≡ Some b → a ≡ b
+        some e = cc
+    kept c false s e q = other t.fibre c s e
+
+    elsewhere : (f : Fibre) → same_fibre t.fibre f ≡ false → (c : Claim) (b : Bool) → same_lsp l c.lsp ≡ b → IsClaimOfLeg legs f c → IsClaimOfLeg after f c
+    elsewhere f apart c true s e =
+        let same : record { fibre = f; label = c.label } ≡ t = some (its f c s e) in
+        let one : same_fibre t.fibre f ≡ true = subst (λ u. same_fibre u.fibre f ≡ true) same (same_fibre-refl f) in
+        absurd (cc (apart, one))
+      where
+        some : {a b : TakenLabel} → Some a ≡ Some b → a ≡ b
+        some e = cc
+    elsewhere f apart c false s e = other f c s e
+
+    go : (f : Fibre) (b : Bool) → same_fibre t.fibre f ≡ b → AllByRecursion (IsClaimOfLeg after f) (claims_of f (label_freed t.fibre t.label l o))
+    go f true s =
+        subst (λ g. AllByRecursion (IsClaimOfLeg after g) (claims_of g (label_freed t.fibre t.label l o))) (same_fibre-eq t.fibre f s)
+        (subst (AllByRecursion (IsClaimOfLeg after t.fibre)) (sym (claims-there t.fibre (freed t.label l (claims_of t.fibre o)) o comes))
+        (all-left (IsClaimOfLeg legs t.fibre) (IsClaimOfLeg after t.fibre) (λ c. not (is_of_lsp t.label l c)) (claims_of t.fibre o)
+        (λ c e q. kept c (same_lsp l c.lsp) refl e q) (fit.each t.fibre)))
+    go f false s =
+        subst (AllByRecursion (IsClaimOfLeg after f)) (sym (claims-elsewhere t.fibre f (freed t.label l (claims_of t.fibre o)) o s))
+        (all-to (IsClaimOfLeg legs f) (IsClaimOfLeg after f) (claims_of f o) (λ c e. elsewhere f s c (same_lsp l c.lsp) refl e) (fit.each f))
+
+    stays : (f : Fibre) (x : ℕ) (m : Lsp) (g : Leg) (b : Bool) → same_lsp l m ≡ b → find_leg m after ≡ Some g → takes f x g ≡ true →
+        has_label (label_freed t.fibre t.label l o) f x m ≡ true
+    stays f x m g true s there takes =
+        let is : l ≡ m = same_lsp-eq l m s in
+        let none : kind_here f x (find_leg m after) ≡ None = subst (λ k. kind_here f x (find_leg k after) ≡ None) is (left.none f x) in
+        let some : kind_here f x (find_leg m after) ≡ Some (claim_kind g.role g.phase) = rw (there, takes) refl in
+        absurd (cc (none, some))
+    stays f x m g false s there takes = put (same_fibre t.fibre f) refl
+      where
+        before : has_label o f x m ≡ true
+        before = fit.all f x m g (sym (left.others m s) ∙ there) takes
+
+        -- a claim of m isn't one of l
+        apart : (c : Claim) → is_of_lsp x m c ≡ true → not (is_of_lsp t.label l c) ≡ true
+        apart c h = test (is_of_lsp t.label l c) refl
+          where
+            test : (b : Bool) → is_of_lsp t.label l c ≡ b → not b ≡ true
+            test true k =
+                let a : c.lsp ≡ m = same_lsp-eq c.lsp m (both_right (nat_eq c.label x) _ h) in
+                let b : c.lsp ≡ l = same_lsp-eq c.lsp l (both_right (nat_eq c.label t.label) _ k) in
+                let one : same_lsp l m ≡ true = subst (λ n. same_lsp l n ≡ true) (sym b ∙ a) (same_lsp-refl l) in
+                absurd (cc (s, one))
+            test false k = refl
+
+        put : (b : Bool) → same_fibre t.fibre f ≡ b → has_label (label_freed t.fibre t.label l o) f x m ≡ true
+        put true e =
+            let is = same_fibre-eq t.fibre f e in
+            let here : has_label o t.fibre x m ≡ true = subst (λ h. has_label o h x m ≡ true) (sym is) before in
+            subst (λ h. has_label (label_freed t.fibre t.label l o) h x m ≡ true) is
+            (subst (λ cs. list_any (is_of_lsp x m) cs ≡ true) (sym (claims-there t.fibre (freed t.label l (claims_of t.fibre o)) o comes))
+            (any-left_in (is_of_lsp x m) (λ c. not (is_of_lsp t.label l c)) (claims_of t.fibre o) apart here))
+        put false e =
+            subst (λ cs. list_any (is_of_lsp x m) cs ≡ true) (sym (claims-elsewhere t.fibre f (freed t.label l (claims_of t.fibre o)) o e)) before
+
+-- A working leg that takes a label: its LSP took none before
+
+pub record Entered (g : Leg) (legs after : List Leg) : Type 0 where
+  pub others : (m : Lsp) → same_lsp g.lsp m ≡ false → find_leg m after ≡ find_leg m legs
+  pub here : find_leg g.lsp after ≡ Some g
+  pub bare : (f : Fibre) (x : ℕ) → kind_here f x (find_leg g.lsp legs) ≡ None
+
+pub claimed-fit : (g : Leg) (legs after : List Leg) (o : List FibreClaims) (t : TakenLabel) → ClaimsFit legs o → Entered g legs after →
+    taken g ≡ Some t → is_work g.role ≡ true → comes_in o t.fibre ≡ true →
+    ClaimsFit after (claim_added t.fibre (working_claim t.label g.lsp) o)
+claimed-fit g legs after o t fit entered has work comes = record {
+  each = λ f. go f (same_fibre t.fibre f) refl;
+  all = λ f x m h there takes. claimed f x m h (same_lsp g.lsp m) refl there takes;
+}
+  where
+    c0 : Claim
+    c0 = working_claim t.label g.lsp
+
+    old : (f : Fibre) (c : Claim) (b : Bool) → same_lsp g.lsp c.lsp ≡ b → IsClaimOfLeg legs f c → IsClaimOfLeg after f c
+    old f c true s e =
+        let is : g.lsp ≡ c.lsp = same_lsp-eq g.lsp c.lsp s in
+        let none : kind_here f c.label (find_leg c.lsp legs) ≡ None = subst (λ m. kind_here f c.label (find_leg m legs) ≡ None) is (entered.bare f c.label) in
+        absurd (cc (none, e))
+    old f c false s e = subst (λ o. kind_here f c.label o ≡ Some c.kind) (sym (entered.others c.lsp s)) e
+
+    new : IsClaimOfLeg after t.fibre c0
+    new =
+        subst (λ o. kind_here t.fibre t.label o ≡ Some Working) (sym entered.here)
+        (rw (taken-takes g t has) (ap Some (work-kind g.role g.phase work)))
+
+    go : (f : Fibre) (b : Bool) → same_fibre t.fibre f ≡ b → AllByRecursion (IsClaimOfLeg after f) (claims_of f (claim_added t.fibre c0 o))
+    go f true s =
+        subst (λ h. AllByRecursion (IsClaimOfLeg after h) (claims_of h (claim_added t.fibre c0 o))) (same_fibre-eq t.fibre f s)
+        (subst (AllByRecursion (IsClaimOfLeg after t.fibre)) (sym (claims-there t.fibre (claims_of t.fibre o ++ c0 ∷ []) o comes))
+        (all-one_more (IsClaimOfLeg after t.fibre) (claims_of t.fibre o) c0
+        (all-to (IsClaimOfLeg legs t.fibre) (IsClaimOfLeg after t.fibre) (claims_of t.fibre o) (λ c e. old t.fibre c (same_lsp g.lsp c.lsp) refl e) (fit.each t.fibre))
+        new))
+    go f false s =
+        subst (AllByRecursion (IsClaimOfLeg after f)) (sym (claims-elsewhere t.fibre f (claims_of t.fibre o ++ c0 ∷ []) o s))
+        (all-to (IsClaimOfLeg legs f) (IsClaimOfLeg after f) (claims_of f o) (λ c e. old f c (same_lsp g.lsp c.lsp) refl e) (fit.each f))
+
+    claimed : (f : Fibre) (x : ℕ) (m : Lsp) (h : Leg) (b : Bool) → same_lsp g.lsp m ≡ b → find_leg m after ≡ Some h → takes f x h ≡ true →
+        has_label (claim_added t.fibre c0 o) f x m ≡ true
+    claimed f x m h true s there takes =
+        let is : g.lsp ≡ m = same_lsp-eq g.lsp m s in
+        let here : find_leg m after ≡ Some g = subst (λ n. find_leg n after ≡ Some g) is entered.here in
+        let leg : h ≡ g = some (sym there ∙ here) in
+        let same : record { fibre = f; label = x } ≡ t = some (sym (takes-taken f x h takes) ∙ ap taken leg ∙ has) in
+        let first : has_label (claim_added t.fibre c0 o) t.fibre t.label g.lsp ≡ true =
+        subst (λ cs. list_any (is_of_lsp t.label g.lsp) cs ≡ true) (sym (claims-there t.fibre (claims_of t.fibre o ++ c0 ∷ []) o comes))
+        (any-last (is_of_lsp t.label g.lsp) (claims_of t.fibre o) c0 (rw (same_number t.label) (same_lsp-refl g.lsp))) in
+        subst (λ n. has_label (claim_added t.fibre c0 o) f x n ≡ true) is
+        (subst (λ u. has_label (claim_added t.fibre c0 o) u.fibre u.label g.lsp ≡ true) (sym same) first)
+      where
+        some : {X : Type 0} {a b : X} → Some a ≡ Some b → a ≡ b
+        some e = cc
+    claimed f x m h false s there takes = put (same_fibre t.fibre f) refl
+      where
+        before : has_label o f x m ≡ true
+        before = fit.all f x m h (sym (entered.others m s) ∙ there) takes
+
+        put : (b : Bool) → same_fibre t.fibre f ≡ b → has_label (claim_added t.fibre c0 o) f x m ≡ true
+        put true e =
+            let is = same_fibre-eq t.fibre f e in
+            let here : has_label o t.fibre x m ≡ true = subst (λ h. has_label o h x m ≡ true) (sym is) before in
+            subst (λ h. has_label (claim_added t.fibre c0 o) h x m ≡ true) is
+            (subst (λ cs. list_any (is_of_lsp x m) cs ≡ true) (sym (claims-there t.fibre (claims_of t.fibre o ++ c0 ∷ []) o comes))
+            (any-first (is_of_lsp x m) (claims_of t.fibre o) (c0 ∷ []) here))
+        put false e =
+            subst (λ cs. list_any (is_of_lsp x m) cs ≡ true) (sym (claims-elsewhere t.fibre f (claims_of t.fibre o ++ c0 ∷ []) o e)) before

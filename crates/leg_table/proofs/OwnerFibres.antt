@@ -1,0 +1,87 @@
+-- The claims of one fibre changed, all others as they were.
+use Rattle.std.proofs.Common.{◌≡◌, ℕ, Bool, true, false, cond, nat_eq, List, [], ◌∷◌, refl, sym, ap, subst, arith}
+use Rattle.std.specs.Prelude.{◌||◌}
+use Rattle.std.specs.List.{list_any}
+use Rattle.ason_base.specs.declared.ids.Fibre.{Fibre}
+use Rattle.ason_base.specs.declared.ids.Lsp.{Lsp}
+use Rattle.ason_base.specs.Lsps.{same_bool, same_fibre}
+use Rattle.link_owner.specs.Claims.{FibreClaims, is_of_lsp}
+use Rattle.link_owner.specs.Owners.{claims_of, comes_in, has_label, labels_of, with_claims}
+use Rattle.link_owner.specs.declared.claims.Claim.{Claim}
+use Rattle.mesh_nodes.proofs.Cases.{both_left, both_right}
+
+numbers : (a b : ℕ) → nat_eq a b ≡ true → a ≡ b
+numbers a b e = grind arith
+
+bools : (a b : Bool) → same_bool a b ≡ true → a ≡ b
+bools true true e = refl
+bools true false e = absurd (cc e)
+bools false true e = absurd (cc e)
+bools false false e = refl
+
+pub same_fibre-eq : (f g : Fibre) → same_fibre f g ≡ true → f ≡ g
+same_fibre-eq f g e =
+    let a : f.link.0 ≡ g.link.0 = numbers f.link.0 g.link.0 (both_left (nat_eq f.link.0 g.link.0) _ e) in
+    let b : f.forward ≡ g.forward = bools f.forward g.forward (both_right (nat_eq f.link.0 g.link.0) _ e) in
+    λ i. record { link = record { 0 = a i }; forward = b i }
+
+same_number : (n : ℕ) → nat_eq n n ≡ true
+same_number n = grind arith
+
+pub same_fibre-refl : (f : Fibre) → same_fibre f f ≡ true
+same_fibre-refl f = rw (same_number f.link.0) (go f.forward)
+  where
+    go : (b : Bool) → same_bool b b ≡ true
+    go true = refl
+    go false = refl
+
+pub claims-there : (f : Fibre) (claims : List Claim) (o : List FibreClaims) → comes_in o f ≡ true →
+    claims_of f (with_claims f claims o) ≡ claims
+claims-there f claims [] h = absurd (cc h)
+claims-there f claims (r ∷ o) h = go (same_fibre r.fibre f) refl h (claims-there f claims o)
+  where
+    go : (b : Bool) → same_fibre r.fibre f ≡ b → (b || comes_in o f) ≡ true →
+        (comes_in o f ≡ true → claims_of f (with_claims f claims o) ≡ claims) →
+        claims_of f (cond b (record r { claims = claims } ∷ o) (r ∷ with_claims f claims o)) ≡ claims
+    go true e h later = rw e refl
+    go false e h later = rw e (later h)
+
+pub claims-elsewhere : (f g : Fibre) (claims : List Claim) (o : List FibreClaims) → same_fibre f g ≡ false →
+    claims_of g (with_claims f claims o) ≡ claims_of g o
+claims-elsewhere f g claims [] apart = refl
+claims-elsewhere f g claims (r ∷ o) apart = go (same_fibre r.fibre f) refl (claims-elsewhere f g claims o apart)
+  where
+    go : (b : Bool) → same_fibre r.fibre f ≡ b → claims_of g (with_claims f claims o) ≡ claims_of g o →
+        claims_of g (cond b (record r { claims = claims } ∷ o) (r ∷ with_claims f claims o)) ≡ cond (same_fibre r.fibre g) r.claims (claims_of g o)
+    go true e rest =
+        let other : same_fibre r.fibre g ≡ false = subst (λ k. same_fibre k g ≡ false) (sym (same_fibre-eq r.fibre f e)) apart in
+        rw other refl
+    go false e rest = ap (λ cs. cond (same_fibre r.fibre g) r.claims cs) rest
+
+pub comes-kept : (f g : Fibre) (claims : List Claim) (o : List FibreClaims) → comes_in (with_claims f claims o) g ≡ comes_in o g
+comes-kept f g claims [] = refl
+comes-kept f g claims (r ∷ o) = go (same_fibre r.fibre f) (comes-kept f g claims o)
+  where
+    go : (b : Bool) → comes_in (with_claims f claims o) g ≡ comes_in o g →
+        comes_in (cond b (record r { claims = claims } ∷ o) (r ∷ with_claims f claims o)) g ≡ (same_fibre r.fibre g || comes_in o g)
+    go true rest = refl
+    go false rest = ap (λ b. same_fibre r.fibre g || b) rest
+
+pub labels-kept : (f g : Fibre) (claims : List Claim) (o : List FibreClaims) → labels_of g (with_claims f claims o) ≡ labels_of g o
+labels-kept f g claims [] = refl
+labels-kept f g claims (r ∷ o) = go (same_fibre r.fibre f) (labels-kept f g claims o)
+  where
+    go : (b : Bool) → labels_of g (with_claims f claims o) ≡ labels_of g o →
+        labels_of g (cond b (record r { claims = claims } ∷ o) (r ∷ with_claims f claims o)) ≡ cond (same_fibre r.fibre g) r.labels (labels_of g o)
+    go true rest = refl
+    go false rest = ap (λ n. cond (same_fibre r.fibre g) r.labels n) rest
+
+-- a label that is claimed is one of a fibre that comes in
+pub claimed-comes : (o : List FibreClaims) (f : Fibre) (x : ℕ) (l : Lsp) → has_label o f x l ≡ true → comes_in o f ≡ true
+claimed-comes [] f x l h = absurd (cc h)
+claimed-comes (r ∷ o) f x l h = go (same_fibre r.fibre f) h (claimed-comes o f x l)
+  where
+    go : (b : Bool) → list_any (is_of_lsp x l) (cond b r.claims (claims_of f o)) ≡ true →
+        (has_label o f x l ≡ true → comes_in o f ≡ true) → (b || comes_in o f) ≡ true
+    go true h later = refl
+    go false h later = later h

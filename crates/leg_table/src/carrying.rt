@@ -1,0 +1,252 @@
+//! Carrying out what a rule changes: the legs with the claims that they have, the calls and the numbers.
+
+ghost use Rattle.std.specs.Prelude.{◌≡◌, ◌≤◌, ◌<◌, ◌+◌, IfOk, IfSome, IsTrue, None, OnErr, OnOk, Some, length, not, vec_capacity, vec_len};
+ghost use Rattle.std.specs.List.{AllByRecursion};
+ghost use Rattle.link_owner.specs.Claims.{NoClaim, has, working_claim};
+ghost use Rattle.link_owner.specs.Owners.{claim_added, claims_of, comes_in, has_label, labels_of};
+ghost use Rattle.mesh_rules.specs.Changes.{changed};
+ghost use Rattle.mesh_rules.specs.Legs.{find_leg, leg_changed, legs_changed, with_leg, without_leg};
+ghost use Rattle.leg_table.specs.LegClaims.{ClaimsFit, IsOwnerOf, MayBeMade, MayAllEnter, MayClaim, MayEnter, SameFibres, TakesNone, claimed_for, freed_of, taken, taken_of};
+ghost use Rattle.leg_table.specs.States.{local_of, state_of};
+ghost use Rattle.leg_table.specs.Tables.{LegsRise};
+
+use crate::calls::{Calls, change_calls};
+use crate::changes::Change;
+use crate::labels::{TakenLabel, taken, taken_of};
+use crate::legs::{find_leg, set_leg, take_leg};
+use crate::tables::NodeTables;
+use ason_base::{Leg, Lsp, OutOfMemory, Outs};
+use link_owner::{ClaimFault, Owner};
+use mesh_rules::LegChange;
+use std::alloc::Global;
+
+// Claims
+
+fn claim(owner: &mut Owner, alloc: Global, lsp: Lsp, taken: TakenLabel) -> Result<(), OutOfMemory>
+    requires comes_in { IsTrue (comes_in owner.old taken.fibre) }
+    requires within { taken.label ≤ labels_of taken.fibre owner.old }
+    requires free { NoClaim (has taken.label) (claims_of taken.fibre owner.old) }
+    ensures ok { OnOk result (owner.new ≡ claim_added taken.fibre (working_claim taken.label lsp) owner.old) }
+    ensures err { OnErr result (owner.new ≡ owner.old) }
+{
+    match owner.claim(alloc, taken.fibre, taken.label, lsp) {
+        Ok(()) => Ok(()),
+        Err(ClaimFault::OutOfMemory) => Err(OutOfMemory),
+        Err(ClaimFault::Held(_)) => unreachable!(),
+    }
+}
+
+fn free(owner: &mut Owner, lsp: Lsp, taken: Option<TakenLabel>)
+    requires { IfSome taken (λ t. IsTrue (has_label owner.old t.fibre t.label lsp)) }
+    ensures { owner.new ≡ freed_of lsp taken owner.old }
+{
+    if let Some(taken) = taken {
+        owner.free(taken.fibre, taken.label, lsp);
+    }
+}
+
+// The label that the LSP's leg took is free again.
+fn free_label(legs: &[Leg], owner: &mut Owner, lsp: Lsp)
+    requires rising { LegsRise legs.now }
+    requires fit { ClaimsFit legs.now owner.old }
+    ensures { owner.new ≡ freed_of lsp (taken_of (find_leg lsp legs.now)) owner.old }
+{
+    free(owner, lsp, taken_of(find_leg(legs, lsp)));
+}
+
+// Legs
+
+fn remove_leg(legs: &mut Vec<Leg>, owner: &mut Owner, lsp: Lsp)
+    requires rising { LegsRise legs.old.items }
+    requires fit { ClaimsFit legs.old.items owner.old }
+    ensures items { legs.new.items ≡ without_leg lsp legs.old.items }
+    ensures rising { LegsRise legs.new.items }
+    ensures len { vec_len legs.new ≤ vec_len legs.old }
+    ensures capacity { vec_capacity legs.new ≡ vec_capacity legs.old }
+    ensures fit { ClaimsFit legs.new.items owner.new }
+    ensures fibres { SameFibres owner.old owner.new }
+{
+    free_label(legs, owner, lsp);
+    let _leg = take_leg(legs, lsp);
+}
+
+// Puts a leg that takes no label. There is room for it.
+fn put_leg(legs: &mut Vec<Leg>, owner: &mut Owner, leg: Leg)
+    requires rising { LegsRise legs.old.items }
+    requires room { vec_len legs.old < vec_capacity legs.old }
+    requires fit { ClaimsFit legs.old.items owner.old }
+    requires none { taken leg ≡ None }
+    ensures items { legs.new.items ≡ with_leg leg legs.old.items }
+    ensures rising { LegsRise legs.new.items }
+    ensures len { vec_len legs.new ≤ vec_len legs.old + 1 }
+    ensures capacity { vec_capacity legs.new ≡ vec_capacity legs.old }
+    ensures fit { ClaimsFit legs.new.items owner.new }
+    ensures fibres { SameFibres owner.old owner.new }
+{
+    free_label(legs, owner, leg.lsp);
+    set_leg(legs, leg);
+}
+
+// Makes the changes, one after the other. None takes a label, and there is room for them.
+fn change_later(legs: &mut Vec<Leg>, owner: &mut Owner, changes: Vec<LegChange>)
+    requires rising { LegsRise legs.old.items }
+    requires room { vec_len legs.old + vec_len changes ≤ vec_capacity legs.old }
+    requires fit { ClaimsFit legs.old.items owner.old }
+    requires none { AllByRecursion TakesNone changes.items }
+    ensures items { legs.new.items ≡ legs_changed changes.items legs.old.items }
+    ensures rising { LegsRise legs.new.items }
+    ensures fit { ClaimsFit legs.new.items owner.new }
+    ensures fibres { SameFibres owner.old owner.new }
+{
+    for change in changes {
+        match change {
+            LegChange::Goes(lsp) => remove_leg(legs, owner, lsp),
+            LegChange::Put(leg) => put_leg(legs, owner, leg),
+        }
+    }
+}
+
+// Puts a leg that takes this label, where its LSP took none. There is room for it. After want of memory nothing has changed.
+fn enter_leg(
+    legs: &mut Vec<Leg>,
+    owner: &mut Owner,
+    alloc: Global,
+    leg: Leg,
+    label: TakenLabel,
+) -> Result<(), OutOfMemory>
+    requires rising { LegsRise legs.old.items }
+    requires room { vec_len legs.old < vec_capacity legs.old }
+    requires fit { ClaimsFit legs.old.items owner.old }
+    requires taken { taken leg ≡ Some label }
+    requires may { MayClaim owner.old legs.old.items leg label }
+    ensures ok { OnOk result (legs.new.items ≡ with_leg leg legs.old.items) }
+    ensures err { OnErr result (legs.new.items ≡ legs.old.items) }
+    ensures err_owner { OnErr result (owner.new ≡ owner.old) }
+    ensures rising { LegsRise legs.new.items }
+    ensures len { vec_len legs.new ≤ vec_len legs.old + 1 }
+    ensures capacity { vec_capacity legs.new ≡ vec_capacity legs.old }
+    ensures fit { ClaimsFit legs.new.items owner.new }
+    ensures fibres { SameFibres owner.old owner.new }
+{
+    claim(owner, alloc, leg.lsp, label)?;
+    set_leg(legs, leg);
+    Ok(())
+}
+
+// Makes the first change, which may take a label. There is room for it. After want of memory nothing has changed.
+fn change_first(
+    legs: &mut Vec<Leg>,
+    owner: &mut Owner,
+    alloc: Global,
+    change: LegChange,
+) -> Result<(), OutOfMemory>
+    requires rising { LegsRise legs.old.items }
+    requires room { vec_len legs.old < vec_capacity legs.old }
+    requires fit { ClaimsFit legs.old.items owner.old }
+    requires may { MayEnter owner.old legs.old.items change }
+    ensures ok { OnOk result (legs.new.items ≡ leg_changed change legs.old.items) }
+    ensures err { OnErr result (legs.new.items ≡ legs.old.items) }
+    ensures err_owner { OnErr result (owner.new ≡ owner.old) }
+    ensures rising { LegsRise legs.new.items }
+    ensures len { vec_len legs.new ≤ vec_len legs.old + 1 }
+    ensures capacity { vec_capacity legs.new ≡ vec_capacity legs.old }
+    ensures fit { ClaimsFit legs.new.items owner.new }
+    ensures fibres { SameFibres owner.old owner.new }
+{
+    match change {
+        LegChange::Goes(lsp) => {
+            remove_leg(legs, owner, lsp);
+            Ok(())
+        }
+        LegChange::Put(leg) => match taken(&leg) {
+            None => {
+                put_leg(legs, owner, leg);
+                Ok(())
+            }
+            Some(label) => enter_leg(legs, owner, alloc, leg, label),
+        },
+    }
+}
+
+// Makes the changes, one after the other. There is room for them. After want of memory nothing has changed.
+fn change_legs(
+    legs: &mut Vec<Leg>,
+    owner: &mut Owner,
+    alloc: Global,
+    changes: Vec<LegChange>,
+) -> Result<(), OutOfMemory>
+    requires rising { LegsRise legs.old.items }
+    requires room { vec_len legs.old + vec_len changes ≤ vec_capacity legs.old }
+    requires fit { ClaimsFit legs.old.items owner.old }
+    requires may { MayAllEnter owner.old legs.old.items changes.items }
+    ensures ok { OnOk result (legs.new.items ≡ legs_changed changes.items legs.old.items) }
+    ensures err { OnErr result (legs.new.items ≡ legs.old.items) }
+    ensures err_owner { OnErr result (owner.new ≡ owner.old) }
+    ensures rising { LegsRise legs.new.items }
+    ensures fit { ClaimsFit legs.new.items owner.new }
+    ensures fibres { SameFibres owner.old owner.new }
+{
+    let mut later = changes;
+    if later.is_empty() {
+        return Ok(());
+    }
+    let first = later.remove(0);
+    change_first(legs, owner, alloc, first)?;
+    change_later(legs, owner, later);
+    Ok(())
+}
+
+/// Carries out changes of legs, one after the other. The owner's claims follow the legs. After want of memory nothing has
+/// changed.
+pub fn carry_out_legs(
+    alloc: Global,
+    tables: &mut NodeTables,
+    owner: &mut Owner,
+    changes: Vec<LegChange>,
+) -> Result<(), OutOfMemory>
+    requires owner { IsOwnerOf tables.old owner.old }
+    requires may { MayBeMade (local_of tables.old) tables.old.legs changes.items }
+    requires few { length (legs_changed changes.items tables.old.legs) ≤ 4096 }
+    ensures ok { OnOk result (tables.new ≡ record tables.old { legs = legs_changed changes.items tables.old.legs }) }
+    ensures err { OnErr result (tables.new ≡ tables.old) }
+    ensures err_owner { OnErr result (owner.new ≡ owner.old) }
+    ensures owner { IsOwnerOf tables.new owner.new }
+{
+    tables.legs.reserve(changes.len())?;
+    change_legs(&mut tables.legs, owner, alloc, changes)
+}
+
+/// Carries out what a rule changes, and hands back what is to be sent, in order. The owner's claims follow the legs. After want
+/// of memory nothing has changed.
+pub fn carry_out(
+    change: Change,
+    tables: &mut NodeTables,
+    owner: &mut Owner,
+    calls: &mut Calls,
+) -> Result<Outs, OutOfMemory>
+    requires owner { IsOwnerOf tables.old owner.old }
+    requires may { MayBeMade (local_of tables.old) tables.old.legs change.legs }
+    requires few { length (legs_changed change.legs tables.old.legs) ≤ 4096 }
+    ensures ok { OnOk result (state_of tables.new calls.new ≡ changed (state_of tables.old calls.old) change) }
+    ensures sent { IfOk result (λ outs. outs ≡ change.sent) }
+    ensures err { OnErr result (tables.new ≡ tables.old) }
+    ensures err_owner { OnErr result (owner.new ≡ owner.old) }
+    ensures err_calls { OnErr result (calls.new ≡ calls.old) }
+    ensures local { local_of tables.new ≡ local_of tables.old }
+    ensures owner { IsOwnerOf tables.new owner.new }
+{
+    let Change {
+        legs,
+        calls: changes,
+        numbers,
+        sent,
+    } = change;
+    calls.calls.reserve(changes.len())?;
+    carry_out_legs(calls.alloc, tables, owner, legs)?;
+    change_calls(&mut calls.calls, changes);
+    if let Some(numbers) = numbers {
+        calls.tunnel = numbers.tunnel;
+        calls.lsp = numbers.lsp;
+    }
+    Ok(sent)
+}
