@@ -7,6 +7,7 @@ pub mod changes;
 mod edits;
 pub mod labels;
 mod legs;
+pub mod one_leg;
 mod tables;
 
 pub use calls::Calls;
