@@ -2,12 +2,13 @@
 
 ghost use Rattle.std.specs.Prelude.{◌≡◌, IsTrue};
 ghost use Rattle.std.specs.Option.{option_copied};
-ghost use Rattle.mesh_rules.specs.Legs.{is_beyond_asked, usable};
+ghost use Rattle.mesh_rules.specs.Legs.{usable};
 ghost use Rattle.leg_table.specs.LegClaims.{IsOwnerOf, is_fibre_in, taken, taken_of, taken_over};
 ghost use Rattle.leg_table.specs.States.{local_of};
 
+use crate::one_leg::is_beyond_asked;
 use crate::tables::NodeTables;
-use ason_base::{Fibre, Label, LabelSet, Leg, Phase};
+use ason_base::{Fibre, Label, LabelSet, Leg};
 use link_owner::Owner;
 
 /// A label that a leg takes, and the fibre that it is on.
@@ -15,12 +16,6 @@ use link_owner::Owner;
 pub struct TakenLabel {
     pub fibre: Fibre,
     pub label: Label,
-}
-
-fn is_beyond_asked(phase: Phase) -> bool
-    ensures { result ≡ is_beyond_asked phase }
-{
-    matches!(phase, Phase::Held | Phase::Armed | Phase::Live)
 }
 
 fn taken_over(fibre: Option<Fibre>, label: Option<Label>) -> Option<TakenLabel>
