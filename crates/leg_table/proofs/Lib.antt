@@ -1,10 +1,12 @@
 pub mod Carried
 pub mod ClaimChanges
 mod Halved
+pub mod InFibres
 pub mod LegOrder
 mod LspOrder
 mod NewPlaces
 mod Orders
+pub mod OwnLegs
 pub mod OwnerFibres
 mod Places
 pub mod TakenLabels

@@ -1,0 +1,62 @@
+-- The fibres by which a node's legs come in are its owner's.
+use Rattle.std.proofs.Common.{◌≡◌, Bool, true, false, List, [], ◌∷◌, refl, subst, ◌∙◌}
+use Rattle.std.specs.Prelude.{◌||◌, ◌&&◌, ◌==◌, Option, Some, None, IfSome, IsTrue}
+use Rattle.std.specs.List.{list_any}
+use Rattle.ason_base.specs.declared.ids.Fibre.{Fibre}
+use Rattle.ason_base.specs.declared.ids.LinkId.{LinkId}
+use Rattle.ason_base.specs.declared.ids.Lsp.{Lsp}
+use Rattle.ason_base.specs.declared.ids.NodeId.{NodeId}
+use Rattle.ason_base.specs.declared.network.LinkSpec.{LinkSpec}
+use Rattle.ason_base.specs.declared.tables.Leg.{Leg}
+use Rattle.ason_base.specs.Lsps.{same_fibre}
+use Rattle.ason_base.specs.Network.{other_end}
+use Rattle.link_owner.specs.Claims.{FibreClaims}
+use Rattle.link_owner.specs.Owners.{comes_in}
+use Rattle.mesh_rules.specs.declared.neighbours.Neighbour.{Neighbour}
+use Rattle.mesh_rules.specs.Legs.{find_leg, previous}
+use Rattle.mesh_rules.specs.LocalNodes.{LocalNode, fibre_in, leads, own_link}
+use Rattle.mesh_nodes.specs.Kept.{LegFits}
+use Rattle.mesh_nodes.specs.LocalNodes.{is_upstream}
+use Rattle.mesh_nodes.proofs.LegList.{found-all}
+use Rattle.mesh_nodes.proofs.Links.{sender-upstream}
+use Rattle.leg_table.specs.Fits.{TablesFit}
+use Rattle.leg_table.specs.LegClaims.{is_fibre_in}
+use Rattle.leg_table.specs.States.{local_of}
+use Rattle.leg_table.specs.Tables.{LegTable}
+
+any-right : {X : Type 0} (p q : X → Bool) (xs : List X) → list_any (λ x. p x && q x) xs ≡ true → list_any q xs ≡ true
+any-right p q [] e = e
+any-right p q (x ∷ xs) e = go (p x) (q x) e (any-right p q xs)
+  where
+    go : (a b : Bool) → ((a && b) || list_any (λ y. p y && q y) xs) ≡ true →
+        (list_any (λ y. p y && q y) xs ≡ true → list_any q xs ≡ true) → (b || list_any q xs) ≡ true
+    go a true f later = refl
+    go true false f later = later f
+    go false false f later = later f
+
+-- a neighbour's fibre comes in
+pub upstream-fibre_in : (p : LocalNode) (h : Neighbour) → is_upstream p h ≡ true → is_fibre_in p h.fibre ≡ true
+upstream-fibre_in p h e =
+    any-right (λ l. (other_end l p.id).0 == h.node.0) (λ l. same_fibre (fibre_in l p.id) h.fibre) p.own e
+
+if-is : {X : Type 0} (P : X → Type 0) (o : Option X) (x : X) → o ≡ Some x → IfSome o P → P x
+if-is P o x e here = subst (λ y. IfSome y P) e here
+
+-- the fibre by which a message came that its sender's link leads on
+pub sender-fibre_in : (t : LegTable) (o : List FibreClaims) (k : LinkId) (l : LinkSpec) (u : NodeId) → TablesFit t o →
+    own_link (local_of t) k ≡ Some l → leads (Some l) u t.node.id ≡ true → is_fibre_in (local_of t) (fibre_in l t.node.id) ≡ true
+sender-fibre_in t o k l u fits own led =
+    upstream-fibre_in (local_of t) (record { node = u; fibre = fibre_in l t.node.id }) (sender-upstream (local_of t) k l u fits.links own led)
+
+-- the fibre by which a leg comes in
+pub previous-fibre_in : (t : LegTable) (o : List FibreClaims) (l : Lsp) (g : Leg) (h : Neighbour) → TablesFit t o →
+    find_leg l t.legs ≡ Some g → previous g ≡ Some h → is_fibre_in (local_of t) h.fibre ≡ true
+previous-fibre_in t o l g h fits found before =
+    let next = fits.legs.0 in
+    let here : LegFits (local_of t) next g = found-all (LegFits (local_of t) next) l t.legs g found fits.legs.2.each in
+    upstream-fibre_in (local_of t) h (if-is (λ k. IsTrue (is_upstream (local_of t) k)) (previous g) h before here.upstream)
+
+-- the owner has it
+pub owner-has : (t : LegTable) (o : List FibreClaims) (f : Fibre) → TablesFit t o → is_fibre_in (local_of t) f ≡ true →
+    comes_in o f ≡ true
+owner-has t o f fits e = fits.owner.fibres f ∙ e
