@@ -4,6 +4,7 @@ mod Halved
 pub mod InFibres
 pub mod LegOrder
 mod LspOrder
+pub mod MayPut
 mod NewPlaces
 mod Orders
 pub mod OwnLegs
