@@ -1,8 +1,7 @@
 -- The fibres by which a node's legs come in are its owner's.
-use Rattle.std.proofs.Common.{◌≡◌, Bool, true, false, List, [], ◌∷◌, refl, subst, ◌∙◌}
+use Rattle.std.proofs.Common.{◌≡◌, Bool, true, false, List, [], ◌∷◌, refl, subst}
 use Rattle.std.specs.Prelude.{◌||◌, ◌&&◌, ◌==◌, Option, Some, None, IfSome, IsTrue}
 use Rattle.std.specs.List.{list_any}
-use Rattle.ason_base.specs.declared.ids.Fibre.{Fibre}
 use Rattle.ason_base.specs.declared.ids.LinkId.{LinkId}
 use Rattle.ason_base.specs.declared.ids.Lsp.{Lsp}
 use Rattle.ason_base.specs.declared.ids.NodeId.{NodeId}
@@ -11,7 +10,6 @@ use Rattle.ason_base.specs.declared.tables.Leg.{Leg}
 use Rattle.ason_base.specs.Lsps.{same_fibre}
 use Rattle.ason_base.specs.Network.{other_end}
 use Rattle.link_owner.specs.Claims.{FibreClaims}
-use Rattle.link_owner.specs.Owners.{comes_in}
 use Rattle.mesh_rules.specs.declared.neighbours.Neighbour.{Neighbour}
 use Rattle.mesh_rules.specs.Legs.{find_leg, previous}
 use Rattle.mesh_rules.specs.LocalNodes.{LocalNode, fibre_in, leads, own_link}
@@ -55,8 +53,3 @@ previous-fibre_in t o l g h fits found before =
     let next = fits.legs.0 in
     let here : LegFits (local_of t) next g = found-all (LegFits (local_of t) next) l t.legs g found fits.legs.2.each in
     upstream-fibre_in (local_of t) h (if-is (λ k. IsTrue (is_upstream (local_of t) k)) (previous g) h before here.upstream)
-
--- the owner has it
-pub owner-has : (t : LegTable) (o : List FibreClaims) (f : Fibre) → TablesFit t o → is_fibre_in (local_of t) f ≡ true →
-    comes_in o f ≡ true
-owner-has t o f fits e = fits.owner.fibres f ∙ e

@@ -1,3 +1,4 @@
+pub mod AtStart
 pub mod Carried
 pub mod ClaimChanges
 mod Halved

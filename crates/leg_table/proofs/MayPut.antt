@@ -3,9 +3,11 @@ use Rattle.std.proofs.Common.{◌≡◌, ℕ, Bool, true, false, cond, nat_eq, L
 use Rattle.std.specs.Prelude.{◌&&◌, Option, Some, None, IfSome}
 use Rattle.ason_base.specs.Labels.{has, least, meet}
 use Rattle.ason_base.proofs.MaskMembers.{has-filter}
+use Rattle.ason_base.specs.declared.calls.Phase.{Phase}
+use Rattle.ason_base.specs.declared.calls.Phase.TheVariants as phase
 use Rattle.ason_base.specs.declared.ids.Fibre.{Fibre}
 use Rattle.ason_base.specs.declared.tables.Leg.{Leg}
-use Rattle.mesh_rules.specs.Legs.{closed, is_beyond_asked, usable}
+use Rattle.mesh_rules.specs.Legs.{closed, is_asked, is_beyond_asked, usable}
 use Rattle.mesh_rules.specs.LocalNodes.{LocalNode}
 use Rattle.mesh_nodes.proofs.Cases.{both_right}
 use Rattle.leg_table.specs.LegClaims.{MayBePut, MayTake, taken, taken_over}
@@ -23,6 +25,18 @@ met-usable p legs f set x h =
     both_right (has set x) (has (usable p legs f) x) (sym (has-filter (has (usable p legs f)) set x) ∙ h)
 
 -- Legs
+
+-- an Asked leg takes none
+pub asked-taken : (g : Leg) → is_asked g.phase ≡ true → taken g ≡ None
+asked-taken g asked = go g.phase asked
+  where
+    go : (f : Phase) → is_asked f ≡ true → cond (is_beyond_asked f) (taken_over g.in_fibre g.in_label) None ≡ None
+    go phase.Asked e = refl
+    go phase.Held e = absurd (cc e)
+    go phase.Armed e = absurd (cc e)
+    go phase.Live e = absurd (cc e)
+    go phase.Closing e = absurd (cc e)
+    go phase.Falling e = absurd (cc e)
 
 -- a torn leg takes none
 pub closed-taken : (g : Leg) → taken (closed g) ≡ None

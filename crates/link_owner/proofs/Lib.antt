@@ -1,5 +1,5 @@
 mod FibrePlaces
-mod FibresInto
+pub mod FibresInto
 mod LabelTests
 mod LeastClaims
 mod LspOrder

@@ -1,0 +1,82 @@
+-- The tables of a node at the start, and its owner.
+use Rattle.std.proofs.Common.{◌≡◌, ◌≤◌, ℕ, Bool, true, false, cond, nat_eq, List, [], ◌∷◌, refl, sym, ap, subst, ◌∙◌, arith}
+use Rattle.std.specs.Prelude.{◌||◌, Option, Some, None, filter, find, map}
+use Rattle.std.specs.List.{list_any}
+use Rattle.std.specs.Option.{option_map}
+use Rattle.ason_base.specs.declared.ids.Fibre.{Fibre}
+use Rattle.ason_base.specs.declared.ids.NodeId.{NodeId}
+use Rattle.ason_base.specs.declared.network.LinkSpec.{LinkSpec}
+use Rattle.ason_base.specs.declared.network.NodeSpec.{NodeSpec}
+use Rattle.ason_base.specs.Lsps.{same_fibre}
+use Rattle.ason_base.specs.Network.{IsTopology, Network, find_node, touches}
+use Rattle.link_owner.specs.Claims.{FibreClaims}
+use Rattle.link_owner.specs.Owners.{claims_of, comes_in, fibre_unclaimed, is_fibre, labels_of, none_claimed}
+use Rattle.link_owner.proofs.FibresInto.{has_labels_into}
+use Rattle.mesh_rules.specs.LocalNodes.{LocalNode, fibre_in, local_node, own_link}
+use Rattle.mesh_rules.specs.LocalNodes as local
+use Rattle.mesh_nodes.specs.LocalNodes.{LocalNodeFits}
+use Rattle.mesh_nodes.proofs.NewNodes.{new-place}
+use Rattle.leg_table.specs.Fits.{TablesFit}
+use Rattle.leg_table.specs.LegClaims.{ClaimsFit, IsOwnerOf, OwnerFits, is_fibre_in}
+use Rattle.leg_table.specs.States.{local_of}
+use Rattle.leg_table.specs.Tables.{LegTable, new_table, table_of}
+
+-- no label is claimed
+none-there : (n : NodeId) (f : Fibre) (links : List LinkSpec) → claims_of f (map (fibre_unclaimed n) links) ≡ []
+none-there n f [] = refl
+none-there n f (l ∷ links) = go (is_fibre f (fibre_unclaimed n l)) (none-there n f links)
+  where
+    go : (b : Bool) → claims_of f (map (fibre_unclaimed n) links) ≡ [] → cond b [] (claims_of f (map (fibre_unclaimed n) links)) ≡ []
+    go true e = refl
+    go false e = e
+
+all-come : (n : NodeId) (f : Fibre) (links : List LinkSpec) →
+    comes_in (map (fibre_unclaimed n) links) f ≡ list_any (λ l. same_fibre (fibre_in l n) f) links
+all-come n f [] = refl
+all-come n f (l ∷ links) = ap (λ b. same_fibre (fibre_in l n) f || b) (all-come n f links)
+
+found-passes : {X : Type 0} (test : X → Bool) (xs : List X) (x : X) → find test xs ≡ Some x → test x ≡ true
+found-passes test [] x e = absurd (cc e)
+found-passes test (y ∷ xs) x e = go (test y) refl e (found-passes test xs x)
+  where
+    go : (b : Bool) → test y ≡ b → cond b (Some y) (find test xs) ≡ Some x → (find test xs ≡ Some x → test x ≡ true) → test x ≡ true
+    go true passes f later = let is : y ≡ x = cc f in subst (λ z. test z ≡ true) is passes
+    go false passes f later = later f
+
+same-number : (a b : ℕ) → nat_eq a b ≡ true → a ≡ b
+same-number a b e = grind arith
+
+module _ (t : Network) (n : NodeId) (valid : IsTopology t) (node : NodeSpec) (found : find_node t n ≡ Some node) where
+  is-local : local_of (table_of t n node) ≡ local_node t n
+  is-local =
+      let number = same-number node.id.0 n.0 (found-passes (λ m. nat_eq m.id.0 n.0) t.nodes node found) in
+      let converts = sym (ap local.converts found) in
+      λ i. record { id = record { 0 = number i }; convert = converts i; own = filter (touches n) t.links }
+
+  owner-fits : OwnerFits (local_node t n) (none_claimed t n)
+  owner-fits = record {
+    fibres = λ f. all-come n f (filter (touches n) t.links);
+    labels = λ f comes. has_labels_into local.labels_of (λ l. refl) t valid n f comes;
+  }
+
+  claims-fit : ClaimsFit [] (none_claimed t n)
+  claims-fit = record {
+    each = λ f. rw (none-there n f (filter (touches n) t.links)) tt;
+    all = λ f x l g found takes. absurd (cc found);
+  }
+
+  start-fits : TablesFit (table_of t n node) (none_claimed t n)
+  start-fits = record {
+    links = subst LocalNodeFits (sym is-local) (new-place t n valid);
+    legs = (1, omega arith, record { rise = tt; each = tt; few = omega arith });
+    owner = record { claims = claims-fit; fibres = subst (λ p. OwnerFits p (none_claimed t n)) (sym is-local) owner-fits };
+  }
+
+pub at_start-fits : (t : Network) (n : NodeId) (s : LegTable) → IsTopology t → Some s ≡ new_table t n → TablesFit s (none_claimed t n)
+at_start-fits t n s valid is = go (find_node t n) refl is
+  where
+    go : (o : Option NodeSpec) → find_node t n ≡ o → Some s ≡ option_map (table_of t n) o → TablesFit s (none_claimed t n)
+    go None found e = absurd (cc e)
+    go (Some node) found e =
+        let same : s ≡ table_of t n node = cc e in
+        subst (λ x. TablesFit x (none_claimed t n)) (sym same) (start-fits t n valid node found)
