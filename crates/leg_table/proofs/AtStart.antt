@@ -1,6 +1,6 @@
 -- The tables of a node at the start, and its owner.
-use Rattle.std.proofs.Common.{◌≡◌, ◌≤◌, ℕ, Bool, true, false, cond, nat_eq, List, [], ◌∷◌, refl, sym, ap, subst, ◌∙◌, arith}
-use Rattle.std.specs.Prelude.{◌||◌, Option, Some, None, filter, find, map}
+use Rattle.std.proofs.Common.{◌≡◌, ℕ, Bool, true, false, cond, nat_eq, List, [], ◌∷◌, refl, sym, ap, subst, arith}
+use Rattle.std.specs.Prelude.{◌||◌, Option, Some, None, drop, filter, find, length, map}
 use Rattle.std.specs.List.{list_any}
 use Rattle.std.specs.Option.{option_map}
 use Rattle.ason_base.specs.declared.ids.Fibre.{Fibre}
@@ -8,17 +8,17 @@ use Rattle.ason_base.specs.declared.ids.NodeId.{NodeId}
 use Rattle.ason_base.specs.declared.network.LinkSpec.{LinkSpec}
 use Rattle.ason_base.specs.declared.network.NodeSpec.{NodeSpec}
 use Rattle.ason_base.specs.Lsps.{same_fibre}
-use Rattle.ason_base.specs.Network.{IsTopology, Network, find_node, touches}
-use Rattle.link_owner.specs.Claims.{FibreClaims}
-use Rattle.link_owner.specs.Owners.{claims_of, comes_in, fibre_unclaimed, is_fibre, labels_of, none_claimed}
+use Rattle.ason_base.specs.Network.{IsTopology, Network, find_node, row_of, touches}
+use Rattle.link_owner.specs.Owners.{claims_of, comes_in, fibre_unclaimed, is_fibre, none_claimed}
 use Rattle.link_owner.proofs.FibresInto.{has_labels_into}
 use Rattle.mesh_rules.specs.LocalNodes.{LocalNode, fibre_in, local_node, own_link}
 use Rattle.mesh_rules.specs.LocalNodes as local
 use Rattle.mesh_nodes.specs.LocalNodes.{LocalNodeFits}
 use Rattle.mesh_nodes.proofs.NewNodes.{new-place}
 use Rattle.leg_table.specs.Fits.{TablesFit}
-use Rattle.leg_table.specs.LegClaims.{ClaimsFit, IsOwnerOf, OwnerFits, is_fibre_in}
-use Rattle.leg_table.specs.States.{local_of}
+use Rattle.leg_table.specs.LegClaims.{ClaimsFit, OwnerFits}
+use Rattle.mesh_rules.specs.State.{new_node}
+use Rattle.leg_table.specs.States.{learnt_rows, local_of, no_call, state_of}
 use Rattle.leg_table.specs.Tables.{LegTable, new_table, table_of}
 
 -- no label is claimed
@@ -46,13 +46,13 @@ found-passes test (y ∷ xs) x e = go (test y) refl e (found-passes test xs x)
 same-number : (a b : ℕ) → nat_eq a b ≡ true → a ≡ b
 same-number a b e = grind arith
 
-module _ (t : Network) (n : NodeId) (valid : IsTopology t) (node : NodeSpec) (found : find_node t n ≡ Some node) where
-  is-local : local_of (table_of t n node) ≡ local_node t n
-  is-local =
-      let number = same-number node.id.0 n.0 (found-passes (λ m. nat_eq m.id.0 n.0) t.nodes node found) in
-      let converts = sym (ap local.converts found) in
-      λ i. record { id = record { 0 = number i }; convert = converts i; own = filter (touches n) t.links }
+is-local : (t : Network) (n : NodeId) (node : NodeSpec) → find_node t n ≡ Some node → local_of (table_of t n node) ≡ local_node t n
+is-local t n node found =
+    let number = same-number node.id.0 n.0 (found-passes (λ m. nat_eq m.id.0 n.0) t.nodes node found) in
+    let converts = sym (ap local.converts found) in
+    λ i. record { id = record { 0 = number i }; convert = converts i; own = filter (touches n) t.links }
 
+module _ (t : Network) (n : NodeId) (valid : IsTopology t) (node : NodeSpec) (found : find_node t n ≡ Some node) where
   owner-fits : OwnerFits (local_node t n) (none_claimed t n)
   owner-fits = record {
     fibres = λ f. all-come n f (filter (touches n) t.links);
@@ -67,10 +67,28 @@ module _ (t : Network) (n : NodeId) (valid : IsTopology t) (node : NodeSpec) (fo
 
   start-fits : TablesFit (table_of t n node) (none_claimed t n)
   start-fits = record {
-    links = subst LocalNodeFits (sym is-local) (new-place t n valid);
+    links = subst LocalNodeFits (sym (is-local t n node found)) (new-place t n valid);
     legs = (1, omega arith, record { rise = tt; each = tt; few = omega arith });
-    owner = record { claims = claims-fit; fibres = subst (λ p. OwnerFits p (none_claimed t n)) (sym is-local) owner-fits };
+    owner = record { claims = claims-fit; fibres = subst (λ p. OwnerFits p (none_claimed t n)) (sym (is-local t n node found)) owner-fits };
   }
+
+-- as many rows as links
+dropped : {X Y : Type 0} (f : X → Y) (xs : List X) → drop (length xs) (map f xs) ≡ []
+dropped f [] = refl
+dropped f (x ∷ xs) = dropped f xs
+
+pub at_start-is : (t : Network) (n : NodeId) (s : LegTable) → Some s ≡ new_table t n →
+    (local_of s ≡ local_node t n) × (state_of s no_call ≡ new_node)
+at_start-is t n s is = go (find_node t n) refl is
+  where
+    go : (o : Option NodeSpec) → find_node t n ≡ o → Some s ≡ option_map (table_of t n) o →
+        (local_of s ≡ local_node t n) × (state_of s no_call ≡ new_node)
+    go None found e = absurd (cc e)
+    go (Some node) found e =
+        let same : s ≡ table_of t n node = cc e in
+        let rows : learnt_rows (table_of t n node) ≡ [] = dropped row_of (filter (touches n) t.links) in
+        subst (λ x. (local_of x ≡ local_node t n) × (state_of x no_call ≡ new_node)) (sym same)
+        (is-local t n node found, ap (λ rs. record new_node { learnt = rs }) rows)
 
 pub at_start-fits : (t : Network) (n : NodeId) (s : LegTable) → IsTopology t → Some s ≡ new_table t n → TablesFit s (none_claimed t n)
 at_start-fits t n s valid is = go (find_node t n) refl is

@@ -11,5 +11,6 @@ mod Orders
 pub mod OwnLegs
 pub mod OwnerFibres
 mod Places
+pub mod RuleChanges
 pub mod TakenLabels
 pub mod UsableLabels

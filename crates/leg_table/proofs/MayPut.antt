@@ -1,6 +1,6 @@
 -- Which legs may be put: those that take no label, and those that take one that was free.
-use Rattle.std.proofs.Common.{◌≡◌, ℕ, Bool, true, false, cond, nat_eq, List, [], ◌∷◌, refl, sym, subst, ◌∙◌, arith}
-use Rattle.std.specs.Prelude.{◌&&◌, Option, Some, None, IfSome}
+use Rattle.std.proofs.Common.{◌≡◌, ℕ, Bool, true, false, cond, nat_eq, List, [], ◌∷◌, refl, sym, ◌∙◌, arith}
+use Rattle.std.specs.Prelude.{Option, Some, None}
 use Rattle.ason_base.specs.Labels.{has, least, meet}
 use Rattle.ason_base.proofs.MaskMembers.{has-filter}
 use Rattle.ason_base.specs.declared.calls.Phase.{Phase}
@@ -10,7 +10,7 @@ use Rattle.ason_base.specs.declared.tables.Leg.{Leg}
 use Rattle.mesh_rules.specs.Legs.{closed, is_asked, is_beyond_asked, usable}
 use Rattle.mesh_rules.specs.LocalNodes.{LocalNode}
 use Rattle.mesh_nodes.proofs.Cases.{both_right}
-use Rattle.leg_table.specs.LegClaims.{MayBePut, MayTake, taken, taken_over}
+use Rattle.leg_table.specs.LegClaims.{MayBePut, taken, taken_over}
 
 -- Labels
 

@@ -1,9 +1,9 @@
 -- A node's legs fit after what it answers to a message.
-use Rattle.std.proofs.Common.{◌≡◌, ◌≤◌, ℕ, List, [], refl, subst, arith}
+use Rattle.std.proofs.Common.{◌≡◌, ◌≤◌, ℕ, List, refl, subst, arith}
 use Rattle.ason_base.specs.declared.ids.NodeId.{NodeId}
 use Rattle.ason_base.specs.declared.messages.Msg.{Msg}
 use Rattle.mesh_rules.specs.declared.changes.LegChange.{LegChange}
-use Rattle.mesh_rules.specs.Changes.{Answer, changed, lsp_after, tunnel_after}
+use Rattle.mesh_rules.specs.Changes.{changed}
 use Rattle.mesh_rules.specs.Legs.{legs_changed}
 use Rattle.mesh_rules.specs.Messages.{on_message}
 use Rattle.mesh_rules.specs.State.{NodeState}

@@ -1,0 +1,271 @@
+-- The legs that a rule changes may be changed so: just the first takes a label, and one that is usable.
+use Rattle.std.proofs.Common.{◌≡◌, ℕ, Bool, true, false, cond, not, nat_eq, List, [], ◌∷◌, refl, sym, ap, subst, ◌∙◌}
+use Rattle.std.specs.Prelude.{◌&&◌, Option, Some, None, IfSome}
+use Rattle.std.specs.List.{AllByRecursion}
+use Rattle.ason_base.specs.Labels.{has, least}
+use Rattle.ason_base.specs.Lsps.{same_fibre}
+use Rattle.ason_base.specs.declared.codes.ErrCode.{ErrCode}
+use Rattle.ason_base.specs.declared.commands.DeskItem.{DeskItem}
+use Rattle.ason_base.specs.declared.commands.DeskItem.TheVariants.{Order, Alarm, Clear}
+use Rattle.ason_base.specs.declared.commands.Command.TheVariants.{Setup, Release, Protect, Retry, Revert, Fail, Repair}
+use Rattle.ason_base.specs.declared.ids.Fibre.{Fibre}
+use Rattle.ason_base.specs.declared.ids.NodeId.{NodeId}
+use Rattle.ason_base.specs.declared.messages.Msg.{Msg}
+use Rattle.ason_base.specs.declared.messages.Msg.TheVariants.{Path, Resv, PathTear, PathErr, Notify}
+use Rattle.ason_base.specs.declared.network.LinkSpec.{LinkSpec}
+use Rattle.ason_base.specs.declared.steps.Step.{Step}
+use Rattle.ason_base.specs.declared.tables.CallRec.{CallRec}
+use Rattle.ason_base.specs.declared.tables.Leg.{Leg}
+use Rattle.ason_base.specs.declared.tables.Out.{Out}
+use Rattle.mesh_rules.specs.declared.arrivals.Arrival.{Arrival}
+use Rattle.mesh_rules.specs.declared.changes.CallChange.{CallChange}
+use Rattle.mesh_rules.specs.declared.changes.CallChange.TheVariants as call
+use Rattle.mesh_rules.specs.declared.neighbours.Neighbour.{Neighbour}
+use Rattle.ason_base.specs.declared.calls.Cause.TheVariants.{Code}
+use Rattle.mesh_rules.specs.Calls.{blocked, call_of, find_call, is_asking}
+use Rattle.mesh_rules.specs.Calls as calls
+use Rattle.mesh_rules.specs.Changes.{Answer, changes_calls, followed_by, nothing, puts, removes}
+use Rattle.mesh_rules.specs.Legs.{connected, find_leg, following, is_asked, is_closing, is_node, is_over, is_work, leg_of, neighbour_over, previous}
+use Rattle.mesh_rules.specs.LocalNodes.{LocalNode, fibre_in, leads, own_link}
+use Rattle.mesh_rules.specs.Messages.{arrival, on_message}
+use Rattle.mesh_rules.specs.Orders.{on_item}
+use Rattle.mesh_rules.specs.PathErrs.{PathFailure, call_refused, err_passed, on_path_err, path_err_with}
+use Rattle.mesh_rules.specs.Paths.{PathRequest, admitted, at_egress, checks, first_failure, first_path, in_transit, is_for_work, judged, offered_labels, on_path, path_with}
+use Rattle.mesh_rules.specs.Releases.{release_with, releases, tears}
+use Rattle.mesh_rules.specs.Resvs.{answered, call_connected, is_expected, label_back, labels_left, on_resv, only, passed_back, resv_with}
+use Rattle.mesh_rules.specs.Setups.{SetupRequest, first_link, is_full, is_order_here, is_spent, new_call, on_setup, over_first, setup_with}
+use Rattle.mesh_rules.specs.State.{NodeState}
+use Rattle.mesh_rules.specs.Tears.{on_tear, tear_with, torn}
+use Rattle.mesh_nodes.specs.Kept.{LegFits}
+use Rattle.mesh_nodes.specs.LocalNodes.{is_upstream}
+use Rattle.mesh_nodes.proofs.Cases.{both_left, both_right, if_cases}
+use Rattle.mesh_nodes.proofs.LegList.{found-all, found-lsp}
+use Rattle.mesh_nodes.proofs.Links.{any-found}
+use Rattle.leg_table.specs.LegClaims.{MayBeMade, MayBePut, MayTake, is_fibre_in, taken, taken_of, taken_over}
+use Rattle.leg_table.proofs.InFibres.{upstream-fibre_in}
+use Rattle.leg_table.proofs.MayPut.{asked-taken, closed-may, closed-taken, least-has, met-usable}
+use Rattle.leg_table.proofs.OwnerFibres.{same_fibre-refl}
+
+abbrev Fine : LocalNode → List Leg → Answer → Type 0
+Fine p legs a = MayBeMade p legs a.legs
+
+-- Legs that take no label
+
+begun-none : (g : Leg) (x : ℕ) → taken (connected g None x) ≡ None
+begun-none g x = go g.in_fibre
+  where
+    go : (i : Option Fibre) → taken_over i None ≡ None
+    go None = refl
+    go (Some f) = refl
+
+bare : (p : LocalNode) (legs : List Leg) (g : Leg) → taken g ≡ None → MayBePut p legs g
+bare p legs g e = subst (λ t. IfSome t (MayTake p legs g)) (sym e) tt
+
+-- Labels
+
+only-has : (xs : List ℕ) (x y : ℕ) (b : Bool) → has xs x ≡ b → only x b ≡ Some y → has xs y ≡ true
+only-has xs x y true h e = let is : x ≡ y = cc in subst (λ z. has xs z ≡ true) is h
+only-has xs x y false h e = absurd (cc e)
+
+label-has : (b : Bool) (xs : List ℕ) (x y : ℕ) → cond b (least xs) (only x (has xs x)) ≡ Some y → has xs y ≡ true
+label-has true xs x y e = least-has xs y e
+label-has false xs x y e = only-has xs x y (has xs x) refl e
+
+-- Path
+
+own-in : (p : LocalNode) (m : PathRequest) (link : LinkSpec) → own_link p m.arrival.link ≡ Some link → is_fibre_in p (fibre_in link p.id) ≡ true
+own-in p m link own =
+    any-found (λ l. same_fibre (fibre_in l p.id) (fibre_in link p.id)) (λ l. nat_eq l.id.0 m.arrival.link.0) p.own link own
+    (same_fibre-refl (fibre_in link p.id))
+
+module _ (p : LocalNode) (s : NodeState) (m : PathRequest) (absent : find_leg m.arrival.lsp s.legs ≡ None) where
+  egress-may : (link : LinkSpec) (o : Option ℕ) → own_link p m.arrival.link ≡ Some link → least (offered_labels p s m link) ≡ o →
+      MayBeMade p s.legs (at_egress p m link (offered_labels p s m link) o).legs
+  egress-may link None own e = tt
+  egress-may link (Some x) own e = (
+    record {
+      work = refl;
+      fresh = ap taken_of absent;
+      comes_in = own-in p m link own;
+      usable = met-usable p s.legs (fibre_in link p.id) m.set x (least-has (offered_labels p s m link) x e);
+    },
+    tt,
+  )
+
+  transit-may : (link : LinkSpec) (route : List Step) (offered : List ℕ) (o : Option LinkSpec) →
+      MayBeMade p s.legs (in_transit p m link route offered o).legs
+  transit-may link route offered None = tt
+  transit-may link route offered (Some out) = (tt, tt)
+
+  admitted-may : (link : LinkSpec) (route : List Step) → own_link p m.arrival.link ≡ Some link →
+      MayBeMade p s.legs (admitted p m link (offered_labels p s m link) route).legs
+  admitted-may link [] own = egress-may link (least (offered_labels p s m link)) own refl
+  admitted-may link (hop ∷ route) own = transit-may link route (offered_labels p s m link) (own_link p hop.link)
+
+  judged-may : (link : LinkSpec) (o : Option ErrCode) → own_link p m.arrival.link ≡ Some link → MayBeMade p s.legs (judged p s m link o).legs
+  judged-may link None own = admitted-may link m.route own
+  judged-may link (Some code) own = tt
+
+  first-may : (o : Option LinkSpec) → own_link p m.arrival.link ≡ o → MayBeMade p s.legs (first_path p s m o).legs
+  first-may None own = tt
+  first-may (Some link) own =
+      if_cases (Fine p s.legs) (is_for_work m.role && (leads (Some link) m.arrival.from p.id && not (nat_eq m.arrival.lsp.ingress.0 p.id.0))) _ _
+      (λ e. judged-may link (first_failure (checks p s m link)) own) (λ e. tt)
+
+path-with : (p : LocalNode) (s : NodeState) (m : PathRequest) (o : Option Leg) → find_leg m.arrival.lsp s.legs ≡ o →
+    MayBeMade p s.legs (path_with p s m o).legs
+path-with p s m None absent = first-may p s m absent (own_link p m.arrival.link) refl
+path-with p s m (Some g) there = tt
+
+pub path-may : (p : LocalNode) (s : NodeState) (m : PathRequest) → MayBeMade p s.legs (on_path p s m).legs
+path-may p s m = path-with p s m (find_leg m.arrival.lsp s.legs) refl
+
+-- PathTear
+
+torn-may : (p : LocalNode) (legs : List Leg) (g : Leg) (out : Out) (o : Option Neighbour) → MayBeMade p legs (torn g out o).legs
+torn-may p legs g out None = (tt, tt)
+torn-may p legs g out (Some h) = (closed-may p legs g, tt)
+
+pub tear-may : (p : LocalNode) (s : NodeState) (a : Arrival) → MayBeMade p s.legs (on_tear p s a).legs
+tear-may p s a = go (find_leg a.lsp s.legs)
+  where
+    go : (o : Option Leg) → MayBeMade p s.legs (tear_with p a o).legs
+    go None = tt
+    go (Some g) =
+        if_cases (Fine p s.legs) (not (is_closing g.phase) && is_over (previous g) a.from a.link) _ _
+        (λ e. torn-may p s.legs g _ (following g)) (λ e. tt)
+
+-- Resv
+
+-- changes of calls alone come after
+alone : (p : LocalNode) (legs : List Leg) (a : Answer) (b : Bool) (cs : List CallChange) → Fine p legs (followed_by a (changes_calls [])) →
+    Fine p legs (followed_by a (cond b (changes_calls cs) nothing))
+alone p legs a true cs may = may
+alone p legs a false cs may = may
+
+connected-may : (p : LocalNode) (legs : List Leg) (g : Leg) (x : ℕ) (o : Option CallRec) →
+    MayBeMade p legs (followed_by (puts (connected g None x) []) (call_connected o)).legs
+connected-may p legs g x None = (bare p legs (connected g None x) (begun-none g x), tt)
+connected-may p legs g x (Some c) = alone p legs (puts (connected g None x) []) (is_asking c.state && not c.protected) (call.Put (calls.bare c) ∷ []) (bare p legs (connected g None x) (begun-none g x), tt)
+
+beside : (n : Option NodeId) (f : Option Fibre) (h : Neighbour) → neighbour_over n f ≡ Some h → f ≡ Some h.fibre
+beside None f h e = absurd (cc e)
+beside (Some n) None h e = absurd (cc e)
+beside (Some n) (Some f) h e = let is : record { node = n; fibre = f } ≡ h = cc in ap (λ k. Some k.fibre) is
+
+module _ (p : LocalNode) (s : NodeState) (a : Arrival) (x : ℕ) (g : Leg) (found : find_leg a.lsp s.legs ≡ Some g)
+    (upstream : IfSome (previous g) (λ h. is_upstream p h ≡ true)) (wait : is_asked g.phase ≡ true) (work : is_work g.role ≡ true) where
+  passed-may : (h : Neighbour) (o : Option ℕ) → previous g ≡ Some h → label_back p (labels_left p s g h) x ≡ o →
+      MayBeMade p s.legs (passed_back p a g h x o).legs
+  passed-may h None before e = (closed-may p s.legs g, tt)
+  passed-may h (Some y) before e = (
+    subst (λ i. IfSome (taken_over i (Some y)) (MayTake p s.legs (connected g (Some y) x))) (sym (beside g.prev g.in_fibre h before)) may,
+    tt,
+  )
+    where
+      own : find_leg g.lsp s.legs ≡ Some g
+      own = subst (λ l. find_leg l s.legs ≡ Some g) (sym (found-lsp a.lsp s.legs g found)) found
+
+      may : MayTake p s.legs (connected g (Some y) x) (record { fibre = h.fibre; label = y })
+      may = record {
+        work = work;
+        fresh = ap taken_of own ∙ asked-taken g wait;
+        comes_in = upstream-fibre_in p h (subst (λ o. IfSome o (λ h. is_upstream p h ≡ true)) before upstream);
+        usable = met-usable p s.legs h.fibre g.offered y (label-has p.convert (labels_left p s g h) x y e);
+      }
+
+  answered-may : (o : Option Neighbour) → previous g ≡ o → MayBeMade p s.legs (answered p s a x g o).legs
+  answered-may None before = connected-may p s.legs g x (call_of g.lsp s.calls)
+  answered-may (Some h) before = passed-may h (label_back p (labels_left p s g h) x) before refl
+
+-- the legs come from neighbours
+pub resv-may : (p : LocalNode) (s : NodeState) (next : ℕ) (a : Arrival) (x : ℕ) → AllByRecursion (LegFits p next) s.legs →
+    MayBeMade p s.legs (on_resv p s a x).legs
+resv-may p s next a x each = go (find_leg a.lsp s.legs) refl
+  where
+    go : (o : Option Leg) → find_leg a.lsp s.legs ≡ o → MayBeMade p s.legs (resv_with p s a x o).legs
+    go None found = tt
+    go (Some g) found =
+        if_cases (Fine p s.legs) (is_expected a x g) _ _
+        (λ e. answered-may p s a x g found (found-all (LegFits p next) a.lsp s.legs g found each).upstream
+        (both_left (is_asked g.phase) (is_work g.role && (is_over (following g) a.from a.link && has g.sent x)) e)
+        (both_left (is_work g.role) (is_over (following g) a.from a.link && has g.sent x) (both_right (is_asked g.phase) (is_work g.role && (is_over (following g) a.from a.link && has g.sent x)) e))
+        (previous g) refl)
+        (λ e. tt)
+
+-- PathErr
+
+passed_err-may : (p : LocalNode) (s : NodeState) (g : Leg) (e : PathFailure) (o : Option Neighbour) → MayBeMade p s.legs (err_passed s g e o).legs
+passed_err-may p s g e (Some h) = (tt, tt)
+passed_err-may p s g e None = go (call_of g.lsp s.calls)
+  where
+    go : (o : Option CallRec) → MayBeMade p s.legs (followed_by (removes g.lsp []) (call_refused e.code o)).legs
+    go None = (tt, tt)
+    go (Some c) = alone p s.legs (removes g.lsp []) (is_asking c.state) (call.Put (blocked c (Code e.code)) ∷ []) (tt, tt)
+
+pub err-may : (p : LocalNode) (s : NodeState) (u : NodeId) (e : PathFailure) → MayBeMade p s.legs (on_path_err s u e).legs
+err-may p s u e = go (find_leg e.lsp s.legs)
+  where
+    go : (o : Option Leg) → MayBeMade p s.legs (path_err_with s u e o).legs
+    go None = tt
+    go (Some g) =
+        if_cases (Fine p s.legs) (e.removed && is_node (following g) u) _ _
+        (λ t. if_cases (Fine p s.legs) (is_asked g.phase) _ _ (λ t. passed_err-may p s g e (previous g))
+        (λ t. if_cases (Fine p s.legs) (is_closing g.phase) _ _ (λ t. (tt, tt)) (λ t. tt)))
+        (λ t. tt)
+
+-- Setup
+
+pub setup-may : (p : LocalNode) (s : NodeState) (w : SetupRequest) → MayBeMade p s.legs (on_setup p s w).legs
+setup-may p s w = go (find_call w.call s.calls)
+  where
+    over : (route : List Step) (o : Option LinkSpec) → MayBeMade p s.legs (over_first p s w route o).legs
+    over route None = tt
+    over route (Some out) =
+        if_cases (Fine p s.legs) (is_spent s) _ _ (λ e. tt)
+        (λ e. if_cases (Fine p s.legs) (is_full s) _ _ (λ e. tt) (λ e. (tt, tt)))
+
+    new : (via : Option (List Step)) → MayBeMade p s.legs (new_call p s w via).legs
+    new None = tt
+    new (Some route) = over route (first_link p route)
+
+    go : (o : Option CallRec) → MayBeMade p s.legs (setup_with p s w o).legs
+    go None = if_cases (Fine p s.legs) (is_order_here p w) _ _ (λ e. new w.via) (λ e. tt)
+    go (Some c) = tt
+
+-- Release
+
+pub release-may : (p : LocalNode) (s : NodeState) (from : NodeId) (o : Option CallRec) → MayBeMade p s.legs (release_with p s from o).legs
+release-may p s from None = tt
+release-may p s from (Some c) =
+    if_cases (Fine p s.legs) (nat_eq from.0 p.id.0) (releases s c) nothing
+    (λ e. both (leg_of c.work s.legs) (leg_of c.back s.legs)) (λ e. tt)
+  where
+    both : (a b : Option Leg) → MayBeMade p s.legs (followed_by (tears a) (followed_by (tears b) (changes_calls (call.Goes c.call ∷ [])))).legs
+    both None None = tt
+    both None (Some h) = (closed-may p s.legs h, tt)
+    both (Some g) None = (closed-may p s.legs g, tt)
+    both (Some g) (Some h) = (closed-may p s.legs g, (closed-taken h, tt))
+
+-- Every message and item
+
+pub message-may : (p : LocalNode) (s : NodeState) (next : ℕ) (u : NodeId) (m : Msg) → AllByRecursion (LegFits p next) s.legs →
+    MayBeMade p s.legs (on_message p s u m).legs
+message-may p s next u (Path l e k route set up r) each = path-may p s (record { arrival = arrival l e u k; route = route; set = set; role = r })
+message-may p s next u (Resv l e k x) each = resv-may p s next (arrival l e u k) x each
+message-may p s next u (PathTear l e k) each = tear-may p s (arrival l e u k)
+message-may p s next u (PathErr l e at gone code) each =
+    err-may p s u (record { lsp = l; msg = PathErr l e at gone code; removed = gone; code = code })
+message-may p s next u (Notify l e at k code) each = tt
+
+pub item-may : (p : LocalNode) (s : NodeState) (i : DeskItem) → MayBeMade p s.legs (on_item p s i).legs
+item-may p s (Order (Setup n from to protected both via backup)) =
+    setup-may p s (record { call = n; from = from; egress = to; protected = protected; both = both; via = via; backup = backup })
+item-may p s (Order (Release n from)) = release-may p s from (find_call n s.calls)
+item-may p s (Order (Protect n from)) = tt
+item-may p s (Order (Retry n from)) = tt
+item-may p s (Order (Revert n from)) = tt
+item-may p s (Order (Fail g)) = tt
+item-may p s (Order (Repair g)) = tt
+item-may p s (Alarm f) = tt
+item-may p s (Clear f) = tt
