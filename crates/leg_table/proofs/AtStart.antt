@@ -2,7 +2,6 @@
 use Rattle.std.proofs.Common.{◌≡◌, ℕ, Bool, true, false, cond, nat_eq, List, [], ◌∷◌, refl, sym, ap, subst, arith}
 use Rattle.std.specs.Prelude.{◌||◌, Option, Some, None, drop, filter, find, length, map}
 use Rattle.std.specs.List.{list_any}
-use Rattle.std.specs.Option.{option_map}
 use Rattle.ason_base.specs.declared.ids.Fibre.{Fibre}
 use Rattle.ason_base.specs.declared.ids.NodeId.{NodeId}
 use Rattle.ason_base.specs.declared.network.LinkSpec.{LinkSpec}
@@ -19,7 +18,7 @@ use Rattle.leg_table.specs.Fits.{TablesFit}
 use Rattle.leg_table.specs.LegClaims.{ClaimsFit, OwnerFits}
 use Rattle.mesh_rules.specs.State.{new_node}
 use Rattle.leg_table.specs.States.{learnt_rows, local_of, no_call, state_of}
-use Rattle.leg_table.specs.Tables.{LegTable, new_table, table_of}
+use Rattle.leg_table.specs.Tables.{LegTable, new_table, node_or_none, table_of}
 
 -- no label is claimed
 none-there : (n : NodeId) (f : Fibre) (links : List LinkSpec) → claims_of f (map (fibre_unclaimed n) links) ≡ []
@@ -46,13 +45,17 @@ found-passes test (y ∷ xs) x e = go (test y) refl e (found-passes test xs x)
 same-number : (a b : ℕ) → nat_eq a b ≡ true → a ≡ b
 same-number a b e = grind arith
 
-is-local : (t : Network) (n : NodeId) (node : NodeSpec) → find_node t n ≡ Some node → local_of (table_of t n node) ≡ local_node t n
-is-local t n node found =
-    let number = same-number node.id.0 n.0 (found-passes (λ m. nat_eq m.id.0 n.0) t.nodes node found) in
-    let converts = sym (ap local.converts found) in
-    λ i. record { id = record { 0 = number i }; convert = converts i; own = filter (touches n) t.links }
+is-local : (t : Network) (n : NodeId) → local_of (new_table t n) ≡ local_node t n
+is-local t n = go (find_node t n) refl
+  where
+    go : (o : Option NodeSpec) → find_node t n ≡ o → local_of (table_of t n (node_or_none n o)) ≡ local_node t n
+    go None found = ap (λ b. record { id = n; convert = b; own = filter (touches n) t.links }) (sym (ap local.converts found))
+    go (Some node) found =
+        let number = same-number node.id.0 n.0 (found-passes (λ m. nat_eq m.id.0 n.0) t.nodes node found) in
+        let converts = sym (ap local.converts found) in
+        λ i. record { id = record { 0 = number i }; convert = converts i; own = filter (touches n) t.links }
 
-module _ (t : Network) (n : NodeId) (valid : IsTopology t) (node : NodeSpec) (found : find_node t n ≡ Some node) where
+module _ (t : Network) (n : NodeId) (valid : IsTopology t) where
   owner-fits : OwnerFits (local_node t n) (none_claimed t n)
   owner-fits = record {
     fibres = λ f. all-come n f (filter (touches n) t.links);
@@ -65,11 +68,11 @@ module _ (t : Network) (n : NodeId) (valid : IsTopology t) (node : NodeSpec) (fo
     all = λ f x l g found takes. absurd (cc found);
   }
 
-  start-fits : TablesFit (table_of t n node) (none_claimed t n)
+  start-fits : TablesFit (new_table t n) (none_claimed t n)
   start-fits = record {
-    links = subst LocalNodeFits (sym (is-local t n node found)) (new-place t n valid);
+    links = subst LocalNodeFits (sym (is-local t n)) (new-place t n valid);
     legs = (1, omega arith, record { rise = tt; each = tt; few = omega arith });
-    owner = record { claims = claims-fit; fibres = subst (λ p. OwnerFits p (none_claimed t n)) (sym (is-local t n node found)) owner-fits };
+    owner = record { claims = claims-fit; fibres = subst (λ p. OwnerFits p (none_claimed t n)) (sym (is-local t n)) owner-fits };
   }
 
 -- as many rows as links
@@ -77,24 +80,12 @@ dropped : {X Y : Type 0} (f : X → Y) (xs : List X) → drop (length xs) (map f
 dropped f [] = refl
 dropped f (x ∷ xs) = dropped f xs
 
-pub at_start-is : (t : Network) (n : NodeId) (s : LegTable) → Some s ≡ new_table t n →
+pub at_start-is : (t : Network) (n : NodeId) (s : LegTable) → s ≡ new_table t n →
     (local_of s ≡ local_node t n) × (state_of s no_call ≡ new_node)
-at_start-is t n s is = go (find_node t n) refl is
-  where
-    go : (o : Option NodeSpec) → find_node t n ≡ o → Some s ≡ option_map (table_of t n) o →
-        (local_of s ≡ local_node t n) × (state_of s no_call ≡ new_node)
-    go None found e = absurd (cc e)
-    go (Some node) found e =
-        let same : s ≡ table_of t n node = cc e in
-        let rows : learnt_rows (table_of t n node) ≡ [] = dropped row_of (filter (touches n) t.links) in
-        subst (λ x. (local_of x ≡ local_node t n) × (state_of x no_call ≡ new_node)) (sym same)
-        (is-local t n node found, ap (λ rs. record new_node { learnt = rs }) rows)
+at_start-is t n s is =
+    let rows : learnt_rows (new_table t n) ≡ [] = dropped row_of (filter (touches n) t.links) in
+    subst (λ x. (local_of x ≡ local_node t n) × (state_of x no_call ≡ new_node)) (sym is)
+    (is-local t n, ap (λ rs. record new_node { learnt = rs }) rows)
 
-pub at_start-fits : (t : Network) (n : NodeId) (s : LegTable) → IsTopology t → Some s ≡ new_table t n → TablesFit s (none_claimed t n)
-at_start-fits t n s valid is = go (find_node t n) refl is
-  where
-    go : (o : Option NodeSpec) → find_node t n ≡ o → Some s ≡ option_map (table_of t n) o → TablesFit s (none_claimed t n)
-    go None found e = absurd (cc e)
-    go (Some node) found e =
-        let same : s ≡ table_of t n node = cc e in
-        subst (λ x. TablesFit x (none_claimed t n)) (sym same) (start-fits t n valid node found)
+pub at_start-fits : (t : Network) (n : NodeId) (s : LegTable) → IsTopology t → s ≡ new_table t n → TablesFit s (none_claimed t n)
+at_start-fits t n s valid is = subst (λ x. TablesFit x (none_claimed t n)) (sym is) (start-fits t n valid)

@@ -1,7 +1,6 @@
 -- What a node keeps in its tables.
 use Rattle.std.specs.Prelude.{ℕ, ◌≡◌, ◌<◌, length, ◌==◌, ◌||◌, ◌++◌, nat_lt, Bool, true, false, List, [], ◌∷◌, find, filter, map, Option, Some, None, IsTrue, if◌then◌else◌}
 use Rattle.std.specs.List.{AllPairs, list_any}
-use Rattle.std.specs.Option.{option_map}
 use Rattle.ason_base.specs.declared.ids.CallNo.{CallNo}
 use Rattle.ason_base.specs.declared.ids.Fibre.{Fibre}
 use Rattle.ason_base.specs.declared.ids.LinkId.{LinkId}
@@ -81,8 +80,13 @@ table_of t n node = record {
   legs = [];
 }
 
-abbrev pub new_table : Network → NodeId → Option LegTable
-new_table t n = option_map (table_of t n) (find_node t n)
+-- a number that no node has is that of one that doesn't convert
+abbrev pub node_or_none : NodeId → Option NodeSpec → NodeSpec
+node_or_none n None = record { id = n; convert = false }
+node_or_none n (Some node) = node
+
+abbrev pub new_table : Network → NodeId → LegTable
+new_table t n = table_of t n (node_or_none n (find_node t n))
 
 abbrev pub find_own : LinkId → List LinkSpec → Option LinkSpec
 find_own k links = find (λ l. l.id.0 == k.0) links

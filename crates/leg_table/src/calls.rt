@@ -4,7 +4,7 @@ ghost use Rattle.std.specs.Prelude.{◌≡◌, ◌≤◌, ◌<◌, ◌+◌, [], 
 ghost use Rattle.std.specs.List.{position_or_len};
 ghost use Rattle.std.specs.Option.{option_copied};
 ghost use Rattle.ason_base.specs.Lsps.{is_lsp};
-ghost use Rattle.mesh_rules.specs.Calls.{calls_changed, find_call, has_number, is_call_at_or_after, with_call, without_call};
+ghost use Rattle.mesh_rules.specs.Calls.{call_of, calls_changed, find_call, has_number, is_call_at_or_after, with_call, without_call};
 ghost use Rattle.leg_table.specs.Tables.{CallsRise, call_changed, in_state, is_kept, is_of_number, number_of, reported, reports_left, serves, unreported, with_lsps};
 
 use crate::edits::{insert_here, replace_here};
@@ -284,7 +284,7 @@ fn copy_calls(alloc: Global, calls: &[CallRec]) -> Result<Vec<CallRec>, OutOfMem
 }
 
 /// The calls of an ingress, and the tunnel and LSP numbers that it gives out next.
-#[derive(Drop)]
+#[derive(Debug, Drop)]
 pub struct Calls {
     pub(crate) alloc: Global,
     pub(crate) calls: Vec<CallRec>,
@@ -349,6 +349,20 @@ impl Calls {
         ensures { result ≡ number_of (find (serves lsp.now) self.now.calls) }
     {
         number_of(first_served(&self.calls, *lsp))
+    }
+
+    /// The first call whose working LSP this is: none exactly where there is none.
+    pub fn working(&self, lsp: Lsp) -> Option<&CallRec>
+        ensures { option_copied result ≡ call_of lsp self.now.calls }
+    {
+        self.calls.iter().find(|call| is_one(call.work, lsp))
+    }
+
+    /// The calls, in order of number.
+    pub fn calls(&self) -> &[CallRec]
+        ensures { result.now ≡ self.now.calls }
+    {
+        &self.calls
     }
 
     /// The number of calls.

@@ -3,9 +3,9 @@
 ghost use Rattle.std.specs.Prelude.{◌≡◌, ◌≤◌, ◌<◌, [], IfErr, IfOk, IsSome, IsTrue, None, OnErr, OnOk, Some, filter, length, map, slice_get};
 ghost use Rattle.std.specs.Option.{option_copied};
 ghost use Rattle.ason_base.specs.Lsps.{has_fibre, without_fibre};
-ghost use Rattle.ason_base.specs.Network.{find_node, is_node_id, row_of, touches};
+ghost use Rattle.ason_base.specs.Network.{find_node, row_of, touches};
 ghost use Rattle.mesh_rules.specs.Legs.{find_leg, with_leg, without_leg};
-ghost use Rattle.leg_table.specs.Tables.{LegsRise, PutRefused, find_own, in_phase, knows, learnt, new_table, leg_changed, with_back_labels, with_fibre, with_labels};
+ghost use Rattle.leg_table.specs.Tables.{LegsRise, PutRefused, find_own, in_phase, knows, learnt, new_table, node_or_none, leg_changed, with_back_labels, with_fibre, with_labels};
 
 use crate::legs;
 use ason_base::routes::touches;
@@ -50,10 +50,10 @@ impl Model for NodeTables {
 }
 
 impl NodeTables {
-    /// The tables of node `id` of this topology: it knows its own links, and has no leg.
+    /// The tables of node `id` of this topology: it knows its own links, and has no leg. A number that no node has gives a node
+    /// without links.
     pub fn new(alloc: Global, t: &Topology, id: NodeId) -> Result<NodeTables, OutOfMemory>
-        requires { IsTrue (is_node_id t.now.nodes id) }
-        ensures { IfOk result (λ s. Some s ≡ new_table t.now id) }
+        ensures { IfOk result (λ s. s ≡ new_table t.now id) }
     {
         let node = node_of(t, id);
         let own = copy_own(alloc, t.links(), id)?;
@@ -245,11 +245,10 @@ fn knows(rows: &[TeRow], link: LinkId) -> bool
 }
 
 fn node_of(t: &Topology, id: NodeId) -> NodeSpec
-    requires { IsTrue (is_node_id t.now.nodes id) }
-    ensures { Some result ≡ find_node t.now id }
+    ensures { result ≡ node_or_none id (find_node t.now id) }
 {
     match t.node(id) {
-        None => unreachable!(),
+        None => NodeSpec { id, convert: false },
         Some(node) => *node,
     }
 }

@@ -1,7 +1,7 @@
 //! The owner of the fibres that come in at a node.
 
 ghost use Rattle.std.specs.Prelude.{◌≡◌, ◌≤◌, ◌<◌, IfErr, IfOk, IsTrue, OnErr, OnOk, Some, filter, length, map, not, position};
-ghost use Rattle.ason_base.specs.Network.{is_node_id, touches};
+ghost use Rattle.ason_base.specs.Network.{touches};
 ghost use Rattle.link_owner.specs.Claims.{IsLeast, NoClaim, RefusedFor, backup_claim, has, is_busy, shareable, unclaimed, working_claim, works_on};
 ghost use Rattle.link_owner.specs.Owners.{HasFibresInto, claim_added, claims_of, comes_in, fibre_unclaimed, has_label, is_fibre, label_armed, label_disarmed, label_freed, labels_of, none_claimed};
 
@@ -28,9 +28,8 @@ impl Model for Owner {
 }
 
 impl Owner {
-    /// The owner at a node of the topology: no label is claimed.
+    /// The owner at a node of the topology: no label is claimed. A number that no node has gives an owner without fibres.
     pub fn new(alloc: Global, t: &Topology, node: NodeId) -> Result<Owner, OutOfMemory>
-        requires { IsTrue (is_node_id t.now.nodes node) }
         ensures value { IfOk result (λ o. o ≡ none_claimed t.now node) }
         ensures fibres { IfOk result (HasFibresInto t.now node) }
     {
