@@ -1,0 +1,3 @@
+pub mod ByLegs
+pub mod KeptLegs
+pub mod MayPaths

@@ -1,0 +1,26 @@
+-- What a Path and a PathTear do to the legs may be carried out.
+use Rattle.std.proofs.Common.{[]}
+use Rattle.ason_base.specs.declared.ids.NodeId.{NodeId}
+use Rattle.ason_base.specs.declared.messages.Msg.{Msg}
+use Rattle.ason_base.specs.declared.messages.Msg.TheVariants.{Path, Resv, PathTear, PathErr, Notify}
+use Rattle.mesh_rules.specs.Messages.{arrival}
+use Rattle.leg_table.specs.LegClaims.{MayBeMade}
+use Rattle.leg_table.specs.States.{legs_state, local_of}
+use Rattle.leg_table.specs.Tables.{LegTable}
+use Rattle.leg_table.proofs.RuleChanges as rule
+use Rattle.path_state.specs.Answers.{path_answer, tear_answer}
+
+pub path-may : (t : LegTable) (u : NodeId) (m : Msg) → MayBeMade (local_of t) t.legs (path_answer t u m).legs
+path-may t u (Path l e k route set up r) =
+    rule.path-may (local_of t) (legs_state t) (record { arrival = arrival l e u k; route = route; set = set; role = r })
+path-may t u (Resv l e k x) = tt
+path-may t u (PathTear l e k) = tt
+path-may t u (PathErr l e at gone code) = tt
+path-may t u (Notify l e at k code) = tt
+
+pub tear-may : (t : LegTable) (u : NodeId) (m : Msg) → MayBeMade (local_of t) t.legs (tear_answer t u m).legs
+tear-may t u (Path l e k route set up r) = tt
+tear-may t u (Resv l e k x) = tt
+tear-may t u (PathTear l e k) = rule.tear-may (local_of t) (legs_state t) (arrival l e u k)
+tear-may t u (PathErr l e at gone code) = tt
+tear-may t u (Notify l e at k code) = tt

@@ -1,0 +1,55 @@
+//! A Path and a PathTear carried out over a node's tables and owner.
+
+ghost use Rattle.std.specs.Prelude.{◌≡◌, [], IfOk, OnErr, OnOk};
+ghost use Rattle.leg_table.specs.Fits.{TablesFit, legs_after};
+ghost use Rattle.path_state.specs.Answers.{path_answer, tear_answer};
+
+use crate::paths::path_change;
+use crate::tears::tear_change;
+use ason_base::{Msg, NodeId, OutOfMemory, Outs};
+use leg_table::NodeTables;
+use leg_table::handling::handle;
+use link_owner::Owner;
+use std::alloc::Global;
+
+/// Takes a Path: a leg is made and the Path goes on, or it ends here and is answered by a Resv, or it is refused by a PathErr. Hands
+/// back what is to be sent, in order. A message of another kind changes nothing, nor does anything after want of memory.
+pub fn path(
+    alloc: Global,
+    tables: &mut NodeTables,
+    owner: &mut Owner,
+    from: NodeId,
+    msg: &Msg,
+) -> Result<Outs, OutOfMemory>
+    requires { TablesFit tables.old owner.old }
+    ensures ok { OnOk result (tables.new ≡ legs_after tables.old (path_answer tables.old from msg.now)) }
+    ensures sent { IfOk result (λ outs. outs ≡ (path_answer tables.old from msg.now).sent) }
+    ensures none { (path_answer tables.old from msg.now).legs ≡ [] → owner.new ≡ owner.old }
+    ensures fits { TablesFit tables.new owner.new }
+    ensures err { OnErr result (tables.new ≡ tables.old) }
+    ensures err_owner { OnErr result (owner.new ≡ owner.old) }
+{
+    let change = path_change(alloc, tables, owner, from, msg)?;
+    handle(alloc, tables, owner, change)
+}
+
+/// Takes a PathTear: it is confirmed by a PathErr and goes on, and the leg waits for the next node's answer; at the egress the leg
+/// goes. Hands back what is to be sent, in order. A message of another kind changes nothing, nor does anything after want of memory.
+pub fn tear(
+    alloc: Global,
+    tables: &mut NodeTables,
+    owner: &mut Owner,
+    from: NodeId,
+    msg: &Msg,
+) -> Result<Outs, OutOfMemory>
+    requires { TablesFit tables.old owner.old }
+    ensures ok { OnOk result (tables.new ≡ legs_after tables.old (tear_answer tables.old from msg.now)) }
+    ensures sent { IfOk result (λ outs. outs ≡ (tear_answer tables.old from msg.now).sent) }
+    ensures none { (tear_answer tables.old from msg.now).legs ≡ [] → owner.new ≡ owner.old }
+    ensures fits { TablesFit tables.new owner.new }
+    ensures err { OnErr result (tables.new ≡ tables.old) }
+    ensures err_owner { OnErr result (owner.new ≡ owner.old) }
+{
+    let change = tear_change(alloc, tables, from, msg)?;
+    handle(alloc, tables, owner, change)
+}

@@ -1,0 +1,12 @@
+//! What a Path and a PathTear do at a node (RFC 2205, sections 3.1.3 and 3.1.5; RFC 3473, section 2).
+#![tactic(auto)]
+
+mod handlers;
+mod paths;
+mod tears;
+#[cfg(test)]
+mod tests;
+
+pub use handlers::{path, tear};
+pub use paths::path_change;
+pub use tears::tear_change;

@@ -1,0 +1,350 @@
+//! A Path where no leg of its LSP stands (RFC 2205, section 3.1.3; RFC 3473, section 2).
+
+ghost use Rattle.std.specs.Prelude.{◌≡◌, ◌≤◌, ◌∷◌, [], IfOk, IsTrue, None, drop};
+ghost use Rattle.ason_base.specs.Labels.{least};
+ghost use Rattle.mesh_rules.specs.Changes.{sends};
+ghost use Rattle.mesh_rules.specs.LocalNodes.{fibre_in, own_link};
+ghost use Rattle.mesh_rules.specs.Paths.{admitted, asked_leg, at_egress, checks, error_to, first_failure, first_path, in_transit, is_for_work, judged, leads_on, offered_labels, on_path, set_on};
+ghost use Rattle.mesh_nodes.specs.LocalNodes.{LocalNodeFits};
+ghost use Rattle.leg_table.specs.Fits.{TablesFit};
+ghost use Rattle.leg_table.specs.LegClaims.{is_fibre_in};
+ghost use Rattle.leg_table.specs.States.{legs_state, local_of};
+ghost use Rattle.path_state.specs.Answers.{first_here, judged_here, offered_here, path_answer, refused_for};
+
+use ason_base::codes::{FULL, ROUTE, SET};
+use ason_base::routes::other_end;
+use ason_base::{
+    ErrCode, LabelSet, Leg, LinkSpec, Lsp, Msg, NodeId, OutOfMemory, PathRole, Phase, RiskSet,
+    Role, Step, Steps,
+};
+use leg_table::labels::usable;
+use leg_table::{Change, NodeTables};
+use link_owner::Owner;
+use mesh_rules::Arrival;
+use mesh_rules::limits::MOST_LEGS;
+use mesh_rules::links::{fibre_in, fibre_out, leads};
+use std::alloc::Global;
+use std::marker::Model;
+
+/// What a Path asks for: of which LSP and from where it came, over which steps from here, with which labels, and for what.
+#[derive(Drop)]
+struct PathRequest<'a> {
+    arrival: Arrival,
+    route: &'a Steps,
+    set: &'a LabelSet,
+    role: &'a PathRole,
+}
+
+impl<'a> Model for PathRequest<'a> {
+    ghost use Rattle.mesh_rules.specs.Paths as paths;
+
+    ghost Value = { paths.PathRequest };
+
+    ghost view = { λ m. record { arrival = m.arrival; route = m.route.now; set = m.set.now; role = m.role.now } };
+}
+
+// Refusals
+
+fn leads_on(tables: &NodeTables, arrival: Arrival, route: &Steps) -> bool
+    ensures { result ≡ leads_on (local_of tables.now) arrival route.now }
+{
+    let here = tables.node().id;
+    match route.items().first() {
+        None => here == arrival.egress,
+        Some(&hop) => {
+            here != arrival.egress
+                && hop.node == here
+                && hop.link != arrival.link
+                && tables.own(hop.link).is_some()
+        }
+    }
+}
+
+// The owner looks the free labels up; no leg is looked at.
+fn offered_labels(
+    tables: &NodeTables,
+    owner: &Owner,
+    request: &PathRequest<'_>,
+    link: &LinkSpec,
+) -> LabelSet
+    requires fits { TablesFit tables.now owner.now }
+    requires link { IsTrue (is_fibre_in (local_of tables.now) (fibre_in link.now tables.now.node.id)) }
+    ensures { result ≡ offered_here tables.now request.now link.now }
+{
+    let fibre = fibre_in(link, tables.node().id);
+    request.set.meet(&usable(tables, owner, fibre))
+}
+
+// Why the Path is refused that came over this link and for which these labels are left: the first check that fails.
+fn refusal(
+    tables: &NodeTables,
+    request: &PathRequest<'_>,
+    link: &LinkSpec,
+    offered: &LabelSet,
+) -> Option<ErrCode>
+    requires { offered.now ≡ offered_here tables.now request.now link.now }
+    ensures { result ≡ refused_for tables.now request.now link.now }
+{
+    if tables.count() >= MOST_LEGS {
+        Some(FULL)
+    } else if !leads_on(tables, request.arrival, request.route) {
+        Some(ROUTE)
+    } else if offered.least().is_none() {
+        Some(SET)
+    } else {
+        None
+    }
+}
+
+fn refuse(
+    alloc: Global,
+    tables: &NodeTables,
+    arrival: Arrival,
+    code: ErrCode,
+) -> Result<Change, OutOfMemory>
+    ensures { IfOk result (λ c. c ≡ sends (error_to arrival.from (local_of tables.now) arrival code ∷ [])) }
+{
+    let msg = Msg::PathErr {
+        lsp: arrival.lsp,
+        egress: arrival.egress,
+        at: tables.node().id,
+        removed: true,
+        code,
+    };
+    Change::sends(alloc, arrival.from, msg)
+}
+
+// Legs
+
+// The leg that a Path makes, as far as it is the same at each node.
+fn asked_leg(
+    alloc: Global,
+    tables: &NodeTables,
+    request: &PathRequest<'_>,
+    link: &LinkSpec,
+    offered: LabelSet,
+) -> Result<Leg, OutOfMemory>
+    ensures { IfOk result (λ g. g ≡ asked_leg (local_of tables.now) request.now link.now offered) }
+{
+    let path_role = request.role.copy(alloc)?;
+    Ok(Leg {
+        lsp: request.arrival.lsp,
+        egress: request.arrival.egress,
+        role: Role::Work,
+        prev: Some(request.arrival.from),
+        next: None,
+        in_fibre: Some(fibre_in(link, tables.node().id)),
+        out_fibre: None,
+        offered,
+        sent: LabelSet::empty(),
+        route: Steps::new(alloc),
+        path_role,
+        risks: RiskSet::new(alloc),
+        phase: Phase::Asked,
+        in_label: None,
+        out_label: None,
+        back_in: None,
+        back_out: None,
+    })
+}
+
+// At the egress the leg is cross-connected at once.
+fn end_here(
+    alloc: Global,
+    tables: &NodeTables,
+    request: &PathRequest<'_>,
+    link: &LinkSpec,
+    offered: LabelSet,
+) -> Result<Change, OutOfMemory>
+    ensures { IfOk result (λ c. c ≡ at_egress (local_of tables.now) request.now link.now offered (least offered)) }
+{
+    let Some(label) = offered.least() else {
+        return Ok(Change::nothing(alloc));
+    };
+    let mut leg = asked_leg(alloc, tables, request, link, offered)?;
+    leg.phase = Phase::Live;
+    leg.in_label = Some(label);
+    let msg = Msg::Resv {
+        lsp: request.arrival.lsp,
+        egress: request.arrival.egress,
+        link: link.id,
+        label,
+    };
+    Change::puts(alloc, leg, request.arrival.from, msg)
+}
+
+fn set_on(tables: &NodeTables, out: &LinkSpec, offered: &LabelSet) -> LabelSet
+    requires { out.now.labels ≤ 80 }
+    ensures { result ≡ set_on (local_of tables.now) out.now offered.now }
+{
+    if tables.node().convert {
+        LabelSet::upto(out.labels)
+    } else {
+        offered.copy()
+    }
+}
+
+// The Path that goes on over this link.
+fn path_on(
+    alloc: Global,
+    request: &PathRequest<'_>,
+    out: &LinkSpec,
+    route: &Steps,
+    set: &LabelSet,
+) -> Result<Msg, OutOfMemory>
+    ensures { IfOk result (λ m. m ≡ Msg.Path request.now.arrival.lsp request.now.arrival.egress out.now.id route.now set.now None request.now.role) }
+{
+    Ok(Msg::Path {
+        lsp: request.arrival.lsp,
+        egress: request.arrival.egress,
+        link: out.id,
+        route: route.copy(alloc)?,
+        set: set.copy(),
+        upstream: None,
+        role: request.role.copy(alloc)?,
+    })
+}
+
+fn pass_on(
+    alloc: Global,
+    tables: &NodeTables,
+    request: &PathRequest<'_>,
+    link: &LinkSpec,
+    hop: Step,
+    offered: LabelSet,
+) -> Result<Change, OutOfMemory>
+    requires { LocalNodeFits (local_of tables.now) }
+    ensures { IfOk result (λ c. c ≡ in_transit (local_of tables.now) request.now link.now (drop 1 request.now.route) offered (own_link (local_of tables.now) hop.link)) }
+{
+    let here = tables.node().id;
+    let Some(out) = tables.own(hop.link) else {
+        return Ok(Change::nothing(alloc));
+    };
+    let route = request.route.copy_from(alloc, 1)?;
+    let sent = set_on(tables, out, &offered);
+    let msg = path_on(alloc, request, out, &route, &sent)?;
+    let mut leg = asked_leg(alloc, tables, request, link, offered)?;
+    leg.next = Some(other_end(out, here));
+    leg.out_fibre = Some(fibre_out(out, here));
+    leg.sent = sent;
+    leg.route = route;
+    Change::puts(alloc, leg, other_end(out, here), msg)
+}
+
+fn admit(
+    alloc: Global,
+    tables: &NodeTables,
+    request: &PathRequest<'_>,
+    link: &LinkSpec,
+    offered: LabelSet,
+) -> Result<Change, OutOfMemory>
+    requires { LocalNodeFits (local_of tables.now) }
+    ensures { IfOk result (λ c. c ≡ admitted (local_of tables.now) request.now link.now offered request.now.route) }
+{
+    match request.route.items().first() {
+        None => end_here(alloc, tables, request, link, offered),
+        Some(&hop) => pass_on(alloc, tables, request, link, hop, offered),
+    }
+}
+
+fn judge(
+    alloc: Global,
+    tables: &NodeTables,
+    owner: &Owner,
+    request: &PathRequest<'_>,
+    link: &LinkSpec,
+) -> Result<Change, OutOfMemory>
+    requires fits { TablesFit tables.now owner.now }
+    requires link { IsTrue (is_fibre_in (local_of tables.now) (fibre_in link.now tables.now.node.id)) }
+    ensures { IfOk result (λ c. c ≡ judged_here tables.now request.now link.now) }
+{
+    let offered = offered_labels(tables, owner, request, link);
+    match refusal(tables, request, link, &offered) {
+        Some(code) => refuse(alloc, tables, request.arrival, code),
+        None => admit(alloc, tables, request, link, offered),
+    }
+}
+
+fn is_for_work(role: &PathRole) -> bool
+    ensures { result ≡ is_for_work role.now }
+{
+    matches!(role, PathRole::Work { .. })
+}
+
+fn first_path(
+    alloc: Global,
+    tables: &NodeTables,
+    owner: &Owner,
+    request: &PathRequest<'_>,
+) -> Result<Change, OutOfMemory>
+    requires { TablesFit tables.now owner.now }
+    ensures { IfOk result (λ c. c ≡ first_here tables.now request.now) }
+{
+    let arrival = request.arrival;
+    let here = tables.node().id;
+    let Some(link) = tables.own(arrival.link) else {
+        return Ok(Change::nothing(alloc));
+    };
+    if is_for_work(request.role) && leads(link, arrival.from, here) && arrival.lsp.ingress != here {
+        judge(alloc, tables, owner, request, link)
+    } else {
+        Ok(Change::nothing(alloc))
+    }
+}
+
+fn on_path(
+    alloc: Global,
+    tables: &NodeTables,
+    owner: &Owner,
+    request: &PathRequest<'_>,
+) -> Result<Change, OutOfMemory>
+    requires { TablesFit tables.now owner.now }
+    ensures { IfOk result (λ c. c ≡ on_path (local_of tables.now) (legs_state tables.now) request.now) }
+{
+    match tables.get(&request.arrival.lsp) {
+        None => first_path(alloc, tables, owner, request),
+        Some(_) => Ok(Change::nothing(alloc)),
+    }
+}
+
+/// What a Path would change and send: it makes a leg and goes on, ends here and is answered, or is refused. A message of another
+/// kind does nothing.
+pub fn path_change(
+    alloc: Global,
+    tables: &NodeTables,
+    owner: &Owner,
+    from: NodeId,
+    msg: &Msg,
+) -> Result<Change, OutOfMemory>
+    requires { TablesFit tables.now owner.now }
+    ensures { IfOk result (λ c. c ≡ path_answer tables.now from msg.now) }
+{
+    match msg {
+        Msg::Path {
+            lsp,
+            egress,
+            link,
+            route,
+            set,
+            role,
+            ..
+        } => {
+            let arrival = Arrival {
+                lsp: *lsp,
+                egress: *egress,
+                from,
+                link: *link,
+            };
+            let request = PathRequest {
+                arrival,
+                route,
+                set,
+                role,
+            };
+            on_path(alloc, tables, owner, &request)
+        }
+        Msg::Resv { .. } | Msg::PathTear { .. } | Msg::PathErr { .. } | Msg::Notify { .. } => {
+            Ok(Change::nothing(alloc))
+        }
+    }
+}

@@ -1,0 +1,13 @@
+use Rattle.resv_state.proofs.KeptLegs.{err-legs}
+use Rattle.resv_state.proofs.MayResvs.{path_err-may}
+use Rattle.resv_state.proofs.handlers.path_err.Goals as goal
+
+pub handle-requires-clause-may : goal.handle-requires-clause-may
+handle-requires-clause-may c =
+    let t = c.args.tables.now in
+    rw c.in_ok-change.ensures (path_err-may t c.args.from c.args.msg.now)
+
+pub handle-requires-clause-legs : goal.handle-requires-clause-legs
+handle-requires-clause-legs c =
+    let t = c.args.tables.now in
+    rw c.in_ok-change.ensures (err-legs t c.args.from c.args.msg.now c.requires.links c.requires.legs)

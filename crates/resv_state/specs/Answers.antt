@@ -1,0 +1,83 @@
+-- What a Resv and a PathErr do to the leg at a node of these tables. What becomes of the call at the ingress isn't told here: it's as
+-- at a node without calls.
+use Rattle.std.specs.Prelude.{ℕ, ◌&&◌, Bool, true, false, List, Option, Some, None}
+use Rattle.ason_base.specs.declared.ids.NodeId.{NodeId}
+use Rattle.ason_base.specs.declared.messages.Msg.{Msg}
+use Rattle.ason_base.specs.declared.messages.Msg.TheVariants.{Path, Resv, PathTear, PathErr, Notify}
+use Rattle.ason_base.specs.declared.tables.Leg.{Leg}
+use Rattle.mesh_rules.specs.declared.arrivals.Arrival.{Arrival}
+use Rattle.mesh_rules.specs.declared.neighbours.Neighbour.{Neighbour}
+use Rattle.mesh_rules.specs.Changes.{Answer, nothing}
+use Rattle.mesh_rules.specs.Legs.{find_leg, following, is_asked, is_node, previous}
+use Rattle.mesh_rules.specs.Messages.{arrival}
+use Rattle.mesh_rules.specs.PathErrs.{PathFailure, err_passed, on_path_err, removed}
+use Rattle.mesh_rules.specs.Resvs.{answered, is_expected, labels_left, on_resv}
+use Rattle.mesh_rules.specs.State.{new_node}
+use Rattle.leg_table.specs.States.{legs_state, local_of}
+use Rattle.leg_table.specs.Tables.{LegTable}
+
+-- the labels that may go back to this neighbour
+abbrev pub left_here : LegTable → Leg → Neighbour → List ℕ
+left_here t g h = labels_left (local_of t) (legs_state t) g h
+
+abbrev pub answered_here : LegTable → Arrival → ℕ → Leg → Answer
+answered_here t a x g = answered (local_of t) (legs_state t) a x g (previous g)
+
+-- of a leg with this previous node, at a node without calls
+abbrev pub err_passed_here : Leg → PathFailure → Answer
+err_passed_here g e = err_passed new_node g e (previous g)
+
+abbrev pub removed_here : Leg → PathFailure → Answer
+removed_here g e = removed new_node g e
+
+-- Where the call follows
+
+abbrev pub begins_here : Option Neighbour → Bool
+begins_here None = true
+begins_here (Some h) = false
+
+-- the leg takes the Resv, and its LSP begins here
+abbrev pub connects_leg : Arrival → ℕ → Option Leg → Bool
+connects_leg a x None = false
+connects_leg a x (Some g) = is_expected a x g && begins_here (previous g)
+
+-- the PathErr takes the Asked leg away, and its LSP begins here
+abbrev pub refuses_leg : NodeId → PathFailure → Option Leg → Bool
+refuses_leg u e None = false
+refuses_leg u e (Some g) = (e.removed && is_node (following g) u) && (is_asked g.phase && begins_here (previous g))
+
+-- a message of another kind connects none
+abbrev pub connects : LegTable → NodeId → Msg → Bool
+connects t u (Path l e k route set up r) = false
+connects t u (Resv l e k x) = connects_leg (arrival l e u k) x (find_leg l t.legs)
+connects t u (PathTear l e k) = false
+connects t u (PathErr l e at gone code) = false
+connects t u (Notify l e at k code) = false
+
+-- likewise
+abbrev pub refuses : LegTable → NodeId → Msg → Bool
+refuses t u (Path l e k route set up r) = false
+refuses t u (Resv l e k x) = false
+refuses t u (PathTear l e k) = false
+refuses t u (PathErr l e at gone code) =
+    refuses_leg u (record { lsp = l; msg = PathErr l e at gone code; removed = gone; code = code }) (find_leg l t.legs)
+refuses t u (Notify l e at k code) = false
+
+-- What is answered
+
+-- a message of another kind does nothing
+abbrev pub resv_answer : LegTable → NodeId → Msg → Answer
+resv_answer t u (Path l e k route set up r) = nothing
+resv_answer t u (Resv l e k x) = on_resv (local_of t) (legs_state t) (arrival l e u k) x
+resv_answer t u (PathTear l e k) = nothing
+resv_answer t u (PathErr l e at gone code) = nothing
+resv_answer t u (Notify l e at k code) = nothing
+
+-- likewise
+abbrev pub path_err_answer : LegTable → NodeId → Msg → Answer
+path_err_answer t u (Path l e k route set up r) = nothing
+path_err_answer t u (Resv l e k x) = nothing
+path_err_answer t u (PathTear l e k) = nothing
+path_err_answer t u (PathErr l e at gone code) =
+    on_path_err (legs_state t) u (record { lsp = l; msg = PathErr l e at gone code; removed = gone; code = code })
+path_err_answer t u (Notify l e at k code) = nothing

@@ -1,0 +1,55 @@
+//! A Resv and a PathErr carried out over a node's tables and owner.
+
+ghost use Rattle.std.specs.Prelude.{◌≡◌, [], IfOk, OnErr, OnOk};
+ghost use Rattle.leg_table.specs.Fits.{TablesFit, legs_after};
+ghost use Rattle.resv_state.specs.Answers.{path_err_answer, resv_answer};
+
+use crate::path_errs::path_err_change;
+use crate::resvs::resv_change;
+use ason_base::{Msg, NodeId, OutOfMemory, Outs};
+use leg_table::NodeTables;
+use leg_table::handling::handle;
+use link_owner::Owner;
+use std::alloc::Global;
+
+/// Takes a Resv: the leg that waits for it is cross-connected and the Resv goes back, or no label is left and the LSP is torn. Hands
+/// back what is to be sent, in order. A message of another kind changes nothing, nor does anything after want of memory.
+pub fn resv(
+    alloc: Global,
+    tables: &mut NodeTables,
+    owner: &mut Owner,
+    from: NodeId,
+    msg: &Msg,
+) -> Result<Outs, OutOfMemory>
+    requires { TablesFit tables.old owner.old }
+    ensures ok { OnOk result (tables.new ≡ legs_after tables.old (resv_answer tables.old from msg.now)) }
+    ensures sent { IfOk result (λ outs. outs ≡ (resv_answer tables.old from msg.now).sent) }
+    ensures none { (resv_answer tables.old from msg.now).legs ≡ [] → owner.new ≡ owner.old }
+    ensures fits { TablesFit tables.new owner.new }
+    ensures err { OnErr result (tables.new ≡ tables.old) }
+    ensures err_owner { OnErr result (owner.new ≡ owner.old) }
+{
+    let change = resv_change(alloc, tables, owner, from, msg)?;
+    handle(alloc, tables, owner, change)
+}
+
+/// Takes a PathErr: with Path_State_Removed it takes an Asked leg away and is passed back, or a torn leg, whose next node has let go.
+/// Hands back what is to be sent, in order. A message of another kind changes nothing, nor does anything after want of memory.
+pub fn path_err(
+    alloc: Global,
+    tables: &mut NodeTables,
+    owner: &mut Owner,
+    from: NodeId,
+    msg: &Msg,
+) -> Result<Outs, OutOfMemory>
+    requires { TablesFit tables.old owner.old }
+    ensures ok { OnOk result (tables.new ≡ legs_after tables.old (path_err_answer tables.old from msg.now)) }
+    ensures sent { IfOk result (λ outs. outs ≡ (path_err_answer tables.old from msg.now).sent) }
+    ensures none { (path_err_answer tables.old from msg.now).legs ≡ [] → owner.new ≡ owner.old }
+    ensures fits { TablesFit tables.new owner.new }
+    ensures err { OnErr result (tables.new ≡ tables.old) }
+    ensures err_owner { OnErr result (owner.new ≡ owner.old) }
+{
+    let change = path_err_change(alloc, tables, from, msg)?;
+    handle(alloc, tables, owner, change)
+}
