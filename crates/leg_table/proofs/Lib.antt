@@ -10,7 +10,7 @@ mod NewPlaces
 mod Orders
 pub mod OwnLegs
 pub mod OwnerFibres
-mod Places
+pub mod Places
 pub mod RuleChanges
 pub mod TakenLabels
 pub mod UsableLabels

@@ -4,7 +4,7 @@ use Rattle.std.specs.Prelude.{filter, map, remove, position, Some, None}
 use Rattle.std.specs.List.{position_or_len}
 use Rattle.std.proofs.lemmas.List.Quantifiers.{position-Some}
 use Rattle.mesh_rules.specs.Events.{has_first}
-use Rattle.node_core.proofs.Places.{position-nowhere}
+use Rattle.leg_table.proofs.Places.{position-nowhere}
 
 passes_first : {X : Type 0} (p : X → Bool) (xs : List X) (i : ℕ) (d : X) → i < length xs → p (get_or xs i d) ≡ true → ((k : ℕ) → k < i → p (get_or xs k d) ≡ false) → filter p xs ≡ get_or xs i d ∷ filter p (remove xs i)
 passes_first p [] i d below here before = absurd (omega arith)

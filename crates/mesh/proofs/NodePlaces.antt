@@ -10,7 +10,7 @@ use Rattle.node_core.specs.Nodes.{NodeView}
 use Rattle.mesh_rules.specs.Changes.{Answer, changed}
 use Rattle.mesh_rules.specs.State.{NodeState, new_node}
 use Rattle.mesh.specs.Kept.{IsOfNetwork, is_node, node_at, put_state, state_at}
-use Rattle.node_core.proofs.Places.{position-nowhere}
+use Rattle.leg_table.proofs.Places.{position-nowhere}
 
 -- What holds of an Ok
 

@@ -1,8 +1,24 @@
 -- A node's answer to any input fits, and so does the node after it.
-use Rattle.std.proofs.Common.{◌≡◌, sym, subst, Result, Ok, Err}
-use Rattle.std.specs.Prelude.{OnErr, OnOk}
+use Rattle.std.proofs.Common.{◌≡◌, ◌∙◌, ◌≤◌, List, ap, sym, subst, Result, Ok, Err, arith}
+use Rattle.std.specs.Prelude.{IfSome, None, OnErr, OnOk, Option, Some}
+use Rattle.ason_base.specs.Network.{IsTopology, Network}
+use Rattle.ason_base.specs.declared.ids.LinkId.{LinkId}
+use Rattle.ason_base.specs.declared.ids.NodeId.{NodeId}
+use Rattle.ason_base.specs.declared.network.LinkSpec.{LinkSpec}
+use Rattle.link_owner.specs.Claims.{FibreClaims}
+use Rattle.link_owner.specs.Owners.{none_claimed}
+use Rattle.mesh_rules.specs.LocalNodes.{LocalNode, local_node, own_link}
+use Rattle.mesh_nodes.specs.LocalNodes.{LocalNodeFits}
+use Rattle.mesh_nodes.proofs.Links.{own-is}
+use Rattle.mesh_nodes.proofs.NewNodes.{new-fits}
+use Rattle.leg_table.specs.Fits.{TablesFit}
+use Rattle.leg_table.specs.LegClaims.{IsOwnerOf, MayBeMade}
+use Rattle.leg_table.specs.States.{local_of, no_call, state_of}
+use Rattle.leg_table.specs.Tables.{CallTable, LegTable, new_table}
+use Rattle.leg_table.proofs.AtStart.{at_start-fits, at_start-is}
+use Rattle.leg_table.proofs.RuleChanges.{item-may, message-may}
 use Rattle.mesh_rules.specs.Changes.{Answer, changed}
-use Rattle.mesh_rules.specs.State.{NodeState}
+use Rattle.mesh_rules.specs.State.{new_node}
 use Rattle.mesh_nodes.specs.Kept.{NodeFits}
 use Rattle.mesh_nodes.specs.Sent.{AnswerFits}
 use Rattle.mesh_nodes.proofs.Items.{items-fit}
@@ -10,7 +26,7 @@ use Rattle.mesh_nodes.proofs.Messages.{messages-fit}
 use Rattle.mesh_nodes.proofs.Paths.{nothing-fits}
 use Rattle.node_core.specs.declared.inputs.Input.{Input}
 use Rattle.node_core.specs.declared.inputs.Input.TheVariants.{Message, Desk, Tick, Learn}
-use Rattle.node_core.specs.Nodes.{IsAnswerOf, IsNode, IsWritableInput, NodeView, answer_to}
+use Rattle.node_core.specs.Nodes.{IsAnswerOf, IsNode, IsWritableInput, NodeView, answer_to, node_of}
 
 pub answer-fits : (n : NodeView) (i : Input) → IsNode n → AnswerFits n.place n.state (IsWritableInput i) (answer_to n i)
 answer-fits n (Message u m) fits = messages-fit n.place n.state u m fits.place fits.state
@@ -26,11 +42,50 @@ answered-fits n a fits (i, is) = record {
   state = subst (λ b. NodeFits n.place (changed n.state b)) (sym is) (answer-fits n i fits).kept;
 }
 
+-- the legs that it changes may be changed so
+pub answered-may : (n : NodeView) (a : Answer) → IsNode n → IsAnswerOf n a → MayBeMade n.place n.state.legs a.legs
+answered-may n a fits (i, is) = subst (λ b. MayBeMade n.place n.state.legs b.legs) (sym is) (by_input i)
+  where
+    by_input : (i : Input) → MayBeMade n.place n.state.legs (answer_to n i).legs
+    by_input (Message u m) = message-may n.place n.state n.state.lsp u m fits.state.legs.each
+    by_input (Desk item) = item-may n.place n.state item
+    by_input Tick = tt
+    by_input (Learn row) = tt
+
 -- it is carried out, or the node is as it was
-pub carried-fits : {X E : Type 0} (n m : NodeView) (a : Answer) (s : NodeState) (r : Result X E) → n ≡ m → IsNode n →
-    IsAnswerOf m a → OnOk r (s ≡ changed n.state a) → OnErr r (s ≡ n.state) →
-    IsNode (record { place = n.place; state = s })
-carried-fits n m a s (Ok x) same fits of done undone =
-    subst (λ t. IsNode (record { place = n.place; state = t })) (sym done) (answered-fits n a fits (subst (λ k. IsAnswerOf k a) (sym same) of))
-carried-fits n m a s (Err e) same fits of done undone =
-    subst (λ t. IsNode (record { place = n.place; state = t })) (sym undone) fits
+pub carried-fits : {X E : Type 0} (t after : LegTable) (c calls : CallTable) (a : Answer) (r : Result X E) → IsNode (node_of t c) →
+    IsAnswerOf (node_of t c) a → local_of after ≡ local_of t → OnOk r (state_of after calls ≡ changed (state_of t c) a) →
+    OnErr r (after ≡ t) → OnErr r (calls ≡ c) → IsNode (node_of after calls)
+carried-fits t after c calls a (Ok x) fits of place done tables same =
+    let is : node_of after calls ≡ record { place = local_of t; state = changed (state_of t c) a } = λ i. record { place = place i; state = done i } in
+    subst IsNode (sym is) (answered-fits (node_of t c) a fits of)
+carried-fits t after c calls a (Err e) fits of place done tables same =
+    let is : node_of after calls ≡ node_of t c = λ i. node_of (tables i) (same i) in
+    subst IsNode (sym is) fits
+
+-- Tables and owner
+
+pub tables-fit : (t : LegTable) (c : CallTable) (o : List FibreClaims) → IsNode (node_of t c) → IsOwnerOf t o → TablesFit t o
+tables-fit t c o fits owner =
+    let first = fits.state.first in
+    let numbers = fits.state.numbers in
+    record { links = fits.place; legs = (c.lsp, omega arith, fits.state.legs); owner = owner }
+
+pub new-fit : (t : Network) (n : NodeId) (s : LegTable) (o : List FibreClaims) (c : CallTable) → IsTopology t → s ≡ new_table t n →
+    o ≡ none_claimed t n → c ≡ no_call → IsNode (node_of s c) × IsOwnerOf s o
+new-fit t n s o c valid is owner calls =
+    let fits = at_start-fits t n s valid is in
+    let state : state_of s c ≡ new_node = ap (state_of s) calls ∙ (at_start-is t n s is).1 in
+    (record { place = fits.links; state = subst (NodeFits (local_of s)) (sym state) (new-fits (local_of s)) }, subst (IsOwnerOf s) (sym owner) fits.owner)
+
+pub new-is : (t : Network) (n : NodeId) (s : LegTable) (c : CallTable) → s ≡ new_table t n → c ≡ no_call →
+    node_of s c ≡ record { place = local_node t n; state = new_node }
+new-is t n s c is calls =
+    let here = at_start-is t n s is in
+    let state : state_of s c ≡ new_node = ap (state_of s) calls ∙ here.1 in
+    λ i. record { place = here.0 i; state = state i }
+
+-- A link that is found has 80 labels at most.
+pub own-narrow : (p : LocalNode) (k : LinkId) (o : Option LinkSpec) → LocalNodeFits p → o ≡ own_link p k → IfSome o (λ l. l.labels ≤ 80)
+own-narrow p k None fits is = tt
+own-narrow p k (Some l) fits is = (own-is p k l fits (sym is)).narrow

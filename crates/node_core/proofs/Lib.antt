@@ -1,4 +1,3 @@
 pub mod Answers
-pub mod FreeLabels
-pub mod Places
+pub mod Followed
 pub mod RowOrder

@@ -10,6 +10,8 @@ use Rattle.mesh_rules.specs.State.{NodeState}
 use Rattle.mesh_rules.specs.Orders.{on_item, on_tick}
 use Rattle.mesh_nodes.specs.Kept.{NodeFits}
 use Rattle.mesh_nodes.specs.LocalNodes.{LocalNodeFits}
+use Rattle.leg_table.specs.States.{local_of, state_of}
+use Rattle.leg_table.specs.Tables.{CallTable, LegTable}
 
 pub record NodeView : Type 0 where
   pub place : LocalNode
@@ -19,6 +21,10 @@ pub record NodeView : Type 0 where
 pub record IsNode (n : NodeView) : Type 0 where
   pub place : LocalNodeFits n.place
   pub state : NodeFits n.place n.state
+
+-- the node of these tables
+abbrev pub node_of : LegTable → CallTable → NodeView
+node_of t c = record { place = local_of t; state = state_of t c }
 
 -- the rule of an input; a node learns nothing of other links
 abbrev pub answer_to : NodeView → Input → Answer

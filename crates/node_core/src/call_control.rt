@@ -1,23 +1,26 @@
 //! What setups and releases do at an ingress, and what becomes of a call after its LSP (ITU-T G.8080, call control).
 
-ghost use Rattle.std.specs.Prelude.{◌≡◌, ◌≤◌, IfOk, IfSome, OnOk, Some, drop};
+ghost use Rattle.std.specs.Prelude.{◌≡◌, ◌≤◌, ◌||◌, IfOk, IfSome, OnOk, Some, drop, nat_lt};
 ghost use Rattle.std.specs.Option.{option_copied};
+ghost use Rattle.mesh_rules.specs.declared.limits.TheConstants.{LAST_NUMBER};
+ghost use Rattle.mesh_rules.specs.Calls.{bare, blocked, is_asking};
 ghost use Rattle.mesh_rules.specs.Changes.{followed_by};
+ghost use Rattle.mesh_rules.specs.Legs.{leg_of};
+ghost use Rattle.mesh_rules.specs.LocalNodes.{own_link};
 ghost use Rattle.mesh_rules.specs.PathErrs as path_errs;
 ghost use Rattle.mesh_rules.specs.Resvs as resvs;
-ghost use Rattle.mesh_rules.specs.Setups.{admitted_setup, begins, call_record, first_leg, first_link, is_followable, is_order_here, is_spent, new_call, next_lsp, on_setup, refused_setup};
+ghost use Rattle.mesh_rules.specs.Setups.{admitted_setup, begins, call_record, first_leg, first_link, is_followable, is_order_here, new_call, next_lsp, on_setup, refused_setup};
 ghost use Rattle.mesh_rules.specs.Releases.{on_release, tears};
+ghost use Rattle.mesh_nodes.specs.LocalNodes.{LocalNodeFits};
+ghost use Rattle.leg_table.specs.States.{local_of, state_of};
 
-use crate::calls::{bare, blocked, is_asking};
-use crate::changes::Change;
-use crate::legs::{closed, following};
-use crate::node::Node;
-use crate::sites::Site;
 use ason_base::routes::other_end;
 use ason_base::{
-    CallNo, CallRec, CallState, Cause, ErrCode, Fibres, LabelSet, Leg, LinkSpec, Lsp, Msg, NodeId,
-    OutOfMemory, PathRole, Phase, RiskSet, Role, Steps,
+    CallNo, CallRec, CallState, Cause, ErrCode, Fibres, LabelSet, Leg, LinkId, LinkSpec, Lsp, Msg,
+    NodeId, OutOfMemory, PathRole, Phase, RiskSet, Role, Steps,
 };
+use leg_table::one_leg::{closed, following};
+use leg_table::{Calls, Change, NodeTables};
 use mesh_rules::NextNumbers;
 use mesh_rules::limits::{LAST_NUMBER, MOST_LEGS, MOST_LINKS_OF_ROUTE};
 use mesh_rules::links::fibre_out;
@@ -25,6 +28,36 @@ use std::alloc::Global;
 use std::marker::Model;
 
 // What becomes of a call after its LSP
+
+fn is_asking(state: CallState) -> bool
+    ensures { result ≡ is_asking state }
+{
+    matches!(state, CallState::Asking)
+}
+
+// The call, without its working LSP and with the cause of that.
+fn blocked(alloc: Global, call: &CallRec, cause: Cause) -> Result<CallRec, OutOfMemory>
+    ensures { IfOk result (λ c. c ≡ blocked call.now cause) }
+{
+    let mut refused = call.copy(alloc)?;
+    refused.state = CallState::Blocked;
+    refused.work = None;
+    refused.work_reports = Fibres::new(alloc);
+    refused.cause = cause;
+    refused.ticks = 0;
+    Ok(refused)
+}
+
+// The call, standing without a backup.
+fn bare(alloc: Global, call: &CallRec) -> Result<CallRec, OutOfMemory>
+    ensures { IfOk result (λ c. c ≡ bare call.now) }
+{
+    let mut stands = call.copy(alloc)?;
+    stands.state = CallState::Bare;
+    stands.cause = Cause::Unset;
+    stands.ticks = 0;
+    Ok(stands)
+}
 
 /// A call without protection that was asked for stands.
 pub(crate) fn call_connected(
@@ -56,6 +89,32 @@ pub(crate) fn call_refused(
             change.put_call(blocked(alloc, call, Cause::Code(code))?)
         }
         _ => Ok(()),
+    }
+}
+
+// Links and legs
+
+fn own_link(tables: &NodeTables, link: LinkId) -> Option<&LinkSpec>
+    requires { LocalNodeFits (local_of tables.now) }
+    ensures found { option_copied result ≡ own_link (local_of tables.now) link }
+    ensures narrow { IfSome (option_copied result) (λ l. l.labels ≤ 80) }
+{
+    tables.own(link)
+}
+
+fn id_of(tables: &NodeTables) -> NodeId
+    ensures { result ≡ (local_of tables.now).id }
+{
+    tables.node().id
+}
+
+// The leg of an LSP that a call names.
+fn leg_of(tables: &NodeTables, lsp: Option<Lsp>) -> Option<&Leg>
+    ensures { option_copied result ≡ leg_of lsp tables.now.legs }
+{
+    match lsp {
+        None => None,
+        Some(lsp) => tables.get(&lsp),
     }
 }
 
@@ -132,23 +191,23 @@ fn refuse_setup(
 
 fn first_leg(
     alloc: Global,
-    site: &Site,
+    tables: &NodeTables,
     lsp: Lsp,
     egress: NodeId,
     out: &LinkSpec,
     route: Steps,
 ) -> Leg
     requires { out.now.labels ≤ 80 }
-    ensures { result ≡ first_leg site.now lsp egress out.now route }
+    ensures { result ≡ first_leg (local_of tables.now) lsp egress out.now route }
 {
     Leg {
         lsp,
         egress,
         role: Role::Work,
         prev: None,
-        next: Some(other_end(out, site.id())),
+        next: Some(other_end(out, id_of(tables))),
         in_fibre: None,
-        out_fibre: Some(fibre_out(out, site.id())),
+        out_fibre: Some(fibre_out(out, id_of(tables))),
         offered: LabelSet::empty(),
         sent: LabelSet::upto(out.labels),
         route,
@@ -165,19 +224,23 @@ fn first_leg(
 // The LSP begins: a tunnel and an LSP number are left.
 fn begin(
     alloc: Global,
-    node: &Node,
+    tables: &NodeTables,
+    calls: &Calls,
     request: &SetupRequest<'_>,
     out: &LinkSpec,
     route: Steps,
 ) -> Result<Change, OutOfMemory>
     requires narrow { out.now.labels ≤ 80 }
-    requires tunnel { node.now.state.tunnel ≤ 65535 }
-    requires lsp { node.now.state.lsp ≤ 65535 }
-    ensures { IfOk result (λ c. c ≡ begins node.now.place node.now.state request.now out.now route) }
+    requires tunnel { calls.now.tunnel ≤ 65535 }
+    requires lsp { calls.now.lsp ≤ 65535 }
+    ensures { IfOk result (λ c. c ≡ begins (local_of tables.now) (state_of tables.now calls.now) request.now out.now route) }
 {
-    let next = node.numbers();
+    let next = NextNumbers {
+        tunnel: calls.next_tunnel(),
+        lsp: calls.next_lsp(),
+    };
     let lsp = Lsp {
-        ingress: node.id(),
+        ingress: id_of(tables),
         tunnel: next.tunnel as u16,
         lsp: next.lsp as u16,
     };
@@ -190,53 +253,54 @@ fn begin(
         upstream: None,
         role: PathRole::Work { guard: false },
     };
-    let leg = first_leg(alloc, node.site(), lsp, request.egress, out, route);
+    let leg = first_leg(alloc, tables, lsp, request.egress, out, route);
     let call = call_record(alloc, request, CallState::Asking, Some(lsp), Cause::Unset)?;
-    let mut change = Change::puts(alloc, leg, other_end(out, node.id()), msg)?;
+    let mut change = Change::puts(alloc, leg, other_end(out, id_of(tables)), msg)?;
     change.put_call(call)?;
-    change.numbers = Some(NextNumbers {
+    change.use_numbers(NextNumbers {
         tunnel: next.tunnel + 1,
         lsp: next.lsp + 1,
     });
     Ok(change)
 }
 
-fn is_spent(node: &Node) -> bool
-    ensures spent { result ≡ is_spent node.now.state }
+fn is_spent(calls: &Calls) -> bool
+    ensures { result ≡ (nat_lt LAST_NUMBER calls.now.lsp || nat_lt LAST_NUMBER calls.now.tunnel) }
 {
-    let next = node.numbers();
-    next.lsp > LAST_NUMBER || next.tunnel > LAST_NUMBER
+    calls.next_lsp() > LAST_NUMBER || calls.next_tunnel() > LAST_NUMBER
 }
 
 fn admit(
     alloc: Global,
-    node: &Node,
+    tables: &NodeTables,
+    calls: &Calls,
     request: &SetupRequest<'_>,
     out: &LinkSpec,
     route: Steps,
 ) -> Result<Change, OutOfMemory>
     requires { out.now.labels ≤ 80 }
-    ensures { IfOk result (λ c. c ≡ admitted_setup node.now.place node.now.state request.now out.now route) }
+    ensures { IfOk result (λ c. c ≡ admitted_setup (local_of tables.now) (state_of tables.now calls.now) request.now out.now route) }
 {
-    if is_spent(node) {
+    if is_spent(calls) {
         refuse_setup(alloc, request, Cause::Spent)
-    } else if node.legs().len() >= MOST_LEGS {
+    } else if tables.count() >= MOST_LEGS {
         refuse_setup(alloc, request, Cause::Full)
     } else {
-        begin(alloc, node, request, out, route)
+        begin(alloc, tables, calls, request, out, route)
     }
 }
 
 // The link of the route's first step, if the route may be followed from here.
-fn first_link<'a>(site: &'a Site, route: &Steps) -> Option<&'a LinkSpec>
-    ensures found { option_copied result ≡ first_link site.now route.now }
+fn first_link<'a>(tables: &'a NodeTables, route: &Steps) -> Option<&'a LinkSpec>
+    requires { LocalNodeFits (local_of tables.now) }
+    ensures found { option_copied result ≡ first_link (local_of tables.now) route.now }
     ensures narrow { IfSome (option_copied result) (λ l. l.labels ≤ 80) }
 {
     match route.items() {
         [] => None,
         [hop, others @ ..] => {
-            if hop.node == site.id() && others.len() < MOST_LINKS_OF_ROUTE {
-                site.own(hop.link)
+            if hop.node == id_of(tables) && others.len() < MOST_LINKS_OF_ROUTE {
+                own_link(tables, hop.link)
             } else {
                 None
             }
@@ -244,36 +308,44 @@ fn first_link<'a>(site: &'a Site, route: &Steps) -> Option<&'a LinkSpec>
     }
 }
 
-fn is_followable(site: &Site, route: &Option<Steps>) -> bool
-    ensures { result ≡ is_followable site.now route.now }
+fn is_followable(tables: &NodeTables, route: &Option<Steps>) -> bool
+    requires { LocalNodeFits (local_of tables.now) }
+    ensures { result ≡ is_followable (local_of tables.now) route.now }
 {
     match route {
         None => true,
-        Some(route) => first_link(site, route).is_some(),
+        Some(route) => first_link(tables, route).is_some(),
     }
 }
 
-fn is_order_here(site: &Site, request: &SetupRequest<'_>) -> bool
-    ensures { result ≡ is_order_here site.now request.now }
+fn is_order_here(tables: &NodeTables, request: &SetupRequest<'_>) -> bool
+    requires { LocalNodeFits (local_of tables.now) }
+    ensures { result ≡ is_order_here (local_of tables.now) request.now }
 {
-    request.from == site.id()
-        && request.egress != site.id()
+    request.from == id_of(tables)
+        && request.egress != id_of(tables)
         && !request.protected
         && !request.both
-        && is_followable(site, request.backup)
+        && is_followable(tables, request.backup)
 }
 
-fn new_call(alloc: Global, node: &Node, request: &SetupRequest<'_>) -> Result<Change, OutOfMemory>
-    ensures { IfOk result (λ c. c ≡ new_call node.now.place node.now.state request.now request.now.via) }
+fn new_call(
+    alloc: Global,
+    tables: &NodeTables,
+    calls: &Calls,
+    request: &SetupRequest<'_>,
+) -> Result<Change, OutOfMemory>
+    requires { LocalNodeFits (local_of tables.now) }
+    ensures { IfOk result (λ c. c ≡ new_call (local_of tables.now) (state_of tables.now calls.now) request.now request.now.via) }
 {
     let Some(route) = request.via else {
         return Ok(Change::nothing(alloc));
     };
-    match first_link(node.site(), route) {
+    match first_link(tables, route) {
         None => Ok(Change::nothing(alloc)),
         Some(out) => {
             let rest = route.copy_from(alloc, 1)?;
-            admit(alloc, node, request, out, rest)
+            admit(alloc, tables, calls, request, out, rest)
         }
     }
 }
@@ -281,13 +353,15 @@ fn new_call(alloc: Global, node: &Node, request: &SetupRequest<'_>) -> Result<Ch
 /// What a setup does: an LSP is asked for, or the call is refused.
 pub(crate) fn set_up(
     alloc: Global,
-    node: &Node,
+    tables: &NodeTables,
+    calls: &Calls,
     request: &SetupRequest<'_>,
 ) -> Result<Change, OutOfMemory>
-    ensures { IfOk result (λ c. c ≡ on_setup node.now.place node.now.state request.now) }
+    requires { LocalNodeFits (local_of tables.now) }
+    ensures { IfOk result (λ c. c ≡ on_setup (local_of tables.now) (state_of tables.now calls.now) request.now) }
 {
-    if node.call(request.call).is_none() && is_order_here(node.site(), request) {
-        new_call(alloc, node, request)
+    if calls.get(request.call).is_none() && is_order_here(tables, request) {
+        new_call(alloc, tables, calls, request)
     } else {
         Ok(Change::nothing(alloc))
     }
@@ -316,21 +390,22 @@ fn tear(alloc: Global, change: &mut Change, leg: Option<&Leg>) -> Result<(), Out
 /// What a release does: the LSPs of the call are torn, and the call goes.
 pub(crate) fn release(
     alloc: Global,
-    node: &Node,
+    tables: &NodeTables,
+    calls: &Calls,
     number: CallNo,
     from: NodeId,
 ) -> Result<Change, OutOfMemory>
-    ensures { IfOk result (λ c. c ≡ on_release node.now.place node.now.state number from) }
+    ensures { IfOk result (λ c. c ≡ on_release (local_of tables.now) (state_of tables.now calls.now) number from) }
 {
     let mut change = Change::nothing(alloc);
-    if from != node.id() {
+    if from != id_of(tables) {
         return Ok(change);
     }
-    let Some(call) = node.call(number) else {
+    let Some(call) = calls.get(number) else {
         return Ok(change);
     };
-    tear(alloc, &mut change, node.leg_of(call.work))?;
-    tear(alloc, &mut change, node.leg_of(call.back))?;
+    tear(alloc, &mut change, leg_of(tables, call.work))?;
+    tear(alloc, &mut change, leg_of(tables, call.back))?;
     change.remove_call(call.call)?;
     Ok(change)
 }

@@ -2,19 +2,13 @@
 #![tactic(auto)]
 
 mod call_control;
-mod calls;
-pub mod changes;
 pub mod inputs;
-mod legs;
 pub mod node;
-mod path_state;
-mod resv_state;
+mod rows;
 mod rules;
-mod sites;
-mod tables;
 #[cfg(test)]
 mod tests;
 
-pub use changes::Change;
 pub use inputs::Input;
+pub use leg_table::Change;
 pub use node::Node;

@@ -1,49 +1,43 @@
 //! The node.
 
-ghost use Rattle.std.specs.Prelude.{◌≡◌, ◌≤◌, IfOk, IfSome, OnErr, OnOk, length, map};
-ghost use Rattle.std.specs.Option.{option_copied};
-ghost use Rattle.mesh_rules.specs.Calls.{call_of, find_call};
+ghost use Rattle.std.specs.Prelude.{◌≡◌, ◌≤◌, IfOk, OnErr, OnOk, length};
 ghost use Rattle.mesh_rules.specs.Changes.{changed};
-ghost use Rattle.mesh_rules.specs.Legs.{find_leg, leg_of};
-ghost use Rattle.mesh_rules.specs.Rows.{call_row, call_rows, leg_row, leg_rows, link_of, standing};
 ghost use Rattle.mesh_rules.specs.LocalNodes.{local_node};
+ghost use Rattle.mesh_rules.specs.Rows.{call_rows, leg_rows};
 ghost use Rattle.mesh_rules.specs.State.{new_node};
 ghost use Rattle.mesh_nodes.specs.Kept.{NodeFits};
-ghost use Rattle.mesh_nodes.specs.Order.{CallRowsRise, LegRowsRise};
 ghost use Rattle.mesh_nodes.specs.LocalNodes.{LocalNodeFits};
+ghost use Rattle.mesh_nodes.specs.Order.{CallRowsRise, LegRowsRise};
 ghost use Rattle.mesh_nodes.specs.Sent.{AllToNeighbours, AllWritable};
 ghost use Rattle.node_core.specs.Nodes.{IsAnswerOf, IsWritableInput, answer_to, stepped};
 
-use crate::calls::{call_of, find_call};
-use crate::changes::Change;
 use crate::inputs::Input;
-use crate::legs::find_leg;
+use crate::rows::{call_rows, leg_rows};
 use crate::rules::on_input;
-use crate::sites::Site;
-use crate::tables::Tables;
-use ason_base::{
-    CallNo, CallRec, CallRow, CallRows, Fibre, Leg, LegRow, LegRows, LinkId, Lsp, NodeId,
-    OutOfMemory, Outs, TableRows, Topology,
-};
-use mesh_rules::NextNumbers;
+use ason_base::{NodeId, OutOfMemory, Outs, TableRows, Topology};
+use leg_table::carrying::carry_out;
+use leg_table::{Calls, Change, NodeTables};
+use link_owner::Owner;
 use std::alloc::Global;
 use std::marker::Model;
 
-/// One node: what it knows of itself, its legs and its calls.
+/// One node: the tables of its links and legs, who has the labels of the fibres that come in, and its calls.
 #[derive(Debug, Drop)]
 pub struct Node {
-    site: Site,
-    tables: Tables,
+    tables: NodeTables,
+    owner: Owner,
+    calls: Calls,
 }
 
 impl Model for Node {
-    ghost use Rattle.node_core.specs.Nodes.{IsNode, NodeView};
+    ghost use Rattle.leg_table.specs.LegClaims.{IsOwnerOf};
+    ghost use Rattle.node_core.specs.Nodes.{IsNode, NodeView, node_of};
 
     ghost Value = { NodeView };
 
-    ghost view = { λ n. record { place = n.site; state = n.tables } };
+    ghost view = { λ n. node_of n.tables n.calls };
 
-    ghost invariant = { λ n. IsNode (record { place = n.site; state = n.tables }) };
+    ghost invariant = { λ n. IsNode (node_of n.tables n.calls) × IsOwnerOf n.tables n.owner };
 }
 
 impl Node {
@@ -51,10 +45,13 @@ impl Node {
     pub fn new(alloc: Global, t: &Topology, id: NodeId) -> Result<Node, OutOfMemory>
         ensures { IfOk result (λ n. n ≡ record { place = local_node t.now id; state = new_node }) }
     {
-        let site = Site::new(alloc, t, id)?;
+        let _links = t.links();
+        let tables = NodeTables::new(alloc, t, id)?;
+        let owner = Owner::new(alloc, t, id)?;
         Ok(Node {
-            site,
-            tables: Tables::new(alloc),
+            tables,
+            owner,
+            calls: Calls::new(alloc),
         })
     }
 
@@ -62,16 +59,21 @@ impl Node {
     pub fn copy(&self, alloc: Global) -> Result<Node, OutOfMemory>
         ensures { IfOk result (λ n. n ≡ self.now) }
     {
-        let site = self.site.copy(alloc)?;
         let tables = self.tables.copy(alloc)?;
-        Ok(Node { site, tables })
+        let owner = self.owner.copy(alloc)?;
+        let calls = self.calls.copy(alloc)?;
+        Ok(Node {
+            tables,
+            owner,
+            calls,
+        })
     }
 
     /// The node's number.
     pub fn id(&self) -> NodeId
         ensures { result ≡ self.now.place.id }
     {
-        self.site.id()
+        self.tables.node().id
     }
 
     /// Law: the node knows its own links, and what it keeps fits them.
@@ -79,7 +81,7 @@ impl Node {
         ensures place { LocalNodeFits self.now.place }
         ensures state { NodeFits self.now.place self.now.state }
     {
-        let _site = &self.site;
+        let _tables = &self.tables;
     }
 
     /// What the rule of an input would change and send. It changes nothing.
@@ -90,7 +92,7 @@ impl Node {
         ensures few { IfOk result (λ c. length c.sent ≤ 65536) }
     {
         self.fits();
-        let change = on_input(alloc, self, input)?;
+        let change = on_input(alloc, &self.tables, &self.owner, &self.calls, input)?;
         Ok(change)
     }
 
@@ -103,7 +105,7 @@ impl Node {
         ensures sent { IfOk result (λ outs. outs ≡ change.sent) }
         ensures err { OnErr result (self.new ≡ self.old) }
     {
-        self.tables.carry_out(change)
+        carry_out(change, &mut self.tables, &mut self.owner, &mut self.calls)
     }
 
     /// Takes one input by the rules of the mesh, and hands back what is to be sent, in order. After want of memory the node is
@@ -120,59 +122,6 @@ impl Node {
         self.carry_out(change)
     }
 
-    /// What the node knows of itself.
-    pub(crate) fn site(&self) -> &Site
-        ensures { result.now ≡ self.now.place }
-    {
-        &self.site
-    }
-
-    /// The legs, in order of LSP.
-    pub(crate) fn legs(&self) -> &[Leg]
-        ensures { result.now ≡ self.now.state.legs }
-    {
-        self.tables.legs()
-    }
-
-    /// The leg of this LSP: none exactly where none stands.
-    pub(crate) fn leg(&self, lsp: Lsp) -> Option<&Leg>
-        ensures { option_copied result ≡ find_leg lsp self.now.state.legs }
-    {
-        find_leg(self.tables.legs(), lsp)
-    }
-
-    /// The leg of an LSP that a call names.
-    pub(crate) fn leg_of(&self, lsp: Option<Lsp>) -> Option<&Leg>
-        ensures { option_copied result ≡ leg_of lsp self.now.state.legs }
-    {
-        match lsp {
-            None => None,
-            Some(lsp) => self.leg(lsp),
-        }
-    }
-
-    /// The call of this number: none exactly where none stands.
-    pub(crate) fn call(&self, number: CallNo) -> Option<&CallRec>
-        ensures { option_copied result ≡ find_call number self.now.state.calls }
-    {
-        find_call(self.tables.calls(), number)
-    }
-
-    /// The call whose working LSP this is: none exactly where there is none.
-    pub(crate) fn call_of(&self, lsp: Lsp) -> Option<&CallRec>
-        ensures { option_copied result ≡ call_of lsp self.now.state.calls }
-    {
-        call_of(self.tables.calls(), lsp)
-    }
-
-    /// The tunnel and LSP numbers that are given out next.
-    pub(crate) fn numbers(&self) -> NextNumbers
-        ensures tunnel { result.tunnel ≡ self.now.state.tunnel }
-        ensures lsp { result.lsp ≡ self.now.state.lsp }
-    {
-        self.tables.numbers()
-    }
-
     /// What a table shows of the node: its calls in order of number, its legs in order of LSP.
     pub fn rows(&self, alloc: Global) -> Result<TableRows, OutOfMemory>
         ensures calls { IfOk result (λ rows. rows.calls ≡ call_rows self.now.place.id self.now.state) }
@@ -180,86 +129,11 @@ impl Node {
         ensures calls_rise { IfOk result (λ rows. CallRowsRise rows.calls) }
         ensures legs_rise { IfOk result (λ rows. LegRowsRise rows.legs) }
     {
-        let id = self.site.id();
-        let calls = call_rows(alloc, id, self.tables.legs(), self.tables.calls())?;
+        let id = self.tables.node().id;
+        let calls = call_rows(alloc, id, &self.tables, self.calls.calls())?;
         let legs = leg_rows(alloc, id, self.tables.legs())?;
         Ok(TableRows { calls, legs })
     }
-}
-
-fn standing(legs: &[Leg], lsp: Option<Lsp>) -> Option<Lsp>
-    ensures { result ≡ standing lsp legs.now }
-{
-    let lsp = lsp?;
-    match find_leg(legs, lsp) {
-        None => None,
-        Some(_) => Some(lsp),
-    }
-}
-
-fn call_row(n: NodeId, legs: &[Leg], call: &CallRec) -> CallRow
-    ensures { result ≡ call_row n legs.now call.now }
-{
-    CallRow {
-        call: call.call,
-        ingress: n,
-        egress: call.egress,
-        state: call.state,
-        work: standing(legs, call.work),
-        back: standing(legs, call.back),
-        cause: call.cause,
-    }
-}
-
-fn call_rows(
-    alloc: Global,
-    n: NodeId,
-    legs: &[Leg],
-    calls: &[CallRec],
-) -> Result<CallRows, OutOfMemory>
-    ensures { IfOk result (λ rows. rows ≡ map (call_row n legs.now) calls.now) }
-{
-    let mut rows = CallRows::new(alloc);
-    for call in calls {
-        rows.push(call_row(n, legs, call))?;
-    }
-    Ok(rows)
-}
-
-fn link_of(fibre: Option<Fibre>) -> Option<LinkId>
-    ensures { result ≡ link_of fibre }
-{
-    match fibre {
-        None => None,
-        Some(fibre) => Some(fibre.link),
-    }
-}
-
-fn leg_row(n: NodeId, leg: &Leg) -> LegRow
-    ensures { result ≡ leg_row n leg.now }
-{
-    LegRow {
-        lsp: leg.lsp,
-        node: n,
-        role: leg.role,
-        phase: leg.phase,
-        in_link: link_of(leg.in_fibre),
-        in_label: leg.in_label,
-        out_link: link_of(leg.out_fibre),
-        out_label: leg.out_label,
-        back_in: leg.back_in,
-        back_out: leg.back_out,
-    }
-}
-
-fn leg_rows(alloc: Global, n: NodeId, legs: &[Leg]) -> Result<LegRows, OutOfMemory>
-    ensures { IfOk result (λ rows. rows ≡ map (leg_row n) legs.now) }
-{
-    let mut rows = LegRows::new(alloc);
-    for leg in legs {
-        rows.push(leg_row(n, leg))?;
-    }
-    Ok(rows)
 }
 
 #[cfg(test)]

@@ -3,81 +3,93 @@
 ghost use Rattle.std.specs.Prelude.{◌≡◌, IfOk};
 ghost use Rattle.mesh_rules.specs.Messages.{on_message};
 ghost use Rattle.mesh_rules.specs.Orders.{on_item, on_order, on_tick};
-ghost use Rattle.node_core.specs.Nodes.{answer_to};
+ghost use Rattle.mesh_nodes.specs.LocalNodes.{LocalNodeFits};
+ghost use Rattle.leg_table.specs.Fits.{TablesFit};
+ghost use Rattle.leg_table.specs.States.{local_of, state_of};
+ghost use Rattle.node_core.specs.Followed.{err_followed, resv_followed};
+ghost use Rattle.node_core.specs.Nodes.{answer_to, node_of};
 
-use crate::call_control::{SetupRequest, release, set_up};
-use crate::changes::Change;
+use crate::call_control::{SetupRequest, call_connected, call_refused, release, set_up};
 use crate::inputs::Input;
-use crate::node::Node;
-use crate::path_state::{PathRequest, path, tear};
-use crate::resv_state::{PathFailure, path_err, resv};
-use ason_base::{Command, DeskItem, LinkId, Lsp, Msg, NodeId, OutOfMemory};
-use mesh_rules::Arrival;
+use ason_base::{Command, DeskItem, ErrCode, Lsp, Msg, NodeId, OutOfMemory};
+use leg_table::{Calls, Change, NodeTables};
+use link_owner::Owner;
+use path_state::{path_change, tear_change};
+use resv_state::{connects, path_err_change, refuses, resv_change};
 use std::alloc::Global;
 
-fn arrival(lsp: Lsp, egress: NodeId, from: NodeId, link: LinkId) -> Arrival
-    ensures { result ≡ record { lsp = lsp; egress = egress; from = from; link = link } }
+// Messages
+
+// A Resv: at the ingress the call follows.
+fn resv(
+    alloc: Global,
+    tables: &NodeTables,
+    owner: &Owner,
+    calls: &Calls,
+    from: NodeId,
+    msg: &Msg,
+    lsp: Lsp,
+) -> Result<Change, OutOfMemory>
+    requires { TablesFit tables.now owner.now }
+    ensures { IfOk result (λ c. c ≡ resv_followed tables.now calls.now from msg.now lsp) }
 {
-    Arrival {
-        lsp,
-        egress,
-        from,
-        link,
+    let mut change = resv_change(alloc, tables, owner, from, msg)?;
+    if connects(tables, from, msg) {
+        call_connected(alloc, &mut change, calls.working(lsp))?;
     }
+    Ok(change)
+}
+
+// A PathErr: at the ingress the call follows.
+fn path_err(
+    alloc: Global,
+    tables: &NodeTables,
+    calls: &Calls,
+    from: NodeId,
+    msg: &Msg,
+    lsp: Lsp,
+    code: ErrCode,
+) -> Result<Change, OutOfMemory>
+    ensures { IfOk result (λ c. c ≡ err_followed tables.now calls.now from msg.now lsp code) }
+{
+    let mut change = path_err_change(alloc, tables, from, msg)?;
+    if refuses(tables, from, msg) {
+        call_refused(alloc, &mut change, code, calls.working(lsp))?;
+    }
+    Ok(change)
 }
 
 // What a message from a neighbour does.
-fn on_message(alloc: Global, node: &Node, from: NodeId, msg: &Msg) -> Result<Change, OutOfMemory>
-    ensures { IfOk result (λ c. c ≡ on_message node.now.place node.now.state from msg.now) }
+fn on_message(
+    alloc: Global,
+    tables: &NodeTables,
+    owner: &Owner,
+    calls: &Calls,
+    from: NodeId,
+    msg: &Msg,
+) -> Result<Change, OutOfMemory>
+    requires { TablesFit tables.now owner.now }
+    ensures { IfOk result (λ c. c ≡ on_message (local_of tables.now) (state_of tables.now calls.now) from msg.now) }
 {
     match msg {
-        Msg::Path {
-            lsp,
-            egress,
-            link,
-            route,
-            set,
-            role,
-            ..
-        } => {
-            let arrival = arrival(*lsp, *egress, from, *link);
-            let request = PathRequest {
-                arrival,
-                route,
-                set,
-                role,
-            };
-            path(alloc, node, &request)
-        }
-        Msg::Resv {
-            lsp,
-            egress,
-            link,
-            label,
-        } => resv(alloc, node, arrival(*lsp, *egress, from, *link), *label),
-        Msg::PathTear { lsp, egress, link } => {
-            tear(alloc, node, arrival(*lsp, *egress, from, *link))
-        }
-        Msg::PathErr {
-            lsp,
-            removed,
-            code,
-            ..
-        } => {
-            let failure = PathFailure {
-                lsp: *lsp,
-                msg,
-                removed: *removed,
-                code: *code,
-            };
-            path_err(alloc, node, from, &failure)
-        }
+        Msg::Path { .. } => path_change(alloc, tables, owner, from, msg),
+        Msg::Resv { lsp, .. } => resv(alloc, tables, owner, calls, from, msg, *lsp),
+        Msg::PathTear { .. } => tear_change(alloc, tables, from, msg),
+        Msg::PathErr { lsp, code, .. } => path_err(alloc, tables, calls, from, msg, *lsp, *code),
         Msg::Notify { .. } => Ok(Change::nothing(alloc)),
     }
 }
 
-fn on_order(alloc: Global, node: &Node, command: &Command) -> Result<Change, OutOfMemory>
-    ensures { IfOk result (λ c. c ≡ on_order node.now.place node.now.state command.now) }
+// Orders
+
+fn on_order(
+    alloc: Global,
+    tables: &NodeTables,
+    calls: &Calls,
+    command: &Command,
+) -> Result<Change, OutOfMemory>
+    requires { LocalNodeFits (local_of tables.now) }
+    ensures { IfOk result (λ c. c ≡ on_order (local_of tables.now) (state_of tables.now calls.now) command.now) }
 {
     match command {
         Command::Setup {
@@ -98,9 +110,9 @@ fn on_order(alloc: Global, node: &Node, command: &Command) -> Result<Change, Out
                 via,
                 backup,
             };
-            set_up(alloc, node, &request)
+            set_up(alloc, tables, calls, &request)
         }
-        Command::Release { call, from } => release(alloc, node, *call, *from),
+        Command::Release { call, from } => release(alloc, tables, calls, *call, *from),
         Command::Protect { .. }
         | Command::Retry { .. }
         | Command::Revert { .. }
@@ -110,30 +122,43 @@ fn on_order(alloc: Global, node: &Node, command: &Command) -> Result<Change, Out
 }
 
 // What an item of the desk does.
-fn on_item(alloc: Global, node: &Node, item: &DeskItem) -> Result<Change, OutOfMemory>
-    ensures { IfOk result (λ c. c ≡ on_item node.now.place node.now.state item.now) }
+fn on_item(
+    alloc: Global,
+    tables: &NodeTables,
+    calls: &Calls,
+    item: &DeskItem,
+) -> Result<Change, OutOfMemory>
+    requires { LocalNodeFits (local_of tables.now) }
+    ensures { IfOk result (λ c. c ≡ on_item (local_of tables.now) (state_of tables.now calls.now) item.now) }
 {
     match item {
-        DeskItem::Order(command) => on_order(alloc, node, command),
+        DeskItem::Order(command) => on_order(alloc, tables, calls, command),
         DeskItem::Alarm(_) | DeskItem::Clear(_) => Ok(Change::nothing(alloc)),
     }
 }
 
 // What a tick does.
-fn on_tick(alloc: Global, node: &Node) -> Change
-    ensures { result ≡ on_tick node.now.place node.now.state }
+fn on_tick(alloc: Global, tables: &NodeTables, calls: &Calls) -> Change
+    ensures { result ≡ on_tick (local_of tables.now) (state_of tables.now calls.now) }
 {
     Change::nothing(alloc)
 }
 
 /// What an input does: what the node answers to it.
-pub(crate) fn on_input(alloc: Global, node: &Node, input: &Input) -> Result<Change, OutOfMemory>
-    ensures { IfOk result (λ c. c ≡ answer_to node.now input.now) }
+pub(crate) fn on_input(
+    alloc: Global,
+    tables: &NodeTables,
+    owner: &Owner,
+    calls: &Calls,
+    input: &Input,
+) -> Result<Change, OutOfMemory>
+    requires { TablesFit tables.now owner.now }
+    ensures { IfOk result (λ c. c ≡ answer_to (node_of tables.now calls.now) input.now) }
 {
     match input {
-        Input::Message { from, msg } => on_message(alloc, node, *from, msg),
-        Input::Desk(item) => on_item(alloc, node, item),
-        Input::Tick => Ok(on_tick(alloc, node)),
+        Input::Message { from, msg } => on_message(alloc, tables, owner, calls, *from, msg),
+        Input::Desk(item) => on_item(alloc, tables, calls, item),
+        Input::Tick => Ok(on_tick(alloc, tables, calls)),
         Input::Learn(_) => Ok(Change::nothing(alloc)),
     }
 }

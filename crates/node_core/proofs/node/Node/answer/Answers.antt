@@ -1,11 +1,19 @@
+use Rattle.std.proofs.Common.{◌∙◌, ap, subst, sym}
 use Rattle.mesh_nodes.specs.Sent.{AnswerFits}
-use Rattle.node_core.proofs.Answers.{answer-fits}
-use Rattle.node_core.specs.Nodes.{IsWritableInput}
+use Rattle.node_core.proofs.Answers.{answer-fits, tables-fit}
+use Rattle.node_core.specs.Nodes.{IsWritableInput, answer_to}
 use Rattle.node_core.proofs.node.Node.answer.Goals as goal
+
+pub on_input-requires : goal.on_input-requires
+on_input-requires c =
+    tables-fit c.self.inside.tables c.self.inside.calls c.self.inside.owner c.self.invariant.0 c.self.invariant.1
 
 fit : (c : goal.In_ok-change) → AnswerFits c.args.self.now.place c.args.self.now.state (IsWritableInput c.args.input.now) c.in_ok-change.change
 fit c =
-    rw c.in_ok-change.ensures (answer-fits c.args.self.now c.args.input.now (record { place = c.fits.ensures.place; state = c.fits.ensures.state }))
+    let n = c.args.self.now in
+    let i = c.args.input.now in
+    subst (AnswerFits n.place n.state (IsWritableInput i)) (sym (c.in_ok-change.ensures ∙ ap (λ m. answer_to m i) c.self.view_is))
+    (answer-fits n i (record { place = c.fits.ensures.place; state = c.fits.ensures.state }))
 
 pub returns-clause-near : goal.returns-clause-near
 returns-clause-near c = (fit c).near

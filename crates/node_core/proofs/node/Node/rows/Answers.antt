@@ -3,8 +3,9 @@ use Rattle.node_core.proofs.node.Node.rows.Goals as goal
 
 pub returns-clause-calls_rise : goal.returns-clause-calls_rise
 returns-clause-calls_rise c =
-    rw (c.in_ok-calls.ensures, c.calls.ensures) (call-rows-rise c.id-id.result c.legs.result.now c.self.inside.tables.calls c.self.invariant.state.calls.rise)
+    rw (c.in_ok-calls.ensures, c.calls.ensures)
+    (call-rows-rise c.node.result.now.id c.self.inside.tables.legs c.self.inside.calls.calls c.self.invariant.0.state.calls.rise)
 
 pub returns-clause-legs_rise : goal.returns-clause-legs_rise
 returns-clause-legs_rise c =
-    rw (c.in_ok-legs.ensures, c.legs-2.ensures) (leg-rows-rise c.id-id.result c.self.inside.tables.legs c.self.invariant.state.legs.rise)
+    rw (c.in_ok-legs.ensures, c.legs.ensures.value) (leg-rows-rise c.node.result.now.id c.self.inside.tables.legs c.self.invariant.0.state.legs.rise)

@@ -1,7 +1,7 @@
 use Rattle.std.proofs.Common.{◌≡◌, take}
 use Rattle.std.specs.Prelude.{map}
 use Rattle.mesh_rules.specs.Rows.{leg_row}
-use Rattle.node_core.proofs.node.leg_rows.Given as goal
+use Rattle.node_core.proofs.rows.leg_rows.Given as goal
 
 abbrev pub invariant-loop-leg : goal.invariant-loop-leg
 invariant-loop-leg l = l.rows ≡ map (leg_row l.n) (take l.leg-index l.legs)
