@@ -1,5 +1,5 @@
 pub mod ByLegs
-pub mod CallFollows
 pub mod KeptLegs
 pub mod MayResvs
 pub mod NoCall
+pub mod TestLegs

@@ -1,10 +1,11 @@
 //! Worked Resvs and PathErrs at the second of three nodes in a row.
 
-ghost use Rattle.std.specs.Prelude.{◌≡◌, ℕ, IfOk, None};
+ghost use Rattle.std.specs.Prelude.{◌≡◌, ℕ, IfOk, None, Some};
 ghost use Rattle.leg_table.specs.Fits.{TablesFit};
 ghost use Rattle.leg_table.specs.LegClaims.{taken};
 ghost use Rattle.leg_table.specs.States.{local_of};
 ghost use Rattle.mesh_nodes.specs.Kept.{LegFits};
+ghost use Rattle.mesh_rules.specs.LocalNodes.{own_link};
 
 use crate::{path_err, resv};
 use ason_base::codes::{LABEL, SET, TORN};
@@ -127,11 +128,22 @@ fn line(alloc: Global, convert: bool) -> Result<Topology, Fail> {
     Ok(Topology::new(alloc, 0, &nodes, &links)?)
 }
 
-fn lsp(number: u16) -> Lsp {
+fn lsp(number: u16) -> Lsp
+    ensures { result.ingress ≡ A }
+{
     Lsp {
         ingress: A,
         tunnel: number,
         lsp: number,
+    }
+}
+
+fn own_link(tables: &NodeTables, link: LinkId) -> Result<&LinkSpec, Fail>
+    ensures { IfOk result (λ l. own_link (local_of tables.now) link ≡ Some l.now) }
+{
+    match tables.own(link) {
+        None => Err(Fail::new("no such link")),
+        Some(own) => Ok(own),
     }
 }
 
@@ -142,13 +154,14 @@ fn asked_leg(alloc: Global, tables: &NodeTables, owner: &Owner, number: u16) -> 
     ensures none { IfOk result (λ g. taken g ≡ None) }
 {
     let here = tables.node().id;
-    let back = tables.own(LinkId(1)).ok_or("link 1")?;
-    let on = tables.own(LinkId(2)).ok_or("link 2")?;
-    if here == A || here == C {
+    let back = own_link(tables, LinkId(1))?;
+    let on = own_link(tables, LinkId(2))?;
+    let lsp = lsp(number);
+    if lsp.ingress == here || C == here {
         return Err(Fail::new("an end of the LSP"));
     }
     Ok(Leg {
-        lsp: lsp(number),
+        lsp,
         egress: C,
         role: Role::Work,
         prev: Some(other_end(back, here)),
