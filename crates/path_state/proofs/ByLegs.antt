@@ -15,12 +15,14 @@ module _ (p : LocalNode) (legs : List Leg) (s r : NodeState) (m : PathRequest) w
   judged-by_legs link None = refl
   judged-by_legs link (Some code) = refl
 
-  first-by_legs : (o : Option LinkSpec) → first_path p (record s { legs = legs }) m o ≡ first_path p (record r { legs = legs }) m o
+  first-by_legs : (o : Option LinkSpec) →
+      first_path p (record s { legs = legs }) m o ≡ first_path p (record r { legs = legs }) m o
   first-by_legs None = refl
   first-by_legs (Some link) =
       rw (judged-by_legs link (first_failure (checks p (record s { legs = legs }) m link))) refl
 
-  path-by_legs : (o : Option Leg) → path_with p (record s { legs = legs }) m o ≡ path_with p (record r { legs = legs }) m o
+  path-by_legs : (o : Option Leg) →
+      path_with p (record s { legs = legs }) m o ≡ path_with p (record r { legs = legs }) m o
   path-by_legs None = first-by_legs (own_link p m.arrival.link)
   path-by_legs (Some g) = refl
 

@@ -12,16 +12,19 @@ use Rattle.leg_table.specs.Tables.{LegTable}
 use Rattle.path_state.specs.Answers.{path_answer, tear_answer}
 use Rattle.path_state.proofs.ByLegs.{on_path-by_legs}
 
-pub path-legs : (t : LegTable) (u : NodeId) (m : Msg) → LocalNodeFits (local_of t) → OwnLegsFit t → OwnLegsFit (legs_after t (path_answer t u m))
+pub path-legs : (t : LegTable) (u : NodeId) (m : Msg) → LocalNodeFits (local_of t) → OwnLegsFit t →
+    OwnLegsFit (legs_after t (path_answer t u m))
 path-legs t u (Path l e k route set up r) links fits =
     legs-after t u (Path l e k route set up r) (path_answer t u (Path l e k route set up r)).legs links fits
-    (λ next. ap (λ a. a.legs) (on_path-by_legs (local_of t) t.legs (legs_state t) (next_state t next) (record { arrival = arrival l e u k; route = route; set = set; role = r })))
+    (λ next. ap (λ a. a.legs) (on_path-by_legs (local_of t) t.legs (legs_state t) (next_state t next)
+    (record { arrival = arrival l e u k; route = route; set = set; role = r })))
 path-legs t u (Resv l e k x) links fits = fits
 path-legs t u (PathTear l e k) links fits = fits
 path-legs t u (PathErr l e at gone code) links fits = fits
 path-legs t u (Notify l e at k code) links fits = fits
 
-pub tear-legs : (t : LegTable) (u : NodeId) (m : Msg) → LocalNodeFits (local_of t) → OwnLegsFit t → OwnLegsFit (legs_after t (tear_answer t u m))
+pub tear-legs : (t : LegTable) (u : NodeId) (m : Msg) → LocalNodeFits (local_of t) → OwnLegsFit t →
+    OwnLegsFit (legs_after t (tear_answer t u m))
 tear-legs t u (Path l e k route set up r) links fits = fits
 tear-legs t u (Resv l e k x) links fits = fits
 tear-legs t u (PathTear l e k) links fits =

@@ -1,15 +1,21 @@
 -- What a Path and a PathTear do at a node of these tables.
-use Rattle.std.specs.Prelude.{List, ℕ, Option}
+use Rattle.std.specs.Prelude.{ℕ, Bool, List, [], ◌∷◌, Option, None, drop}
+use Rattle.ason_base.specs.Labels.{least}
 use Rattle.ason_base.specs.declared.codes.ErrCode.{ErrCode}
+use Rattle.ason_base.specs.declared.ids.LinkId.{LinkId}
 use Rattle.ason_base.specs.declared.ids.NodeId.{NodeId}
 use Rattle.ason_base.specs.declared.messages.Msg.{Msg}
 use Rattle.ason_base.specs.declared.messages.Msg.TheVariants.{Path, Resv, PathTear, PathErr, Notify}
 use Rattle.ason_base.specs.declared.network.LinkSpec.{LinkSpec}
-use Rattle.mesh_rules.specs.Changes.{Answer, nothing}
+use Rattle.ason_base.specs.declared.steps.Step.{Step}
+use Rattle.mesh_rules.specs.declared.arrivals.Arrival.{Arrival}
+use Rattle.mesh_rules.specs.Changes.{Answer, nothing, sends}
 use Rattle.mesh_rules.specs.Messages.{arrival}
-use Rattle.mesh_rules.specs.Paths.{PathRequest, checks, first_failure, first_path, judged, offered_labels, on_path}
-use Rattle.mesh_rules.specs.LocalNodes.{own_link}
+use Rattle.mesh_rules.specs.Paths.{PathRequest, admitted, at_egress, checks, error_to, first_failure, first_path, in_transit, judged, offered_labels, on_path}
+use Rattle.mesh_rules.specs.LocalNodes.{fibre_in, own_link}
 use Rattle.mesh_rules.specs.Tears.{on_tear}
+use Rattle.leg_table.specs.Fits.{legs_after}
+use Rattle.leg_table.specs.LegClaims.{is_fibre_in}
 use Rattle.leg_table.specs.States.{legs_state, local_of}
 use Rattle.leg_table.specs.Tables.{LegTable}
 
@@ -27,6 +33,30 @@ judged_here t m link = judged (local_of t) (legs_state t) m link (refused_for t 
 abbrev pub first_here : LegTable → PathRequest → Answer
 first_here t m = first_path (local_of t) (legs_state t) m (own_link (local_of t) m.arrival.link)
 
+-- the fibre of this link that comes in is one of the node's own links
+abbrev pub comes_over : LegTable → LinkSpec → Bool
+comes_over t link = is_fibre_in (local_of t) (fibre_in link t.node.id)
+
+abbrev pub refused_here : LegTable → Arrival → ErrCode → Answer
+refused_here t a code = sends (error_to a.from (local_of t) a code ∷ [])
+
+abbrev pub ended_here : LegTable → PathRequest → LinkSpec → List ℕ → Answer
+ended_here t m link offered = at_egress (local_of t) m link offered (least offered)
+
+-- the Path that goes on over this link
+abbrev pub path_on : PathRequest → LinkSpec → List Step → List ℕ → Msg
+path_on m out route set = Path m.arrival.lsp m.arrival.egress out.id route set None m.role
+
+-- it goes on over the node's link of this number, without its first step
+abbrev pub passed_here : LegTable → PathRequest → LinkSpec → List ℕ → LinkId → Answer
+passed_here t m link offered k = in_transit (local_of t) m link (drop 1 m.route) offered (own_link (local_of t) k)
+
+abbrev pub admitted_here : LegTable → PathRequest → LinkSpec → List ℕ → Answer
+admitted_here t m link offered = admitted (local_of t) m link offered m.route
+
+abbrev pub path_here : LegTable → PathRequest → Answer
+path_here t m = on_path (local_of t) (legs_state t) m
+
 -- a message of another kind does nothing
 abbrev pub path_answer : LegTable → NodeId → Msg → Answer
 path_answer t u (Path l e k route set up r) =
@@ -43,3 +73,11 @@ tear_answer t u (Resv l e k x) = nothing
 tear_answer t u (PathTear l e k) = on_tear (local_of t) (legs_state t) (arrival l e u k)
 tear_answer t u (PathErr l e at gone code) = nothing
 tear_answer t u (Notify l e at k code) = nothing
+
+-- The tables after it
+
+abbrev pub after_path : LegTable → NodeId → Msg → LegTable
+after_path t u m = legs_after t (path_answer t u m)
+
+abbrev pub after_tear : LegTable → NodeId → Msg → LegTable
+after_tear t u m = legs_after t (tear_answer t u m)

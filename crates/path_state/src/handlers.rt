@@ -1,8 +1,8 @@
 //! A Path and a PathTear carried out over a node's tables and owner.
 
 ghost use Rattle.std.specs.Prelude.{◌≡◌, [], IfOk, OnErr, OnOk};
-ghost use Rattle.leg_table.specs.Fits.{TablesFit, legs_after};
-ghost use Rattle.path_state.specs.Answers.{path_answer, tear_answer};
+ghost use Rattle.leg_table.specs.Fits.{TablesFit};
+ghost use Rattle.path_state.specs.Answers.{after_path, after_tear, path_answer, tear_answer};
 
 use crate::paths::path_change;
 use crate::tears::tear_change;
@@ -12,8 +12,9 @@ use leg_table::handling::handle;
 use link_owner::Owner;
 use std::alloc::Global;
 
-/// Takes a Path: a leg is made and the Path goes on, or it ends here and is answered by a Resv, or it is refused by a PathErr. Hands
-/// back what is to be sent, in order. A message of another kind changes nothing, nor does anything after want of memory.
+/// Takes a Path: a leg is made and the Path goes on, or it ends here and is answered by a Resv, or it is refused by a
+/// PathErr. Hands back what is to be sent, in order. A message of another kind changes nothing. After want of memory nothing
+/// has changed.
 pub fn path(
     alloc: Global,
     tables: &mut NodeTables,
@@ -22,7 +23,7 @@ pub fn path(
     msg: &Msg,
 ) -> Result<Outs, OutOfMemory>
     requires { TablesFit tables.old owner.old }
-    ensures ok { OnOk result (tables.new ≡ legs_after tables.old (path_answer tables.old from msg.now)) }
+    ensures ok { OnOk result (tables.new ≡ after_path tables.old from msg.now) }
     ensures sent { IfOk result (λ outs. outs ≡ (path_answer tables.old from msg.now).sent) }
     ensures none { (path_answer tables.old from msg.now).legs ≡ [] → owner.new ≡ owner.old }
     ensures fits { TablesFit tables.new owner.new }
@@ -33,8 +34,9 @@ pub fn path(
     handle(alloc, tables, owner, change)
 }
 
-/// Takes a PathTear: it is confirmed by a PathErr and goes on, and the leg waits for the next node's answer; at the egress the leg
-/// goes. Hands back what is to be sent, in order. A message of another kind changes nothing, nor does anything after want of memory.
+/// Takes a PathTear: it is confirmed by a PathErr and goes on, and the leg waits for the next node's answer; at the egress
+/// the leg goes. Hands back what is to be sent, in order. A message of another kind changes nothing. After want of memory
+/// nothing has changed.
 pub fn tear(
     alloc: Global,
     tables: &mut NodeTables,
@@ -43,7 +45,7 @@ pub fn tear(
     msg: &Msg,
 ) -> Result<Outs, OutOfMemory>
     requires { TablesFit tables.old owner.old }
-    ensures ok { OnOk result (tables.new ≡ legs_after tables.old (tear_answer tables.old from msg.now)) }
+    ensures ok { OnOk result (tables.new ≡ after_tear tables.old from msg.now) }
     ensures sent { IfOk result (λ outs. outs ≡ (tear_answer tables.old from msg.now).sent) }
     ensures none { (tear_answer tables.old from msg.now).legs ≡ [] → owner.new ≡ owner.old }
     ensures fits { TablesFit tables.new owner.new }

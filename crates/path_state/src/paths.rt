@@ -1,15 +1,11 @@
 //! A Path where no leg of its LSP stands (RFC 2205, section 3.1.3; RFC 3473, section 2).
 
-ghost use Rattle.std.specs.Prelude.{◌≡◌, ◌≤◌, ◌∷◌, [], IfOk, IsTrue, None, drop};
-ghost use Rattle.ason_base.specs.Labels.{least};
-ghost use Rattle.mesh_rules.specs.Changes.{sends};
-ghost use Rattle.mesh_rules.specs.LocalNodes.{fibre_in, own_link};
-ghost use Rattle.mesh_rules.specs.Paths.{admitted, asked_leg, at_egress, checks, error_to, first_failure, first_path, in_transit, is_for_work, judged, leads_on, offered_labels, on_path, set_on};
+ghost use Rattle.std.specs.Prelude.{◌≡◌, ◌≤◌, IfOk, IsTrue};
+ghost use Rattle.mesh_rules.specs.Paths.{asked_leg, is_for_work, leads_on, set_on};
 ghost use Rattle.mesh_nodes.specs.LocalNodes.{LocalNodeFits};
 ghost use Rattle.leg_table.specs.Fits.{TablesFit};
-ghost use Rattle.leg_table.specs.LegClaims.{is_fibre_in};
-ghost use Rattle.leg_table.specs.States.{legs_state, local_of};
-ghost use Rattle.path_state.specs.Answers.{first_here, judged_here, offered_here, path_answer, refused_for};
+ghost use Rattle.leg_table.specs.States.{local_of};
+ghost use Rattle.path_state.specs.Answers.{admitted_here, comes_over, ended_here, first_here, judged_here, offered_here, passed_here, path_answer, path_here, path_on, refused_for, refused_here};
 
 use ason_base::codes::{FULL, ROUTE, SET};
 use ason_base::routes::other_end;
@@ -26,7 +22,8 @@ use mesh_rules::links::{fibre_in, fibre_out, leads};
 use std::alloc::Global;
 use std::marker::Model;
 
-/// What a Path asks for: of which LSP and from where it came, over which steps from here, with which labels, and for what.
+/// What a Path asks for: of which LSP and from where it came, over which steps from here, with which labels, and for
+/// what.
 #[derive(Drop)]
 struct PathRequest<'a> {
     arrival: Arrival,
@@ -68,7 +65,7 @@ fn offered_labels(
     link: &LinkSpec,
 ) -> LabelSet
     requires fits { TablesFit tables.now owner.now }
-    requires link { IsTrue (is_fibre_in (local_of tables.now) (fibre_in link.now tables.now.node.id)) }
+    requires link { IsTrue (comes_over tables.now link.now) }
     ensures { result ≡ offered_here tables.now request.now link.now }
 {
     let fibre = fibre_in(link, tables.node().id);
@@ -102,7 +99,7 @@ fn refuse(
     arrival: Arrival,
     code: ErrCode,
 ) -> Result<Change, OutOfMemory>
-    ensures { IfOk result (λ c. c ≡ sends (error_to arrival.from (local_of tables.now) arrival code ∷ [])) }
+    ensures { IfOk result (λ c. c ≡ refused_here tables.now arrival code) }
 {
     let msg = Msg::PathErr {
         lsp: arrival.lsp,
@@ -156,7 +153,7 @@ fn end_here(
     link: &LinkSpec,
     offered: LabelSet,
 ) -> Result<Change, OutOfMemory>
-    ensures { IfOk result (λ c. c ≡ at_egress (local_of tables.now) request.now link.now offered (least offered)) }
+    ensures { IfOk result (λ c. c ≡ ended_here tables.now request.now link.now offered) }
 {
     let Some(label) = offered.least() else {
         return Ok(Change::nothing(alloc));
@@ -192,7 +189,7 @@ fn path_on(
     route: &Steps,
     set: &LabelSet,
 ) -> Result<Msg, OutOfMemory>
-    ensures { IfOk result (λ m. m ≡ Msg.Path request.now.arrival.lsp request.now.arrival.egress out.now.id route.now set.now None request.now.role) }
+    ensures { IfOk result (λ m. m ≡ path_on request.now out.now route.now set.now) }
 {
     Ok(Msg::Path {
         lsp: request.arrival.lsp,
@@ -214,7 +211,7 @@ fn pass_on(
     offered: LabelSet,
 ) -> Result<Change, OutOfMemory>
     requires { LocalNodeFits (local_of tables.now) }
-    ensures { IfOk result (λ c. c ≡ in_transit (local_of tables.now) request.now link.now (drop 1 request.now.route) offered (own_link (local_of tables.now) hop.link)) }
+    ensures { IfOk result (λ c. c ≡ passed_here tables.now request.now link.now offered hop.link) }
 {
     let here = tables.node().id;
     let Some(out) = tables.own(hop.link) else {
@@ -239,7 +236,7 @@ fn admit(
     offered: LabelSet,
 ) -> Result<Change, OutOfMemory>
     requires { LocalNodeFits (local_of tables.now) }
-    ensures { IfOk result (λ c. c ≡ admitted (local_of tables.now) request.now link.now offered request.now.route) }
+    ensures { IfOk result (λ c. c ≡ admitted_here tables.now request.now link.now offered) }
 {
     match request.route.items().first() {
         None => end_here(alloc, tables, request, link, offered),
@@ -255,7 +252,7 @@ fn judge(
     link: &LinkSpec,
 ) -> Result<Change, OutOfMemory>
     requires fits { TablesFit tables.now owner.now }
-    requires link { IsTrue (is_fibre_in (local_of tables.now) (fibre_in link.now tables.now.node.id)) }
+    requires link { IsTrue (comes_over tables.now link.now) }
     ensures { IfOk result (λ c. c ≡ judged_here tables.now request.now link.now) }
 {
     let offered = offered_labels(tables, owner, request, link);
@@ -299,7 +296,7 @@ fn on_path(
     request: &PathRequest<'_>,
 ) -> Result<Change, OutOfMemory>
     requires { TablesFit tables.now owner.now }
-    ensures { IfOk result (λ c. c ≡ on_path (local_of tables.now) (legs_state tables.now) request.now) }
+    ensures { IfOk result (λ c. c ≡ path_here tables.now request.now) }
 {
     match tables.get(&request.arrival.lsp) {
         None => first_path(alloc, tables, owner, request),
@@ -307,8 +304,8 @@ fn on_path(
     }
 }
 
-/// What a Path would change and send: it makes a leg and goes on, ends here and is answered, or is refused. A message of another
-/// kind does nothing.
+/// What a Path would change and send: it makes a leg and goes on, ends here and is answered, or is refused. A message of
+/// another kind does nothing.
 pub fn path_change(
     alloc: Global,
     tables: &NodeTables,

@@ -21,7 +21,8 @@ keeps s legs calls = record s { legs = legs; calls = calls }
 -- Resv
 
 module _ (p : LocalNode) (legs : List Leg) (calls : List CallRec) (s r : NodeState) (a : Arrival) (x : ℕ) where
-  answered-by : (g : Leg) (o : Option Neighbour) → answered p (keeps s legs calls) a x g o ≡ answered p (keeps r legs calls) a x g o
+  answered-by : (g : Leg) (o : Option Neighbour) →
+      answered p (keeps s legs calls) a x g o ≡ answered p (keeps r legs calls) a x g o
   answered-by g None = refl
   answered-by g (Some h) = refl
 
@@ -35,7 +36,8 @@ module _ (p : LocalNode) (legs : List Leg) (calls : List CallRec) (s r : NodeSta
 -- PathErr
 
 module _ (legs : List Leg) (calls : List CallRec) (s r : NodeState) (u : NodeId) (e : PathFailure) where
-  passed-by : (g : Leg) (o : Option Neighbour) → err_passed (keeps s legs calls) g e o ≡ err_passed (keeps r legs calls) g e o
+  passed-by : (g : Leg) (o : Option Neighbour) →
+      err_passed (keeps s legs calls) g e o ≡ err_passed (keeps r legs calls) g e o
   passed-by g None = refl
   passed-by g (Some h) = refl
 

@@ -11,7 +11,8 @@ use Rattle.leg_table.specs.Tables.{LegTable}
 use Rattle.leg_table.proofs.RuleChanges as rule
 use Rattle.resv_state.specs.Answers.{path_err_answer, resv_answer}
 
-pub resv-may : (t : LegTable) (u : NodeId) (m : Msg) → OwnLegsFit t → MayBeMade (local_of t) t.legs (resv_answer t u m).legs
+pub resv-may : (t : LegTable) (u : NodeId) (m : Msg) → OwnLegsFit t →
+    MayBeMade (local_of t) t.legs (resv_answer t u m).legs
 resv-may t u (Path l e k route set up r) fits = tt
 resv-may t u (Resv l e k x) fits = rule.resv-may (local_of t) (legs_state t) fits.0 (arrival l e u k) x fits.2.each
 resv-may t u (PathTear l e k) fits = tt
@@ -23,5 +24,6 @@ path_err-may t u (Path l e k route set up r) = tt
 path_err-may t u (Resv l e k x) = tt
 path_err-may t u (PathTear l e k) = tt
 path_err-may t u (PathErr l e at gone code) =
-    rule.err-may (local_of t) (legs_state t) u (record { lsp = l; msg = PathErr l e at gone code; removed = gone; code = code })
+    rule.err-may (local_of t) (legs_state t) u
+    (record { lsp = l; msg = PathErr l e at gone code; removed = gone; code = code })
 path_err-may t u (Notify l e at k code) = tt

@@ -26,6 +26,13 @@ use Rattle.leg_table.specs.Tables.{LegTable}
 same : (n : ℕ) → nat_eq n n ≡ true
 same n = grind arith
 
+comes_from : (p : LocalNode) (k : LinkId) (l : LinkSpec) → own_link p k ≡ Some l →
+    is_upstream p (record { node = other_end l p.id; fibre = fibre_in l p.id }) ≡ true
+comes_from p k l found =
+    any-found
+    (λ m. nat_eq (other_end m p.id).0 (other_end l p.id).0 && same_fibre (fibre_in m p.id) (fibre_in l p.id))
+    (λ m. nat_eq m.id.0 k.0) p.own l found (rw (same (other_end l p.id).0) (same_fibre-refl (fibre_in l p.id)))
+
 -- an Asked leg that comes in over one link of the node and goes on over another
 pub record Passes (p : LocalNode) (back on : LinkSpec) (g : Leg) : Type 0 where
   pub prev : g.prev ≡ Some (other_end back p.id)
@@ -37,7 +44,8 @@ pub record Passes (p : LocalNode) (back on : LinkSpec) (g : Leg) : Type 0 where
   pub ingress : nat_eq g.lsp.ingress.0 p.id.0 ≡ false
   pub egress : nat_eq g.egress.0 p.id.0 ≡ false
 
-pub passing-fits : (p : LocalNode) (k j : LinkId) (back on : LinkSpec) (g : Leg) → own_link p k ≡ Some back → own_link p j ≡ Some on →
+pub passing-fits : (p : LocalNode) (k j : LinkId) (back on : LinkSpec) (g : Leg) → own_link p k ≡ Some back →
+    own_link p j ≡ Some on →
     Passes p back on g → (next : ℕ) → LegFits p next g
 passing-fits p k j back on g here there passes next =
     let prev = passes.prev in
@@ -50,8 +58,7 @@ passing-fits p k j back on g here there passes next =
       in_fibre = rw (in_fibre, prev) refl;
       next_node = rw (after, passes.egress) refl;
       out_fibre = rw (out_fibre, after) refl;
-      upstream =
-          rw (prev, in_fibre) (any-found (λ m. nat_eq (other_end m p.id).0 (other_end back p.id).0 && same_fibre (fibre_in m p.id) (fibre_in back p.id)) (λ m. nat_eq m.id.0 k.0) p.own back here (rw (same (other_end back p.id).0) (same_fibre-refl (fibre_in back p.id))));
+      upstream = rw (prev, in_fibre) (comes_from p k back here);
       downstream = rw (after, out_fibre) (end-downstream p j on there);
       role = passes.role;
       in_label = λ beyond. absurd (cc (beyond, waits));
@@ -62,12 +69,15 @@ passing-fits p k j back on g here there passes next =
     begins_elsewhere : (a b : ℕ) (P : Type 0) → nat_eq a b ≡ false → a ≡ b → P
     begins_elsewhere a b P apart e = let is : nat_eq a b ≡ true = grind arith in absurd (cc (apart, is))
 
-pub put-fits : (t : LegTable) (o : List FibreClaims) (g : Leg) → TablesFit t o → find_leg g.lsp t.legs ≡ None → length t.legs < 4096 →
+pub put-fits : (t : LegTable) (o : List FibreClaims) (g : Leg) → TablesFit t o → find_leg g.lsp t.legs ≡ None →
+    length t.legs < 4096 →
     taken g ≡ None → ((next : ℕ) → LegFits (local_of t) next g) → TablesFit (record t { legs = with_leg g t.legs }) o
 put-fits t o g fits new room none here =
     let next = fits.legs.0 in
     let some : 1 ≤ next = fits.legs.1 in
-    let freed : ClaimsFit (with_leg g t.legs) (freed_of g.lsp (taken_of (find_leg g.lsp t.legs)) o) = given-up g.lsp t.legs (with_leg g t.legs) o fits.owner.claims (left-with g t.legs none) in
+    let after = with_leg g t.legs in
+    let freed : ClaimsFit after (freed_of g.lsp (taken_of (find_leg g.lsp t.legs)) o) =
+    given-up g.lsp t.legs after o fits.owner.claims (left-with g t.legs none) in
     record {
       links = fits.links;
       legs = (next, some, legs-more (local_of t) next next g t.legs (omega arith) fits.legs.2 room (here next));

@@ -1,5 +1,5 @@
--- What a Resv and a PathErr do to the leg at a node of these tables. What becomes of the call at the ingress isn't told here: it's as
--- at a node without calls.
+-- What a Resv and a PathErr do to the leg at a node of these tables. What becomes of the call at the ingress isn't told
+-- here: it's as at a node without calls.
 use Rattle.std.specs.Prelude.{ℕ, ◌&&◌, Bool, true, false, List, Option, Some, None}
 use Rattle.ason_base.specs.declared.ids.NodeId.{NodeId}
 use Rattle.ason_base.specs.declared.messages.Msg.{Msg}
@@ -13,6 +13,7 @@ use Rattle.mesh_rules.specs.Messages.{arrival}
 use Rattle.mesh_rules.specs.PathErrs.{PathFailure, err_passed, on_path_err, removed}
 use Rattle.mesh_rules.specs.Resvs.{answered, is_expected, labels_left, on_resv}
 use Rattle.mesh_rules.specs.State.{new_node}
+use Rattle.leg_table.specs.Fits.{legs_after}
 use Rattle.leg_table.specs.States.{legs_state, local_of}
 use Rattle.leg_table.specs.Tables.{LegTable}
 
@@ -29,6 +30,9 @@ err_passed_here g e = err_passed new_node g e (previous g)
 
 abbrev pub removed_here : Leg → PathFailure → Answer
 removed_here g e = removed new_node g e
+
+abbrev pub resv_here : LegTable → Arrival → ℕ → Answer
+resv_here t a x = on_resv (local_of t) (legs_state t) a x
 
 -- Where the call follows
 
@@ -81,3 +85,11 @@ path_err_answer t u (PathTear l e k) = nothing
 path_err_answer t u (PathErr l e at gone code) =
     on_path_err (legs_state t) u (record { lsp = l; msg = PathErr l e at gone code; removed = gone; code = code })
 path_err_answer t u (Notify l e at k code) = nothing
+
+-- The tables after it
+
+abbrev pub after_resv : LegTable → NodeId → Msg → LegTable
+after_resv t u m = legs_after t (resv_answer t u m)
+
+abbrev pub after_path_err : LegTable → NodeId → Msg → LegTable
+after_path_err t u m = legs_after t (path_err_answer t u m)

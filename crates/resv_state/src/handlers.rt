@@ -1,8 +1,8 @@
 //! A Resv and a PathErr carried out over a node's tables and owner.
 
 ghost use Rattle.std.specs.Prelude.{◌≡◌, [], IfOk, OnErr, OnOk};
-ghost use Rattle.leg_table.specs.Fits.{TablesFit, legs_after};
-ghost use Rattle.resv_state.specs.Answers.{path_err_answer, resv_answer};
+ghost use Rattle.leg_table.specs.Fits.{TablesFit};
+ghost use Rattle.resv_state.specs.Answers.{after_path_err, after_resv, path_err_answer, resv_answer};
 
 use crate::path_errs::path_err_change;
 use crate::resvs::resv_change;
@@ -12,8 +12,9 @@ use leg_table::handling::handle;
 use link_owner::Owner;
 use std::alloc::Global;
 
-/// Takes a Resv: the leg that waits for it is cross-connected and the Resv goes back, or no label is left and the LSP is torn. Hands
-/// back what is to be sent, in order. A message of another kind changes nothing, nor does anything after want of memory.
+/// Takes a Resv: the leg that waits for it is cross-connected and the Resv goes back, or no label is left and the LSP is
+/// torn. Hands back what is to be sent, in order. A message of another kind changes nothing. After want of memory nothing
+/// has changed.
 pub fn resv(
     alloc: Global,
     tables: &mut NodeTables,
@@ -22,7 +23,7 @@ pub fn resv(
     msg: &Msg,
 ) -> Result<Outs, OutOfMemory>
     requires { TablesFit tables.old owner.old }
-    ensures ok { OnOk result (tables.new ≡ legs_after tables.old (resv_answer tables.old from msg.now)) }
+    ensures ok { OnOk result (tables.new ≡ after_resv tables.old from msg.now) }
     ensures sent { IfOk result (λ outs. outs ≡ (resv_answer tables.old from msg.now).sent) }
     ensures none { (resv_answer tables.old from msg.now).legs ≡ [] → owner.new ≡ owner.old }
     ensures fits { TablesFit tables.new owner.new }
@@ -33,8 +34,9 @@ pub fn resv(
     handle(alloc, tables, owner, change)
 }
 
-/// Takes a PathErr: with Path_State_Removed it takes an Asked leg away and is passed back, or a torn leg, whose next node has let go.
-/// Hands back what is to be sent, in order. A message of another kind changes nothing, nor does anything after want of memory.
+/// Takes a PathErr: with Path_State_Removed it takes an Asked leg away and is passed back, or a torn leg, whose next node has
+/// let go. Hands back what is to be sent, in order. A message of another kind changes nothing. After want of memory nothing
+/// has changed.
 pub fn path_err(
     alloc: Global,
     tables: &mut NodeTables,
@@ -43,7 +45,7 @@ pub fn path_err(
     msg: &Msg,
 ) -> Result<Outs, OutOfMemory>
     requires { TablesFit tables.old owner.old }
-    ensures ok { OnOk result (tables.new ≡ legs_after tables.old (path_err_answer tables.old from msg.now)) }
+    ensures ok { OnOk result (tables.new ≡ after_path_err tables.old from msg.now) }
     ensures sent { IfOk result (λ outs. outs ≡ (path_err_answer tables.old from msg.now).sent) }
     ensures none { (path_err_answer tables.old from msg.now).legs ≡ [] → owner.new ≡ owner.old }
     ensures fits { TablesFit tables.new owner.new }

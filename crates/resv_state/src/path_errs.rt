@@ -111,8 +111,8 @@ pub fn refuses(tables: &NodeTables, from: NodeId, msg: &Msg) -> bool
     }
 }
 
-/// What a PathErr would change and send: one that tells that the state was removed takes an Asked or a torn leg away. A message of
-/// another kind does nothing.
+/// What a PathErr would change and send: one that tells that the state was removed takes an Asked or a torn leg away. A
+/// message of another kind does nothing.
 pub fn path_err_change(
     alloc: Global,
     tables: &NodeTables,

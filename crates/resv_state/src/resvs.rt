@@ -3,11 +3,11 @@
 ghost use Rattle.std.specs.Prelude.{◌≡◌, [], IfOk, IsTrue, None, Some};
 ghost use Rattle.mesh_rules.specs.Changes.{puts};
 ghost use Rattle.mesh_rules.specs.Legs.{connected, find_leg};
-ghost use Rattle.mesh_rules.specs.Resvs.{is_expected, label_back, label_passed, on_resv, torn_both_ways};
+ghost use Rattle.mesh_rules.specs.Resvs.{is_expected, label_back, label_passed, torn_both_ways};
 ghost use Rattle.leg_table.specs.Fits.{TablesFit};
 ghost use Rattle.leg_table.specs.LegClaims.{is_fibre_in};
-ghost use Rattle.leg_table.specs.States.{legs_state, local_of};
-ghost use Rattle.resv_state.specs.Answers.{answered_here, begins_here, connects, connects_leg, left_here, resv_answer};
+ghost use Rattle.leg_table.specs.States.{local_of};
+ghost use Rattle.resv_state.specs.Answers.{answered_here, begins_here, connects, connects_leg, left_here, resv_answer, resv_here};
 
 use ason_base::codes::LABEL;
 use ason_base::{Label, LabelSet, Leg, LinkId, Lsp, Msg, NodeId, OutOfMemory};
@@ -142,7 +142,7 @@ fn on_resv(
     label: Label,
 ) -> Result<Change, OutOfMemory>
     requires { TablesFit tables.now owner.now }
-    ensures { IfOk result (λ c. c ≡ on_resv (local_of tables.now) (legs_state tables.now) arrival label) }
+    ensures { IfOk result (λ c. c ≡ resv_here tables.now arrival label) }
 {
     match tables.get(&arrival.lsp) {
         Some(leg) if expects(arrival, label, leg) => {
@@ -183,8 +183,8 @@ pub fn connects(tables: &NodeTables, from: NodeId, msg: &Msg) -> bool
     }
 }
 
-/// What a Resv would change and send: the leg that waits for it is cross-connected and the Resv goes back, or the LSP is torn. A
-/// message of another kind does nothing.
+/// What a Resv would change and send: the leg that waits for it is cross-connected and the Resv goes back, or the LSP is
+/// torn. A message of another kind does nothing.
 pub fn resv_change(
     alloc: Global,
     tables: &NodeTables,

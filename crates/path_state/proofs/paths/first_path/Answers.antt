@@ -10,5 +10,6 @@ judge-requires-clause-link c =
     let l = c.in-Some.link.now in
     let k = c.request.inside.arrival.link in
     let u = c.request.inside.arrival.from in
-    let led : leads (Some l) u t.node.id ≡ true = subst (λ n. leads (Some l) u n.id ≡ true) c.node.ensures (sym c.leads.ensures ∙ c.if-leads.true) in
+    let led : leads (Some l) u t.node.id ≡ true = subst (λ n. leads (Some l) u n.id ≡ true) c.node.ensures
+    (sym c.leads.ensures ∙ c.if-leads.true) in
     sender-fibre_in t c.args.owner.now k l u c.requires (sym c.in-Some.ensures) led
