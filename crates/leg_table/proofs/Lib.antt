@@ -4,7 +4,6 @@ pub mod ClaimChanges
 mod Halved
 pub mod InFibres
 pub mod LegOrder
-mod LspOrder
 pub mod MayPut
 mod NewPlaces
 mod Orders

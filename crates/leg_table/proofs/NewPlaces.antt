@@ -13,7 +13,7 @@ use Rattle.mesh_rules.specs.Calls.{find_call, has_number, is_call_at_or_after, w
 use Rattle.mesh_rules.specs.Legs.{find_leg, has_lsp, is_at_or_after, with_leg}
 use Rattle.leg_table.specs.Tables.{CallsRise, LegsRise, is_of_lsp, is_of_number}
 use Rattle.leg_table.proofs.Halved.{InOrder, passes-first, rises-insert}
-use Rattle.leg_table.proofs.LspOrder.{before-total}
+use Rattle.mesh_nodes.proofs.LegList.{before-total}
 use Rattle.leg_table.proofs.Orders.{calls_in_order, legs_in_order}
 use Rattle.leg_table.proofs.Places.{with_call-place, with_leg-place}
 

@@ -10,14 +10,10 @@ use Rattle.mesh_rules.specs.Calls.{is_call_at_or_after}
 use Rattle.mesh_rules.specs.Legs.{is_at_or_after}
 use Rattle.leg_table.specs.Tables.{CallsRise, LegsRise, is_of_lsp, is_of_number}
 use Rattle.leg_table.proofs.Halved.{InOrder}
-use Rattle.leg_table.proofs.LspOrder.{before-apart, before-before}
+use Rattle.mesh_nodes.proofs.LegList.{before-before, same_lsp-eq}
 
-same-eq : (a b : Lsp) → same_lsp a b ≡ true → a ≡ b
-same-eq a b e =
-    let p : a.ingress.0 ≡ b.ingress.0 = grind arith in
-    let q : a.tunnel ≡ b.tunnel = grind arith in
-    let r : a.lsp ≡ b.lsp = grind arith in
-    λ i. record { ingress = record { 0 = p i }; tunnel = q i; lsp = r i }
+before-apart : (a b : Lsp) → lsp_before a b ≡ true → same_lsp b a ≡ false
+before-apart a b e = grind arith
 
 or_left : (a b : Bool) → a ≡ true → (a || b) ≡ true
 or_left a b e = rw e refl
@@ -31,7 +27,7 @@ after : (l a b : Lsp) → (same_lsp a l || lsp_before l a) ≡ true → lsp_befo
 after l a b h less = go (same_lsp a l) refl h
   where
     go : (s : Bool) → same_lsp a l ≡ s → (s || lsp_before l a) ≡ true → lsp_before l b ≡ true
-    go true e h = subst (λ m. lsp_before m b ≡ true) (same-eq a l e) less
+    go true e h = subst (λ m. lsp_before m b ≡ true) (same_lsp-eq a l e) less
     go false e h = before-before l a b h less
 
 pub legs_in_order : (l : Lsp) (legs : List Leg) → LegsRise legs → InOrder (is_of_lsp l) (is_at_or_after l) legs
