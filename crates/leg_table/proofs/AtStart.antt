@@ -25,7 +25,8 @@ none-there : (n : NodeId) (f : Fibre) (links : List LinkSpec) → claims_of f (m
 none-there n f [] = refl
 none-there n f (l ∷ links) = go (is_fibre f (fibre_unclaimed n l)) (none-there n f links)
   where
-    go : (b : Bool) → claims_of f (map (fibre_unclaimed n) links) ≡ [] → cond b [] (claims_of f (map (fibre_unclaimed n) links)) ≡ []
+    go : (b : Bool) → claims_of f (map (fibre_unclaimed n) links) ≡ [] →
+        cond b [] (claims_of f (map (fibre_unclaimed n) links)) ≡ []
     go true e = refl
     go false e = e
 
@@ -38,7 +39,8 @@ found-passes : {X : Type 0} (test : X → Bool) (xs : List X) (x : X) → find t
 found-passes test [] x e = absurd (cc e)
 found-passes test (y ∷ xs) x e = go (test y) refl e (found-passes test xs x)
   where
-    go : (b : Bool) → test y ≡ b → cond b (Some y) (find test xs) ≡ Some x → (find test xs ≡ Some x → test x ≡ true) → test x ≡ true
+    go : (b : Bool) → test y ≡ b → cond b (Some y) (find test xs) ≡ Some x → (find test xs ≡ Some x → test x ≡ true) →
+        test x ≡ true
     go true passes f later = let is : y ≡ x = cc f in subst (λ z. test z ≡ true) is passes
     go false passes f later = later f
 
@@ -49,7 +51,8 @@ is-local : (t : Network) (n : NodeId) → local_of (new_table t n) ≡ local_nod
 is-local t n = go (find_node t n) refl
   where
     go : (o : Option NodeSpec) → find_node t n ≡ o → local_of (table_of t n (node_or_none n o)) ≡ local_node t n
-    go None found = ap (λ b. record { id = n; convert = b; own = filter (touches n) t.links }) (sym (ap local.converts found))
+    go None found = ap (λ b. record { id = n; convert = b; own = filter (touches n) t.links })
+        (sym (ap local.converts found))
     go (Some node) found =
         let number = same-number node.id.0 n.0 (found-passes (λ m. nat_eq m.id.0 n.0) t.nodes node found) in
         let converts = sym (ap local.converts found) in
@@ -72,7 +75,10 @@ module _ (t : Network) (n : NodeId) (valid : IsTopology t) where
   start-fits = record {
     links = subst LocalNodeFits (sym (is-local t n)) (new-place t n valid);
     legs = (1, omega arith, record { rise = tt; each = tt; few = omega arith });
-    owner = record { claims = claims-fit; fibres = subst (λ p. OwnerFits p (none_claimed t n)) (sym (is-local t n)) owner-fits };
+    owner = record {
+      claims = claims-fit;
+      fibres = subst (λ p. OwnerFits p (none_claimed t n)) (sym (is-local t n)) owner-fits;
+    };
   }
 
 -- as many rows as links
@@ -87,5 +93,6 @@ at_start-is t n s is =
     subst (λ x. (local_of x ≡ local_node t n) × (state_of x no_call ≡ new_node)) (sym is)
     (is-local t n, ap (λ rs. record new_node { learnt = rs }) rows)
 
-pub at_start-fits : (t : Network) (n : NodeId) (s : LegTable) → IsTopology t → s ≡ new_table t n → TablesFit s (none_claimed t n)
+pub at_start-fits : (t : Network) (n : NodeId) (s : LegTable) → IsTopology t → s ≡ new_table t n →
+    TablesFit s (none_claimed t n)
 at_start-fits t n s valid is = subst (λ x. TablesFit x (none_claimed t n)) (sym is) (start-fits t n valid)

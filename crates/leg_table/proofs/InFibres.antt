@@ -42,9 +42,11 @@ if-is P o x e here = subst (λ y. IfSome y P) e here
 
 -- the fibre by which a message came that its sender's link leads on
 pub sender-fibre_in : (t : LegTable) (o : List FibreClaims) (k : LinkId) (l : LinkSpec) (u : NodeId) → TablesFit t o →
-    own_link (local_of t) k ≡ Some l → leads (Some l) u t.node.id ≡ true → is_fibre_in (local_of t) (fibre_in l t.node.id) ≡ true
+    own_link (local_of t) k ≡ Some l → leads (Some l) u t.node.id ≡ true →
+    is_fibre_in (local_of t) (fibre_in l t.node.id) ≡ true
 sender-fibre_in t o k l u fits own led =
-    upstream-fibre_in (local_of t) (record { node = u; fibre = fibre_in l t.node.id }) (sender-upstream (local_of t) k l u fits.links own led)
+    upstream-fibre_in (local_of t) (record { node = u; fibre = fibre_in l t.node.id })
+    (sender-upstream (local_of t) k l u fits.links own led)
 
 -- the fibre by which a leg comes in
 pub previous-fibre_in : (t : LegTable) (o : List FibreClaims) (l : Lsp) (g : Leg) (h : Neighbour) → TablesFit t o →
@@ -52,4 +54,5 @@ pub previous-fibre_in : (t : LegTable) (o : List FibreClaims) (l : Lsp) (g : Leg
 previous-fibre_in t o l g h fits found before =
     let next = fits.legs.0 in
     let here : LegFits (local_of t) next g = found-all (LegFits (local_of t) next) l t.legs g found fits.legs.2.each in
-    upstream-fibre_in (local_of t) h (if-is (λ k. IsTrue (is_upstream (local_of t) k)) (previous g) h before here.upstream)
+    upstream-fibre_in (local_of t) h
+    (if-is (λ k. IsTrue (is_upstream (local_of t) k)) (previous g) h before here.upstream)

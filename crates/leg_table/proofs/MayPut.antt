@@ -19,8 +19,8 @@ least-has [] x e = absurd (cc e)
 least-has (y ∷ xs) x e = let is : y ≡ x = cc in let test : nat_eq y x ≡ true = grind arith in rw test refl
 
 -- the label of a set that is met by usable ones
-pub met-usable : (p : LocalNode) (legs : List Leg) (f : Fibre) (set : List ℕ) (x : ℕ) → has (meet set (usable p legs f)) x ≡ true →
-    has (usable p legs f) x ≡ true
+pub met-usable : (p : LocalNode) (legs : List Leg) (f : Fibre) (set : List ℕ) (x : ℕ) →
+    has (meet set (usable p legs f)) x ≡ true → has (usable p legs f) x ≡ true
 met-usable p legs f set x h =
     both_right (has set x) (has (usable p legs f) x) (sym (has-filter (has (usable p legs f)) set x) ∙ h)
 

@@ -13,8 +13,8 @@ use Rattle.leg_table.specs.Tables.{LegTable}
 abbrev pub OwnLegsFit : LegTable → Type 0
 OwnLegsFit t = (next : ℕ) × (1 ≤ next) × LegsFit (local_of t) next t.legs
 
--- the node is an end of each of its links; its legs come and go over them; the owner has the fibres that come in over them, and its
--- claims are the labels that the legs take
+-- the node is an end of each of its links; its legs come and go over them; the owner has the fibres that come in over
+-- them, and its claims are the labels that the legs take
 pub record TablesFit (t : LegTable) (o : List FibreClaims) : Type 0 where
   pub links : LocalNodeFits (local_of t)
   pub legs : OwnLegsFit t
