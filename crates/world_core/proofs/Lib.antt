@@ -1,0 +1,4 @@
+pub mod Channels
+pub mod Ends
+pub mod Example
+pub mod Ways

@@ -1,0 +1,5 @@
+pub mod Frames
+pub mod Images
+pub mod Laws
+pub mod Runs
+pub mod Worlds

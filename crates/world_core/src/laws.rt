@@ -1,0 +1,23 @@
+//! Laws over every run of a world.
+
+ghost use Rattle.world_core.specs.Laws.{ChannelsHaveTheFrames, EventsAreCounted, EveryImageHasTheLaws, EveryRunIsShown};
+ghost use Rattle.world_core.specs.Laws.{NoiseIsNotShown, OnlyTheNextIsShown, QuietIsShown};
+
+use hop_reliable::laws::every_schedule;
+use mesh_laws::laws::every_run;
+
+/// The events of the mesh that a run of a world gives are a run of the mesh, and it leads to the image of the last world. Noise
+/// leaves the image as it was, and so does a packet that isn't the next one of its hop. Where every desk is empty and nothing is
+/// unacknowledged, nothing is under way in the image. The laws of the mesh hold of the image of each world that a run leads to.
+pub fn every_world_run()
+    ensures image { EveryRunIsShown }
+    ensures noise { NoiseIsNotShown }
+    ensures unmoved { OnlyTheNextIsShown }
+    ensures quiet { QuietIsShown }
+    ensures channels { ChannelsHaveTheFrames }
+    ensures counts { EventsAreCounted }
+    ensures laws { EveryImageHasTheLaws }
+{
+    every_schedule();
+    every_run();
+}
