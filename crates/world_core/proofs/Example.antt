@@ -68,7 +68,7 @@ acks_of : Content → List ℕ
 acks_of (Message p) = map (λ ack. ack.number) p.acks
 
 is_acked_first : map acks_of (last.channels 2 1) ≡ (1 ∷ []) ∷ [] ∷ (1 ∷ []) ∷ []
-unfolding network events setup a b link numbers_from last
+unfolding network events setup a b link numbers_from last acks_of
 is_acked_first = refl
 
 -- node b took two frames that came once and one that came twice
