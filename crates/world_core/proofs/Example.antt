@@ -1,8 +1,9 @@
 -- One run of a world, worked out: a call over one link, with a frame that comes twice and acknowledgements that come late.
 use Rattle.std.proofs.Common.{◌≡◌, ℕ, false, true, List, [], ◌∷◌, refl, map}
-use Rattle.std.specs.Prelude.{Some, None}
+use Rattle.std.specs.Prelude.{Option, Some, None}
 use Rattle.ason_base.specs.declared.ids.LinkId.{LinkId}
 use Rattle.ason_base.specs.declared.ids.NodeId.{NodeId}
+use Rattle.ason_base.specs.declared.messages.MsgId.{MsgId}
 use Rattle.ason_base.specs.declared.messages.Packet.{Packet}
 use Rattle.ason_base.specs.declared.commands.Command.{Command}
 use Rattle.ason_base.specs.declared.commands.Command.TheVariants.{Setup}
@@ -10,11 +11,11 @@ use Rattle.ason_base.specs.declared.commands.Event.{Event}
 use Rattle.ason_base.specs.declared.commands.Event.TheVariants as world
 use Rattle.ason_base.specs.Labels.{numbers_from}
 use Rattle.ason_base.specs.Network.{Network}
-use Rattle.hop_reliable.specs.declared.heard.Heard.TheVariants.{Repeat, Acked}
 use Rattle.mesh_rules.specs.declared.events.MeshEvent.TheVariants.{Take, Desk, Post}
-use Rattle.world_core.specs.Frames.{Content, Message}
+use Rattle.rsvp_messages.specs.Packets.{Spells}
+use Rattle.world_core.specs.Frames.{Content, Message, SpellsNothing}
 use Rattle.world_core.specs.Worlds.{World, start}
-use Rattle.world_core.specs.Runs.{IsEnabled, IsRun, after}
+use Rattle.world_core.specs.Runs.{IsEnabled, IsRun, after, step}
 use Rattle.world_core.specs.Images.{mesh_events}
 
 a : NodeId
@@ -32,6 +33,9 @@ network = record {
   nodes = record { id = a; convert = true } ∷ record { id = b; convert = true } ∷ [];
   links = record { id = link; low = a; high = b; labels = 1; metric = 1; srlgs = [] } ∷ [];
 }
+
+first : MsgId
+first = record { epoch = 1; number = 1 }
 
 setup : Command
 setup = Setup (record { 0 = 0 }) a b false false (Some (record { node = a; link = link } ∷ [])) None
@@ -62,23 +66,96 @@ is_settled : (last.ends 1 2).hop.unacked ≡ []
 unfolding network events setup a b link numbers_from last
 is_settled = refl
 
--- a node's own acknowledgement goes before the message that the rule sends, and a repeated frame is acknowledged again
+-- A node's acknowledgement goes before what the rule sends, and a frame that comes again is acknowledged again.
 
 acks_of : Content → List ℕ
 acks_of (Message p) = map (λ ack. ack.number) p.acks
 
-is_acked_first : map acks_of (last.channels 2 1) ≡ (1 ∷ []) ∷ [] ∷ (1 ∷ []) ∷ []
+acknowledged : map acks_of (last.channels 2 1) ≡ (1 ∷ []) ∷ [] ∷ (1 ∷ []) ∷ []
 unfolding network events setup a b link numbers_from last acks_of
-is_acked_first = refl
+acknowledged = refl
 
--- node b took two frames that came once and one that came twice
-is_counted : last.made 2 ≡ 3
+-- Node b took a frame, the same again, and one more. The Post is of no node.
+
+counted : last.made 2 ≡ 3
 unfolding network events setup a b link numbers_from last
-is_counted = refl
+counted = refl
 
--- What isn't enabled after it: the frame after the last one of a channel, frame 0, a node that isn't of the topology, an empty desk, the
--- number of a call that was posted.
-
-not_sent : IsEnabled network last (world.Deliver b a 3) ≡ (false ≡ true)
+all_counted : last.made 1 ≡ 3
 unfolding network events setup a b link numbers_from last
-not_sent = refl
+all_counted = refl
+
+-- What is acknowledged doesn't go again, and what isn't does, as it was.
+
+before_the_acks : World
+before_the_acks = after network start (world.Post setup ∷ world.Desk a ∷ [])
+
+numbers_of : Content → List (Option MsgId)
+numbers_of (Message p) = p.id ∷ []
+
+again : map numbers_of ((step network before_the_acks (world.Tick a)).channels 1 2) ≡ (Some first ∷ []) ∷ (Some first ∷ []) ∷ []
+unfolding network setup a b link numbers_from before_the_acks numbers_of first
+again = refl
+
+not_again : (step network last (world.Tick a)).channels 1 2 ≡ last.channels 1 2
+unfolding network events setup a b link numbers_from last
+not_again = refl
+
+-- What isn't enabled after the run: a frame that wasn't sent, frame 0, a frame on no channel, noise that spells a packet, a tick of no
+-- node of the topology, an empty desk, a call number that was posted.
+
+IsRefused : World → Event → Type 0
+IsRefused w e = IsEnabled network w e → ⊥
+
+c : NodeId
+c = record { 0 = 3 }
+
+not_sent : IsRefused last (world.Deliver b a 4)
+unfolding network events setup a b link numbers_from last IsRefused
+not_sent e = absurd (cc (e))
+
+not_from_zero : IsRefused last (world.Deliver b a 0)
+unfolding network events setup a b link numbers_from last IsRefused
+not_from_zero e = absurd (cc (e))
+
+no_channel : IsRefused last (world.Deliver a a 1)
+unfolding network events setup a b link numbers_from last IsRefused
+no_channel e = absurd (cc (e))
+
+no_noise : (body : List ℕ) (p : Packet) → Spells body p → IsRefused last (world.Noise b a (46 ∷ body))
+unfolding IsRefused
+no_noise body p spelled e = e.1 (Message p) (body, refl, spelled)
+
+no_node : IsRefused last (world.Tick c)
+unfolding network events setup a b c link numbers_from last IsRefused
+no_node e = absurd (cc (e))
+
+no_item : IsRefused last (world.Desk a)
+unfolding network events setup a b link numbers_from last IsRefused
+no_item e = absurd (cc (e))
+
+not_twice : IsRefused last (world.Post setup)
+unfolding network events setup a b link numbers_from last IsRefused
+not_twice e = absurd (cc (e))
+
+-- A node that made 50,000 events makes no other, and one that made one less does.
+
+with_made : ℕ → World
+with_made k = record last { made = λ n. k }
+
+not_at_the_limit : IsRefused (with_made 50000) (world.Tick a)
+unfolding network events setup a b link numbers_from last with_made IsRefused
+not_at_the_limit e = absurd (cc (e))
+
+below_the_limit : IsEnabled network (with_made 49999) (world.Tick a)
+unfolding network events setup a b link numbers_from last with_made
+below_the_limit = refl
+
+-- Bytes that don't begin with 46 spell nothing.
+
+noise : IsEnabled network last (world.Noise b a (7 ∷ []))
+unfolding network events setup a b link numbers_from last
+noise = (refl, other)
+  where
+    other : SpellsNothing (7 ∷ [])
+    other (Message p) (body, e, spelled) = absurd (cc (e))
