@@ -106,11 +106,6 @@ pub record IsStep (before : Kept) (e : MeshEvent) (after : Kept) : Type 0 where
   pub mesh : mesh_of after ≡ step before.seats.network (mesh_of before) e
   pub network : after.seats.network ≡ before.seats.network
 
--- nothing waits: each desk is empty, and no message is under way
-pub record IsQuiet (s : Mesh) : Type 0 where
-  pub desks : (n : ℕ) → s.desks n ≡ []
-  pub mail : (u d : ℕ) → s.mail u d ≡ []
-
 -- why an event changed nothing: memory was refused where it is enabled, and else it isn't enabled
 abbrev pub fault_if : Bool → StepFault
 fault_if true = OutOfMemory

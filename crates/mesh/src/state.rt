@@ -8,7 +8,8 @@ ghost use Rattle.mesh_rules.specs.Events.{has_first, is_enabled, knows, step};
 ghost use Rattle.mesh_rules.specs.Machine.{start};
 ghost use Rattle.mesh_rules.specs.Rows.{all_call_rows, all_leg_rows};
 ghost use Rattle.mesh_rules.specs.declared.events.MeshEvent.{MeshEvent};
-ghost use Rattle.mesh.specs.Kept.{IsQuiet, IsStep, acted, desk_of, fault_if, is_between, is_waiting, mail_of, mesh_of, sent_at};
+ghost use Rattle.mesh_rules.specs.Quiet.{IsQuiet};
+ghost use Rattle.mesh.specs.Kept.{IsStep, acted, desk_of, fault_if, is_between, is_waiting, mail_of, mesh_of, sent_at};
 
 use crate::nodes::Nodes;
 use crate::queues::{Sent, Waiting, first_item, first_message, order, send};

@@ -9,6 +9,7 @@ pub mod Messages
 pub mod Orders
 pub mod PathErrs
 pub mod Paths
+pub mod Quiet
 pub mod Releases
 pub mod Resvs
 pub mod Rows

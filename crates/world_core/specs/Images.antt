@@ -47,8 +47,3 @@ mesh_events t w (e ∷ es) = given_by w e ++ mesh_events t (step t w e) es
 pub record IsQuiet (w : World) : Type 0 where
   pub desks : (n : ℕ) → w.desks n ≡ []
   pub hops : (u d : ℕ) → (w.ends u d).hop.unacked ≡ []
-
--- every desk and every list of messages is empty
-pub record IsQuietMesh (s : Mesh) : Type 0 where
-  pub desks : (n : ℕ) → s.desks n ≡ []
-  pub mail : (u d : ℕ) → s.mail u d ≡ []

@@ -8,11 +8,12 @@ use Rattle.ason_base.specs.Network.{Network}
 use Rattle.hop_reliable.specs.declared.heard.Heard.TheVariants.{Next}
 use Rattle.mesh_rules.specs.Machine as mesh
 use Rattle.mesh_rules.specs.Events as mesh_runs
+use Rattle.mesh_rules.specs.Quiet as mesh_quiet
 use Rattle.mesh_laws.specs.Laws.{LawsHold}
 use Rattle.world_core.specs.Frames.{Content, Message, packets_of}
 use Rattle.world_core.specs.Worlds.{World, start, frame_at, heard_at}
 use Rattle.world_core.specs.Runs.{IsRun, after, events_of, step}
-use Rattle.world_core.specs.Images.{image, mesh_events, IsQuiet, IsQuietMesh}
+use Rattle.world_core.specs.Images.{image, mesh_events, IsQuiet}
 
 -- the events that a run of a world gives are a run of the mesh, which leads to the image of the last world
 pub record IsShown (t : Network) (events : List Event) : Type 0 where
@@ -52,7 +53,7 @@ OnlyTheNextIsShown =
 abbrev pub QuietIsShown : Type 0
 QuietIsShown =
     (t : Network) (events : List Event) → IsRun t start events →
-    IsQuiet (after t start events) → IsQuietMesh (image (after t start events))
+    IsQuiet (after t start events) → mesh_quiet.IsQuiet (image (after t start events))
 
 -- the laws of the mesh hold of the image of each world that a run leads to
 abbrev pub EveryImageHasTheLaws : Type 0
