@@ -7,7 +7,7 @@ from pathlib import Path
 from .support import TOP
 
 PAGES = ["README.md", *sorted(f"docs/{path.name}" for path in (TOP / "docs").glob("*.md"))]
-ABOUT_SOURCES = [f"docs/{name}.md" for name in ("DECISIONS", "crates", "decode", "formats", "hop", "layout", "machine", "proof")]
+ABOUT_SOURCES = [f"docs/{name}.md" for name in ("DECISIONS", "crates", "decode", "formats", "hop", "layout", "machine", "proof", "world")]
 INDEX = "**In the sources"
 PARTS = ["definition", "code", "at a node", "along the route", "wrong body", "test"]
 ANTT = r"^\s*(?:(?:abbrev|unfoldable|pub|record|data)\s+)*{}\s*(?:[:({{]|$)"

@@ -1,6 +1,6 @@
 -- A channel has the packets that its sender's end of the hop made.
 use Rattle.std.proofs.Common.{◌≡◌, ℕ, zero, suc, ◌+◌, Bool, true, false, cond, List, [], ◌∷◌, ◌++◌, map, refl, sym, ap, ◌∙◌, append_assoc, append-nil}
-use Rattle.std.specs.Prelude.{Option, Some, None}
+use Rattle.std.specs.Prelude.{Some}
 use Rattle.std.specs.List.{slice_get}
 use Rattle.ason_base.specs.declared.messages.Msg.{Msg}
 use Rattle.ason_base.specs.declared.messages.Packet.{Packet}
@@ -59,7 +59,8 @@ among (Message q ∷ cs) zero p e = record { place = 0; there = cc }
 among (Message q ∷ cs) (suc k) p e =
     let later = among cs k p e in record { place = suc later.place; there = later.there }
 
-pub is-made : (cs : List Content) (x : HopEnd) (k : ℕ) (p : Packet) → HasPackets cs x → numbered_at cs k ≡ Some (Message p) → IsMade x p
+pub is-made : (cs : List Content) (x : HopEnd) (k : ℕ) (p : Packet) → HasPackets cs x →
+    numbered_at cs k ≡ Some (Message p) → IsMade x p
 is-made cs x zero p h e = absurd (cc (e))
 is-made cs x (suc k) p h e =
     let f = among cs k p e in record { place = f.place; there = ap (λ ps. slice_get ps f.place) (sym h) ∙ f.there }

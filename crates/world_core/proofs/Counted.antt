@@ -41,13 +41,15 @@ more w k n = by_test (nat_eq n k) refl
     by_test false e = let is : nat_eq k n ≡ false = grind arith in rw is (omega arith)
 
 made_step : (t : Network) (w : World) (e : Event) (n : ℕ) → (step t w e).made n ≡ w.made n + cond (is_event_of n e) 1 0
-made_step t w (Deliver d u k) n = ap (λ (f : ℕ → ℕ). f n) (made_delivered t (with_event w d.0) d u (frame_at w u d k)) ∙ more w d.0 n
+made_step t w (Deliver d u k) n =
+    ap (λ (f : ℕ → ℕ). f n) (made_delivered t (with_event w d.0) d u (frame_at w u d k)) ∙ more w d.0 n
 made_step t w (Noise d u bytes) n = more w d.0 n
 made_step t w (Tick m) n = more w m.0 n
 made_step t w (Desk m) n = more w m.0 n
 made_step t w (Post c) n = ap (λ (f : ℕ → ℕ). f n) (made_posted w c) ∙ omega arith
 
-counted : (t : Network) (events : List Event) (w : World) (n : ℕ) → (after t w events).made n ≡ w.made n + events_of n events
+counted : (t : Network) (events : List Event) (w : World) (n : ℕ) →
+    (after t w events).made n ≡ w.made n + events_of n events
 counted t [] w n = omega arith
 counted t (e ∷ es) w n =
     counted t es (step t w e) n ∙ ap (λ k. k + events_of n es) (made_step t w e n)
@@ -58,8 +60,10 @@ counted t (e ∷ es) w n =
     sum a b c = omega arith
 
 -- an enabled event is of a node that made fewer than 50,000
-below_at : (t : Network) (w : World) (k : NodeId) (n : ℕ) → may_act t w k ≡ true → nat_eq k.0 n ≡ true → w.made n < 50000
-below_at t w k n on same = let is : k.0 ≡ n = grind arith in subst (λ m. w.made m < 50000) is (less (is_node_id t.nodes k) (w.made k.0) on)
+below_at : (t : Network) (w : World) (k : NodeId) (n : ℕ) → may_act t w k ≡ true → nat_eq k.0 n ≡ true →
+    w.made n < 50000
+below_at t w k n on same =
+    let is : k.0 ≡ n = grind arith in subst (λ m. w.made m < 50000) is (less (is_node_id t.nodes k) (w.made k.0) on)
   where
     less : (b : Bool) (a : ℕ) → (b && nat_lt a 50000) ≡ true → a < 50000
     less b a on = grind arith
@@ -76,7 +80,8 @@ below t w (Tick m) n on of = below_at t w m n on of
 below t w (Desk m) n on of = below_at t w m n (first_of (may_act t w m) (has_first (w.desks m.0)) on) of
 below t w (Post c) n on of = absurd (cc (of))
 
-within : (t : Network) (events : List Event) (w : World) (n : ℕ) → IsRun t w events → w.made n ≤ 50000 → (after t w events).made n ≤ 50000
+within : (t : Network) (events : List Event) (w : World) (n : ℕ) → IsRun t w events → w.made n ≤ 50000 →
+    (after t w events).made n ≤ 50000
 within t [] w n run most = most
 within t (e ∷ es) w n run most = within t es (step t w e) n run.1 (by_test (is_event_of n e) refl)
   where

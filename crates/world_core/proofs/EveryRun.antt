@@ -12,13 +12,13 @@ use Rattle.world_core.specs.Worlds.{World, start}
 use Rattle.world_core.specs.Runs.{IsRun, after, step}
 use Rattle.world_core.specs.Images.{IsQuiet, given_by, image, mesh_events}
 use Rattle.world_core.specs.Laws.{ChannelsHaveTheFrames, EveryImageHasTheLaws, EveryRunIsShown, QuietIsShown}
-use Rattle.world_core.proofs.Ends.{pair}
 use Rattle.world_core.proofs.Reached.{AreReached, are-reached-run, are-reached-start, are-reached-step}
 use Rattle.world_core.proofs.Shown.{Shows, shows-step}
 use Rattle.world_core.proofs.Ways.{way-is}
 
 -- one run of the mesh after another
-shows_both : (t : Network) (es fs : List MeshEvent) (s s' s'' : Mesh) → Shows t s es s' → Shows t s' fs s'' → Shows t s (es ++ fs) s''
+shows_both : (t : Network) (es fs : List MeshEvent) (s s' s'' : Mesh) → Shows t s es s' → Shows t s' fs s'' →
+    Shows t s (es ++ fs) s''
 shows_both t [] fs s s' s'' first second = subst (λ z. Shows t z fs s'') (sym first.leads) second
 shows_both t (e ∷ es) fs s s' s'' first second =
     let rest = shows_both t es fs (mesh_runs.step t s e) s' s'' (record { run = first.run.1; leads = first.leads }) second in
@@ -39,14 +39,16 @@ pub channels-have-the-frames : ChannelsHaveTheFrames
 channels-have-the-frames t events run u d = (are-reached-run t events start run are-reached-start).channels u d
 
 pub every-image-has-the-laws : HandedUpInOrder → EveryRunKeepsTheLaws → EveryImageHasTheLaws
-every-image-has-the-laws law laws t events run = laws t (mesh_events t start events) (every-run-is-shown law t events run).run
+every-image-has-the-laws law laws t events run =
+    laws t (mesh_events t start events) (every-run-is-shown law t events run).run
 
 -- Quiet
 
 settled_way : (x y : HopEnd) → IsSettled x y → x.hop.unacked ≡ [] → under_way x y ≡ []
 settled_way x y settled none = way-is x y [] (append-nil y.up ∙ settled none)
 
-quiet_way : SettledIsDelivered → (w : World) → AreReached w → IsQuiet w → (u d : ℕ) → under_way (w.ends u d) (w.ends d u) ≡ []
+quiet_way : SettledIsDelivered → (w : World) → AreReached w → IsQuiet w → (u d : ℕ) →
+    under_way (w.ends u d) (w.ends d u) ≡ []
 quiet_way law w r quiet u d = by_test (nat_eq u d) refl
   where
     by_test : (b : Bool) → nat_eq u d ≡ b → under_way (w.ends u d) (w.ends d u) ≡ []

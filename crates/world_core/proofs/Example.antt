@@ -1,4 +1,5 @@
--- One run of a world, worked out: a call over one link, with a frame that comes twice and acknowledgements that come late.
+-- One run of a world, worked out: a call over one link, with a frame that comes twice and acknowledgements that come
+-- late.
 use Rattle.std.proofs.Common.{◌≡◌, ℕ, false, true, List, [], ◌∷◌, refl, map}
 use Rattle.std.specs.Prelude.{Option, Some, None}
 use Rattle.ason_base.specs.declared.ids.LinkId.{LinkId}
@@ -101,7 +102,8 @@ not_again : (step network last (world.Tick a)).channels 1 2 ≡ last.channels 1 
 unfolding network events setup a b link numbers_from last
 not_again = refl
 
--- What isn't enabled after the run: a frame that wasn't sent, frame 0, a frame on no channel, noise that spells a packet, a tick of no
+-- What isn't enabled after the run: a frame that wasn't sent, frame 0, a frame on no channel, noise that spells a
+-- packet, a tick of no
 -- node of the topology, an empty desk, a call number that was posted.
 
 IsRefused : World → Event → Type 0

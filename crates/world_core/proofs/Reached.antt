@@ -83,7 +83,8 @@ not_both a b u d e h = grind arith
 not_alone : (a u d : ℕ) → nat_eq u d ≡ false → (nat_eq a d && nat_eq a u) ≡ false
 not_alone a u d e = grind arith
 
-pub reached-taken : (w : World) (d u : NodeId) (p : Packet) → nat_eq u.0 d.0 ≡ false → IsMade (w.ends u.0 d.0) p → AreReached w →
+pub reached-taken : (w : World) (d u : NodeId) (p : Packet) → nat_eq u.0 d.0 ≡ false → IsMade (w.ends u.0 d.0) p →
+    AreReached w →
     AreReached (taken w d u p)
 reached-taken w d u p other made r = record {
   apart = λ a b e. both a b e (nat_eq a d.0 && nat_eq b u.0) refl (nat_eq b d.0 && nat_eq a u.0) refl;
@@ -91,7 +92,8 @@ reached-taken w d u p other made r = record {
   channels = λ a b. has-taken (nat_eq a d.0 && nat_eq b u.0) p (w.channels a b) (w.ends a b) (r.channels a b);
 }
   where
-    both : (a b : ℕ) → nat_eq a b ≡ false → (c : Bool) → (nat_eq a d.0 && nat_eq b u.0) ≡ c → (f : Bool) → (nat_eq b d.0 && nat_eq a u.0) ≡ f →
+    both : (a b : ℕ) → nat_eq a b ≡ false → (c : Bool) → (nat_eq a d.0 && nat_eq b u.0) ≡ c → (f : Bool) →
+        (nat_eq b d.0 && nat_eq a u.0) ≡ f →
         IsReached (pair (cond c (takes (Some p) (w.ends a b)) (w.ends a b)) (cond f (takes (Some p) (w.ends b a)) (w.ends b a)))
     both a b e true h true k = absurd (cc (not_both a b u.0 d.0 other h, k))
     both a b e true h false k =
@@ -107,18 +109,21 @@ reached-taken w d u p other made r = record {
     both a b e false h false k = r.apart a b e
 
 -- a frame that was sent was made at its sender's end
-pub reached-frame : (w : World) (d u : NodeId) (k : ℕ) (p : Packet) → nat_eq u.0 d.0 ≡ false → frame_at w u d k ≡ Some (Message p) → AreReached w →
+pub reached-frame : (w : World) (d u : NodeId) (k : ℕ) (p : Packet) → nat_eq u.0 d.0 ≡ false →
+    frame_at w u d k ≡ Some (Message p) → AreReached w →
     AreReached (taken w d u p)
 reached-frame w d u k p other e r =
     reached-taken w d u p other (is-made (w.channels u.0 d.0) (w.ends u.0 d.0) k p (r.channels u.0 d.0) e) r
 
 -- Every event
 
-reached_handled : (t : Network) (w : World) (d u : NodeId) (ms : List Msg) → AreReached w → AreReached (handled t w d u ms)
+reached_handled : (t : Network) (w : World) (d u : NodeId) (ms : List Msg) → AreReached w →
+    AreReached (handled t w d u ms)
 reached_handled t w d u [] r = r
 reached_handled t w d u (m ∷ ms) r = reached-commit w d.0 (on_message (local_node t d) (w.nodes d.0) u m) r
 
-reached_delivered : (t : Network) (w : World) (d u : NodeId) (k : ℕ) (o : Option Content) → nat_eq u.0 d.0 ≡ false → frame_at w u d k ≡ o →
+reached_delivered : (t : Network) (w : World) (d u : NodeId) (k : ℕ) (o : Option Content) → nat_eq u.0 d.0 ≡ false →
+    frame_at w u d k ≡ o →
     AreReached w → AreReached (delivered t w d u o)
 reached_delivered t w d u k None other e r = r
 reached_delivered t w d u k (Some (Message p)) other e r =
@@ -153,7 +158,8 @@ are-reached-step t w (Desk n) on r =
     (reached-item (with_event w n.0) n.0 (reached-event w n.0 r))
 are-reached-step t w (Post c) on r = reached_posted w c r
 
-pub are-reached-run : (t : Network) (events : List Event) (w : World) → IsRun t w events → AreReached w → AreReached (after t w events)
+pub are-reached-run : (t : Network) (events : List Event) (w : World) → IsRun t w events → AreReached w →
+    AreReached (after t w events)
 are-reached-run t [] w run r = r
 are-reached-run t (e ∷ es) w run r = are-reached-run t es (step t w e) run.1 (are-reached-step t w e run.0 r)
 

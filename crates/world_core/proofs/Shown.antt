@@ -13,7 +13,7 @@ use Rattle.ason_base.specs.Network.{Network, is_node_id}
 use Rattle.hop_reliable.specs.declared.heard.Heard.{Heard}
 use Rattle.hop_reliable.specs.declared.heard.Heard.TheVariants.{Acked, Unnumbered, Ahead, Repeat, Next}
 use Rattle.hop_reliable.specs.Hop.{heard_as, handed_up_of}
-use Rattle.hop_reliable.specs.Schedules.{HopEnd, HandedUpInOrder, IsInOrder, takes, ticks, under_way}
+use Rattle.hop_reliable.specs.Schedules.{HopEnd, HandedUpInOrder, IsInOrder, takes, ticks}
 use Rattle.mesh_rules.specs.declared.events.MeshEvent.{MeshEvent}
 use Rattle.mesh_rules.specs.Changes.{Answer}
 use Rattle.mesh_rules.specs.Events.{has_first, on_first, on_first_item}
@@ -25,7 +25,7 @@ use Rattle.mesh_rules.specs.Messages.{on_message}
 use Rattle.mesh_rules.specs.Orders.{on_tick}
 use Rattle.world_core.specs.Frames.{Content, Message}
 use Rattle.world_core.specs.Worlds.{World, commit, delivered, frame_at, handed_up, handled, heard_at, hops_ticked, taken, with_event}
-use Rattle.world_core.specs.Runs.{IsEnabled, is_channel, may_act, posted, step, without_item}
+use Rattle.world_core.specs.Runs.{IsEnabled, may_act, posted, step, without_item}
 use Rattle.world_core.specs.Images.{given_by, given_by_frame, image, taken_of}
 use Rattle.world_core.specs.Laws.{NoiseIsNotShown, OnlyTheNextIsShown}
 use Rattle.world_core.proofs.Reached.{AreReached, in-order, is-other, reached-event, reached-frame, reached-hops, reached-item}
@@ -33,7 +33,8 @@ use Rattle.world_core.proofs.Ways.{way-after, way-before, way-same, way-sends}
 
 -- A rule's answer
 
-pub image-commit : HandedUpInOrder → (w : World) → AreReached w → (n : ℕ) (a : Answer) → image (commit w n a) ≡ mesh.commit (image w) n a
+pub image-commit : HandedUpInOrder → (w : World) → AreReached w → (n : ℕ) (a : Answer) →
+    image (commit w n a) ≡ mesh.commit (image w) n a
 image-commit law w r n a = λ i. record {
   nodes = (image (commit w n a)).nodes;
   desks = w.desks;
@@ -76,7 +77,8 @@ up_same : (w : World) (d u : NodeId) (p : Packet) → handed_up w d u p ≡ [] �
     (cond (nat_eq a d.0 && nat_eq b u.0) (takes (Some p) (w.ends a b)) (w.ends a b)).up ≡ (w.ends a b).up
 up_same w d u p none a b = by_test (nat_eq a d.0 && nat_eq b u.0) refl
   where
-    by_test : (c : Bool) → (nat_eq a d.0 && nat_eq b u.0) ≡ c → (cond c (takes (Some p) (w.ends a b)) (w.ends a b)).up ≡ (w.ends a b).up
+    by_test : (c : Bool) → (nat_eq a d.0 && nat_eq b u.0) ≡ c →
+        (cond c (takes (Some p) (w.ends a b)) (w.ends a b)).up ≡ (w.ends a b).up
     by_test true h =
         let is = both_are a b u.0 d.0 h in
         ap (λ n. (w.ends a b).up ++ handed_up_of (heard_as (w.ends n b).hop p) p) is.0
@@ -108,7 +110,8 @@ here w d u p = rw (self_test d.0, self_test u.0) refl
 there : (w : World) (d u : NodeId) (p : Packet) → nat_eq u.0 d.0 ≡ false → (taken w d u p).ends u.0 d.0 ≡ w.ends u.0 d.0
 there w d u p other = rw other refl
 
-is_first : HandedUpInOrder → (w : World) (d u : NodeId) (p : Packet) (m : Msg) → nat_eq u.0 d.0 ≡ false → AreReached (taken w d u p) →
+is_first : HandedUpInOrder → (w : World) (d u : NodeId) (p : Packet) (m : Msg) → nat_eq u.0 d.0 ≡ false →
+    AreReached (taken w d u p) →
     handed_up w d u p ≡ m ∷ [] → IsFirst w d u p m
 is_first law w d u p m other r one =
     let taker = w.ends d.0 u.0 in
@@ -154,7 +157,8 @@ pub record Shows (t : Network) (s : Mesh) (es : List MeshEvent) (s' : Mesh) : Ty
   pub run : mesh_runs.IsRun t s es
   pub leads : mesh_runs.after t s es ≡ s'
 
-shows_handled : HandedUpInOrder → (t : Network) (w : World) (d u : NodeId) (p : Packet) (h : List Msg) → nat_eq u.0 d.0 ≡ false →
+shows_handled : HandedUpInOrder → (t : Network) (w : World) (d u : NodeId) (p : Packet) (h : List Msg) →
+    nat_eq u.0 d.0 ≡ false →
     AreReached (taken w d u p) → handed_up w d u p ≡ h → ((m : Msg) (ms : List Msg) → h ≡ m ∷ ms → ms ≡ []) →
     Shows t (image w) (taken_of d u h) (image (handled t (taken w d u p) d u h))
 shows_handled law t w d u p [] other r is one = record { run = tt; leads = sym (image_unmoved w d u p is) }
@@ -183,7 +187,8 @@ at_most_one Unnumbered p m ms e = absurd (cc (e))
 at_most_one Ahead p m ms e = absurd (cc (e))
 at_most_one Repeat p m ms e = absurd (cc (e))
 
-shows_delivered : HandedUpInOrder → (t : Network) (w : World) (d u : NodeId) (k : ℕ) (o : Option Content) → nat_eq u.0 d.0 ≡ false →
+shows_delivered : HandedUpInOrder → (t : Network) (w : World) (d u : NodeId) (k : ℕ) (o : Option Content) →
+    nat_eq u.0 d.0 ≡ false →
     frame_at w u d k ≡ o → AreReached w → Shows t (image w) (given_by_frame w d u o) (image (delivered t w d u o))
 shows_delivered law t w d u k None other e r = record { run = tt; leads = refl }
 shows_delivered law t w d u k (Some (Message p)) other e r =

@@ -27,7 +27,8 @@ way-same x y x' y' given up = ap (λ (ms : List Msg). drop (length ms) x'.given)
 -- what is sent goes to its end, whatever the other end sends
 pub way-sends : (b c : Bool) (ms ns : List Msg) (x y : HopEnd) → IsInOrder x y →
     under_way (cond b (sends_all ms x) x) (cond c (sends_all ns y) y) ≡ cond b (under_way x y ++ ms) (under_way x y)
-way-sends b c ms ns x y r = way-same (cond b (sends_all ms x) x) y (cond b (sends_all ms x) x) (cond c (sends_all ns y) y) refl (up c) ∙ sent b
+way-sends b c ms ns x y r =
+    way-same (cond b (sends_all ms x) x) y (cond b (sends_all ms x) x) (cond c (sends_all ns y) y) refl (up c) ∙ sent b
   where
     up : (c : Bool) → (cond c (sends_all ns y) y).up ≡ y.up
     up true = up-sends ns y
@@ -40,9 +41,11 @@ way-sends b c ms ns x y r = way-same (cond b (sends_all ms x) x) y (cond b (send
     sent false = refl
 
 -- a message that is handed up was the first of it
-pub way-before : (given up rest : List Msg) (m : Msg) → (up ++ m ∷ []) ++ rest ≡ given → drop (length up) given ≡ m ∷ rest
+pub way-before : (given up rest : List Msg) (m : Msg) → (up ++ m ∷ []) ++ rest ≡ given →
+    drop (length up) given ≡ m ∷ rest
 way-before given up rest m e = ap (drop (length up)) (sym e ∙ append_assoc up (m ∷ []) rest) ∙ drop_front up (m ∷ rest)
 
 -- and the others are left
-pub way-after : (given up rest : List Msg) (m : Msg) → (up ++ m ∷ []) ++ rest ≡ given → drop (length (up ++ m ∷ [])) given ≡ rest
+pub way-after : (given up rest : List Msg) (m : Msg) → (up ++ m ∷ []) ++ rest ≡ given →
+    drop (length (up ++ m ∷ [])) given ≡ rest
 way-after given up rest m e = ap (drop (length (up ++ m ∷ []))) (sym e) ∙ drop_front (up ++ m ∷ []) rest

@@ -13,10 +13,16 @@ use Rattle.world_core.specs.Frames.{Content, Message}
 use Rattle.world_core.specs.Worlds.{World, frame_at, handed_up}
 use Rattle.world_core.specs.Runs.{step}
 
--- Between two nodes are the messages that the sender's hop took for sending, in order, beyond those that the receiver's hop
+-- Between two nodes are the messages that the sender's hop took for sending, in order, beyond those that the receiver's
+-- hop
 -- handed up, whatever the channel has of them. All else is the world's.
 abbrev pub image : World → Mesh
-image w = record { nodes = w.nodes; desks = w.desks; mail = λ u d. under_way (w.ends u d) (w.ends d u); posted = w.posted }
+image w = record {
+  nodes = w.nodes;
+  desks = w.desks;
+  mail = λ u d. under_way (w.ends u d) (w.ends d u);
+  posted = w.posted;
+}
 
 -- The event of the mesh that an event of the world gives, if any
 

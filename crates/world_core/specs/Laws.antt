@@ -1,5 +1,5 @@
 -- What holds of every run of a world.
-use Rattle.std.specs.Prelude.{◌≡◌, ◌≢◌, ◌≤◌, ℕ, List, [], ◌∷◌, ◌++◌, Some}
+use Rattle.std.specs.Prelude.{◌≡◌, ◌≢◌, ◌≤◌, ℕ, List, Some}
 use Rattle.ason_base.specs.declared.ids.NodeId.{NodeId}
 use Rattle.ason_base.specs.declared.messages.Packet.{Packet}
 use Rattle.ason_base.specs.declared.commands.Event.{Event}
@@ -10,7 +10,7 @@ use Rattle.mesh_rules.specs.Machine as mesh
 use Rattle.mesh_rules.specs.Events as mesh_runs
 use Rattle.mesh_rules.specs.Quiet as mesh_quiet
 use Rattle.mesh_laws.specs.Laws.{LawsHold}
-use Rattle.world_core.specs.Frames.{Content, Message, packets_of}
+use Rattle.world_core.specs.Frames.{Message, packets_of}
 use Rattle.world_core.specs.Worlds.{World, start, frame_at, heard_at}
 use Rattle.world_core.specs.Runs.{IsRun, after, events_of, step}
 use Rattle.world_core.specs.Images.{image, mesh_events, IsQuiet}
@@ -43,7 +43,8 @@ abbrev pub NoiseIsNotShown : Type 0
 NoiseIsNotShown =
     (t : Network) (w : World) (d u : NodeId) (bytes : List ℕ) → image (step t w (Noise d u bytes)) ≡ image w
 
--- so does a packet that isn't the next one: an acknowledgement, a message that was handed up before, or one that is ahead
+-- so does a packet that isn't the next one: an acknowledgement, a message that was handed up before, or one that is
+-- ahead
 abbrev pub OnlyTheNextIsShown : Type 0
 OnlyTheNextIsShown =
     (t : Network) (w : World) (d u : NodeId) (k : ℕ) (p : Packet) → frame_at w u d k ≡ Some (Message p) →
@@ -57,4 +58,5 @@ QuietIsShown =
 
 -- the laws of the mesh hold of the image of each world that a run leads to
 abbrev pub EveryImageHasTheLaws : Type 0
-EveryImageHasTheLaws = (t : Network) (events : List Event) → IsRun t start events → LawsHold t (mesh_events t start events)
+EveryImageHasTheLaws =
+    (t : Network) (events : List Event) → IsRun t start events → LawsHold t (mesh_events t start events)

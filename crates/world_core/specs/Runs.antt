@@ -21,7 +21,8 @@ use Rattle.world_core.specs.Worlds.{World, commit, delivered, frame_at, ticked, 
 -- a channel leads from a node of the topology to another, where a link joins them
 abbrev pub is_channel : Network → NodeId → NodeId → Bool
 is_channel t u d =
-    is_node_id t.nodes u && is_node_id t.nodes d && not (u.0 == d.0) && list_any (λ l. are_ends l.low l.high u d) t.links
+    is_node_id t.nodes u && is_node_id t.nodes d && not (u.0 == d.0)
+    && list_any (λ l. are_ends l.low l.high u d) t.links
 
 -- the node is of the topology, and made fewer events than a node makes at most
 abbrev pub may_act : Network → World → NodeId → Bool
@@ -49,7 +50,8 @@ with_posted w n = record w { posted = w.posted ++ n ∷ [] }
 
 -- a call's command goes to the desk of its ingress; failures and repairs of groups change nothing
 abbrev pub posted : World → Command → World
-posted w (Setup n from to protected both via backup) = with_posted (with_item w from.0 (Order (Setup n from to protected both via backup))) n
+posted w (Setup n from to protected both via backup) =
+    with_posted (with_item w from.0 (Order (Setup n from to protected both via backup))) n
 posted w (Release n from) = with_item w from.0 (Order (Release n from))
 posted w (Protect n from) = with_item w from.0 (Order (Protect n from))
 posted w (Retry n from) = with_item w from.0 (Order (Retry n from))

@@ -65,7 +65,10 @@ abbrev pub commit : World → ℕ → Answer → World
 commit w n a = record w {
   nodes = λ m. if m == n then changed (w.nodes m) a else w.nodes m;
   ends = λ u d. if u == n then sends_all (sent_to d a.sent) (w.ends u d) else w.ends u d;
-  channels = λ u d. if u == n then with_packets (w.channels u d) (numbered_after (w.ends u d).hop.sent (sent_to d a.sent)) else w.channels u d;
+  channels = λ u d.
+      if u == n
+      then with_packets (w.channels u d) (numbered_after (w.ends u d).hop.sent (sent_to d a.sent))
+      else w.channels u d;
 }
 
 -- A frame is delivered: its acknowledgement leaves first, then what the rule of its message sends.
@@ -87,7 +90,10 @@ heard_at w d u p = heard_as (w.ends d.0 u.0).hop p
 abbrev pub taken : World → NodeId → NodeId → Packet → World
 taken w d u p = record w {
   ends = λ a b. if a == d.0 && b == u.0 then takes (Some p) (w.ends a b) else w.ends a b;
-  channels = λ a b. if a == d.0 && b == u.0 then with_packets (w.channels a b) (answers_to (heard_as (w.ends a b).hop p) p) else w.channels a b;
+  channels = λ a b.
+      if a == d.0 && b == u.0
+      then with_packets (w.channels a b) (answers_to (heard_as (w.ends a b).hop p) p)
+      else w.channels a b;
 }
 
 -- what d's hop to u hands up of a packet: its message, or nothing

@@ -6,9 +6,11 @@ ghost use Rattle.world_core.specs.Laws.{NoiseIsNotShown, OnlyTheNextIsShown, Qui
 use hop_reliable::laws::every_schedule;
 use mesh_laws::laws::every_run;
 
-/// The events of the mesh that a run of a world gives are a run of the mesh, and it leads to the image of the last world. Noise
-/// leaves the image as it was, and so does a packet that isn't the next one of its hop. Where every desk is empty and nothing is
-/// unacknowledged, nothing is under way in the image. The laws of the mesh hold of the image of each world that a run leads to.
+/// The events of the mesh that a run of a world gives are a run of the mesh, and it leads to the image of the last world.
+/// Noise leaves the image as it was, and so does a packet that isn't the next one of its hop. Where every desk is empty and
+/// nothing is unacknowledged, nothing is under way in the image. A channel has just the packets that its sender's end of the
+/// hop made, and each node makes at most 50,000 events. The laws of the mesh hold of the image of each world that a run
+/// leads to.
 pub fn every_world_run()
     ensures image { EveryRunIsShown }
     ensures noise { NoiseIsNotShown }

@@ -1,4 +1,4 @@
-//! Worlds: controllers that exchange frames over channels that lose, repeat and reorder, and the runs of the mesh that they show.
+//! Worlds: controllers that exchange frames over channels that lose, repeat and reorder, and what holds of their runs.
 #![tactic(auto)]
 
 pub mod laws;

@@ -1,7 +1,7 @@
 use Rattle.std.proofs.Common.{◌≡◌, sym, ◌∙◌, ap, subst}
 use Rattle.std.specs.Prelude.{IfOk, None, Some, position}
 use Rattle.mesh_rules.specs.Rows.{call_rows, leg_rows}
-use Rattle.mesh.specs.Kept.{is_node, node_at, state_at}
+use Rattle.mesh.specs.Kept.{is_node, node_at}
 use Rattle.mesh.proofs.NodePlaces.{node_at-place, state_at-nowhere}
 use Rattle.mesh.proofs.nodes.Nodes.rows_at.Goals as goal
 

@@ -1,7 +1,5 @@
 use Rattle.std.proofs.Common.{refl, subst}
 use Rattle.mesh_rules.specs.declared.events.MeshEvent.TheVariants.{Post}
-use Rattle.mesh.specs.declared.queues.Waiting.{Waiting}
-use Rattle.std.specs.Prelude.{List}
 use Rattle.mesh.specs.Kept.{IsStep, Kept}
 use Rattle.mesh.proofs.NodePlaces.{on_ok}
 use Rattle.mesh.proofs.Steps.{is_ordered}

@@ -1,4 +1,4 @@
-use Rattle.std.proofs.Common.{◌∙◌, ap, sym}
+use Rattle.std.proofs.Common.{◌∙◌, ap}
 use Rattle.mesh.proofs.Steps.{no_desks, no_mail}
 use Rattle.mesh.proofs.state.MeshState.is_quiet.Goals as goal
 

@@ -1,5 +1,4 @@
 use Rattle.std.proofs.Common.{subst}
-use Rattle.std.specs.Prelude.{OnOk, Ok, Err, Result}
 use Rattle.mesh_rules.specs.declared.events.MeshEvent.TheVariants.{Tick}
 use Rattle.mesh.specs.Kept.{IsStep, Kept}
 use Rattle.mesh.proofs.NodePlaces.{on_both_ok}
