@@ -6,5 +6,4 @@ pub mod Taking
 pub mod Schedule
 pub mod Intervals
 pub mod Order
-pub mod Shorter
 pub mod Waiting

@@ -1,5 +1,5 @@
 -- One end of a hop: what it keeps, and what each call makes of it (RFC 2961, sections 4 and 6).
-use Rattle.std.specs.Prelude.{ℕ, ◌+◌, Bool, not, ◌==◌, ◌&&◌, ◌||◌, nat_lt, nat_le, if◌then◌else◌, Option, Some, None, List, [], ◌∷◌, ◌++◌, map, filter}
+use Rattle.std.specs.Prelude.{ℕ, ◌+◌, Bool, not, ◌==◌, ◌&&◌, ◌||◌, nat_lt, nat_le, if◌then◌else◌, Option, Some, None, List, [], ◌∷◌, ◌++◌, length, map, filter}
 use Rattle.std.specs.List.{list_any}
 use Rattle.std.specs.Option.{option_to_list}
 use Rattle.ason_base.specs.declared.messages.Msg.{Msg}
@@ -30,6 +30,31 @@ sent_message h m = record {
   handed_up = h.handed_up;
   unacked = h.unacked ++ record { number = h.sent + 1; age = 0; msg = m } ∷ [];
 }
+
+-- A hop whose next messages are prepared: they have their numbers, and aren't sent yet.
+
+pub record PreparedHop : Type 0 where
+  pub state : HopState
+  pub prepared : List Unacked  -- the messages that are sent next, in order
+
+-- nothing is prepared
+abbrev pub resting : HopState → PreparedHop
+resting h = record { state = h; prepared = [] }
+
+-- the number of the last message once all that is prepared is sent
+abbrev pub last_number : PreparedHop → ℕ
+last_number h = h.state.sent + length h.prepared
+
+-- one message more is prepared
+abbrev pub with_next : PreparedHop → Msg → PreparedHop
+with_next h m = record {
+  state = h.state;
+  prepared = h.prepared ++ record { number = last_number h + 1; age = 0; msg = m } ∷ [];
+}
+
+-- what is prepared is sent
+abbrev pub all_sent : PreparedHop → HopState
+all_sent h = record { sent = last_number h; handed_up = h.state.handed_up; unacked = h.state.unacked ++ h.prepared }
 
 -- A tick: each message ages, and those that come to an age at which they are due go again as they were.
 
@@ -84,12 +109,12 @@ handed_up_after last Unnumbered = last
 handed_up_after last Ahead = last
 handed_up_after last Repeat = last
 
+-- after a packet that was heard so, with these acknowledgements
+abbrev pub taken : HopState → Heard → List MsgId → HopState
+taken h v acks = record { sent = h.sent; handed_up = handed_up_after h.handed_up v; unacked = still_unacked acks h.unacked }
+
 abbrev pub received : HopState → Packet → HopState
-received h p = record {
-  sent = h.sent;
-  handed_up = handed_up_after h.handed_up (heard_as h p);
-  unacked = still_unacked p.acks h.unacked;
-}
+received h p = taken h (heard_as h p) p.acks
 
 -- what is handed up of a packet that was heard so
 abbrev pub handed_up_of : Heard → Packet → List Msg

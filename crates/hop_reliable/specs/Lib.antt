@@ -1,3 +1,4 @@
 pub mod Ages
 pub mod Hop
+pub mod Room
 pub mod Schedules

@@ -1,43 +1,48 @@
 //! One end of a hop.
 
 ghost use Rattle.std.specs.Prelude.{◌≡◌, ◌+◌, ◌-◌, ◌<◌, ◌≤◌, ◌^◌, IfOk, OnErr, OnOk, length};
-ghost use Rattle.hop_reliable.specs.Hop.{fresh, heard_as, numbered, received, resent, sent_message, ticked};
+ghost use Rattle.hop_reliable.specs.Hop.{all_sent, fresh, heard_as, last_number, numbered, received, resent, resting, taken, ticked, with_next};
 
 use crate::heard::{Heard, heard_as};
 use crate::unacked::{Unacked, age_all, copies, due_after_tick, numbered, take_off};
-use ason_base::{Msg, OutOfMemory, Packet};
+use ason_base::{Msg, MsgId, OutOfMemory, Packet};
 use std::alloc::Global;
 use std::marker::Model;
 
 /// One end of a hop to a neighbour: the last number sent, the last handed up, and the messages that the neighbour
-/// hasn't acknowledged, in order of number, with their ages in ticks.
+/// hasn't acknowledged, in order of number, with their ages in ticks. Messages can be prepared before they are sent, so that
+/// nothing is refused any more when they are.
 #[derive(Debug, Drop)]
 pub struct Hop {
     sent: u32,
     handed_up: u32,
     unacked: Vec<Unacked>,
+    // Numbered from `sent` + 1. There is room for them behind `unacked`.
+    prepared: Vec<Unacked>,
 }
 
 impl Model for Hop {
-    ghost use Rattle.std.specs.Prelude.{◌≤◌, length};
-    ghost use Rattle.hop_reliable.specs.Hop.{HopState};
+    ghost use Rattle.std.specs.Prelude.{vec_capacity, vec_len};
+    ghost use Rattle.hop_reliable.specs.Hop.{PreparedHop};
+    ghost use Rattle.hop_reliable.specs.Room.{HasRoom};
 
-    ghost Value = { HopState };
+    ghost Value = { PreparedHop };
 
-    ghost view = { λ h. record { sent = h.sent; handed_up = h.handed_up; unacked = h.unacked.items } };
+    ghost view = { λ h. record { state = record { sent = h.sent; handed_up = h.handed_up; unacked = h.unacked.items }; prepared = h.prepared.items } };
 
-    ghost invariant = { λ h. length h.unacked.items ≤ h.sent };
+    ghost invariant = { λ h. HasRoom h.sent (vec_len h.unacked) (vec_len h.prepared) (vec_capacity h.unacked) };
 }
 
 impl Hop {
     /// A hop over which nothing was sent or handed up.
     pub fn new(alloc: Global) -> Hop
-        ensures { result ≡ fresh }
+        ensures { result ≡ resting fresh }
     {
         Hop {
             sent: 0,
             handed_up: 0,
             unacked: Vec::new(alloc),
+            prepared: Vec::new(alloc),
         }
     }
 
@@ -45,69 +50,133 @@ impl Hop {
     pub fn copy(&self, alloc: Global) -> Result<Hop, OutOfMemory>
         ensures { IfOk result (λ h. h ≡ self.now) }
     {
-        let unacked = copies(alloc, &self.unacked)?;
+        let mut unacked = copies(alloc, &self.unacked)?;
+        let prepared = copies(alloc, &self.prepared)?;
+        unacked.reserve(prepared.len())?;
         Ok(Hop {
             sent: self.sent,
             handed_up: self.handed_up,
             unacked,
+            prepared,
         })
     }
 
     /// Gives the message the next number, and keeps it until it is acknowledged. The packet is the message as it goes out
-    /// first (RFC 2961, section 4.2).
+    /// first (RFC 2961, section 4.2). What was prepared before goes out before it.
     pub fn send(&mut self, alloc: Global, msg: Msg) -> Result<Packet, OutOfMemory>
-        requires { self.old.sent < 2 ^ 32 - 1 }
-        ensures packet { IfOk result (λ p. p ≡ numbered (self.old.sent + 1) msg) }
-        ensures ok { OnOk result (self.new ≡ sent_message self.old msg) }
+        requires { last_number self.old < 2 ^ 32 - 1 }
+        ensures packet { IfOk result (λ p. p ≡ numbered (last_number self.old + 1) msg) }
+        ensures ok { OnOk result (self.new ≡ resting (all_sent (with_next self.old msg))) }
         ensures err { OnErr result (self.new ≡ self.old) }
     {
-        let number = self.sent + 1;
+        let packet = self.prepare(alloc, msg)?;
+        self.commit();
+        Ok(packet)
+    }
+
+    /// Gives the message the next number, and makes room for it: it is sent by `commit`, which is never refused. The packet is
+    /// the message as it goes out first.
+    pub fn prepare(&mut self, alloc: Global, msg: Msg) -> Result<Packet, OutOfMemory>
+        requires { last_number self.old < 2 ^ 32 - 1 }
+        ensures packet { IfOk result (λ p. p ≡ numbered (last_number self.old + 1) msg) }
+        ensures ok { OnOk result (self.new ≡ with_next self.old msg) }
+        ensures err { OnErr result (self.new ≡ self.old) }
+    {
+        let number = self.sent + self.prepared.len() as u32 + 1;
         let kept = msg.copy(alloc)?;
-        self.unacked.push(Unacked {
+        self.unacked.reserve(self.prepared.len() + 1)?;
+        self.prepared.push(Unacked {
             number,
             age: 0,
             msg: kept,
         })?;
-        self.sent = number;
         Ok(numbered(alloc, number, msg))
+    }
+
+    /// Sends what is prepared.
+    pub fn commit(&mut self)
+        ensures { self.new ≡ resting (all_sent self.old) }
+    {
+        self.sent += self.prepared.len() as u32;
+        match self.unacked.append(&mut self.prepared) {
+            Ok(()) => {}
+            Err(_) => unreachable!(),
+        }
+    }
+
+    /// Forgets what is prepared.
+    pub fn discard(&mut self)
+        ensures { self.new ≡ resting self.old.state }
+    {
+        self.prepared.clear();
     }
 
     /// Takes off each message that the packet acknowledges in epoch 1, and tells what the packet is. At `Next` its message
     /// is handed up. `Heard::answer` makes what answers the packet.
     pub fn receive(&mut self, p: &Packet) -> Heard
-        ensures heard { result ≡ heard_as self.old p.now }
-        ensures state { self.new ≡ received self.old p.now }
+        ensures heard { result ≡ heard_as self.old.state p.now }
+        ensures state { self.new ≡ record { state = received self.old.state p.now; prepared = self.old.prepared } }
     {
-        take_off(&mut self.unacked, p.acks.items());
-        let heard = heard_as(self.handed_up, p);
+        let heard = self.hears(p);
+        self.take(heard, p.acks.items());
+        heard
+    }
+
+    /// What the packet is. It changes nothing.
+    pub fn hears(&self, p: &Packet) -> Heard
+        ensures heard { result ≡ heard_as self.now.state p.now }
+        ensures next { result ≡ Heard.Next → self.now.state.handed_up + 1 < 2 ^ 32 }
+    {
+        heard_as(self.handed_up, p)
+    }
+
+    /// Takes a packet that is this, with these acknowledgements: `receive` in two parts.
+    pub fn take(&mut self, heard: Heard, acks: &[MsgId])
+        requires { heard ≡ Heard.Next → self.old.state.handed_up + 1 < 2 ^ 32 }
+        ensures { self.new ≡ record { state = taken self.old.state heard acks.now; prepared = self.old.prepared } }
+    {
+        take_off(&mut self.unacked, acks);
         if heard == Heard::Next {
             self.handed_up += 1;
         }
-        heard
     }
 
     /// Makes each unacknowledged message a tick older. What comes to the age 1, 3, 7 or 67 goes again, in order of number.
     pub fn tick(&mut self, alloc: Global) -> Result<Vec<Packet>, OutOfMemory>
-        ensures due { IfOk result (λ ps. ps.items ≡ resent self.old) }
-        ensures ok { OnOk result (self.new ≡ ticked self.old) }
+        ensures due { IfOk result (λ ps. ps.items ≡ resent self.old.state) }
+        ensures ok { OnOk result (self.new ≡ record { state = ticked self.old.state; prepared = self.old.prepared }) }
         ensures err { OnErr result (self.new ≡ self.old) }
     {
-        let due = due_after_tick(alloc, &self.unacked)?;
-        age_all(&mut self.unacked);
+        let due = self.due(alloc)?;
+        self.age();
         Ok(due)
+    }
+
+    /// What the next tick sends again, in order of number. It changes nothing.
+    pub fn due(&self, alloc: Global) -> Result<Vec<Packet>, OutOfMemory>
+        ensures { IfOk result (λ ps. ps.items ≡ resent self.now.state) }
+    {
+        due_after_tick(alloc, &self.unacked)
+    }
+
+    /// Makes each unacknowledged message a tick older.
+    pub fn age(&mut self)
+        ensures { self.new ≡ record { state = ticked self.old.state; prepared = self.old.prepared } }
+    {
+        age_all(&mut self.unacked);
     }
 
     /// How many messages are unacknowledged: at most those that were sent.
     pub fn pending(&self) -> usize
-        ensures count { result ≡ length self.now.unacked }
-        ensures most { result ≤ self.now.sent }
+        ensures count { result ≡ length self.now.state.unacked }
+        ensures most { result ≤ self.now.state.sent }
     {
         self.unacked.len()
     }
 
     /// The number of the last message that was sent, 0 before the first.
     pub fn sent(&self) -> u32
-        ensures { result ≡ self.now.sent }
+        ensures { result ≡ self.now.state.sent }
     {
         self.sent
     }
@@ -146,6 +215,25 @@ mod tests {
             (&third, Heard::Next),
         ] {
             assert_eq!(rt; receiver.receive(packet), heard, "{packet:?}");
+        }
+        Ok(())
+    }
+
+    // What is discarded takes no number; what is committed waits as if it had been sent at once.
+    #[test]
+    fn sends_what_was_prepared(rt: HostRuntime) -> Result<(), Fail> {
+        let mut hop = Hop::new(rt.alloc());
+        hop.prepare(rt.alloc(), tear(1))?;
+        hop.discard();
+        let first = hop.prepare(rt.alloc(), tear(2))?;
+        let second = hop.prepare(rt.alloc(), tear(3))?;
+        assert_eq!(rt; (hop.sent(), hop.pending()), (0, 0));
+        hop.commit();
+        assert_eq!(rt; (hop.sent(), hop.pending()), (2, 2));
+        let mut receiver = Hop::new(rt.alloc());
+        for packet in [&first, &second] {
+            assert_eq!(rt; receiver.hears(packet), Heard::Next);
+            assert_eq!(rt; receiver.receive(packet), Heard::Next);
         }
         Ok(())
     }

@@ -1,6 +1,6 @@
 //! Messages that wait for their acknowledgement.
 
-ghost use Rattle.std.specs.Prelude.{◌≡◌, ◌∷◌, ◌++◌, IfOk, map};
+ghost use Rattle.std.specs.Prelude.{◌≡◌, ◌≤◌, ◌∷◌, ◌++◌, IfOk, length, map, vec_capacity, vec_len};
 ghost use Rattle.std.specs.List.{list_any};
 ghost use Rattle.hop_reliable.specs.Hop.{again, is_ack_of, numbered, older, still_unacked};
 
@@ -71,7 +71,8 @@ pub(crate) fn due_after_tick(alloc: Global, unacked: &[Unacked]) -> Result<Vec<P
 
 /// Makes each message a tick older.
 pub(crate) fn age_all(unacked: &mut [Unacked])
-    ensures { unacked.new ≡ map older unacked.old }
+    ensures aged { unacked.new ≡ map older unacked.old }
+    ensures len { length unacked.new ≡ length unacked.old }
 {
     for w in unacked.iter_mut() {
         w.age = older_age(w.age);
@@ -80,7 +81,9 @@ pub(crate) fn age_all(unacked: &mut [Unacked])
 
 /// Takes off each message that is acknowledged in epoch 1.
 pub(crate) fn take_off(unacked: &mut Vec<Unacked>, acks: &[MsgId])
-    ensures { unacked.new.items ≡ still_unacked acks.now unacked.old.items }
+    ensures left { unacked.new.items ≡ still_unacked acks.now unacked.old.items }
+    ensures less { vec_len unacked.new ≤ vec_len unacked.old }
+    ensures capacity { vec_capacity unacked.new ≡ vec_capacity unacked.old }
 {
     if !acks.is_empty() {
         unacked.retain(|w| !is_acked(acks, w.number));

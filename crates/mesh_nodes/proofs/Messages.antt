@@ -26,7 +26,7 @@ use Rattle.mesh_rules.specs.Tears.{tear_with, torn}
 use Rattle.mesh_nodes.specs.Kept.{CallFits, LegFits, LegsFit, NodeFits}
 use Rattle.mesh_nodes.specs.Laws.{MessagesFit}
 use Rattle.mesh_nodes.specs.LocalNodes.{is_downstream, is_neighbour, is_upstream}
-use Rattle.mesh_nodes.specs.Sent.{AnswerFits}
+use Rattle.mesh_nodes.specs.Sent.{AnswerFits, CanBePassedOn}
 use Rattle.mesh_nodes.proofs.Cases.{both_left, both_right, if_cases}
 use Rattle.mesh_nodes.proofs.Kept.{alone-fibre, beside-fibre, calls-put, closed-fits, connected-fits, legs-changed, legs-less, over-fibre}
 use Rattle.mesh_nodes.proofs.LegList.{found-all, found-lsp}
@@ -269,7 +269,7 @@ messages-fit p s u (Path l e k route set up r) place fits =
       route = route;
       set = set;
       role = r;
-    }) (IsWritableMsg (Path l e k route set up r)) (λ w. (w.1, w.2)) place fits
+    }) (CanBePassedOn (Path l e k route set up r)) (λ w. w) place fits
 messages-fit p s u (Resv l e k x) place fits = resv-fits p s (arrival l e u k) x (Unit {0}) (find_leg l s.legs) fits refl
 messages-fit p s u (PathTear l e k) place fits = tear-fits p s (arrival l e u k) (Unit {0}) (find_leg l s.legs) fits refl
 messages-fit p s u (PathErr l e at gone code) place fits =

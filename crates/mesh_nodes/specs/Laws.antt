@@ -4,7 +4,6 @@ use Rattle.ason_base.specs.declared.commands.DeskItem.{DeskItem}
 use Rattle.ason_base.specs.declared.ids.NodeId.{NodeId}
 use Rattle.ason_base.specs.declared.messages.Msg.{Msg}
 use Rattle.ason_base.specs.Network.{IsTopology, Network}
-use Rattle.ason_base.specs.Writable.{IsWritableMsg}
 use Rattle.mesh_rules.specs.Changes.{nothing}
 use Rattle.mesh_rules.specs.Messages.{on_message}
 use Rattle.mesh_rules.specs.Orders.{on_item}
@@ -12,7 +11,7 @@ use Rattle.mesh_rules.specs.LocalNodes.{LocalNode, local_node}
 use Rattle.mesh_rules.specs.State.{NodeState, new_node}
 use Rattle.mesh_nodes.specs.Kept.{NodeFits}
 use Rattle.mesh_nodes.specs.LocalNodes.{LocalNodeFits}
-use Rattle.mesh_nodes.specs.Sent.{AnswerFits}
+use Rattle.mesh_nodes.specs.Sent.{AnswerFits, CanBePassedOn}
 
 -- a node of a topology, with no leg and no call
 abbrev pub NewNodesFit : Type 0
@@ -20,7 +19,7 @@ NewNodesFit = (t : Network) (n : NodeId) → IsTopology t → LocalNodeFits (loc
 
 -- a message of whatever sender
 abbrev pub MessagesFit : Type 0
-MessagesFit = (p : LocalNode) (s : NodeState) (u : NodeId) (m : Msg) → LocalNodeFits p → NodeFits p s → AnswerFits p s (IsWritableMsg m) (on_message p s u m)
+MessagesFit = (p : LocalNode) (s : NodeState) (u : NodeId) (m : Msg) → LocalNodeFits p → NodeFits p s → AnswerFits p s (CanBePassedOn m) (on_message p s u m)
 
 -- an item of a desk, whatever it orders
 abbrev pub ItemsFit : Type 0

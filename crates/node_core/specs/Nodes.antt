@@ -1,6 +1,5 @@
 -- One node: what it knows of itself, and what it keeps.
 use Rattle.std.specs.Prelude.{◌≡◌}
-use Rattle.ason_base.specs.Writable.{IsWritableMsg}
 use Rattle.node_core.specs.declared.inputs.Input.{Input}
 use Rattle.node_core.specs.declared.inputs.Input.TheVariants.{Message, Desk, Tick, Learn}
 use Rattle.mesh_rules.specs.Changes.{Answer, nothing, changed}
@@ -12,6 +11,7 @@ use Rattle.mesh_nodes.specs.Kept.{NodeFits}
 use Rattle.mesh_nodes.specs.LocalNodes.{LocalNodeFits}
 use Rattle.leg_table.specs.States.{local_of, state_of}
 use Rattle.leg_table.specs.Tables.{CallTable, LegTable}
+use Rattle.mesh_nodes.specs.Sent.{CanBePassedOn}
 
 pub record NodeView : Type 0 where
   pub place : LocalNode
@@ -41,9 +41,9 @@ stepped n i = record { place = n.place; state = changed n.state (answer_to n i) 
 abbrev pub IsAnswerOf : NodeView → Answer → Type 0
 IsAnswerOf n a = (i : Input) × (a ≡ answer_to n i)
 
--- a message that can be written, or another input
+-- a message that can be passed on, or another input: what it makes the node send can be written
 abbrev pub IsWritableInput : Input → Type 0
-IsWritableInput (Message u m) = IsWritableMsg m
+IsWritableInput (Message u m) = CanBePassedOn m
 IsWritableInput (Desk item) = Unit {0}
 IsWritableInput Tick = Unit {0}
 IsWritableInput (Learn row) = Unit {0}
