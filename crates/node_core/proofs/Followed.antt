@@ -1,22 +1,20 @@
 -- A node's rule of a message is that of its legs, followed by that of the call at the ingress.
-use Rattle.std.proofs.Common.{◌≡◌, ℕ, Bool, true, false, cond, List, [], ◌∷◌, refl, sym, ap, subst, ◌∙◌}
+use Rattle.std.proofs.Common.{◌≡◌, ℕ, Bool, true, false, cond, [], refl, ap}
 use Rattle.std.specs.Prelude.{◌&&◌, Option, Some, None}
 use Rattle.ason_base.specs.declared.codes.ErrCode.{ErrCode}
 use Rattle.ason_base.specs.declared.ids.LinkId.{LinkId}
 use Rattle.ason_base.specs.declared.ids.Lsp.{Lsp}
 use Rattle.ason_base.specs.declared.ids.NodeId.{NodeId}
-use Rattle.ason_base.specs.declared.messages.Msg.TheVariants.{Path, Resv, PathTear, PathErr, Notify}
+use Rattle.ason_base.specs.declared.messages.Msg.TheVariants.{Resv, PathErr}
 use Rattle.ason_base.specs.declared.tables.Leg.{Leg}
 use Rattle.mesh_rules.specs.declared.neighbours.Neighbour.{Neighbour}
 use Rattle.mesh_rules.specs.declared.arrivals.Arrival.{Arrival}
 use Rattle.mesh_rules.specs.Calls.{call_of}
-use Rattle.mesh_rules.specs.Changes.{Answer, followed_by, nothing, puts, removes}
+use Rattle.mesh_rules.specs.Changes.{followed_by, nothing, puts, removes}
 use Rattle.mesh_rules.specs.Legs.{connected, find_leg, following, is_asked, is_closing, is_node, previous}
-use Rattle.mesh_rules.specs.LocalNodes.{LocalNode}
 use Rattle.mesh_rules.specs.Messages.{arrival, on_message}
-use Rattle.mesh_rules.specs.PathErrs.{PathFailure, call_refused, err_passed, on_path_err, path_err_with, removed}
-use Rattle.mesh_rules.specs.Resvs.{answered, call_connected, is_expected, on_resv, resv_with}
-use Rattle.mesh_rules.specs.State.{NodeState}
+use Rattle.mesh_rules.specs.PathErrs.{PathFailure, call_refused, err_passed, path_err_with}
+use Rattle.mesh_rules.specs.Resvs.{answered, call_connected, is_expected, resv_with}
 use Rattle.mesh_nodes.proofs.LegList.{found-lsp}
 use Rattle.leg_table.specs.States.{legs_state, local_of, state_of}
 use Rattle.leg_table.specs.Tables.{CallTable, LegTable}

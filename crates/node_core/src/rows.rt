@@ -3,7 +3,6 @@
 ghost use Rattle.std.specs.Prelude.{◌≡◌, IfOk, map};
 ghost use Rattle.mesh_rules.specs.Rows.{call_row, leg_row, link_of, standing};
 
-
 use ason_base::{
     CallRec, CallRow, CallRows, Fibre, Leg, LegRow, LegRows, LinkId, Lsp, NodeId, OutOfMemory,
 };

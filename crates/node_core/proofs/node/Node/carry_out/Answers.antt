@@ -1,5 +1,4 @@
 use Rattle.std.proofs.Common.{subst, sym}
-use Rattle.mesh_rules.specs.Changes.{Answer}
 use Rattle.node_core.specs.Nodes.{IsAnswerOf, node_of}
 use Rattle.node_core.proofs.Answers.{answered-fits, answered-may, carried-fits}
 use Rattle.node_core.proofs.node.Node.carry_out.Goals as goal
@@ -18,7 +17,7 @@ carry_out-requires-clause-few c =
 pub invariant_of-self : goal.invariant_of-self
 invariant_of-self c = (
   carried-fits c.self.inside.tables c.carry_out.new.tables c.self.inside.calls c.carry_out.new.calls c.args.change c.carry_out.result
-  c.self.invariant.0 (subst (λ m. IsAnswerOf m c.args.change) (sym c.self.view_is) c.requires)
-  c.carry_out.ensures.local c.carry_out.ensures.ok c.carry_out.ensures.err c.carry_out.ensures.err_calls,
+      c.self.invariant.0 (subst (λ m. IsAnswerOf m c.args.change) (sym c.self.view_is) c.requires)
+      c.carry_out.ensures.local c.carry_out.ensures.ok c.carry_out.ensures.err c.carry_out.ensures.err_calls,
   c.carry_out.ensures.owner,
 )
