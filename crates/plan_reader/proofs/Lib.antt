@@ -4,6 +4,7 @@ pub mod Entries
 pub mod KnownNodes
 pub mod NameTexts
 pub mod Numbers
+pub mod Places
 pub mod PostableLines
 pub mod Rising
 pub mod SoundLinks

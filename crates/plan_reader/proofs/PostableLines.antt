@@ -1,6 +1,6 @@
 -- The lines of a plan can be posted one after the other, and its nodes and calls have their names.
 use Rattle.std.proofs.Common.{◌≡◌, ◌<◌, All, codes, inl, inr, ℕ, zero, suc, Bool, true, false, ◌&&◌, ◌==◌, ◌+◌, ◌++◌, cond, not, nat_le, nat_lt, arith, length, length-append, List, [], ◌∷◌, Ok, Err, refl, sym, ap, ◌∙◌, subst}
-use Rattle.std.specs.Prelude.{Option, Some, None, Result, fold, option_map, slice_get}
+use Rattle.std.specs.Prelude.{Option, Some, None, Result, option_map, slice_get}
 use Rattle.std.specs.List.{list_all, list_any}
 use Rattle.std.proofs.lemmas.Bool.{and_parts, ltb-true}
 use Rattle.std.proofs.lemmas.List.Elements.{All-cons, All-nil}
@@ -15,19 +15,17 @@ use Rattle.ason_base.specs.declared.ids.NodeId.{NodeId}
 use Rattle.ason_base.specs.declared.network.LinkSpec.{LinkSpec}
 use Rattle.ason_base.specs.Routes.{makes_route}
 use Rattle.mesh_rules.specs.Commands.{is_again, is_valid}
-use Rattle.plan_reader.specs.Entries.{and_then}
 use Rattle.plan_reader.specs.Names.{has_name, is_name, place_of}
 use Rattle.plan_reader.specs.declared.lines.Line.{Line}
 use Rattle.plan_reader.specs.declared.lines.Line.TheVariants.{Post, Settle, Show}
 use Rattle.plan_reader.specs.declared.limits.TheConstants.{MOST_CALLS, MOST_ROUNDS}
 use Rattle.plan_reader.specs.declared.plan.Plan.{Plan}
 use Rattle.plan_reader.specs.declared.script.Script.{Script}
-use Rattle.plan_reader.specs.PlanCalls.{CallList, call_at, call_named, calls_with, no_calls, with_call}
+use Rattle.plan_reader.specs.PlanCalls.{CallList, call_at, calls_with, with_call}
 use Rattle.plan_reader.specs.PlanScript.{calls_with_line, is_given_setup, is_release, is_settle, is_show, is_unbuilt, line_of, next_setup, no_script, node_at, posted, put_behind, release_call, release_of, settle_for, settle_of, setup_between, setup_of, setup_over, setup_with, steps_over, with_line, by_words}
 use Rattle.plan_reader.specs.PlanTables.{NodeList, elements_at, text_of, top_kind}
 use Rattle.plan_reader.specs.PlanTexts.{link_ids, number_up_to, word_at, words_of}
 use Rattle.plan_reader.specs.Plans.{ArePostable, HasNames, IsPostable, PlanOf, calls_after, calls_after_line, calls_after_lines, links_of, network_of, nodes_of, plan_of, plan_with, script_of, unless_fault, with_links, with_nodes, with_script}
-use Rattle.plan_reader.specs.declared.faults.PlanFault.{PlanFault}
 use Rattle.plan_reader.specs.declared.faults.PlanKind.{PlanKind}
 use Rattle.plan_reader.specs.declared.faults.PlanKind.TheVariants as kinds
 use Rattle.plan_reader.proofs.Entries.{both_read, kept, passed}

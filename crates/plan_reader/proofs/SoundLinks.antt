@@ -9,7 +9,7 @@ use Rattle.ason_base.specs.declared.ids.NodeId.{NodeId}
 use Rattle.ason_base.specs.declared.network.LinkSpec.{LinkSpec}
 use Rattle.ason_base.specs.declared.network.NodeSpec.{NodeSpec}
 use Rattle.plan_reader.specs.PlanTables.{NodeList, all_numbers, elements_at, end_ids, end_name, ends_of, has_link_counts, has_link_kinds, has_strange, has_top_counts, id_in, integer_in, labels_in, lacks, lacks_link_key, last_link, link_between, link_of, link_of_numbers, link_with, metric_in, number_in, number_of, number_or, numbers_of, put_behind, srlg_in, srlgs_in, with_link}
-use Rattle.plan_reader.specs.PlanTexts.{id_at_place, node_named}
+use Rattle.plan_reader.specs.PlanTexts.{id_at_place}
 use Rattle.plan_reader.specs.Names.{place_of}
 use Rattle.plan_reader.specs.Plans.{links_of, network_of, nodes_of}
 use Rattle.plan_reader.specs.declared.faults.EntryError.{EntryError}
@@ -20,7 +20,7 @@ use Rattle.plan_reader.specs.declared.values.Shape.TheVariants.{OfLink}
 use Rattle.plan_reader.proofs.Entries.{as_many, kept, passed}
 use Rattle.plan_reader.proofs.KnownNodes.{place_is_known}
 use Rattle.plan_reader.proofs.Rising.{Rise, at_each, get_before, get_here, rise_more}
-use Rattle.plan_reader.proofs.SoundNodes.{NodesFit, as_many_nodes, nodes_fit, not_false}
+use Rattle.plan_reader.proofs.SoundNodes.{as_many_nodes, nodes_fit, not_false}
 
 -- Numbers
 

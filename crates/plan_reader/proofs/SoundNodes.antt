@@ -1,5 +1,5 @@
 -- Nodes that were read have rising ids, and each has its name.
-use Rattle.std.proofs.Common.{◌≡◌, ℕ, Bool, true, false, not, nat_lt, arith, length, length-append, List, [], ◌∷◌, ◌++◌, Ok, refl, ap, sym, subst, ◌∙◌, ◌+◌}
+use Rattle.std.proofs.Common.{◌≡◌, ℕ, Bool, true, false, not, nat_lt, arith, length, length-append, List, [], ◌∷◌, Ok, refl, ap, sym, subst, ◌∙◌, ◌+◌}
 use Rattle.std.specs.Prelude.{Option, Some, None}
 use Rattle.toml.specs.Data.{Data}
 use Rattle.ason_base.specs.Network.{node_number}

@@ -1,5 +1,7 @@
 -- The calls that a script sets up, each with its ingress, in order of number.
-use Rattle.std.specs.Prelude.{ℕ, ◌≤◌, length, List, [], ◌∷◌, ◌++◌, Option, Some, None, option_map, slice_get}
+use Rattle.std.specs.Prelude.{◌≡◌, ℕ, ◌≤◌, String, length, List, [], ◌∷◌, ◌++◌, Option, Some, None, option_map, slice_get}
+use Rattle.std.specs.BTreeMap.{BTreeMap, get_by_text}
+use Rattle.std.specs.Global.{Global}
 use Rattle.ason_base.specs.declared.ids.NodeId.{NodeId}
 use Rattle.ason_base.specs.declared.commands.Command.{Command}
 use Rattle.ason_base.specs.declared.commands.Command.TheVariants.{Setup, Release, Protect, Retry, Revert, Fail, Repair}
@@ -35,5 +37,10 @@ calls_with calls ws (Revert n from) = calls
 calls_with calls ws (Fail g) = calls
 calls_with calls ws (Repair g) = calls
 
-abbrev pub AreFew : CallList → Type 0
-AreFew calls = length calls.names ≤ MOST_CALLS
+-- the map has the place of each name
+abbrev pub ArePlaces : BTreeMap (String Global) ℕ → List (List ℕ) → Type 0
+ArePlaces places names = (bs : List ℕ) → get_by_text places bs ≡ place_of names bs
+
+-- the names are few, and the map has their places
+abbrev pub AreFound : BTreeMap (String Global) ℕ → List (List ℕ) → Type 0
+AreFound places names = (length names ≤ MOST_CALLS) × ArePlaces places names

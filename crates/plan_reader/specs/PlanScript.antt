@@ -16,7 +16,7 @@ use Rattle.plan_reader.specs.declared.script.Script.{Script}
 use Rattle.plan_reader.specs.PlanTexts.{node_named, words_of, word_at, is_number, are_numbers, number_up_to, link_ids}
 use Rattle.plan_reader.specs.Names.{same_text, is_name, has_name}
 use Rattle.plan_reader.specs.PlanCalls.{CallList, call_named, calls_with, no_calls}
-use Rattle.plan_reader.specs.PlanTables.{NodeList, text_of}
+use Rattle.plan_reader.specs.PlanTables.{text_of}
 
 -- Forms of a line, by its words
 

@@ -1,6 +1,6 @@
 //! The calls that a script sets up.
 
-ghost use Rattle.std.specs.Prelude.{◌≡◌, ◌<◌, length, IfSome, OnErr, OnOk};
+ghost use Rattle.std.specs.Prelude.{◌≡◌, ◌<◌, length, IfSome, IsFalse, OnErr, OnOk};
 ghost use Rattle.plan_reader.specs.PlanCalls.{call_at, call_named, no_calls, with_call};
 ghost use Rattle.plan_reader.specs.Names.{has_name};
 
@@ -8,23 +8,25 @@ use crate::limits::MOST_CALLS;
 use crate::names::{Name, Names};
 use ason_base::{NodeId, OutOfMemory};
 use std::alloc::Global;
+use std::collections::BTreeMap;
 use std::marker::Model;
 
-/// Calls by their names, each with its ingress, in order of number.
+/// Calls by their names, each with its ingress, in order of number. A map finds the number of a name.
 #[derive(Debug, Drop)]
 pub struct Calls {
-    names: Names,
+    names: Vec<Name>,
     ingresses: Vec<NodeId>,
+    places: BTreeMap<String, usize>,
 }
 
 impl Model for Calls {
-    ghost use Rattle.plan_reader.specs.PlanCalls.{AreFew, CallList};
+    ghost use Rattle.plan_reader.specs.PlanCalls.{AreFound, CallList};
 
     ghost Value = { CallList };
 
-    ghost view = { λ s. record { names = s.names; ingresses = s.ingresses.items } };
+    ghost view = { λ s. record { names = s.names.items; ingresses = s.ingresses.items } };
 
-    ghost invariant = { λ s. AreFew (record { names = s.names; ingresses = s.ingresses.items }) };
+    ghost invariant = { λ s. AreFound s.places s.names.items };
 }
 
 impl Calls {
@@ -33,22 +35,27 @@ impl Calls {
         ensures { result ≡ no_calls }
     {
         Calls {
-            names: Names::new(alloc),
+            names: Vec::new(alloc),
             ingresses: Vec::new(alloc),
+            places: BTreeMap::new(alloc),
         }
     }
 
     /// Adds a call, which gets the next number.
-    pub fn push(&mut self, name: Name, ingress: NodeId) -> Result<(), OutOfMemory>
-        requires { length self.old.names < MOST_CALLS }
+    pub fn push(&mut self, alloc: Global, name: Name, ingress: NodeId) -> Result<(), OutOfMemory>
+        requires few { length self.old.names < MOST_CALLS }
+        requires fresh { IsFalse (has_name self.old.names name) }
         ensures ok { OnOk result (self.new ≡ with_call self.old name ingress) }
         ensures err { OnErr result (self.new ≡ self.old) }
     {
+        let place = self.count();
+        self.names.reserve(1)?;
         self.ingresses.reserve(1)?;
-        self.names.push(name)?;
-        match self.ingresses.push(ingress) {
-            Ok(()) => Ok(()),
-            Err(_) => unreachable!(),
+        let key = String::from_str(alloc, name.as_str())?;
+        self.places.insert(key, place)?;
+        match (self.names.push(name), self.ingresses.push(ingress)) {
+            (Ok(()), Ok(())) => Ok(()),
+            _ => unreachable!(),
         }
     }
 
@@ -56,30 +63,30 @@ impl Calls {
     pub fn count(&self) -> usize
         ensures { result ≡ length self.now.names }
     {
-        self.names.items().len()
+        self.names.len()
     }
 
     /// The number and the ingress of the call of this name: none exactly where there is none.
-    pub fn find(&self, name: &[u8]) -> Option<(usize, NodeId)>
+    pub fn find(&self, name: &Name) -> Option<(usize, NodeId)>
         ensures call { result ≡ call_named self.now name.now }
         ensures within { IfSome result (λ call. call.0 < MOST_CALLS) }
     {
-        let place = self.names.place(name)?;
+        let place = *self.places.get(name.as_str())?;
         let ingress = *self.ingresses.get(place)?;
         Some((place, ingress))
     }
 
     /// Whether there is a call of this name.
-    pub fn has(&self, name: &[u8]) -> bool
+    pub fn has(&self, name: &Name) -> bool
         ensures { result ≡ has_name self.now.names name.now }
     {
-        self.names.has(name)
+        self.places.contains_key(name.as_str())
     }
 
     /// The names, in order of number.
     pub fn into_names(self) -> Names
         ensures { result ≡ self.names }
     {
-        self.names
+        Names::from_vec(self.names)
     }
 }

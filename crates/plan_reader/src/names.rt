@@ -110,6 +110,13 @@ impl Names {
         Ok(())
     }
 
+    /// These names.
+    pub fn from_vec(names: Vec<Name>) -> Names
+        ensures { result ≡ names.items }
+    {
+        Names { names }
+    }
+
     pub fn items(&self) -> &[Name]
         ensures { result.now ≡ self.now }
     {

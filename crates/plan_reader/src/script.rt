@@ -81,17 +81,17 @@ fn read_setup(
     let Some(ids) = link_ids(alloc, word(words, 6))? else {
         return Err(EntryError::Fault(PlanKind::Range));
     };
-    let name = word(words, 1);
-    if !is_name(name) {
+    if !is_name(word(words, 1)) {
         return Err(EntryError::Fault(PlanKind::Name));
     }
+    let name = Name::new(alloc, word(words, 1))?;
     let (Some(from), Some(to)) = (node_at(t, names, words, 2), node_at(t, names, words, 3)) else {
         return Err(EntryError::Fault(PlanKind::Node));
     };
     if from == to {
         return Err(EntryError::Fault(PlanKind::Same));
     }
-    if calls.has(name) {
+    if calls.has(&name) {
         return Err(EntryError::Fault(PlanKind::Call));
     }
     if calls.count() >= MOST_CALLS {
@@ -102,8 +102,7 @@ fn read_setup(
         return Err(EntryError::Fault(PlanKind::Route));
     }
     let call = CallNo(calls.count() as u16);
-    let name = Name::new(alloc, name)?;
-    calls.push(name, from)?;
+    calls.push(alloc, name, from)?;
     Ok(Command::Setup {
         call,
         from,
@@ -118,15 +117,15 @@ fn read_setup(
 // Other lines
 
 // A release, or its first fault.
-fn read_release(calls: &Calls, words: &[&[u8]]) -> Result<Command, EntryError>
+fn read_release(alloc: Global, calls: &Calls, words: &[&[u8]]) -> Result<Command, EntryError>
     ensures command { IfOk result (λ c. release_of calls.now (texts words.now) ≡ Ok c) }
     ensures fault { FailsBy result (release_of calls.now (texts words.now)) }
 {
-    let name = word(words, 1);
-    if !is_name(name) {
+    if !is_name(word(words, 1)) {
         return Err(EntryError::Fault(PlanKind::Name));
     }
-    let Some((place, from)) = calls.find(name) else {
+    let name = Name::new(alloc, word(words, 1))?;
+    let Some((place, from)) = calls.find(&name) else {
         return Err(EntryError::Fault(PlanKind::Call));
     };
     let call = CallNo(place as u16);
@@ -163,7 +162,7 @@ fn read_line(
         return Ok(Line::Post(command));
     }
     if is_release(words) {
-        let command = read_release(calls, words)?;
+        let command = read_release(alloc, calls, words)?;
         return Ok(Line::Post(command));
     }
     if is_settle(words) {
