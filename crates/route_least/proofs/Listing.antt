@@ -1,74 +1,63 @@
--- The entries of a table of costs, place by place.
-use Rattle.std.proofs.Common.{◌≡◌, ◌⊎◌, inl, inr, ℕ, ◌+◌, ◌<◌, ◌≤◌, List, [], ◌∷◌, ◌++◌, All, Option, Some, length, get_or, slice_get, sym, ◌∙◌, ap, subst, arith}
+-- Potentials, entry by entry of the order.
+use Rattle.std.proofs.Common.{◌≡◌, inl, inr, ℕ, ◌+◌, ◌<◌, ◌≤◌, List, [], ◌∷◌, ◌++◌, All, Option, Some, length, get_or, take, refl, sym, ◌∙◌, ap, subst, arith}
 use Rattle.std.specs.List.{AllPairs, Contains}
+use Rattle.std.proofs.lemmas.List.{get_or-take, get_or_default, length-take-le, take_more}
 use Rattle.std.proofs.lemmas.List.Elements.{Contains-append_left, Contains-get_or, Contains-push, Contains-push_cases}
 use Rattle.std.proofs.lemmas.List.Quantifiers.{all_pairs_push}
-use Rattle.std.proofs.lemmas.Option.{get_or_from_slice_get, slice_get-get_or, slice_get_within}
 use Rattle.ason_base.specs.declared.ids.NodeId.{NodeId}
+use Rattle.route_least.specs.declared.order.NodePlace.{NodePlace}
 use Rattle.route_least.specs.Costs.{cost_at}
-use Rattle.route_least.specs.Graph.{AreRising}
-use Rattle.route_least.specs.Trace.{AreEntries}
+use Rattle.route_least.specs.Potentials.{AreListed, AreRising}
+use Rattle.route_least.proofs.PlaceLists.{nothing, some_same}
 
-pub some_same : {X : Type 0} {x y : X} → Some x ≡ Some y → x ≡ y
-some_same e = cc
-
--- the entries of the places before k
-pub record AreFirst (nodes : List NodeId) (costs : List (Option ℕ)) (k : ℕ) (entries : List (NodeId × ℕ)) : Type 0 where
-  pub rising : AllPairs (λ x y. x.0.0 < y.0.0) entries
-  pub sound : (n : NodeId) (cost : ℕ) → Contains entries (n, cost) → (place : ℕ) × (place < k) × (slice_get nodes place ≡ Some n) × (cost_at costs place ≡ Some cost)
-  pub complete : (place : ℕ) (n : NodeId) (cost : ℕ) → place < k → slice_get nodes place ≡ Some n → cost_at costs place ≡ Some cost → Contains entries (n, cost)
-
-before : (nodes : List NodeId) (costs : List (Option ℕ)) (k : ℕ) (entries : List (NodeId × ℕ)) (d : NodeId) → AreRising nodes → k < length nodes → AreFirst nodes costs k entries → (entry : NodeId × ℕ) → Contains entries entry → entry.0.0 < (get_or nodes k d).0
-before nodes costs k entries d rising within first entry known =
-    let has = first.sound entry.0 entry.1 known in
-    let here : get_or nodes has.0 d ≡ entry.0 = get_or_from_slice_get nodes has.0 entry.0 d has.2 in
-    subst (λ n. n.0 < (get_or nodes k d).0) here (rising has.0 k d has.1 within)
-
-pub all_below : (nodes : List NodeId) (costs : List (Option ℕ)) (k : ℕ) (entries : List (NodeId × ℕ)) (d : NodeId) → AreRising nodes → k < length nodes → AreFirst nodes costs k entries → All (λ entry. entry.0.0 < (get_or nodes k d).0) entries
-all_below nodes costs k entries d rising within first = λ j e h. before nodes costs k entries d rising within first (get_or entries j e) (Contains-get_or entries j e h)
-
-before_or_last : (place k : ℕ) → place < k + 1 → (place < k) ⊎ (place ≡ k)
-before_or_last place k h = grind arith
-
-pub none_first : (nodes : List NodeId) (costs : List (Option ℕ)) → AreFirst nodes costs 0 []
-none_first nodes costs = record {
-  rising = λ i j d h within. absurd (omega arith);
-  sound = λ n cost known. absurd (let h : known.0 < 0 = known.1 in omega arith);
-  complete = λ place n cost h stands has. absurd (omega arith);
+pub none_listed : (costs : List (Option ℕ)) (entries : List (NodeId × ℕ)) → entries ≡ [] → AreListed [] costs entries
+none_listed costs entries none = record {
+  rising = λ i j d lt within. absurd (let h : j < 0 = subst (λ es. j < length es) none within in omega arith);
+  sound = λ n cost known. absurd (nothing entries (n, cost) none known);
+  complete = λ e cost known has. absurd (nothing [] e refl known);
 }
 
-pub first_skip : (nodes : List NodeId) (costs : List (Option ℕ)) (k : ℕ) (entries : List (NodeId × ℕ)) → ((cost : ℕ) → cost_at costs k ≡ Some cost → ⊥) → AreFirst nodes costs k entries → AreFirst nodes costs (k + 1) entries
-first_skip nodes costs k entries none first = record {
-  rising = first.rising;
-  sound = λ n cost known. (let has = first.sound n cost known in (has.0, (let h : has.0 < k = has.1 in omega arith), has.2, has.3));
-  complete = λ place n cost h stands has. elim (before_or_last place k h) [
-    | inl lt ↦ first.complete place n cost lt stands has
-    | inr same ↦ absurd (none cost (subst (λ p. cost_at costs p ≡ Some cost) same has))
-  ];
-}
+-- an element of a first part stands in the list before its end
+taken_before : {X : Type 0} (xs : List X) (i : ℕ) (x : X) → i < length xs → Contains (take i xs) x → (k : ℕ) × (k < i) × (get_or xs k x ≡ x)
+taken_before xs i x below known =
+    let inside : known.0 < i = (let h : known.0 < length (take i xs) = known.1 in let l : length (take i xs) ≡ i = length-take-le i xs (omega arith) in omega arith) in
+    (known.0, inside, sym (get_or-take i xs known.0 x inside) ∙ known.2)
 
-pub first_push : (nodes : List NodeId) (costs : List (Option ℕ)) (k : ℕ) (entries : List (NodeId × ℕ)) (d : NodeId) (cost : ℕ) → AreRising nodes → k < length nodes → cost_at costs k ≡ Some cost → AreFirst nodes costs k entries → AreFirst nodes costs (k + 1) (entries ++ (get_or nodes k d, cost) ∷ [])
-first_push nodes costs k entries d cost rising within has first =
-    let node = get_or nodes k d in
-    let stands : slice_get nodes k ≡ Some node = slice_get-get_or nodes k d within in
-    record {
-      rising = all_pairs_push (λ x y. x.0.0 < y.0.0) entries (node, cost) first.rising (λ j e h. all_below nodes costs k entries d rising within first j e h);
-      sound = λ n c known. elim (Contains-push_cases entries (node, cost) (n, c) known) [
-        | inl earlier ↦ (let old = first.sound n c earlier in (old.0, (let h : old.0 < k = old.1 in omega arith), old.2, old.3))
-        | inr same ↦ (k, omega arith, stands ∙ ap (λ e. Some e.0) same, has ∙ ap (λ e. Some e.1) same)
-      ];
-      complete = λ place n c h there also. elim (before_or_last place k h) [
-        | inl lt ↦ Contains-append_left entries ((node, cost) ∷ []) (n, c) (first.complete place n c lt there also)
-        | inr same ↦
-            (let a : node ≡ n = some_same (sym stands ∙ subst (λ p. slice_get nodes p ≡ Some n) same there) in
-            let b : cost ≡ c = some_same (sym has ∙ subst (λ p. cost_at costs p ≡ Some c) same also) in
-            subst (λ x. Contains (entries ++ (node, cost) ∷ []) (x, c)) a (subst (λ y. Contains (entries ++ (node, cost) ∷ []) (node, y)) b (Contains-push entries (node, cost))))
-      ];
-    }
+module _ (order : List NodePlace) (costs : List (Option ℕ)) (i : ℕ) (d : NodePlace) (entries : List (NodeId × ℕ)) (within : i < length order) (are : AreListed (take i order) costs entries) where
+  before : AreRising order → (entry : NodeId × ℕ) → Contains entries entry → entry.0.0 < (get_or order i d).node.0
+  before rising entry known =
+      let has = are.sound entry.0 entry.1 known in
+      let at = taken_before order i has.0 within has.1 in
+      let here : get_or order at.0 d ≡ has.0 = get_or_default order at.0 d has.0 (omega (arith, at.1)) ∙ at.2 in
+      subst (λ n. n.0 < (get_or order i d).node.0) (ap (λ e. e.node) here ∙ has.2) (rising at.0 i d at.1 within)
 
-pub all_first : (nodes : List NodeId) (costs : List (Option ℕ)) (k : ℕ) (entries : List (NodeId × ℕ)) → length nodes ≤ k → AreFirst nodes costs k entries → AreEntries nodes costs entries
-all_first nodes costs k entries le first = record {
-  rising = first.rising;
-  sound = λ n cost known. (let has = first.sound n cost known in (has.0, has.2, has.3));
-  complete = λ place n cost stands has. first.complete place n cost (let h : place < length nodes = slice_get_within nodes place n stands in omega arith) stands has;
-}
+  pub all_below : AreRising order → All (λ entry. entry.0.0 < (get_or order i d).node.0) entries
+  all_below rising = λ j e h. before rising (get_or entries j e) (Contains-get_or entries j e h)
+
+  pub listed_skip : ((cost : ℕ) → cost_at costs (get_or order i d).place ≡ Some cost → ⊥) → AreListed (take (i + 1) order) costs entries
+  listed_skip none = subst (λ done. AreListed done costs entries) (sym (take_more order i d within)) (record {
+    rising = are.rising;
+    sound = λ n cost known. (let has = are.sound n cost known in (has.0, Contains-append_left (take i order) (get_or order i d ∷ []) has.0 has.1, has.2, has.3));
+    complete = λ e cost known has. elim (Contains-push_cases (take i order) (get_or order i d) e known) [
+      | inl earlier ↦ are.complete e cost earlier has
+      | inr same ↦ absurd (none cost (subst (λ x. cost_at costs x.place ≡ Some cost) (sym same) has))
+    ];
+  })
+
+  pub listed_push : (cost : ℕ) → AreRising order → cost_at costs (get_or order i d).place ≡ Some cost → AreListed (take (i + 1) order) costs (entries ++ ((get_or order i d).node, cost) ∷ [])
+  listed_push cost rising here =
+      let last = get_or order i d in
+      subst (λ done. AreListed done costs (entries ++ (last.node, cost) ∷ [])) (sym (take_more order i d within)) (record {
+        rising = all_pairs_push (λ x y. x.0.0 < y.0.0) entries (last.node, cost) are.rising (λ j e h. all_below rising j e h);
+        sound = λ n c known. elim (Contains-push_cases entries (last.node, cost) (n, c) known) [
+          | inl earlier ↦ (let has = are.sound n c earlier in (has.0, Contains-append_left (take i order) (last ∷ []) has.0 has.1, has.2, has.3))
+          | inr same ↦ (last, Contains-push (take i order) last, ap (λ e. e.0) same, here ∙ ap (λ e. Some e.1) same)
+        ];
+        complete = λ e c known has. elim (Contains-push_cases (take i order) last e known) [
+          | inl earlier ↦ Contains-append_left entries ((last.node, cost) ∷ []) (e.node, c) (are.complete e c earlier has)
+          | inr same ↦
+              (let equal : cost ≡ c = some_same (sym here ∙ subst (λ x. cost_at costs x.place ≡ Some c) (sym same) has) in
+              subst (λ x. Contains (entries ++ (last.node, cost) ∷ []) (x.node, c)) same
+              (subst (λ y. Contains (entries ++ (last.node, cost) ∷ []) (last.node, y)) equal (Contains-push entries (last.node, cost))))
+        ];
+      })

@@ -1,112 +1,127 @@
--- What one lowered cost keeps of a table.
-use Rattle.std.proofs.Common.{◌≡◌, ◌⊎◌, inl, inr, ℕ, ◌+◌, ◌*◌, ◌^◌, ◌<◌, ◌≤◌, List, [], ◌∷◌, All, Option, Some, None, length, get_or, take, true, false, Bool, sum_by, refl, sym, ◌∙◌, subst, arith}
+-- What lowering one cost leaves of a table.
+use Rattle.std.proofs.Common.{◌≡◌, ◌≢◌, ◌⊎◌, inl, inr, ℕ, ◌+◌, ◌*◌, ◌^◌, ◌<◌, ◌≤◌, List, [], ◌∷◌, Option, Some, None, length, Bool, true, false, set, sum_by, refl, sym, ◌∙◌, ap, subst, arith}
 use Rattle.std.specs.List.{Contains}
 use Rattle.std.proofs.lemmas.Bool.{cases_eq}
 use Rattle.std.proofs.lemmas.List.Sums.{sum_by-set, sum_by-cons}
 use Rattle.std.proofs.lemmas.List.{get_or-set_same, get_or-set_other}
-use Rattle.std.proofs.lemmas.List.Elements.{All-get_or, All-more, Contains-get_or}
-use Rattle.route_least.specs.declared.arcs.Arc.{Arc}
-use Rattle.route_least.specs.Costs.{cost_at, height, reached, AreAttained, AreBounded, IsLowered, IsSettled, IsWithin, Reach}
+use Rattle.route_least.specs.declared.places.Arc.{Arc}
+use Rattle.route_least.specs.Costs.{cost_at, height, is_marked, reached, AreAttained, AreBounded, AreSettled, AreSmall, IsAtMostOver, IsLowered, IsSettled, IsStep, Reach}
 use Rattle.route_least.specs.Costs.Reach.{Onward}
+use Rattle.route_least.proofs.PlaceLists.{some_same}
 
 pub reached-le-length : (costs : List (Option ℕ)) → sum_by reached costs ≤ length costs
 reached-le-length [] = omega arith
 reached-le-length (None ∷ costs) = omega (arith, reached-le-length costs, sum_by-cons reached None costs)
 reached-le-length (Some c ∷ costs) = omega (arith, reached-le-length costs, sum_by-cons reached (Some c) costs)
 
-pub over-fits : (costs : List (Option ℕ)) (place cost metric : ℕ) → AreBounded costs → length costs ≤ 66 → cost_at costs place ≡ Some cost → metric ≤ 65535 → cost + metric < 2 ^ 32
-over-fits costs place cost metric bounded few has small =
+pub small : (costs : List (Option ℕ)) → AreBounded costs → length costs ≤ 64 → AreSmall costs
+small costs bounded few place cost has =
     let h : cost + 65535 ≤ 65535 * sum_by reached costs = bounded place cost has in
     omega (arith, reached-le-length costs)
 
--- a place of the new table
-pub new_cost : (arc : Arc) (old new : List (Option ℕ)) (low : IsLowered arc old new) (place : ℕ) → arc.head < length old → ((place ≡ arc.head) × (cost_at new place ≡ Some (low.cost + arc.metric))) ⊎ (cost_at new place ≡ cost_at old place)
-new_cost arc old new low place within =
-    elim (cases_eq place arc.head) [
-      | inl same ↦ inl (same, rw (low.after, same) (get_or-set_same old arc.head (Some (low.cost + arc.metric)) None within))
-      | inr other ↦ inr (rw low.after (get_or-set_other old arc.head place (Some (low.cost + arc.metric)) None other))
-    ]
+module _ (arc : Arc) (cost : ℕ) (old new : List (Option ℕ)) (low : IsLowered arc cost old new) (within : arc.head < length old) where
+  -- a place of the new table
+  pub new_cost : (place : ℕ) → ((place ≡ arc.head) × (cost_at new place ≡ Some (cost + arc.metric))) ⊎ ((place ≢ arc.head) × (cost_at new place ≡ cost_at old place))
+  new_cost place =
+      elim (cases_eq place arc.head) [
+        | inl same ↦ inl (same, rw (low.after, same) (get_or-set_same old arc.head (Some (cost + arc.metric)) None within))
+        | inr other ↦ inr (other, rw low.after (get_or-set_other old arc.head place (Some (cost + arc.metric)) None other))
+      ]
 
-pub sum_reached : (arc : Arc) (old new : List (Option ℕ)) (low : IsLowered arc old new) → arc.head < length old → sum_by reached new + reached (cost_at old arc.head) ≡ sum_by reached old + 1
-sum_reached arc old new low within = rw low.after (sum_by-set reached old arc.head (Some (low.cost + arc.metric)) None within)
+  sum_reached : sum_by reached new + reached (cost_at old arc.head) ≡ sum_by reached old + 1
+  sum_reached = rw low.after (sum_by-set reached old arc.head (Some (cost + arc.metric)) None within)
 
-pub sum_height : (arc : Arc) (old new : List (Option ℕ)) (low : IsLowered arc old new) → arc.head < length old → sum_by height new + height (cost_at old arc.head) ≡ sum_by height old + (low.cost + arc.metric)
-sum_height arc old new low within = rw low.after (sum_by-set height old arc.head (Some (low.cost + arc.metric)) None within)
+  sum_height : sum_by height new + height (cost_at old arc.head) ≡ sum_by height old + (cost + arc.metric)
+  sum_height = rw low.after (sum_by-set height old arc.head (Some (cost + arc.metric)) None within)
 
--- the place that is lowered is counted once more, if it had no cost
-bounded_head : (costs : List (Option ℕ)) (cost metric least now : ℕ) (o : Option ℕ) → cost + 65535 ≤ 65535 * least → metric ≤ 65535 → ((over : ℕ) → o ≡ Some over → cost + metric < over) → ((over : ℕ) → o ≡ Some over → over + 65535 ≤ 65535 * least) → now + reached o ≡ least + 1 → ((cost + metric) + 65535 ≤ 65535 * now) × (least ≤ now)
-bounded_head costs cost metric least now None h small lower bounds sum = (omega arith, omega arith)
-bounded_head costs cost metric least now (Some over) h small lower bounds sum =
-    let a : cost + metric < over = lower over refl in
-    let b : over + 65535 ≤ 65535 * least = bounds over refl in
-    let e : now ≡ least = omega arith in
-    (rw e (omega arith), omega arith)
+  -- the place that is lowered is counted once more, if it had no cost
+  bounded_head : (least now : ℕ) (o : Option ℕ) → cost + 65535 ≤ 65535 * least → arc.metric ≤ 65535 → ((over : ℕ) → o ≡ Some over → cost + arc.metric < over) → ((over : ℕ) → o ≡ Some over → over + 65535 ≤ 65535 * least) → now + reached o ≡ least + 1 → ((cost + arc.metric) + 65535 ≤ 65535 * now) × (least ≤ now)
+  bounded_head least now None h small lower bounds sum = (omega arith, omega arith)
+  bounded_head least now (Some over) h small lower bounds sum =
+      let a : cost + arc.metric < over = lower over refl in
+      let b : over + 65535 ≤ 65535 * least = bounds over refl in
+      let e : now ≡ least = omega arith in
+      (rw e (omega arith), omega arith)
 
-pub bounded_after : (arc : Arc) (old new : List (Option ℕ)) → IsWithin (length old) arc → AreBounded old → IsLowered arc old new → AreBounded new
-bounded_after arc old new within bounded low place cost has =
-    let parts = bounded_head old low.cost arc.metric (sum_by reached old) (sum_by reached new) (cost_at old arc.head) (bounded arc.tail low.cost low.tail) within.metric low.lower (bounded arc.head) (sum_reached arc old new low within.head) in
-    elim (new_cost arc old new low place within.head) [
-      | inl here ↦ (let e : low.cost + arc.metric ≡ cost = cc (here.1, has) in rw (sym e) parts.0)
-      | inr other ↦ (let h : cost + 65535 ≤ 65535 * sum_by reached old = bounded place cost (sym other ∙ has) in omega (arith, parts.1))
-    ]
+  pub bounded_after : (from : ℕ) → cost_at old from ≡ Some cost → arc.metric ≤ 65535 → AreBounded old → AreBounded new
+  bounded_after from here metric bounded place c has =
+      let parts = bounded_head (sum_by reached old) (sum_by reached new) (cost_at old arc.head) (bounded from cost here) metric low.lower (bounded arc.head) sum_reached in
+      elim (new_cost place) [
+        | inl at ↦ (let e : cost + arc.metric ≡ c = some_same (sym at.1 ∙ has) in rw (sym e) parts.0)
+        | inr other ↦ (let h : c + 65535 ≤ 65535 * sum_by reached old = bounded place c (sym other.1 ∙ has) in omega (arith, parts.1))
+      ]
 
-pub attained_after : (arcs : List Arc) (start : ℕ) (arc : Arc) (old new : List (Option ℕ)) → IsWithin (length old) arc → Contains arcs arc → AreAttained arcs start old → IsLowered arc old new → AreAttained arcs start new
-attained_after arcs start arc old new within known attained low place cost has =
-    elim (new_cost arc old new low place within.head) [
-      | inl here ↦ (let e : low.cost + arc.metric ≡ cost = cc (here.1, has) in subst (λ c. Reach arcs start place c) e (subst (λ p. Reach arcs start p (low.cost + arc.metric)) (sym here.0) (Onward arc low.cost known (attained arc.tail low.cost low.tail))))
-      | inr other ↦ attained place cost (sym other ∙ has)
-    ]
+  pub attained_after : (MayGo : ℕ → Arc → Type 0) (start from : ℕ) → cost_at old from ≡ Some cost → MayGo from arc → AreAttained MayGo start old → AreAttained MayGo start new
+  attained_after MayGo start from here goes attained place c has =
+      elim (new_cost place) [
+        | inl at ↦ (let e : cost + arc.metric ≡ c = some_same (sym at.1 ∙ has) in
+            subst (λ x. Reach MayGo start place x) e (subst (λ p. Reach MayGo start p (cost + arc.metric)) (sym at.0) (Onward from arc cost goes (attained from cost here))))
+        | inr other ↦ attained place c (sym other.1 ∙ has)
+      ]
 
-pub zero_after : (arc : Arc) (old new : List (Option ℕ)) (start : ℕ) → IsWithin (length old) arc → IsLowered arc old new → cost_at old start ≡ Some 0 → cost_at new start ≡ Some 0
-zero_after arc old new start within low zero =
-    elim (new_cost arc old new low start within.head) [
-      | inl here ↦ absurd (let h : low.cost + arc.metric < 0 = low.lower 0 (subst (λ p. cost_at old p ≡ Some 0) here.0 zero) in omega arith)
-      | inr other ↦ other ∙ zero
-    ]
+  pub zero_after : (start : ℕ) → cost_at old start ≡ Some 0 → cost_at new start ≡ Some 0
+  zero_after start zero =
+      elim (new_cost start) [
+        | inl at ↦ absurd (let h : cost + arc.metric < 0 = low.lower 0 (subst (λ p. cost_at old p ≡ Some 0) at.0 zero) in omega arith)
+        | inr other ↦ other.1 ∙ zero
+      ]
 
-height_falls : (o : Option ℕ) (before after over : ℕ) → after + height o ≡ before + over → over < 2 ^ 32 → ((least : ℕ) → o ≡ Some least → over < least) → after < before
-height_falls None before after over sum fits lower = omega arith
-height_falls (Some least) before after over sum fits lower = omega (arith, lower least refl)
+  height_falls : (o : Option ℕ) (before after : ℕ) → after + height o ≡ before + (cost + arc.metric) → cost + arc.metric < 2 ^ 32 → ((least : ℕ) → o ≡ Some least → cost + arc.metric < least) → after < before
+  height_falls None before after sum fits lower = omega arith
+  height_falls (Some least) before after sum fits lower = omega (arith, lower least refl)
 
-pub falls_after : (arc : Arc) (old new : List (Option ℕ)) → IsWithin (length old) arc → length old ≤ 66 → AreBounded old → IsLowered arc old new → sum_by height new < sum_by height old
-falls_after arc old new within few bounded low =
-    height_falls (cost_at old arc.head) (sum_by height old) (sum_by height new) (low.cost + arc.metric) (sum_height arc old new low within.head) (over-fits old arc.tail low.cost arc.metric bounded few low.tail within.metric) low.lower
+  pub falls_after : cost < 16777216 → arc.metric ≤ 65535 → sum_by height new < sum_by height old
+  falls_after small metric = height_falls (cost_at old arc.head) (sum_by height old) (sum_by height new) sum_height (omega arith) low.lower
 
--- what a pass over some of the arcs has done to the table
-pub record HasPassed (arcs done : List Arc) (before after : List (Option ℕ)) (changed : Bool) : Type 0 where
-  pub bounded : AreBounded after
-  pub attained : (start : ℕ) → AreAttained arcs start before → AreAttained arcs start after
-  pub zero : (start : ℕ) → cost_at before start ≡ Some 0 → cost_at after start ≡ Some 0
-  pub settled : changed ≡ false → All (IsSettled after) done
-  pub falls : changed ≡ true → sum_by height after < sum_by height before
-  pub kept : changed ≡ false → after ≡ before
+  -- costs fall at the head alone
+  pub over_after : (c : ℕ) (other : Arc) → IsAtMostOver old c other → IsAtMostOver new c other
+  over_after c other over =
+      elim (new_cost other.head) [
+        | inl at ↦ (cost + arc.metric, at.1, (let h : cost + arc.metric < over.0 = low.lower over.0 (subst (λ p. cost_at old p ≡ Some over.0) at.0 over.1) in let k : over.0 ≤ c + other.metric = over.2 in omega arith))
+        | inr apart ↦ (over.0, apart.1 ∙ over.1, over.2)
+      ]
 
--- a pass that has lowered something is one that has changed the table
-falls_more : (changed : Bool) (before after new : List (Option ℕ)) → (changed ≡ true → sum_by height after < sum_by height before) → (changed ≡ false → after ≡ before) → sum_by height new < sum_by height after → sum_by height new < sum_by height before
-falls_more true before after new falls kept lower = omega (arith, falls refl)
-falls_more false before after new falls kept lower = subst (λ t. sum_by height new < sum_by height t) (kept refl) lower
+  pub settled_after : (place : ℕ) (other : Arc) → place ≢ arc.head → IsSettled old place other → IsSettled new place other
+  settled_after place other apart settled c has =
+      elim (new_cost place) [
+        | inl at ↦ absurd (apart at.0)
+        | inr same ↦ over_after c other (settled c (sym same.1 ∙ has))
+      ]
 
-pub passed_lower : (arcs : List Arc) (i : ℕ) (d : Arc) (before after new : List (Option ℕ)) (changed : Bool) → i < length arcs → All (IsWithin (length after)) arcs → length after ≤ 66 → HasPassed arcs (take i arcs) before after changed → IsLowered (get_or arcs i d) after new → HasPassed arcs (take (i + 1) arcs) before new true
-passed_lower arcs i d before after new changed here within few passed low =
-    let arc = get_or arcs i d in
-    let fits : IsWithin (length after) arc = All-get_or (IsWithin (length after)) arcs i d here within in
-    record {
-      bounded = bounded_after arc after new fits passed.bounded low;
-      attained = λ start h. attained_after arcs start arc after new fits (Contains-get_or arcs i d here) (passed.attained start h) low;
-      zero = λ start h. zero_after arc after new start fits low (passed.zero start h);
-      settled = λ e. absurd (cc (e));
-      falls = λ e. falls_more changed before after new passed.falls passed.kept (falls_after arc after new fits few passed.bounded low);
-      kept = λ e. absurd (cc (e));
-    }
+  -- the cost of the place itself stays
+  pub kept_cost : (from : ℕ) → cost_at old from ≡ Some cost → cost_at new from ≡ Some cost
+  kept_cost from here =
+      elim (new_cost from) [
+        | inl at ↦ absurd (let h : cost + arc.metric < cost = low.lower cost (subst (λ p. cost_at old p ≡ Some cost) at.0 here) in omega arith)
+        | inr same ↦ same.1 ∙ here
+      ]
 
-pub passed_keep : (arcs : List Arc) (i : ℕ) (d : Arc) (before after new : List (Option ℕ)) (changed : Bool) → i < length arcs → HasPassed arcs (take i arcs) before after changed → new ≡ after → IsSettled after (get_or arcs i d) → HasPassed arcs (take (i + 1) arcs) before new changed
-passed_keep arcs i d before after new changed here passed same settled =
-    subst (λ t. HasPassed arcs (take (i + 1) arcs) before t changed) (sym same)
-    (record {
-      bounded = passed.bounded;
-      attained = passed.attained;
-      zero = passed.zero;
-      settled = λ e. All-more (IsSettled after) arcs i d here (passed.settled e) settled;
-      falls = passed.falls;
-      kept = passed.kept;
-    })
+  pub apart : (from : ℕ) → cost_at old from ≡ Some cost → from ≢ arc.head
+  apart from here e = absurd (let h : cost + arc.metric < cost = low.lower cost (subst (λ p. cost_at old p ≡ Some cost) e here) in omega arith)
+
+-- Marks
+
+pub marked_same : (marks : List Bool) (p : ℕ) (b : Bool) → p < length marks → is_marked (set marks p b) p ≡ b
+marked_same marks p b within = get_or-set_same marks p b false within
+
+pub marked_other : (marks : List Bool) (p q : ℕ) (b : Bool) → q ≢ p → is_marked (set marks p b) q ≡ is_marked marks q
+marked_other marks p q b other = get_or-set_other marks p q b false other
+
+-- a place that isn't marked after another was
+pub unmarked_before : (marks : List Bool) (p q : ℕ) → p < length marks → is_marked (set marks p true) q ≡ false → (q ≢ p) × (is_marked marks q ≡ false)
+unmarked_before marks p q within off = elim (cases_eq q p) [
+  | inl e ↦ absurd (let on = marked_same marks p true within in let h = subst (λ k. is_marked (set marks p true) k ≡ false) e off in cc (on, h))
+  | inr other ↦ (other, sym (marked_other marks p q true other) ∙ off)
+]
+
+-- Steps
+
+pub no_step : (MayGo : ℕ → Arc → Type 0) (costs : List (Option ℕ)) → IsStep MayGo costs costs
+no_step MayGo costs = record { bounded = λ h. h; attained = λ start h. h; zero = λ start h. h }
+
+pub then_step : (MayGo : ℕ → Arc → Type 0) (a b c : List (Option ℕ)) → IsStep MayGo a b → IsStep MayGo b c → IsStep MayGo a c
+then_step MayGo a b c first second = record {
+  bounded = λ h. second.bounded (first.bounded h);
+  attained = λ start h. second.attained start (first.attained start h);
+  zero = λ start h. second.zero start (first.zero start h);
+}

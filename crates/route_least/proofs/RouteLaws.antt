@@ -1,72 +1,203 @@
--- What the least costs over a graph say of the walks over its rows.
-use Rattle.std.proofs.Common.{◌≡◌, ℕ, ◌<◌, ◌≤◌, List, All, Option, Some, None, length, map, get_or, sym, ◌∙◌, subst, arith}
-use Rattle.std.proofs.lemmas.List.{get_or_default}
-use Rattle.std.proofs.lemmas.List.Elements.{All-map}
-use Rattle.std.proofs.lemmas.Option.{slice_get_within}
-use Rattle.ason_base.specs.Walks.{HaveDistinctLinks, HaveMetrics, IsLeast, IsWalk}
+-- What a search in a prepared network says of the walks over its rows.
+use Rattle.std.proofs.Common.{◌≡◌, ◌≢◌, ◌↔◌, inl, inr, ℕ, ◌+◌, ◌<◌, ◌≤◌, List, [], ◌∷◌, All, Bool, true, Option, Some, Result, Ok, Err, IfOk, IfErr, length, get_or, slice_get, refl, sym, ◌∙◌, ap, subst, arith}
+use Rattle.std.specs.List.{Contains}
+use Rattle.std.proofs.lemmas.List.Elements.{All-contains, Contains-get_or, Contains-push, Contains-push_cases}
+use Rattle.std.proofs.lemmas.Option.{slice_get-get_or}
+use Rattle.ason_base.specs.Walks.{ArePotentials, Certify, HaveFewEnds, Hop, IsLeast, IsWalk}
 use Rattle.ason_base.specs.declared.ids.LinkId.{LinkId}
 use Rattle.ason_base.specs.declared.ids.NodeId.{NodeId}
 use Rattle.ason_base.specs.declared.network.TeRow.{TeRow}
 use Rattle.ason_base.specs.declared.steps.Step.{Step}
-use Rattle.route_least.specs.declared.arcs.Arc.{Arc}
-use Rattle.route_least.specs.declared.graph.Graph.{Graph}
-use Rattle.route_least.specs.Answers.{JoinsNone}
-use Rattle.route_least.specs.Costs.{cost_at, turned, AreLeast, IsWithin}
-use Rattle.route_least.specs.Routes.{FollowsLeast, IsGraph, IsJoined}
-use Rattle.route_least.specs.Trace.{AreEntries}
-use Rattle.route_least.proofs.LeastLaws.{entries_certify, entries_potentials, trace_least, walk_costs, walk_least}
-use Rattle.route_least.proofs.Listing.{some_same}
-use Rattle.route_least.proofs.NodeOrder.{same-place}
-use Rattle.route_least.proofs.WalkLaws.{reach_back, walk_there}
+use Rattle.route_least.specs.declared.answers.Found.{Found}
+use Rattle.route_least.specs.declared.answers.RouteFault.{RouteFault}
+use Rattle.route_least.specs.declared.answers.RouteFault.TheVariants.{NoRoute, OutOfMemory}
+use Rattle.route_least.specs.declared.network.RouteNetwork.{RouteNetwork}
+use Rattle.route_least.specs.declared.order.NodePlace.{NodePlace}
+use Rattle.route_least.specs.declared.places.Arc.{Arc}
+use Rattle.route_least.specs.declared.places.Place.{Place}
+use Rattle.route_least.specs.Answers.{IsLeastFound, IsRefusal}
+use Rattle.route_least.specs.Bans.{AreRowsOf}
+use Rattle.route_least.specs.Costs.{cost_at, is_marked, AreLeast, Reach}
+use Rattle.route_least.specs.Costs.Reach.{Start, Onward}
+use Rattle.route_least.specs.Marking.{Crosses}
+use Rattle.route_least.specs.Network.{AreInOrder, AreOnce, ArePlaces, AreSound, Goes, HasNode, IsClosed, IsNetworkOf}
+use Rattle.route_least.specs.Potentials.{AreListed}
+use Rattle.route_least.specs.Searches.{AreCostsFrom, IsFoundAlone, IsFoundFrom, IsMissed, IsMissedAlone, IsMissedFrom, IsReached, IsSearchable}
+use Rattle.route_least.specs.Trace.{AreEntries, AreMarked, IsTight}
+use Rattle.route_least.proofs.Bans.{closed_iff, same_certify, same_none, same_potentials, same_walks}
+use Rattle.route_least.proofs.LeastLaws.{entries_certify, entries_potentials, marked_back, trace_least, walk_least}
+use Rattle.route_least.proofs.Ordered.{few_places}
+use Rattle.route_least.proofs.PlaceLists.{node_within, nothing}
+use Rattle.route_least.proofs.WalkLaws.{sound_network, ways}
 
-turned_one : (count : ℕ) (arc : Arc) → IsWithin count arc → IsWithin count (turned arc)
-turned_one count arc within = record { tail = within.head; head = within.tail; positive = within.positive; metric = within.metric }
+-- Prepared networks
 
-pub turned_within : (count : ℕ) (arcs : List Arc) → All (IsWithin count) arcs → All (IsWithin count) (map turned arcs)
-turned_within count arcs within = All-map (IsWithin count) turned arcs (λ k d h. turned_one count (get_or arcs k d) (within k d h))
+-- at most 64 places
+pub few : (rows : List TeRow) (places : List Place) → HaveFewEnds rows → ArePlaces rows (length rows) places → length places ≤ 64
+few rows places ends are =
+    let le : length places ≤ length ends.0 = few_places places ends.0 are.once
+    (λ p n there.
+        (let end = are.ends p n there in
+        let both = All-contains (λ row. Contains ends.0 row.low × Contains ends.0 row.high) rows end.0 ends.2 end.1 in
+        elim end.2 [ inl low ↦ subst (Contains ends.0) low both.0 | inr high ↦ subst (Contains ends.0) high both.1 ]))
+    in
+    let most : length ends.0 ≤ 64 = ends.1 in
+    omega arith
 
--- a cost that was read from the table
-pub read_cost : (costs : List (Option ℕ)) (place : ℕ) (read : Option ℕ) → place < length costs → read ≡ get_or costs place read → cost_at costs place ≡ read
-read_cost costs place read within same = get_or_default costs place None read within ∙ sym same
+pub searchable : (rows : List TeRow) (network : RouteNetwork) (closed : List Bool) → IsNetworkOf rows network → length closed ≡ length rows → IsSearchable (length closed) network
+searchable rows network closed is len = record {
+  sound = subst (λ n. AreSound n network.places.items) (sym len) (sound_network rows network is);
+  once = is.places.once;
+  rising = is.order.rising;
+  within = λ k d h.
+      (let e : NodePlace = get_or network.order.items k d in
+      node_within network.places.items e.place e.node (is.order.sound e (Contains-get_or network.order.items k d h)));
+}
 
-module _ (rows : List TeRow) (BannedLink : LinkId → Type 0) (BannedNode : NodeId → Type 0) (from to : NodeId) (graph : Graph) (is : IsGraph rows BannedLink BannedNode from to graph) (costs : List (Option ℕ)) (table : AreLeast graph.arcs.items graph.from costs) where
-  -- the end has a cost: arcs join the two places
-  pub joined : (cost : ℕ) → cost_at costs graph.to ≡ Some cost → IsJoined graph
-  joined cost has =
-      let nodes = graph.nodes.items in
-      let arcs = graph.arcs.items in
-      let walk = walk_there rows BannedLink BannedNode nodes arcs is.nodes.rising is.arcs graph.from from is.start graph.to cost (table.attained graph.to cost has) to is.end in
-      record {
-        few = is.few;
-        within = is.within;
-        start = slice_get_within nodes graph.from from is.start;
-        end = slice_get_within nodes graph.to to is.end;
-        cost = cost;
-        way = reach_back rows BannedLink BannedNode nodes arcs is.nodes.rising is.arcs graph.to to from walk.0 cost graph.from is.end walk.1 is.start;
-      }
+pub entries : (places : List Place) (order : List NodePlace) (costs : List (Option ℕ)) (listed : List (NodeId × ℕ)) → AreInOrder places order → AreListed order costs listed → AreEntries places costs listed
+entries places order costs listed is are = record {
+  rising = are.rising;
+  sound = λ n cost known. (let has = are.sound n cost known in (has.0.place, subst (HasNode places has.0.place) has.2 (is.sound has.0 has.1), has.3));
+  complete = λ place n cost there has. are.complete (record { node = n; place = place }) cost (is.complete place n there) has;
+}
 
-  -- the end has none: no walk joins them
-  pub joins_none : (entries : List (NodeId × ℕ)) → AreEntries graph.nodes.items costs entries → ((cost : ℕ) → cost_at costs graph.to ≡ Some cost → ⊥) → JoinsNone rows BannedLink BannedNode from to entries
-  joins_none entries listed none = record {
-    none = λ route cost walk.
-        (let has = walk_least rows BannedLink BannedNode graph.nodes.items graph.arcs.items is.nodes.rising is.arcs from graph.from is.start costs table to route cost walk in
-        let here : has.0 ≡ graph.to = same-place graph.nodes.items has.0 graph.to to is.nodes.rising has.2 is.end in
-        none has.1 (subst (λ p. cost_at costs p ≡ Some has.1) here has.3));
-    potential = entries_potentials rows BannedLink BannedNode graph.nodes.items graph.arcs.items is.nodes.rising is.arcs from graph.from is.start costs table entries listed;
-    certificate = entries_certify rows BannedLink BannedNode graph.nodes.items graph.arcs.items is.nodes.rising is.arcs from graph.from is.start costs table entries listed;
-  }
+-- Searches
 
-  -- the steps that follow the least costs to the end are the least route, and its cost is that of the end
-  pub routed : (cost : ℕ) (steps : List Step) → HaveDistinctLinks rows → HaveMetrics rows → cost_at costs graph.to ≡ Some cost → FollowsLeast graph steps → IsLeast (IsWalk rows BannedLink BannedNode from to) steps cost
-  routed cost steps distinct metrics has follows =
-      let nodes = graph.nodes.items in
-      let arcs = graph.arcs.items in
-      let rising = is.nodes.rising in
-      let walk = walk_there rows BannedLink BannedNode nodes arcs rising is.arcs graph.from from is.start graph.to cost (table.attained graph.to cost has) to is.end in
-      let back = walk_costs rows BannedLink BannedNode nodes arcs rising is.arcs distinct metrics to graph.to is.end follows.costs follows.least from walk.0 cost graph.from walk.1 is.start in
-      let least = trace_least rows BannedLink BannedNode nodes arcs rising is.arcs distinct metrics to graph.to is.end follows.costs follows.least steps from graph.from back.0 follows.trace is.start back.1 in
-      let forth = walk_least rows BannedLink BannedNode nodes arcs rising is.arcs from graph.from is.start costs table to steps back.0 least.allowed in
-      let here : forth.0 ≡ graph.to = same-place nodes forth.0 graph.to to rising forth.2 is.end in
-      let there : forth.1 ≡ cost = some_same (sym (subst (λ p. cost_at costs p ≡ Some forth.1) here forth.3) ∙ has) in
-      let same : back.0 ≡ cost = (let a : back.0 ≤ cost = back.2 in let b : forth.1 ≤ back.0 = forth.4 in omega arith) in
-      subst (λ c. IsLeast (IsWalk rows BannedLink BannedNode from to) steps c) same least
+-- a place that costs something is entered along an arc, and so has no banned node
+entered : (places : List Place) (closed : List Bool) (banned : List NodeId) (start p cost : ℕ) → Reach (Goes places closed banned) start p cost → 1 ≤ cost → (n : NodeId) → HasNode places p n → ¬ Contains banned n
+entered places closed banned start _ _ Start positive = λ n there. absurd (omega arith)
+entered places closed banned start _ _ (Onward place arc cost goes way) positive = goes.1.node
+
+crosses : (places : List Place) (closed : List Bool) (banned : List NodeId) (p : ℕ) (arc : Arc) → Goes places closed banned p arc → Crosses places closed p arc
+crosses places closed banned p arc goes = (goes.0, goes.1.row)
+
+-- where the end has a cost, the start is marked
+pub reached : (places : List Place) (closed : List Bool) (banned : List NodeId) (costs : List (Option ℕ)) (start end cost : ℕ) → AreLeast (Goes places closed banned) start costs → cost_at costs end ≡ Some cost → IsReached places closed costs start end
+reached places closed banned costs start end cost table has marks marked =
+    marked_back (Goes places closed banned) (Crosses places closed) (crosses places closed banned) start end costs marks table marked end cost (table.attained end cost has) has marked.end
+
+module _ (rows : List TeRow) (network : RouteNetwork) (closed : List Bool) (banned : List NodeId) (is : IsNetworkOf rows network) (from to : NodeId) where
+  module _ (start : ℕ) (starts : HasNode network.places.items start from) where
+    pub found_from : (found : Found) → IsFoundFrom network closed banned start to found → IsLeastFound rows closed banned from to found
+    found_from found f =
+        let goes = Goes network.places.items closed banned in
+        let table = f.are.least in
+        let are = ways rows network is closed banned in
+        let listed = entries network.places.items network.order.items f.costs found.potential is.order f.are.listed in
+        let metric : (p : ℕ) (arc : Arc) → Crosses network.places.items closed p arc → 1 ≤ arc.metric = λ p arc cross. ((sound_network rows network is).within p arc cross.0).positive in
+        let back : (p : ℕ) (arc : Arc) → Crosses network.places.items closed p arc → IsTight f.costs p arc → goes p arc =
+        λ p arc cross tight. (cross.0, record {
+          row = cross.1;
+          node = entered network.places.items closed banned start arc.head (tight.cost + arc.metric) (table.attained arc.head (tight.cost + arc.metric) tight.head) (let m = metric p arc cross in omega arith);
+        })
+        in
+        let least =
+        trace_least rows (IsClosed rows closed) (Contains banned) network.places.items goes are from start starts f.costs table is.links is.metrics to f.end found.cost f.there f.has
+        (Crosses network.places.items closed) (crosses network.places.items closed banned) back f.traced.marks f.traced.marked found.route from start 0 f.traced.trace starts table.zero
+        in
+        let same : least.0 ≡ found.cost = (let e : 0 + least.0 ≡ found.cost = least.1 in omega arith) in
+        record {
+          route = subst (λ c. IsLeast (IsWalk rows (IsClosed rows closed) (Contains banned) from to) found.route c) same least.2;
+          potential = entries_potentials rows (IsClosed rows closed) (Contains banned) network.places.items goes are from start starts f.costs table found.potential listed;
+          certificate = entries_certify rows (IsClosed rows closed) (Contains banned) network.places.items goes are from start starts f.costs table found.potential listed;
+          end = listed.complete f.end to found.cost f.there f.has;
+        }
+
+    pub missed_from : (fault : RouteFault) → IsMissedFrom network closed banned start to fault → IsRefusal rows (IsClosed rows closed) (Contains banned) from to fault
+    missed_from (NoRoute potential) m =
+        let goes = Goes network.places.items closed banned in
+        let table = m.are.least in
+        let are = ways rows network is closed banned in
+        let listed = entries network.places.items network.order.items m.costs potential is.order m.are.listed in
+        record {
+          none = λ route cost walk.
+              (let has = walk_least rows (IsClosed rows closed) (Contains banned) network.places.items goes are from start starts m.costs table to route cost walk in
+              m.none has.0 has.1 has.2 has.3);
+          potential = entries_potentials rows (IsClosed rows closed) (Contains banned) network.places.items goes are from start starts m.costs table potential listed;
+          certificate = entries_certify rows (IsClosed rows closed) (Contains banned) network.places.items goes are from start starts m.costs table potential listed;
+        }
+    missed_from OutOfMemory m = tt
+
+  -- A node without a row
+
+  module _ (absent : (p : ℕ) → ¬ HasNode network.places.items p from) where
+    no_hop : (s : Step) (row : TeRow) (next : NodeId) → ¬ Hop rows (IsClosed rows closed) (Contains banned) from s row next
+    no_hop s row next hop =
+        let at : slice_get rows hop.known.0 ≡ Some row = slice_get-get_or rows hop.known.0 row hop.known.1 ∙ ap Some hop.known.2 in
+        let has = is.places.complete hop.known.0 row from next hop.known.1 at hop.joins in
+        absent has.place has.is.tail
+
+    only_stays : (n : NodeId) (steps : List Step) (cost : ℕ) → IsWalk rows (IsClosed rows closed) (Contains banned) from n steps cost → (from ≡ n) × (cost ≡ 0)
+    only_stays n [] cost walk = walk
+    only_stays n (s ∷ steps) cost walk = absurd (no_hop s walk.0 walk.1 walk.3)
+
+    one_entry : (n : NodeId) (p : ℕ) → Contains {X = NodeId × ℕ} ((from, 0) ∷ []) (n, p) → (from ≡ n) × (0 ≡ p)
+    one_entry n p known = elim (Contains-push_cases [] (from, 0) (n, p) known) [
+      | inl none ↦ absurd (nothing [] (n, p) refl none)
+      | inr same ↦ (ap (λ e. e.0) same, ap (λ e. e.1) same)
+    ]
+
+    here : Contains {X = NodeId × ℕ} ((from, 0) ∷ []) (from, 0)
+    here = Contains-push [] (from, 0)
+
+    alone_potentials : ArePotentials (IsWalk rows (IsClosed rows closed) (Contains banned) from) ((from, 0) ∷ [])
+    alone_potentials = record {
+      rising = λ i j d lt within. absurd (omega arith);
+      attained = λ n p known. (let e = one_entry n p known in ([], (e.0, sym e.1)));
+      least = λ n route cost walk. (let e = only_stays n route cost walk in (0, subst (λ m. Contains {X = NodeId × ℕ} ((from, 0) ∷ []) (m, 0)) e.0 here, omega arith));
+    }
+
+    alone_certify : Certify rows (IsClosed rows closed) (Contains banned) from ((from, 0) ∷ [])
+    alone_certify = record {
+      start = here;
+      rises = λ a b s row p hop known. absurd (no_hop s row b (subst (λ x. Hop rows (IsClosed rows closed) (Contains banned) x s row b) (sym (one_entry a p known).0) hop));
+    }
+
+    pub found_alone : (found : Found) → IsFoundAlone from to found → IsLeastFound rows closed banned from to found
+    found_alone found f = record {
+      route =
+          subst (λ r. IsLeast (IsWalk rows (IsClosed rows closed) (Contains banned) from to) r found.cost) (sym f.route)
+          (subst (λ c. IsLeast (IsWalk rows (IsClosed rows closed) (Contains banned) from to) [] c) (sym f.cost)
+          (record { allowed = (f.same, refl); least = λ other c walk. omega arith; first = λ other walk. tt }));
+      potential = subst (ArePotentials (IsWalk rows (IsClosed rows closed) (Contains banned) from)) (sym f.potential) alone_potentials;
+      certificate = subst (Certify rows (IsClosed rows closed) (Contains banned) from) (sym f.potential) alone_certify;
+      end = subst (λ ps. Contains ps (to, found.cost)) (sym f.potential)
+          (subst (λ c. Contains {X = NodeId × ℕ} ((from, 0) ∷ []) (to, c)) (sym f.cost) (subst (λ n. Contains {X = NodeId × ℕ} ((from, 0) ∷ []) (n, 0)) f.same here));
+    }
+
+    pub missed_alone : (fault : RouteFault) → IsMissedAlone from to fault → IsRefusal rows (IsClosed rows closed) (Contains banned) from to fault
+    missed_alone (NoRoute potential) m = record {
+      none = λ route cost walk. m.0 (only_stays to route cost walk).0;
+      potential = subst (ArePotentials (IsWalk rows (IsClosed rows closed) (Contains banned) from)) (sym m.1) alone_potentials;
+      certificate = subst (Certify rows (IsClosed rows closed) (Contains banned) from) (sym m.1) alone_certify;
+    }
+    missed_alone OutOfMemory m = tt
+
+-- Results
+
+pub ok_map : {A B : Type 0} (r : Result A B) (P Q : A → Type 0) → ((a : A) → P a → Q a) → IfOk r P → IfOk r Q
+ok_map (Ok a) P Q f h = f a h
+ok_map (Err b) P Q f h = tt
+
+pub err_map : {A B : Type 0} (r : Result A B) (P Q : B → Type 0) → ((b : B) → P b → Q b) → IfErr r P → IfErr r Q
+err_map (Ok a) P Q f h = tt
+err_map (Err b) P Q f h = f b h
+
+-- Bans that are told by lists
+
+module _ (rows : List TeRow) (links : List LinkId) (closed : List Bool) (banned nodes : List NodeId) (are : AreRowsOf rows links closed) (same : banned ≡ nodes) (from to : NodeId) where
+  node_iff : (n : NodeId) → Contains banned n ↔ Contains nodes n
+  node_iff n = ((λ h. subst (λ ns. Contains ns n) same h), (λ h. subst (λ ns. Contains ns n) (sym same) h))
+
+  pub least_route : (found : Found) → IsLeastFound rows closed banned from to found → IsLeast (IsWalk rows (Contains links) (Contains nodes) from to) found.route found.cost
+  least_route found f = same_walks rows (IsClosed rows closed) (Contains links) (Contains banned) (Contains nodes) (closed_iff rows links closed are) node_iff from to found.route found.cost f.route
+
+  pub least_potential : (found : Found) → IsLeastFound rows closed banned from to found → ArePotentials (IsWalk rows (Contains links) (Contains nodes) from) found.potential
+  least_potential found f = same_potentials rows (IsClosed rows closed) (Contains links) (Contains banned) (Contains nodes) (closed_iff rows links closed are) node_iff from found.potential f.potential
+
+  pub least_certificate : (found : Found) → IsLeastFound rows closed banned from to found → Certify rows (Contains links) (Contains nodes) from found.potential × Contains found.potential (to, found.cost)
+  least_certificate found f = (same_certify rows (IsClosed rows closed) (Contains links) (Contains banned) (Contains nodes) (closed_iff rows links closed are) node_iff from found.potential f.certificate, f.end)
+
+  pub least_refusal : (fault : RouteFault) → IsRefusal rows (IsClosed rows closed) (Contains banned) from to fault → IsRefusal rows (Contains links) (Contains nodes) from to fault
+  least_refusal (NoRoute potential) m = same_none rows (IsClosed rows closed) (Contains links) (Contains banned) (Contains nodes) (closed_iff rows links closed are) node_iff from to potential m
+  least_refusal OutOfMemory m = tt

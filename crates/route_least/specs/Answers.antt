@@ -1,12 +1,15 @@
--- What the refusals of a least route say.
-use Rattle.std.specs.Prelude.{List, ℕ}
-use Rattle.ason_base.specs.Walks.{ArePotentials, Certify, IsWalk}
+-- What is told of a least route, and of none.
+use Rattle.std.specs.Prelude.{Bool, List, ℕ}
+use Rattle.std.specs.List.{Contains}
+use Rattle.ason_base.specs.Walks.{ArePotentials, Certify, IsLeast, IsWalk}
 use Rattle.ason_base.specs.declared.ids.LinkId.{LinkId}
 use Rattle.ason_base.specs.declared.ids.NodeId.{NodeId}
 use Rattle.ason_base.specs.declared.network.TeRow.{TeRow}
 use Rattle.ason_base.specs.declared.steps.Step.{Step}
-use Rattle.route_least.specs.declared.RouteFault.{RouteFault}
-use Rattle.route_least.specs.declared.RouteFault.TheVariants.{NoRoute, OutOfMemory}
+use Rattle.route_least.specs.Network.{IsClosed}
+use Rattle.route_least.specs.declared.answers.Found.{Found}
+use Rattle.route_least.specs.declared.answers.RouteFault.{RouteFault}
+use Rattle.route_least.specs.declared.answers.RouteFault.TheVariants.{NoRoute, OutOfMemory}
 
 -- no walk joins the two nodes, and the potentials are those of every node
 pub record JoinsNone (rows : List TeRow) (BannedLink : LinkId → Type 0) (BannedNode : NodeId → Type 0) (from to : NodeId) (potentials : List (NodeId × ℕ)) : Type 0 where
@@ -17,3 +20,10 @@ pub record JoinsNone (rows : List TeRow) (BannedLink : LinkId → Type 0) (Banne
 abbrev pub IsRefusal : List TeRow → (LinkId → Type 0) → (NodeId → Type 0) → NodeId → NodeId → RouteFault → Type 0
 IsRefusal rows BannedLink BannedNode from to (NoRoute potential) = JoinsNone rows BannedLink BannedNode from to potential
 IsRefusal rows BannedLink BannedNode from to OutOfMemory = Unit {0}
+
+-- of all walks that use no closed row and visit no banned node after their start the least one, its cost, and every potential
+pub record IsLeastFound (rows : List TeRow) (closed : List Bool) (banned : List NodeId) (from to : NodeId) (found : Found) : Type 0 where
+  pub route : IsLeast (IsWalk rows (IsClosed rows closed) (Contains banned) from to) found.route found.cost
+  pub potential : ArePotentials (IsWalk rows (IsClosed rows closed) (Contains banned) from) found.potential
+  pub certificate : Certify rows (IsClosed rows closed) (Contains banned) from found.potential
+  pub end : Contains found.potential (to, found.cost)

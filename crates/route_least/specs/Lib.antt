@@ -1,5 +1,8 @@
 pub mod Answers
+pub mod Bans
 pub mod Costs
-pub mod Graph
-pub mod Routes
+pub mod Marking
+pub mod Network
+pub mod Potentials
+pub mod Searches
 pub mod Trace

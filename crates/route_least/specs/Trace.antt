@@ -1,36 +1,60 @@
--- Routes that follow, from place to place, the arc of the least link among those on which the costs to the end fall just by the metric.
-use Rattle.std.specs.Prelude.{◌≡◌, ℕ, ◌+◌, ◌<◌, ◌≤◌, List, [], ◌∷◌, Option, Some, slice_get}
+-- Routes that follow, from place to place, the arc of the least link among those that are tight and lead to the end.
+use Rattle.std.specs.Prelude.{◌≡◌, ◌⊎◌, ℕ, ◌+◌, ◌<◌, ◌≤◌, List, [], ◌∷◌, Bool, true, false, Option, Some, slice_get}
 use Rattle.std.specs.List.{AllPairs, Contains}
 use Rattle.ason_base.specs.declared.ids.NodeId.{NodeId}
 use Rattle.ason_base.specs.declared.steps.Step.{Step}
-use Rattle.route_least.specs.declared.arcs.Arc.{Arc}
-use Rattle.route_least.specs.Costs.{cost_at}
+use Rattle.route_least.specs.declared.places.Arc.{Arc}
+use Rattle.route_least.specs.declared.places.Place.{Place}
+use Rattle.route_least.specs.Costs.{cost_at, is_marked}
+use Rattle.route_least.specs.Network.{HasNode}
 
--- the arc leaves the place, and the cost of its head is less by the metric
+-- along the arc from the place the cost rises just by the metric
 pub record IsTight (costs : List (Option ℕ)) (place : ℕ) (arc : Arc) : Type 0 where
-  pub tail : arc.tail ≡ place
   pub cost : ℕ
-  pub head : cost_at costs arc.head ≡ Some cost
-  pub fall : cost_at costs place ≡ Some (cost + arc.metric)
+  pub tail : cost_at costs place ≡ Some cost
+  pub head : cost_at costs arc.head ≡ Some (cost + arc.metric)
 
--- no arc of the list that is tight at the place has a lesser link
-pub record IsBest (arcs : List Arc) (costs : List (Option ℕ)) (place : ℕ) (arc : Arc) : Type 0 where
-  pub known : Contains arcs arc
+-- an arc that is tight leads on to a marked place
+pub record LeadsOn (MayGo : ℕ → Arc → Type 0) (costs : List (Option ℕ)) (marks : List Bool) (place : ℕ) (arc : Arc) : Type 0 where
+  pub goes : MayGo place arc
   pub tight : IsTight costs place arc
-  pub best : (other : Arc) → Contains arcs other → IsTight costs place other → arc.link.0 ≤ other.link.0
+  pub marked : is_marked marks arc.head ≡ true
 
-pub record Follows (nodes : List NodeId) (arcs : List Arc) (costs : List (Option ℕ)) (place : ℕ) (step : Step) (arc : Arc) : Type 0 where
-  pub best : IsBest arcs costs place arc
-  pub node : slice_get nodes place ≡ Some step.node
+-- just the places are marked from which tight arcs lead to the end
+pub record AreMarked (MayGo : ℕ → Arc → Type 0) (costs : List (Option ℕ)) (to : ℕ) (marks : List Bool) : Type 0 where
+  pub end : is_marked marks to ≡ true
+  pub closed : (place : ℕ) (arc : Arc) → LeadsOn MayGo costs marks place arc → is_marked marks place ≡ true
+  pub onward : (place : ℕ) → is_marked marks place ≡ true → (place ≡ to) ⊎ ((arc : Arc) × LeadsOn MayGo costs marks place arc)
+
+-- of those that lead on from the place this arc has the least link
+pub record IsBest (MayGo : ℕ → Arc → Type 0) (costs : List (Option ℕ)) (marks : List Bool) (place : ℕ) (arc : Arc) : Type 0 where
+  pub leads : LeadsOn MayGo costs marks place arc
+  pub best : (other : Arc) → LeadsOn MayGo costs marks place other → arc.link.0 ≤ other.link.0
+
+pub record Follows (MayGo : ℕ → Arc → Type 0) (costs : List (Option ℕ)) (marks : List Bool) (places : List Place) (place : ℕ) (step : Step) (arc : Arc) : Type 0 where
+  pub best : IsBest MayGo costs marks place arc
+  pub node : HasNode places place step.node
   pub link : step.link ≡ arc.link
 
 -- the steps lead from the one place to the other over best arcs
-abbrev pub IsTrace : List NodeId → List Arc → List (Option ℕ) → ℕ → ℕ → List Step → Type 0
-IsTrace nodes arcs costs from to [] = from ≡ to
-IsTrace nodes arcs costs from to (step ∷ steps) = (arc : Arc) × Follows nodes arcs costs from step arc × IsTrace nodes arcs costs arc.head to steps
+abbrev pub IsTrace : (ℕ → Arc → Type 0) → List (Option ℕ) → List Bool → List Place → ℕ → ℕ → List Step → Type 0
+IsTrace MayGo costs marks places from to [] = from ≡ to
+IsTrace MayGo costs marks places from to (step ∷ steps) = (arc : Arc) × Follows MayGo costs marks places from step arc × IsTrace MayGo costs marks places arc.head to steps
+
+-- the steps are a trace inside the marked places
+pub record IsTraced (MayGo : ℕ → Arc → Type 0) (costs : List (Option ℕ)) (places : List Place) (from to : ℕ) (steps : List Step) : Type 0 where
+  pub marks : List Bool
+  pub marked : AreMarked MayGo costs to marks
+  pub trace : IsTrace MayGo costs marks places from to steps
 
 -- the entries are the nodes of the places that have a cost, with that cost
-pub record AreEntries (nodes : List NodeId) (costs : List (Option ℕ)) (entries : List (NodeId × ℕ)) : Type 0 where
+pub record AreEntries (places : List Place) (costs : List (Option ℕ)) (entries : List (NodeId × ℕ)) : Type 0 where
   pub rising : AllPairs (λ x y. x.0.0 < y.0.0) entries
-  pub sound : (n : NodeId) (cost : ℕ) → Contains entries (n, cost) → (place : ℕ) × (slice_get nodes place ≡ Some n) × (cost_at costs place ≡ Some cost)
-  pub complete : (place : ℕ) (n : NodeId) (cost : ℕ) → slice_get nodes place ≡ Some n → cost_at costs place ≡ Some cost → Contains entries (n, cost)
+  pub sound : (n : NodeId) (cost : ℕ) → Contains entries (n, cost) → (place : ℕ) × HasNode places place n × (cost_at costs place ≡ Some cost)
+  pub complete : (place : ℕ) (n : NodeId) (cost : ℕ) → HasNode places place n → cost_at costs place ≡ Some cost → Contains entries (n, cost)
+
+-- the arc's row isn't closed, and the arc is tight from a place of this cost and leads to a marked place
+pub record IsLeading (closed : List Bool) (costs : List (Option ℕ)) (marks : List Bool) (cost : ℕ) (arc : Arc) : Type 0 where
+  pub row : is_marked closed arc.row ≡ false
+  pub marked : is_marked marks arc.head ≡ true
+  pub head : cost_at costs arc.head ≡ Some (cost + arc.metric)

@@ -1,33 +1,51 @@
-//! Least costs along arcs, by passes that lower them until nothing changes.
+//! Least costs from a place, in rounds over the places whose cost was lowered, until none is.
 
-ghost use Rattle.std.specs.Prelude.{◌≡◌, ◌<◌, ◌≤◌, ℕ, false, true, All, IfOk, IsTrue, None, Some, length, replicate, sum_by};
-ghost use Rattle.route_least.specs.Costs.{cost_at, height, AreAttained, AreBounded, AreLeast, AreSmall, IsLowered, IsSettled, IsWithin};
+ghost use Rattle.std.specs.Prelude.{◌≡◌, ◌≢◌, ◌↔◌, ◌<◌, ℕ, false, true, IfOk, IsTrue, None, length, replicate, sum_by};
+ghost use Rattle.std.specs.List.{Contains};
+ghost use Rattle.route_least.specs.Costs.{cost_at, height, is_marked, AreBounded, AreLeast, AreSettled, AreSmall, IsAtMostOver, IsLowered, IsStep};
+ghost use Rattle.route_least.specs.Network.{AreSound, Goes, IsFree, IsWithin};
 
-use crate::arcs::Arc;
-use ason_base::ids::OutOfMemory;
+use crate::places::{Arc, Place};
+use ason_base::ids::{NodeId, OutOfMemory};
 use std::alloc::Global;
 
-/// The least costs from `start` to each of so many places.
+/// Whether a walk may go along the arc: its row isn't closed, and it leads to no banned node.
+pub(crate) fn is_free(places: &[Place], closed: &[bool], banned: &[NodeId], arc: &Arc) -> bool
+    requires row { arc.now.row < length closed.now }
+    requires head { arc.now.head < length places.now }
+    ensures { IsTrue result ↔ IsFree places.now closed.now banned.now arc.now }
+{
+    !closed[arc.row] && !is_banned(banned, places[arc.head].node)
+}
+
+fn is_banned(banned: &[NodeId], node: NodeId) -> bool
+    ensures { IsTrue result ↔ Contains banned.now node }
+{
+    banned.contains(&node)
+}
+
+/// The least costs from `start` to each place.
 pub(crate) fn least_costs(
     alloc: Global,
-    arcs: &[Arc],
-    count: usize,
+    places: &[Place],
+    closed: &[bool],
+    banned: &[NodeId],
     start: usize,
 ) -> Result<Vec<Option<u32>>, OutOfMemory>
-    requires arcs { All (IsWithin count) arcs.now }
-    requires count { count ≤ 66 }
-    requires start { start < count }
-    ensures len { IfOk result (λ costs. length costs.items ≡ count) }
-    ensures least { IfOk result (λ costs. AreLeast arcs.now start costs.items) }
+    requires sound { AreSound (length closed.now) places.now }
+    requires start { start < length places.now }
+    ensures len { IfOk result (λ costs. length costs.items ≡ length places.now) }
+    ensures least { IfOk result (λ costs. AreLeast (Goes places.now closed.now banned.now) start costs.items) }
     ensures small { IfOk result (λ costs. AreSmall costs.items) }
 {
-    let mut costs = no_costs(alloc, count)?;
+    let mut costs = no_costs(alloc, places.len())?;
+    let mut lowered = no_marks(alloc, places.len())?;
     costs[start] = Some(0);
-    while relax(arcs, &mut costs) {}
+    lowered[start] = true;
+    while pass(places, closed, banned, &mut costs, &mut lowered) {}
     Ok(costs)
 }
 
-// No cost for each of so many places.
 fn no_costs(alloc: Global, count: usize) -> Result<Vec<Option<u32>>, OutOfMemory>
     ensures { IfOk result (λ costs. costs.items ≡ replicate count None) }
 {
@@ -35,40 +53,122 @@ fn no_costs(alloc: Global, count: usize) -> Result<Vec<Option<u32>>, OutOfMemory
     Ok(costs)
 }
 
-// Lowers costs along each arc in turn. Whether any was lowered.
-fn relax(arcs: &[Arc], costs: &mut [Option<u32>]) -> bool
-    requires arcs { All (IsWithin (length costs.old)) arcs.now }
-    requires count { length costs.old ≤ 66 }
+/// No mark at any of so many places.
+pub(crate) fn no_marks(alloc: Global, count: usize) -> Result<Vec<bool>, OutOfMemory>
+    ensures { IfOk result (λ marks. marks.items ≡ replicate count false) }
+{
+    let marks: Vec<bool> = vec![in alloc; false; count]?;
+    Ok(marks)
+}
+
+// Visits each place whose cost was lowered. Whether any cost was lowered then.
+fn pass(
+    places: &[Place],
+    closed: &[bool],
+    banned: &[NodeId],
+    costs: &mut [Option<u32>],
+    lowered: &mut [bool],
+) -> bool
+    requires sound { AreSound (length closed.now) places.now }
+    requires costs { length costs.old ≡ length places.now }
+    requires lowered { length lowered.old ≡ length places.now }
     requires bounded { AreBounded costs.old }
-    ensures bounded { AreBounded costs.new }
-    ensures attained { (start : ℕ) → AreAttained arcs.now start costs.old → AreAttained arcs.now start costs.new }
-    ensures start { (start : ℕ) → cost_at costs.old start ≡ Some 0 → cost_at costs.new start ≡ Some 0 }
-    ensures settled { result ≡ false → All (IsSettled costs.new) arcs.now }
+    ensures step { IsStep (Goes places.now closed.now banned.now) costs.old costs.new }
+    ensures settled { AreSettled (Goes places.now closed.now banned.now) (λ p. is_marked lowered.old p ≡ false) costs.old → AreSettled (Goes places.now closed.now banned.now) (λ p. is_marked lowered.new p ≡ false) costs.new }
+    ensures none { result ≡ false → (p : ℕ) → is_marked lowered.new p ≡ false }
     ensures falls { result ≡ true → sum_by height costs.new < sum_by height costs.old }
 {
     let mut changed = false;
-    for arc in arcs {
-        if lower(arc, costs) {
+    for place in 0..places.len() {
+        if visit(places, closed, banned, place, costs, lowered) {
             changed = true;
         }
     }
     changed
 }
 
-// Lowers the cost of the arc's head to that over the arc, if it is above. Whether it was.
-fn lower(arc: &Arc, costs: &mut [Option<u32>]) -> bool
-    requires arc { IsWithin (length costs.old) arc.now }
-    requires count { length costs.old ≤ 66 }
+// Lowers costs along the arcs of a place whose cost was lowered. Whether any was lowered.
+fn visit(
+    places: &[Place],
+    closed: &[bool],
+    banned: &[NodeId],
+    place: usize,
+    costs: &mut [Option<u32>],
+    lowered: &mut [bool],
+) -> bool
+    requires sound { AreSound (length closed.now) places.now }
+    requires place { place < length places.now }
+    requires costs { length costs.old ≡ length places.now }
+    requires lowered { length lowered.old ≡ length places.now }
     requires bounded { AreBounded costs.old }
+    ensures step { IsStep (Goes places.now closed.now banned.now) costs.old costs.new }
+    ensures settled { AreSettled (Goes places.now closed.now banned.now) (λ p. is_marked lowered.old p ≡ false) costs.old → AreSettled (Goes places.now closed.now banned.now) (λ p. is_marked lowered.new p ≡ false) costs.new }
     ensures kept { result ≡ false → costs.new ≡ costs.old }
-    ensures settled { result ≡ false → IsSettled costs.old arc.now }
-    ensures lowered { result ≡ true → IsLowered arc.now costs.old costs.new }
+    ensures off { result ≡ false → is_marked lowered.new place ≡ false }
+    ensures none { result ≡ false → (p : ℕ) → is_marked lowered.old p ≡ false → is_marked lowered.new p ≡ false }
+    ensures falls { result ≡ true → sum_by height costs.new < sum_by height costs.old }
 {
-    let Some(cost) = costs[arc.tail] else {
+    if !lowered[place] {
+        return false;
+    }
+    lowered[place] = false;
+    relax(places, closed, banned, place, costs, lowered)
+}
+
+// Lowers costs along the arcs of a place, and marks where. Whether any was lowered.
+fn relax(
+    places: &[Place],
+    closed: &[bool],
+    banned: &[NodeId],
+    place: usize,
+    costs: &mut [Option<u32>],
+    lowered: &mut [bool],
+) -> bool
+    requires sound { AreSound (length closed.now) places.now }
+    requires place { place < length places.now }
+    requires costs { length costs.old ≡ length places.now }
+    requires lowered { length lowered.old ≡ length places.now }
+    requires bounded { AreBounded costs.old }
+    ensures step { IsStep (Goes places.now closed.now banned.now) costs.old costs.new }
+    ensures settled { AreSettled (Goes places.now closed.now banned.now) (λ p. (p ≢ place) × (is_marked lowered.old p ≡ false)) costs.old → AreSettled (Goes places.now closed.now banned.now) (λ p. is_marked lowered.new p ≡ false) costs.new }
+    ensures kept { result ≡ false → (costs.new ≡ costs.old) × (lowered.new ≡ lowered.old) }
+    ensures falls { result ≡ true → sum_by height costs.new < sum_by height costs.old }
+{
+    let Some(cost) = costs[place] else {
         return false;
     };
+    let mut changed = false;
+    for arc in &places[place].arcs {
+        if lower(places, closed, banned, arc, cost, costs) {
+            lowered[arc.head] = true;
+            changed = true;
+        }
+    }
+    changed
+}
+
+// Lowers the cost of the arc's head to that over the arc, if it is above and a walk may go there. Whether it was.
+fn lower(
+    places: &[Place],
+    closed: &[bool],
+    banned: &[NodeId],
+    arc: &Arc,
+    cost: u32,
+    costs: &mut [Option<u32>],
+) -> bool
+    requires arc { IsWithin (length costs.old) (length closed.now) arc.now }
+    requires costs { length costs.old ≡ length places.now }
+    requires small { cost < 16777216 }
+    ensures kept { result ≡ false → costs.new ≡ costs.old }
+    ensures settled { result ≡ false → IsFree places.now closed.now banned.now arc.now → IsAtMostOver costs.old cost arc.now }
+    ensures free { result ≡ true → IsFree places.now closed.now banned.now arc.now }
+    ensures lowered { result ≡ true → IsLowered arc.now cost costs.old costs.new }
+{
     let over = cost + arc.metric;
     if costs[arc.head].is_some_and(|least| least <= over) {
+        return false;
+    }
+    if !is_free(places, closed, banned, arc) {
         return false;
     }
     costs[arc.head] = Some(over);

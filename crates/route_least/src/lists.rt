@@ -1,6 +1,6 @@
 //! Lists that routing takes and gives: links, nodes and potentials.
 
-ghost use Rattle.std.specs.Prelude.{◌≡◌, ◌<◌, [], ◌∷◌, ◌++◌, All, OnErr, OnOk};
+ghost use Rattle.std.specs.Prelude.{◌≡◌, ◌<◌, [], ◌∷◌, ◌++◌, All, IfOk, OnErr, OnOk};
 
 use ason_base::ids::{LinkId, NodeId, OutOfMemory};
 use std::alloc::Global;
@@ -111,6 +111,14 @@ impl Potentials {
         Potentials {
             entries: Vec::new(alloc),
         }
+    }
+
+    /// No node, and room for so many.
+    pub(crate) fn with_capacity(alloc: Global, capacity: usize) -> Result<Potentials, OutOfMemory>
+        ensures { IfOk result (λ potentials. potentials ≡ []) }
+    {
+        let entries = Vec::with_capacity(alloc, capacity)?;
+        Ok(Potentials { entries })
     }
 
     /// Adds a node above all that are there, with its potential.

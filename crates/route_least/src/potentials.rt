@@ -1,27 +1,27 @@
 //! Potentials from a table of least costs.
 
-ghost use Rattle.std.specs.Prelude.{◌≡◌, IfOk, length};
-ghost use Rattle.route_least.specs.Graph.{AreRising};
-ghost use Rattle.route_least.specs.Trace.{AreEntries};
+ghost use Rattle.std.specs.Prelude.{◌≡◌, ◌<◌, All, IfOk, length};
+ghost use Rattle.route_least.specs.Potentials.{AreListed, AreRising};
 
 use crate::lists::Potentials;
-use ason_base::ids::{NodeId, OutOfMemory};
+use crate::order::NodePlace;
+use ason_base::ids::OutOfMemory;
 use std::alloc::Global;
 
-/// The nodes that have a cost, each with its cost.
+/// The nodes whose place has a cost, each with its cost.
 pub(crate) fn potentials_of(
     alloc: Global,
-    nodes: &[NodeId],
+    order: &[NodePlace],
     costs: &[Option<u32>],
 ) -> Result<Potentials, OutOfMemory>
-    requires nodes { AreRising nodes.now }
-    requires costs { length costs.now ≡ length nodes.now }
-    ensures { IfOk result (λ entries. AreEntries nodes.now costs.now entries) }
+    requires rising { AreRising order.now }
+    requires places { All (λ e. e.place < length costs.now) order.now }
+    ensures { IfOk result (λ entries. AreListed order.now costs.now entries) }
 {
-    let mut potentials = Potentials::new(alloc);
-    for place in 0..nodes.len() {
-        if let Some(cost) = costs[place] {
-            potentials.push((nodes[place], cost))?;
+    let mut potentials = Potentials::with_capacity(alloc, order.len())?;
+    for entry in order {
+        if let Some(cost) = costs[entry.place] {
+            potentials.push((entry.node, cost))?;
         }
     }
     Ok(potentials)

@@ -1,42 +1,44 @@
-//! The least route, read off the least costs to its end.
+//! The least route, traced from its start over tight arcs that lead to its end.
 
-ghost use Rattle.std.specs.Prelude.{◌≡◌, ◌<◌, ◌↔◌, ℕ, All, IfOk, IsTrue, MatchOption, Some, length, map};
-ghost use Rattle.std.specs.List.{Contains};
-ghost use Rattle.route_least.specs.Costs.{cost_at, turned, AreLeast, AreSmall, IsWithin};
-ghost use Rattle.route_least.specs.Trace.{IsBest, IsTight, IsTrace};
-ghost use Rattle.route_least.specs.declared.arcs.Arc.{Arc};
+ghost use Rattle.std.specs.Prelude.{◌≡◌, ◌<◌, ◌≤◌, ◌↔◌, ℕ, true, IfOk, IsTrue, MatchOption, length};
+ghost use Rattle.route_least.specs.Costs.{cost_at, is_marked, AreSmall};
+ghost use Rattle.route_least.specs.Marking.{Crosses};
+ghost use Rattle.route_least.specs.Network.{AreSound};
+ghost use Rattle.route_least.specs.Trace.{AreMarked, IsBest, IsLeading, IsTrace, LeadsOn};
+ghost use Rattle.route_least.specs.declared.places.Arc.{Arc};
 
-use crate::arcs::Arc;
-use ason_base::ids::{NodeId, OutOfMemory};
+use crate::places::{Arc, Place};
+use ason_base::ids::OutOfMemory;
 use ason_base::steps::{Step, Steps};
 use std::alloc::Global;
 
-/// The steps from place to place, each over the least link on which the costs to the end fall just by the metric.
+/// The steps from the first of the two ends to the second, each over the least link that leads on.
 pub(crate) fn follow(
     alloc: Global,
-    nodes: &[NodeId],
-    arcs: &[Arc],
+    places: &[Place],
+    closed: &[bool],
     costs: &[Option<u32>],
-    from: usize,
-    to: usize,
+    marks: &[bool],
+    ends: (usize, usize),
 ) -> Result<Steps, OutOfMemory>
-    requires arcs { All (IsWithin (length nodes.now)) arcs.now }
-    requires costs { length costs.now ≡ length nodes.now }
-    requires least { AreLeast (map turned arcs.now) to costs.now }
+    requires sound { AreSound (length closed.now) places.now }
+    requires costs { length costs.now ≡ length places.now }
+    requires marks { length marks.now ≡ length places.now }
     requires small { AreSmall costs.now }
-    requires from { from < length nodes.now }
-    requires reached { (cost : ℕ) × (cost_at costs.now from ≡ Some cost) }
-    ensures { IfOk result (λ route. IsTrace nodes.now arcs.now costs.now from to route) }
+    requires marked { AreMarked (Crosses places.now closed.now) costs.now ends.1 marks.now }
+    requires from { ends.0 < length places.now }
+    requires leads { is_marked marks.now ends.0 ≡ true }
+    ensures { IfOk result (λ route. IsTrace (Crosses places.now closed.now) costs.now marks.now places.now ends.0 ends.1 route) }
 {
     let mut route = Steps::new(alloc);
-    let mut place = from;
-    while place != to {
-        let arc = match best_arc(arcs, costs, place) {
+    let mut place = ends.0;
+    while place != ends.1 {
+        let arc = match best_arc(places, closed, costs, marks, place) {
             Some(arc) => arc,
             None => unreachable!(),
         };
         route.push(Step {
-            node: nodes[place],
+            node: places[place].node,
             link: arc.link,
         })?;
         place = arc.head;
@@ -44,15 +46,27 @@ pub(crate) fn follow(
     Ok(route)
 }
 
-// Of the arcs that leave the place, and on which the costs fall just by the metric, that of the least link.
-fn best_arc(arcs: &[Arc], costs: &[Option<u32>], place: usize) -> Option<Arc>
-    requires arcs { All (IsWithin (length costs.now)) arcs.now }
+// Of the arcs that lead on from the place, that of the least link.
+fn best_arc(
+    places: &[Place],
+    closed: &[bool],
+    costs: &[Option<u32>],
+    marks: &[bool],
+    place: usize,
+) -> Option<Arc>
+    requires sound { AreSound (length closed.now) places.now }
+    requires costs { length costs.now ≡ length places.now }
+    requires marks { length marks.now ≡ length places.now }
     requires small { AreSmall costs.now }
-    ensures { MatchOption result ((arc : Arc) → Contains arcs.now arc → ¬ IsTight costs.now place arc) (λ arc. IsBest arcs.now costs.now place arc) }
+    requires place { place < length places.now }
+    ensures { MatchOption result ((arc : Arc) → ¬ LeadsOn (Crosses places.now closed.now) costs.now marks.now place arc) (λ arc. IsBest (Crosses places.now closed.now) costs.now marks.now place arc) }
 {
+    let Some(cost) = costs[place] else {
+        return None;
+    };
     let mut best: Option<Arc> = None;
-    for arc in arcs {
-        if is_tight(arc, costs, place) && is_less(arc, &best) {
+    for arc in &places[place].arcs {
+        if leads_on(closed, costs, marks, cost, arc) && is_less(arc, &best) {
             best = Some(*arc);
         }
     }
@@ -69,16 +83,20 @@ fn is_less(arc: &Arc, other: &Option<Arc>) -> bool
     }
 }
 
-fn is_tight(arc: &Arc, costs: &[Option<u32>], place: usize) -> bool
-    requires arc { IsWithin (length costs.now) arc.now }
-    requires small { AreSmall costs.now }
-    ensures { IsTrue result ↔ IsTight costs.now place arc.now }
+// Whether the arc's row isn't closed, and the arc is tight from a place of this cost and leads to a marked place.
+fn leads_on(closed: &[bool], costs: &[Option<u32>], marks: &[bool], cost: u32, arc: &Arc) -> bool
+    requires row { arc.now.row < length closed.now }
+    requires head { arc.now.head < length costs.now }
+    requires marks { length marks.now ≡ length costs.now }
+    requires cost { cost < 16777216 }
+    requires metric { arc.now.metric < 65536 }
+    ensures { IsTrue result ↔ IsLeading closed.now costs.now marks.now cost arc.now }
 {
-    if arc.tail != place {
+    if closed[arc.row] || !marks[arc.head] {
         return false;
     }
-    match (costs[arc.tail], costs[arc.head]) {
-        (Some(cost), Some(left)) => cost == left + arc.metric,
-        _ => false,
+    match costs[arc.head] {
+        Some(over) => over == cost + arc.metric,
+        None => false,
     }
 }

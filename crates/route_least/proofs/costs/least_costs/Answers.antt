@@ -1,33 +1,44 @@
-use Rattle.std.proofs.Common.{◌≡◌, ◌∙◌, sym, subst, length, ◌++◌, take, drop, set, Some}
-use Rattle.route_least.specs.Costs.{AreLeast, AreSmall}
-use Rattle.route_least.proofs.Tables.{IsTable, first_table, next_table, settled_least, small, written_back}
+use Rattle.std.proofs.Common.{◌≡◌, ◌∙◌, ◌++◌, ◌≤◌, false, length, sym, subst, set, replicate, take, drop, None, Some, true}
+use Rattle.route_least.specs.Costs.{AreLeast, AreSmall, is_marked}
+use Rattle.route_least.specs.Network.{Goes}
+use Rattle.route_least.proofs.Lowered.{small}
+use Rattle.route_least.proofs.Passed.{IsTable, first_table, round_table, settled_least, written_back}
 use Rattle.route_least.proofs.costs.least_costs.Goals as goal
 
 pub loop-init : goal.loop-init
 loop-init c =
-    subst (λ costs. IsTable c.args.arcs.now c.args.start c.args.count (set costs c.args.start (Some 0))) (sym c.in_ok-costs.ensures) (first_table c.args.arcs.now c.args.start c.args.count c.requires.start)
+    let goes = Goes c.args.places.now c.args.closed.now c.args.banned.now in
+    let count = length c.args.places.now in
+    subst (λ costs. IsTable goes c.args.start count (set costs c.args.start (Some 0)) (set c.in_ok-lowered.lowered.items c.args.start true)) (sym c.in_ok-costs.ensures)
+    (subst (λ marks. IsTable goes c.args.start count (set (replicate count None) c.args.start (Some 0)) (set marks c.args.start true)) (sym c.in_ok-lowered.ensures) (first_table goes c.args.start count c.requires.start))
 
 pub loop-preserved : goal.loop-preserved
 loop-preserved c =
-    let new = c.relax.new.costs in
-    let same : take c.loop.costs.len (new ++ drop (length new) c.loop.costs.items) ≡ new = written_back c.loop.costs.len new c.loop.costs.items (c.relax.auto.costs ∙ c.deref_mut.ensures.len) in
-    subst (IsTable c.args.arcs.now c.args.start c.args.count) (sym same)
-    (next_table c.args.arcs.now c.args.start c.args.count c.loop.costs.items c.deref_mut.result.now new c.deref_mut.ensures.value c.relax.auto.costs c.loop.invariant c.relax.ensures.bounded (c.relax.ensures.attained c.args.start) (c.relax.ensures.start c.args.start))
+    round_table (Goes c.args.places.now c.args.closed.now c.args.banned.now) c.args.start (length c.args.places.now) c.loop.costs.len c.loop.lowered.len
+    c.loop.costs.items c.deref_mut.result.now c.pass.new.costs c.loop.lowered.items c.deref_mut-in-loop.result.now c.pass.new.lowered c.loop.invariant
+    c.deref_mut.ensures.value c.deref_mut-in-loop.ensures.value c.deref_mut.ensures.len c.deref_mut-in-loop.ensures.len c.pass.auto.costs c.pass.auto.lowered
+    c.pass.ensures.step c.pass.ensures.settled
 
 pub returns-clause-least : goal.returns-clause-least
 returns-clause-least c =
-    let new = c.relax.new.costs in
-    let same : take c.loop.costs.len (new ++ drop (length new) c.loop.costs.items) ≡ new = written_back c.loop.costs.len new c.loop.costs.items (c.relax.auto.costs ∙ c.deref_mut.ensures.len) in
-    subst (AreLeast c.args.arcs.now c.args.start) (sym same)
-    (settled_least c.args.arcs.now c.args.start c.args.count new
-    (next_table c.args.arcs.now c.args.start c.args.count c.loop.costs.items c.deref_mut.result.now new c.deref_mut.ensures.value c.relax.auto.costs c.loop.invariant c.relax.ensures.bounded (c.relax.ensures.attained c.args.start) (c.relax.ensures.start c.args.start))
-    (c.relax.ensures.settled c.loop-test.false))
+    let goes = Goes c.args.places.now c.args.closed.now c.args.banned.now in
+    let table =
+    round_table goes c.args.start (length c.args.places.now) c.loop.costs.len c.loop.lowered.len
+    c.loop.costs.items c.deref_mut.result.now c.pass.new.costs c.loop.lowered.items c.deref_mut-in-loop.result.now c.pass.new.lowered c.loop.invariant
+    c.deref_mut.ensures.value c.deref_mut-in-loop.ensures.value c.deref_mut.ensures.len c.deref_mut-in-loop.ensures.len c.pass.auto.costs c.pass.auto.lowered
+    c.pass.ensures.step c.pass.ensures.settled
+    in
+    let marks = written_back c.loop.lowered.len c.pass.new.lowered c.loop.lowered.items (c.pass.auto.lowered ∙ c.deref_mut-in-loop.ensures.len) in
+    settled_least goes c.args.start (length c.args.places.now) _ _ table
+    (λ p. subst (λ on. is_marked on p ≡ false) (sym marks) (c.pass.ensures.none c.loop-test.false p))
 
 pub returns-clause-small : goal.returns-clause-small
 returns-clause-small c =
-    let new = c.relax.new.costs in
-    let same : take c.loop.costs.len (new ++ drop (length new) c.loop.costs.items) ≡ new = written_back c.loop.costs.len new c.loop.costs.items (c.relax.auto.costs ∙ c.deref_mut.ensures.len) in
-    subst AreSmall (sym same)
-    (small c.args.arcs.now c.args.start c.args.count new
-    (next_table c.args.arcs.now c.args.start c.args.count c.loop.costs.items c.deref_mut.result.now new c.deref_mut.ensures.value c.relax.auto.costs c.loop.invariant c.relax.ensures.bounded (c.relax.ensures.attained c.args.start) (c.relax.ensures.start c.args.start))
-    c.requires.count)
+    let goes = Goes c.args.places.now c.args.closed.now c.args.banned.now in
+    let table =
+    round_table goes c.args.start (length c.args.places.now) c.loop.costs.len c.loop.lowered.len
+    c.loop.costs.items c.deref_mut.result.now c.pass.new.costs c.loop.lowered.items c.deref_mut-in-loop.result.now c.pass.new.lowered c.loop.invariant
+    c.deref_mut.ensures.value c.deref_mut-in-loop.ensures.value c.deref_mut.ensures.len c.deref_mut-in-loop.ensures.len c.pass.auto.costs c.pass.auto.lowered
+    c.pass.ensures.step c.pass.ensures.settled
+    in
+    small _ table.bounded (subst (λ n. n ≤ 64) (sym table.len) c.requires.sound.few)

@@ -1,20 +1,80 @@
-use Rattle.std.proofs.Common.{◌≡◌, ◌+◌, ◌≤◌, length, sym, subst, take, take_all, All, arith}
-use Rattle.route_least.specs.Costs.{IsSettled, IsWithin}
-use Rattle.route_least.proofs.Lowered.{HasPassed, passed_lower, passed_keep}
+use Rattle.std.proofs.Common.{◌≡◌, ◌∙◌, ◌+◌, ◌<◌, ◌≤◌, ℕ, Bool, List, Option, Some, get_or, length, set, sym, subst, take, take_all, true, false, arith}
+use Rattle.route_least.specs.declared.places.Arc.{Arc}
+use Rattle.route_least.specs.Costs.{cost_at}
+use Rattle.route_least.specs.Network.{HasArc, IsWithin}
+use Rattle.route_least.proofs.Lowered.{small}
+use Rattle.route_least.proofs.PlaceLists.{no_arc, read_arc}
+use Rattle.route_least.proofs.Relaxed.{IsRelaxing, all_relaxed, relaxed, relaxed_none, relaxing}
 use Rattle.route_least.proofs.costs.relax.Goals as goal
 use Rattle.route_least.proofs.costs.relax.Goals.{then-lower, else-lower}
 
+pub loop-arc-init : goal.loop-arc-init
+loop-arc-init c = relaxing c.args.places.now c.args.closed.now c.args.banned.now c.args.place c.in-Some.cost c.args.costs.now c.args.lowered.now c.in-Some.is c.requires.bounded
+
+pub lower-requires-clause-arc : goal.lower-requires-clause-arc
+lower-requires-clause-arc c =
+    let places = c.args.places.now in
+    let arcs = c.deref-arc-items.result.now in
+    let same : length c.loop-arc.costs ≡ length places = c.loop-arc.auto.costs ∙ c.requires.costs in
+    let there = read_arc places c.args.place c.index-places-place.result arcs c.loop-arc.arc-index no_arc c.deref-arc-items.ensures.value c.requires.place c.loop-arc-test.true in
+    let arc = get_or arcs c.loop-arc.arc-index no_arc in
+    subst (λ n. IsWithin n (length c.args.closed.now) arc) (sym same) (c.requires.sound.within c.args.place arc there)
+
+pub lower-requires-clause-small : goal.lower-requires-clause-small
+lower-requires-clause-small c =
+    let few : length c.args.costs.now ≤ 64 = subst (λ n. n ≤ 64) (sym c.requires.costs) c.requires.sound.few in
+    small c.args.costs.now c.requires.bounded few c.args.place c.in-Some.cost c.in-Some.is
+
+pub bounds-lowered-arc : goal.bounds-lowered-arc
+bounds-lowered-arc c =
+    let places = c.args.places.now in
+    let arcs = c.deref-arc-items.result.now in
+    let same : length c.loop-arc.lowered ≡ length places = c.loop-arc.auto.lowered ∙ c.requires.lowered in
+    let there = read_arc places c.args.place c.index-places-place.result arcs c.loop-arc.arc-index no_arc c.deref-arc-items.ensures.value c.requires.place c.loop-arc-test.true in
+    let arc = get_or arcs c.loop-arc.arc-index no_arc in
+    subst (λ n. arc.head < n) (sym same) (c.requires.sound.within c.args.place arc there).head
+
 pub loop-arc-preserved : goal.loop-arc-preserved
 loop-arc-preserved c =
-    let arcs = c.args.arcs.now in
+    let places = c.args.places.now in
+    let closed = c.args.closed.now in
+    let banned = c.args.banned.now in
+    let place = c.args.place in
+    let cost = c.in-Some.cost in
+    let arcs = c.deref-arc-items.result.now in
     let i = c.loop-arc.arc-index in
-    let same : length c.loop-arc.costs ≡ length c.args.costs.now = c.loop-arc.auto.costs in
-    let few : length c.loop-arc.costs ≤ 66 = omega (arith, c.requires.count) in
-    let within : All (IsWithin (length c.loop-arc.costs)) arcs = subst (λ n. All (IsWithin n) arcs) (sym same) c.requires.arcs in
+    let there = read_arc places place c.index-places-place.result arcs i no_arc c.deref-arc-items.ensures.value c.requires.place c.loop-arc-test.true in
+    let within = c.requires.sound.within place (get_or arcs i no_arc) there in
+    let costs : length c.loop-arc.costs ≡ length places = c.loop-arc.auto.costs ∙ c.requires.costs in
+    let marks : length c.loop-arc.lowered ≡ length places = c.loop-arc.auto.lowered ∙ c.requires.lowered in
+    let few : length c.args.costs.now ≤ 64 = subst (λ n. n ≤ 64) (sym c.requires.costs) c.requires.sound.few in
+    let low = small c.args.costs.now c.requires.bounded few place cost c.in-Some.is in
     elim c.if-lower.branch [
-      | then-lower w ↦ subst (λ b. HasPassed arcs (take (i + 1) arcs) c.args.costs.now c.lower.new.costs b) (sym w.changed-is) (passed_lower arcs i _ c.args.costs.now c.loop-arc.costs c.lower.new.costs c.loop-arc.changed c.loop-arc-test.true within few c.loop-arc.invariant (c.lower.ensures.lowered w.if-lower.true))
-      | else-lower w ↦ subst (λ b. HasPassed arcs (take (i + 1) arcs) c.args.costs.now c.lower.new.costs b) (sym w.changed-is) (passed_keep arcs i _ c.args.costs.now c.loop-arc.costs c.lower.new.costs c.loop-arc.changed c.loop-arc-test.true c.loop-arc.invariant (c.lower.ensures.kept w.if-lower.false) (c.lower.ensures.settled w.if-lower.false))
+      | then-lower w ↦
+          subst (λ b. IsRelaxing places closed banned place cost c.args.costs.now c.args.lowered.now (take (i + 1) arcs) c.lower.new.costs c.if-lower.lowered b) (sym w.changed-is)
+          (subst (λ on. IsRelaxing places closed banned place cost c.args.costs.now c.args.lowered.now (take (i + 1) arcs) c.lower.new.costs on true) (sym w.lowered-is)
+          (relaxed places closed banned place cost c.args.costs.now c.args.lowered.now arcs i no_arc c.loop-arc.costs c.lower.new.costs c.loop-arc.lowered c.loop-arc.changed c.loop-arc-test.true c.loop-arc.invariant
+          (there, c.lower.ensures.free w.if-lower.true) (subst (λ n. (get_or arcs i no_arc).head < n) (sym costs) within.head) (subst (λ n. (get_or arcs i no_arc).head < n) (sym marks) within.head) within.metric low (c.lower.ensures.lowered w.if-lower.true)))
+      | else-lower w ↦
+          subst (λ b. IsRelaxing places closed banned place cost c.args.costs.now c.args.lowered.now (take (i + 1) arcs) c.lower.new.costs c.if-lower.lowered b) (sym w.changed-is)
+          (subst (λ on. IsRelaxing places closed banned place cost c.args.costs.now c.args.lowered.now (take (i + 1) arcs) c.lower.new.costs on c.loop-arc.changed) (sym w.lowered-is)
+          (relaxed_none places closed banned place cost c.args.costs.now c.args.lowered.now arcs i no_arc c.loop-arc.costs c.lower.new.costs c.loop-arc.lowered c.loop-arc.changed c.loop-arc-test.true c.loop-arc.invariant
+          (c.lower.ensures.kept w.if-lower.false) (c.lower.ensures.settled w.if-lower.false)))
     ]
 
+pub returns-clause-step : goal.returns-clause-step
+returns-clause-step c = c.loop-arc.invariant.step
+
 pub returns-clause-settled : goal.returns-clause-settled
-returns-clause-settled c = λ e. subst (λ done. All (IsSettled c.loop-arc.costs) done) (take_all c.loop-arc.arc-index c.args.arcs.now c.loop-arc-test.false) (c.loop-arc.invariant.settled e)
+returns-clause-settled c =
+    let arcs = c.deref-arc-items.result.now in
+    let done = c.loop-arc.invariant in
+    all_relaxed c.args.places.now c.args.closed.now c.args.banned.now c.args.place c.in-Some.cost c.args.costs.now c.args.lowered.now c.index-places-place.result c.loop-arc.costs c.loop-arc.lowered c.loop-arc.changed
+    (subst (λ xs. IsRelaxing c.args.places.now c.args.closed.now c.args.banned.now c.args.place c.in-Some.cost c.args.costs.now c.args.lowered.now xs c.loop-arc.costs c.loop-arc.lowered c.loop-arc.changed)
+    (take_all c.loop-arc.arc-index arcs c.loop-arc-test.false ∙ c.deref-arc-items.ensures.value) done)
+
+pub returns-clause-kept : goal.returns-clause-kept
+returns-clause-kept c = c.loop-arc.invariant.kept
+
+pub returns-clause-falls : goal.returns-clause-falls
+returns-clause-falls c = c.loop-arc.invariant.falls

@@ -1,20 +1,32 @@
-use Rattle.std.proofs.Common.{◌+◌, ◌∙◌, sym, subst}
-use Rattle.route_least.proofs.Listing.{AreFirst, all_below, all_first, first_push, first_skip}
+use Rattle.std.proofs.Common.{◌+◌, ◌∙◌, ◌≡◌, sym, subst, take, take_all, get_or}
+use Rattle.route_least.specs.declared.order.NodePlace.{NodePlace}
+use Rattle.route_least.specs.Potentials.{AreListed}
+use Rattle.route_least.proofs.Listing.{all_below, listed_push, listed_skip, none_listed}
 use Rattle.route_least.proofs.potentials.potentials_of.Goals as goal
 use Rattle.route_least.proofs.potentials.potentials_of.Goals.{in-Some+in_ok-push, in_default}
 
-pub push-requires : goal.push-requires
-push-requires c = all_below c.args.nodes.now c.args.costs.now c.loop-place.place c.loop-place.potentials (record { 0 = 0 }) c.requires.nodes c.loop-place-test.true c.loop-place.invariant
+abbrev no_place : NodePlace
+no_place = record { node = record { 0 = 0 }; place = 0 }
 
-pub loop-place-preserved : goal.loop-place-preserved
-loop-place-preserved c =
-    let nodes = c.args.nodes.now in
+pub loop-entry-init : goal.loop-entry-init
+loop-entry-init c = none_listed c.args.costs.now _ c.in_ok-potentials.ensures
+
+pub push-requires : goal.push-requires
+push-requires c = all_below c.args.order.now c.args.costs.now c.loop-entry.entry-index no_place c.loop-entry.potentials c.loop-entry-test.true c.loop-entry.invariant c.requires.rising
+
+pub loop-entry-preserved : goal.loop-entry-preserved
+loop-entry-preserved c =
+    let order = c.args.order.now in
     let costs = c.args.costs.now in
-    let k = c.loop-place.place in
-    elim c.match-costs-place.branch [
-      | in-Some+in_ok-push w ↦ subst (AreFirst nodes costs (k + 1)) (sym (w.potentials-is ∙ w.in_ok-push.ensures.ok)) (first_push nodes costs k c.loop-place.potentials (record { 0 = 0 }) w.in-Some.cost c.requires.nodes c.loop-place-test.true w.in-Some.is c.loop-place.invariant)
-      | in_default w ↦ subst (AreFirst nodes costs (k + 1)) (sym w.potentials-is) (first_skip nodes costs k c.loop-place.potentials w.in_default.not-Some c.loop-place.invariant)
+    let i = c.loop-entry.entry-index in
+    elim c.match-costs-entry.branch [
+      | in-Some+in_ok-push w ↦
+          subst (AreListed (take (i + 1) order) costs) (sym (w.potentials-is ∙ w.in_ok-push.ensures.ok))
+          (listed_push order costs i no_place c.loop-entry.potentials c.loop-entry-test.true c.loop-entry.invariant w.in-Some.cost c.requires.rising w.in-Some.is)
+      | in_default w ↦
+          subst (AreListed (take (i + 1) order) costs) (sym w.potentials-is)
+          (listed_skip order costs i no_place c.loop-entry.potentials c.loop-entry-test.true c.loop-entry.invariant w.in_default.not-Some)
     ]
 
 pub returns : goal.returns
-returns c = all_first c.args.nodes.now c.args.costs.now c.loop-place.place c.loop-place.potentials c.loop-place-test.false c.loop-place.invariant
+returns c = subst (λ done. AreListed done c.args.costs.now c.loop-entry.potentials) (take_all c.loop-entry.entry-index c.args.order.now c.loop-entry-test.false) c.loop-entry.invariant

@@ -1,0 +1,135 @@
+-- Places in order of their nodes.
+use Rattle.std.proofs.Common.{◌≡◌, ◌≢◌, ◌⊎◌, ◌↔◌, inl, inr, ℕ, ◌+◌, ◌<◌, ◌≤◌, IsTrue, true, List, [], ◌∷◌, ◌++◌, Some, length, map, get_or, slice_get, Less, Equal, refl, sym, ◌∙◌, ap, subst, arith, length-append}
+use Rattle.std.specs.BTreeSet.{BTreeSet, IsFromIterResult, contains}
+use Rattle.std.specs.List.{AllPairs, Contains}
+use Rattle.std.specs.List.Sorted.{IsStrictlySortedBy}
+use Rattle.std.specs.Bool.{Decides}
+use Rattle.std.specs.Ordering.{eq_by_cmp}
+use Rattle.std.proofs.lemmas.Cmp.{eq_by_cmp_equiv}
+use Rattle.std.proofs.lemmas.List.{get_or-map, length-map}
+use Rattle.std.proofs.lemmas.Map.Keys.{Less-from_sorted}
+use Rattle.std.proofs.lemmas.Map.Made.{IsDistinct-from_AllPairs, length-le_from_is_member}
+use Rattle.std.proofs.lemmas.Map.Views.{Contains-from_any, btree_set_contains_from_list, btree_set_contains_iff, list_any-from_Contains}
+use Rattle.std.proofs.lemmas.Bool.{cases_eq}
+use Rattle.std.proofs.lemmas.List.Elements.{Contains-get_or}
+use Rattle.std.proofs.lemmas.Option.{slice_get-get_or, slice_get_cases}
+use Rattle.ason_base.specs.declared.ids.NodeId.{NodeId}
+use Rattle.ason_base.specs.contracts.ids.NodeIdOrd.TheImpl.{ghosts as node}
+use Rattle.ason_base.specs.contracts.ids.NodeIdOrd.TheImpl.Laws.{total-law as node-law}
+use Rattle.route_least.specs.contracts.order.NodePlaceOrd.TheImpl.{ghosts}
+use Rattle.route_least.specs.contracts.order.NodePlaceOrd.TheImpl.Laws.{total-law}
+use Rattle.route_least.specs.declared.order.NodePlace.{NodePlace}
+use Rattle.route_least.specs.declared.places.Place.{Place}
+use Rattle.route_least.specs.Network.{AreInOrder, AreNumbered, AreOnce, HasNode}
+use Rattle.route_least.proofs.PlaceLists.{get_kept, get_pushed, node_at, node_is, node_within, none_some, one_node, some_same}
+
+pub same_node : (a b : NodeId) → a.0 ≡ b.0 → a ≡ b
+same_node a b e = λ i. record { 0 = e i }
+
+-- The entries in order of place
+
+pub none_numbered : (places : List Place) (entries : List NodePlace) → entries ≡ [] → AreNumbered places 0 entries
+none_numbered places entries none = record {
+  len = ap length none;
+  are = λ k e h. absurd (none_some (subst (λ es. slice_get es k ≡ Some e) none h));
+}
+
+pub numbered_more : (places : List Place) (k : ℕ) (d : Place) (entries : List NodePlace) → k < length places → AreNumbered places k entries → AreNumbered places (k + 1) (entries ++ (record { node = (get_or places k d).node; place = k }) ∷ [])
+numbered_more places k d entries within are =
+    let new : NodePlace = record { node = (get_or places k d).node; place = k } in
+    record {
+      len = (let l : length (entries ++ new ∷ []) ≡ length entries + 1 = length-append entries (new ∷ []) in let m : length entries ≡ k = are.len in omega arith);
+      are = λ i e h. elim (get_pushed entries new i e h) [
+        | inl before ↦ are.are i e before
+        | inr last ↦
+            (let at : k ≡ i = sym are.len ∙ sym last.0 in
+            subst (λ x. (x.place ≡ i) × HasNode places i x.node) last.1
+            (subst (λ j. (k ≡ j) × HasNode places j new.node) at (refl, node_at places k d within)))
+      ];
+    }
+
+-- The order
+
+cmp-equal : (a b : NodePlace) → ghosts.cmp a b ≡ Equal → a ≡ b
+cmp-equal a b h =
+    let e : a.node.0 ≡ b.node.0 = grind arith in
+    let f : a.place ≡ b.place = grind arith in
+    λ i. record { node = record { 0 = e i }; place = f i }
+
+cmp-itself : (a : NodePlace) → ghosts.cmp a a ≡ Equal
+cmp-itself a = grind arith
+
+cmp-less : (a b : NodePlace) → ghosts.cmp a b ≡ Less → a.node.0 ≤ b.node.0
+cmp-less a b h = grind arith
+
+less_or_same : (a b : ℕ) → a ≤ b → (a < b) ⊎ (a ≡ b)
+less_or_same a b le = grind arith
+
+pub in_order : (places : List Place) (entries order : List NodePlace) (set : BTreeSet NodePlace) → AreOnce places → AreNumbered places (length places) entries → IsFromIterResult ghosts.cmp entries set → order ≡ set.keys → AreInOrder places order
+in_order places entries order set once are from listed =
+    let there : (e : NodePlace) → Contains order e → Contains entries e =
+    λ e h. (btree_set_contains_from_list total-law cmp-equal entries set from e).0 ((btree_set_contains_iff total-law cmp-equal set e).1 (subst (λ xs. Contains xs e) listed h))
+    in
+    let sound : (e : NodePlace) → Contains order e → HasNode places e.place e.node =
+    λ e h. (let known = there e h in
+        let at : slice_get entries known.0 ≡ Some e = slice_get-get_or entries known.0 e known.1 ∙ ap Some known.2 in
+        let is = are.are known.0 e at in
+        subst (λ k. HasNode places k e.node) (sym is.0) is.1)
+    in
+    record {
+      sound = sound;
+      complete = λ p n h.
+          (let within : p < length entries = subst (λ k. p < k) (sym are.len) (node_within places p n h) in
+          let e : NodePlace = get_or entries p (record { node = n; place = p }) in
+          let at : slice_get entries p ≡ Some e = slice_get-get_or entries p (record { node = n; place = p }) within in
+          let is = are.are p e at in
+          let same : e ≡ record { node = n; place = p } = (λ i. record { node = one_node places p e.node n is.1 h i; place = is.0 i }) in
+          subst (λ xs. Contains xs (record { node = n; place = p })) (sym listed)
+          ((btree_set_contains_iff total-law cmp-equal set (record { node = n; place = p })).0
+          ((btree_set_contains_from_list total-law cmp-equal entries set from (record { node = n; place = p })).1 (p, within, same))));
+      rising = λ i j d lt within.
+          (let x = get_or order i d in
+          let y = get_or order j d in
+          let less : ghosts.cmp x y ≡ Less = Less-from_sorted ghosts.cmp order i j d (subst (IsStrictlySortedBy ghosts.cmp) (sym listed) from.1) lt within in
+          elim (less_or_same x.node.0 y.node.0 (cmp-less x y less)) [
+            | inl below ↦ below
+            | inr same ↦ absurd
+                (let inside : i < length order = omega arith in
+                let node : x.node ≡ y.node = same_node x.node y.node same in
+                let first : HasNode places x.place y.node = subst (HasNode places x.place) node (sound x (Contains-get_or order i d inside)) in
+                let place : x.place ≡ y.place = once x.place y.place y.node first (sound y (Contains-get_or order j d within)) in
+                let is : x ≡ y = (λ k. record { node = node k; place = place k }) in
+                let equal : ghosts.cmp x y ≡ Equal = subst (λ z. ghosts.cmp x z ≡ Equal) is (cmp-itself x) in
+                cc (less, equal))
+          ]);
+    }
+
+-- How many places there are
+
+exact : (x y : NodeId) → eq_by_cmp node.cmp x y ≡ true → x ≡ y
+exact x y h = let e : x.0 ≡ y.0 = grind arith in same_node x y e
+
+decides : (x y : NodeId) → Decides (eq_by_cmp node.cmp x y) (x ≡ y)
+decides x y = (exact x y, λ e. subst (λ z. eq_by_cmp node.cmp x z ≡ true) e ((eq_by_cmp_equiv node-law).refl x))
+
+-- distinct nodes that are all in another list are no more than that list has
+at_most : (nodes others : List NodeId) → AllPairs (λ x y. x ≢ y) nodes → ((n : NodeId) → Contains nodes n → Contains others n) → length nodes ≤ length others
+at_most nodes others apart among =
+    length-le_from_is_member (eq_by_cmp_equiv node-law) nodes others (IsDistinct-from_AllPairs decides nodes apart)
+    (λ q h. list_any-from_Contains (eq_by_cmp_equiv node-law) q others (among q (Contains-from_any exact q nodes h)))
+
+-- places whose nodes are all in a list are no more than that list has
+pub few_places : (places : List Place) (others : List NodeId) → AreOnce places → ((p : ℕ) (n : NodeId) → HasNode places p n → Contains others n) → length places ≤ length others
+few_places places others once among =
+    let nodes : List NodeId = map (λ q. q.node) places in
+    let len : length nodes ≡ length places = length-map places (λ q. q.node) in
+    let at : (k : ℕ) (d : NodeId) → k < length nodes → HasNode places k (get_or nodes k d) =
+    λ k d within. elim ((slice_get_cases places k).1) [
+      | inl there ↦ (there.0, there.2, sym (get_or-map (λ q. q.node) places k there.0 d there.1 ∙ ap (λ q. q.node) there.3))
+      | inr past ↦ absurd (let h : length places ≤ k = past.0 in omega arith)
+    ]
+    in
+    subst (λ n. n ≤ length others) len
+    (at_most nodes others
+    (λ i j d lt within same. (let a : i ≡ j = once i j (get_or nodes i d) (at i d (omega arith)) (subst (HasNode places j) (sym same) (at j d within)) in omega arith))
+    (λ n known. among known.0 n (subst (HasNode places known.0) known.2 (at known.0 n known.1))))

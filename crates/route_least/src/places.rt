@@ -1,0 +1,124 @@
+//! The nodes of a network, each in its place, with the rows that have it as an end.
+
+ghost use Rattle.std.specs.Prelude.{◌≡◌, ◌<◌, ℕ, IfOk, IsTrue, MatchOption, OnOk, length};
+ghost use Rattle.route_least.specs.Network.{AreOnce, HasAdded, HasGained, HasNode, HasSeated};
+ghost use Rattle.route_least.specs.declared.places.Arc.{Arc};
+
+use ason_base::ids::{LinkId, NodeId, OutOfMemory};
+use ason_base::network::TeRow;
+use std::alloc::Global;
+
+/// A row, seen from one of its ends: its place in the list of rows, its link and metric, and the place of its other end.
+#[derive(Clone, Copy, Debug, PartialEq, Eq, Drop)]
+pub(crate) struct Arc {
+    pub(crate) row: usize,
+    pub(crate) head: usize,
+    pub(crate) link: LinkId,
+    pub(crate) metric: u32,
+}
+
+/// A node, and the rows that have it as an end.
+#[derive(Debug, Drop)]
+pub(crate) struct Place {
+    pub(crate) node: NodeId,
+    pub(crate) arcs: Vec<Arc>,
+}
+
+/// How many guesses there are of where a node is, by the remainder of its number.
+pub(crate) const GUESSES: u32 = 256;
+
+// Room for so many arcs at a node is taken at once.
+const ARCS: usize = 16;
+
+/// The place of a node.
+pub(crate) fn place_of(places: &[Place], node: NodeId) -> Option<usize>
+    ensures { MatchOption result ((p : ℕ) → ¬ HasNode places.now p node) (λ p. HasNode places.now p node) }
+{
+    for index in 0..places.len() {
+        if places[index].node == node {
+            return Some(index);
+        }
+    }
+    None
+}
+
+fn is_at(places: &[Place], place: usize, node: NodeId) -> bool
+    ensures { IsTrue result → HasNode places.now place node }
+{
+    place < places.len() && places[place].node == node
+}
+
+// The place of a node, which gets one if it has none.
+fn seat(alloc: Global, places: &mut Vec<Place>, node: NodeId) -> Result<usize, OutOfMemory>
+    requires { AreOnce places.old.items }
+    ensures { IfOk result (HasSeated places.old.items places.new.items node) }
+{
+    if let Some(place) = place_of(places, node) {
+        return Ok(place);
+    }
+    let place = places.len();
+    let arcs = Vec::with_capacity(alloc, ARCS)?;
+    places.push(Place { node, arcs })?;
+    Ok(place)
+}
+
+// The same, tried first at the place where a node with this remainder was found last.
+fn guessed_seat(
+    alloc: Global,
+    places: &mut Vec<Place>,
+    guesses: &mut [usize],
+    node: NodeId,
+) -> Result<usize, OutOfMemory>
+    requires once { AreOnce places.old.items }
+    requires guesses { length guesses.old ≡ 256 }
+    ensures { IfOk result (HasSeated places.old.items places.new.items node) }
+{
+    let guess = (node.0 % GUESSES) as usize;
+    if is_at(places, guesses[guess], node) {
+        return Ok(guesses[guess]);
+    }
+    let place = seat(alloc, places, node)?;
+    guesses[guess] = place;
+    Ok(place)
+}
+
+fn push_arc(places: &mut Vec<Place>, place: usize, arc: Arc) -> Result<(), OutOfMemory>
+    requires { place < length places.old.items }
+    ensures { OnOk result (HasGained places.old.items places.new.items place arc) }
+{
+    places[place].arcs.push(arc)?;
+    Ok(())
+}
+
+/// Adds a row, which stands in this place of the list of rows, at both of its ends.
+pub(crate) fn add_row(
+    alloc: Global,
+    places: &mut Vec<Place>,
+    guesses: &mut [usize],
+    row: &TeRow,
+    index: usize,
+) -> Result<(), OutOfMemory>
+    requires once { AreOnce places.old.items }
+    requires guesses { length guesses.old ≡ 256 }
+    ensures { OnOk result (HasAdded places.old.items places.new.items row.now index) }
+{
+    let low = guessed_seat(alloc, places, guesses, row.low)?;
+    let high = guessed_seat(alloc, places, guesses, row.high)?;
+    push_arc(places, low, arc_of(row, index, high))?;
+    push_arc(places, high, arc_of(row, index, low))?;
+    Ok(())
+}
+
+fn arc_of(row: &TeRow, index: usize, head: usize) -> Arc
+    ensures row { result.row ≡ index }
+    ensures head { result.head ≡ head }
+    ensures link { result.link ≡ row.now.link }
+    ensures metric { result.metric ≡ row.now.metric }
+{
+    Arc {
+        row: index,
+        head,
+        link: row.link,
+        metric: row.metric,
+    }
+}
