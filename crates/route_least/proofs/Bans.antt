@@ -14,7 +14,7 @@ use Rattle.ason_base.specs.declared.ids.NodeId.{NodeId}
 use Rattle.ason_base.specs.declared.network.TeRow.{TeRow}
 use Rattle.ason_base.specs.declared.steps.Step.{Step}
 use Rattle.route_least.specs.Answers.{JoinsNone}
-use Rattle.route_least.specs.Bans.{AreRowsOf}
+use Rattle.route_least.specs.Bans.{AreRowsOf, AreRowsWith}
 use Rattle.route_least.specs.Costs.{is_marked}
 use Rattle.route_least.specs.Network.{IsClosed}
 
@@ -27,44 +27,36 @@ link-equal a b h = let e : a.0 ≡ b.0 = grind arith in λ i. record { 0 = e i }
 pub set_has : (links : List LinkId) (set : BTreeSet LinkId) → IsFromIterResult ghosts.cmp links set → (l : LinkId) → IsTrue (contains ghosts.cmp set l) ↔ Contains links l
 set_has links set from l = btree_set_contains_from_list total-law link-equal links set from l
 
--- the rows of these links are marked, of the first so many
-pub record AreFirstRows (rows : List TeRow) (links : List LinkId) (count : ℕ) (closed : List Bool) : Type 0 where
-  pub len : length closed ≡ count
-  pub are : (k : ℕ) (row : TeRow) → k < count → slice_get rows k ≡ Some row → (is_marked closed k ≡ true) ↔ Contains links row.link
-
-pub no_rows : (rows : List TeRow) (links : List LinkId) (closed : List Bool) → closed ≡ [] → AreFirstRows rows links 0 closed
-no_rows rows links closed none = record { len = ap length none; are = λ k row below at. absurd (omega arith) }
+pub no_rows : (Holds : TeRow → Type 0) (rows : List TeRow) (marks : List Bool) → marks ≡ [] → AreRowsWith Holds rows 0 marks
+no_rows Holds rows marks none = record { len = ap length none; are = λ k row below at. absurd (omega arith) }
 
 before_or_last : (place k : ℕ) → place < k + 1 → (place < k) ⊎ (place ≡ k)
 before_or_last place k h = grind arith
 
-pub row_more : (rows : List TeRow) (links : List LinkId) (k : ℕ) (row : TeRow) (closed : List Bool) (b : Bool) → row ≡ get_or rows k row → (b ≡ true) ↔ Contains links row.link → AreFirstRows rows links k closed → AreFirstRows rows links (k + 1) (closed ++ b ∷ [])
-row_more rows links k row closed b is test are = record {
-  len = (let l : length (closed ++ b ∷ []) ≡ length closed + 1 = length-append closed (b ∷ []) in let m : length closed ≡ k = are.len in omega arith);
+pub row_more : (Holds : TeRow → Type 0) (rows : List TeRow) (k : ℕ) (row : TeRow) (marks : List Bool) (b : Bool) → row ≡ get_or rows k row → (b ≡ true) ↔ Holds row → AreRowsWith Holds rows k marks → AreRowsWith Holds rows (k + 1) (marks ++ b ∷ [])
+row_more Holds rows k row marks b is test are = record {
+  len = (let l : length (marks ++ b ∷ []) ≡ length marks + 1 = length-append marks (b ∷ []) in let m : length marks ≡ k = are.len in omega arith);
   are = λ i other below at. elim (before_or_last i k below) [
     | inl earlier ↦
-        (let inside : i < length closed = (let m : length closed ≡ k = are.len in omega arith) in
-        subst (λ x. (x ≡ true) ↔ Contains links other.link) (sym (get_or-append closed (b ∷ []) false i inside)) (are.are i other earlier at))
+        (let inside : i < length marks = (let m : length marks ≡ k = are.len in omega arith) in
+        subst (λ x. (x ≡ true) ↔ Holds other) (sym (get_or-append marks (b ∷ []) false i inside)) (are.are i other earlier at))
     | inr last ↦
-        (let here : is_marked (closed ++ b ∷ []) i ≡ b = subst (λ j. is_marked (closed ++ b ∷ []) j ≡ b) (are.len ∙ sym last) (get_or-append_seam closed b [] false) in
+        (let here : is_marked (marks ++ b ∷ []) i ≡ b = subst (λ j. is_marked (marks ++ b ∷ []) j ≡ b) (are.len ∙ sym last) (get_or-append_seam marks b [] false) in
         let same : row ≡ other = is ∙ subst (λ j. get_or rows j row ≡ other) last (get_or_from_slice_get rows i other row at) in
-        subst (λ x. (x ≡ true) ↔ Contains links other.link) (sym here) (subst (λ r. (b ≡ true) ↔ Contains links r.link) same test))
+        subst (λ x. (x ≡ true) ↔ Holds other) (sym here) (subst (λ r. (b ≡ true) ↔ Holds r) same test))
   ];
 }
 
-pub all_rows : (rows : List TeRow) (links : List LinkId) (count : ℕ) (closed : List Bool) → count ≡ length rows → AreFirstRows rows links count closed → AreRowsOf rows links closed
-all_rows rows links count closed all are = record {
-  len = are.len ∙ all;
-  are = λ k row at. are.are k row (let h : k < length rows = slice_get_within rows k row at in omega arith) at;
-}
+pub all_rows : (Holds : TeRow → Type 0) (rows : List TeRow) (count : ℕ) (marks : List Bool) → count ≡ length rows → AreRowsWith Holds rows count marks → AreRowsWith Holds rows (length rows) marks
+all_rows Holds rows count marks all are = subst (λ n. AreRowsWith Holds rows n marks) all are
 
 -- of the links of rows just those are closed that are banned
 pub closed_iff : (rows : List TeRow) (links : List LinkId) (closed : List Bool) → AreRowsOf rows links closed → (row : TeRow) → Contains rows row → IsClosed rows closed row.link ↔ Contains links row.link
 closed_iff rows links closed are row known = (
-  (λ shut. subst (Contains links) shut.3 ((are.are shut.0 shut.1 shut.2).0 shut.4)),
+  (λ shut. subst (Contains links) shut.3 ((are.are shut.0 shut.1 (slice_get_within rows shut.0 shut.1 shut.2) shut.2).0 shut.4)),
   (λ banned.
       (let at : slice_get rows known.0 ≡ Some row = slice_get-get_or rows known.0 row known.1 ∙ ap Some known.2 in
-      (known.0, row, at, refl, (are.are known.0 row at).1 banned))),
+      (known.0, row, at, refl, (are.are known.0 row known.1 at).1 banned))),
 )
 
 -- Bans told in another way

@@ -1,46 +1,11 @@
--- What is banned, row by row and step by step.
+-- The inner nodes of a route, step by step.
 use Rattle.std.proofs.Common.{◌≡◌, ◌≢◌, ◌↔◌, inl, inr, ℕ, ◌+◌, ◌<◌, List, [], ◌∷◌, ◌++◌, length, get_or, take, sym, ◌∙◌, ap, subst}
 use Rattle.std.specs.List.{Contains}
 use Rattle.std.proofs.lemmas.List.{take_more}
 use Rattle.std.proofs.lemmas.List.Elements.{Contains-append_left, Contains-push, Contains-push_cases}
-use Rattle.ason_base.specs.Risks.{risks_of}
 use Rattle.ason_base.specs.Walks.{IsInner}
-use Rattle.ason_base.specs.declared.ids.LinkId.{LinkId}
 use Rattle.ason_base.specs.declared.ids.NodeId.{NodeId}
-use Rattle.ason_base.specs.declared.network.TeRow.{TeRow}
-use Rattle.ason_base.specs.declared.risks.Risk.{Risk}
 use Rattle.ason_base.specs.declared.steps.Step.{Step}
-use Rattle.route_pair.specs.Pairs.{MeetsRisk}
-
-abbrev pub Meets : List Risk → TeRow → Type 0
-Meets risks row = (r : Risk) × Contains (risks_of row) r × Contains risks r
-
-abbrev pub AreLinks : List TeRow → List Risk → List LinkId → Type 0
-AreLinks rows risks links = (l : LinkId) → Contains links l ↔ MeetsRisk rows risks l
-
-pub link_added : (rows : List TeRow) (row : TeRow) (risks : List Risk) (links : List LinkId) → AreLinks rows risks links → Meets risks row → AreLinks (rows ++ row ∷ []) risks (links ++ row.link ∷ [])
-link_added rows row risks links are meets l = (
-  (λ h. elim (Contains-push_cases links row.link l h) [
-    | inl before ↦ (let has = (are l).0 before in (has.0, Contains-append_left rows (row ∷ []) has.0 has.1, has.2, has.3))
-    | inr same ↦ (row, Contains-push rows row, same, meets)
-  ]),
-  (λ has. elim (Contains-push_cases rows row has.0 has.1) [
-    | inl before ↦ Contains-append_left links (row.link ∷ []) l ((are l).1 (has.0, before, has.2, has.3))
-    | inr same ↦ subst (Contains (links ++ row.link ∷ [])) (ap (λ r. r.link) same ∙ has.2) (Contains-push links row.link)
-  ]),
-)
-
-pub link_skipped : (rows : List TeRow) (row : TeRow) (risks : List Risk) (links : List LinkId) → AreLinks rows risks links → ¬ Meets risks row → AreLinks (rows ++ row ∷ []) risks links
-link_skipped rows row risks links are misses l = (
-  (λ h. (let has = (are l).0 h in (has.0, Contains-append_left rows (row ∷ []) has.0 has.1, has.2, has.3))),
-  (λ has. elim (Contains-push_cases rows row has.0 has.1) [
-    | inl before ↦ (are l).1 (has.0, before, has.2, has.3)
-    | inr same ↦ absurd (misses (subst (Meets risks) (sym same) has.3))
-  ]),
-)
-
-pub taken : {X : Type 0} (xs : List X) (i : ℕ) (x : X) → i < length xs → x ≡ get_or xs i x → take (i + 1) xs ≡ take i xs ++ x ∷ []
-taken xs i x within same = take_more xs i x within ∙ ap (λ y. take i xs ++ y ∷ []) (sym same)
 
 abbrev pub AreInner : NodeId → NodeId → List Step → List NodeId → Type 0
 AreInner from to steps nodes = (n : NodeId) → Contains nodes n ↔ IsInner from to steps n

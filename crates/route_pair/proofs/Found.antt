@@ -1,51 +1,66 @@
--- What a least route under bans is: a primary route, or a backup.
-use Rattle.std.proofs.Common.{◌≡◌, ℕ, List, [], Result, Ok, Err, IfOk, IfErr}
+-- What a least route in a network is where rows are closed and nodes banned: a primary route, or a backup.
+use Rattle.std.proofs.Common.{◌≡◌, ◌↔◌, ℕ, zero, suc, Bool, true, false, List, [], length, replicate, refl, sym, subst}
 use Rattle.std.specs.List.{Contains}
-use Rattle.ason_base.specs.Walks.{ArePotentials, Certify, IsBackup, IsInner, IsLeast, IsWalk, NoLink, NoNode, SharesRisk}
+use Rattle.ason_base.specs.Walks.{IsBackup, IsInner, IsLeast, IsWalk, NoLink, NoNode, SharesRisk}
 use Rattle.ason_base.specs.declared.ids.LinkId.{LinkId}
 use Rattle.ason_base.specs.declared.ids.NodeId.{NodeId}
 use Rattle.ason_base.specs.declared.network.TeRow.{TeRow}
 use Rattle.ason_base.specs.declared.steps.Step.{Step}
-use Rattle.route_least.specs.Answers.{IsRefusal, JoinsNone}
-use Rattle.route_least.specs.declared.Found.{Found}
-use Rattle.route_least.specs.declared.RouteFault.{RouteFault}
-use Rattle.route_least.specs.declared.RouteFault.TheVariants.{NoRoute, OutOfMemory}
-use Rattle.route_least.specs.declared.lists.Banned.{Banned}
-use Rattle.route_pair.specs.Pairs.{AreBans, HasNoBackup, IsBackupFound, IsFault, IsPrimary}
-use Rattle.route_pair.proofs.WalkBans.{backup_of, none_in, same_certify, same_least, same_none, same_potentials, same_walks, walk_of}
+use Rattle.route_least.specs.Answers.{IsLeastFound, IsRefusal}
+use Rattle.route_least.specs.Costs.{is_marked}
+use Rattle.route_least.specs.Network.{IsClosed}
+use Rattle.route_least.specs.declared.answers.Found.{Found}
+use Rattle.route_least.specs.declared.answers.RouteFault.{RouteFault}
+use Rattle.route_least.specs.declared.answers.RouteFault.TheVariants.{NoRoute, OutOfMemory}
+use Rattle.route_least.proofs.Bans.{same_certify, same_least, same_none, same_potentials, same_walks}
+use Rattle.route_pair.specs.Pairs.{AreBans, IsBackupFound, IsFault, IsPrimary, IsUnsharedFault}
+use Rattle.route_pair.specs.declared.bans.Bans.{Bans}
+use Rattle.route_pair.proofs.WalkBans.{backup_of, none_in, walk_of}
 
-module _ (rows : List TeRow) (from to : NodeId) (links : List LinkId) (nodes : List NodeId) (no_links : links ≡ []) (no_nodes : nodes ≡ []) where
-  pub primary_ok :
-      (r : Result Found RouteFault) → IfOk r (λ found. IsLeast (IsWalk rows (Contains links) (Contains nodes) from to) found.route found.cost)
-      → IfOk r (λ found. ArePotentials (IsWalk rows (Contains links) (Contains nodes) from) found.potential)
-      → IfOk r (λ found. Certify rows (Contains links) (Contains nodes) from found.potential × Contains found.potential (to, found.cost)) → IfOk r (IsPrimary rows from to)
-  primary_ok (Ok found) route potential certificate = record {
-    route = same_walks rows (Contains links) NoLink (Contains nodes) NoNode (none_in links no_links) (none_in nodes no_nodes) from to found.route found.cost route;
-    potential = same_potentials rows (Contains links) NoLink (Contains nodes) NoNode (none_in links no_links) (none_in nodes no_nodes) from found.potential potential;
-    certificate = same_certify rows (Contains links) NoLink (Contains nodes) NoNode (none_in links no_links) (none_in nodes no_nodes) from found.potential certificate.0;
-    end = certificate.1;
+none_marked : (n k : ℕ) → is_marked (replicate n false) k ≡ false
+none_marked zero k = refl
+none_marked (suc n) zero = refl
+none_marked (suc n) (suc k) = none_marked n k
+
+module _ (rows : List TeRow) (from to : NodeId) (closed : List Bool) (banned : List NodeId) (n : ℕ) (no_rows : closed ≡ replicate n false) (no_nodes : banned ≡ []) where
+  none_closed : (row : TeRow) → Contains rows row → IsClosed rows closed row.link ↔ NoLink row.link
+  none_closed row known = (
+    (λ shut. (let off = none_marked n shut.0 in let on = subst (λ marks. is_marked marks shut.0 ≡ true) no_rows shut.4 in cc (on, off))),
+    (λ h. absurd h),
+  )
+
+  pub primary_ok : (found : Found) → IsLeastFound rows closed banned from to found → IsPrimary rows from to found
+  primary_ok found f = record {
+    route = same_walks rows (IsClosed rows closed) NoLink (Contains banned) NoNode none_closed (none_in banned no_nodes) from to found.route found.cost f.route;
+    potential = same_potentials rows (IsClosed rows closed) NoLink (Contains banned) NoNode none_closed (none_in banned no_nodes) from found.potential f.potential;
+    certificate = same_certify rows (IsClosed rows closed) NoLink (Contains banned) NoNode none_closed (none_in banned no_nodes) from found.potential f.certificate;
+    end = f.end;
   }
-  primary_ok (Err fault) route potential certificate = tt
 
-  pub primary_err : (r : Result Found RouteFault) → IfErr r (IsRefusal rows (Contains links) (Contains nodes) from to) → IfErr r (IsFault rows from to)
-  primary_err (Ok found) refusal = tt
-  primary_err (Err (NoRoute potential)) refusal = same_none rows (Contains links) NoLink (Contains nodes) NoNode (none_in links no_links) (none_in nodes no_nodes) from to potential refusal
-  primary_err (Err OutOfMemory) refusal = tt
+  pub primary_err : (fault : RouteFault) → IsRefusal rows (IsClosed rows closed) (Contains banned) from to fault → IsFault rows from to fault
+  primary_err (NoRoute potential) refusal = same_none rows (IsClosed rows closed) NoLink (Contains banned) NoNode none_closed (none_in banned no_nodes) from to potential refusal
+  primary_err OutOfMemory refusal = tt
 
-module _ (rows : List TeRow) (primary : List Step) (from to : NodeId) (banned : Banned) (are : AreBans rows primary from to banned) where
-  pub backup_ok :
-      (found : Found) → IsLeast (IsWalk rows (Contains banned.links) (Contains banned.nodes) from to) found.route found.cost
-      → ArePotentials (IsWalk rows (Contains banned.links) (Contains banned.nodes) from) found.potential
-      → Certify rows (Contains banned.links) (Contains banned.nodes) from found.potential × Contains found.potential (to, found.cost) → IsBackupFound rows primary from to found
-  backup_ok found route potential certificate = record {
+module _ (rows : List TeRow) (primary : List Step) (from to : NodeId) (closed : List Bool) (nodes : List NodeId) (links : (l : LinkId) → IsClosed rows closed l ↔ SharesRisk rows primary l) (inner : (n : NodeId) → Contains nodes n ↔ IsInner from to primary n) where
+  pub backup_ok : (found : Found) → IsLeastFound rows closed nodes from to found → IsBackupFound rows primary from to found
+  backup_ok found f = record {
     route =
-        same_least (IsWalk rows (Contains banned.links) (Contains banned.nodes) from to) (IsBackup rows primary from to)
-        (backup_of rows primary from to (Contains banned.links) (Contains banned.nodes) are.links are.nodes)
-        (walk_of rows primary from to (Contains banned.links) (Contains banned.nodes) are.links are.nodes) found.route found.cost route;
-    potential = same_potentials rows (Contains banned.links) (SharesRisk rows primary) (Contains banned.nodes) (IsInner from to primary) are.links are.nodes from found.potential potential;
-    certificate = same_certify rows (Contains banned.links) (SharesRisk rows primary) (Contains banned.nodes) (IsInner from to primary) are.links are.nodes from found.potential certificate.0;
-    end = certificate.1;
+        same_least (IsWalk rows (IsClosed rows closed) (Contains nodes) from to) (IsBackup rows primary from to)
+        (backup_of rows primary from to (IsClosed rows closed) (Contains nodes) links inner)
+        (walk_of rows primary from to (IsClosed rows closed) (Contains nodes) links inner) found.route found.cost f.route;
+    potential = same_potentials rows (IsClosed rows closed) (SharesRisk rows primary) (Contains nodes) (IsInner from to primary) (λ row known. links row.link) inner from found.potential f.potential;
+    certificate = same_certify rows (IsClosed rows closed) (SharesRisk rows primary) (Contains nodes) (IsInner from to primary) (λ row known. links row.link) inner from found.potential f.certificate;
+    end = f.end;
   }
 
-  pub backup_none : (potential : List (NodeId × ℕ)) → JoinsNone rows (Contains banned.links) (Contains banned.nodes) from to potential → HasNoBackup rows primary from to
-  backup_none potential none = λ route cost backup. none.none route cost (walk_of rows primary from to (Contains banned.links) (Contains banned.nodes) are.links are.nodes route cost backup)
+  pub backup_err : (fault : RouteFault) → IsRefusal rows (IsClosed rows closed) (Contains nodes) from to fault → IsUnsharedFault rows primary from to fault
+  backup_err (NoRoute potential) none = λ route cost backup. none.none route cost (walk_of rows primary from to (IsClosed rows closed) (Contains nodes) links inner route cost backup)
+  backup_err OutOfMemory none = tt
+
+-- closed rows that were written back to their vector
+pub bans_back : (rows : List TeRow) (primary : List Step) (from to : NodeId) (closed : List Bool) (bans : Bans) → bans.closed.items ≡ closed → length closed ≡ length rows → ((l : LinkId) → IsClosed rows closed l ↔ SharesRisk rows primary l) → ((n : NodeId) → Contains bans.nodes n ↔ IsInner from to primary n) → AreBans rows primary from to bans
+bans_back rows primary from to closed bans same len links nodes = record {
+  len = subst (λ marks. length marks ≡ length rows) (sym same) len;
+  links = subst (λ marks. (l : LinkId) → IsClosed rows marks l ↔ SharesRisk rows primary l) (sym same) links;
+  nodes = nodes;
+}

@@ -1,5 +1,5 @@
-pub mod BanLists
-pub mod Found
-pub mod RiskSearch
+mod BanLists
+mod Closing
+mod Found
 pub mod TestRows
-pub mod WalkBans
+mod WalkBans

@@ -11,8 +11,7 @@ use Rattle.ason_base.specs.declared.ids.NodeId.{NodeId}
 use Rattle.ason_base.specs.declared.network.TeRow.{TeRow}
 use Rattle.ason_base.specs.declared.risks.Risk.{Risk}
 use Rattle.ason_base.specs.declared.steps.Step.{Step}
-use Rattle.route_least.specs.Answers.{JoinsNone}
-use Rattle.route_pair.specs.Pairs.{MeetsRisk}
+use Rattle.route_least.proofs.Bans.{fewer_walk}
 
 in_head : {X : Type 0} (x : X) (xs : List X) → Contains (x ∷ xs) x
 in_head x xs = Contains-append_left (x ∷ []) xs x (Contains-push [] x)
@@ -61,65 +60,11 @@ module _ (rows : List TeRow) (BannedLink : LinkId → Type 0) (BannedNode : Node
       let there : has_row rows t.link ≡ true = known_row rows walk.0 t.link walk.3.known walk.3.link in
       rw there (known_links walk.1 b steps walk.2 walk.4)
 
-module _ (rows : List TeRow) (Link Link' : LinkId → Type 0) (Node Node' : NodeId → Type 0) (links : (l : LinkId) → Link' l → Link l) (nodes : (n : NodeId) → Node' n → Node n) where
-  -- what is allowed under more bans is allowed under fewer
-  pub fewer_hop : (a b : NodeId) (s : Step) (row : TeRow) → Hop rows Link Node a s row b → Hop rows Link' Node' a s row b
-  fewer_hop a b s row hop = record {
-    known = hop.known;
-    sender = hop.sender;
-    link = hop.link;
-    joins = hop.joins;
-    link_allowed = λ banned. hop.link_allowed (links row.link banned);
-    node_allowed = λ banned. hop.node_allowed (nodes b banned);
-  }
-
-  pub fewer_walk : (a b : NodeId) (steps : List Step) (cost : ℕ) → IsWalk rows Link Node a b steps cost → IsWalk rows Link' Node' a b steps cost
-  fewer_walk a b [] cost walk = walk
-  fewer_walk a b (s ∷ steps) cost walk = (walk.0, walk.1, walk.2, fewer_hop a walk.1 s walk.0 walk.3, fewer_walk walk.1 b steps walk.2 walk.4, walk.5)
-
--- a least route, where the same routes are allowed
-pub same_least : (IsAllowed IsAllowed' : List Step → ℕ → Type 0) → ((route : List Step) (cost : ℕ) → IsAllowed route cost → IsAllowed' route cost) → ((route : List Step) (cost : ℕ) → IsAllowed' route cost → IsAllowed route cost) → (route : List Step) (cost : ℕ) → IsLeast IsAllowed route cost → IsLeast IsAllowed' route cost
-same_least IsAllowed IsAllowed' to of route cost least = record {
-  allowed = to route cost least.allowed;
-  least = λ other c h. least.least other c (of other c h);
-  first = λ other h. least.first other (of other cost h);
-}
-
-module _ (rows : List TeRow) (Link Link' : LinkId → Type 0) (Node Node' : NodeId → Type 0) (links : (l : LinkId) → Link l ↔ Link' l) (nodes : (n : NodeId) → Node n ↔ Node' n) where
-  to_walk : (a b : NodeId) (steps : List Step) (cost : ℕ) → IsWalk rows Link Node a b steps cost → IsWalk rows Link' Node' a b steps cost
-  to_walk = fewer_walk rows Link Link' Node Node' (λ l. (links l).1) (λ n. (nodes n).1)
-
-  of_walk : (a b : NodeId) (steps : List Step) (cost : ℕ) → IsWalk rows Link' Node' a b steps cost → IsWalk rows Link Node a b steps cost
-  of_walk = fewer_walk rows Link' Link Node' Node (λ l. (links l).0) (λ n. (nodes n).0)
-
-  pub same_potentials : (from : NodeId) (potentials : List (NodeId × ℕ)) → ArePotentials (IsWalk rows Link Node from) potentials → ArePotentials (IsWalk rows Link' Node' from) potentials
-  same_potentials from potentials are = record {
-    rising = are.rising;
-    attained = λ n p known. (let has = are.attained n p known in (has.0, to_walk from n has.0 p has.1));
-    least = λ n route cost walk. are.least n route cost (of_walk from n route cost walk);
-  }
-
-  pub same_certify : (from : NodeId) (potentials : List (NodeId × ℕ)) → Certify rows Link Node from potentials → Certify rows Link' Node' from potentials
-  same_certify from potentials certify = record {
-    start = certify.start;
-    rises = λ a b s row p hop known. certify.rises a b s row p (fewer_hop rows Link' Link Node' Node (λ l. (links l).0) (λ n. (nodes n).0) a b s row hop) known;
-  }
-
-  pub same_walks : (from to : NodeId) (route : List Step) (cost : ℕ) → IsLeast (IsWalk rows Link Node from to) route cost → IsLeast (IsWalk rows Link' Node' from to) route cost
-  same_walks from to = same_least (IsWalk rows Link Node from to) (IsWalk rows Link' Node' from to) (to_walk from to) (of_walk from to)
-
-  pub same_none : (from to : NodeId) (potentials : List (NodeId × ℕ)) → JoinsNone rows Link Node from to potentials → JoinsNone rows Link' Node' from to potentials
-  same_none from to potentials none = record {
-    none = λ route cost walk. none.none route cost (of_walk from to route cost walk);
-    potential = same_potentials from potentials none.potential;
-    certificate = same_certify from potentials none.certificate;
-  }
-
 module _ (rows : List TeRow) (primary : List Step) (from to : NodeId) (Link : LinkId → Type 0) (Node : NodeId → Type 0) (links : (l : LinkId) → Link l ↔ SharesRisk rows primary l) (nodes : (n : NodeId) → Node n ↔ IsInner from to primary n) where
   -- a walk that keeps off the primary route's risks and inner nodes is a backup
   pub backup_of : (route : List Step) (cost : ℕ) → IsWalk rows Link Node from to route cost → IsBackup rows primary from to route cost
   backup_of route cost walk = record {
-    walk = fewer_walk rows Link NoLink Node NoNode (λ l none. absurd none) (λ n none. absurd none) from to route cost walk;
+    walk = fewer_walk rows Link NoLink Node NoNode (λ row known none. absurd none) (λ n none. absurd none) from to route cost walk;
     risks = λ r mine theirs.
         step_link rows Link Node from to route cost walk mine.1 mine.3
         (subst Link mine.4 ((links mine.0.link).1 (mine.0, r, mine.2, refl, mine.5, theirs)));
@@ -161,10 +106,3 @@ module _ (rows : List TeRow) (primary : List Step) (from to : NodeId) (Link : Li
       kept_off from route cost backup.walk
       (λ s there banned. (let shares = (links s.link).0 banned in backup.risks shares.1 (shares.0, s, shares.2, there, shares.3, shares.4) shares.5))
       (λ s there banned. (let inner = (nodes s.node).0 banned in backup.nodes s.node (s, there, refl, inner.3, inner.4) inner))
-
--- the links with a risk of the route, by its set of risks
-pub shares_iff : (rows : List TeRow) (primary : List Step) (risks : List Risk) (links : List LinkId) → ((r : Risk) → Contains risks r ↔ HasRisk rows primary r) → ((l : LinkId) → Contains links l ↔ MeetsRisk rows risks l) → (l : LinkId) → Contains links l ↔ SharesRisk rows primary l
-shares_iff rows primary risks links are meets l = (
-  (λ h. (let m = (meets l).0 h in (m.0, m.3.0, m.1, m.2, m.3.1, (are m.3.0).0 m.3.2))),
-  (λ s. (meets l).1 (s.0, s.2, s.3, (s.1, s.4, (are s.1).1 s.5))),
-)

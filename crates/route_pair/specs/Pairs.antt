@@ -1,20 +1,20 @@
 -- What a pair of routes, and each refusal, says.
-use Rattle.std.specs.Prelude.{◌≡◌, ◌↔◌, ℕ, List, None, Some}
+use Rattle.std.specs.Prelude.{◌≡◌, ◌↔◌, ℕ, List, None, Some, length}
 use Rattle.std.specs.List.{Contains}
-use Rattle.ason_base.specs.Risks.{risks_of, unknown_link}
+use Rattle.ason_base.specs.Risks.{unknown_link}
 use Rattle.ason_base.specs.Walks.{ArePotentials, Certify, IsBackup, IsInner, IsLeast, IsWalk, NoLink, NoNode, SharesRisk}
 use Rattle.ason_base.specs.declared.ids.LinkId.{LinkId}
 use Rattle.ason_base.specs.declared.ids.NodeId.{NodeId}
 use Rattle.ason_base.specs.declared.network.TeRow.{TeRow}
-use Rattle.ason_base.specs.declared.risks.Risk.{Risk}
 use Rattle.ason_base.specs.declared.steps.Step.{Step}
 use Rattle.route_least.specs.Answers.{JoinsNone}
-use Rattle.route_least.specs.declared.Found.{Found}
-use Rattle.route_least.specs.declared.RouteFault.{RouteFault}
-use Rattle.route_least.specs.declared.RouteFault.TheVariants.{NoRoute, OutOfMemory}
-use Rattle.route_least.specs.declared.lists.Banned.{Banned}
+use Rattle.route_least.specs.declared.answers.Found.{Found}
+use Rattle.route_least.specs.declared.answers.RouteFault.{RouteFault}
+use Rattle.route_least.specs.declared.answers.RouteFault.TheVariants.{NoRoute, OutOfMemory}
+use Rattle.route_least.specs.Network.{IsClosed}
 use Rattle.route_pair.specs.declared.answers.BackupFault.{BackupFault}
 use Rattle.route_pair.specs.declared.answers.BackupFault.TheVariants.{Unknown, NoBackup, OutOfMemory as BackupOutOfMemory}
+use Rattle.route_pair.specs.declared.bans.Bans.{Bans}
 use Rattle.route_pair.specs.declared.answers.PairFault.{PairFault}
 use Rattle.route_pair.specs.declared.answers.PairFault.TheVariants.{NoPrimary, NoBackup as NoPair, OutOfMemory as PairOutOfMemory}
 
@@ -50,11 +50,13 @@ IsBackupFault rows primary from to (Unknown link) = unknown_link rows primary �
 IsBackupFault rows primary from to NoBackup = (unknown_link rows primary ≡ None) × HasNoBackup rows primary from to
 IsBackupFault rows primary from to BackupOutOfMemory = Unit {0}
 
--- the link's row has one of the risks
-abbrev pub MeetsRisk : List TeRow → List Risk → LinkId → Type 0
-MeetsRisk rows risks l = (row : TeRow) × Contains rows row × (row.link ≡ l) × ((r : Risk) × Contains (risks_of row) r × Contains risks r)
+-- none is risk-disjoint from the primary route and shares no inner node with it
+abbrev pub IsUnsharedFault : List TeRow → List Step → NodeId → NodeId → RouteFault → Type 0
+IsUnsharedFault rows primary from to (NoRoute potential) = HasNoBackup rows primary from to
+IsUnsharedFault rows primary from to OutOfMemory = Unit {0}
 
--- just the links with a risk of the primary route, and its inner nodes
-pub record AreBans (rows : List TeRow) (primary : List Step) (from to : NodeId) (banned : Banned) : Type 0 where
-  pub links : (l : LinkId) → Contains banned.links l ↔ SharesRisk rows primary l
-  pub nodes : (n : NodeId) → Contains banned.nodes n ↔ IsInner from to primary n
+-- just the rows with a risk of the primary route are closed, and just its inner nodes are banned
+pub record AreBans (rows : List TeRow) (primary : List Step) (from to : NodeId) (bans : Bans) : Type 0 where
+  pub len : length bans.closed.items ≡ length rows
+  pub links : (l : LinkId) → IsClosed rows bans.closed.items l ↔ SharesRisk rows primary l
+  pub nodes : (n : NodeId) → Contains bans.nodes n ↔ IsInner from to primary n

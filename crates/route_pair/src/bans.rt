@@ -1,75 +1,101 @@
 //! What a backup must keep off.
 
-ghost use Rattle.std.specs.Prelude.{◌≡◌, ◌≢◌, ◌↔◌, None, Some, IfErr, IfOk, IsTrue, OnOk};
+ghost use Rattle.std.specs.Prelude.{◌≡◌, ◌≢◌, ◌↔◌, IfOk, IsTrue, OnOk, length};
 ghost use Rattle.std.specs.List.{Contains};
-ghost use Rattle.ason_base.specs.Risks.{AreRising, risks_of, unknown_link};
 ghost use Rattle.ason_base.specs.Walks.{IsInner};
-ghost use Rattle.ason_base.specs.declared.ids.LinkId.{LinkId};
 ghost use Rattle.ason_base.specs.declared.ids.NodeId.{NodeId};
-ghost use Rattle.ason_base.specs.declared.risks.Risk.{Risk};
-ghost use Rattle.ason_base.specs.declared.risks.RiskFault.{RiskFault};
-ghost use Rattle.route_pair.specs.Pairs.{AreBans, MeetsRisk};
+ghost use Rattle.ason_base.specs.declared.steps.Step.{Step};
+ghost use Rattle.route_pair.specs.Closed.{AreClosedToo, AreSrlgsOf, AreUsed, HasOne};
+ghost use Rattle.route_pair.specs.Pairs.{AreBans};
 
-use ason_base::ids::{NodeId, OutOfMemory};
+use ason_base::ids::{LinkId, NodeId, OutOfMemory};
 use ason_base::network::TeRow;
-use ason_base::risks::{Risk, RiskFault, RiskSet};
 use ason_base::steps::Steps;
-use route_least::{Banned, LinkIds, NodeIds};
+use route_least::NodeIds;
 use std::alloc::Global;
 
-/// The links that have a risk of the primary route, and its inner nodes.
+/// The rows that are closed to a backup, by their place in the list, and the nodes that it mustn't visit after its start.
+#[derive(Debug, Drop)]
+pub(crate) struct Bans {
+    pub(crate) closed: Vec<bool>,
+    pub(crate) nodes: NodeIds,
+}
+
+/// The rows that have a risk of the primary route, and its inner nodes.
 pub(crate) fn bans_of(
     alloc: Global,
     rows: &[TeRow],
     primary: &Steps,
     from: NodeId,
     to: NodeId,
-) -> Result<Banned, RiskFault>
-    ensures bans { IfOk result (λ banned. AreBans rows.now primary.now from to banned) }
-    ensures known { OnOk result (unknown_link rows.now primary.now ≡ None) }
-    ensures unknown { IfErr result (λ fault. (l : LinkId) → fault ≡ RiskFault.Unknown l → unknown_link rows.now primary.now ≡ Some l) }
+) -> Result<Bans, OutOfMemory>
+    ensures { IfOk result (AreBans rows.now primary.now from to) }
 {
-    let risks = RiskSet::of(alloc, rows, primary)?;
-    let links = shared_links(alloc, rows, risks.items())?;
+    let mut closed = used_rows(alloc, rows, primary)?;
+    let srlgs = srlgs_of(alloc, rows, &closed)?;
+    close(rows, &srlgs, &mut closed);
     let nodes = inner_nodes(alloc, primary, from, to)?;
-    Ok(Banned { links, nodes })
+    Ok(Bans { closed, nodes })
 }
 
-// The links of the rows that have one of the risks.
-fn shared_links(alloc: Global, rows: &[TeRow], risks: &[Risk]) -> Result<LinkIds, OutOfMemory>
-    requires { AreRising risks.now }
-    ensures { IfOk result (λ links. (l : LinkId) → Contains links l ↔ MeetsRisk rows.now risks.now l) }
+// For each row whether the route has its link.
+fn used_rows(alloc: Global, rows: &[TeRow], route: &Steps) -> Result<Vec<bool>, OutOfMemory>
+    ensures { IfOk result (λ used. AreUsed rows.now route.now (length rows.now) used.items) }
 {
-    let mut links = LinkIds::new(alloc);
+    let mut used = Vec::with_capacity(alloc, rows.len())?;
     for row in rows {
-        if meets(risks, row) {
-            links.push(row.link)?;
+        used.push(has_link(route, row.link))?;
+    }
+    Ok(used)
+}
+
+fn has_link(route: &Steps, link: LinkId) -> bool
+    ensures { IsTrue result ↔ ((s : Step) × Contains route.now s × (link ≡ s.link)) }
+{
+    route.items().iter().any(|step| step.link == link)
+}
+
+// The SRLGs of the rows that are marked.
+fn srlgs_of(alloc: Global, rows: &[TeRow], used: &[bool]) -> Result<Vec<u32>, OutOfMemory>
+    requires { length used.now ≡ length rows.now }
+    ensures { IfOk result (λ srlgs. AreSrlgsOf rows.now used.now (length rows.now) srlgs.items) }
+{
+    let mut srlgs = Vec::new(alloc);
+    for place in 0..rows.len() {
+        if used[place] {
+            srlgs.extend_from_slice(rows[place].srlgs.items())?;
         }
     }
-    Ok(links)
+    Ok(srlgs)
 }
 
-// Whether the row has one of the risks.
-fn meets(risks: &[Risk], row: &TeRow) -> bool
-    requires { AreRising risks.now }
-    ensures { IsTrue result ↔ ((r : Risk) × Contains (risks_of row.now) r × Contains risks.now r) }
+// Marks the rows that have one of the SRLGs.
+fn close(rows: &[TeRow], srlgs: &[u32], closed: &mut [bool])
+    requires { length closed.old ≡ length rows.now }
+    ensures { AreClosedToo rows.now srlgs.now (length rows.now) closed.old closed.new }
 {
-    if has(risks, Risk::Link(row.link)) {
-        return true;
+    for place in 0..rows.len() {
+        if has_one(&rows[place], srlgs) {
+            closed[place] = true;
+        }
     }
+}
+
+fn has_one(row: &TeRow, srlgs: &[u32]) -> bool
+    ensures { IsTrue result ↔ HasOne row.now srlgs.now }
+{
     for srlg in row.srlgs.items() {
-        if has(risks, Risk::Srlg(*srlg)) {
+        if is_among(srlgs, *srlg) {
             return true;
         }
     }
     false
 }
 
-fn has(risks: &[Risk], risk: Risk) -> bool
-    requires { AreRising risks.now }
-    ensures { IsTrue result ↔ Contains risks.now risk }
+fn is_among(srlgs: &[u32], srlg: u32) -> bool
+    ensures { IsTrue result ↔ Contains srlgs.now srlg }
 {
-    risks.binary_search(&risk).is_ok()
+    srlgs.contains(&srlg)
 }
 
 // The nodes that the route visits besides its two ends.

@@ -2,10 +2,11 @@
 //! from it and shares no inner node with it.
 #![tactic(auto)]
 
-ghost use Rattle.std.specs.Prelude.{◌≡◌, None, IfErr, IfOk, OnOk};
+ghost use Rattle.std.specs.Prelude.{◌≡◌, None, false, IfErr, IfOk, OnOk, replicate};
 ghost use Rattle.ason_base.specs.Risks.{unknown_link};
 ghost use Rattle.ason_base.specs.Walks.{HaveDistinctLinks, HaveFewEnds, HaveMetrics};
-ghost use Rattle.route_pair.specs.Pairs.{AreBans, IsBackupFault, IsBackupFound, IsFault, IsPairFault, IsPrimary};
+ghost use Rattle.route_least.specs.Network.{IsNetworkOf};
+ghost use Rattle.route_pair.specs.Pairs.{IsBackupFault, IsBackupFound, IsFault, IsPairFault, IsPrimary, IsUnsharedFault};
 
 pub mod answers;
 mod bans;
@@ -15,12 +16,12 @@ mod fixtures;
 mod tests;
 
 pub use answers::{BackupFault, Pair, PairFault};
-use ason_base::ids::NodeId;
+use ason_base::ids::{NodeId, OutOfMemory};
 use ason_base::network::TeRow;
-use ason_base::risks::RiskFault;
+use ason_base::risks::{RiskFault, RiskSet};
 use ason_base::steps::Steps;
 use bans::bans_of;
-use route_least::{Banned, Found, LinkIds, NodeIds, RouteFault, least};
+use route_least::{Found, RouteFault, RouteNetwork};
 use std::alloc::Global;
 
 /// The least route between the two nodes, and the least one that is risk-disjoint from it and shares no inner node with it.
@@ -33,32 +34,75 @@ pub fn pair(alloc: Global, rows: &[TeRow], from: NodeId, to: NodeId) -> Result<P
     ensures backup { IfOk result (λ pair. IsBackupFound rows.now pair.primary.route from to pair.backup) }
     ensures fault { IfErr result (λ fault. IsPairFault rows.now from to fault) }
 {
-    let primary = match primary_of(alloc, rows, from, to) {
+    match RouteNetwork::new(alloc, rows) {
+        Ok(network) => pair_in(alloc, &network, rows, from, to),
+        Err(OutOfMemory) => Err(PairFault::OutOfMemory),
+    }
+}
+
+/// The same in a network that was prepared from the rows.
+pub fn pair_in(
+    alloc: Global,
+    network: &RouteNetwork,
+    rows: &[TeRow],
+    from: NodeId,
+    to: NodeId,
+) -> Result<Pair, PairFault>
+    requires { IsNetworkOf rows.now network.now }
+    ensures primary { IfOk result (λ pair. IsPrimary rows.now from to pair.primary) }
+    ensures backup { IfOk result (λ pair. IsBackupFound rows.now pair.primary.route from to pair.backup) }
+    ensures fault { IfErr result (λ fault. IsPairFault rows.now from to fault) }
+{
+    let primary = match primary_of(alloc, network, rows, from, to) {
         Ok(primary) => primary,
         Err(RouteFault::NoRoute(potential)) => return Err(PairFault::NoPrimary(potential)),
         Err(RouteFault::OutOfMemory) => return Err(PairFault::OutOfMemory),
     };
-    match backup_for(alloc, rows, &primary.route, from, to) {
+    match beside(alloc, network, rows, &primary.route, from, to) {
         Ok(backup) => Ok(Pair { primary, backup }),
-        Err(BackupFault::NoBackup) => Err(PairFault::NoBackup(primary)),
-        Err(BackupFault::OutOfMemory) => Err(PairFault::OutOfMemory),
-        Err(BackupFault::Unknown(_)) => unreachable!(),
+        Err(RouteFault::NoRoute(_)) => Err(PairFault::NoBackup(primary)),
+        Err(RouteFault::OutOfMemory) => Err(PairFault::OutOfMemory),
     }
 }
 
 // The least route of all.
-fn primary_of(alloc: Global, rows: &[TeRow], from: NodeId, to: NodeId) -> Result<Found, RouteFault>
-    requires ends { HaveFewEnds rows.now }
-    requires metrics { HaveMetrics rows.now }
-    requires links { HaveDistinctLinks rows.now }
+fn primary_of(
+    alloc: Global,
+    network: &RouteNetwork,
+    rows: &[TeRow],
+    from: NodeId,
+    to: NodeId,
+) -> Result<Found, RouteFault>
+    requires { IsNetworkOf rows.now network.now }
     ensures found { IfOk result (λ found. IsPrimary rows.now from to found) }
     ensures fault { IfErr result (λ fault. IsFault rows.now from to fault) }
 {
-    let banned = Banned {
-        links: LinkIds::new(alloc),
-        nodes: NodeIds::new(alloc),
-    };
-    least(alloc, rows, from, to, &banned)
+    let closed = no_rows(alloc, rows.len())?;
+    network.least(alloc, from, to, &closed, &[])
+}
+
+fn no_rows(alloc: Global, count: usize) -> Result<Vec<bool>, OutOfMemory>
+    ensures { IfOk result (λ closed. closed.items ≡ replicate count false) }
+{
+    let closed: Vec<bool> = vec![in alloc; false; count]?;
+    Ok(closed)
+}
+
+// The least route that is risk-disjoint from the primary one and shares no inner node with it.
+fn beside(
+    alloc: Global,
+    network: &RouteNetwork,
+    rows: &[TeRow],
+    primary: &Steps,
+    from: NodeId,
+    to: NodeId,
+) -> Result<Found, RouteFault>
+    requires { IsNetworkOf rows.now network.now }
+    ensures found { IfOk result (λ found. IsBackupFound rows.now primary.now from to found) }
+    ensures none { IfErr result (λ fault. IsUnsharedFault rows.now primary.now from to fault) }
+{
+    let bans = bans_of(alloc, rows, primary, from, to)?;
+    network.least(alloc, from, to, &bans.closed, bans.nodes.items())
 }
 
 /// The least route that is risk-disjoint from the primary route and shares no inner node with it.
@@ -77,12 +121,30 @@ pub fn backup_for(
     ensures known { OnOk result (unknown_link rows.now primary.now ≡ None) }
     ensures fault { IfErr result (λ fault. IsBackupFault rows.now primary.now from to fault) }
 {
-    let banned = match bans_of(alloc, rows, primary, from, to) {
-        Ok(banned) => banned,
+    let network = RouteNetwork::new(alloc, rows)?;
+    backup_in(alloc, &network, rows, primary, from, to)
+}
+
+/// The same in a network that was prepared from the rows.
+pub fn backup_in(
+    alloc: Global,
+    network: &RouteNetwork,
+    rows: &[TeRow],
+    primary: &Steps,
+    from: NodeId,
+    to: NodeId,
+) -> Result<Found, BackupFault>
+    requires { IsNetworkOf rows.now network.now }
+    ensures found { IfOk result (λ found. IsBackupFound rows.now primary.now from to found) }
+    ensures known { OnOk result (unknown_link rows.now primary.now ≡ None) }
+    ensures fault { IfErr result (λ fault. IsBackupFault rows.now primary.now from to fault) }
+{
+    match RiskSet::of(alloc, rows, primary) {
+        Ok(_) => {}
         Err(RiskFault::Unknown(link)) => return Err(BackupFault::Unknown(link)),
         Err(RiskFault::OutOfMemory) => return Err(BackupFault::OutOfMemory),
-    };
-    match least(alloc, rows, from, to, &banned) {
+    }
+    match beside(alloc, network, rows, primary, from, to) {
         Ok(found) => Ok(found),
         Err(RouteFault::NoRoute(_)) => Err(BackupFault::NoBackup),
         Err(RouteFault::OutOfMemory) => Err(BackupFault::OutOfMemory),

@@ -1,8 +1,20 @@
+use Rattle.std.proofs.Common.{◌≡◌, ◌∙◌, [], length, refl}
+use Rattle.std.specs.List.{Contains}
+use Rattle.route_least.specs.Answers.{IsLeastFound, IsRefusal}
+use Rattle.route_least.specs.Network.{IsClosed}
+use Rattle.route_least.proofs.RouteLaws.{err_map, ok_map}
+use Rattle.route_pair.specs.Pairs.{IsFault, IsPrimary}
 use Rattle.route_pair.proofs.Found.{primary_err, primary_ok}
 use Rattle.route_pair.proofs.primary_of.Goals as goal
 
 pub returns-clause-found : goal.returns-clause-found
-returns-clause-found c = primary_ok c.args.rows.now c.args.from c.args.to c.new.result c.new-2.result c.new.ensures c.new-2.ensures c.least.result c.least.ensures.route c.least.ensures.potential c.least.ensures.certificate
+returns-clause-found c =
+    let rows = c.args.rows.now in
+    ok_map c.least.result (IsLeastFound rows c.deref.result.now [] c.args.from c.args.to) (IsPrimary rows c.args.from c.args.to)
+    (primary_ok rows c.args.from c.args.to c.deref.result.now [] (length rows) (c.deref.ensures.value ∙ c.in_ok-closed.ensures) refl) (c.least.ensures.found rows c.requires)
 
 pub returns-clause-fault : goal.returns-clause-fault
-returns-clause-fault c = primary_err c.args.rows.now c.args.from c.args.to c.new.result c.new-2.result c.new.ensures c.new-2.ensures c.least.result c.least.ensures.none
+returns-clause-fault c =
+    let rows = c.args.rows.now in
+    err_map c.least.result (IsRefusal rows (IsClosed rows c.deref.result.now) (Contains []) c.args.from c.args.to) (IsFault rows c.args.from c.args.to)
+    (primary_err rows c.args.from c.args.to c.deref.result.now [] (length rows) (c.deref.ensures.value ∙ c.in_ok-closed.ensures) refl) (c.least.ensures.none rows c.requires)

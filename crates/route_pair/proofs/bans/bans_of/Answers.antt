@@ -1,13 +1,23 @@
-use Rattle.std.proofs.Common.{◌↔◌, subst}
-use Rattle.std.specs.List.{Contains}
+use Rattle.std.proofs.Common.{◌≡◌, ◌∙◌, ◌++◌, ap, length, sym, subst, take, drop}
+use Rattle.ason_base.specs.Walks.{SharesRisk}
 use Rattle.ason_base.specs.declared.ids.LinkId.{LinkId}
-use Rattle.route_pair.specs.Pairs.{MeetsRisk}
-use Rattle.route_pair.proofs.WalkBans.{shares_iff}
+use Rattle.route_least.proofs.Passed.{written_back}
+use Rattle.route_pair.specs.Closed.{AreClosedToo, AreSrlgsOf}
+use Rattle.route_pair.proofs.Closing.{shares_iff}
+use Rattle.route_pair.proofs.Found.{bans_back}
 use Rattle.route_pair.proofs.bans.bans_of.Goals as goal
 
-pub returns-clause-bans : goal.returns-clause-bans
-returns-clause-bans c = record {
-  links = shares_iff c.args.rows.now c.args.primary.now c.in_ok-risks.risks c.in_ok-links.links c.in_ok-risks.ensures.risks
-      (subst (λ risks. (l : LinkId) → Contains c.in_ok-links.links l ↔ MeetsRisk c.args.rows.now risks l) c.items.ensures.same c.in_ok-links.ensures);
-  nodes = c.in_ok-nodes.ensures;
-}
+pub returns : goal.returns
+returns c =
+    let rows = c.args.rows.now in
+    let route = c.args.primary.now in
+    let used = c.in_ok-closed.closed.items in
+    let srlgs = c.in_ok-srlgs.srlgs.items in
+    let n = length rows in
+    let listed : AreSrlgsOf rows used n srlgs = subst (λ u. AreSrlgsOf rows u n srlgs) c.deref.ensures.value c.in_ok-srlgs.ensures in
+    let too : AreClosedToo rows srlgs n used c.close.new.closed =
+    subst (λ old. AreClosedToo rows srlgs n old c.close.new.closed) c.deref_mut.ensures.value
+    (subst (λ xs. AreClosedToo rows xs n c.deref_mut.result.now c.close.new.closed) c.deref-2.ensures.value c.close.ensures)
+    in
+    let back = written_back c.in_ok-closed.closed.len c.close.new.closed used (c.close.ensures.len ∙ c.deref_mut.ensures.len) in
+    bans_back rows route c.args.from c.args.to c.close.new.closed _ back (too.len ∙ c.in_ok-closed.ensures.len) (shares_iff rows route used c.close.new.closed srlgs c.in_ok-closed.ensures listed too) c.in_ok-nodes.ensures

@@ -1,7 +1,0 @@
-use Rattle.std.proofs.Common.{ℕ, ◌<◌, get_or}
-use Rattle.std.specs.List.{Contains}
-use Rattle.ason_base.specs.declared.risks.Risk.TheVariants.{Srlg}
-use Rattle.route_pair.proofs.bans.meets.Given as goal
-
-abbrev pub invariant-loop-srlg : goal.invariant-loop-srlg
-invariant-loop-srlg l = (k : ℕ) → k < l.srlg-index → ¬ Contains l.risks (Srlg (get_or l.srlg-items k 0))
