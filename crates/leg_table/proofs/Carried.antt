@@ -42,7 +42,8 @@ left-with g legs e =
       none = λ f x. ap (kind_here f x) here ∙ none-kind f x g e;
     }
 
-pub entered-with : (g : Leg) (legs : List Leg) → taken_of (find_leg g.lsp legs) ≡ None → Entered g legs (with_leg g legs)
+pub entered-with : (g : Leg) (legs : List Leg) → taken_of (find_leg g.lsp legs) ≡ None →
+    Entered g legs (with_leg g legs)
 entered-with g legs e = record {
   others = λ m apart. find-with_leg g legs m ∙ rw apart refl;
   here = find-with_leg g legs g.lsp ∙ rw (same_lsp-refl g.lsp) refl;
@@ -75,7 +76,8 @@ claimed-here l legs o fit = go (find_leg l legs) refl
         one None has = tt
         one (Some t) has = fit.all t.fibre t.label l k found (taken-takes k t has)
 
-pub entered-fit : (g : Leg) (legs : List Leg) (o : List FibreClaims) (t : TakenLabel) → ClaimsFit legs o → taken g ≡ Some t →
+pub entered-fit : (g : Leg) (legs : List Leg) (o : List FibreClaims) (t : TakenLabel) → ClaimsFit legs o →
+    taken g ≡ Some t →
     MayClaim o legs g t → ClaimsFit (with_leg g legs) (claim_added t.fibre (working_claim t.label g.lsp) o)
 entered-fit g legs o t fit has may =
     claimed-fit g legs (with_leg g legs) o t fit (entered-with g legs may.fresh) has may.work may.comes_in
@@ -92,14 +94,16 @@ freed-fibres l (Some t) o = record {
   labels = λ f. labels-kept t.fibre f (freed t.label l (claims_of t.fibre o)) o;
 }
 
-pub claimed-fibres : (l : Lsp) (t : TakenLabel) (o : List FibreClaims) → SameFibres o (claim_added t.fibre (working_claim t.label l) o)
+pub claimed-fibres : (l : Lsp) (t : TakenLabel) (o : List FibreClaims) →
+    SameFibres o (claim_added t.fibre (working_claim t.label l) o)
 claimed-fibres l t o = record {
   fibres = λ f. comes-kept t.fibre f (claims_of t.fibre o ++ working_claim t.label l ∷ []) o;
   labels = λ f. labels-kept t.fibre f (claims_of t.fibre o ++ working_claim t.label l ∷ []) o;
 }
 
 pub fibres-then : (a b c : List FibreClaims) → SameFibres a b → SameFibres b c → SameFibres a c
-fibres-then a b c first second = record { fibres = λ f. second.fibres f ∙ first.fibres f; labels = λ f. second.labels f ∙ first.labels f }
+fibres-then a b c first second =
+    record { fibres = λ f. second.fibres f ∙ first.fibres f; labels = λ f. second.labels f ∙ first.labels f }
 
 pub owner-kept : (p : LocalNode) (o after : List FibreClaims) → SameFibres o after → OwnerFits p o → OwnerFits p after
 owner-kept p o after same fits = record {
@@ -109,7 +113,8 @@ owner-kept p o after same fits = record {
 
 -- What the owner allows
 
-pub may-enter : (p : LocalNode) (legs : List Leg) (o : List FibreClaims) (c : LegChange) → order.LegsRise legs → ClaimsFit legs o →
+pub may-enter : (p : LocalNode) (legs : List Leg) (o : List FibreClaims) (c : LegChange) → order.LegsRise legs →
+    ClaimsFit legs o →
     OwnerFits p o → MayBeFirst p legs c → MayEnter o legs c
 may-enter p legs o (Goes l) rise fit owner may = tt
 may-enter p legs o (Put g) rise fit owner may = go (taken g) may
@@ -122,7 +127,9 @@ may-enter p legs o (Put g) rise fit owner may = go (taken g) may
           work = may.work;
           fresh = may.fresh;
           comes_in = comes;
-          within = subst (λ n. t.label ≤ n) (sym (owner.labels t.fibre comes)) (usable-within p legs t.fibre t.label may.usable);
+          within =
+              subst (λ n. t.label ≤ n) (sym (owner.labels t.fibre comes))
+              (usable-within p legs t.fibre t.label may.usable);
           free = ap not (usable-unclaimed p legs o t.fibre t.label rise fit may.usable);
         }
 
@@ -135,7 +142,8 @@ is-none true f = absurd (f refl)
 is-none false f = refl
 
 -- where no claim has the label, no claim of the LSP has it
-pub none-of_lsp : (x : ℕ) (l : Lsp) (claims : List Claim) → NoClaim (has x) claims → not (list_any (is_of_lsp x l) claims) ≡ true
+pub none-of_lsp : (x : ℕ) (l : Lsp) (claims : List Claim) → NoClaim (has x) claims →
+    not (list_any (is_of_lsp x l) claims) ≡ true
 none-of_lsp x l claims none =
     is-none (list_any (is_of_lsp x l) claims)
     (λ h. no-true (list_any (has x) claims) none (any-left (λ c. nat_eq c.label x) (λ c. same_lsp c.lsp l) claims h))
@@ -144,7 +152,8 @@ pub none-least : (x : ℕ) (l : Lsp) (claims : List Claim) → NoClaim (has x) c
 none-least x l claims none least =
     no-true (list_any (has x) claims) none (any-left (has x) (λ c. same_lsp c.lsp l) claims least.passes)
 
-pub may-all-enter : (p : LocalNode) (legs : List Leg) (o : List FibreClaims) (cs : List LegChange) → order.LegsRise legs → ClaimsFit legs o →
+pub may-all-enter : (p : LocalNode) (legs : List Leg) (o : List FibreClaims) (cs : List LegChange) →
+    order.LegsRise legs → ClaimsFit legs o →
     OwnerFits p o → MayBeMade p legs cs → MayAllEnter o legs cs
 may-all-enter p legs o [] rise fit owner may = tt
 may-all-enter p legs o (c ∷ cs) rise fit owner may = (may-enter p legs o c rise fit owner may.0, may.1)

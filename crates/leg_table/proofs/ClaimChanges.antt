@@ -25,20 +25,24 @@ use Rattle.leg_table.proofs.TakenLabels.{none-takes, taken-takes, takes-taken}
 
 -- Lists of claims
 
-all-left : {X : Type 0} (P Q : X → Type 0) (q : X → Bool) (xs : List X) → ((x : X) → P x → q x ≡ true → Q x) → AllByRecursion P xs →
+all-left : {X : Type 0} (P Q : X → Type 0) (q : X → Bool) (xs : List X) → ((x : X) → P x → q x ≡ true → Q x) →
+    AllByRecursion P xs →
     AllByRecursion Q (filter q xs)
 all-left P Q q [] f all = tt
 all-left {X} P Q q (x ∷ xs) f all = go (q x) refl (all-left P Q q xs f all.1)
   where
-    go : (b : Bool) → q x ≡ b → AllByRecursion Q (filter q xs) → AllByRecursion Q (cond b (x ∷ filter q xs) (filter q xs))
+    go : (b : Bool) → q x ≡ b → AllByRecursion Q (filter q xs) →
+        AllByRecursion Q (cond b (x ∷ filter q xs) (filter q xs))
     go true e rest = (f x all.0 e, rest)
     go false e rest = rest
 
-all-to : {X : Type 0} (P Q : X → Type 0) (xs : List X) → ((x : X) → P x → Q x) → AllByRecursion P xs → AllByRecursion Q xs
+all-to : {X : Type 0} (P Q : X → Type 0) (xs : List X) → ((x : X) → P x → Q x) → AllByRecursion P xs →
+    AllByRecursion Q xs
 all-to P Q [] f all = tt
 all-to P Q (x ∷ xs) f all = (f x all.0, all-to P Q xs f all.1)
 
-all-one_more : {X : Type 0} (P : X → Type 0) (xs : List X) (x : X) → AllByRecursion P xs → P x → AllByRecursion P (xs ++ x ∷ [])
+all-one_more : {X : Type 0} (P : X → Type 0) (xs : List X) (x : X) → AllByRecursion P xs → P x →
+    AllByRecursion P (xs ++ x ∷ [])
 all-one_more P [] x all here = (here, tt)
 all-one_more P (y ∷ xs) x all here = (all.0, all-one_more P xs x all.1 here)
 
@@ -52,7 +56,8 @@ any-left_in t q [] f h = h
 any-left_in {X} t q (x ∷ xs) f h = go (q x) refl (t x) refl h (any-left_in t q xs f)
   where
     go : (b : Bool) → q x ≡ b → (a : Bool) → t x ≡ a → (a || list_any t xs) ≡ true →
-        (list_any t xs ≡ true → list_any t (filter q xs) ≡ true) → list_any t (cond b (x ∷ filter q xs) (filter q xs)) ≡ true
+        (list_any t xs ≡ true → list_any t (filter q xs) ≡ true) →
+        list_any t (cond b (x ∷ filter q xs) (filter q xs)) ≡ true
     go true e true k h later = rw k refl
     go true e false k h later = rw k (later h)
     go false e true k h later = absurd (cc (e, f x k))
@@ -100,7 +105,9 @@ pub record Left (l : Lsp) (legs after : List Leg) : Type 0 where
 pub left-fit : (l : Lsp) (legs after : List Leg) (o : List FibreClaims) → ClaimsFit legs o → Left l legs after →
     ((f : Fibre) (x : ℕ) → kind_here f x (find_leg l legs) ≡ None) → ClaimsFit after o
 left-fit l legs after o fit left bare = record {
-  each = λ f. all-to (IsClaimOfLeg legs f) (IsClaimOfLeg after f) (claims_of f o) (λ c e. kept f c (same_lsp l c.lsp) refl e) (fit.each f);
+  each =
+      λ f. all-to (IsClaimOfLeg legs f) (IsClaimOfLeg after f) (claims_of f o)
+      (λ c e. kept f c (same_lsp l c.lsp) refl e) (fit.each f);
   all = λ f x m g found t. fit.all f x m g (there f x m g (same_lsp l m) refl found t) t;
 }
   where
@@ -108,27 +115,40 @@ left-fit l legs after o fit left bare = record {
     kept f c true s e =
         let is : l ≡ c.lsp = same_lsp-eq l c.lsp s in
         let none = bare f c.label in
-        let none' : kind_here f c.label (find_leg c.lsp legs) ≡ None = subst (λ m. kind_here f c.label (find_leg m legs) ≡ None) is none in
+        let none' : kind_here f c.label (find_leg c.lsp legs) ≡ None =
+        subst (λ m. kind_here f c.label (find_leg m legs) ≡ None) is none in
         absurd (cc (none', e))
     kept f c false s e = subst (λ o. kind_here f c.label o ≡ Some c.kind) (sym (left.others c.lsp s)) e
 
-    there : (f : Fibre) (x : ℕ) (m : Lsp) (g : Leg) (b : Bool) → same_lsp l m ≡ b → find_leg m after ≡ Some g → takes f x g ≡ true →
+    there : (f : Fibre) (x : ℕ) (m : Lsp) (g : Leg) (b : Bool) → same_lsp l m ≡ b → find_leg m after ≡ Some g →
+        takes f x g ≡ true →
         find_leg m legs ≡ Some g
     there f x m g true s found t =
         let is : l ≡ m = same_lsp-eq l m s in
-        let none : kind_here f x (find_leg m after) ≡ None = subst (λ k. kind_here f x (find_leg k after) ≡ None) is (left.none f x) in
+        let none : kind_here f x (find_leg m after) ≡ None =
+        subst (λ k. kind_here f x (find_leg k after) ≡ None) is (left.none f x) in
         let some : kind_here f x (find_leg m after) ≡ Some (claim_kind g.role g.phase) = rw (found, t) refl in
         absurd (cc (none, some))
     there f x m g false s found t = sym (left.others m s) ∙ found
 
 -- the label that the leg of the LSP took is freed
-pub freed-fit : (l : Lsp) (legs after : List Leg) (o : List FibreClaims) (k : Leg) (t : TakenLabel) → ClaimsFit legs o → Left l legs after →
+pub freed-fit : (l : Lsp) (legs after : List Leg) (o : List FibreClaims) (k : Leg) (t : TakenLabel) →
+    ClaimsFit legs o → Left l legs after →
     find_leg l legs ≡ Some k → taken k ≡ Some t → ClaimsFit after (label_freed t.fibre t.label l o)
 freed-fit l legs after o k t fit left found has = record {
   each = λ f. go f (same_fibre t.fibre f) refl;
   all = λ f x m g there takes. stays f x m g (same_lsp l m) refl there takes;
 }
   where
+    before : List Claim
+    before = claims_of t.fibre o
+
+    rest : List Claim
+    rest = freed t.label l before
+
+    o2 : List FibreClaims
+    o2 = label_freed t.fibre t.label l o
+
     claimed : has_label o t.fibre t.label l ≡ true
     claimed = fit.all t.fibre t.label l k found (taken-takes k t has)
 
@@ -136,30 +156,35 @@ freed-fit l legs after o k t fit left found has = record {
     comes = claimed-comes o t.fibre t.label l claimed
 
     -- a claim of the LSP is that of its leg
-    its : (f : Fibre) (c : Claim) → same_lsp l c.lsp ≡ true → IsClaimOfLeg legs f c → Some (record { fibre = f; label = c.label }) ≡ Some t
+    its : (f : Fibre) (c : Claim) → same_lsp l c.lsp ≡ true → IsClaimOfLeg legs f c →
+        Some (record { fibre = f; label = c.label }) ≡ Some t
     its f c s e =
         let is : l ≡ c.lsp = same_lsp-eq l c.lsp s in
         let here : find_leg c.lsp legs ≡ Some k = subst (λ m. find_leg m legs ≡ Some k) is found in
-        let kind : kind_here f c.label (Some k) ≡ Some c.kind = subst (λ o. kind_here f c.label o ≡ Some c.kind) here e in
+        let kind : kind_here f c.label (Some k) ≡ Some c.kind =
+        subst (λ o. kind_here f c.label o ≡ Some c.kind) here e in
         sym (takes-taken f c.label k (kind-of f c.label k c.kind kind)) ∙ has
 
     other : (f : Fibre) (c : Claim) → same_lsp l c.lsp ≡ false → IsClaimOfLeg legs f c → IsClaimOfLeg after f c
     other f c s e = subst (λ o. kind_here f c.label o ≡ Some c.kind) (sym (left.others c.lsp s)) e
 
-    kept : (c : Claim) (b : Bool) → same_lsp l c.lsp ≡ b → IsClaimOfLeg legs t.fibre c → not (is_of_lsp t.label l c) ≡ true → IsClaimOfLeg after t.fibre c
+    kept : (c : Claim) (b : Bool) → same_lsp l c.lsp ≡ b → IsClaimOfLeg legs t.fibre c →
+        not (is_of_lsp t.label l c) ≡ true → IsClaimOfLeg after t.fibre c
     kept c true s e q =
         let same : record { fibre = t.fibre; label = c.label } ≡ t = some (its t.fibre c s e) in
         let label : c.label ≡ t.label = ap (λ u. u.label) same in
         let is : l ≡ c.lsp = same_lsp-eq l c.lsp s in
         let here : is_of_lsp t.label l c ≡ true =
-        subst (λ m. (nat_eq c.label t.label && same_lsp c.lsp m) ≡ true) (sym is) (rw (label, same_number t.label) (same_lsp-refl c.lsp)) in
+        subst (λ m. (nat_eq c.label t.label && same_lsp c.lsp m) ≡ true) (sym is)
+        (rw (label, same_number t.label) (same_lsp-refl c.lsp)) in
         absurd (cc (q, here))
       where
         some : {a b : TakenLabel} → Some a ≡ Some b → a ≡ b
         some e = cc
     kept c false s e q = other t.fibre c s e
 
-    elsewhere : (f : Fibre) → same_fibre t.fibre f ≡ false → (c : Claim) (b : Bool) → same_lsp l c.lsp ≡ b → IsClaimOfLeg legs f c → IsClaimOfLeg after f c
+    elsewhere : (f : Fibre) → same_fibre t.fibre f ≡ false → (c : Claim) (b : Bool) → same_lsp l c.lsp ≡ b →
+        IsClaimOfLeg legs f c → IsClaimOfLeg after f c
     elsewhere f apart c true s e =
         let same : record { fibre = f; label = c.label } ≡ t = some (its f c s e) in
         let one : same_fibre t.fibre f ≡ true = subst (λ u. same_fibre u.fibre f ≡ true) same (same_fibre-refl f) in
@@ -169,27 +194,31 @@ freed-fit l legs after o k t fit left found has = record {
         some e = cc
     elsewhere f apart c false s e = other f c s e
 
-    go : (f : Fibre) (b : Bool) → same_fibre t.fibre f ≡ b → AllByRecursion (IsClaimOfLeg after f) (claims_of f (label_freed t.fibre t.label l o))
+    go : (f : Fibre) (b : Bool) → same_fibre t.fibre f ≡ b →
+        AllByRecursion (IsClaimOfLeg after f) (claims_of f o2)
     go f true s =
-        subst (λ g. AllByRecursion (IsClaimOfLeg after g) (claims_of g (label_freed t.fibre t.label l o))) (same_fibre-eq t.fibre f s)
-        (subst (AllByRecursion (IsClaimOfLeg after t.fibre)) (sym (claims-there t.fibre (freed t.label l (claims_of t.fibre o)) o comes))
-        (all-left (IsClaimOfLeg legs t.fibre) (IsClaimOfLeg after t.fibre) (λ c. not (is_of_lsp t.label l c)) (claims_of t.fibre o)
+        subst (λ g. AllByRecursion (IsClaimOfLeg after g) (claims_of g o2)) (same_fibre-eq t.fibre f s)
+        (subst (AllByRecursion (IsClaimOfLeg after t.fibre)) (sym (claims-there t.fibre rest o comes))
+        (all-left (IsClaimOfLeg legs t.fibre) (IsClaimOfLeg after t.fibre) (λ c. not (is_of_lsp t.label l c)) before
         (λ c e q. kept c (same_lsp l c.lsp) refl e q) (fit.each t.fibre)))
     go f false s =
-        subst (AllByRecursion (IsClaimOfLeg after f)) (sym (claims-elsewhere t.fibre f (freed t.label l (claims_of t.fibre o)) o s))
-        (all-to (IsClaimOfLeg legs f) (IsClaimOfLeg after f) (claims_of f o) (λ c e. elsewhere f s c (same_lsp l c.lsp) refl e) (fit.each f))
+        subst (AllByRecursion (IsClaimOfLeg after f)) (sym (claims-elsewhere t.fibre f rest o s))
+        (all-to (IsClaimOfLeg legs f) (IsClaimOfLeg after f) (claims_of f o)
+        (λ c e. elsewhere f s c (same_lsp l c.lsp) refl e) (fit.each f))
 
-    stays : (f : Fibre) (x : ℕ) (m : Lsp) (g : Leg) (b : Bool) → same_lsp l m ≡ b → find_leg m after ≡ Some g → takes f x g ≡ true →
-        has_label (label_freed t.fibre t.label l o) f x m ≡ true
+    stays : (f : Fibre) (x : ℕ) (m : Lsp) (g : Leg) (b : Bool) → same_lsp l m ≡ b → find_leg m after ≡ Some g →
+        takes f x g ≡ true →
+        has_label o2 f x m ≡ true
     stays f x m g true s there takes =
         let is : l ≡ m = same_lsp-eq l m s in
-        let none : kind_here f x (find_leg m after) ≡ None = subst (λ k. kind_here f x (find_leg k after) ≡ None) is (left.none f x) in
+        let none : kind_here f x (find_leg m after) ≡ None =
+        subst (λ k. kind_here f x (find_leg k after) ≡ None) is (left.none f x) in
         let some : kind_here f x (find_leg m after) ≡ Some (claim_kind g.role g.phase) = rw (there, takes) refl in
         absurd (cc (none, some))
     stays f x m g false s there takes = put (same_fibre t.fibre f) refl
       where
-        before : has_label o f x m ≡ true
-        before = fit.all f x m g (sym (left.others m s) ∙ there) takes
+        was : has_label o f x m ≡ true
+        was = fit.all f x m g (sym (left.others m s) ∙ there) takes
 
         -- a claim of m isn't one of l
         apart : (c : Claim) → is_of_lsp x m c ≡ true → not (is_of_lsp t.label l c) ≡ true
@@ -203,15 +232,15 @@ freed-fit l legs after o k t fit left found has = record {
                 absurd (cc (s, one))
             test false k = refl
 
-        put : (b : Bool) → same_fibre t.fibre f ≡ b → has_label (label_freed t.fibre t.label l o) f x m ≡ true
+        put : (b : Bool) → same_fibre t.fibre f ≡ b → has_label o2 f x m ≡ true
         put true e =
             let is = same_fibre-eq t.fibre f e in
-            let here : has_label o t.fibre x m ≡ true = subst (λ h. has_label o h x m ≡ true) (sym is) before in
-            subst (λ h. has_label (label_freed t.fibre t.label l o) h x m ≡ true) is
-            (subst (λ cs. list_any (is_of_lsp x m) cs ≡ true) (sym (claims-there t.fibre (freed t.label l (claims_of t.fibre o)) o comes))
-            (any-left_in (is_of_lsp x m) (λ c. not (is_of_lsp t.label l c)) (claims_of t.fibre o) apart here))
+            let here : has_label o t.fibre x m ≡ true = subst (λ h. has_label o h x m ≡ true) (sym is) was in
+            subst (λ h. has_label o2 h x m ≡ true) is
+            (subst (λ cs. list_any (is_of_lsp x m) cs ≡ true) (sym (claims-there t.fibre rest o comes))
+            (any-left_in (is_of_lsp x m) (λ c. not (is_of_lsp t.label l c)) before apart here))
         put false e =
-            subst (λ cs. list_any (is_of_lsp x m) cs ≡ true) (sym (claims-elsewhere t.fibre f (freed t.label l (claims_of t.fibre o)) o e)) before
+            subst (λ cs. list_any (is_of_lsp x m) cs ≡ true) (sym (claims-elsewhere t.fibre f rest o e)) was
 
 -- A working leg that takes a label: its LSP took none before
 
@@ -220,7 +249,8 @@ pub record Entered (g : Leg) (legs after : List Leg) : Type 0 where
   pub here : find_leg g.lsp after ≡ Some g
   pub bare : (f : Fibre) (x : ℕ) → kind_here f x (find_leg g.lsp legs) ≡ None
 
-pub claimed-fit : (g : Leg) (legs after : List Leg) (o : List FibreClaims) (t : TakenLabel) → ClaimsFit legs o → Entered g legs after →
+pub claimed-fit : (g : Leg) (legs after : List Leg) (o : List FibreClaims) (t : TakenLabel) → ClaimsFit legs o →
+    Entered g legs after →
     taken g ≡ Some t → is_work g.role ≡ true → comes_in o t.fibre ≡ true →
     ClaimsFit after (claim_added t.fibre (working_claim t.label g.lsp) o)
 claimed-fit g legs after o t fit entered has work comes = record {
@@ -231,10 +261,20 @@ claimed-fit g legs after o t fit entered has work comes = record {
     c0 : Claim
     c0 = working_claim t.label g.lsp
 
+    before : List Claim
+    before = claims_of t.fibre o
+
+    more : List Claim
+    more = before ++ c0 ∷ []
+
+    o2 : List FibreClaims
+    o2 = claim_added t.fibre c0 o
+
     old : (f : Fibre) (c : Claim) (b : Bool) → same_lsp g.lsp c.lsp ≡ b → IsClaimOfLeg legs f c → IsClaimOfLeg after f c
     old f c true s e =
         let is : g.lsp ≡ c.lsp = same_lsp-eq g.lsp c.lsp s in
-        let none : kind_here f c.label (find_leg c.lsp legs) ≡ None = subst (λ m. kind_here f c.label (find_leg m legs) ≡ None) is (entered.bare f c.label) in
+        let none : kind_here f c.label (find_leg c.lsp legs) ≡ None =
+        subst (λ m. kind_here f c.label (find_leg m legs) ≡ None) is (entered.bare f c.label) in
         absurd (cc (none, e))
     old f c false s e = subst (λ o. kind_here f c.label o ≡ Some c.kind) (sym (entered.others c.lsp s)) e
 
@@ -243,43 +283,47 @@ claimed-fit g legs after o t fit entered has work comes = record {
         subst (λ o. kind_here t.fibre t.label o ≡ Some Working) (sym entered.here)
         (rw (taken-takes g t has) (ap Some (work-kind g.role g.phase work)))
 
-    go : (f : Fibre) (b : Bool) → same_fibre t.fibre f ≡ b → AllByRecursion (IsClaimOfLeg after f) (claims_of f (claim_added t.fibre c0 o))
+    go : (f : Fibre) (b : Bool) → same_fibre t.fibre f ≡ b →
+        AllByRecursion (IsClaimOfLeg after f) (claims_of f o2)
     go f true s =
-        subst (λ h. AllByRecursion (IsClaimOfLeg after h) (claims_of h (claim_added t.fibre c0 o))) (same_fibre-eq t.fibre f s)
-        (subst (AllByRecursion (IsClaimOfLeg after t.fibre)) (sym (claims-there t.fibre (claims_of t.fibre o ++ c0 ∷ []) o comes))
-        (all-one_more (IsClaimOfLeg after t.fibre) (claims_of t.fibre o) c0
-        (all-to (IsClaimOfLeg legs t.fibre) (IsClaimOfLeg after t.fibre) (claims_of t.fibre o) (λ c e. old t.fibre c (same_lsp g.lsp c.lsp) refl e) (fit.each t.fibre))
+        subst (λ h. AllByRecursion (IsClaimOfLeg after h) (claims_of h o2)) (same_fibre-eq t.fibre f s)
+        (subst (AllByRecursion (IsClaimOfLeg after t.fibre)) (sym (claims-there t.fibre more o comes))
+        (all-one_more (IsClaimOfLeg after t.fibre) before c0
+        (all-to (IsClaimOfLeg legs t.fibre) (IsClaimOfLeg after t.fibre) before
+        (λ c e. old t.fibre c (same_lsp g.lsp c.lsp) refl e) (fit.each t.fibre))
         new))
     go f false s =
-        subst (AllByRecursion (IsClaimOfLeg after f)) (sym (claims-elsewhere t.fibre f (claims_of t.fibre o ++ c0 ∷ []) o s))
-        (all-to (IsClaimOfLeg legs f) (IsClaimOfLeg after f) (claims_of f o) (λ c e. old f c (same_lsp g.lsp c.lsp) refl e) (fit.each f))
+        subst (AllByRecursion (IsClaimOfLeg after f)) (sym (claims-elsewhere t.fibre f more o s))
+        (all-to (IsClaimOfLeg legs f) (IsClaimOfLeg after f) (claims_of f o)
+        (λ c e. old f c (same_lsp g.lsp c.lsp) refl e) (fit.each f))
 
-    claimed : (f : Fibre) (x : ℕ) (m : Lsp) (h : Leg) (b : Bool) → same_lsp g.lsp m ≡ b → find_leg m after ≡ Some h → takes f x h ≡ true →
-        has_label (claim_added t.fibre c0 o) f x m ≡ true
+    claimed : (f : Fibre) (x : ℕ) (m : Lsp) (h : Leg) (b : Bool) → same_lsp g.lsp m ≡ b → find_leg m after ≡ Some h →
+        takes f x h ≡ true →
+        has_label o2 f x m ≡ true
     claimed f x m h true s there takes =
         let is : g.lsp ≡ m = same_lsp-eq g.lsp m s in
         let here : find_leg m after ≡ Some g = subst (λ n. find_leg n after ≡ Some g) is entered.here in
         let leg : h ≡ g = some (sym there ∙ here) in
         let same : record { fibre = f; label = x } ≡ t = some (sym (takes-taken f x h takes) ∙ ap taken leg ∙ has) in
-        let first : has_label (claim_added t.fibre c0 o) t.fibre t.label g.lsp ≡ true =
-        subst (λ cs. list_any (is_of_lsp t.label g.lsp) cs ≡ true) (sym (claims-there t.fibre (claims_of t.fibre o ++ c0 ∷ []) o comes))
-        (any-last (is_of_lsp t.label g.lsp) (claims_of t.fibre o) c0 (rw (same_number t.label) (same_lsp-refl g.lsp))) in
-        subst (λ n. has_label (claim_added t.fibre c0 o) f x n ≡ true) is
-        (subst (λ u. has_label (claim_added t.fibre c0 o) u.fibre u.label g.lsp ≡ true) (sym same) first)
+        let first : has_label o2 t.fibre t.label g.lsp ≡ true =
+        subst (λ cs. list_any (is_of_lsp t.label g.lsp) cs ≡ true) (sym (claims-there t.fibre more o comes))
+        (any-last (is_of_lsp t.label g.lsp) before c0 (rw (same_number t.label) (same_lsp-refl g.lsp))) in
+        subst (λ n. has_label o2 f x n ≡ true) is
+        (subst (λ u. has_label o2 u.fibre u.label g.lsp ≡ true) (sym same) first)
       where
         some : {X : Type 0} {a b : X} → Some a ≡ Some b → a ≡ b
         some e = cc
     claimed f x m h false s there takes = put (same_fibre t.fibre f) refl
       where
-        before : has_label o f x m ≡ true
-        before = fit.all f x m h (sym (entered.others m s) ∙ there) takes
+        was : has_label o f x m ≡ true
+        was = fit.all f x m h (sym (entered.others m s) ∙ there) takes
 
-        put : (b : Bool) → same_fibre t.fibre f ≡ b → has_label (claim_added t.fibre c0 o) f x m ≡ true
+        put : (b : Bool) → same_fibre t.fibre f ≡ b → has_label o2 f x m ≡ true
         put true e =
             let is = same_fibre-eq t.fibre f e in
-            let here : has_label o t.fibre x m ≡ true = subst (λ h. has_label o h x m ≡ true) (sym is) before in
-            subst (λ h. has_label (claim_added t.fibre c0 o) h x m ≡ true) is
-            (subst (λ cs. list_any (is_of_lsp x m) cs ≡ true) (sym (claims-there t.fibre (claims_of t.fibre o ++ c0 ∷ []) o comes))
-            (any-first (is_of_lsp x m) (claims_of t.fibre o) (c0 ∷ []) here))
+            let here : has_label o t.fibre x m ≡ true = subst (λ h. has_label o h x m ≡ true) (sym is) was in
+            subst (λ h. has_label o2 h x m ≡ true) is
+            (subst (λ cs. list_any (is_of_lsp x m) cs ≡ true) (sym (claims-there t.fibre more o comes))
+            (any-first (is_of_lsp x m) before (c0 ∷ []) here))
         put false e =
-            subst (λ cs. list_any (is_of_lsp x m) cs ≡ true) (sym (claims-elsewhere t.fibre f (claims_of t.fibre o ++ c0 ∷ []) o e)) before
+            subst (λ cs. list_any (is_of_lsp x m) cs ≡ true) (sym (claims-elsewhere t.fibre f more o e)) was

@@ -41,7 +41,8 @@ from_fails false from reaches e = refl
 same_or_before : (i j : ℕ) → i ≤ j → (i < j) ⊎ (i ≡ j)
 same_or_before i j le = elim (cases_lt i j) [ inl below ↦ inl below | inr above ↦ inr (omega arith) ]
 
-pub parted : {X : Type 0} (same from : X → Bool) (xs : List X) → InOrder same from xs → IsPartitionedBy (λ x. not (from x)) xs
+pub parted : {X : Type 0} (same from : X → Bool) (xs : List X) → InOrder same from xs →
+    IsPartitionedBy (λ x. not (from x)) xs
 parted {X} same from xs o i j d le within e = go (same_or_before i j le) (from (get_or xs i d)) refl
   where
     go : (i < j) ⊎ (i ≡ j) → (b : Bool) → from (get_or xs i d) ≡ b → not (from (get_or xs i d)) ≡ true
@@ -51,28 +52,33 @@ parted {X} same from xs o i j d le within e = go (same_or_before i j le) (from (
 
 -- The place
 
-first_is : {X : Type 0} (from : X → Bool) (xs : List X) (i : ℕ) (d : X) → i ≤ length xs → IsPartitionPoint (λ x. not (from x) ≡ true) (λ x. not (from x) ≡ false) xs i → i ≡ position_or_len from xs
+first_is : {X : Type 0} (from : X → Bool) (xs : List X) (i : ℕ) (d : X) → i ≤ length xs →
+    IsPartitionPoint (λ x. not (from x) ≡ true) (λ x. not (from x) ≡ false) xs i → i ≡ position_or_len from xs
 first_is from xs i d within parted =
     sym (position_or_len_is from xs i d within
     (λ k below. negated (from (get_or xs k d)) (parted.0 k d (omega arith) below))
     (λ inside. negated_false (from (get_or xs i d)) (parted.1 i d (omega arith) inside)))
 
-pub point-is : {X : Type 0} (from : X → Bool) (xs : List X) (i : ℕ) → i ≤ length xs → IsPartitionPoint (λ x. not (from x) ≡ true) (λ x. not (from x) ≡ false) xs i → i ≡ position_or_len from xs
+pub point-is : {X : Type 0} (from : X → Bool) (xs : List X) (i : ℕ) → i ≤ length xs →
+    IsPartitionPoint (λ x. not (from x) ≡ true) (λ x. not (from x) ≡ false) xs i → i ≡ position_or_len from xs
 point-is from [] i within parted = omega arith
 point-is from (x ∷ xs) i within parted = first_is from (x ∷ xs) i x within parted
 
-position_at : {X : Type 0} (same : X → Bool) (xs : List X) (n : ℕ) → position_or_len same xs ≡ n → n < length xs → position same xs ≡ Some n
+position_at : {X : Type 0} (same : X → Bool) (xs : List X) (n : ℕ) → position_or_len same xs ≡ n → n < length xs →
+    position same xs ≡ Some n
 position_at same xs n is below =
     let test : nat_lt n (length xs) ≡ true = grind arith in
     rw (is, test) refl
 
-position_nowhere : {X : Type 0} (same : X → Bool) (xs : List X) → position_or_len same xs ≡ length xs → position same xs ≡ None
+position_nowhere : {X : Type 0} (same : X → Bool) (xs : List X) → position_or_len same xs ≡ length xs →
+    position same xs ≡ None
 position_nowhere same xs is =
     let test : nat_lt (length xs) (length xs) ≡ false = grind arith in
     rw (is, test) refl
 
 -- the first place from which all pass is that of the one that is sought
-pub found-at : {X : Type 0} (same from : X → Bool) (xs : List X) (n : ℕ) → InOrder same from xs → n ≡ position_or_len from xs → n < length xs → ((d : X) → same (get_or xs n d) ≡ true) → position same xs ≡ Some n
+pub found-at : {X : Type 0} (same from : X → Bool) (xs : List X) (n : ℕ) → InOrder same from xs →
+    n ≡ position_or_len from xs → n < length xs → ((d : X) → same (get_or xs n d) ≡ true) → position same xs ≡ Some n
 found-at same from [] n o place below here = absurd (omega arith)
 found-at same from (x ∷ xs) n o place below here =
     position_at same (x ∷ xs) n
@@ -82,7 +88,9 @@ found-at same from (x ∷ xs) n o place below here =
     below
 
 -- or it isn't there
-pub absent-at : {X : Type 0} (same from : X → Bool) (xs : List X) (n : ℕ) → InOrder same from xs → n ≡ position_or_len from xs → ((d : X) → n < length xs → same (get_or xs n d) ≡ false) → ((d : X) → n < length xs → from (get_or xs n d) ≡ true) → position same xs ≡ None
+pub absent-at : {X : Type 0} (same from : X → Bool) (xs : List X) (n : ℕ) → InOrder same from xs →
+    n ≡ position_or_len from xs → ((d : X) → n < length xs → same (get_or xs n d) ≡ false) →
+    ((d : X) → n < length xs → from (get_or xs n d) ≡ true) → position same xs ≡ None
 absent-at same from [] n o place here passes = refl
 absent-at {X} same from (x ∷ xs) n o place here passes =
     position_nowhere same (x ∷ xs) (position_or_len_is same (x ∷ xs) (length (x ∷ xs)) x (omega arith) (λ k below. fails k below (cases_lt k n)) (λ inside. absurd (omega arith)))
@@ -100,10 +108,12 @@ some_is : (b : Bool) (m n : ℕ) → cond b (Some m) None ≡ Some n → m ≡ n
 some_is true m n e = cc
 some_is false m n e = absurd (cc e)
 
-pub first_place : {X : Type 0} (same : X → Bool) (xs : List X) (n : ℕ) → position same xs ≡ Some n → position_or_len same xs ≡ n
+pub first_place : {X : Type 0} (same : X → Bool) (xs : List X) (n : ℕ) → position same xs ≡ Some n →
+    position_or_len same xs ≡ n
 first_place same xs n e = some_is (nat_lt (position_or_len same xs) (length xs)) (position_or_len same xs) n e
 
-pub find-place : {X : Type 0} (same : X → Bool) (xs : List X) (n : ℕ) → position same xs ≡ Some n → find same xs ≡ slice_get xs n
+pub find-place : {X : Type 0} (same : X → Bool) (xs : List X) (n : ℕ) → position same xs ≡ Some n →
+    find same xs ≡ slice_get xs n
 find-place same xs n e = find_at same xs ∙ ap (slice_get xs) (first_place same xs n e)
 
 past_end : {X : Type 0} (same : X → Bool) (xs : List X) → position same xs ≡ None → length xs ≤ position_or_len same xs
@@ -120,28 +130,35 @@ find-nowhere same xs e = find_at same xs ∙ slice_get_past xs (position_or_len 
 
 -- One taken off
 
-filter-all : {X : Type 0} (same : X → Bool) (xs : List X) → ((k : ℕ) (d : X) → k < length xs → same (get_or xs k d) ≡ false) → filter (λ x. not (same x)) xs ≡ xs
+filter-all : {X : Type 0} (same : X → Bool) (xs : List X) →
+    ((k : ℕ) (d : X) → k < length xs → same (get_or xs k d) ≡ false) → filter (λ x. not (same x)) xs ≡ xs
 filter-all same [] none = refl
 filter-all same (x ∷ xs) none =
     let here : same x ≡ false = none 0 x (omega arith) in
     rw here (ap (λ ys. x ∷ ys) (filter-all same xs (λ k d below. none (suc k) d (omega arith))))
 
-pub filter-nowhere : {X : Type 0} (same : X → Bool) (xs : List X) → position same xs ≡ None → filter (λ x. not (same x)) xs ≡ xs
+pub filter-nowhere : {X : Type 0} (same : X → Bool) (xs : List X) → position same xs ≡ None →
+    filter (λ x. not (same x)) xs ≡ xs
 filter-nowhere same xs e = filter-all same xs (λ k d below. fails_before_first same xs k d (omega (arith, past_end same xs e, below)))
 
-pub filter-first : {X : Type 0} (same : X → Bool) (xs : List X) → ((i j : ℕ) (d : X) → i < j → j < length xs → same (get_or xs i d) ≡ true → same (get_or xs j d) ≡ false) → position_or_len same xs < length xs → filter (λ x. not (same x)) xs ≡ remove xs (position_or_len same xs)
+pub filter-first : {X : Type 0} (same : X → Bool) (xs : List X) →
+    ((i j : ℕ) (d : X) → i < j → j < length xs → same (get_or xs i d) ≡ true → same (get_or xs j d) ≡ false) →
+    position_or_len same xs < length xs → filter (λ x. not (same x)) xs ≡ remove xs (position_or_len same xs)
 filter-first same [] once below = absurd (omega arith)
 filter-first {X} same (x ∷ xs) once below = go (same x) refl below (filter-first same xs (λ i j d less within e. once (suc i) (suc j) d (omega arith) (omega arith) e))
   where
     n : ℕ
     n = position_or_len same xs
 
-    go : (b : Bool) → same x ≡ b → cond (not b) (1 + n) 0 < length (x ∷ xs) → (n < length xs → filter (λ y. not (same y)) xs ≡ remove xs n) → cond (not b) (x ∷ filter (λ y. not (same y)) xs) (filter (λ y. not (same y)) xs) ≡ remove (x ∷ xs) (cond (not b) (1 + n) 0)
+    go : (b : Bool) → same x ≡ b → cond (not b) (1 + n) 0 < length (x ∷ xs) →
+        (n < length xs → filter (λ y. not (same y)) xs ≡ remove xs n) →
+        cond (not b) (x ∷ filter (λ y. not (same y)) xs) (filter (λ y. not (same y)) xs) ≡ remove (x ∷ xs) (cond (not b) (1 + n) 0)
     go true e less later = filter-all same xs (λ k d within. once 0 (suc k) d (omega arith) (omega arith) e)
     go false e less later = rw (one_more n) (ap (λ ys. x ∷ ys) (later (omega (arith, less))))
 
 -- the one at the place of the first that passes, in a list in order
-pub filter-at : {X : Type 0} {from : X → Bool} (same : X → Bool) (xs : List X) (i : ℕ) (d : X) → InOrder same from xs → position same xs ≡ Some i → filter (λ x. not (same x)) xs ≡ remove xs i
+pub filter-at : {X : Type 0} {from : X → Bool} (same : X → Bool) (xs : List X) (i : ℕ) (d : X) → InOrder same from xs →
+    position same xs ≡ Some i → filter (λ x. not (same x)) xs ≡ remove xs i
 filter-at same xs i d o e =
     let first = first_place same xs i e in
     let within = (position-Some same xs i d e).0 in
@@ -150,32 +167,40 @@ filter-at same xs i d o e =
 
 -- One changed
 
-pub changed-first : {X : Type 0} (same : X → Bool) (change : X → X) (xs : List X) (d : X) → position_or_len same xs < length xs → set xs (position_or_len same xs) (change (get_or xs (position_or_len same xs) d)) ≡ first_changed same change xs
+pub changed-first : {X : Type 0} (same : X → Bool) (change : X → X) (xs : List X) (d : X) →
+    position_or_len same xs < length xs →
+    set xs (position_or_len same xs) (change (get_or xs (position_or_len same xs) d)) ≡ first_changed same change xs
 changed-first same change [] d below = absurd (omega arith)
 changed-first {X} same change (x ∷ xs) d below = go (same x) below (changed-first same change xs d)
   where
     n : ℕ
     n = position_or_len same xs
 
-    go : (b : Bool) → cond (not b) (1 + n) 0 < length (x ∷ xs) → (n < length xs → set xs n (change (get_or xs n d)) ≡ first_changed same change xs) → set (x ∷ xs) (cond (not b) (1 + n) 0) (change (get_or (x ∷ xs) (cond (not b) (1 + n) 0) d)) ≡ cond b (change x ∷ xs) (x ∷ first_changed same change xs)
+    go : (b : Bool) → cond (not b) (1 + n) 0 < length (x ∷ xs) →
+        (n < length xs → set xs n (change (get_or xs n d)) ≡ first_changed same change xs) →
+        set (x ∷ xs) (cond (not b) (1 + n) 0) (change (get_or (x ∷ xs) (cond (not b) (1 + n) 0) d)) ≡ cond b (change x ∷ xs) (x ∷ first_changed same change xs)
     go true less later = refl
     go false less later = rw (one_more n) (ap (λ ys. x ∷ ys) (later (omega (arith, less))))
 
-pub changed-at : {X : Type 0} (same : X → Bool) (change : X → X) (xs : List X) (i : ℕ) (x : X) → position same xs ≡ Some i → x ≡ get_or xs i x → set xs i (change x) ≡ first_changed same change xs
+pub changed-at : {X : Type 0} (same : X → Bool) (change : X → X) (xs : List X) (i : ℕ) (x : X) →
+    position same xs ≡ Some i → x ≡ get_or xs i x → set xs i (change x) ≡ first_changed same change xs
 changed-at same change xs i x e is =
     ap (λ y. set xs i (change y)) is
     ∙ subst (λ n. n < length xs → set xs n (change (get_or xs n x)) ≡ first_changed same change xs) (first_place same xs i e) (changed-first same change xs x) (position-Some same xs i x e).0
 
-pub changed-nowhere : {X : Type 0} (same : X → Bool) (change : X → X) (xs : List X) → position same xs ≡ None → first_changed same change xs ≡ xs
+pub changed-nowhere : {X : Type 0} (same : X → Bool) (change : X → X) (xs : List X) → position same xs ≡ None →
+    first_changed same change xs ≡ xs
 changed-nowhere {X} same change xs e = all xs (λ k d below. fails_before_first same xs k d (omega (arith, past_end same xs e, below)))
   where
-    all : (ys : List X) → ((k : ℕ) (d : X) → k < length ys → same (get_or ys k d) ≡ false) → first_changed same change ys ≡ ys
+    all : (ys : List X) → ((k : ℕ) (d : X) → k < length ys → same (get_or ys k d) ≡ false) →
+        first_changed same change ys ≡ ys
     all [] none = refl
     all (y ∷ ys) none =
         let here : same y ≡ false = none 0 y (omega arith) in
         rw here (ap (λ zs. y ∷ zs) (all ys (λ k d below. none (suc k) d (omega arith))))
 
-pub rises-set : {X : Type 0} (R : X → X → Type 0) (xs : List X) (i : ℕ) (x y : X) → x ≡ get_or xs i x → i < length xs → AllPairs R xs → ((z : X) → R z x → R z y) → ((z : X) → R x z → R y z) → AllPairs R (set xs i y)
+pub rises-set : {X : Type 0} (R : X → X → Type 0) (xs : List X) (i : ℕ) (x y : X) → x ≡ get_or xs i x → i < length xs →
+    AllPairs R xs → ((z : X) → R z x → R z y) → ((z : X) → R x z → R y z) → AllPairs R (set xs i y)
 rises-set {X} R xs i x y is inside pairs to from a b d less within = go (nat_eq a i) refl (nat_eq b i) refl
   where
     at : (k : ℕ) → nat_eq k i ≡ true → k ≡ i
@@ -196,10 +221,12 @@ rises-set {X} R xs i x y is inside pairs to from a b d less within = go (nat_eq 
     long : b < length xs
     long = subst (λ n. b < n) (length-set xs i y) within
 
-    pair : (v w : X) → get_or (set xs i y) a d ≡ v → get_or (set xs i y) b d ≡ w → R v w → R (get_or (set xs i y) a d) (get_or (set xs i y) b d)
+    pair : (v w : X) → get_or (set xs i y) a d ≡ v → get_or (set xs i y) b d ≡ w → R v w →
+        R (get_or (set xs i y) a d) (get_or (set xs i y) b d)
     pair v w e f r = subst (λ u. R u (get_or (set xs i y) b d)) (sym e) (subst (λ u. R v u) (sym f) r)
 
-    go : (p : Bool) → nat_eq a i ≡ p → (q : Bool) → nat_eq b i ≡ q → R (get_or (set xs i y) a d) (get_or (set xs i y) b d)
+    go : (p : Bool) → nat_eq a i ≡ p → (q : Bool) → nat_eq b i ≡ q →
+        R (get_or (set xs i y) a d) (get_or (set xs i y) b d)
     go true e true f = absurd (let same : a ≡ b = at a e ∙ sym (at b f) in omega arith)
     go true e false f = pair y (get_or xs b d) (here a e) (there b f) (from (get_or xs b d) (subst (λ u. R u (get_or xs b d)) (before a e) (pairs a b d less long)))
     go false e true f = pair (get_or xs a d) y (there a e) (here b f) (to (get_or xs a d) (subst (λ u. R (get_or xs a d) u) (before b f) (pairs a b d less long)))
@@ -207,7 +234,9 @@ rises-set {X} R xs i x y is inside pairs to from a b d less within = go (nat_eq 
 
 -- A new one
 
-pub rises-insert : {X : Type 0} (R : X → X → Type 0) (xs : List X) (n : ℕ) (y : X) → n ≤ length xs → AllPairs R xs → ((k : ℕ) (d : X) → k < n → R (get_or xs k d) y) → ((k : ℕ) (d : X) → n ≤ k → k < length xs → R y (get_or xs k d)) → AllPairs R (insert xs n y)
+pub rises-insert : {X : Type 0} (R : X → X → Type 0) (xs : List X) (n : ℕ) (y : X) → n ≤ length xs → AllPairs R xs →
+    ((k : ℕ) (d : X) → k < n → R (get_or xs k d) y) → ((k : ℕ) (d : X) → n ≤ k → k < length xs → R y (get_or xs k d)) →
+    AllPairs R (insert xs n y)
 rises-insert {X} R xs n y le pairs before after i j d less within = go (cases_lt i n) (cases_lt j n)
   where
     longer : length (insert xs n y) ≡ length xs + 1
@@ -222,7 +251,8 @@ rises-insert {X} R xs n y le pairs before after i j d less within = go (cases_lt
     high : (k : ℕ) → n < k → get_or (insert xs n y) k d ≡ get_or xs (k - 1) d
     high k above = subst (λ m. get_or (insert xs n y) m d ≡ get_or xs (k - 1) d) {x = k - 1 + 1} (omega arith) (get_or-insert_above xs n y d (k - 1) (omega arith) le)
 
-    pair : (x z : X) → get_or (insert xs n y) i d ≡ x → get_or (insert xs n y) j d ≡ z → R x z → R (get_or (insert xs n y) i d) (get_or (insert xs n y) j d)
+    pair : (x z : X) → get_or (insert xs n y) i d ≡ x → get_or (insert xs n y) j d ≡ z → R x z →
+        R (get_or (insert xs n y) i d) (get_or (insert xs n y) j d)
     pair x z e f r = subst (λ w. R w (get_or (insert xs n y) j d)) (sym e) (subst (λ w. R x w) (sym f) r)
 
     go : (i < n) ⊎ (n ≤ i) → (j < n) ⊎ (n ≤ j) → R (get_or (insert xs n y) i d) (get_or (insert xs n y) j d)
@@ -237,5 +267,6 @@ rises-insert {X} R xs n y le pairs before after i j d less within = go (cases_lt
       | inr is ↦ pair y (get_or xs (j - 1) d) (here i (sym is)) (high j (omega (arith, is, less))) (after (j - 1) d (omega (arith, is, less)) (omega (arith, within, longer, is, less)))
     ]
 
-pub passes-first : {X : Type 0} (from : X → Bool) (xs : List X) (n : ℕ) (d : X) → n ≡ position_or_len from xs → n < length xs → from (get_or xs n d) ≡ true
+pub passes-first : {X : Type 0} (from : X → Bool) (xs : List X) (n : ℕ) (d : X) → n ≡ position_or_len from xs →
+    n < length xs → from (get_or xs n d) ≡ true
 passes-first from xs n d place below = subst (λ m. from (get_or xs m d) ≡ true) (sym place) (passes_at_first from xs d (subst (λ m. m < length xs) place below))

@@ -17,7 +17,8 @@ use Rattle.mesh_nodes.proofs.LegList.{before-total}
 use Rattle.leg_table.proofs.Orders.{calls_in_order, legs_in_order}
 use Rattle.leg_table.proofs.Places.{with_call-place, with_leg-place}
 
-pub either_way : {T E X : Type 0} (P : X → Type 0) (r : Result T E) (a b new : X) → OnOk r (new ≡ a) → OnErr r (new ≡ b) → P a → P b → P new
+pub either_way : {T E X : Type 0} (P : X → Type 0) (r : Result T E) (a b new : X) → OnOk r (new ≡ a) →
+    OnErr r (new ≡ b) → P a → P b → P new
 either_way P (Ok x) a b new ok err p q = subst P (sym ok) p
 either_way P (Err e) a b new ok err p q = subst P (sym err) q
 
@@ -25,16 +26,20 @@ pub not-found : {X : Type 0} (same : X → Bool) (xs : List X) → find same xs 
 not-found same [] e h = cc h
 not-found same (x ∷ xs) e h = go (same x) e h (not-found same xs)
   where
-    go : (b : Bool) → cond b (Some x) (find same xs) ≡ None → (b || list_any same xs) ≡ true → (find same xs ≡ None → list_any same xs ≡ true → ⊥) → ⊥
+    go : (b : Bool) → cond b (Some x) (find same xs) ≡ None → (b || list_any same xs) ≡ true →
+        (find same xs ≡ None → list_any same xs ≡ true → ⊥) → ⊥
     go true e h later = cc e
     go false e h later = later e h
 
 -- where it isn't found, none is it
-unlike : {X : Type 0} (same : X → Bool) (xs : List X) (k : ℕ) (d : X) → find same xs ≡ None → k < length xs → same (get_or xs k d) ≡ false
+unlike : {X : Type 0} (same : X → Bool) (xs : List X) (k : ℕ) (d : X) → find same xs ≡ None → k < length xs →
+    same (get_or xs k d) ≡ false
 unlike same [] k d e below = absurd (omega arith)
 unlike {X} same (x ∷ xs) k d e below = go (same x) refl e k below (λ j less f. unlike same xs j d f less)
   where
-    go : (b : Bool) → same x ≡ b → cond b (Some x) (find same xs) ≡ None → (k : ℕ) → k < length (x ∷ xs) → ((j : ℕ) → j < length xs → find same xs ≡ None → same (get_or xs j d) ≡ false) → same (get_or (x ∷ xs) k d) ≡ false
+    go : (b : Bool) → same x ≡ b → cond b (Some x) (find same xs) ≡ None → (k : ℕ) → k < length (x ∷ xs) →
+        ((j : ℕ) → j < length xs → find same xs ≡ None → same (get_or xs j d) ≡ false) →
+        same (get_or (x ∷ xs) k d) ≡ false
     go true is f k less later = absurd (cc f)
     go false is f zero less later = is
     go false is f (suc k) less later = later k (omega (arith, less)) f
@@ -47,7 +52,8 @@ or_neither : (a b : Bool) → (a || b) ≡ false → (a ≡ false) × (b ≡ fal
 or_neither true b h = absurd (cc h)
 or_neither false b h = (refl, h)
 
-from_place : {X : Type 0} (same from : X → Bool) (xs : List X) (n k : ℕ) (d : X) → InOrder same from xs → n ≡ position_or_len from xs → n ≤ k → k < length xs → from (get_or xs k d) ≡ true
+from_place : {X : Type 0} (same from : X → Bool) (xs : List X) (n k : ℕ) (d : X) → InOrder same from xs →
+    n ≡ position_or_len from xs → n ≤ k → k < length xs → from (get_or xs k d) ≡ true
 from_place same from xs n k d o place le below = elim (cases_lt n k) [
   | inl less ↦ o.last n k d less below (passes-first from xs n d place (omega (arith, less, below)))
   | inr more ↦ (let is : n ≡ k = omega (arith, le, more) in subst (λ m. from (get_or xs m d) ≡ true) is (passes-first from xs n d place (omega (arith, is, below))))
@@ -59,15 +65,19 @@ unheld : (l : Lsp) (legs : List Leg) (k : ℕ) → find_leg l legs ≡ None → 
 unheld l [] k e = refl
 unheld l (g ∷ legs) k e = go (same_lsp g.lsp l) refl e k (λ j f. unheld l legs j f)
   where
-    go : (b : Bool) → same_lsp g.lsp l ≡ b → cond b (Some g) (find_leg l legs) ≡ None → (k : ℕ) → ((j : ℕ) → find_leg l legs ≡ None → has_lsp (slice_get legs j) l ≡ false) → has_lsp (slice_get (g ∷ legs) k) l ≡ false
+    go : (b : Bool) → same_lsp g.lsp l ≡ b → cond b (Some g) (find_leg l legs) ≡ None → (k : ℕ) →
+        ((j : ℕ) → find_leg l legs ≡ None → has_lsp (slice_get legs j) l ≡ false) →
+        has_lsp (slice_get (g ∷ legs) k) l ≡ false
     go true is f k later = absurd (cc f)
     go false is f zero later = is
     go false is f (suc k) later = later k f
 
-pub leg-inserted : (g : Leg) (legs : List Leg) (n : ℕ) → n ≡ position_or_len (is_at_or_after g.lsp) legs → find_leg g.lsp legs ≡ None → insert legs n g ≡ with_leg g legs
+pub leg-inserted : (g : Leg) (legs : List Leg) (n : ℕ) → n ≡ position_or_len (is_at_or_after g.lsp) legs →
+    find_leg g.lsp legs ≡ None → insert legs n g ≡ with_leg g legs
 leg-inserted g legs n place none = rw (with_leg-place g legs, ← place, unheld g.lsp legs n none) refl
 
-pub leg-rises : (g : Leg) (legs : List Leg) (n : ℕ) → LegsRise legs → n ≡ position_or_len (is_at_or_after g.lsp) legs → n ≤ length legs → find_leg g.lsp legs ≡ None → LegsRise (insert legs n g)
+pub leg-rises : (g : Leg) (legs : List Leg) (n : ℕ) → LegsRise legs → n ≡ position_or_len (is_at_or_after g.lsp) legs →
+    n ≤ length legs → find_leg g.lsp legs ≡ None → LegsRise (insert legs n g)
 leg-rises g legs n rises place within none =
     rises-insert (λ a b. IsTrue (lsp_before a.lsp b.lsp)) legs n g within rises
     (λ k d less.
@@ -80,11 +90,14 @@ leg-rises g legs n rises place within none =
 
 -- Calls
 
-unnumbered : (n : CallNo) (calls : List CallRec) (k : ℕ) → find_call n calls ≡ None → has_number (slice_get calls k) n ≡ false
+unnumbered : (n : CallNo) (calls : List CallRec) (k : ℕ) → find_call n calls ≡ None →
+    has_number (slice_get calls k) n ≡ false
 unnumbered n [] k e = refl
 unnumbered n (c ∷ calls) k e = go (nat_eq c.call.0 n.0) refl e k (λ j f. unnumbered n calls j f)
   where
-    go : (b : Bool) → nat_eq c.call.0 n.0 ≡ b → cond b (Some c) (find_call n calls) ≡ None → (k : ℕ) → ((j : ℕ) → find_call n calls ≡ None → has_number (slice_get calls j) n ≡ false) → has_number (slice_get (c ∷ calls) k) n ≡ false
+    go : (b : Bool) → nat_eq c.call.0 n.0 ≡ b → cond b (Some c) (find_call n calls) ≡ None → (k : ℕ) →
+        ((j : ℕ) → find_call n calls ≡ None → has_number (slice_get calls j) n ≡ false) →
+        has_number (slice_get (c ∷ calls) k) n ≡ false
     go true is f k later = absurd (cc f)
     go false is f zero later = is
     go false is f (suc k) later = later k f
@@ -95,10 +108,14 @@ below_number n a e = grind arith
 above_number : (n a : ℕ) → nat_le n a ≡ true → nat_eq a n ≡ false → nat_lt n a ≡ true
 above_number n a e f = grind arith
 
-pub call-inserted : (c : CallRec) (calls : List CallRec) (n : ℕ) → n ≡ position_or_len (is_call_at_or_after c.call) calls → find_call c.call calls ≡ None → insert calls n c ≡ with_call c calls
+pub call-inserted : (c : CallRec) (calls : List CallRec) (n : ℕ) →
+    n ≡ position_or_len (is_call_at_or_after c.call) calls → find_call c.call calls ≡ None →
+    insert calls n c ≡ with_call c calls
 call-inserted c calls n place none = rw (with_call-place c calls, ← place, unnumbered c.call calls n none) refl
 
-pub call-rises : (c : CallRec) (calls : List CallRec) (n : ℕ) → CallsRise calls → n ≡ position_or_len (is_call_at_or_after c.call) calls → n ≤ length calls → find_call c.call calls ≡ None → CallsRise (insert calls n c)
+pub call-rises : (c : CallRec) (calls : List CallRec) (n : ℕ) → CallsRise calls →
+    n ≡ position_or_len (is_call_at_or_after c.call) calls → n ≤ length calls → find_call c.call calls ≡ None →
+    CallsRise (insert calls n c)
 call-rises c calls n rises place within none =
     rises-insert (λ a b. IsTrue (nat_lt a.call.0 b.call.0)) calls n c within rises
     (λ k d less. below_number c.call.0 (get_or calls k d).call.0 (fails_before_first (is_call_at_or_after c.call) calls k d (subst (λ m. k < m) place less)))

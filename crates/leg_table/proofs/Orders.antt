@@ -46,7 +46,8 @@ number_apart n a b e f = grind arith
 number_reaches : (n a : ℕ) → nat_eq a n ≡ true → nat_le n a ≡ true
 number_reaches n a e = grind arith
 
-pub calls_in_order : (n : CallNo) (calls : List CallRec) → CallsRise calls → InOrder (is_of_number n) (is_call_at_or_after n) calls
+pub calls_in_order : (n : CallNo) (calls : List CallRec) → CallsRise calls →
+    InOrder (is_of_number n) (is_call_at_or_after n) calls
 calls_in_order n calls rises = record {
   reaches = λ c e. number_reaches n.0 c.call.0 e;
   last = λ i j d less within e. number_after n.0 (get_or calls i d).call.0 (get_or calls j d).call.0 e (rises i j d less within);

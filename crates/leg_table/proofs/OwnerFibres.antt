@@ -52,32 +52,45 @@ claims-elsewhere f g claims [] apart = refl
 claims-elsewhere f g claims (r ∷ o) apart = go (same_fibre r.fibre f) refl (claims-elsewhere f g claims o apart)
   where
     go : (b : Bool) → same_fibre r.fibre f ≡ b → claims_of g (with_claims f claims o) ≡ claims_of g o →
-        claims_of g (cond b (record r { claims = claims } ∷ o) (r ∷ with_claims f claims o)) ≡ cond (same_fibre r.fibre g) r.claims (claims_of g o)
+        claims_of g (cond b (record r {
+          claims =
+              claims;
+        } ∷ o) (r ∷ with_claims f claims o)) ≡ cond (same_fibre r.fibre g) r.claims (claims_of g o)
     go true e rest =
-        let other : same_fibre r.fibre g ≡ false = subst (λ k. same_fibre k g ≡ false) (sym (same_fibre-eq r.fibre f e)) apart in
+        let other : same_fibre r.fibre g ≡ false =
+        subst (λ k. same_fibre k g ≡ false) (sym (same_fibre-eq r.fibre f e)) apart in
         rw other refl
     go false e rest = ap (λ cs. cond (same_fibre r.fibre g) r.claims cs) rest
 
-pub comes-kept : (f g : Fibre) (claims : List Claim) (o : List FibreClaims) → comes_in (with_claims f claims o) g ≡ comes_in o g
+pub comes-kept : (f g : Fibre) (claims : List Claim) (o : List FibreClaims) →
+    comes_in (with_claims f claims o) g ≡ comes_in o g
 comes-kept f g claims [] = refl
 comes-kept f g claims (r ∷ o) = go (same_fibre r.fibre f) (comes-kept f g claims o)
   where
     go : (b : Bool) → comes_in (with_claims f claims o) g ≡ comes_in o g →
-        comes_in (cond b (record r { claims = claims } ∷ o) (r ∷ with_claims f claims o)) g ≡ (same_fibre r.fibre g || comes_in o g)
+        comes_in (cond b (record r {
+          claims =
+              claims;
+        } ∷ o) (r ∷ with_claims f claims o)) g ≡ (same_fibre r.fibre g || comes_in o g)
     go true rest = refl
     go false rest = ap (λ b. same_fibre r.fibre g || b) rest
 
-pub labels-kept : (f g : Fibre) (claims : List Claim) (o : List FibreClaims) → labels_of g (with_claims f claims o) ≡ labels_of g o
+pub labels-kept : (f g : Fibre) (claims : List Claim) (o : List FibreClaims) →
+    labels_of g (with_claims f claims o) ≡ labels_of g o
 labels-kept f g claims [] = refl
 labels-kept f g claims (r ∷ o) = go (same_fibre r.fibre f) (labels-kept f g claims o)
   where
     go : (b : Bool) → labels_of g (with_claims f claims o) ≡ labels_of g o →
-        labels_of g (cond b (record r { claims = claims } ∷ o) (r ∷ with_claims f claims o)) ≡ cond (same_fibre r.fibre g) r.labels (labels_of g o)
+        labels_of g (cond b (record r {
+          claims =
+              claims;
+        } ∷ o) (r ∷ with_claims f claims o)) ≡ cond (same_fibre r.fibre g) r.labels (labels_of g o)
     go true rest = refl
     go false rest = ap (λ n. cond (same_fibre r.fibre g) r.labels n) rest
 
 -- a label that is claimed is one of a fibre that comes in
-pub claimed-comes : (o : List FibreClaims) (f : Fibre) (x : ℕ) (l : Lsp) → has_label o f x l ≡ true → comes_in o f ≡ true
+pub claimed-comes : (o : List FibreClaims) (f : Fibre) (x : ℕ) (l : Lsp) → has_label o f x l ≡ true →
+    comes_in o f ≡ true
 claimed-comes [] f x l h = absurd (cc h)
 claimed-comes (r ∷ o) f x l h = go (same_fibre r.fibre f) h (claimed-comes o f x l)
   where

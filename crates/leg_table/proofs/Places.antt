@@ -26,10 +26,12 @@ position_or_len-le p (x ∷ xs) =
       | false ↦ omega (arith, position_or_len-le p xs)
     ]
 
-pub position-found : {X : Type 0} (p : X → Bool) (xs : List X) (i : ℕ) → position p xs ≡ Some i → position_or_len p xs ≡ i
+pub position-found : {X : Type 0} (p : X → Bool) (xs : List X) (i : ℕ) → position p xs ≡ Some i →
+    position_or_len p xs ≡ i
 position-found p xs i e = place_of_some _ _ _ e
 
-pub position-nowhere : {X : Type 0} (p : X → Bool) (xs : List X) → position p xs ≡ None → position_or_len p xs ≡ length xs
+pub position-nowhere : {X : Type 0} (p : X → Bool) (xs : List X) → position p xs ≡ None →
+    position_or_len p xs ≡ length xs
 position-nowhere p xs e =
     let far : nat_lt (position_or_len p xs) (length xs) ≡ false = place_of_none _ _ e in
     let within : position_or_len p xs ≤ length xs = position_or_len-le p xs in
@@ -44,14 +46,17 @@ cons-cond false x xs ys = refl
 
 -- Legs
 
-pub with_leg-place : (g : Leg) (legs : List Leg) → with_leg g legs ≡ cond (has_lsp (slice_get legs (position_or_len (is_at_or_after g.lsp) legs)) g.lsp) (set legs (position_or_len (is_at_or_after g.lsp) legs) g) (insert legs (position_or_len (is_at_or_after g.lsp) legs) g)
+pub with_leg-place : (g : Leg) (legs : List Leg) →
+    with_leg g legs ≡ cond (has_lsp (slice_get legs (position_or_len (is_at_or_after g.lsp) legs)) g.lsp) (set legs (position_or_len (is_at_or_after g.lsp) legs) g) (insert legs (position_or_len (is_at_or_after g.lsp) legs) g)
 with_leg-place g [] = refl
 with_leg-place g (h ∷ legs) = go (with_leg-place g legs) (same_lsp h.lsp g.lsp) (lsp_before g.lsp h.lsp) refl
   where
     n : ℕ
     n = position_or_len (is_at_or_after g.lsp) legs
 
-    go : with_leg g legs ≡ cond (has_lsp (slice_get legs n) g.lsp) (set legs n g) (insert legs n g) → (a b : Bool) → same_lsp h.lsp g.lsp ≡ a → cond a (g ∷ legs) (cond b (g ∷ h ∷ legs) (h ∷ with_leg g legs)) ≡ cond (has_lsp (slice_get (h ∷ legs) (cond (not (a || b)) (1 + n) 0)) g.lsp) (set (h ∷ legs) (cond (not (a || b)) (1 + n) 0) g) (insert (h ∷ legs) (cond (not (a || b)) (1 + n) 0) g)
+    go : with_leg g legs ≡ cond (has_lsp (slice_get legs n) g.lsp) (set legs n g) (insert legs n g) → (a b : Bool) →
+        same_lsp h.lsp g.lsp ≡ a →
+        cond a (g ∷ legs) (cond b (g ∷ h ∷ legs) (h ∷ with_leg g legs)) ≡ cond (has_lsp (slice_get (h ∷ legs) (cond (not (a || b)) (1 + n) 0)) g.lsp) (set (h ∷ legs) (cond (not (a || b)) (1 + n) 0) g) (insert (h ∷ legs) (cond (not (a || b)) (1 + n) 0) g)
     go rest true b e = rw e refl
     go rest false true e = rw e refl
     go rest false false e = rw (one_more n, rest) (cons-cond (has_lsp (slice_get legs n) g.lsp) h (set legs n g) (insert legs n g))
@@ -65,21 +70,25 @@ at_or_above a b e = grind arith
 below_or_above : (a b : ℕ) → nat_eq a b ≡ false → nat_le b a ≡ nat_lt b a
 below_or_above a b e = grind arith
 
-pub with_call-place : (c : CallRec) (calls : List CallRec) → with_call c calls ≡ cond (has_number (slice_get calls (position_or_len (is_call_at_or_after c.call) calls)) c.call) (set calls (position_or_len (is_call_at_or_after c.call) calls) c) (insert calls (position_or_len (is_call_at_or_after c.call) calls) c)
+pub with_call-place : (c : CallRec) (calls : List CallRec) →
+    with_call c calls ≡ cond (has_number (slice_get calls (position_or_len (is_call_at_or_after c.call) calls)) c.call) (set calls (position_or_len (is_call_at_or_after c.call) calls) c) (insert calls (position_or_len (is_call_at_or_after c.call) calls) c)
 with_call-place c [] = refl
 with_call-place c (d ∷ calls) = go (with_call-place c calls) (nat_eq d.call.0 c.call.0) refl (nat_lt c.call.0 d.call.0) refl
   where
     n : ℕ
     n = position_or_len (is_call_at_or_after c.call) calls
 
-    go : with_call c calls ≡ cond (has_number (slice_get calls n) c.call) (set calls n c) (insert calls n c) → (a : Bool) → nat_eq d.call.0 c.call.0 ≡ a → (b : Bool) → nat_lt c.call.0 d.call.0 ≡ b → cond a (c ∷ calls) (cond b (c ∷ d ∷ calls) (d ∷ with_call c calls)) ≡ cond (has_number (slice_get (d ∷ calls) (cond (not (nat_le c.call.0 d.call.0)) (1 + n) 0)) c.call) (set (d ∷ calls) (cond (not (nat_le c.call.0 d.call.0)) (1 + n) 0) c) (insert (d ∷ calls) (cond (not (nat_le c.call.0 d.call.0)) (1 + n) 0) c)
+    go : with_call c calls ≡ cond (has_number (slice_get calls n) c.call) (set calls n c) (insert calls n c) →
+        (a : Bool) → nat_eq d.call.0 c.call.0 ≡ a → (b : Bool) → nat_lt c.call.0 d.call.0 ≡ b →
+        cond a (c ∷ calls) (cond b (c ∷ d ∷ calls) (d ∷ with_call c calls)) ≡ cond (has_number (slice_get (d ∷ calls) (cond (not (nat_le c.call.0 d.call.0)) (1 + n) 0)) c.call) (set (d ∷ calls) (cond (not (nat_le c.call.0 d.call.0)) (1 + n) 0) c) (insert (d ∷ calls) (cond (not (nat_le c.call.0 d.call.0)) (1 + n) 0) c)
     go rest true e b f = rw (at_or_above d.call.0 c.call.0 e, e) refl
     go rest false e true f = rw (below_or_above d.call.0 c.call.0 e, f, e) refl
     go rest false e false f = rw (below_or_above d.call.0 c.call.0 e, f, one_more n, rest) (cons-cond (has_number (slice_get calls n) c.call) d (set calls n c) (insert calls n c))
 
 -- Put at the place
 
-pub leg_put : (g : Leg) (legs : List Leg) (i : ℕ) (b : Bool) (after : List Leg) → i ≡ position_or_len (is_at_or_after g.lsp) legs →
+pub leg_put : (g : Leg) (legs : List Leg) (i : ℕ) (b : Bool) (after : List Leg) →
+    i ≡ position_or_len (is_at_or_after g.lsp) legs →
     b ≡ has_lsp (slice_get legs i) g.lsp → after ≡ cond b (set legs i g) (insert legs i g) → after ≡ with_leg g legs
 leg_put g legs i b after place there is = is ∙ rw (there, place) (sym (with_leg-place g legs))
 

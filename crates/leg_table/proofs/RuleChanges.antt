@@ -73,13 +73,16 @@ label-has false xs x y e = only-has xs x y (has xs x) refl e
 
 -- Path
 
-own-in : (p : LocalNode) (m : PathRequest) (link : LinkSpec) → own_link p m.arrival.link ≡ Some link → is_fibre_in p (fibre_in link p.id) ≡ true
+own-in : (p : LocalNode) (m : PathRequest) (link : LinkSpec) → own_link p m.arrival.link ≡ Some link →
+    is_fibre_in p (fibre_in link p.id) ≡ true
 own-in p m link own =
-    any-found (λ l. same_fibre (fibre_in l p.id) (fibre_in link p.id)) (λ l. nat_eq l.id.0 m.arrival.link.0) p.own link own
+    any-found (λ l. same_fibre (fibre_in l p.id) (fibre_in link p.id))
+    (λ l. nat_eq l.id.0 m.arrival.link.0) p.own link own
     (same_fibre-refl (fibre_in link p.id))
 
 module _ (p : LocalNode) (s : NodeState) (m : PathRequest) (absent : find_leg m.arrival.lsp s.legs ≡ None) where
-  egress-may : (link : LinkSpec) (o : Option ℕ) → own_link p m.arrival.link ≡ Some link → least (offered_labels p s m link) ≡ o →
+  egress-may : (link : LinkSpec) (o : Option ℕ) → own_link p m.arrival.link ≡ Some link →
+      least (offered_labels p s m link) ≡ o →
       MayBeMade p s.legs (at_egress p m link (offered_labels p s m link) o).legs
   egress-may link None own e = tt
   egress-may link (Some x) own e = (
@@ -102,14 +105,16 @@ module _ (p : LocalNode) (s : NodeState) (m : PathRequest) (absent : find_leg m.
   admitted-may link [] own = egress-may link (least (offered_labels p s m link)) own refl
   admitted-may link (hop ∷ route) own = transit-may link route (offered_labels p s m link) (own_link p hop.link)
 
-  judged-may : (link : LinkSpec) (o : Option ErrCode) → own_link p m.arrival.link ≡ Some link → MayBeMade p s.legs (judged p s m link o).legs
+  judged-may : (link : LinkSpec) (o : Option ErrCode) → own_link p m.arrival.link ≡ Some link →
+      MayBeMade p s.legs (judged p s m link o).legs
   judged-may link None own = admitted-may link m.route own
   judged-may link (Some code) own = tt
 
   first-may : (o : Option LinkSpec) → own_link p m.arrival.link ≡ o → MayBeMade p s.legs (first_path p s m o).legs
   first-may None own = tt
   first-may (Some link) own =
-      if_cases (Fine p s.legs) (is_for_work m.role && (leads (Some link) m.arrival.from p.id && not (nat_eq m.arrival.lsp.ingress.0 p.id.0))) _ _
+      if_cases (Fine p s.legs)
+      (is_for_work m.role && (leads (Some link) m.arrival.from p.id && not (nat_eq m.arrival.lsp.ingress.0 p.id.0))) _ _
       (λ e. judged-may link (first_failure (checks p s m link)) own) (λ e. tt)
 
 path-with : (p : LocalNode) (s : NodeState) (m : PathRequest) (o : Option Leg) → find_leg m.arrival.lsp s.legs ≡ o →
@@ -122,7 +127,8 @@ path-may p s m = path-with p s m (find_leg m.arrival.lsp s.legs) refl
 
 -- PathTear
 
-torn-may : (p : LocalNode) (legs : List Leg) (g : Leg) (out : Out) (o : Option Neighbour) → MayBeMade p legs (torn g out o).legs
+torn-may : (p : LocalNode) (legs : List Leg) (g : Leg) (out : Out) (o : Option Neighbour) →
+    MayBeMade p legs (torn g out o).legs
 torn-may p legs g out None = (tt, tt)
 torn-may p legs g out (Some h) = (closed-may p legs g, tt)
 
@@ -138,7 +144,8 @@ tear-may p s a = go (find_leg a.lsp s.legs)
 -- Resv
 
 -- changes of calls alone come after
-alone : (p : LocalNode) (legs : List Leg) (a : Answer) (b : Bool) (cs : List CallChange) → Fine p legs (followed_by a (changes_calls [])) →
+alone : (p : LocalNode) (legs : List Leg) (a : Answer) (b : Bool) (cs : List CallChange) →
+    Fine p legs (followed_by a (changes_calls [])) →
     Fine p legs (followed_by a (cond b (changes_calls cs) nothing))
 alone p legs a true cs may = may
 alone p legs a false cs may = may
@@ -146,7 +153,9 @@ alone p legs a false cs may = may
 connected-may : (p : LocalNode) (legs : List Leg) (g : Leg) (x : ℕ) (o : Option CallRec) →
     MayBeMade p legs (followed_by (puts (connected g None x) []) (call_connected o)).legs
 connected-may p legs g x None = (bare p legs (connected g None x) (begun-none g x), tt)
-connected-may p legs g x (Some c) = alone p legs (puts (connected g None x) []) (is_asking c.state && not c.protected) (call.Put (calls.bare c) ∷ []) (bare p legs (connected g None x) (begun-none g x), tt)
+connected-may p legs g x (Some c) =
+    alone p legs (puts (connected g None x) []) (is_asking c.state && not c.protected) (call.Put (calls.bare c) ∷ [])
+    (bare p legs (connected g None x) (begun-none g x), tt)
 
 beside : (n : Option NodeId) (f : Option Fibre) (h : Neighbour) → neighbour_over n f ≡ Some h → f ≡ Some h.fibre
 beside None f h e = absurd (cc e)
@@ -154,12 +163,14 @@ beside (Some n) None h e = absurd (cc e)
 beside (Some n) (Some f) h e = let is : record { node = n; fibre = f } ≡ h = cc in ap (λ k. Some k.fibre) is
 
 module _ (p : LocalNode) (s : NodeState) (a : Arrival) (x : ℕ) (g : Leg) (found : find_leg a.lsp s.legs ≡ Some g)
-    (upstream : IfSome (previous g) (λ h. is_upstream p h ≡ true)) (wait : is_asked g.phase ≡ true) (work : is_work g.role ≡ true) where
+    (upstream : IfSome (previous g) (λ h. is_upstream p h ≡ true)) (wait : is_asked g.phase ≡ true)
+    (work : is_work g.role ≡ true) where
   passed-may : (h : Neighbour) (o : Option ℕ) → previous g ≡ Some h → label_back p (labels_left p s g h) x ≡ o →
       MayBeMade p s.legs (passed_back p a g h x o).legs
   passed-may h None before e = (closed-may p s.legs g, tt)
   passed-may h (Some y) before e = (
-    subst (λ i. IfSome (taken_over i (Some y)) (MayTake p s.legs (connected g (Some y) x))) (sym (beside g.prev g.in_fibre h before)) may,
+    subst (λ i. IfSome (taken_over i (Some y)) (MayTake p s.legs (connected g (Some y) x)))
+        (sym (beside g.prev g.in_fibre h before)) may,
     tt,
   )
     where
@@ -179,7 +190,8 @@ module _ (p : LocalNode) (s : NodeState) (a : Arrival) (x : ℕ) (g : Leg) (foun
   answered-may (Some h) before = passed-may h (label_back p (labels_left p s g h) x) before refl
 
 -- the legs come from neighbours
-pub resv-may : (p : LocalNode) (s : NodeState) (next : ℕ) (a : Arrival) (x : ℕ) → AllByRecursion (LegFits p next) s.legs →
+pub resv-may : (p : LocalNode) (s : NodeState) (next : ℕ) (a : Arrival) (x : ℕ) →
+    AllByRecursion (LegFits p next) s.legs →
     MayBeMade p s.legs (on_resv p s a x).legs
 resv-may p s next a x each = go (find_leg a.lsp s.legs) refl
   where
@@ -189,21 +201,25 @@ resv-may p s next a x each = go (find_leg a.lsp s.legs) refl
         if_cases (Fine p s.legs) (is_expected a x g) _ _
         (λ e. answered-may p s a x g found (found-all (LegFits p next) a.lsp s.legs g found each).upstream
         (both_left (is_asked g.phase) (is_work g.role && (is_over (following g) a.from a.link && has g.sent x)) e)
-        (both_left (is_work g.role) (is_over (following g) a.from a.link && has g.sent x) (both_right (is_asked g.phase) (is_work g.role && (is_over (following g) a.from a.link && has g.sent x)) e))
+        (both_left (is_work g.role) (is_over (following g) a.from a.link && has g.sent x)
+        (both_right (is_asked g.phase) (is_work g.role && (is_over (following g) a.from a.link && has g.sent x)) e))
         (previous g) refl)
         (λ e. tt)
 
 -- PathErr
 
-passed_err-may : (p : LocalNode) (s : NodeState) (g : Leg) (e : PathFailure) (o : Option Neighbour) → MayBeMade p s.legs (err_passed s g e o).legs
+passed_err-may : (p : LocalNode) (s : NodeState) (g : Leg) (e : PathFailure) (o : Option Neighbour) →
+    MayBeMade p s.legs (err_passed s g e o).legs
 passed_err-may p s g e (Some h) = (tt, tt)
 passed_err-may p s g e None = go (call_of g.lsp s.calls)
   where
     go : (o : Option CallRec) → MayBeMade p s.legs (followed_by (removes g.lsp []) (call_refused e.code o)).legs
     go None = (tt, tt)
-    go (Some c) = alone p s.legs (removes g.lsp []) (is_asking c.state) (call.Put (blocked c (Code e.code)) ∷ []) (tt, tt)
+    go (Some c) =
+        alone p s.legs (removes g.lsp []) (is_asking c.state) (call.Put (blocked c (Code e.code)) ∷ []) (tt, tt)
 
-pub err-may : (p : LocalNode) (s : NodeState) (u : NodeId) (e : PathFailure) → MayBeMade p s.legs (on_path_err s u e).legs
+pub err-may : (p : LocalNode) (s : NodeState) (u : NodeId) (e : PathFailure) →
+    MayBeMade p s.legs (on_path_err s u e).legs
 err-may p s u e = go (find_leg e.lsp s.legs)
   where
     go : (o : Option Leg) → MayBeMade p s.legs (path_err_with s u e o).legs
@@ -235,13 +251,15 @@ setup-may p s w = go (find_call w.call s.calls)
 
 -- Release
 
-pub release-may : (p : LocalNode) (s : NodeState) (from : NodeId) (o : Option CallRec) → MayBeMade p s.legs (release_with p s from o).legs
+pub release-may : (p : LocalNode) (s : NodeState) (from : NodeId) (o : Option CallRec) →
+    MayBeMade p s.legs (release_with p s from o).legs
 release-may p s from None = tt
 release-may p s from (Some c) =
     if_cases (Fine p s.legs) (nat_eq from.0 p.id.0) (releases s c) nothing
     (λ e. both (leg_of c.work s.legs) (leg_of c.back s.legs)) (λ e. tt)
   where
-    both : (a b : Option Leg) → MayBeMade p s.legs (followed_by (tears a) (followed_by (tears b) (changes_calls (call.Goes c.call ∷ [])))).legs
+    both : (a b : Option Leg) →
+        MayBeMade p s.legs (followed_by (tears a) (followed_by (tears b) (changes_calls (call.Goes c.call ∷ [])))).legs
     both None None = tt
     both None (Some h) = (closed-may p s.legs h, tt)
     both (Some g) None = (closed-may p s.legs g, tt)
@@ -249,9 +267,11 @@ release-may p s from (Some c) =
 
 -- Every message and item
 
-pub message-may : (p : LocalNode) (s : NodeState) (next : ℕ) (u : NodeId) (m : Msg) → AllByRecursion (LegFits p next) s.legs →
+pub message-may : (p : LocalNode) (s : NodeState) (next : ℕ) (u : NodeId) (m : Msg) →
+    AllByRecursion (LegFits p next) s.legs →
     MayBeMade p s.legs (on_message p s u m).legs
-message-may p s next u (Path l e k route set up r) each = path-may p s (record { arrival = arrival l e u k; route = route; set = set; role = r })
+message-may p s next u (Path l e k route set up r) each =
+    path-may p s (record { arrival = arrival l e u k; route = route; set = set; role = r })
 message-may p s next u (Resv l e k x) each = resv-may p s next (arrival l e u k) x each
 message-may p s next u (PathTear l e k) each = tear-may p s (arrival l e u k)
 message-may p s next u (PathErr l e at gone code) each =
@@ -260,7 +280,16 @@ message-may p s next u (Notify l e at k code) each = tt
 
 pub item-may : (p : LocalNode) (s : NodeState) (i : DeskItem) → MayBeMade p s.legs (on_item p s i).legs
 item-may p s (Order (Setup n from to protected both via backup)) =
-    setup-may p s (record { call = n; from = from; egress = to; protected = protected; both = both; via = via; backup = backup })
+    setup-may p s (record {
+      call =
+          n;
+      from = from;
+      egress = to;
+      protected = protected;
+      both = both;
+      via = via;
+      backup = backup;
+    })
 item-may p s (Order (Release n from)) = release-may p s from (find_call n s.calls)
 item-may p s (Order (Protect n from)) = tt
 item-may p s (Order (Retry n from)) = tt

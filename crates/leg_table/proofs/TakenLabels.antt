@@ -22,14 +22,16 @@ none false x = refl
 abbrev at : Fibre → ℕ → TakenLabel
 at f x = record { fibre = f; label = x }
 
-one : (h f : Fibre) (z x : ℕ) (b : Bool) → same_fibre h f ≡ b → is_label (cond b (Some z) None) x ≡ true → Some (at h z) ≡ Some (at f x)
+one : (h f : Fibre) (z x : ℕ) (b : Bool) → same_fibre h f ≡ b → is_label (cond b (Some z) None) x ≡ true →
+    Some (at h z) ≡ Some (at f x)
 one h f z x true e t =
     let same = same_fibre-eq h f e in
     let here = number z x t in
     λ i. Some (record { fibre = same i; label = here i })
 one h f z x false e t = absurd (cc t)
 
-over : (b : Bool) (i : Option Fibre) (y : Option ℕ) (f : Fibre) (x : ℕ) → is_label (cond (b && is_on i f) y None) x ≡ true →
+over : (b : Bool) (i : Option Fibre) (y : Option ℕ) (f : Fibre) (x : ℕ) →
+    is_label (cond (b && is_on i f) y None) x ≡ true →
     cond b (taken_over i y) None ≡ Some (record { fibre = f; label = x })
 over false i y f x t = absurd (cc t)
 over true None y f x t = absurd (cc t)
@@ -47,7 +49,8 @@ back true None y t e = absurd (cc e)
 back true (Some h) None t e = absurd (cc e)
 back true (Some h) (Some z) t e =
     let is : record { fibre = h; label = z } ≡ t = cc in
-    subst (λ u. is_label (cond (same_fibre h u.fibre) (Some z) None) u.label ≡ true) is (rw (same_fibre-refl h) (same_number z))
+    subst (λ u. is_label (cond (same_fibre h u.fibre) (Some z) None) u.label ≡ true) is
+    (rw (same_fibre-refl h) (same_number z))
 
 pub taken-takes : (g : Leg) (t : TakenLabel) → taken g ≡ Some t → takes t.fibre t.label g ≡ true
 taken-takes g t e = back (is_beyond_asked g.phase) g.in_fibre g.in_label t e

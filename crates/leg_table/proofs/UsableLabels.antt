@@ -35,22 +35,28 @@ iff false false f g = refl
 one_takes : (legs : List Leg) (f : Fibre) (c : Claim) → IsClaimOfLeg legs f c → list_any (takes f c.label) legs ≡ true
 one_takes legs f c e = go (find_leg c.lsp legs) refl e
   where
-    go : (o : Option Leg) → find_leg c.lsp legs ≡ o → kind_here f c.label o ≡ Some c.kind → list_any (takes f c.label) legs ≡ true
+    go : (o : Option Leg) → find_leg c.lsp legs ≡ o → kind_here f c.label o ≡ Some c.kind →
+        list_any (takes f c.label) legs ≡ true
     go None found e = absurd (cc e)
-    go (Some g) found e = any-found (takes f c.label) (λ h. same_lsp h.lsp c.lsp) legs g found (kind-of f c.label g c.kind e)
+    go (Some g) found e =
+        any-found (takes f c.label) (λ h. same_lsp h.lsp c.lsp) legs g found (kind-of f c.label g c.kind e)
 
-claims_take : (legs : List Leg) (f : Fibre) (x : ℕ) (claims : List Claim) → AllByRecursion (IsClaimOfLeg legs f) claims →
+claims_take : (legs : List Leg) (f : Fibre) (x : ℕ) (claims : List Claim) →
+    AllByRecursion (IsClaimOfLeg legs f) claims →
     list_any (has x) claims ≡ true → list_any (takes f x) legs ≡ true
 claims_take legs f x [] each h = absurd (cc h)
 claims_take legs f x (c ∷ claims) each h = go (nat_eq c.label x) refl h (claims_take legs f x claims each.1)
   where
     go : (b : Bool) → nat_eq c.label x ≡ b → (b || list_any (has x) claims) ≡ true →
         (list_any (has x) claims ≡ true → list_any (takes f x) legs ≡ true) → list_any (takes f x) legs ≡ true
-    go true e h later = let is : c.label ≡ x = grind arith in subst (λ y. list_any (takes f y) legs ≡ true) is (one_takes legs f c each.0)
+    go true e h later =
+        let is : c.label ≡ x = grind arith in subst (λ y. list_any (takes f y) legs ≡ true) is
+        (one_takes legs f c each.0)
     go false e h later = later h
 
 -- a label that a leg takes is claimed
-of_each : {X : Type 0} (p : X → Bool) (P : Type 0) (xs : List X) → AllByRecursion (λ x. p x ≡ true → P) xs → list_any p xs ≡ true → P
+of_each : {X : Type 0} (p : X → Bool) (P : Type 0) (xs : List X) → AllByRecursion (λ x. p x ≡ true → P) xs →
+    list_any p xs ≡ true → P
 of_each p P [] all h = absurd (cc h)
 of_each {X} p P (x ∷ xs) all h = go (p x) refl h (of_each p P xs all.1)
   where
@@ -69,18 +75,22 @@ legs_claim legs o f x rise fit h =
 -- some leg claims a label exactly where some leg takes it
 pub claimed-taken : (legs : List Leg) (o : List FibreClaims) (f : Fibre) (x : ℕ) → LegsRise legs → ClaimsFit legs o →
     list_any (has x) (claims_of f o) ≡ list_any (takes f x) legs
-claimed-taken legs o f x rise fit = iff _ _ (claims_take legs f x (claims_of f o) (fit.each f)) (legs_claim legs o f x rise fit)
+claimed-taken legs o f x rise fit =
+    iff _ _ (claims_take legs f x (claims_of f o) (fit.each f)) (legs_claim legs o f x rise fit)
 
-pub unclaimed-usable : (p : LocalNode) (legs : List Leg) (o : List FibreClaims) (f : Fibre) → LegsRise legs → ClaimsFit legs o →
+pub unclaimed-usable : (p : LocalNode) (legs : List Leg) (o : List FibreClaims) (f : Fibre) → LegsRise legs →
+    ClaimsFit legs o →
     OwnerFits p o → comes_in o f ≡ true → unclaimed (labels_of f o) (claims_of f o) ≡ usable p legs f
 unclaimed-usable p legs o f rise fit owner comes =
     rw (owner.labels f comes)
-    (filter-agree (λ x. not (list_any (has x) (claims_of f o))) (is_free legs f) (up_to (local.labels_of (own_link p f.link)))
+    (filter-agree (λ x. not (list_any (has x) (claims_of f o))) (is_free legs f)
+    (up_to (local.labels_of (own_link p f.link)))
     (λ x h. ap not (claimed-taken legs o f x rise fit)))
 
 -- A label that is usable
 
-pub usable-free : (p : LocalNode) (legs : List Leg) (f : Fibre) (x : ℕ) → labels.has (usable p legs f) x ≡ true → is_free legs f x ≡ true
+pub usable-free : (p : LocalNode) (legs : List Leg) (f : Fibre) (x : ℕ) → labels.has (usable p legs f) x ≡ true →
+    is_free legs f x ≡ true
 usable-free p legs f x h =
     both_right (labels.has (up_to (local.labels_of (own_link p f.link))) x) (is_free legs f x)
     (sym (has-filter (is_free legs f) (up_to (local.labels_of (own_link p f.link))) x) ∙ h)
@@ -99,7 +109,8 @@ not-of true e = absurd (cc e)
 not-of false e = refl
 
 -- no claim has a label that is usable
-pub usable-unclaimed : (p : LocalNode) (legs : List Leg) (o : List FibreClaims) (f : Fibre) (x : ℕ) → LegsRise legs → ClaimsFit legs o →
+pub usable-unclaimed : (p : LocalNode) (legs : List Leg) (o : List FibreClaims) (f : Fibre) (x : ℕ) → LegsRise legs →
+    ClaimsFit legs o →
     labels.has (usable p legs f) x ≡ true → list_any (has x) (claims_of f o) ≡ false
 usable-unclaimed p legs o f x rise fit h =
     claimed-taken legs o f x rise fit ∙ not-of (list_any (takes f x) legs) (usable-free p legs f x h)

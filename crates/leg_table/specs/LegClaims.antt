@@ -10,9 +10,9 @@ use Rattle.ason_base.specs.declared.calls.Role.TheVariants.{Work, Back}
 use Rattle.ason_base.specs.declared.ids.Fibre.{Fibre}
 use Rattle.ason_base.specs.declared.ids.Lsp.{Lsp}
 use Rattle.ason_base.specs.declared.tables.Leg.{Leg}
-use Rattle.link_owner.specs.Claims.{FibreClaims, NoClaim, working_claim}
+use Rattle.link_owner.specs.Claims.{FibreClaims, NoClaim}
 use Rattle.link_owner.specs.Claims as claims
-use Rattle.link_owner.specs.Owners.{claim_added, claims_of, comes_in, has_label, label_freed, labels_of}
+use Rattle.link_owner.specs.Owners.{claims_of, comes_in, has_label, label_freed, labels_of}
 use Rattle.link_owner.specs.declared.claims.Claim.{Claim}
 use Rattle.link_owner.specs.declared.claims.ClaimKind.{ClaimKind}
 use Rattle.link_owner.specs.declared.claims.ClaimKind.TheVariants.{Working, Backup, Armed}
@@ -91,11 +91,6 @@ pub record SameFibres (o after : List FibreClaims) : Type 0 where
 abbrev pub freed_of : Lsp → Option TakenLabel → List FibreClaims → List FibreClaims
 freed_of l None o = o
 freed_of l (Some t) o = label_freed t.fibre t.label l o
-
--- the label, if there is one, is claimed for a working leg of the LSP
-abbrev pub claimed_for : Lsp → Option TakenLabel → List FibreClaims → List FibreClaims
-claimed_for l None o = o
-claimed_for l (Some t) o = claim_added t.fibre (working_claim t.label l) o
 
 -- Changes of legs
 

@@ -1,12 +1,12 @@
 //! Carrying out what a rule changes: the legs with the claims that they have, the calls and the numbers.
 
-ghost use Rattle.std.specs.Prelude.{◌≡◌, ◌≤◌, ◌<◌, ◌+◌, IfOk, IfSome, IsTrue, None, OnErr, OnOk, Some, length, not, vec_capacity, vec_len};
+ghost use Rattle.std.specs.Prelude.{◌≡◌, ◌≤◌, ◌<◌, ◌+◌, IfOk, IfSome, IsTrue, None, OnErr, OnOk, Some, length, vec_capacity, vec_len};
 ghost use Rattle.std.specs.List.{AllByRecursion};
 ghost use Rattle.link_owner.specs.Claims.{NoClaim, has, working_claim};
 ghost use Rattle.link_owner.specs.Owners.{claim_added, claims_of, comes_in, has_label, labels_of};
 ghost use Rattle.mesh_rules.specs.Changes.{changed};
 ghost use Rattle.mesh_rules.specs.Legs.{find_leg, leg_changed, legs_changed, with_leg, without_leg};
-ghost use Rattle.leg_table.specs.LegClaims.{ClaimsFit, IsOwnerOf, MayBeMade, MayAllEnter, MayClaim, MayEnter, SameFibres, TakesNone, claimed_for, freed_of, taken, taken_of};
+ghost use Rattle.leg_table.specs.LegClaims.{ClaimsFit, IsOwnerOf, MayAllEnter, MayBeMade, MayClaim, MayEnter, SameFibres, TakesNone, freed_of, taken, taken_of};
 ghost use Rattle.leg_table.specs.States.{local_of, state_of};
 ghost use Rattle.leg_table.specs.Tables.{LegsRise};
 

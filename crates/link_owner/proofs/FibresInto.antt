@@ -38,7 +38,8 @@ low_below nodes l h = both_left _ _ (both_left _ _ (both_left _ _ (both_left _ _
 narrow : (nodes : List NodeSpec) (l : LinkSpec) → is_link nodes l ≡ true → nat_le l.labels 80 ≡ true
 narrow nodes l h = both_right (nat_le 1 l.labels) _ (both_right _ _ (both_left _ _ (both_left _ _ h)))
 
-pub narrow-link : (t : Network) → IsTopology t → (k : ℕ) (l : LinkSpec) → k < length t.links → l ≡ get_or t.links k l → l.labels ≤ 80
+pub narrow-link : (t : Network) → IsTopology t → (k : ℕ) (l : LinkSpec) → k < length t.links → l ≡ get_or t.links k l →
+    l.labels ≤ 80
 narrow-link t valid k l below is =
     let found : slice_get t.links k ≡ Some (get_or t.links k l) = slice_get-get_or t.links k l below in
     let here : is_link_here t.nodes (slice_get t.links k) ≡ true = both_right (is_after t.links k) _ (valid.links k below) in
@@ -68,7 +69,8 @@ abbrev RiseFrom : ℕ → List LinkSpec → Type 0
 RiseFrom b [] = Unit {0}
 RiseFrom b (l ∷ links) = (nat_lt b l.id.0 ≡ true) × (nat_lt l.low.0 l.high.0 ≡ true) × RiseFrom l.id.0 links
 
-rise : (nodes : List NodeSpec) (b : ℕ) (links : List LinkSpec) → ((k : ℕ) → k < length links → is_in_place nodes b links k ≡ true) → RiseFrom b links
+rise : (nodes : List NodeSpec) (b : ℕ) (links : List LinkSpec) →
+    ((k : ℕ) → k < length links → is_in_place nodes b links k ≡ true) → RiseFrom b links
 unfolding is_in_place number_before
 rise nodes b [] each = tt
 rise nodes b (l ∷ links) each =
@@ -85,7 +87,8 @@ coming : NodeId → List LinkSpec → List FibreClaims
 coming n links = map (fibre_unclaimed n) (filter (touches n) links)
 
 -- a fibre of a link of a lower number isn't there
-nowhere : (b : ℕ) (links : List LinkSpec) → RiseFrom b links → (f : Fibre) (n : NodeId) → f.link.0 ≤ b → list_any (is_fibre f) (coming n links) ≡ false
+nowhere : (b : ℕ) (links : List LinkSpec) → RiseFrom b links → (f : Fibre) (n : NodeId) → f.link.0 ≤ b →
+    list_any (is_fibre f) (coming n links) ≡ false
 unfolding coming
 nowhere b [] rises f n low = refl
 nowhere b (l ∷ links) rises f n low = go (touches n l) (nowhere l.id.0 links rises.2 f n (omega (arith, above)))
@@ -96,12 +99,14 @@ nowhere b (l ∷ links) rises f n low = go (touches n l) (nowhere l.id.0 links r
     other : nat_eq l.id.0 f.link.0 ≡ false
     other = (let h : b < l.id.0 = above in grind arith)
 
-    go : (t : Bool) → list_any (is_fibre f) (coming n links) ≡ false → list_any (is_fibre f) (map (fibre_unclaimed n) (cond t (l ∷ filter (touches n) links) (filter (touches n) links))) ≡ false
+    go : (t : Bool) → list_any (is_fibre f) (coming n links) ≡ false →
+        list_any (is_fibre f) (map (fibre_unclaimed n) (cond t (l ∷ filter (touches n) links) (filter (touches n) links))) ≡ false
     go true rest = rw (other, rest) refl
     go false rest = rest
 
 -- the end that a fibre of a link leads to
-leads : (high low forward : Bool) → (low || high) ≡ true → (low && high) ≡ false → same_bool high forward ≡ cond forward high low
+leads : (high low forward : Bool) → (low || high) ≡ true → (low && high) ≡ false →
+    same_bool high forward ≡ cond forward high low
 leads true true forward h k = absurd (cc k)
 leads true false true h k = refl
 leads true false false h k = refl
@@ -116,7 +121,8 @@ no_end false true forward h = absurd (cc h)
 no_end false false true h = refl
 no_end false false false h = refl
 
-end_is : (l : LinkSpec) (n : NodeId) (forward : Bool) → is_node (far_end (Some l) forward) n ≡ cond forward (nat_eq l.high.0 n.0) (nat_eq l.low.0 n.0)
+end_is : (l : LinkSpec) (n : NodeId) (forward : Bool) →
+    is_node (far_end (Some l) forward) n ≡ cond forward (nat_eq l.high.0 n.0) (nat_eq l.low.0 n.0)
 end_is l n true = refl
 end_is l n false = refl
 
@@ -124,7 +130,8 @@ or_none : (b : Bool) → (b || false) ≡ b
 or_none true = refl
 or_none false = refl
 
-fibres_into : (b : ℕ) (links : List LinkSpec) → RiseFrom b links → (f : Fibre) (n : NodeId) → list_any (is_fibre f) (coming n links) ≡ is_node (far_end (find (λ l. nat_eq l.id.0 f.link.0) links) f.forward) n
+fibres_into : (b : ℕ) (links : List LinkSpec) → RiseFrom b links → (f : Fibre) (n : NodeId) →
+    list_any (is_fibre f) (coming n links) ≡ is_node (far_end (find (λ l. nat_eq l.id.0 f.link.0) links) f.forward) n
 unfolding coming
 fibres_into b [] rises f n = refl
 fibres_into b (l ∷ links) rises f n = go (touches n l) refl (nat_eq l.id.0 f.link.0) refl (fibres_into l.id.0 links rises.2 f n)
@@ -138,7 +145,8 @@ fibres_into b (l ∷ links) rises f n = go (touches n l) refl (nat_eq l.id.0 f.l
     apart : (nat_eq l.low.0 n.0 && nat_eq l.high.0 n.0) ≡ false
     apart = (let test : nat_lt l.low.0 l.high.0 ≡ true = rises.1 in grind arith)
 
-    go : (t : Bool) → touches n l ≡ t → (e : Bool) → nat_eq l.id.0 f.link.0 ≡ e → list_any (is_fibre f) (coming n links) ≡ is_node (far_end Found f.forward) n →
+    go : (t : Bool) → touches n l ≡ t → (e : Bool) → nat_eq l.id.0 f.link.0 ≡ e →
+        list_any (is_fibre f) (coming n links) ≡ is_node (far_end Found f.forward) n →
         list_any (is_fibre f) (map (fibre_unclaimed n) (cond t (l ∷ filter (touches n) links) (filter (touches n) links))) ≡ is_node (far_end (cond e (Some l) Found) f.forward) n
     go true t true e rest =
         rw (e, none e) (or_none (same_bool (nat_eq l.high.0 n.0) f.forward) ∙ leads (nat_eq l.high.0 n.0) (nat_eq l.low.0 n.0) f.forward t apart ∙ sym (end_is l n f.forward))
@@ -155,8 +163,10 @@ has_fibres_into t valid n f = fibres_into 0 t.links (rise t.nodes 0 t.links (in_
 link_of : NodeId → Fibre → List LinkSpec → Option LinkSpec
 link_of n f links = find (λ l. nat_eq l.id.0 f.link.0) (filter (touches n) links)
 
-labels_into : (labels : Option LinkSpec → ℕ) → ((l : LinkSpec) → labels (Some l) ≡ l.labels) → (b : ℕ) (links : List LinkSpec) → RiseFrom b links →
-    (f : Fibre) (n : NodeId) → list_any (is_fibre f) (coming n links) ≡ true → labels_of f (coming n links) ≡ labels (link_of n f links)
+labels_into : (labels : Option LinkSpec → ℕ) → ((l : LinkSpec) → labels (Some l) ≡ l.labels) →
+    (b : ℕ) (links : List LinkSpec) → RiseFrom b links →
+    (f : Fibre) (n : NodeId) → list_any (is_fibre f) (coming n links) ≡ true →
+    labels_of f (coming n links) ≡ labels (link_of n f links)
 unfolding coming link_of
 labels_into labels of b [] rises f n comes = absurd (cc comes)
 labels_into labels of b (l ∷ links) rises f n comes = go (touches n l) comes (labels_into labels of l.id.0 links rises.2 f n)
@@ -164,18 +174,21 @@ labels_into labels of b (l ∷ links) rises f n comes = go (touches n l) comes (
     Later : Type 0
     Later = list_any (is_fibre f) (coming n links) ≡ true → labels_of f (coming n links) ≡ labels (link_of n f links)
 
-    first : (e : Bool) → nat_eq l.id.0 f.link.0 ≡ e → (d : Bool) → ((e && d) || list_any (is_fibre f) (coming n links)) ≡ true → Later →
+    first : (e : Bool) → nat_eq l.id.0 f.link.0 ≡ e → (d : Bool) →
+        ((e && d) || list_any (is_fibre f) (coming n links)) ≡ true → Later →
         cond (e && d) l.labels (labels_of f (coming n links)) ≡ labels (cond e (Some l) (link_of n f links))
     first true e true comes later = sym (of l)
     first true e false comes later = absurd (cc (comes, nowhere l.id.0 links rises.2 f n (grind arith)))
     first false e d comes later = later comes
 
-    go : (t : Bool) → list_any (is_fibre f) (map (fibre_unclaimed n) (cond t (l ∷ filter (touches n) links) (filter (touches n) links))) ≡ true → Later →
+    go : (t : Bool) →
+        list_any (is_fibre f) (map (fibre_unclaimed n) (cond t (l ∷ filter (touches n) links) (filter (touches n) links))) ≡ true → Later →
         labels_of f (map (fibre_unclaimed n) (cond t (l ∷ filter (touches n) links) (filter (touches n) links))) ≡ labels (find (λ m. nat_eq m.id.0 f.link.0) (cond t (l ∷ filter (touches n) links) (filter (touches n) links)))
     go true comes later = first (nat_eq l.id.0 f.link.0) refl (same_bool (nat_eq l.high.0 n.0) f.forward) comes later
     go false comes later = later comes
 
-pub has_labels_into : (labels : Option LinkSpec → ℕ) → ((l : LinkSpec) → labels (Some l) ≡ l.labels) → (t : Network) → IsTopology t → (n : NodeId)
+pub has_labels_into : (labels : Option LinkSpec → ℕ) → ((l : LinkSpec) → labels (Some l) ≡ l.labels) → (t : Network) →
+    IsTopology t → (n : NodeId)
     (f : Fibre) → comes_in (none_claimed t n) f ≡ true →
     labels_of f (none_claimed t n) ≡ labels (find (λ l. nat_eq l.id.0 f.link.0) (filter (touches n) t.links))
 unfolding coming link_of

@@ -53,11 +53,14 @@ answered-may n a fits (i, is) = subst (λ b. MayBeMade n.place n.state.legs b.le
     by_input (Learn row) = tt
 
 -- it is carried out, or the node is as it was
-pub carried-fits : {X E : Type 0} (t after : LegTable) (c calls : CallTable) (a : Answer) (r : Result X E) → IsNode (node_of t c) →
-    IsAnswerOf (node_of t c) a → local_of after ≡ local_of t → OnOk r (state_of after calls ≡ changed (state_of t c) a) →
+pub carried-fits : {X E : Type 0} (t after : LegTable) (c calls : CallTable) (a : Answer) (r : Result X E) →
+    IsNode (node_of t c) →
+    IsAnswerOf (node_of t c) a → local_of after ≡ local_of t →
+    OnOk r (state_of after calls ≡ changed (state_of t c) a) →
     OnErr r (after ≡ t) → OnErr r (calls ≡ c) → IsNode (node_of after calls)
 carried-fits t after c calls a (Ok x) fits of place done tables same =
-    let is : node_of after calls ≡ record { place = local_of t; state = changed (state_of t c) a } = λ i. record { place = place i; state = done i } in
+    let is : node_of after calls ≡ record { place = local_of t; state = changed (state_of t c) a } =
+    λ i. record { place = place i; state = done i } in
     subst IsNode (sym is) (answered-fits (node_of t c) a fits of)
 carried-fits t after c calls a (Err e) fits of place done tables same =
     let is : node_of after calls ≡ node_of t c = λ i. node_of (tables i) (same i) in
@@ -65,18 +68,21 @@ carried-fits t after c calls a (Err e) fits of place done tables same =
 
 -- Tables and owner
 
-pub tables-fit : (t : LegTable) (c : CallTable) (o : List FibreClaims) → IsNode (node_of t c) → IsOwnerOf t o → TablesFit t o
+pub tables-fit : (t : LegTable) (c : CallTable) (o : List FibreClaims) → IsNode (node_of t c) → IsOwnerOf t o →
+    TablesFit t o
 tables-fit t c o fits owner =
     let first = fits.state.first in
     let numbers = fits.state.numbers in
     record { links = fits.place; legs = (c.lsp, omega arith, fits.state.legs); owner = owner }
 
-pub new-fit : (t : Network) (n : NodeId) (s : LegTable) (o : List FibreClaims) (c : CallTable) → IsTopology t → s ≡ new_table t n →
+pub new-fit : (t : Network) (n : NodeId) (s : LegTable) (o : List FibreClaims) (c : CallTable) → IsTopology t →
+    s ≡ new_table t n →
     o ≡ none_claimed t n → c ≡ no_call → IsNode (node_of s c) × IsOwnerOf s o
 new-fit t n s o c valid is owner calls =
     let fits = at_start-fits t n s valid is in
     let state : state_of s c ≡ new_node = ap (state_of s) calls ∙ (at_start-is t n s is).1 in
-    (record { place = fits.links; state = subst (NodeFits (local_of s)) (sym state) (new-fits (local_of s)) }, subst (IsOwnerOf s) (sym owner) fits.owner)
+    let kept = subst (NodeFits (local_of s)) (sym state) (new-fits (local_of s)) in
+    (record { place = fits.links; state = kept }, subst (IsOwnerOf s) (sym owner) fits.owner)
 
 pub new-is : (t : Network) (n : NodeId) (s : LegTable) (c : CallTable) → s ≡ new_table t n → c ≡ no_call →
     node_of s c ≡ record { place = local_node t n; state = new_node }
@@ -86,6 +92,7 @@ new-is t n s c is calls =
     λ i. record { place = here.0 i; state = state i }
 
 -- A link that is found has 80 labels at most.
-pub own-narrow : (p : LocalNode) (k : LinkId) (o : Option LinkSpec) → LocalNodeFits p → o ≡ own_link p k → IfSome o (λ l. l.labels ≤ 80)
+pub own-narrow : (p : LocalNode) (k : LinkId) (o : Option LinkSpec) → LocalNodeFits p → o ≡ own_link p k →
+    IfSome o (λ l. l.labels ≤ 80)
 own-narrow p k None fits is = tt
 own-narrow p k (Some l) fits is = (own-is p k l fits (sym is)).narrow

@@ -10,41 +10,56 @@ use Rattle.ason_base.specs.declared.tables.Leg.{Leg}
 use Rattle.mesh_rules.specs.declared.neighbours.Neighbour.{Neighbour}
 use Rattle.mesh_rules.specs.declared.arrivals.Arrival.{Arrival}
 use Rattle.mesh_rules.specs.Calls.{call_of}
-use Rattle.mesh_rules.specs.Changes.{followed_by, nothing, puts, removes}
+use Rattle.mesh_rules.specs.Changes.{Answer, followed_by, nothing, puts, removes}
 use Rattle.mesh_rules.specs.Legs.{connected, find_leg, following, is_asked, is_closing, is_node, previous}
 use Rattle.mesh_rules.specs.Messages.{arrival, on_message}
 use Rattle.mesh_rules.specs.PathErrs.{PathFailure, call_refused, err_passed, path_err_with}
 use Rattle.mesh_rules.specs.Resvs.{answered, call_connected, is_expected, resv_with}
+use Rattle.mesh_rules.specs.State.{NodeState}
 use Rattle.mesh_nodes.proofs.LegList.{found-lsp}
 use Rattle.leg_table.specs.States.{legs_state, local_of, state_of}
 use Rattle.leg_table.specs.Tables.{CallTable, LegTable}
 use Rattle.resv_state.specs.Answers.{begins_here, connects_leg, refuses_leg}
 use Rattle.node_core.specs.Followed.{err_followed, followed_if, resv_followed}
 
+-- the whole is what becomes of the leg, followed by what becomes of the call where that follows
+abbrev Follows : Answer → Bool → Answer → Answer → Type 0
+Follows whole b leg after = whole ≡ followed_if b leg after
+
 module _ (t : LegTable) (c : CallTable) where
   resv-leg : (a : Arrival) (x : ℕ) (o : Option Leg) → find_leg a.lsp t.legs ≡ o →
-      resv_with (local_of t) (state_of t c) a x o ≡ followed_if (connects_leg a x o) (resv_with (local_of t) (legs_state t) a x o) (call_connected (call_of a.lsp c.calls))
+      Follows (resv_with (local_of t) (state_of t c) a x o) (connects_leg a x o)
+      (resv_with (local_of t) (legs_state t) a x o)
+      (call_connected (call_of a.lsp c.calls))
   resv-leg a x None found = refl
   resv-leg a x (Some g) found = go (is_expected a x g) (previous g)
     where
       same : g.lsp ≡ a.lsp
       same = found-lsp a.lsp t.legs g found
 
-      go : (b : Bool) (o : Option Neighbour) → cond b (answered (local_of t) (state_of t c) a x g o) nothing ≡ followed_if (b && begins_here o) (cond b (answered (local_of t) (legs_state t) a x g o) nothing) (call_connected (call_of a.lsp c.calls))
+      go : (b : Bool) (o : Option Neighbour) →
+          Follows (cond b (answered (local_of t) (state_of t c) a x g o) nothing) (b && begins_here o)
+          (cond b (answered (local_of t) (legs_state t) a x g o) nothing) (call_connected (call_of a.lsp c.calls))
       go false o = refl
       go true None = ap (λ l. followed_by (puts (connected g None x) []) (call_connected (call_of l c.calls))) same
       go true (Some h) = refl
 
   err-leg : (u : NodeId) (e : PathFailure) (o : Option Leg) → find_leg e.lsp t.legs ≡ o →
-      path_err_with (state_of t c) u e o ≡ followed_if (refuses_leg u e o) (path_err_with (legs_state t) u e o) (call_refused e.code (call_of e.lsp c.calls))
+      Follows (path_err_with (state_of t c) u e o) (refuses_leg u e o) (path_err_with (legs_state t) u e o)
+      (call_refused e.code (call_of e.lsp c.calls))
   err-leg u e None found = refl
   err-leg u e (Some g) found = go (e.removed && is_node (following g) u) (is_asked g.phase) (previous g)
     where
       same : g.lsp ≡ e.lsp
       same = found-lsp e.lsp t.legs g found
 
+      gone : NodeState → Bool → Option Neighbour → Answer
+      gone s d o = cond d (err_passed s g e o) (cond (is_closing g.phase) (removes g.lsp []) nothing)
+
       go : (b d : Bool) (o : Option Neighbour) →
-          cond b (cond d (err_passed (state_of t c) g e o) (cond (is_closing g.phase) (removes g.lsp []) nothing)) nothing ≡ followed_if (b && (d && begins_here o)) (cond b (cond d (err_passed (legs_state t) g e o) (cond (is_closing g.phase) (removes g.lsp []) nothing)) nothing) (call_refused e.code (call_of e.lsp c.calls))
+          Follows (cond b (gone (state_of t c) d o) nothing) (b && (d && begins_here o))
+          (cond b (gone (legs_state t) d o) nothing)
+          (call_refused e.code (call_of e.lsp c.calls))
       go false d o = refl
       go true false o = refl
       go true true None = ap (λ l. followed_by (removes g.lsp []) (call_refused e.code (call_of l c.calls))) same
@@ -57,4 +72,5 @@ resv-follows t c u l e k x = resv-leg t c (arrival l e u k) x (find_leg l t.legs
 pub err-follows : (t : LegTable) (c : CallTable) (u : NodeId) (l : Lsp) (e at : NodeId) (gone : Bool) (code : ErrCode) →
     on_message (local_of t) (state_of t c) u (PathErr l e at gone code) ≡ err_followed t c u (PathErr l e at gone code) l code
 err-follows t c u l e at gone code =
-    err-leg t c u (record { lsp = l; msg = PathErr l e at gone code; removed = gone; code = code }) (find_leg l t.legs) refl
+    err-leg t c u (record { lsp = l; msg = PathErr l e at gone code; removed = gone; code = code })
+    (find_leg l t.legs) refl

@@ -1,6 +1,6 @@
 //! What setups and releases do at an ingress, and what becomes of a call after its LSP (ITU-T G.8080, call control).
 
-ghost use Rattle.std.specs.Prelude.{◌≡◌, ◌≤◌, ◌||◌, IfOk, IfSome, OnOk, Some, drop, nat_lt};
+ghost use Rattle.std.specs.Prelude.{◌≡◌, ◌≤◌, ◌||◌, IfOk, IfSome, OnOk, nat_lt};
 ghost use Rattle.std.specs.Option.{option_copied};
 ghost use Rattle.mesh_rules.specs.declared.limits.TheConstants.{LAST_NUMBER};
 ghost use Rattle.mesh_rules.specs.Calls.{bare, blocked, is_asking};
@@ -9,10 +9,11 @@ ghost use Rattle.mesh_rules.specs.Legs.{leg_of};
 ghost use Rattle.mesh_rules.specs.LocalNodes.{own_link};
 ghost use Rattle.mesh_rules.specs.PathErrs as path_errs;
 ghost use Rattle.mesh_rules.specs.Resvs as resvs;
-ghost use Rattle.mesh_rules.specs.Setups.{admitted_setup, begins, call_record, first_leg, first_link, is_followable, is_order_here, new_call, next_lsp, on_setup, refused_setup};
-ghost use Rattle.mesh_rules.specs.Releases.{on_release, tears};
+ghost use Rattle.mesh_rules.specs.Setups.{call_record, first_leg, first_link, is_followable, is_order_here, refused_setup};
+ghost use Rattle.mesh_rules.specs.Releases.{tears};
 ghost use Rattle.mesh_nodes.specs.LocalNodes.{LocalNodeFits};
-ghost use Rattle.leg_table.specs.States.{local_of, state_of};
+ghost use Rattle.leg_table.specs.States.{local_of};
+ghost use Rattle.node_core.specs.Rules.{admitted_here, begins_here, call_here, release_here, setup_here};
 
 use ason_base::routes::other_end;
 use ason_base::{
@@ -233,7 +234,7 @@ fn begin(
     requires narrow { out.now.labels ≤ 80 }
     requires tunnel { calls.now.tunnel ≤ 65535 }
     requires lsp { calls.now.lsp ≤ 65535 }
-    ensures { IfOk result (λ c. c ≡ begins (local_of tables.now) (state_of tables.now calls.now) request.now out.now route) }
+    ensures { IfOk result (λ c. c ≡ begins_here tables.now calls.now request.now out.now route) }
 {
     let next = NextNumbers {
         tunnel: calls.next_tunnel(),
@@ -279,7 +280,7 @@ fn admit(
     route: Steps,
 ) -> Result<Change, OutOfMemory>
     requires { out.now.labels ≤ 80 }
-    ensures { IfOk result (λ c. c ≡ admitted_setup (local_of tables.now) (state_of tables.now calls.now) request.now out.now route) }
+    ensures { IfOk result (λ c. c ≡ admitted_here tables.now calls.now request.now out.now route) }
 {
     if is_spent(calls) {
         refuse_setup(alloc, request, Cause::Spent)
@@ -336,7 +337,7 @@ fn new_call(
     request: &SetupRequest<'_>,
 ) -> Result<Change, OutOfMemory>
     requires { LocalNodeFits (local_of tables.now) }
-    ensures { IfOk result (λ c. c ≡ new_call (local_of tables.now) (state_of tables.now calls.now) request.now request.now.via) }
+    ensures { IfOk result (λ c. c ≡ call_here tables.now calls.now request.now request.now.via) }
 {
     let Some(route) = request.via else {
         return Ok(Change::nothing(alloc));
@@ -358,7 +359,7 @@ pub(crate) fn set_up(
     request: &SetupRequest<'_>,
 ) -> Result<Change, OutOfMemory>
     requires { LocalNodeFits (local_of tables.now) }
-    ensures { IfOk result (λ c. c ≡ on_setup (local_of tables.now) (state_of tables.now calls.now) request.now) }
+    ensures { IfOk result (λ c. c ≡ setup_here tables.now calls.now request.now) }
 {
     if calls.get(request.call).is_none() && is_order_here(tables, request) {
         new_call(alloc, tables, calls, request)
@@ -395,7 +396,7 @@ pub(crate) fn release(
     number: CallNo,
     from: NodeId,
 ) -> Result<Change, OutOfMemory>
-    ensures { IfOk result (λ c. c ≡ on_release (local_of tables.now) (state_of tables.now calls.now) number from) }
+    ensures { IfOk result (λ c. c ≡ release_here tables.now calls.now number from) }
 {
     let mut change = Change::nothing(alloc);
     if from != id_of(tables) {

@@ -1,13 +1,13 @@
 //! The rule of each input: messages, orders, desk items and ticks.
 
 ghost use Rattle.std.specs.Prelude.{◌≡◌, IfOk};
-ghost use Rattle.mesh_rules.specs.Messages.{on_message};
-ghost use Rattle.mesh_rules.specs.Orders.{on_item, on_order, on_tick};
+ghost use Rattle.mesh_rules.specs.Orders.{on_tick};
 ghost use Rattle.mesh_nodes.specs.LocalNodes.{LocalNodeFits};
 ghost use Rattle.leg_table.specs.Fits.{TablesFit};
 ghost use Rattle.leg_table.specs.States.{local_of, state_of};
 ghost use Rattle.node_core.specs.Followed.{err_followed, resv_followed};
 ghost use Rattle.node_core.specs.Nodes.{answer_to, node_of};
+ghost use Rattle.node_core.specs.Rules.{item_here, message_here, order_here};
 
 use crate::call_control::{SetupRequest, call_connected, call_refused, release, set_up};
 use crate::inputs::Input;
@@ -69,7 +69,7 @@ fn on_message(
     msg: &Msg,
 ) -> Result<Change, OutOfMemory>
     requires { TablesFit tables.now owner.now }
-    ensures { IfOk result (λ c. c ≡ on_message (local_of tables.now) (state_of tables.now calls.now) from msg.now) }
+    ensures { IfOk result (λ c. c ≡ message_here tables.now calls.now from msg.now) }
 {
     match msg {
         Msg::Path { .. } => path_change(alloc, tables, owner, from, msg),
@@ -89,7 +89,7 @@ fn on_order(
     command: &Command,
 ) -> Result<Change, OutOfMemory>
     requires { LocalNodeFits (local_of tables.now) }
-    ensures { IfOk result (λ c. c ≡ on_order (local_of tables.now) (state_of tables.now calls.now) command.now) }
+    ensures { IfOk result (λ c. c ≡ order_here tables.now calls.now command.now) }
 {
     match command {
         Command::Setup {
@@ -129,7 +129,7 @@ fn on_item(
     item: &DeskItem,
 ) -> Result<Change, OutOfMemory>
     requires { LocalNodeFits (local_of tables.now) }
-    ensures { IfOk result (λ c. c ≡ on_item (local_of tables.now) (state_of tables.now calls.now) item.now) }
+    ensures { IfOk result (λ c. c ≡ item_here tables.now calls.now item.now) }
 {
     match item {
         DeskItem::Order(command) => on_order(alloc, tables, calls, command),

@@ -16,7 +16,8 @@ pub returns-then-is_call_at-clause-items : goal.returns-then-is_call_at-clause-i
 returns-then-is_call_at-clause-items c =
     call_put c.args.call c.args.calls.now.items c.place_of-place.result true _
     (c.place_of-place.ensures.place ∙ ap (position_or_len (is_call_at_or_after c.args.call.call)) c.deref.ensures.value)
-    (sym c.if-is_call_at.true ∙ c.is_call_at.ensures.there ∙ ap (λ xs. has_number (slice_get xs c.place_of-place.result) c.args.call.call) c.deref-2.ensures.value)
+    (sym c.if-is_call_at.true ∙ c.is_call_at.ensures.there ∙ ap
+    (λ xs. has_number (slice_get xs c.place_of-place.result) c.args.call.call) c.deref-2.ensures.value)
     c.replace_here.ensures.items
 
 pub returns-then-is_call_at-clause-rising : goal.returns-then-is_call_at-clause-rising
@@ -25,7 +26,8 @@ returns-then-is_call_at-clause-rising c =
     (sym
     (call_put c.args.call c.args.calls.now.items c.place_of-place.result true _
     (c.place_of-place.ensures.place ∙ ap (position_or_len (is_call_at_or_after c.args.call.call)) c.deref.ensures.value)
-    (sym c.if-is_call_at.true ∙ c.is_call_at.ensures.there ∙ ap (λ xs. has_number (slice_get xs c.place_of-place.result) c.args.call.call) c.deref-2.ensures.value)
+    (sym c.if-is_call_at.true ∙ c.is_call_at.ensures.there ∙ ap
+    (λ xs. has_number (slice_get xs c.place_of-place.result) c.args.call.call) c.deref-2.ensures.value)
     c.replace_here.ensures.items))
     (kept c.args.call c.args.calls.now.items c.requires.rising)
 
@@ -33,7 +35,8 @@ pub returns-else-is_call_at-clause-items : goal.returns-else-is_call_at-clause-i
 returns-else-is_call_at-clause-items c =
     call_put c.args.call c.args.calls.now.items c.place_of-place.result false _
     (c.place_of-place.ensures.place ∙ ap (position_or_len (is_call_at_or_after c.args.call.call)) c.deref.ensures.value)
-    (sym c.if-is_call_at.false ∙ c.is_call_at.ensures.there ∙ ap (λ xs. has_number (slice_get xs c.place_of-place.result) c.args.call.call) c.deref-2.ensures.value)
+    (sym c.if-is_call_at.false ∙ c.is_call_at.ensures.there ∙ ap
+    (λ xs. has_number (slice_get xs c.place_of-place.result) c.args.call.call) c.deref-2.ensures.value)
     c.insert_here.ensures.items
 
 pub returns-else-is_call_at-clause-rising : goal.returns-else-is_call_at-clause-rising
@@ -42,6 +45,7 @@ returns-else-is_call_at-clause-rising c =
     (sym
     (call_put c.args.call c.args.calls.now.items c.place_of-place.result false _
     (c.place_of-place.ensures.place ∙ ap (position_or_len (is_call_at_or_after c.args.call.call)) c.deref.ensures.value)
-    (sym c.if-is_call_at.false ∙ c.is_call_at.ensures.there ∙ ap (λ xs. has_number (slice_get xs c.place_of-place.result) c.args.call.call) c.deref-2.ensures.value)
+    (sym c.if-is_call_at.false ∙ c.is_call_at.ensures.there ∙ ap
+    (λ xs. has_number (slice_get xs c.place_of-place.result) c.args.call.call) c.deref-2.ensures.value)
     c.insert_here.ensures.items))
     (kept c.args.call c.args.calls.now.items c.requires.rising)

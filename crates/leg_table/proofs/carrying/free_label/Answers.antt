@@ -8,5 +8,6 @@ pub free-requires : goal.free-requires
 free-requires c =
     let o = c.args.owner.now in
     let l = c.args.lsp in
-    subst (λ s. IfSome s (λ t. has_label o t.fibre t.label l ≡ true)) (sym (c.taken_of.ensures ∙ ap taken_of c.find_leg.ensures))
+    subst (λ s. IfSome s (λ t. has_label o t.fibre t.label l ≡ true))
+    (sym (c.taken_of.ensures ∙ ap taken_of c.find_leg.ensures))
     (claimed-here l c.args.legs.now o c.requires.fit)

@@ -13,4 +13,5 @@ returns-clause-fit c =
 
 pub returns-clause-fibres : goal.returns-clause-fibres
 returns-clause-fibres c =
-    rw (c.free_label.ensures, c.deref.ensures.value) (freed-fibres c.args.lsp (taken_of (find_leg c.args.lsp c.args.legs.now.items)) c.args.owner.now)
+    rw (c.free_label.ensures, c.deref.ensures.value)
+    (freed-fibres c.args.lsp (taken_of (find_leg c.args.lsp c.args.legs.now.items)) c.args.owner.now)

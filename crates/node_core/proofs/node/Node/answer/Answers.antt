@@ -8,11 +8,13 @@ pub on_input-requires : goal.on_input-requires
 on_input-requires c =
     tables-fit c.self.inside.tables c.self.inside.calls c.self.inside.owner c.self.invariant.0 c.self.invariant.1
 
-fit : (c : goal.In_ok-change) → AnswerFits c.args.self.now.place c.args.self.now.state (IsWritableInput c.args.input.now) c.in_ok-change.change
+fit : (c : goal.In_ok-change) →
+    AnswerFits c.args.self.now.place c.args.self.now.state (IsWritableInput c.args.input.now) c.in_ok-change.change
 fit c =
     let n = c.args.self.now in
     let i = c.args.input.now in
-    subst (AnswerFits n.place n.state (IsWritableInput i)) (sym (c.in_ok-change.ensures ∙ ap (λ m. answer_to m i) c.self.view_is))
+    subst (AnswerFits n.place n.state (IsWritableInput i))
+    (sym (c.in_ok-change.ensures ∙ ap (λ m. answer_to m i) c.self.view_is))
     (answer-fits n i (record { place = c.fits.ensures.place; state = c.fits.ensures.state }))
 
 pub returns-clause-near : goal.returns-clause-near

@@ -4,8 +4,10 @@ use Rattle.node_core.proofs.node.Node.rows.Goals as goal
 pub returns-clause-calls_rise : goal.returns-clause-calls_rise
 returns-clause-calls_rise c =
     rw (c.in_ok-calls.ensures, c.calls.ensures)
-    (call-rows-rise c.node.result.now.id c.self.inside.tables.legs c.self.inside.calls.calls c.self.invariant.0.state.calls.rise)
+    (call-rows-rise c.node.result.now.id c.self.inside.tables.legs c.self.inside.calls.calls
+    c.self.invariant.0.state.calls.rise)
 
 pub returns-clause-legs_rise : goal.returns-clause-legs_rise
 returns-clause-legs_rise c =
-    rw (c.in_ok-legs.ensures, c.legs.ensures.value) (leg-rows-rise c.node.result.now.id c.self.inside.tables.legs c.self.invariant.0.state.legs.rise)
+    rw (c.in_ok-legs.ensures, c.legs.ensures.value)
+    (leg-rows-rise c.node.result.now.id c.self.inside.tables.legs c.self.invariant.0.state.legs.rise)
