@@ -170,6 +170,7 @@ impl Hop {
     pub fn pending(&self) -> usize
         ensures count { result ≡ length self.now.state.unacked }
         ensures most { result ≤ self.now.state.sent }
+        ensures small { result < 2 ^ 32 }
     {
         self.unacked.len()
     }

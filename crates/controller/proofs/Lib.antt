@@ -1,0 +1,13 @@
+pub mod Changing
+pub mod Results
+pub mod Sending
+pub mod Spelling
+pub mod Later
+pub mod Resting
+pub mod Loops
+pub mod Writing
+pub mod Reaching
+pub mod Keeping
+pub mod Taking
+pub mod Preparing
+pub mod Reacting

@@ -1,0 +1,9 @@
+use Rattle.std.proofs.Common.{◌≡◌, ◌++◌, take}
+use Rattle.std.specs.List.{flat_map}
+use Rattle.controller.specs.Adjacencies.{again_to}
+use Rattle.controller.specs.Frames.{frames_to}
+use Rattle.controller.proofs.adjacencies.frame_due.Given as goal
+
+abbrev pub invariant-loop-adjacency : goal.invariant-loop-adjacency
+invariant-loop-adjacency l =
+    l.frames.items ≡ l.initial.frames.items ++ frames_to l.me (flat_map again_to (take l.adjacency-index l.adjacencies))

@@ -1,0 +1,40 @@
+use Rattle.std.proofs.Common.{rules, ◌≡◌, ◌+◌, ◌<◌, ◌^◌, ◌++◌, cond, nat_eq, sym, ap, ◌∙◌, subst}
+use Rattle.ason_base.specs.declared.ids.NodeId.{NodeId}
+use Rattle.hop_reliable.specs.Hop.{HopState, heard_as}
+use Rattle.controller.specs.Adjacencies.{hop_at, prepared_at, taken_by}
+use Rattle.controller.specs.Controllers.{acks_to}
+use Rattle.controller.specs.Frames.{frames_to}
+use Rattle.controller.proofs.Resting.{same-hop, same-reach}
+use Rattle.controller.proofs.Taking.{took-becomes, took-frames}
+use Rattle.controller.proofs.reactions.take_packet.Goals as goal
+
+pub take-requires-clause-reached : goal.take-requires-clause-reached
+take-requires-clause-reached c =
+    same-reach c.hand_up.new.adjacencies c.args.adjacencies.now c.in_ok-hand_up.ensures.rest c.args.from.0 ∙ c.requires.reached
+
+pub take-requires-clause-next : goal.take-requires-clause-next
+take-requires-clause-next c = λ e.
+    subst (λ (h : HopState). h.handed_up + 1 < 2 ^ 32)
+    (sym (same-hop c.hand_up.new.adjacencies c.args.adjacencies.now c.in_ok-hand_up.ensures.rest c.args.from.0))
+    (c.hears-heard.ensures.next e)
+
+pub returns-clause-becomes : goal.returns-clause-becomes
+returns-clause-becomes c =
+    let mid = c.hand_up.new.adjacencies in
+    took-becomes c.args.node.now c.hand_up.new.node c.args.adjacencies.now mid c.take.new.adjacencies _ c.args.from c.hears-heard.result c.args.packet c.handed_up-body.result
+    c.hears-heard.ensures.heard
+    c.handed_up-body.ensures.handed c.in_ok-hand_up.ensures.hops c.in_ok-hand_up.ensures.rest
+    (λ d. c.take.ensures.hops d ∙ ap (λ acks. cond (nat_eq d c.args.from.0) (taken_by c.hears-heard.result acks (prepared_at mid d)) (prepared_at mid d)) c.items.ensures)
+    c.take.ensures.peers c.commit_all.ensures c.in_ok-hand_up.ensures.place c.in_ok-hand_up.ensures.node
+
+pub returns-clause-frames : goal.returns-clause-frames
+returns-clause-frames c =
+    let mid = c.hand_up.new.adjacencies in
+    took-frames c.args.node.now c.hand_up.new.node c.args.adjacencies.now mid c.take.new.adjacencies _ c.args.from c.hears-heard.result c.args.packet c.handed_up-body.result
+    c.hears-heard.ensures.heard
+    c.handed_up-body.ensures.handed c.in_ok-hand_up.ensures.hops c.in_ok-hand_up.ensures.rest
+    (λ d. c.take.ensures.hops d ∙ ap (λ acks. cond (nat_eq d c.args.from.0) (taken_by c.hears-heard.result acks (prepared_at mid d)) (prepared_at mid d)) c.items.ensures)
+    c.take.ensures.peers c.commit_all.ensures
+    c.args.frames.now.items c.acknowledge.new.frames.items c.hand_up.new.frames.items
+    (c.in_ok-acknowledge.ensures ∙ ap (λ (n : NodeId). c.args.frames.now.items ++ frames_to n (acks_to c.args.from c.hears-heard.result c.args.packet)) c.id.ensures)
+    c.in_ok-hand_up.ensures.frames

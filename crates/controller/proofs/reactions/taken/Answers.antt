@@ -1,0 +1,34 @@
+use Rattle.std.proofs.Common.{◌≡◌, ◌+◌, sym, subst}
+use Rattle.hop_reliable.specs.Hop.{handed_up_of, heard_as}
+use Rattle.mesh_rules.specs.Events.{on_first}
+use Rattle.controller.specs.Adjacencies.{hop_at}
+use Rattle.controller.specs.Controllers.{acks_to, heard_hops}
+use Rattle.controller.specs.Kept.{IsKept}
+use Rattle.controller.proofs.Keeping.{acks-near, heard-again, heard-answered, heard-sent, kept-next, made-near}
+use Rattle.controller.proofs.reactions.taken.Goals as goal
+
+pub take_packet-requires-clause-reached : goal.take_packet-requires-clause-reached
+take_packet-requires-clause-reached c = c.requires.ready.reached c.args.from c.requires.from
+
+pub returns-clause-kept : goal.returns-clause-kept
+returns-clause-kept c = λ k kept.
+    let n = c.args.node.now in
+    let before = c.args.adjacencies.now in
+    let heard = heard_as (hop_at before c.args.from.0) c.args.packet in
+    subst (λ p. IsKept p c.take_packet.new.adjacencies (k + 1)) (sym c.in_ok-take_packet.ensures.becomes.place)
+    (kept-next n.place before c.take_packet.new.adjacencies k (heard_hops (hop_at before) c.args.from c.args.packet)
+    (on_first n.place n.state c.args.from (handed_up_of heard c.args.packet)) kept
+    (heard-sent (hop_at before) c.args.from c.args.packet) (heard-again (hop_at before) c.args.from c.args.packet kept.again)
+    (heard-answered n.place n.state c.args.from heard c.args.packet c.fits.ensures.place c.fits.ensures.state c.requires.body)
+    c.in_ok-take_packet.ensures.becomes.hops c.in_ok-take_packet.ensures.becomes.peers c.in_ok-take_packet.ensures.becomes.rest)
+
+pub returns-clause-near : goal.returns-clause-near
+returns-clause-near c =
+    let n = c.args.node.now in
+    let before = c.args.adjacencies.now in
+    let heard = heard_as (hop_at before c.args.from.0) c.args.packet in
+    made-near n.place n.place.id (acks_to c.args.from heard c.args.packet) (heard_hops (hop_at before) c.args.from c.args.packet)
+    (on_first n.place n.state c.args.from (handed_up_of heard c.args.packet)) c.new-frames.result.items c.take_packet.new.frames.items
+    (acks-near n.place c.args.from heard c.args.packet c.requires.from)
+    (heard-answered n.place n.state c.args.from heard c.args.packet c.fits.ensures.place c.fits.ensures.state c.requires.body)
+    c.new-frames.ensures.items c.in_ok-take_packet.ensures.frames

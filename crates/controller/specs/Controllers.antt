@@ -1,0 +1,114 @@
+-- One controller: what it is after an input, and what it sends.
+use Rattle.std.specs.Prelude.{◌≡◌, ◌+◌, ◌==◌, ℕ, Option, List, [], ◌++◌, map, if◌then◌else◌}
+use Rattle.std.specs.Option.{option_to_list}
+use Rattle.std.specs.List.{flat_map}
+use Rattle.ason_base.specs.declared.commands.DeskItem.{DeskItem}
+use Rattle.ason_base.specs.declared.ids.NodeId.{NodeId}
+use Rattle.ason_base.specs.declared.messages.Msg.{Msg}
+use Rattle.ason_base.specs.declared.messages.Packet.{Packet}
+use Rattle.hop_reliable.specs.declared.heard.Heard.{Heard}
+use Rattle.hop_reliable.specs.declared.heard.Heard.TheVariants.{Acked, Unnumbered, Ahead, Repeat, Next}
+use Rattle.hop_reliable.specs.Hop.{HopState, answers_to, handed_up_of, heard_as, received, ticked}
+use Rattle.mesh_rules.specs.Changes.{Answer, changed}
+use Rattle.mesh_rules.specs.Events.{on_first}
+use Rattle.mesh_rules.specs.LocalNodes.{LocalNode}
+use Rattle.mesh_rules.specs.Orders.{on_item, on_tick}
+use Rattle.mesh_rules.specs.State.{NodeState}
+use Rattle.node_core.specs.Nodes.{NodeView}
+use Rattle.controller.specs.declared.adjacencies.Adjacency.{Adjacency}
+use Rattle.controller.specs.declared.frames.Frame.{Frame}
+use Rattle.controller.specs.declared.inputs.CoreInput.{CoreInput}
+use Rattle.controller.specs.declared.inputs.CoreInput.TheVariants as input
+use Rattle.controller.specs.Adjacencies.{again_to, hop_at, packets_on, peer_numbers, rested, sent_on}
+use Rattle.controller.specs.Frames.{IsFrame, Sending, SpellsNothing, frames_to}
+
+-- a node, its hops in order of neighbour, and how many steps it made
+pub record ControllerState : Type 0 where
+  pub node : NodeView
+  pub adjacencies : List Adjacency
+  pub steps : ℕ
+
+-- what it means: what the node keeps, and its end of the hop to each neighbour
+pub record Meaning : Type 0 where
+  pub state : NodeState
+  pub hops : ℕ → HopState
+
+abbrev pub meaning : NodeView → List Adjacency → Meaning
+meaning n adjacencies = record { state = n.state; hops = hop_at adjacencies }
+
+-- what a step leads to, and the packets that it sends, in order
+pub record Stepped : Type 0 where
+  pub after : Meaning
+  pub sendings : List Sending
+
+-- the rule's answer is carried out, and what it sends goes to the hops; these packets go before
+abbrev pub carried : (ℕ → HopState) → NodeState → Answer → List Sending → Stepped
+carried hops s a first = record {
+  after = record { state = changed s a; hops = sent_on hops a.sent };
+  sendings = first ++ packets_on hops a.sent;
+}
+
+-- A packet from u
+
+-- its acknowledgement
+abbrev pub acks_to : NodeId → Heard → Packet → List Sending
+acks_to u v p = map (λ q. record { to = u; packet = q }) (answers_to v p)
+
+-- the hops after it
+abbrev pub heard_hops : (ℕ → HopState) → NodeId → Packet → ℕ → HopState
+heard_hops hops u p d = if d == u.0 then received (hops d) p else hops d
+
+-- what is handed up of a body that was heard so
+abbrev pub handed_body : Heard → Option Msg → List Msg
+handed_body Next body = option_to_list body
+handed_body Acked body = []
+handed_body Unnumbered body = []
+handed_body Ahead body = []
+handed_body Repeat body = []
+
+-- the acknowledgement goes first, then what the rule of what is handed up sends
+abbrev pub took : LocalNode → Meaning → NodeId → Packet → Stepped
+took p c u q =
+    carried (heard_hops c.hops u q) c.state (on_first p c.state u (handed_up_of (heard_as (c.hops u.0) q) q))
+    (acks_to u (heard_as (c.hops u.0) q) q)
+
+-- bytes that spell nothing
+abbrev pub unmoved : Meaning → Stepped
+unmoved c = record { after = c; sendings = [] }
+
+-- An item of the desk, and a tick
+
+abbrev pub handled : LocalNode → Meaning → DeskItem → Stepped
+handled p c i = carried c.hops c.state (on_item p c.state i) []
+
+-- what is due goes again, by neighbour and then by number, before what the rule sends
+abbrev pub after_tick : LocalNode → NodeState → List Adjacency → Stepped
+after_tick p s adjacencies =
+    carried (λ d. ticked (hop_at adjacencies d)) s (on_tick p s) (flat_map again_to adjacencies)
+
+-- What a step makes
+
+-- the node and the hops mean this; the node knows the same of itself, the neighbours are the same, and nothing is prepared
+pub record Becomes (n m : NodeView) (before after : List Adjacency) (c : Meaning) : Type 0 where
+  pub place : m.place ≡ n.place
+  pub state : m.state ≡ c.state
+  pub hops : (d : ℕ) → hop_at after d ≡ c.hops d
+  pub peers : peer_numbers after ≡ peer_numbers before
+  pub rest : map rested after ≡ after
+
+-- and just these frames go out
+pub record IsMade (n m : NodeView) (before after : List Adjacency) (s : Stepped) (out : List Frame) : Type 0 where
+  pub becomes : Becomes n m before after s.after
+  pub frames : out ≡ frames_to n.place.id s.sendings
+
+-- A frame: for each packet that its bytes spell, and for bytes that spell none. An item of the desk. A tick.
+abbrev pub IsReaction : NodeView → NodeView → List Adjacency → List Adjacency → CoreInput → List Frame → Type 0
+IsReaction n m before after (input.Frame u bytes) frames =
+    ((p : Packet) → IsFrame bytes p → IsMade n m before after (took n.place (meaning n before) u p) frames)
+    × (SpellsNothing bytes → IsMade n m before after (unmoved (meaning n before)) frames)
+IsReaction n m before after input.Tick frames = IsMade n m before after (after_tick n.place n.state before) frames
+IsReaction n m before after (input.Desk i) frames = IsMade n m before after (handled n.place (meaning n before) i) frames
+
+pub record IsStep (c d : ControllerState) (i : CoreInput) (frames : List Frame) : Type 0 where
+  pub reaction : IsReaction c.node d.node c.adjacencies d.adjacencies i frames
+  pub steps : d.steps ≡ c.steps + 1

@@ -1,0 +1,58 @@
+-- What a controller keeps, so that each of its steps can be made.
+use Rattle.std.specs.Prelude.{◌≡◌, ◌≤◌, ◌<◌, ◌+◌, ◌-◌, ◌*◌, ◌^◌, ℕ, List, [], ◌∷◌, length, map, IsTrue}
+use Rattle.std.specs.List.{AllByRecursion}
+use Rattle.ason_base.specs.declared.ids.NodeId.{NodeId}
+use Rattle.mesh_nodes.specs.LocalNodes.{is_neighbour}
+use Rattle.mesh_rules.specs.LocalNodes.{LocalNode, local_node}
+use Rattle.mesh_rules.specs.State.{new_node}
+use Rattle.ason_base.specs.Network.{Network}
+use Rattle.node_core.specs.Nodes.{NodeView}
+use Rattle.controller.specs.declared.adjacencies.Adjacency.{Adjacency}
+use Rattle.controller.specs.declared.frames.Frame.{Frame}
+use Rattle.controller.specs.declared.inputs.CoreInput.{CoreInput}
+use Rattle.controller.specs.declared.inputs.CoreInput.TheVariants as input
+use Rattle.controller.specs.Adjacencies.{CanGoAgain, hop_at, neighbours, new_adjacency, peer_numbers, reaches, rested}
+use Rattle.controller.specs.Controllers.{ControllerState}
+
+-- after so many steps
+pub record IsKept (p : LocalNode) (adjacencies : List Adjacency) (steps : ℕ) : Type 0 where
+  -- a hop to each neighbour, in order of neighbour
+  pub peers : peer_numbers adjacencies ≡ neighbours p
+  pub narrow : length (neighbours p) ≤ 256
+  -- each unacknowledged message can be written
+  pub again : (d : ℕ) → CanGoAgain (hop_at adjacencies d)
+  -- a step sends at most 65,536 messages
+  pub few : (d : ℕ) → (hop_at adjacencies d).sent ≤ 65536 * steps
+  -- nothing is prepared between steps
+  pub rest : map rested adjacencies ≡ adjacencies
+
+-- the next step can be made
+pub record IsReady (p : LocalNode) (adjacencies : List Adjacency) : Type 0 where
+  pub reached : (n : NodeId) → IsTrue (is_neighbour p n) → IsTrue (reaches adjacencies n.0)
+  pub again : AllByRecursion (λ a. CanGoAgain a.hop.state) adjacencies
+  pub left : (d : ℕ) → (hop_at adjacencies d).sent + 65536 < 2 ^ 32 - 1
+  pub near : AllByRecursion (λ a. IsTrue (is_neighbour p a.peer)) adjacencies
+  pub rest : map rested adjacencies ≡ adjacencies
+
+-- a frame comes from a neighbour
+abbrev pub IsFromNeighbour : LocalNode → CoreInput → Type 0
+IsFromNeighbour p (input.Frame u bytes) = IsTrue (is_neighbour p u)
+IsFromNeighbour p input.Tick = Unit {0}
+IsFromNeighbour p (input.Desk i) = Unit {0}
+
+-- each frame goes to a neighbour
+abbrev pub AllToNeighbours : LocalNode → List Frame → Type 0
+AllToNeighbours p frames = AllByRecursion (λ f. IsTrue (is_neighbour p f.to)) frames
+
+-- the controller of this node that made no step
+abbrev pub new_controller : Network → NodeId → ControllerState
+new_controller t id = record {
+  node = record { place = local_node t id; state = new_node };
+  adjacencies = map new_adjacency (neighbours (local_node t id));
+  steps = 0;
+}
+
+-- how many messages aren't acknowledged
+abbrev pub unacknowledged : List Adjacency → ℕ
+unacknowledged [] = 0
+unacknowledged (a ∷ adjacencies) = length a.hop.state.unacked + unacknowledged adjacencies

@@ -1,0 +1,5 @@
+pub mod Adjacencies
+pub mod Answers
+pub mod Controllers
+pub mod Frames
+pub mod Kept

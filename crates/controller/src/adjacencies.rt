@@ -1,0 +1,255 @@
+//! The hops of a node, one a neighbour, in order of neighbour.
+
+ghost use Rattle.std.specs.Prelude.{◌≡◌, ◌+◌, ◌-◌, ◌<◌, ◌≤◌, ◌==◌, ◌^◌, ◌++◌, ℕ, All, IfOk, IsTrue, OnErr, OnOk, length, map, position, slice_get, Some, if◌then◌else◌};
+ghost use Rattle.std.specs.Option.{option_copied};
+ghost use Rattle.std.specs.List.{AllByRecursion, flat_map};
+ghost use Rattle.ason_base.specs.Writable.{IsWritableMsg};
+ghost use Rattle.hop_reliable.specs.Hop.{heard_as, last_number, numbered, sent_message, with_next};
+ghost use Rattle.rsvp_messages.specs.Writable.{IsWritable};
+ghost use Rattle.controller.specs.declared.adjacencies.Adjacency.{Adjacency};
+ghost use Rattle.controller.specs.Adjacencies.{AllCanGo, CanGoAgain, IsChangedAt, adjacency_at, aged, again_to, committed, hop_at, is_to, next_at, packets_on, peer_numbers, prepared_at, reaches, rested, sendings_to, sent_on, taken_by};
+ghost use Rattle.controller.specs.Frames.{frames_to, sent_frame};
+ghost use Rattle.controller.specs.Kept.{unacknowledged};
+
+use crate::frames::Frame;
+use ason_base::{Msg, MsgId, NodeId, Out, OutOfMemory, Packet};
+use hop_reliable::{Heard, Hop};
+use std::alloc::Global;
+
+/// The hop to one neighbour.
+#[derive(Debug, Drop)]
+pub struct Adjacency {
+    pub peer: NodeId,
+    pub hop: Hop,
+}
+
+fn place_of(adjacencies: &[Adjacency], n: NodeId) -> Option<usize>
+    ensures { result ≡ position (is_to n.0) adjacencies.now }
+{
+    adjacencies
+        .iter()
+        .position(|adjacency| adjacency.peer == n)
+}
+
+fn adjacency_at(adjacencies: &[Adjacency], n: NodeId) -> Option<&Adjacency>
+    ensures { option_copied result ≡ adjacency_at adjacencies.now n.0 }
+{
+    adjacencies.iter().find(|adjacency| adjacency.peer == n)
+}
+
+// Receiving
+
+/// What a packet is to the hop from this neighbour. It changes nothing.
+pub(crate) fn hears(adjacencies: &[Adjacency], from: NodeId, p: &Packet) -> Heard
+    requires { IsTrue (reaches adjacencies.now from.0) }
+    ensures heard { result ≡ heard_as (hop_at adjacencies.now from.0) p.now }
+    ensures next { result ≡ Heard.Next → (hop_at adjacencies.now from.0).handed_up + 1 < 2 ^ 32 }
+{
+    match adjacency_at(adjacencies, from) {
+        None => Heard::Acked,
+        Some(adjacency) => adjacency.hop.hears(p),
+    }
+}
+
+fn take_at(adjacencies: &mut [Adjacency], place: usize, heard: Heard, acks: &[MsgId])
+    requires within { place < length adjacencies.old }
+    requires next { (a : Adjacency) → slice_get adjacencies.old place ≡ Some a → heard ≡ Heard.Next → a.hop.state.handed_up + 1 < 2 ^ 32 }
+    ensures { IsChangedAt adjacencies.old place (taken_by heard acks.now) adjacencies.new }
+{
+    let adjacency = &mut adjacencies[place];
+    adjacency.hop.take(heard, acks);
+}
+
+/// The hop from this neighbour takes a packet that is this, with these acknowledgements.
+pub(crate) fn take(
+    adjacencies: &mut [Adjacency],
+    from: NodeId,
+    heard: Heard,
+    acks: &[MsgId],
+)
+    requires reached { IsTrue (reaches adjacencies.old from.0) }
+    requires next { heard ≡ Heard.Next → (hop_at adjacencies.old from.0).handed_up + 1 < 2 ^ 32 }
+    ensures hops { (d : ℕ) → prepared_at adjacencies.new d ≡ (if d == from.0 then taken_by heard acks.now (prepared_at adjacencies.old d) else prepared_at adjacencies.old d) }
+    ensures peers { peer_numbers adjacencies.new ≡ peer_numbers adjacencies.old }
+{
+    match place_of(adjacencies, from) {
+        None => {}
+        Some(place) => take_at(adjacencies, place, heard, acks),
+    }
+}
+
+// Sending
+
+fn prepare_at(
+    alloc: Global,
+    adjacencies: &mut [Adjacency],
+    place: usize,
+    msg: Msg,
+) -> Result<Packet, OutOfMemory>
+    requires within { place < length adjacencies.old }
+    requires below { (a : Adjacency) → slice_get adjacencies.old place ≡ Some a → last_number a.hop < 2 ^ 32 - 1 }
+    ensures ok { OnOk result (IsChangedAt adjacencies.old place (λ h. with_next h msg) adjacencies.new) }
+    ensures err { OnErr result (IsChangedAt adjacencies.old place (λ h. h) adjacencies.new) }
+    ensures packet { IfOk result (λ p. (a : Adjacency) → slice_get adjacencies.old place ≡ Some a → p ≡ numbered (last_number a.hop + 1) msg) }
+{
+    let adjacency = &mut adjacencies[place];
+    adjacency.hop.prepare(alloc, msg)
+}
+
+/// Prepares one message, and hands back its packet.
+fn prepare(
+    alloc: Global,
+    adjacencies: &mut [Adjacency],
+    out: Out,
+) -> Result<Packet, OutOfMemory>
+    requires reached { IsTrue (reaches adjacencies.old out.to.0) }
+    requires below { (next_at adjacencies.old out.to.0).sent < 2 ^ 32 - 1 }
+    ensures hops { OnOk result ((d : ℕ) → next_at adjacencies.new d ≡ (if d == out.to.0 then sent_message (next_at adjacencies.old d) out.msg else next_at adjacencies.old d)) }
+    ensures rest { map rested adjacencies.new ≡ map rested adjacencies.old }
+    ensures packet { IfOk result (λ p. p ≡ numbered ((next_at adjacencies.old out.to.0).sent + 1) out.msg) }
+{
+    let Out { to, msg } = out;
+    match place_of(adjacencies, to) {
+        None => Err(OutOfMemory),
+        Some(place) => prepare_at(alloc, adjacencies, place, msg),
+    }
+}
+
+fn prepare_framed(
+    alloc: Global,
+    me: NodeId,
+    adjacencies: &mut [Adjacency],
+    out: Out,
+) -> Result<Frame, OutOfMemory>
+    requires reached { IsTrue (reaches adjacencies.old out.to.0) }
+    requires below { (next_at adjacencies.old out.to.0).sent < 2 ^ 32 - 1 }
+    requires writable { IsWritableMsg out.msg }
+    ensures hops { OnOk result ((d : ℕ) → next_at adjacencies.new d ≡ (if d == out.to.0 then sent_message (next_at adjacencies.old d) out.msg else next_at adjacencies.old d)) }
+    ensures rest { map rested adjacencies.new ≡ map rested adjacencies.old }
+    ensures frame { IfOk result (λ f. f ≡ sent_frame me out.to (numbered ((next_at adjacencies.old out.to.0).sent + 1) out.msg)) }
+{
+    let to = out.to;
+    let packet = prepare(alloc, adjacencies, out)?;
+    Frame::new(alloc, me, to, &packet)
+}
+
+/// The same messages again.
+pub(crate) fn copy_outs(alloc: Global, outs: &[Out]) -> Result<Vec<Out>, OutOfMemory>
+    ensures { IfOk result (λ v. v.items ≡ outs.now) }
+{
+    let mut copies = Vec::with_capacity(alloc, outs.len())?;
+    for out in outs {
+        let msg = out.msg.copy(alloc)?;
+        copies.push(Out { to: out.to, msg })?;
+    }
+    Ok(copies)
+}
+
+/// Prepares these messages, in order. Their frames go to the end of the list.
+pub(crate) fn prepare_all(
+    alloc: Global,
+    me: NodeId,
+    adjacencies: &mut [Adjacency],
+    frames: &mut Vec<Frame>,
+    outs: Vec<Out>,
+) -> Result<(), OutOfMemory>
+    requires { AllCanGo (reaches adjacencies.old) (next_at adjacencies.old) outs.items }
+    ensures hops { OnOk result ((d : ℕ) → next_at adjacencies.new d ≡ sent_on (next_at adjacencies.old) outs.items d) }
+    ensures rest { map rested adjacencies.new ≡ map rested adjacencies.old }
+    ensures frames { OnOk result (frames.new.items ≡ frames.old.items ++ frames_to me (packets_on (next_at adjacencies.old) outs.items)) }
+{
+    for out in outs {
+        let frame = prepare_framed(alloc, me, adjacencies, out)?;
+        frames.push(frame)?;
+    }
+    Ok(())
+}
+
+/// Sends all that is prepared.
+pub(crate) fn commit_all(adjacencies: &mut [Adjacency])
+    ensures { adjacencies.new ≡ map committed adjacencies.old }
+{
+    for adjacency in adjacencies.iter_mut() {
+        adjacency.hop.commit();
+    }
+}
+
+/// Forgets all that is prepared.
+pub(crate) fn discard_all(adjacencies: &mut [Adjacency])
+    ensures { adjacencies.new ≡ map rested adjacencies.old }
+{
+    for adjacency in adjacencies.iter_mut() {
+        adjacency.hop.discard();
+    }
+}
+
+// Ticks
+
+/// Makes each unacknowledged message a tick older.
+pub(crate) fn age_all(adjacencies: &mut [Adjacency])
+    ensures { adjacencies.new ≡ map aged adjacencies.old }
+{
+    for adjacency in adjacencies.iter_mut() {
+        adjacency.hop.age();
+    }
+}
+
+// The frames of these packets go to the end of the list.
+fn frame_all(
+    alloc: Global,
+    me: NodeId,
+    to: NodeId,
+    packets: Vec<Packet>,
+    frames: &mut Vec<Frame>,
+) -> Result<(), OutOfMemory>
+    requires { AllByRecursion IsWritable packets.items }
+    ensures { OnOk result (frames.new.items ≡ frames.old.items ++ frames_to me (sendings_to to packets.items)) }
+{
+    for p in packets {
+        let frame = Frame::new(alloc, me, to, &p)?;
+        frames.push(frame)?;
+    }
+    Ok(())
+}
+
+// What the next tick sends again to a neighbour goes to the end of the list.
+fn frame_again(
+    alloc: Global,
+    me: NodeId,
+    adjacency: &Adjacency,
+    frames: &mut Vec<Frame>,
+) -> Result<(), OutOfMemory>
+    requires { CanGoAgain adjacency.now.hop.state }
+    ensures { OnOk result (frames.new.items ≡ frames.old.items ++ frames_to me (again_to adjacency.now)) }
+{
+    let due = adjacency.hop.due(alloc)?;
+    frame_all(alloc, me, adjacency.peer, due, frames)
+}
+
+/// What the next tick sends again goes to the end of the list, by neighbour and then by number.
+pub(crate) fn frame_due(
+    alloc: Global,
+    me: NodeId,
+    adjacencies: &[Adjacency],
+    frames: &mut Vec<Frame>,
+) -> Result<(), OutOfMemory>
+    requires { All (λ a. CanGoAgain a.hop.state) adjacencies.now }
+    ensures { OnOk result (frames.new.items ≡ frames.old.items ++ frames_to me (flat_map again_to adjacencies.now)) }
+{
+    for adjacency in adjacencies {
+        frame_again(alloc, me, adjacency, frames)?;
+    }
+    Ok(())
+}
+
+/// How many messages aren't acknowledged.
+pub(crate) fn pending(adjacencies: &[Adjacency]) -> usize
+    requires { length adjacencies.now ≤ 256 }
+    ensures { result ≡ unacknowledged adjacencies.now }
+{
+    let mut total = 0;
+    for adjacency in adjacencies {
+        total += adjacency.hop.pending();
+    }
+    total
+}

@@ -1,0 +1,98 @@
+//! The controller of one node.
+
+ghost use Rattle.std.specs.Prelude.{◌≡◌, ◌<◌, IfOk, IsSome, OnErr};
+ghost use Rattle.ason_base.specs.Network.{find_node};
+ghost use Rattle.mesh_rules.specs.Rows.{call_rows, leg_rows};
+ghost use Rattle.controller.specs.declared.controller.TheConstants.{MOST_STEPS};
+ghost use Rattle.controller.specs.Controllers.{IsStep};
+ghost use Rattle.controller.specs.Kept.{AllToNeighbours, IsFromNeighbour, new_controller, unacknowledged};
+
+use crate::adjacencies::{Adjacency, pending};
+use crate::frames::Frames;
+use crate::inputs::{CoreInput, Pending};
+use crate::peers::adjacencies;
+use crate::reactions::react;
+use ason_base::{NodeId, OutOfMemory, TableRows, Topology};
+use node_core::Node;
+use std::alloc::Global;
+use std::marker::Model;
+
+/// How many steps a controller makes, so that the numbers of its messages never end.
+pub const MOST_STEPS: u64 = 50_000;
+
+/// The controller of one node: the node, and a reliable hop to each neighbour.
+#[derive(Debug, Drop)]
+pub struct Controller {
+    alloc: Global,
+    node: Node,
+    adjacencies: Vec<Adjacency>,
+    steps: u64,
+}
+
+impl Model for Controller {
+    ghost use Rattle.controller.specs.Controllers.{ControllerState};
+    ghost use Rattle.controller.specs.Kept.{IsKept};
+
+    ghost Value = { ControllerState };
+
+    ghost view = { λ c. record { node = c.node; adjacencies = c.adjacencies.items; steps = c.steps } };
+
+    ghost invariant = { λ c. IsKept c.node.place c.adjacencies.items c.steps };
+}
+
+impl Controller {
+    /// The controller of node `id`, which keeps nothing, and sent nothing.
+    pub fn new(alloc: Global, t: &Topology, id: NodeId) -> Result<Controller, OutOfMemory>
+        requires { IsSome (find_node t.now id) }
+        ensures { IfOk result (λ c. c ≡ new_controller t.now id) }
+    {
+        let node = Node::new(alloc, t, id)?;
+        let adjacencies = adjacencies(alloc, t, id)?;
+        Ok(Controller {
+            alloc,
+            node,
+            adjacencies,
+            steps: 0,
+        })
+    }
+
+    /// Takes one input, and hands back the frames that go out, in the order in which they are sent. Each is for a neighbour. After
+    /// want of memory the controller is unchanged.
+    pub fn step(&mut self, input: &CoreInput) -> Result<Frames, OutOfMemory>
+        requires few { self.old.steps < MOST_STEPS }
+        requires from { IsFromNeighbour self.old.node.place input.now }
+        ensures step { IfOk result (IsStep self.old self.new input.now) }
+        ensures near { IfOk result (AllToNeighbours self.old.node.place) }
+        ensures err { OnErr result (self.new ≡ self.old) }
+    {
+        let frames = react(self.alloc, &mut self.node, &mut self.adjacencies, input)?;
+        self.steps += 1;
+        Ok(Frames::from_vec(frames))
+    }
+
+    /// What a table shows of the node: its calls in order of number, its legs in order of LSP.
+    pub fn rows(&self, alloc: Global) -> Result<TableRows, OutOfMemory>
+        ensures calls { IfOk result (λ rows. rows.calls ≡ call_rows self.now.node.place.id self.now.node.state) }
+        ensures legs { IfOk result (λ rows. rows.legs ≡ leg_rows self.now.node.place.id self.now.node.state) }
+    {
+        self.node.rows(alloc)
+    }
+
+    /// How many steps it made.
+    pub fn steps(&self) -> u64
+        ensures { result ≡ self.now.steps }
+    {
+        self.steps
+    }
+
+    /// How many messages of its hops aren't acknowledged. It floods no row.
+    pub fn pending(&self) -> Pending
+        ensures hop { result.hop ≡ unacknowledged self.now.adjacencies }
+        ensures flood { result.flood ≡ 0 }
+    {
+        Pending {
+            hop: pending(&self.adjacencies),
+            flood: 0,
+        }
+    }
+}

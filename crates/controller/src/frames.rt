@@ -1,0 +1,43 @@
+//! Frames on a control channel.
+
+ghost use Rattle.std.specs.Prelude.{◌≡◌, IfOk};
+ghost use Rattle.rsvp_messages.specs.Writable.{IsWritable};
+ghost use Rattle.controller.specs.Frames.{IsFrame, sent_frame};
+
+use ason_base::{Bytes, Items, NodeId, OutOfMemory, Packet};
+use rsvp_messages::encode;
+use std::alloc::Global;
+
+/// The first byte of a frame that carries an RSVP message: RSVP's number among the protocols over IP.
+pub const RSVP: u8 = 46;
+
+/// Bytes on their way to a neighbour.
+#[derive(Debug, Drop)]
+pub struct Frame {
+    pub to: NodeId,
+    pub bytes: Bytes,
+}
+
+/// Frames, in the order in which they are sent.
+pub type Frames = Items<Frame>;
+
+impl Frame {
+    /// The frame of a packet from this node to a neighbour.
+    pub(crate) fn new(
+        alloc: Global,
+        me: NodeId,
+        to: NodeId,
+        p: &Packet,
+    ) -> Result<Frame, OutOfMemory>
+        requires { IsWritable p.now }
+        ensures frame { IfOk result (λ f. f ≡ sent_frame me to p.now) }
+        ensures spelled { IfOk result (λ f. IsFrame f.bytes p.now) }
+    {
+        let mut bytes = encode(alloc, me, p)?;
+        bytes.insert(0, RSVP)?;
+        Ok(Frame {
+            to,
+            bytes: Bytes::from_vec(bytes),
+        })
+    }
+}

@@ -1,0 +1,68 @@
+//! The neighbours of a node.
+
+ghost use Rattle.std.specs.Prelude.{◌≡◌, IfOk, filter, map, nat_lt};
+ghost use Rattle.ason_base.specs.InOrder.{in_order};
+ghost use Rattle.ason_base.specs.Network.{other_end, touches};
+ghost use Rattle.mesh_rules.specs.LocalNodes.{local_node};
+ghost use Rattle.controller.specs.Adjacencies.{neighbours, new_adjacency};
+ghost use Rattle.controller.specs.Kept.{IsKept};
+
+use crate::adjacencies::Adjacency;
+use ason_base::routes::other_end;
+use ason_base::{LinkSpec, NodeId, OutOfMemory, Topology};
+use hop_reliable::Hop;
+use std::alloc::Global;
+
+fn touches(n: NodeId, link: &LinkSpec) -> bool
+    ensures { result ≡ touches n link.now }
+{
+    link.low == n || link.high == n
+}
+
+// The other ends of the node's links.
+fn other_ends(alloc: Global, links: &[LinkSpec], n: NodeId) -> Result<Vec<u32>, OutOfMemory>
+    ensures { IfOk result (λ v. v.items ≡ map (λ l. (other_end l n).0) (filter (touches n) links.now)) }
+{
+    let mut ends = Vec::new(alloc);
+    for link in links {
+        if touches(n, link) {
+            ends.push(other_end(link, n).0)?;
+        }
+    }
+    Ok(ends)
+}
+
+// The nodes that these links lead to, in order, each once.
+fn neighbours(alloc: Global, links: &[LinkSpec], n: NodeId) -> Result<Vec<u32>, OutOfMemory>
+    ensures { IfOk result (λ v. v.items ≡ in_order nat_lt (map (λ l. (other_end l n).0) (filter (touches n) links.now))) }
+{
+    let mut ends = other_ends(alloc, links, n)?;
+    ends.sort_unstable();
+    ends.dedup();
+    Ok(ends)
+}
+
+/// A hop to each neighbour, over which nothing was sent.
+pub(crate) fn adjacencies(
+    alloc: Global,
+    t: &Topology,
+    n: NodeId,
+) -> Result<Vec<Adjacency>, OutOfMemory>
+    ensures new { IfOk result (λ v. v.items ≡ map new_adjacency (neighbours (local_node t.now n))) }
+    ensures kept { IfOk result (λ v. IsKept (local_node t.now n) v.items 0) }
+{
+    let numbers = neighbours(alloc, t.links(), n)?;
+    begun(alloc, &numbers)
+}
+
+fn begun(alloc: Global, numbers: &[u32]) -> Result<Vec<Adjacency>, OutOfMemory>
+    ensures { IfOk result (λ v. v.items ≡ map new_adjacency numbers.now) }
+{
+    let mut all = Vec::with_capacity(alloc, numbers.len())?;
+    for number in numbers {
+        let peer = NodeId(*number);
+        let hop = Hop::new(alloc);
+        all.push(Adjacency { peer, hop })?;
+    }
+    Ok(all)
+}

@@ -1,0 +1,265 @@
+//! What each input does to a node and its hops, and the frames that go out. Whatever may be refused comes first: the frames are
+//! made, the messages prepared at their hops, the node's answer carried out. Then the hops take what came and send.
+
+ghost use Rattle.std.specs.Prelude.{◌≡◌, ◌+◌, ◌++◌, ℕ, IfOk, IsTrue, OnErr, OnOk, map};
+ghost use Rattle.std.specs.Option.{option_to_list};
+ghost use Rattle.ason_base.specs.declared.messages.Packet.{Packet};
+ghost use Rattle.mesh_nodes.specs.LocalNodes.{is_neighbour};
+ghost use Rattle.mesh_rules.specs.Changes.{changed};
+ghost use Rattle.node_core.specs.Nodes.{IsWritableInput, answer_to, stepped};
+ghost use Rattle.controller.specs.Adjacencies.{ArePrepared, hop_at, packets_on, reaches, rested};
+ghost use Rattle.controller.specs.Answers.{BodyCanBePassedOn, body_answer};
+ghost use Rattle.controller.specs.Controllers.{Becomes, IsMade, IsReaction, after_tick, handed_body, handled, meaning, took, unmoved};
+ghost use Rattle.controller.specs.Frames.{IsFrame, SpellsNothing, frames_to};
+ghost use Rattle.controller.specs.Kept.{AllToNeighbours, IsFromNeighbour, IsKept, IsReady};
+
+use crate::adjacencies::{
+    Adjacency, age_all, commit_all, copy_outs, discard_all, frame_due, hears, prepare_all, take,
+};
+use crate::frames::Frame;
+use crate::inputs::CoreInput;
+use crate::packets::{acknowledge, packet_of};
+use ason_base::{DeskItem, Msg, NodeId, OutOfMemory, Packet};
+use hop_reliable::Heard;
+use node_core::{Change, Input, Node};
+use std::alloc::Global;
+
+// What the node answers, with its messages prepared and their frames at the end of the list.
+fn prepared(
+    alloc: Global,
+    node: &Node,
+    adjacencies: &mut [Adjacency],
+    frames: &mut Vec<Frame>,
+    input: &Input,
+) -> Result<Change, OutOfMemory>
+    requires ready { IsReady node.now.place adjacencies.old }
+    requires input { IsWritableInput input.now }
+    ensures change { IfOk result (λ c. c ≡ answer_to node.now input.now) }
+    ensures hops { OnOk result (ArePrepared adjacencies.old (answer_to node.now input.now).sent adjacencies.new) }
+    ensures rest { map rested adjacencies.new ≡ map rested adjacencies.old }
+    ensures frames { OnOk result (frames.new.items ≡ frames.old.items ++ frames_to node.now.place.id (packets_on (hop_at adjacencies.old) (answer_to node.now input.now).sent)) }
+{
+    let change = node.answer(alloc, input)?;
+    let outs = copy_outs(alloc, change.sent().items())?;
+    prepare_all(alloc, node.id(), adjacencies, frames, outs)?;
+    Ok(change)
+}
+
+fn carry_out(
+    alloc: Global,
+    node: &mut Node,
+    adjacencies: &mut [Adjacency],
+    frames: &mut Vec<Frame>,
+    input: &Input,
+) -> Result<(), OutOfMemory>
+    requires ready { IsReady node.old.place adjacencies.old }
+    requires input { IsWritableInput input.now }
+    ensures node { OnOk result (node.new ≡ stepped node.old input.now) }
+    ensures same { OnErr result (node.new ≡ node.old) }
+    ensures hops { OnOk result (ArePrepared adjacencies.old (answer_to node.old input.now).sent adjacencies.new) }
+    ensures rest { map rested adjacencies.new ≡ map rested adjacencies.old }
+    ensures frames { OnOk result (frames.new.items ≡ frames.old.items ++ frames_to node.old.place.id (packets_on (hop_at adjacencies.old) (answer_to node.old input.now).sent)) }
+{
+    let change = prepared(alloc, node, adjacencies, frames, input)?;
+    node.carry_out(change)?;
+    Ok(())
+}
+
+// The node takes an input, and its messages are prepared. After want of memory none is.
+fn give(
+    alloc: Global,
+    node: &mut Node,
+    adjacencies: &mut [Adjacency],
+    frames: &mut Vec<Frame>,
+    input: &Input,
+) -> Result<(), OutOfMemory>
+    requires ready { IsReady node.old.place adjacencies.old }
+    requires input { IsWritableInput input.now }
+    ensures node { OnOk result (node.new ≡ stepped node.old input.now) }
+    ensures same { OnErr result (node.new ≡ node.old) }
+    ensures hops { OnOk result (ArePrepared adjacencies.old (answer_to node.old input.now).sent adjacencies.new) }
+    ensures rest { OnOk result (map rested adjacencies.new ≡ map rested adjacencies.old) }
+    ensures err { OnErr result (adjacencies.new ≡ adjacencies.old) }
+    ensures frames { OnOk result (frames.new.items ≡ frames.old.items ++ frames_to node.old.place.id (packets_on (hop_at adjacencies.old) (answer_to node.old input.now).sent)) }
+{
+    match carry_out(alloc, node, adjacencies, frames, input) {
+        Ok(()) => Ok(()),
+        Err(e) => {
+            discard_all(adjacencies);
+            Err(e)
+        }
+    }
+}
+
+// What is handed up of a packet: its message, where it is the next.
+fn handed_up(heard: Heard, body: Option<Msg>) -> Option<Msg>
+    ensures handed { option_to_list result ≡ handed_body heard body }
+    ensures passed { BodyCanBePassedOn body → BodyCanBePassedOn result }
+{
+    if heard == Heard::Next { body } else { None }
+}
+
+fn hand_up(
+    alloc: Global,
+    node: &mut Node,
+    adjacencies: &mut [Adjacency],
+    frames: &mut Vec<Frame>,
+    from: NodeId,
+    body: Option<Msg>,
+) -> Result<(), OutOfMemory>
+    requires ready { IsReady node.old.place adjacencies.old }
+    requires body { BodyCanBePassedOn body }
+    ensures place { node.new.place ≡ node.old.place }
+    ensures node { OnOk result (node.new.state ≡ changed node.old.state (body_answer node.old from body)) }
+    ensures same { OnErr result (node.new ≡ node.old) }
+    ensures hops { OnOk result (ArePrepared adjacencies.old (body_answer node.old from body).sent adjacencies.new) }
+    ensures rest { OnOk result (map rested adjacencies.new ≡ map rested adjacencies.old) }
+    ensures err { OnErr result (adjacencies.new ≡ adjacencies.old) }
+    ensures frames { OnOk result (frames.new.items ≡ frames.old.items ++ frames_to node.old.place.id (packets_on (hop_at adjacencies.old) (body_answer node.old from body).sent)) }
+{
+    match body {
+        None => Ok(()),
+        Some(msg) => give(alloc, node, adjacencies, frames, &Input::Message { from, msg }),
+    }
+}
+
+// A packet of a neighbour: its acknowledgement, then what the rule of its message sends.
+fn take_packet(
+    alloc: Global,
+    node: &mut Node,
+    adjacencies: &mut [Adjacency],
+    frames: &mut Vec<Frame>,
+    from: NodeId,
+    packet: Packet,
+) -> Result<(), OutOfMemory>
+    requires ready { IsReady node.old.place adjacencies.old }
+    requires reached { IsTrue (reaches adjacencies.old from.0) }
+    requires body { BodyCanBePassedOn packet.body }
+    ensures becomes { OnOk result (Becomes node.old node.new adjacencies.old adjacencies.new (took node.old.place (meaning node.old adjacencies.old) from packet).after) }
+    ensures same { OnErr result (node.new ≡ node.old) }
+    ensures err { OnErr result (adjacencies.new ≡ adjacencies.old) }
+    ensures frames { OnOk result (frames.new.items ≡ frames.old.items ++ frames_to node.old.place.id (took node.old.place (meaning node.old adjacencies.old) from packet).sendings) }
+{
+    let heard = hears(adjacencies, from, &packet);
+    acknowledge(alloc, node.id(), from, frames, heard, &packet)?;
+    let Packet { acks, body, .. } = packet;
+    let body = handed_up(heard, body);
+    hand_up(alloc, node, adjacencies, frames, from, body)?;
+    take(adjacencies, from, heard, acks.items());
+    commit_all(adjacencies);
+    Ok(())
+}
+
+fn taken(
+    alloc: Global,
+    node: &mut Node,
+    adjacencies: &mut [Adjacency],
+    from: NodeId,
+    packet: Packet,
+) -> Result<Vec<Frame>, OutOfMemory>
+    requires ready { IsReady node.old.place adjacencies.old }
+    requires from { IsTrue (is_neighbour node.old.place from) }
+    requires body { BodyCanBePassedOn packet.body }
+    ensures made { IfOk result (λ fs. IsMade node.old node.new adjacencies.old adjacencies.new (took node.old.place (meaning node.old adjacencies.old) from packet) fs.items) }
+    ensures kept { (k : ℕ) → IsKept node.old.place adjacencies.old k → OnOk result (IsKept node.new.place adjacencies.new (k + 1)) }
+    ensures near { IfOk result (λ fs. AllToNeighbours node.old.place fs.items) }
+    ensures same { OnErr result (node.new ≡ node.old) }
+    ensures err { OnErr result (adjacencies.new ≡ adjacencies.old) }
+{
+    node.fits();
+    let mut frames = Vec::new(alloc);
+    take_packet(alloc, node, adjacencies, &mut frames, from, packet)?;
+    Ok(frames)
+}
+
+// A frame of a neighbour. One that spells nothing changes nothing.
+fn take_frame(
+    alloc: Global,
+    node: &mut Node,
+    adjacencies: &mut [Adjacency],
+    from: NodeId,
+    bytes: &[u8],
+) -> Result<Vec<Frame>, OutOfMemory>
+    requires ready { IsReady node.old.place adjacencies.old }
+    requires from { IsTrue (is_neighbour node.old.place from) }
+    ensures packet { (p : Packet) → IsFrame bytes.now p → IfOk result (λ fs. IsMade node.old node.new adjacencies.old adjacencies.new (took node.old.place (meaning node.old adjacencies.old) from p) fs.items) }
+    ensures noise { SpellsNothing bytes.now → IfOk result (λ fs. IsMade node.old node.new adjacencies.old adjacencies.new (unmoved (meaning node.old adjacencies.old)) fs.items) }
+    ensures kept { (k : ℕ) → IsKept node.old.place adjacencies.old k → OnOk result (IsKept node.new.place adjacencies.new (k + 1)) }
+    ensures near { IfOk result (λ fs. AllToNeighbours node.old.place fs.items) }
+    ensures same { OnErr result (node.new ≡ node.old) }
+    ensures err { OnErr result (adjacencies.new ≡ adjacencies.old) }
+{
+    // A frame that begins with the byte of a flood would go to the flood here.
+    match packet_of(alloc, bytes) {
+        Ok(Some(packet)) => taken(alloc, node, adjacencies, from, packet),
+        Ok(None) => Ok(Vec::new(alloc)),
+        Err(e) => Err(e),
+    }
+}
+
+fn handle(
+    alloc: Global,
+    node: &mut Node,
+    adjacencies: &mut [Adjacency],
+    item: &DeskItem,
+) -> Result<Vec<Frame>, OutOfMemory>
+    requires ready { IsReady node.old.place adjacencies.old }
+    ensures made { IfOk result (λ fs. IsMade node.old node.new adjacencies.old adjacencies.new (handled node.old.place (meaning node.old adjacencies.old) item.now) fs.items) }
+    ensures kept { (k : ℕ) → IsKept node.old.place adjacencies.old k → OnOk result (IsKept node.new.place adjacencies.new (k + 1)) }
+    ensures near { IfOk result (λ fs. AllToNeighbours node.old.place fs.items) }
+    ensures same { OnErr result (node.new ≡ node.old) }
+    ensures err { OnErr result (adjacencies.new ≡ adjacencies.old) }
+{
+    node.fits();
+    let mut frames = Vec::new(alloc);
+    let item = item.copy(alloc)?;
+    give(alloc, node, adjacencies, &mut frames, &Input::Desk(item))?;
+    commit_all(adjacencies);
+    Ok(frames)
+}
+
+// Messages go again, then floods would, then what the rule of a tick sends.
+fn tick(
+    alloc: Global,
+    node: &mut Node,
+    adjacencies: &mut [Adjacency],
+) -> Result<Vec<Frame>, OutOfMemory>
+    requires ready { IsReady node.old.place adjacencies.old }
+    ensures made { IfOk result (λ fs. IsMade node.old node.new adjacencies.old adjacencies.new (after_tick node.old.place node.old.state adjacencies.old) fs.items) }
+    ensures kept { (k : ℕ) → IsKept node.old.place adjacencies.old k → OnOk result (IsKept node.new.place adjacencies.new (k + 1)) }
+    ensures near { IfOk result (λ fs. AllToNeighbours node.old.place fs.items) }
+    ensures same { OnErr result (node.new ≡ node.old) }
+    ensures err { OnErr result (adjacencies.new ≡ adjacencies.old) }
+{
+    node.fits();
+    let mut frames = Vec::new(alloc);
+    frame_due(alloc, node.id(), adjacencies, &mut frames)?;
+    give(alloc, node, adjacencies, &mut frames, &Input::Tick)?;
+    age_all(adjacencies);
+    commit_all(adjacencies);
+    Ok(frames)
+}
+
+/// What an input does, and the frames that go out. After want of memory the node and its hops are unchanged.
+pub(crate) fn react(
+    alloc: Global,
+    node: &mut Node,
+    adjacencies: &mut [Adjacency],
+    input: &CoreInput,
+) -> Result<Vec<Frame>, OutOfMemory>
+    requires ready { IsReady node.old.place adjacencies.old }
+    requires from { IsFromNeighbour node.old.place input.now }
+    ensures reaction { IfOk result (λ fs. IsReaction node.old node.new adjacencies.old adjacencies.new input.now fs.items) }
+    ensures kept { (k : ℕ) → IsKept node.old.place adjacencies.old k → OnOk result (IsKept node.new.place adjacencies.new (k + 1)) }
+    ensures near { IfOk result (λ fs. AllToNeighbours node.old.place fs.items) }
+    ensures same { OnErr result (node.new ≡ node.old) }
+    ensures err { OnErr result (adjacencies.new ≡ adjacencies.old) }
+{
+    match input {
+        CoreInput::Frame { from, bytes } => {
+            take_frame(alloc, node, adjacencies, *from, bytes.items())
+        }
+        CoreInput::Tick => tick(alloc, node, adjacencies),
+        CoreInput::Desk(item) => handle(alloc, node, adjacencies, item),
+    }
+}
