@@ -56,6 +56,17 @@ member-reaches (a ∷ xs) n h = go (contains-cases a.peer.0 n (peer_numbers xs) 
         by true = refl
         by false = later there
 
+reaches-member : (xs : List Adjacency) (n : ℕ) → reaches xs n ≡ true → Contains (peer_numbers xs) n
+reaches-member [] n h = absurd (cc h)
+reaches-member (a ∷ xs) n h = go (nat_eq a.peer.0 n) refl (reaches-member xs n) h
+  where
+    go : (b : Bool) → nat_eq a.peer.0 n ≡ b → (reaches xs n ≡ true → Contains (peer_numbers xs) n) →
+        is_some (cond b (Some a) (find (is_to n) xs)) ≡ true → Contains (a.peer.0 ∷ peer_numbers xs) n
+    go true e later k =
+        let same : a.peer.0 ≡ n = grind arith in
+        subst (λ m. Contains (a.peer.0 ∷ peer_numbers xs) m) same (contains-head a.peer.0 (peer_numbers xs))
+    go false e later k = contains-tail a.peer.0 n (peer_numbers xs) (later k)
+
 each-peer : (P : ℕ → Type 0) (xs : List Adjacency) → ((n : ℕ) → Contains (peer_numbers xs) n → P n) →
     AllByRecursion (λ (a : Adjacency). P a.peer.0) xs
 each-peer P [] f = tt
@@ -70,6 +81,22 @@ neighbour-reached p xs e n near =
     let ends : List ℕ = map (λ l. (other_end l p.id).0) p.own in
     let there : Contains ends n.0 = any-member (λ l. (other_end l p.id).0) p.own n.0 near in
     member-reaches xs n.0 (subst (λ ns. Contains ns n.0) (sym e) ((in_order-has nat_lt nat_order ends n.0).1 there))
+
+reached-neighbour : (p : LocalNode) (xs : List Adjacency) → peer_numbers xs ≡ neighbours p → (n : NodeId) →
+    reaches xs n.0 ≡ true → is_neighbour p n ≡ true
+reached-neighbour p xs e n there =
+    let ends : List ℕ = map (λ l. (other_end l p.id).0) p.own in
+    member-any (λ l. (other_end l p.id).0) p.own n.0
+    ((in_order-has nat_lt nat_order ends n.0).0 (subst (λ ns. Contains ns n.0) e (reaches-member xs n.0 there)))
+
+-- a node is reached exactly where it is a neighbour
+pub reach-is : (p : LocalNode) (xs : List Adjacency) → peer_numbers xs ≡ neighbours p → (n : NodeId) → reaches xs n.0 ≡ is_neighbour p n
+reach-is p xs e n = go (reaches xs n.0) (is_neighbour p n) refl refl
+  where
+    go : (a b : Bool) → reaches xs n.0 ≡ a → is_neighbour p n ≡ b → reaches xs n.0 ≡ is_neighbour p n
+    go true b h k = h ∙ sym (reached-neighbour p xs e n h)
+    go false true h k = neighbour-reached p xs e n k ∙ sym k
+    go false false h k = h ∙ sym k
 
 pub peers-near : (p : LocalNode) (xs : List Adjacency) → peer_numbers xs ≡ neighbours p →
     AllByRecursion (λ (a : Adjacency). is_neighbour p a.peer ≡ true) xs

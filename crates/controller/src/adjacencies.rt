@@ -37,6 +37,13 @@ fn adjacency_at(adjacencies: &[Adjacency], n: NodeId) -> Option<&Adjacency>
     adjacencies.iter().find(|adjacency| adjacency.peer == n)
 }
 
+/// Whether there is a hop to this node.
+pub(crate) fn reaches(adjacencies: &[Adjacency], n: NodeId) -> bool
+    ensures { result ≡ reaches adjacencies.now n.0 }
+{
+    adjacency_at(adjacencies, n).is_some()
+}
+
 // Receiving
 
 /// What a packet is to the hop from this neighbour. It changes nothing.

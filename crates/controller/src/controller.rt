@@ -2,12 +2,13 @@
 
 ghost use Rattle.std.specs.Prelude.{◌≡◌, ◌<◌, IfOk, IsSome, OnErr};
 ghost use Rattle.ason_base.specs.Network.{find_node};
+ghost use Rattle.mesh_nodes.specs.LocalNodes.{is_neighbour};
 ghost use Rattle.mesh_rules.specs.Rows.{call_rows, leg_rows};
 ghost use Rattle.controller.specs.declared.controller.TheConstants.{MOST_STEPS};
 ghost use Rattle.controller.specs.Controllers.{IsStep};
 ghost use Rattle.controller.specs.Kept.{AllToNeighbours, IsFromNeighbour, new_controller, unacknowledged};
 
-use crate::adjacencies::{Adjacency, pending};
+use crate::adjacencies::{Adjacency, pending, reaches};
 use crate::frames::Frames;
 use crate::inputs::{CoreInput, Pending};
 use crate::peers::adjacencies;
@@ -63,6 +64,7 @@ impl Controller {
         requires from { IsFromNeighbour self.old.node.place input.now }
         ensures step { IfOk result (IsStep self.old self.new input.now) }
         ensures near { IfOk result (AllToNeighbours self.old.node.place) }
+        ensures place { self.new.node.place ≡ self.old.node.place }
         ensures err { OnErr result (self.new ≡ self.old) }
     {
         let frames = react(self.alloc, &mut self.node, &mut self.adjacencies, input)?;
@@ -76,6 +78,13 @@ impl Controller {
         ensures legs { IfOk result (λ rows. rows.legs ≡ leg_rows self.now.node.place.id self.now.node.state) }
     {
         self.node.rows(alloc)
+    }
+
+    /// Whether this is the number of a neighbour.
+    pub fn has_neighbour(&self, n: NodeId) -> bool
+        ensures { result ≡ is_neighbour self.now.node.place n }
+    {
+        reaches(&self.adjacencies, n)
     }
 
     /// How many steps it made.

@@ -8,7 +8,10 @@ pub mod inputs;
 mod packets;
 mod peers;
 mod reactions;
+#[cfg(test)]
+mod tests;
 
+pub use adjacencies::Adjacency;
 pub use controller::Controller;
 pub use frames::{Frame, Frames};
 pub use inputs::{CoreInput, Pending};

@@ -161,6 +161,7 @@ fn taken(
     requires from { IsTrue (is_neighbour node.old.place from) }
     requires body { BodyCanBePassedOn packet.body }
     ensures made { IfOk result (λ fs. IsMade node.old node.new adjacencies.old adjacencies.new (took node.old.place (meaning node.old adjacencies.old) from packet) fs.items) }
+    ensures place { node.new.place ≡ node.old.place }
     ensures kept { (k : ℕ) → IsKept node.old.place adjacencies.old k → OnOk result (IsKept node.new.place adjacencies.new (k + 1)) }
     ensures near { IfOk result (λ fs. AllToNeighbours node.old.place fs.items) }
     ensures same { OnErr result (node.new ≡ node.old) }
@@ -184,6 +185,7 @@ fn take_frame(
     requires from { IsTrue (is_neighbour node.old.place from) }
     ensures packet { (p : Packet) → IsFrame bytes.now p → IfOk result (λ fs. IsMade node.old node.new adjacencies.old adjacencies.new (took node.old.place (meaning node.old adjacencies.old) from p) fs.items) }
     ensures noise { SpellsNothing bytes.now → IfOk result (λ fs. IsMade node.old node.new adjacencies.old adjacencies.new (unmoved (meaning node.old adjacencies.old)) fs.items) }
+    ensures place { node.new.place ≡ node.old.place }
     ensures kept { (k : ℕ) → IsKept node.old.place adjacencies.old k → OnOk result (IsKept node.new.place adjacencies.new (k + 1)) }
     ensures near { IfOk result (λ fs. AllToNeighbours node.old.place fs.items) }
     ensures same { OnErr result (node.new ≡ node.old) }
@@ -205,6 +207,7 @@ fn handle(
 ) -> Result<Vec<Frame>, OutOfMemory>
     requires ready { IsReady node.old.place adjacencies.old }
     ensures made { IfOk result (λ fs. IsMade node.old node.new adjacencies.old adjacencies.new (handled node.old.place (meaning node.old adjacencies.old) item.now) fs.items) }
+    ensures place { node.new.place ≡ node.old.place }
     ensures kept { (k : ℕ) → IsKept node.old.place adjacencies.old k → OnOk result (IsKept node.new.place adjacencies.new (k + 1)) }
     ensures near { IfOk result (λ fs. AllToNeighbours node.old.place fs.items) }
     ensures same { OnErr result (node.new ≡ node.old) }
@@ -226,6 +229,7 @@ fn tick(
 ) -> Result<Vec<Frame>, OutOfMemory>
     requires ready { IsReady node.old.place adjacencies.old }
     ensures made { IfOk result (λ fs. IsMade node.old node.new adjacencies.old adjacencies.new (after_tick node.old.place node.old.state adjacencies.old) fs.items) }
+    ensures place { node.new.place ≡ node.old.place }
     ensures kept { (k : ℕ) → IsKept node.old.place adjacencies.old k → OnOk result (IsKept node.new.place adjacencies.new (k + 1)) }
     ensures near { IfOk result (λ fs. AllToNeighbours node.old.place fs.items) }
     ensures same { OnErr result (node.new ≡ node.old) }
@@ -250,6 +254,7 @@ pub(crate) fn react(
     requires ready { IsReady node.old.place adjacencies.old }
     requires from { IsFromNeighbour node.old.place input.now }
     ensures reaction { IfOk result (λ fs. IsReaction node.old node.new adjacencies.old adjacencies.new input.now fs.items) }
+    ensures place { node.new.place ≡ node.old.place }
     ensures kept { (k : ℕ) → IsKept node.old.place adjacencies.old k → OnOk result (IsKept node.new.place adjacencies.new (k + 1)) }
     ensures near { IfOk result (λ fs. AllToNeighbours node.old.place fs.items) }
     ensures same { OnErr result (node.new ≡ node.old) }
