@@ -1,6 +1,6 @@
 -- One adjacency is changed: the first one to a neighbour.
 use Rattle.std.proofs.Common.{◌≡◌, ◌+◌, ℕ, suc, Bool, true, false, cond, not, nat_eq, nat_lt, List, [], ◌∷◌, ◌++◌, length, map, set, refl, sym, ap, ◌∙◌, subst, arith, append_assoc, length-append}
-use Rattle.std.specs.Prelude.{find, position, slice_get, Option, Some, None, IsTrue, is_some}
+use Rattle.std.specs.Prelude.{find, position, slice_get, Some, None, is_some}
 use Rattle.std.specs.List.{position_or_len}
 use Rattle.ason_base.specs.declared.messages.Msg.{Msg}
 use Rattle.hop_reliable.specs.declared.unacked.Unacked.{Unacked}

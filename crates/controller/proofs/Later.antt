@@ -1,6 +1,5 @@
 -- Messages that are sent after a packet was taken, or after a tick, have the numbers that they were prepared with.
-use Rattle.std.proofs.Common.{◌≡◌, ◌≤◌, ◌<◌, ◌+◌, ◌-◌, ◌^◌, ℕ, Bool, true, false, cond, nat_eq, List, [], ◌∷◌, ◌++◌, length, refl, sym, ap, ◌∙◌, subst, arith, append_assoc, append-nil}
-use Rattle.std.specs.List.{AllByRecursion}
+use Rattle.std.proofs.Common.{◌≡◌, ◌≤◌, ◌<◌, ◌+◌, ◌-◌, ◌^◌, ℕ, Bool, true, false, cond, nat_eq, List, [], ◌∷◌, ◌++◌, length, refl, sym, ap, ◌∙◌, arith, append_assoc, append-nil}
 use Rattle.ason_base.specs.declared.ids.NodeId.{NodeId}
 use Rattle.ason_base.specs.declared.tables.Out.{Out}
 use Rattle.hop_reliable.specs.declared.unacked.Unacked.{Unacked}
@@ -99,7 +98,10 @@ pub all-go : (p : LocalNode) (near : ℕ → Bool) → ((n : NodeId) → is_neig
     AllToNeighbours p outs → AllWritable outs → AllCanGo near hops outs
 all-go p near reached [] hops count few left to can = tt
 all-go p near reached (o ∷ outs) hops count few left to can =
-    let small : (hops o.to.0).sent + count < 2 ^ 32 - 1 = left o.to.0 in
-    (reached o.to to.0, omega arith, can.0,
-    all-go p near reached outs (sent_one hops o) (count - 1) (omega arith)
-    (more-sent hops o (count - 1) (λ d. let one : (hops d).sent + count < 2 ^ 32 - 1 = left d in omega arith)) to.1 can.1)
+    let small : (hops o.to.0).sent + count < 2 ^ 32 - 1 = left o.to.0 in (
+      reached o.to to.0,
+      omega arith,
+      can.0,
+      all-go p near reached outs (sent_one hops o) (count - 1) (omega arith)
+          (more-sent hops o (count - 1) (λ d. let one : (hops d).sent + count < 2 ^ 32 - 1 = left d in omega arith)) to.1 can.1,
+    )

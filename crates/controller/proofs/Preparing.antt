@@ -1,5 +1,5 @@
 -- A node's answer is prepared.
-use Rattle.std.proofs.Common.{◌≡◌, ◌≤◌, ◌++◌, ℕ, List, length, map, sym, ap, ◌∙◌, subst, arith}
+use Rattle.std.proofs.Common.{◌≡◌, ◌≤◌, ◌++◌, ℕ, List, length, map, sym, ap, ◌∙◌, subst}
 use Rattle.std.specs.Prelude.{Option, None}
 use Rattle.ason_base.specs.declared.messages.Msg.{Msg}
 use Rattle.node_core.specs.Nodes.{NodeView}

@@ -1,5 +1,5 @@
 -- Whom the hops lead to.
-use Rattle.std.proofs.Common.{◌≡◌, ℕ, zero, suc, Bool, true, false, cond, nat_eq, nat_lt, List, [], ◌∷◌, map, refl, sym, ap, ◌∙◌, subst, arith, ◌⊎◌, inl, inr, Contains}
+use Rattle.std.proofs.Common.{◌≡◌, ℕ, suc, Bool, true, false, cond, nat_eq, nat_lt, List, [], ◌∷◌, map, refl, sym, ap, ◌∙◌, subst, arith, ◌⊎◌, inl, inr, Contains}
 use Rattle.std.specs.Prelude.{◌||◌, find, Some, is_some}
 use Rattle.std.specs.List.{AllByRecursion, list_any}
 use Rattle.ason_base.proofs.Ordered.{Rises, contains-cases, contains-head, contains-none, contains-tail, in_order-has, in_order-rises}
@@ -129,9 +129,10 @@ no-hop (a ∷ xs) n none = go (nat_eq a.peer.0 n) refl (no-hop xs n (λ h. none 
 each-hop : (P : HopState → Type 0) (xs : List Adjacency) → Rises nat_lt (peer_numbers xs) → P fresh → ((d : ℕ) → P (hop_at xs d)) →
     AllByRecursion (λ (a : Adjacency). P a.hop.state) xs
 each-hop P [] rises none each = tt
-each-hop P (a ∷ xs) rises none each =
-    (subst (λ b. P (hop_of (cond b (Some a) (find (is_to a.peer.0) xs))).state) (self a.peer.0) (each a.peer.0),
-    each-hop P xs (tail-rises a.peer.0 (peer_numbers xs) rises) none (λ d. go d (nat_eq a.peer.0 d) refl (each d)))
+each-hop P (a ∷ xs) rises none each = (
+  subst (λ b. P (hop_of (cond b (Some a) (find (is_to a.peer.0) xs))).state) (self a.peer.0) (each a.peer.0),
+  each-hop P xs (tail-rises a.peer.0 (peer_numbers xs) rises) none (λ d. go d (nat_eq a.peer.0 d) refl (each d)),
+)
   where
     self : (m : ℕ) → nat_eq m m ≡ true
     self m = grind arith

@@ -1,9 +1,9 @@
 -- Where nothing is prepared, and where all that was prepared is sent.
-use Rattle.std.proofs.Common.{◌≡◌, ◌+◌, ℕ, Bool, true, false, cond, nat_eq, List, [], ◌∷◌, ◌++◌, length, map, refl, sym, ap, ◌∙◌, arith, append-nil}
+use Rattle.std.proofs.Common.{◌≡◌, ◌+◌, ℕ, Bool, true, false, cond, nat_eq, List, [], ◌∷◌, map, refl, sym, ap, ◌∙◌, arith, append-nil}
 use Rattle.std.specs.Prelude.{find, Some, None, is_some}
 use Rattle.hop_reliable.specs.Hop.{HopState, PreparedHop, all_sent, fresh, resting, ticked}
 use Rattle.controller.specs.declared.adjacencies.Adjacency.{Adjacency}
-use Rattle.controller.specs.Adjacencies.{adjacency_at, aged, committed, hop_at, hop_of, is_to, next_at, peer_numbers, prepared_at, reaches, rested, with_hop}
+use Rattle.controller.specs.Adjacencies.{aged, committed, hop_at, hop_of, is_to, next_at, peer_numbers, prepared_at, reaches, rested, with_hop}
 
 -- each hop changes in this way
 module _ (f : PreparedHop → PreparedHop) where

@@ -1,5 +1,5 @@
 -- A packet is taken, an item handled, a tick made: what the node and its hops are after it.
-use Rattle.std.proofs.Common.{◌≡◌, ◌+◌, ℕ, Bool, true, false, cond, nat_eq, List, [], ◌∷◌, ◌++◌, map, refl, sym, ap, ◌∙◌, subst, arith, append_assoc}
+use Rattle.std.proofs.Common.{◌≡◌, ℕ, Bool, true, false, cond, nat_eq, List, [], ◌∷◌, ◌++◌, map, refl, sym, ap, ◌∙◌, subst, arith, append_assoc}
 use Rattle.std.specs.Prelude.{Option}
 use Rattle.std.specs.List.{flat_map}
 use Rattle.std.specs.Option.{option_to_list}
@@ -24,7 +24,7 @@ use Rattle.controller.specs.Controllers.{Becomes, IsMade, acks_to, after_tick, h
 use Rattle.controller.specs.Frames.{Sending, frames_to, sent_frame}
 use Rattle.controller.proofs.Keeping.{heard-sent}
 use Rattle.controller.proofs.Later.{packets-later, sent-later}
-use Rattle.controller.proofs.Resting.{committed-rests, hop-committed, next-aged, next-is, peers-aged, peers-committed, same-hop, same-peers}
+use Rattle.controller.proofs.Resting.{committed-rests, hop-committed, next-aged, peers-aged, peers-committed, same-hop, same-peers}
 
 frames-append : (me : NodeId) (xs ys : List Sending) → frames_to me (xs ++ ys) ≡ frames_to me xs ++ frames_to me ys
 frames-append me [] ys = refl
@@ -93,9 +93,9 @@ ticked-made n m me before mid late after none due frames node are rest ages is s
   };
   frames = framed
       ∙ ap (λ fs. fs ++ frames_to n.place.id (packets_on (hop_at before) sent))
-        (again ∙ ap (λ fs. fs ++ frames_to me (flat_map again_to before)) start ∙ ap (λ k. frames_to k (flat_map again_to before)) same)
+      (again ∙ ap (λ fs. fs ++ frames_to me (flat_map again_to before)) start ∙ ap (λ k. frames_to k (flat_map again_to before)) same)
       ∙ ap (λ ps. frames_to n.place.id (flat_map again_to before) ++ frames_to n.place.id ps)
-        (packets-later sent (hop_at before) (λ d. ticked (hop_at before d)) (λ d. refl))
+      (packets-later sent (hop_at before) (λ d. ticked (hop_at before d)) (λ d. refl))
       ∙ sym (frames-append n.place.id (flat_map again_to before) (packets_on (λ d. ticked (hop_at before d)) sent));
 }
   where
@@ -137,7 +137,7 @@ module _ (n m : NodeView) (before mid late after : List Adjacency) (u : NodeId) 
           let same : d ≡ u.0 = grind arith in
           ap (λ (h : HopState). all_sent (record { state = taken h v q.acks; prepared = (prepared_at mid d).prepared })) state
           ∙ ap (λ w. all_sent (record { state = taken (hop_at before d) w q.acks; prepared = (prepared_at mid d).prepared }))
-            (heard ∙ ap (λ k. heard_as (hop_at before k) q) (sym same))
+          (heard ∙ ap (λ k. heard_as (hop_at before k) q) (sym same))
       go false e = ap (λ (h : HopState). all_sent (record { state = h; prepared = (prepared_at mid d).prepared })) state
 
   took-hops : (d : ℕ) → hop_at after d ≡ sent_on (heard_hops (hop_at before) u q) outs d
@@ -163,6 +163,6 @@ module _ (n m : NodeView) (before mid late after : List Adjacency) (u : NodeId) 
       ∙ append_assoc first (frames_to n.place.id (acks_to u v q)) (frames_to n.place.id (packets_on (hop_at before) outs))
       ∙ ap (λ fs. first ++ fs) (sym (frames-append n.place.id (acks_to u v q) (packets_on (hop_at before) outs)))
       ∙ ap (λ ps. first ++ frames_to n.place.id (acks_to u v q ++ ps))
-        (packets-later outs (hop_at before) (heard_hops (hop_at before) u q) (λ d. heard-sent (hop_at before) u q d))
+      (packets-later outs (hop_at before) (heard_hops (hop_at before) u q) (λ d. heard-sent (hop_at before) u q d))
       ∙ ap (λ w. first ++ frames_to n.place.id (acks_to u w q ++ packets_on (heard_hops (hop_at before) u q) outs)) heard
       ∙ ap (λ b. first ++ frames_to n.place.id (acks_to u (heard_as (hop_at before u.0) q) q ++ packets_on (heard_hops (hop_at before) u q) b.sent)) answer-is

@@ -1,30 +1,26 @@
 -- What has a written form.
-use Rattle.std.proofs.Common.{◌≡◌, ◌≤◌, ◌<◌, ◌+◌, ◌^◌, ℕ, suc, Bool, true, false, cond, not, nat_eq, nat_lt, nat_le, List, [], ◌∷◌, ◌++◌, length, map, filter, refl, sym, ap, ◌∙◌, subst, arith, append_assoc}
-use Rattle.std.specs.Prelude.{◌||◌, Option, Some, None, All, IfSome}
+use Rattle.std.proofs.Common.{◌≡◌, ◌≤◌, ◌+◌, ℕ, Bool, true, false, cond, List, [], ◌∷◌, ◌++◌, length, map, filter, sym, ap, ◌∙◌, subst, arith, append_assoc}
+use Rattle.std.specs.Prelude.{Option, Some, None}
 use Rattle.std.specs.List.{AllByRecursion}
-use Rattle.std.specs.Option.{option_to_list}
 use Rattle.ason_base.specs.declared.ids.NodeId.{NodeId}
 use Rattle.ason_base.specs.declared.messages.Msg.{Msg}
 use Rattle.ason_base.specs.declared.messages.Msg.TheVariants.{Path, Resv, PathTear, PathErr, Notify}
-use Rattle.ason_base.specs.declared.messages.MsgId.{MsgId}
 use Rattle.ason_base.specs.declared.messages.Packet.{Packet}
 use Rattle.ason_base.specs.declared.messages.PathRole.{PathRole}
 use Rattle.ason_base.specs.declared.messages.PathRole.TheVariants.{Work, Back}
 use Rattle.ason_base.specs.declared.steps.Step.{Step}
 use Rattle.ason_base.specs.Writable.{IsWritableMsg, IsWritableRole}
-use Rattle.hop_reliable.specs.declared.heard.Heard.{Heard}
-use Rattle.hop_reliable.specs.declared.heard.Heard.TheVariants.{Acked, Unnumbered, Ahead, Repeat, Next}
 use Rattle.hop_reliable.specs.declared.unacked.Unacked.{Unacked}
 use Rattle.hop_reliable.specs.Ages.{is_due, older_age}
-use Rattle.hop_reliable.specs.Hop.{HopState, again, ack_of_id, answers_to, heard_as, heard_body, numbered, older, resent}
+use Rattle.hop_reliable.specs.Hop.{HopState, again, numbered, older, resent}
 use Rattle.mesh_nodes.specs.Sent.{CanBePassedOn}
 use Rattle.rsvp_messages.specs.Messages.{HasRole, HasRoute, SpellsMsg}
 use Rattle.rsvp_messages.specs.Objects.{Object}
 use Rattle.rsvp_messages.specs.Packets.{SpellsBody}
-use Rattle.rsvp_messages.specs.Writable.{IsShort, IsWritable}
+use Rattle.rsvp_messages.specs.Writable.{IsWritable}
 use Rattle.controller.specs.Adjacencies.{CanGoAgain, sendings_to}
 use Rattle.controller.specs.Answers.{BodyCanBePassedOn}
-use Rattle.controller.specs.Frames.{IsFrame, Sending, frames_to, sent_frame}
+use Rattle.controller.specs.Frames.{IsFrame, frames_to, sent_frame}
 use Rattle.controller.specs.declared.frames.Frame.{Frame}
 
 -- Numbered messages

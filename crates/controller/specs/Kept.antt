@@ -6,7 +6,6 @@ use Rattle.mesh_nodes.specs.LocalNodes.{is_neighbour}
 use Rattle.mesh_rules.specs.LocalNodes.{LocalNode, local_node}
 use Rattle.mesh_rules.specs.State.{new_node}
 use Rattle.ason_base.specs.Network.{Network}
-use Rattle.node_core.specs.Nodes.{NodeView}
 use Rattle.controller.specs.declared.adjacencies.Adjacency.{Adjacency}
 use Rattle.controller.specs.declared.frames.Frame.{Frame}
 use Rattle.controller.specs.declared.inputs.CoreInput.{CoreInput}

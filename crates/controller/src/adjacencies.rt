@@ -26,9 +26,7 @@ pub struct Adjacency {
 fn place_of(adjacencies: &[Adjacency], n: NodeId) -> Option<usize>
     ensures { result ≡ position (is_to n.0) adjacencies.now }
 {
-    adjacencies
-        .iter()
-        .position(|adjacency| adjacency.peer == n)
+    adjacencies.iter().position(|adjacency| adjacency.peer == n)
 }
 
 fn adjacency_at(adjacencies: &[Adjacency], n: NodeId) -> Option<&Adjacency>
@@ -68,12 +66,7 @@ fn take_at(adjacencies: &mut [Adjacency], place: usize, heard: Heard, acks: &[Ms
 }
 
 /// The hop from this neighbour takes a packet that is this, with these acknowledgements.
-pub(crate) fn take(
-    adjacencies: &mut [Adjacency],
-    from: NodeId,
-    heard: Heard,
-    acks: &[MsgId],
-)
+pub(crate) fn take(adjacencies: &mut [Adjacency], from: NodeId, heard: Heard, acks: &[MsgId])
     requires reached { IsTrue (reaches adjacencies.old from.0) }
     requires next { heard ≡ Heard.Next → (hop_at adjacencies.old from.0).handed_up + 1 < 2 ^ 32 }
     ensures hops { (d : ℕ) → prepared_at adjacencies.new d ≡ (if d == from.0 then taken_by heard acks.now (prepared_at adjacencies.old d) else prepared_at adjacencies.old d) }
@@ -104,11 +97,7 @@ fn prepare_at(
 }
 
 /// Prepares one message, and hands back its packet.
-fn prepare(
-    alloc: Global,
-    adjacencies: &mut [Adjacency],
-    out: Out,
-) -> Result<Packet, OutOfMemory>
+fn prepare(alloc: Global, adjacencies: &mut [Adjacency], out: Out) -> Result<Packet, OutOfMemory>
     requires reached { IsTrue (reaches adjacencies.old out.to.0) }
     requires below { (next_at adjacencies.old out.to.0).sent < 2 ^ 32 - 1 }
     ensures hops { OnOk result ((d : ℕ) → next_at adjacencies.new d ≡ (if d == out.to.0 then sent_message (next_at adjacencies.old d) out.msg else next_at adjacencies.old d)) }

@@ -119,7 +119,13 @@ fn hand_up(
 {
     match body {
         None => Ok(()),
-        Some(msg) => give(alloc, node, adjacencies, frames, &Input::Message { from, msg }),
+        Some(msg) => give(
+            alloc,
+            node,
+            adjacencies,
+            frames,
+            &Input::Message { from, msg },
+        ),
     }
 }
 

@@ -10,6 +10,7 @@ use std::alloc::Global;
 use std::test::Fail;
 
 const A: NodeId = NodeId(1);
+
 const B: NodeId = NodeId(2);
 
 const DONE: Pending = Pending { hop: 0, flood: 0 };
@@ -130,8 +131,14 @@ fn a_path_that_is_lost_goes_again(rt: HostRuntime) -> Result<(), Fail> {
     assert!(rt; take(alloc, &mut a, B, &answers, 0)?.items().is_empty());
     assert!(rt; take(alloc, &mut b, A, &ack, 0)?.items().is_empty());
     assert_eq!(rt; (a.pending(), b.pending()), (DONE, DONE));
-    assert_eq!(rt; a.rows(alloc)?.legs.items(), [leg(1, A, None, Label::new(1))].as_slice());
-    assert_eq!(rt; b.rows(alloc)?.legs.items(), [leg(1, B, Label::new(1), None)].as_slice());
+    assert_eq!(rt;
+        a.rows(alloc)?.legs.items(),
+        [leg(1, A, None, Label::new(1))].as_slice()
+    );
+    assert_eq!(rt;
+        b.rows(alloc)?.legs.items(),
+        [leg(1, B, Label::new(1), None)].as_slice()
+    );
     Ok(())
 }
 
@@ -155,9 +162,15 @@ fn a_newer_frame_waits_for_the_older(rt: HostRuntime) -> Result<(), Fail> {
         take(alloc, &mut b, A, &ack, 0)?;
     }
     assert_eq!(rt; (a.pending(), b.pending()), (DONE, DONE));
-    let legs = [leg(1, A, None, Label::new(1)), leg(2, A, None, Label::new(2))];
+    let legs = [
+        leg(1, A, None, Label::new(1)),
+        leg(2, A, None, Label::new(2)),
+    ];
     assert_eq!(rt; a.rows(alloc)?.legs.items(), legs.as_slice());
-    let legs = [leg(1, B, Label::new(1), None), leg(2, B, Label::new(2), None)];
+    let legs = [
+        leg(1, B, Label::new(1), None),
+        leg(2, B, Label::new(2), None),
+    ];
     assert_eq!(rt; b.rows(alloc)?.legs.items(), legs.as_slice());
     Ok(())
 }

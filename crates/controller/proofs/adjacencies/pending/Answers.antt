@@ -1,6 +1,5 @@
-use Rattle.std.proofs.Common.{◌≡◌, ◌<◌, ◌+◌, ◌*◌, ◌≤◌, ◌^◌, ◌∙◌, ℕ, ap, sym, length, get_or, arith}
+use Rattle.std.proofs.Common.{◌<◌, ◌+◌, ◌^◌, ◌∙◌, ap, length, arith}
 use Rattle.controller.specs.declared.adjacencies.Adjacency.{Adjacency}
-use Rattle.controller.specs.Kept.{unacknowledged}
 use Rattle.controller.proofs.Loops.{count-more, most-more, total-fits}
 use Rattle.controller.proofs.adjacencies.pending.Goals as goal
 

@@ -1,8 +1,8 @@
-use Rattle.std.proofs.Common.{◌≡◌, ◌+◌, ◌<◌, ◌^◌, ℕ, nat_eq, refl, sym, ap, ◌∙◌, subst}
+use Rattle.std.proofs.Common.{◌≡◌, ◌+◌, ◌<◌, ◌^◌, sym, ap, ◌∙◌, subst}
 use Rattle.std.specs.Prelude.{position, Some, None}
 use Rattle.hop_reliable.specs.Hop.{PreparedHop}
 use Rattle.controller.specs.Adjacencies.{is_to, peer_numbers, taken_by}
-use Rattle.controller.proofs.Changing.{at_changed, changed_is, hop_there, none_there, peers-changed, prepared_changed}
+use Rattle.controller.proofs.Changing.{changed_is, hop_there, none_there, peers-changed, prepared_changed}
 use Rattle.controller.proofs.adjacencies.take.Goals as goal
 
 pub take_at-requires-clause-next : goal.take_at-requires-clause-next

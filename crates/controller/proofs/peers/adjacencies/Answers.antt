@@ -1,11 +1,10 @@
-use Rattle.std.proofs.Common.{◌≡◌, ◌∙◌, map, sym, ap, subst}
+use Rattle.std.proofs.Common.{◌≡◌, ◌∙◌, map, ap}
 use Rattle.std.specs.Prelude.{filter, nat_lt}
 use Rattle.ason_base.specs.declared.network.LinkSpec.{LinkSpec}
 use Rattle.ason_base.specs.InOrder.{in_order}
 use Rattle.ason_base.specs.Network.{other_end, touches}
 use Rattle.mesh_rules.specs.LocalNodes.{local_node}
 use Rattle.controller.specs.Adjacencies.{neighbours, new_adjacency}
-use Rattle.controller.specs.Kept.{IsKept}
 use Rattle.controller.proofs.Keeping.{kept-of}
 use Rattle.controller.proofs.Results.{if_ok}
 use Rattle.controller.proofs.peers.adjacencies.Goals as goal

@@ -1,11 +1,9 @@
-use Rattle.std.proofs.Common.{map, ap, ◌∙◌}
+use Rattle.std.proofs.Common.{ap, ◌∙◌}
 use Rattle.std.proofs.lemmas.List.Filters.{dedup_is}
 use Rattle.std.proofs.lemmas.Map.Keys.{IsStrictlyIncreasing-dedup}
-use Rattle.std.specs.Prelude.{filter, nat_lt}
+use Rattle.std.specs.Prelude.{nat_lt}
 use Rattle.ason_base.proofs.RisingNumbers.{numbers_in_order, sorted_same}
-use Rattle.ason_base.specs.declared.network.LinkSpec.{LinkSpec}
 use Rattle.ason_base.specs.InOrder.{in_order}
-use Rattle.ason_base.specs.Network.{other_end, touches}
 use Rattle.controller.proofs.peers.neighbours.Goals as goal
 
 pub returns : goal.returns

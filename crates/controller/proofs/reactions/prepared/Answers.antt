@@ -1,4 +1,4 @@
-use Rattle.std.proofs.Common.{◌≡◌, ◌∙◌, ap}
+use Rattle.std.proofs.Common.{◌∙◌, ap}
 use Rattle.mesh_rules.specs.Changes.{Answer}
 use Rattle.node_core.specs.Nodes.{answer_to}
 use Rattle.controller.proofs.Preparing.{answer-can_go, answer-framed, answer-prepared}

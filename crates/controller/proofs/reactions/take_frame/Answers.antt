@@ -2,7 +2,6 @@ use Rattle.std.proofs.Common.{◌≡◌, ◌∙◌, ap, subst, Ok}
 use Rattle.std.specs.Prelude.{IfOk}
 use Rattle.ason_base.specs.declared.messages.Packet.{Packet}
 use Rattle.controller.specs.Controllers.{IsMade, meaning, took}
-use Rattle.controller.specs.Frames.{IsFrame}
 use Rattle.controller.proofs.Keeping.{kept-still}
 use Rattle.controller.proofs.Spelling.{none_is_read, read_is}
 use Rattle.controller.proofs.Writing.{passed-on}

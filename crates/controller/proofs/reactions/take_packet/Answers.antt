@@ -1,7 +1,7 @@
-use Rattle.std.proofs.Common.{rules, ◌≡◌, ◌+◌, ◌<◌, ◌^◌, ◌++◌, cond, nat_eq, sym, ap, ◌∙◌, subst}
+use Rattle.std.proofs.Common.{◌+◌, ◌<◌, ◌^◌, ◌++◌, cond, nat_eq, sym, ap, ◌∙◌, subst}
 use Rattle.ason_base.specs.declared.ids.NodeId.{NodeId}
-use Rattle.hop_reliable.specs.Hop.{HopState, heard_as}
-use Rattle.controller.specs.Adjacencies.{hop_at, prepared_at, taken_by}
+use Rattle.hop_reliable.specs.Hop.{HopState}
+use Rattle.controller.specs.Adjacencies.{prepared_at, taken_by}
 use Rattle.controller.specs.Controllers.{acks_to}
 use Rattle.controller.specs.Frames.{frames_to}
 use Rattle.controller.proofs.Resting.{same-hop, same-reach}

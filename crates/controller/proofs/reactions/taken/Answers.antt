@@ -1,4 +1,4 @@
-use Rattle.std.proofs.Common.{◌≡◌, ◌+◌, sym, subst}
+use Rattle.std.proofs.Common.{◌+◌, sym, subst}
 use Rattle.hop_reliable.specs.Hop.{handed_up_of, heard_as}
 use Rattle.mesh_rules.specs.Events.{on_first}
 use Rattle.controller.specs.Adjacencies.{hop_at}

@@ -1,4 +1,4 @@
-use Rattle.std.proofs.Common.{◌≡◌, sym, ap, subst}
+use Rattle.std.proofs.Common.{sym, ap, subst}
 use Rattle.mesh_rules.specs.LocalNodes.{LocalNode}
 use Rattle.node_core.specs.Nodes.{NodeView}
 use Rattle.controller.specs.Kept.{IsKept}

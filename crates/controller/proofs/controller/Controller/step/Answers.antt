@@ -1,5 +1,4 @@
-use Rattle.std.proofs.Common.{◌≡◌, ◌∙◌, ◌<◌, ◌+◌, ℕ, List, sym, ap, subst}
-use Rattle.controller.specs.declared.adjacencies.Adjacency.{Adjacency}
+use Rattle.std.proofs.Common.{◌∙◌, ◌<◌, ◌+◌, sym, ap, subst}
 use Rattle.controller.specs.declared.controller.TheConstants.{MOST_STEPS}
 use Rattle.controller.specs.Controllers.{ControllerState}
 use Rattle.controller.specs.Kept.{IsKept, IsReady}
