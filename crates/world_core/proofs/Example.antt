@@ -14,7 +14,8 @@ use Rattle.ason_base.specs.Labels.{numbers_from}
 use Rattle.ason_base.specs.Network.{Network}
 use Rattle.mesh_rules.specs.declared.events.MeshEvent.TheVariants.{Take, Desk, Post}
 use Rattle.rsvp_messages.specs.Packets.{Spells}
-use Rattle.world_core.specs.Frames.{Content, Message, SpellsNothing}
+use Rattle.controller.specs.Frames.{SpellsNothing}
+use Rattle.world_core.specs.Frames.{Content, Message}
 use Rattle.world_core.specs.Worlds.{World, start}
 use Rattle.world_core.specs.Runs.{IsEnabled, IsRun, after, step}
 use Rattle.world_core.specs.Images.{mesh_events}
@@ -126,7 +127,7 @@ no_channel e = absurd (cc (e))
 
 no_noise : (body : List ℕ) (p : Packet) → Spells body p → IsRefused last (world.Noise b a (46 ∷ body))
 unfolding IsRefused
-no_noise body p spelled e = e.1 (Message p) (body, refl, spelled)
+no_noise body p spelled e = e.1 p (body, refl, spelled)
 
 no_node : IsRefused last (world.Tick c)
 unfolding network events setup a b c link numbers_from last IsRefused
@@ -160,4 +161,4 @@ unfolding network events setup a b link numbers_from last
 noise = (refl, other)
   where
     other : SpellsNothing (7 ∷ [])
-    other (Message p) (body, e, spelled) = absurd (cc (e))
+    other p (body, e, spelled) = absurd (cc (e))

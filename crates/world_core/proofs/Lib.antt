@@ -1,8 +1,12 @@
+pub mod Again
 pub mod Channels
 pub mod Counted
 pub mod Ends
 pub mod EveryRun
 pub mod Example
 pub mod Reached
+pub mod Sent
 pub mod Shown
+pub mod Stepping
+pub mod Untouched
 pub mod Ways

@@ -2,6 +2,8 @@
 
 ghost use Rattle.world_core.specs.Laws.{ChannelsHaveTheFrames, EventsAreCounted, EveryImageHasTheLaws, EveryRunIsShown};
 ghost use Rattle.world_core.specs.Laws.{NoiseIsNotShown, OnlyTheNextIsShown, QuietIsShown};
+ghost use Rattle.world_core.specs.Standing.{ChannelsJoinNeighbours, DeliveriesAreTaken, ItemsAreHandled, NoiseMovesNothing};
+ghost use Rattle.world_core.specs.Standing.{OthersAreUntouched, TicksAreTicked};
 
 use hop_reliable::laws::every_schedule;
 use mesh_laws::laws::every_run;
@@ -23,3 +25,16 @@ pub fn every_world_run()
     every_schedule();
     every_run();
 }
+
+/// A controller that stands for a node of a world stands for it again after the node's next event: a frame is what the
+/// controller takes, noise moves nothing, an item of the desk is handled, a tick is a tick. What it sends is what the
+/// channels from its node get, in the same order. Nodes that an event isn't of, and the channels from them, stay. Who sends
+/// on a channel is a neighbour of who takes from it.
+pub fn controllers_are_the_worlds()
+    ensures deliveries { DeliveriesAreTaken }
+    ensures noise { NoiseMovesNothing }
+    ensures items { ItemsAreHandled }
+    ensures ticks { TicksAreTicked }
+    ensures others { OthersAreUntouched }
+    ensures neighbours { ChannelsJoinNeighbours }
+{}
