@@ -1,0 +1,4 @@
+pub mod Example
+pub mod Growing
+pub mod Keeping
+pub mod Runs

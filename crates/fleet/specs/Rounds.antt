@@ -1,0 +1,38 @@
+-- Rounds of the nodes, in order of number, and how a run settles.
+use Rattle.std.specs.Prelude.{ℕ, zero, suc, ◌==◌, ◌&&◌, Bool, true, length, fold, sum_by, if◌then◌else◌}
+use Rattle.std.specs.List.{list_all}
+use Rattle.ason_base.specs.declared.ids.NodeId.{NodeId}
+use Rattle.ason_base.specs.Network.{Network}
+use Rattle.world_core.specs.Worlds.{World}
+use Rattle.station.specs.Histories.{History, world_after}
+use Rattle.station.specs.Turns.{neighbours, turn}
+
+-- a round gives each node one turn with a tick, in order of number
+abbrev pub round : Network → History → History
+round t h = fold (λ g n. turn t true n.id g) h t.nodes
+
+-- What waits
+
+abbrev pub items_waiting : Network → World → ℕ
+items_waiting t w = sum_by (λ n. length (w.desks n.id.0)) t.nodes
+
+-- the messages that the node has sent and its neighbours haven't acknowledged
+abbrev pub unacked_at : Network → World → NodeId → ℕ
+unacked_at t w n = sum_by (λ u. length (w.ends n.0 u.0).hop.unacked) (neighbours t n)
+
+abbrev pub unacked_waiting : Network → World → ℕ
+unacked_waiting t w = sum_by (λ n. unacked_at t w n.id) t.nodes
+
+-- Quiet
+
+-- the node's desk is empty, and it has no unacknowledged message
+abbrev pub is_quiet_at : Network → World → NodeId → Bool
+is_quiet_at t w n = length (w.desks n.0) == 0 && unacked_at t w n == 0
+
+abbrev pub is_quiet : Network → World → Bool
+is_quiet t w = list_all (λ n. is_quiet_at t w n.id) t.nodes
+
+-- rounds until it is quiet or so many were made
+unfoldable pub settled : Network → ℕ → History → History
+settled t zero h = h
+settled t (suc r) h = if is_quiet t (world_after t h) then h else settled t r (round t h)

@@ -1,0 +1,10 @@
+pub mod Doing
+pub mod Linking
+pub mod Making
+pub mod NewStations
+pub mod Reacting
+pub mod Results
+pub mod Sending
+pub mod Stopping
+pub mod Taking
+pub mod TurnAnswers

@@ -1,0 +1,72 @@
+-- A station stands for its node in a run.
+use Rattle.std.specs.Prelude.{◌≡◌, ℕ, ◌==◌, false, List, ◌++◌, length, map, Some, None}
+use Rattle.std.specs.List.{AllByRecursion}
+use Rattle.ason_base.specs.declared.ids.NodeId.{NodeId}
+use Rattle.ason_base.specs.declared.commands.DeskItem.{DeskItem}
+use Rattle.ason_base.specs.Network.{Network}
+use Rattle.mesh_rules.specs.LocalNodes.{local_node}
+use Rattle.controller.specs.Frames.{IsFrame}
+use Rattle.world_core.specs.Frames.{Content, Message}
+use Rattle.world_core.specs.Standing.{StandsAt}
+use Rattle.world_core.specs.Worlds.{World, numbered_at}
+use Rattle.controller.specs.Adjacencies.{neighbours as hop_neighbours, peer_numbers}
+use Rattle.controller.specs.Controllers.{ControllerState, meaning}
+use Rattle.station.specs.declared.parcels.Parcel.{Parcel}
+use Rattle.station.specs.Histories.{History, count_of, world_after}
+use Rattle.station.specs.Links.{LinkState, peers_of}
+use Rattle.station.specs.Turns.{neighbours}
+
+pub record StationState : Type 0 where
+  pub controller : ControllerState
+  pub desk : List DeskItem
+  pub links : List LinkState
+
+-- Parcels
+
+abbrev pub numbers_of : List Parcel → List ℕ
+numbers_of parcels = map (λ p. p.number) parcels
+
+-- the bytes spell what the frame bears
+abbrev pub Bears : List ℕ → Content → Type 0
+Bears bytes (Message packet) = IsFrame bytes packet
+
+-- the parcel is the frame of its number among all that was sent on the channel: its bytes spell what that frame bears
+pub record IsParcelOf (contents : List Content) (p : Parcel) : Type 0 where
+  pub content : Content
+  pub there : numbered_at contents p.number ≡ Some content
+  pub spells : Bears p.frame content
+
+abbrev pub AreParcelsOf : List Content → List Parcel → Type 0
+AreParcelsOf contents parcels = AllByRecursion (IsParcelOf contents) parcels
+
+-- Links
+
+-- The link of node n in a world whose rings are these. At the neighbours, the other ends of the rings from n have the frames of
+-- these numbers.
+pub record LinkStands (w : World) (rings : ℕ → ℕ → List ℕ) (n : NodeId) (there : ℕ → List ℕ)
+    (l : LinkState) : Type 0 where
+  pub other : (l.peer.0 == n.0) ≡ false
+  pub sent : l.sent ≡ count_of w n.0 l.peer.0
+  pub standing : l.standing ≡ length (rings n.0 l.peer.0)
+  pub goes : there l.peer.0 ++ numbers_of l.backlog ≡ rings n.0 l.peer.0
+  pub going : AreParcelsOf (w.channels n.0 l.peer.0) l.backlog
+  pub comes : numbers_of l.early ≡ rings l.peer.0 n.0
+  pub coming : AreParcelsOf (w.channels l.peer.0 n.0) l.early
+
+-- The node
+
+-- the controller and the desk are what the world has of the node n
+pub record NodeStands (t : Network) (w : World) (n : NodeId) (c : ControllerState)
+    (items : List DeskItem) : Type 0 where
+  pub place : c.node.place ≡ local_node t n
+  pub stands : StandsAt w n.0 (meaning c.node c.adjacencies)
+  pub hops : peer_numbers c.adjacencies ≡ hop_neighbours (local_node t n)
+  pub desk : items ≡ w.desks n.0
+  pub made : c.steps ≡ w.made n.0
+
+-- The station stands for node n in a run that isn't stopped. It has a link to each neighbour, in order of number.
+pub record Stands (t : Network) (h : History) (n : NodeId) (there : ℕ → List ℕ) (s : StationState) : Type 0 where
+  pub node : NodeStands t (world_after t h) n s.controller s.desk
+  pub peers : peers_of s.links ≡ neighbours t n
+  pub links : AllByRecursion (LinkStands (world_after t h) h.waiting n there) s.links
+  pub unstopped : h.stopped ≡ None
