@@ -4,7 +4,7 @@ use Rattle.ason_base.specs.Walks.{IsWalk, NoLink, NoNode}
 use Rattle.ason_base.specs.declared.ids.NodeId.{NodeId}
 use Rattle.ason_base.specs.declared.network.TeRow.{TeRow}
 use Rattle.ason_base.specs.declared.steps.Step.{Step}
-use Rattle.route_least.specs.declared.Found.{Found}
+use Rattle.route_least.specs.declared.answers.Found.{Found}
 use Rattle.route_pair.specs.Pairs.{HasNoBackup, IsBackupFound, IsPrimary}
 use Rattle.route_pairs.specs.declared.costs.Costs.{Costs}
 use Rattle.route_pairs.specs.declared.costs.Costs.TheVariants.{NoPrimary, NoBackup, Both}

@@ -2,11 +2,13 @@
 
 ghost use Rattle.std.specs.Prelude.{IfOk};
 ghost use Rattle.ason_base.specs.Walks.{HaveDistinctLinks, HaveFewEnds, HaveMetrics};
+ghost use Rattle.route_least.specs.Network.{IsNetworkOf};
 ghost use Rattle.route_pairs.specs.Costs.{AreCosts};
 
 use ason_base::ids::{NodeId, OutOfMemory};
 use ason_base::network::TeRow;
-use route_pair::{PairFault, pair};
+use route_least::RouteNetwork;
+use route_pair::{PairFault, pair_in};
 use std::alloc::Global;
 use std::fmt;
 
@@ -28,7 +30,7 @@ impl fmt::Display for Costs {
     }
 }
 
-/// The costs of the route pair of two nodes.
+/// The costs of the route pair of two nodes, for which a network is prepared.
 pub fn costs_of(
     alloc: Global,
     rows: &[TeRow],
@@ -40,7 +42,22 @@ pub fn costs_of(
     requires links { HaveDistinctLinks rows.now }
     ensures { IfOk result (AreCosts rows.now from to) }
 {
-    match pair(alloc, rows, from, to) {
+    let network = RouteNetwork::new(alloc, rows)?;
+    costs_in(alloc, &network, rows, from, to)
+}
+
+/// The same in a network that was prepared from the rows.
+pub fn costs_in(
+    alloc: Global,
+    network: &RouteNetwork,
+    rows: &[TeRow],
+    from: NodeId,
+    to: NodeId,
+) -> Result<Costs, OutOfMemory>
+    requires { IsNetworkOf rows.now network.now }
+    ensures { IfOk result (AreCosts rows.now from to) }
+{
+    match pair_in(alloc, network, rows, from, to) {
         Ok(pair) => Ok(Costs::Both {
             primary: pair.primary.cost,
             backup: pair.backup.cost,
