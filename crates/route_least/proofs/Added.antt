@@ -55,17 +55,33 @@ module _ (old one two three new : List Place) (row : TeRow) (index low high : �
     sound = λ i a h. elim (last.only i a h) [
       | inl before ↦ elim (third.only i a before) [
         | inl older ↦ inl (first.same i a (second.same i a older))
-        | inr e ↦ inr (row.low, row.high, inl (refl, refl),
-            subst (λ k. IsArc new row index k row.low row.high a) (sym e.0) (subst (λ x. IsArc new row index low row.low row.high x) (sym e.1) goes_up))
+        | inr e ↦ inr (
+          row.low,
+          row.high,
+          inl (refl, refl),
+          subst (λ k. IsArc new row index k row.low row.high a) (sym e.0) (subst (λ x. IsArc new row index low row.low row.high x) (sym e.1) goes_up),
+        )
       ]
-      | inr e ↦ inr (row.high, row.low, inr (refl, refl),
-          subst (λ k. IsArc new row index k row.high row.low a) (sym e.0) (subst (λ x. IsArc new row index high row.high row.low x) (sym e.1) goes_down))
+      | inr e ↦ inr (
+        row.high,
+        row.low,
+        inr (refl, refl),
+        subst (λ k. IsArc new row index k row.high row.low a) (sym e.0) (subst (λ x. IsArc new row index high row.high row.low x) (sym e.1) goes_down),
+      )
     ];
     complete = λ x y joins. elim joins [
-      | inl e ↦ record { place = low; arc = up; there = last.kept low up third.gained;
-          is = subst (λ v. IsArc new row index low v y up) e.0 (subst (λ w. IsArc new row index low row.low w up) e.1 goes_up) }
-      | inr e ↦ record { place = high; arc = down; there = last.gained;
-          is = subst (λ v. IsArc new row index high v y down) e.0 (subst (λ w. IsArc new row index high row.high w down) e.1 goes_down) }
+      | inl e ↦ record {
+        place = low;
+        arc = up;
+        there = last.kept low up third.gained;
+        is = subst (λ v. IsArc new row index low v y up) e.0 (subst (λ w. IsArc new row index low row.low w up) e.1 goes_up);
+      }
+      | inr e ↦ record {
+        place = high;
+        arc = down;
+        there = last.gained;
+        is = subst (λ v. IsArc new row index high v y down) e.0 (subst (λ w. IsArc new row index high row.high w down) e.1 goes_down);
+      }
     ];
   }
 
@@ -117,14 +133,14 @@ places_more rows k d old new within are has =
               is = kept_arc old new row of.row k arc.row p of.tail of.head arc has of.is;
             })
         | inr here ↦ record {
-            row = row;
-            tail = here.0;
-            head = here.1;
-            first = (let e : arc.row ≡ k = here.3.row in omega arith);
-            known = subst (λ i. slice_get rows i ≡ Some row) (sym here.3.row) stands;
-            joins = here.2;
-            is = subst (λ i. IsArc new row i p here.0 here.1 arc) (sym here.3.row) here.3;
-          }
+          row = row;
+          tail = here.0;
+          head = here.1;
+          first = (let e : arc.row ≡ k = here.3.row in omega arith);
+          known = subst (λ i. slice_get rows i ≡ Some row) (sym here.3.row) stands;
+          joins = here.2;
+          is = subst (λ i. IsArc new row i p here.0 here.1 arc) (sym here.3.row) here.3;
+        }
       ];
       complete = λ index other a b below at joins. elim (before_or_last index k below) [
         | inl before ↦

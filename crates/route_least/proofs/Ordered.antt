@@ -72,9 +72,9 @@ in_order places entries order set once are from listed =
     in
     let sound : (e : NodePlace) → Contains order e → HasNode places e.place e.node =
     λ e h. (let known = there e h in
-        let at : slice_get entries known.0 ≡ Some e = slice_get-get_or entries known.0 e known.1 ∙ ap Some known.2 in
-        let is = are.are known.0 e at in
-        subst (λ k. HasNode places k e.node) (sym is.0) is.1)
+    let at : slice_get entries known.0 ≡ Some e = slice_get-get_or entries known.0 e known.1 ∙ ap Some known.2 in
+    let is = are.are known.0 e at in
+    subst (λ k. HasNode places k e.node) (sym is.0) is.1)
     in
     record {
       sound = sound;

@@ -121,21 +121,29 @@ gained_at places p before after arc stands node arcs =
     let here : slice_get (set places p after) p ≡ Some after = get_set places p after (slice_get_within places p before stands) in
     record {
       nodes = λ i m h. elim (cases_eq i p) [
-        | inl e ↦ (after, subst (λ k. slice_get (set places p after) k ≡ Some after) (sym e) here,
-            node ∙ ap (λ q. q.node) (some_same (sym stands ∙ subst (λ k. slice_get places k ≡ Some h.0) e h.1)) ∙ h.2)
+        | inl e ↦ (
+          after,
+          subst (λ k. slice_get (set places p after) k ≡ Some after) (sym e) here,
+          node ∙ ap (λ q. q.node) (some_same (sym stands ∙ subst (λ k. slice_get places k ≡ Some h.0) e h.1)) ∙ h.2,
+        )
         | inr other ↦ (h.0, get_other places p i after other ∙ h.1, h.2)
       ];
       same = λ i m h. elim (cases_eq i p) [
-        | inl e ↦ (before, subst (λ k. slice_get places k ≡ Some before) (sym e) stands,
-            sym node ∙ ap (λ q. q.node) (some_same (sym here ∙ subst (λ k. slice_get (set places p after) k ≡ Some h.0) e h.1)) ∙ h.2)
+        | inl e ↦ (
+          before,
+          subst (λ k. slice_get places k ≡ Some before) (sym e) stands,
+          sym node ∙ ap (λ q. q.node) (some_same (sym here ∙ subst (λ k. slice_get (set places p after) k ≡ Some h.0) e h.1)) ∙ h.2,
+        )
         | inr other ↦ (h.0, sym (get_other places p i after other) ∙ h.1, h.2)
       ];
       gained = (after, here, subst (λ xs. Contains xs arc) (sym arcs) (Contains-push before.arcs.items arc));
       kept = λ i a h. elim (cases_eq i p) [
         | inl e ↦
-            (let is : before ≡ h.0 = some_same (sym stands ∙ subst (λ k. slice_get places k ≡ Some h.0) e h.1) in
-            (after, subst (λ k. slice_get (set places p after) k ≡ Some after) (sym e) here,
-            subst (λ xs. Contains xs a) (sym arcs) (Contains-append_left before.arcs.items (arc ∷ []) a (subst (λ q. Contains q.arcs.items a) (sym is) h.2))))
+            (let is : before ≡ h.0 = some_same (sym stands ∙ subst (λ k. slice_get places k ≡ Some h.0) e h.1) in (
+              after,
+              subst (λ k. slice_get (set places p after) k ≡ Some after) (sym e) here,
+              subst (λ xs. Contains xs a) (sym arcs) (Contains-append_left before.arcs.items (arc ∷ []) a (subst (λ q. Contains q.arcs.items a) (sym is) h.2)),
+            ))
         | inr other ↦ (h.0, get_other places p i after other ∙ h.1, h.2)
       ];
       only = λ i a h. elim (cases_eq i p) [

@@ -37,9 +37,9 @@ pub few : (rows : List TeRow) (places : List Place) → HaveFewEnds rows → Are
 few rows places ends are =
     let le : length places ≤ length ends.0 = few_places places ends.0 are.once
     (λ p n there.
-        (let end = are.ends p n there in
-        let both = All-contains (λ row. Contains ends.0 row.low × Contains ends.0 row.high) rows end.0 ends.2 end.1 in
-        elim end.2 [ inl low ↦ subst (Contains ends.0) low both.0 | inr high ↦ subst (Contains ends.0) high both.1 ]))
+    (let end = are.ends p n there in
+    let both = All-contains (λ row. Contains ends.0 row.low × Contains ends.0 row.high) rows end.0 ends.2 end.1 in
+    elim end.2 [ inl low ↦ subst (Contains ends.0) low both.0 | inr high ↦ subst (Contains ends.0) high both.1 ]))
     in
     let most : length ends.0 ≤ 64 = ends.1 in
     omega arith
@@ -86,10 +86,13 @@ module _ (rows : List TeRow) (network : RouteNetwork) (closed : List Bool) (bann
         let listed = entries network.places.items network.order.items f.costs found.potential is.order f.are.listed in
         let metric : (p : ℕ) (arc : Arc) → Crosses network.places.items closed p arc → 1 ≤ arc.metric = λ p arc cross. ((sound_network rows network is).within p arc cross.0).positive in
         let back : (p : ℕ) (arc : Arc) → Crosses network.places.items closed p arc → IsTight f.costs p arc → goes p arc =
-        λ p arc cross tight. (cross.0, record {
-          row = cross.1;
-          node = entered network.places.items closed banned start arc.head (tight.cost + arc.metric) (table.attained arc.head (tight.cost + arc.metric) tight.head) (let m = metric p arc cross in omega arith);
-        })
+        λ p arc cross tight. (
+          cross.0,
+          record {
+            row = cross.1;
+            node = entered network.places.items closed banned start arc.head (tight.cost + arc.metric) (table.attained arc.head (tight.cost + arc.metric) tight.head) (let m = metric p arc cross in omega arith);
+          },
+        )
         in
         let least =
         trace_least rows (IsClosed rows closed) (Contains banned) network.places.items goes are from start starts f.costs table is.links is.metrics to f.end found.cost f.there f.has

@@ -125,13 +125,16 @@ module _ (rows : List TeRow) (network : RouteNetwork) (is : IsNetworkOf rows net
           place = has.place;
           arc = has.arc;
           is = subst (λ k. IsArc network.places.items row k has.place a b has.arc) (sym has.is.row) has.is;
-          goes = (has.there, record {
-            row = elim (on_or_off (is_marked closed has.arc.row)) [
-              | inl on ↦ absurd (goes.link_allowed (known.0, row, known_at rows row known, refl, subst (λ k. is_marked closed k ≡ true) has.is.row on))
-              | inr off ↦ off
-            ];
-            node = λ n there. subst (λ m. ¬ Contains banned m) (one_node network.places.items has.arc.head b n has.is.head there) goes.node_allowed;
-          });
+          goes = (
+            has.there,
+            record {
+              row = elim (on_or_off (is_marked closed has.arc.row)) [
+                | inl on ↦ absurd (goes.link_allowed (known.0, row, known_at rows row known, refl, subst (λ k. is_marked closed k ≡ true) has.is.row on))
+                | inr off ↦ off
+              ];
+              node = λ n there. subst (λ m. ¬ Contains banned m) (one_node network.places.items has.arc.head b n has.is.head there) goes.node_allowed;
+            },
+          );
         }
 
     pub ways : AreWays rows (IsClosed rows closed) (Contains banned) network.places.items (Goes network.places.items closed banned)
