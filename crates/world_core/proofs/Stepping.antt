@@ -106,8 +106,10 @@ acks_elsewhere e u Ahead p h = refl
 acknowledged : (w : World) (d u : NodeId) (p : Packet) (e : ℕ) →
     (taken w d u p).channels d.0 e ≡ with_packets (w.channels d.0 e) (packets_to e (acks_to u (heard_at w d u p) p))
 acknowledged w d u p e =
-    ap (λ b. cond (b && nat_eq e u.0) (with_packets (w.channels d.0 e) (answers_to (heard_at w d (record { 0 =
-        e }) p) p)) (w.channels d.0 e)) (self_test d.0)
+    ap (λ b. cond (b && nat_eq e u.0) (with_packets (w.channels d.0 e) (answers_to (heard_at w d (record {
+      0 =
+          e;
+    }) p) p)) (w.channels d.0 e)) (self_test d.0)
     ∙ by_test (nat_eq e u.0) refl
   where
     by_test : (b : Bool) → nat_eq e u.0 ≡ b →

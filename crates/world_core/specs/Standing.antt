@@ -54,8 +54,11 @@ ItemsAreHandled =
 abbrev pub TicksAreTicked : Type 0
 TicksAreTicked =
     (t : Network) (w : World) (n : NodeId) (s : NodeState) (adjacencies : List Adjacency) →
-    StandsAt w n.0 (record { state =
-        s; hops = hop_at adjacencies }) → peer_numbers adjacencies ≡ neighbours (local_node t n) →
+    StandsAt w n.0 (record {
+      state =
+          s;
+      hops = hop_at adjacencies;
+    }) → peer_numbers adjacencies ≡ neighbours (local_node t n) →
     IsStepOf w (step t w (Tick n)) n.0 (after_tick (local_node t n) s adjacencies)
 
 -- what the node m keeps, its ends and the channels from it stay
