@@ -37,6 +37,7 @@ use Rattle.node_core.specs.Nodes.{NodeView}
 use Rattle.controller.specs.Frames.{Sending, frames_to}
 use Rattle.controller.specs.Kept as kept
 use Rattle.controller.specs.Kept.{IsKept, IsReady}
+use Rattle.controller.proofs.Counting.{all-wait, unacknowledged-few}
 use Rattle.controller.proofs.Reaching.{each-to_neighbour, hop-new, neighbour-reached, peers-near, peers-new}
 
 pub is-ready : (p : LocalNode) (xs : List Adjacency) (steps : ℕ) → IsKept p xs steps → steps < 50000 → IsReady p xs
@@ -45,8 +46,16 @@ is-ready p xs steps k few = record {
   again = each-to_neighbour CanGoAgain p xs k.peers tt k.again;
   left = λ d. let sent : (hop_at xs d).sent ≤ 65536 * steps = k.few d in omega arith;
   near = peers-near p xs k.peers;
+  waiting = unacknowledged-few p xs k.peers k.narrow
+      (each-to_neighbour (λ (h : HopState). length h.unacked ≤ 65536 * 50000) p xs k.peers (omega arith) waits);
   rest = k.rest;
 }
+  where
+    waits : (d : ℕ) → length (hop_at xs d).unacked ≤ 65536 * 50000
+    waits d =
+        let sent : (hop_at xs d).sent ≤ 65536 * steps = k.few d in
+        let wait : length (hop_at xs d).unacked ≤ (hop_at xs d).sent = k.waiting d in
+        omega arith
 
 -- Hops that sent
 
@@ -74,10 +83,11 @@ all-sent [] hops most few d = let f = few d in omega arith
 all-sent (o ∷ outs) hops most few d = let f = all-sent outs (sent_one hops o) (most + 1) (one-sent hops o most few) d in omega arith
 
 pub kept-next : (p : LocalNode) (before after : List Adjacency) (steps : ℕ) (hops : ℕ → HopState) (a : Answer) → IsKept p before steps →
-    ((d : ℕ) → (hops d).sent ≡ (hop_at before d).sent) → ((d : ℕ) → CanGoAgain (hops d)) → CanBeSent p a →
+    ((d : ℕ) → (hops d).sent ≡ (hop_at before d).sent) → ((d : ℕ) → CanGoAgain (hops d)) →
+    ((d : ℕ) → length (hops d).unacked ≤ (hops d).sent) → CanBeSent p a →
     ((d : ℕ) → hop_at after d ≡ sent_on hops a.sent d) → peer_numbers after ≡ peer_numbers before → map rested after ≡ after →
     IsKept p after (steps + 1)
-kept-next p before after steps hops a k same again can are peers rest = record {
+kept-next p before after steps hops a k same again wait can are peers rest = record {
   peers = peers ∙ k.peers;
   narrow = k.narrow;
   again = λ d. subst CanGoAgain (sym (are d)) (all-again a.sent hops can.written again d);
@@ -85,6 +95,7 @@ kept-next p before after steps hops a k same again can are peers rest = record {
       let sent : (sent_on hops a.sent d).sent ≤ 65536 * steps + length a.sent = all-sent a.sent hops (65536 * steps) (λ e. subst (λ n. n ≤ 65536 * steps) (sym (same e)) (k.few e)) d in
       let few : length a.sent ≤ 65536 = can.few in
       subst (λ (h : HopState). h.sent ≤ 65536 * (steps + 1)) (sym (are d)) (omega arith);
+  waiting = λ d. subst (λ (h : HopState). length h.unacked ≤ h.sent) (sym (are d)) (all-wait a.sent hops wait d);
   rest = rest;
 }
 
@@ -192,11 +203,13 @@ made-to_neighbours n m before after hops a first frames near can made =
 
 -- the next step of a made one
 pub made-kept : (n m : NodeView) (before after : List Adjacency) (steps : ℕ) (hops : ℕ → HopState) (a : Answer) (first : List Sending) (frames : List Frame) →
-    IsKept n.place before steps → ((d : ℕ) → (hops d).sent ≡ (hop_at before d).sent) → ((d : ℕ) → CanGoAgain (hops d)) → CanBeSent n.place a →
+    IsKept n.place before steps → ((d : ℕ) → (hops d).sent ≡ (hop_at before d).sent) → ((d : ℕ) → CanGoAgain (hops d)) →
+    ((d : ℕ) → length (hops d).unacked ≤ (hops d).sent) → CanBeSent n.place a →
     IsMade n m before after (carried hops n.state a first) frames → IsKept m.place after (steps + 1)
-made-kept n m before after steps hops a first frames k same again can made =
+made-kept n m before after steps hops a first frames k same again wait can made =
     subst (λ p. IsKept p after (steps + 1)) (sym made.becomes.place)
-    (kept-next n.place before after steps hops a k same again can made.becomes.hops made.becomes.peers made.becomes.rest)
+    (kept-next n.place before after steps hops a k same again wait can made.becomes.hops made.becomes.peers
+    made.becomes.rest)
 
 -- after a step that changes nothing
 pub kept-still : (p : LocalNode) (xs : List Adjacency) (steps : ℕ) → IsKept p xs steps → IsKept p xs (steps + 1)
@@ -205,6 +218,7 @@ kept-still p xs steps k = record {
   narrow = k.narrow;
   again = k.again;
   few = λ d. let sent : (hop_at xs d).sent ≤ 65536 * steps = k.few d in omega arith;
+  waiting = k.waiting;
   rest = k.rest;
 }
 
@@ -258,6 +272,7 @@ new-kept t n valid = record {
       (at-most (length t.links) (both (nat_le 1 (length t.nodes)) (nat_le (length t.nodes) 64) (nat_le (length t.links) 256) valid.count));
   again = λ d. subst CanGoAgain (sym (hop-new (neighbours p) d)) tt;
   few = λ d. subst (λ (h : HopState). h.sent ≤ 65536 * 0) (sym (hop-new (neighbours p) d)) (omega arith);
+  waiting = λ d. subst (λ (h : HopState). length h.unacked ≤ h.sent) (sym (hop-new (neighbours p) d)) (omega arith);
   rest = rests (neighbours p);
 }
   where

@@ -7,7 +7,9 @@ pub mod Resting
 pub mod Loops
 pub mod Writing
 pub mod Reaching
+pub mod Counting
 pub mod Keeping
 pub mod Taking
 pub mod Preparing
+pub mod Spelled
 pub mod Reacting

@@ -16,7 +16,7 @@ use Rattle.controller.specs.Kept.{IsReady}
 use Rattle.controller.proofs.Later.{all-go}
 use Rattle.controller.proofs.Resting.{next-is}
 
-next-hops : (xs : List Adjacency) → map rested xs ≡ xs → next_at xs ≡ hop_at xs
+pub next-hops : (xs : List Adjacency) → map rested xs ≡ xs → next_at xs ≡ hop_at xs
 next-hops xs rest = λ i d. next-is xs rest d i
 
 pub answer-can_go : (p : LocalNode) (xs : List Adjacency) (sent outs : List Out) → IsReady p xs → AllToNeighbours p sent → AllWritable sent →

@@ -21,9 +21,10 @@ use Rattle.controller.specs.declared.frames.Frame.{Frame}
 use Rattle.controller.specs.Adjacencies.{ArePrepared, again_to, aged, committed, hop_at, next_at, packets_on, peer_numbers, prepared_at, rested, sent_on, taken_by}
 use Rattle.controller.specs.Answers.{body_answer}
 use Rattle.controller.specs.Controllers.{Becomes, IsMade, acks_to, after_tick, handed_body, handled, heard_hops, meaning, took}
-use Rattle.controller.specs.Frames.{Sending, frames_to, sent_frame}
+use Rattle.controller.specs.Frames.{AllSpelled, Sending, frames_to, sent_frame}
 use Rattle.controller.proofs.Keeping.{heard-sent}
 use Rattle.controller.proofs.Later.{packets-later, sent-later}
+use Rattle.controller.proofs.Spelled.{both-spelled}
 use Rattle.controller.proofs.Resting.{committed-rests, hop-committed, next-aged, peers-aged, peers-committed, same-hop, same-peers}
 
 frames-append : (me : NodeId) (xs ys : List Sending) → frames_to me (xs ++ ys) ≡ frames_to me xs ++ frames_to me ys
@@ -65,8 +66,9 @@ ticked-peers before mid late after rest ages is =
 pub handled-made : (n m : NodeView) (before mid after : List Adjacency) (i j : DeskItem) (none frames : List Frame) → i ≡ j → m ≡ stepped n (input.Desk i) →
     ArePrepared before (on_item n.place n.state i).sent mid → map rested mid ≡ map rested before → after ≡ map committed mid → none ≡ [] →
     frames ≡ none ++ frames_to n.place.id (packets_on (hop_at before) (on_item n.place n.state i).sent) →
+    AllSpelled n.place.id (packets_on (hop_at before) (on_item n.place n.state i).sent) →
     IsMade n m before after (handled n.place (meaning n before) j) frames
-handled-made n m before mid after i j none frames same node are rest is start framed = subst (λ k. IsMade n m before after (handled n.place (meaning n before) k) frames) same (record {
+handled-made n m before mid after i j none frames same node are rest is start framed spelled = subst (λ k. IsMade n m before after (handled n.place (meaning n before) k) frames) same (record {
   becomes = record {
     place = ap (λ (k : NodeView). k.place) node;
     state = ap (λ (k : NodeView). k.state) node;
@@ -75,6 +77,7 @@ handled-made n m before mid after i j none frames same node are rest is start fr
     rest = committed-rest mid after is;
   };
   frames = framed ∙ ap (λ fs. fs ++ frames_to n.place.id (packets_on (hop_at before) (on_item n.place n.state i).sent)) start;
+  spelled = spelled;
 })
 
 -- a tick was made
@@ -82,8 +85,10 @@ pub ticked-made : (n m : NodeView) (me : NodeId) (before mid late after : List A
     ArePrepared before (on_tick n.place n.state).sent mid → map rested mid ≡ map rested before → late ≡ map aged mid → after ≡ map committed late →
     none ≡ [] → me ≡ n.place.id → due ≡ none ++ frames_to me (flat_map again_to before) →
     frames ≡ due ++ frames_to n.place.id (packets_on (hop_at before) (on_tick n.place n.state).sent) →
+    AllSpelled me (flat_map again_to before) →
+    AllSpelled n.place.id (packets_on (hop_at before) (on_tick n.place n.state).sent) →
     IsMade n m before after (after_tick n.place n.state before) frames
-ticked-made n m me before mid late after none due frames node are rest ages is start same again framed = record {
+ticked-made n m me before mid late after none due frames node are rest ages is start same again framed resent spelled = record {
   becomes = record {
     place = ap (λ (k : NodeView). k.place) node;
     state = ap (λ (k : NodeView). k.state) node;
@@ -97,6 +102,10 @@ ticked-made n m me before mid late after none due frames node are rest ages is s
       ∙ ap (λ ps. frames_to n.place.id (flat_map again_to before) ++ frames_to n.place.id ps)
       (packets-later sent (hop_at before) (λ d. ticked (hop_at before d)) (λ d. refl))
       ∙ sym (frames-append n.place.id (flat_map again_to before) (packets_on (λ d. ticked (hop_at before d)) sent));
+  spelled = both-spelled n.place.id (flat_map again_to before) (packets_on (λ d. ticked (hop_at before d)) sent)
+      (subst (λ k. AllSpelled k (flat_map again_to before)) same resent)
+      (subst (AllSpelled n.place.id) (packets-later sent (hop_at before) (λ d. ticked (hop_at before d)) (λ d. refl))
+      spelled);
 }
   where
     sent : List Out
@@ -166,3 +175,16 @@ module _ (n m : NodeView) (before mid late after : List Adjacency) (u : NodeId) 
       (packets-later outs (hop_at before) (heard_hops (hop_at before) u q) (λ d. heard-sent (hop_at before) u q d))
       ∙ ap (λ w. first ++ frames_to n.place.id (acks_to u w q ++ packets_on (heard_hops (hop_at before) u q) outs)) heard
       ∙ ap (λ b. first ++ frames_to n.place.id (acks_to u (heard_as (hop_at before u.0) q) q ++ packets_on (heard_hops (hop_at before) u q) b.sent)) answer-is
+
+  pub took-spelled : AllSpelled n.place.id (acks_to u v q) → AllSpelled n.place.id (packets_on (hop_at before) outs) →
+      AllSpelled n.place.id (took n.place (meaning n before) u q).sendings
+  took-spelled acks packets =
+      subst (λ b. AllSpelled n.place.id (acks_to u (heard_as (hop_at before u.0) q) q ++ packets_on after-heard b.sent))
+      answer-is
+      (subst (λ w. AllSpelled n.place.id (acks_to u w q ++ packets_on after-heard outs)) heard
+      (both-spelled n.place.id (acks_to u v q) (packets_on after-heard outs) acks
+      (subst (AllSpelled n.place.id)
+      (packets-later outs (hop_at before) after-heard (λ d. heard-sent (hop_at before) u q d)) packets)))
+    where
+      after-heard : ℕ → HopState
+      after-heard = heard_hops (hop_at before) u q

@@ -20,7 +20,7 @@ use Rattle.controller.specs.declared.frames.Frame.{Frame}
 use Rattle.controller.specs.declared.inputs.CoreInput.{CoreInput}
 use Rattle.controller.specs.declared.inputs.CoreInput.TheVariants as input
 use Rattle.controller.specs.Adjacencies.{again_to, hop_at, packets_on, peer_numbers, rested, sent_on}
-use Rattle.controller.specs.Frames.{IsFrame, Sending, SpellsNothing, frames_to}
+use Rattle.controller.specs.Frames.{AllSpelled, IsFrame, Sending, SpellsNothing, frames_to}
 
 -- a node, its hops in order of neighbour, and how many steps it made
 pub record ControllerState : Type 0 where
@@ -96,10 +96,11 @@ pub record Becomes (n m : NodeView) (before after : List Adjacency) (c : Meaning
   pub peers : peer_numbers after ≡ peer_numbers before
   pub rest : map rested after ≡ after
 
--- and just these frames go out
+-- and just these frames go out, each of which spells the packet of its sending
 pub record IsMade (n m : NodeView) (before after : List Adjacency) (s : Stepped) (out : List Frame) : Type 0 where
   pub becomes : Becomes n m before after s.after
   pub frames : out ≡ frames_to n.place.id s.sendings
+  pub spelled : AllSpelled n.place.id s.sendings
 
 -- A frame: for each packet that its bytes spell, and for bytes that spell none. An item of the desk. A tick.
 abbrev pub IsReaction : NodeView → NodeView → List Adjacency → List Adjacency → CoreInput → List Frame → Type 0

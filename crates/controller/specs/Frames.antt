@@ -1,5 +1,6 @@
 -- Frames: one byte, which tells what follows, and a body.
 use Rattle.std.specs.Prelude.{◌≡◌, ◌==◌, ℕ, Bool, false, List, [], ◌∷◌, map}
+use Rattle.std.specs.List.{AllByRecursion}
 use Rattle.ason_base.specs.declared.ids.NodeId.{NodeId}
 use Rattle.ason_base.specs.declared.messages.Packet.{Packet}
 use Rattle.rsvp_messages.specs.Packets.{Spells}
@@ -29,3 +30,7 @@ pub record Sending : Type 0 where
 
 abbrev pub frames_to : NodeId → List Sending → List Frame
 frames_to me sendings = map (λ s. sent_frame me s.to s.packet) sendings
+
+-- the frame of each packet spells it
+abbrev pub AllSpelled : NodeId → List Sending → Type 0
+AllSpelled me sendings = AllByRecursion (λ s. IsFrame (46 ∷ written me s.packet) s.packet) sendings

@@ -13,6 +13,11 @@ use Rattle.controller.specs.declared.inputs.CoreInput.TheVariants as input
 use Rattle.controller.specs.Adjacencies.{CanGoAgain, hop_at, neighbours, new_adjacency, peer_numbers, reaches, rested}
 use Rattle.controller.specs.Controllers.{ControllerState}
 
+-- how many messages aren't acknowledged
+abbrev pub unacknowledged : List Adjacency → ℕ
+unacknowledged [] = 0
+unacknowledged (a ∷ adjacencies) = length a.hop.state.unacked + unacknowledged adjacencies
+
 -- after so many steps
 pub record IsKept (p : LocalNode) (adjacencies : List Adjacency) (steps : ℕ) : Type 0 where
   -- a hop to each neighbour, in order of neighbour
@@ -22,6 +27,8 @@ pub record IsKept (p : LocalNode) (adjacencies : List Adjacency) (steps : ℕ) :
   pub again : (d : ℕ) → CanGoAgain (hop_at adjacencies d)
   -- a step sends at most 65,536 messages
   pub few : (d : ℕ) → (hop_at adjacencies d).sent ≤ 65536 * steps
+  -- only what was sent waits for its acknowledgement
+  pub waiting : (d : ℕ) → length (hop_at adjacencies d).unacked ≤ (hop_at adjacencies d).sent
   -- nothing is prepared between steps
   pub rest : map rested adjacencies ≡ adjacencies
 
@@ -31,6 +38,8 @@ pub record IsReady (p : LocalNode) (adjacencies : List Adjacency) : Type 0 where
   pub again : AllByRecursion (λ a. CanGoAgain a.hop.state) adjacencies
   pub left : (d : ℕ) → (hop_at adjacencies d).sent + 65536 < 2 ^ 32 - 1
   pub near : AllByRecursion (λ a. IsTrue (is_neighbour p a.peer)) adjacencies
+  -- all that 50,000 steps send to 256 neighbours
+  pub waiting : unacknowledged adjacencies ≤ 256 * (65536 * 50000)
   pub rest : map rested adjacencies ≡ adjacencies
 
 -- a frame comes from a neighbour
@@ -50,8 +59,3 @@ new_controller t id = record {
   adjacencies = map new_adjacency (neighbours (local_node t id));
   steps = 0;
 }
-
--- how many messages aren't acknowledged
-abbrev pub unacknowledged : List Adjacency → ℕ
-unacknowledged [] = 0
-unacknowledged (a ∷ adjacencies) = length a.hop.state.unacked + unacknowledged adjacencies

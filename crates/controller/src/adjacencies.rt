@@ -8,7 +8,7 @@ ghost use Rattle.hop_reliable.specs.Hop.{heard_as, last_number, numbered, sent_m
 ghost use Rattle.rsvp_messages.specs.Writable.{IsWritable};
 ghost use Rattle.controller.specs.declared.adjacencies.Adjacency.{Adjacency};
 ghost use Rattle.controller.specs.Adjacencies.{AllCanGo, CanGoAgain, IsChangedAt, adjacency_at, aged, again_to, committed, hop_at, is_to, next_at, packets_on, peer_numbers, prepared_at, reaches, rested, sendings_to, sent_on, taken_by};
-ghost use Rattle.controller.specs.Frames.{frames_to, sent_frame};
+ghost use Rattle.controller.specs.Frames.{AllSpelled, IsFrame, frames_to, sent_frame};
 ghost use Rattle.controller.specs.Kept.{unacknowledged};
 
 use crate::frames::Frame;
@@ -123,6 +123,8 @@ fn prepare_framed(
     ensures hops { OnOk result ((d : ℕ) → next_at adjacencies.new d ≡ (if d == out.to.0 then sent_message (next_at adjacencies.old d) out.msg else next_at adjacencies.old d)) }
     ensures rest { map rested adjacencies.new ≡ map rested adjacencies.old }
     ensures frame { IfOk result (λ f. f ≡ sent_frame me out.to (numbered ((next_at adjacencies.old out.to.0).sent + 1) out.msg)) }
+    ensures spelled { IfOk result (λ f. IsFrame f.bytes
+        (numbered ((next_at adjacencies.old out.to.0).sent + 1) out.msg)) }
 {
     let to = out.to;
     let packet = prepare(alloc, adjacencies, out)?;
@@ -153,6 +155,7 @@ pub(crate) fn prepare_all(
     ensures hops { OnOk result ((d : ℕ) → next_at adjacencies.new d ≡ sent_on (next_at adjacencies.old) outs.items d) }
     ensures rest { map rested adjacencies.new ≡ map rested adjacencies.old }
     ensures frames { OnOk result (frames.new.items ≡ frames.old.items ++ frames_to me (packets_on (next_at adjacencies.old) outs.items)) }
+    ensures spelled { OnOk result (AllSpelled me (packets_on (next_at adjacencies.old) outs.items)) }
 {
     for out in outs {
         let frame = prepare_framed(alloc, me, adjacencies, out)?;
@@ -199,7 +202,8 @@ fn frame_all(
     frames: &mut Vec<Frame>,
 ) -> Result<(), OutOfMemory>
     requires { AllByRecursion IsWritable packets.items }
-    ensures { OnOk result (frames.new.items ≡ frames.old.items ++ frames_to me (sendings_to to packets.items)) }
+    ensures frames { OnOk result (frames.new.items ≡ frames.old.items ++ frames_to me (sendings_to to packets.items)) }
+    ensures spelled { OnOk result (AllSpelled me (sendings_to to packets.items)) }
 {
     for p in packets {
         let frame = Frame::new(alloc, me, to, &p)?;
@@ -216,7 +220,8 @@ fn frame_again(
     frames: &mut Vec<Frame>,
 ) -> Result<(), OutOfMemory>
     requires { CanGoAgain adjacency.now.hop.state }
-    ensures { OnOk result (frames.new.items ≡ frames.old.items ++ frames_to me (again_to adjacency.now)) }
+    ensures frames { OnOk result (frames.new.items ≡ frames.old.items ++ frames_to me (again_to adjacency.now)) }
+    ensures spelled { OnOk result (AllSpelled me (again_to adjacency.now)) }
 {
     let due = adjacency.hop.due(alloc)?;
     frame_all(alloc, me, adjacency.peer, due, frames)
@@ -230,7 +235,8 @@ pub(crate) fn frame_due(
     frames: &mut Vec<Frame>,
 ) -> Result<(), OutOfMemory>
     requires { All (λ a. CanGoAgain a.hop.state) adjacencies.now }
-    ensures { OnOk result (frames.new.items ≡ frames.old.items ++ frames_to me (flat_map again_to adjacencies.now)) }
+    ensures frames { OnOk result (frames.new.items ≡ frames.old.items ++ frames_to me (flat_map again_to adjacencies.now)) }
+    ensures spelled { OnOk result (AllSpelled me (flat_map again_to adjacencies.now)) }
 {
     for adjacency in adjacencies {
         frame_again(alloc, me, adjacency, frames)?;

@@ -1,6 +1,6 @@
 //! The controller of one node.
 
-ghost use Rattle.std.specs.Prelude.{◌≡◌, ◌<◌, IfOk, IsSome, OnErr};
+ghost use Rattle.std.specs.Prelude.{◌≡◌, ◌≤◌, ◌<◌, ◌^◌, IfOk, IsSome, OnErr, length};
 ghost use Rattle.ason_base.specs.Network.{find_node};
 ghost use Rattle.mesh_nodes.specs.LocalNodes.{is_neighbour};
 ghost use Rattle.mesh_rules.specs.Rows.{call_rows, leg_rows};
@@ -64,6 +64,7 @@ impl Controller {
         requires from { IsFromNeighbour self.old.node.place input.now }
         ensures step { IfOk result (IsStep self.old self.new input.now) }
         ensures near { IfOk result (AllToNeighbours self.old.node.place) }
+        ensures few { IfOk result (λ fs. length fs ≤ 2 ^ 40) }
         ensures place { self.new.node.place ≡ self.old.node.place }
         ensures err { OnErr result (self.new ≡ self.old) }
     {

@@ -5,7 +5,7 @@ ghost use Rattle.ason_base.specs.declared.messages.Packet.{Packet};
 ghost use Rattle.hop_reliable.specs.Hop.{HopState, heard_as};
 ghost use Rattle.rsvp_messages.specs.Packets.{Spells};
 ghost use Rattle.controller.specs.Controllers.{acks_to};
-ghost use Rattle.controller.specs.Frames.{IsFrame, SpellsNothing, begins_rsvp, frames_to};
+ghost use Rattle.controller.specs.Frames.{AllSpelled, IsFrame, SpellsNothing, begins_rsvp, frames_to};
 
 use crate::frames::{Frame, RSVP};
 use ason_base::{DecodeError, NodeId, OutOfMemory, Packet};
@@ -58,7 +58,8 @@ pub(crate) fn acknowledge(
     p: &Packet,
 ) -> Result<(), OutOfMemory>
     requires { (h : HopState) × (heard ≡ heard_as h p.now) }
-    ensures { OnOk result (frames.new.items ≡ frames.old.items ++ frames_to me (acks_to to heard p.now)) }
+    ensures frames { OnOk result (frames.new.items ≡ frames.old.items ++ frames_to me (acks_to to heard p.now)) }
+    ensures spelled { OnOk result (AllSpelled me (acks_to to heard p.now)) }
 {
     let answer = heard.answer(alloc, p)?;
     if let Some(ack) = answer {

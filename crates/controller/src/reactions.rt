@@ -1,7 +1,7 @@
 //! What each input does to a node and its hops, and the frames that go out. Whatever may be refused comes first: the frames are
 //! made, the messages prepared at their hops, the node's answer carried out. Then the hops take what came and send.
 
-ghost use Rattle.std.specs.Prelude.{◌≡◌, ◌+◌, ◌++◌, ℕ, IfOk, IsTrue, OnErr, OnOk, map};
+ghost use Rattle.std.specs.Prelude.{◌≡◌, ◌≤◌, ◌+◌, ◌^◌, ◌++◌, ℕ, IfOk, IsTrue, OnErr, OnOk, length, map};
 ghost use Rattle.std.specs.Option.{option_to_list};
 ghost use Rattle.ason_base.specs.declared.messages.Packet.{Packet};
 ghost use Rattle.mesh_nodes.specs.LocalNodes.{is_neighbour};
@@ -10,7 +10,7 @@ ghost use Rattle.node_core.specs.Nodes.{IsWritableInput, answer_to, stepped};
 ghost use Rattle.controller.specs.Adjacencies.{ArePrepared, hop_at, packets_on, reaches, rested};
 ghost use Rattle.controller.specs.Answers.{BodyCanBePassedOn, body_answer};
 ghost use Rattle.controller.specs.Controllers.{Becomes, IsMade, IsReaction, after_tick, handed_body, handled, meaning, took, unmoved};
-ghost use Rattle.controller.specs.Frames.{IsFrame, SpellsNothing, frames_to};
+ghost use Rattle.controller.specs.Frames.{AllSpelled, IsFrame, SpellsNothing, frames_to};
 ghost use Rattle.controller.specs.Kept.{AllToNeighbours, IsFromNeighbour, IsKept, IsReady};
 
 use crate::adjacencies::{
@@ -38,6 +38,8 @@ fn prepared(
     ensures hops { OnOk result (ArePrepared adjacencies.old (answer_to node.now input.now).sent adjacencies.new) }
     ensures rest { map rested adjacencies.new ≡ map rested adjacencies.old }
     ensures frames { OnOk result (frames.new.items ≡ frames.old.items ++ frames_to node.now.place.id (packets_on (hop_at adjacencies.old) (answer_to node.now input.now).sent)) }
+    ensures spelled { OnOk result (AllSpelled node.now.place.id
+        (packets_on (hop_at adjacencies.old) (answer_to node.now input.now).sent)) }
 {
     let change = node.answer(alloc, input)?;
     let outs = copy_outs(alloc, change.sent().items())?;
@@ -59,6 +61,8 @@ fn carry_out(
     ensures hops { OnOk result (ArePrepared adjacencies.old (answer_to node.old input.now).sent adjacencies.new) }
     ensures rest { map rested adjacencies.new ≡ map rested adjacencies.old }
     ensures frames { OnOk result (frames.new.items ≡ frames.old.items ++ frames_to node.old.place.id (packets_on (hop_at adjacencies.old) (answer_to node.old input.now).sent)) }
+    ensures spelled { OnOk result (AllSpelled node.old.place.id
+        (packets_on (hop_at adjacencies.old) (answer_to node.old input.now).sent)) }
 {
     let change = prepared(alloc, node, adjacencies, frames, input)?;
     node.carry_out(change)?;
@@ -81,6 +85,8 @@ fn give(
     ensures rest { OnOk result (map rested adjacencies.new ≡ map rested adjacencies.old) }
     ensures err { OnErr result (adjacencies.new ≡ adjacencies.old) }
     ensures frames { OnOk result (frames.new.items ≡ frames.old.items ++ frames_to node.old.place.id (packets_on (hop_at adjacencies.old) (answer_to node.old input.now).sent)) }
+    ensures spelled { OnOk result (AllSpelled node.old.place.id
+        (packets_on (hop_at adjacencies.old) (answer_to node.old input.now).sent)) }
 {
     match carry_out(alloc, node, adjacencies, frames, input) {
         Ok(()) => Ok(()),
@@ -116,6 +122,8 @@ fn hand_up(
     ensures rest { OnOk result (map rested adjacencies.new ≡ map rested adjacencies.old) }
     ensures err { OnErr result (adjacencies.new ≡ adjacencies.old) }
     ensures frames { OnOk result (frames.new.items ≡ frames.old.items ++ frames_to node.old.place.id (packets_on (hop_at adjacencies.old) (body_answer node.old from body).sent)) }
+    ensures spelled { OnOk result (AllSpelled node.old.place.id
+        (packets_on (hop_at adjacencies.old) (body_answer node.old from body).sent)) }
 {
     match body {
         None => Ok(()),
@@ -145,6 +153,8 @@ fn take_packet(
     ensures same { OnErr result (node.new ≡ node.old) }
     ensures err { OnErr result (adjacencies.new ≡ adjacencies.old) }
     ensures frames { OnOk result (frames.new.items ≡ frames.old.items ++ frames_to node.old.place.id (took node.old.place (meaning node.old adjacencies.old) from packet).sendings) }
+    ensures spelled { OnOk result (AllSpelled node.old.place.id
+        (took node.old.place (meaning node.old adjacencies.old) from packet).sendings) }
 {
     let heard = hears(adjacencies, from, &packet);
     acknowledge(alloc, node.id(), from, frames, heard, &packet)?;
@@ -170,6 +180,7 @@ fn taken(
     ensures place { node.new.place ≡ node.old.place }
     ensures kept { (k : ℕ) → IsKept node.old.place adjacencies.old k → OnOk result (IsKept node.new.place adjacencies.new (k + 1)) }
     ensures near { IfOk result (λ fs. AllToNeighbours node.old.place fs.items) }
+    ensures few { IfOk result (λ fs. length fs.items ≤ 2 ^ 40) }
     ensures same { OnErr result (node.new ≡ node.old) }
     ensures err { OnErr result (adjacencies.new ≡ adjacencies.old) }
 {
@@ -194,6 +205,7 @@ fn take_frame(
     ensures place { node.new.place ≡ node.old.place }
     ensures kept { (k : ℕ) → IsKept node.old.place adjacencies.old k → OnOk result (IsKept node.new.place adjacencies.new (k + 1)) }
     ensures near { IfOk result (λ fs. AllToNeighbours node.old.place fs.items) }
+    ensures few { IfOk result (λ fs. length fs.items ≤ 2 ^ 40) }
     ensures same { OnErr result (node.new ≡ node.old) }
     ensures err { OnErr result (adjacencies.new ≡ adjacencies.old) }
 {
@@ -216,6 +228,7 @@ fn handle(
     ensures place { node.new.place ≡ node.old.place }
     ensures kept { (k : ℕ) → IsKept node.old.place adjacencies.old k → OnOk result (IsKept node.new.place adjacencies.new (k + 1)) }
     ensures near { IfOk result (λ fs. AllToNeighbours node.old.place fs.items) }
+    ensures few { IfOk result (λ fs. length fs.items ≤ 2 ^ 40) }
     ensures same { OnErr result (node.new ≡ node.old) }
     ensures err { OnErr result (adjacencies.new ≡ adjacencies.old) }
 {
@@ -238,6 +251,7 @@ fn tick(
     ensures place { node.new.place ≡ node.old.place }
     ensures kept { (k : ℕ) → IsKept node.old.place adjacencies.old k → OnOk result (IsKept node.new.place adjacencies.new (k + 1)) }
     ensures near { IfOk result (λ fs. AllToNeighbours node.old.place fs.items) }
+    ensures few { IfOk result (λ fs. length fs.items ≤ 2 ^ 40) }
     ensures same { OnErr result (node.new ≡ node.old) }
     ensures err { OnErr result (adjacencies.new ≡ adjacencies.old) }
 {
@@ -263,6 +277,7 @@ pub(crate) fn react(
     ensures place { node.new.place ≡ node.old.place }
     ensures kept { (k : ℕ) → IsKept node.old.place adjacencies.old k → OnOk result (IsKept node.new.place adjacencies.new (k + 1)) }
     ensures near { IfOk result (λ fs. AllToNeighbours node.old.place fs.items) }
+    ensures few { IfOk result (λ fs. length fs.items ≤ 2 ^ 40) }
     ensures same { OnErr result (node.new ≡ node.old) }
     ensures err { OnErr result (adjacencies.new ≡ adjacencies.old) }
 {

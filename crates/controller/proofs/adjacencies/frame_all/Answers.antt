@@ -1,9 +1,11 @@
-use Rattle.std.proofs.Common.{◌≡◌, ◌∷◌, ◌++◌, ◌∙◌, ap, sym, subst}
+use Rattle.std.proofs.Common.{◌≡◌, [], ◌∷◌, ◌++◌, ◌∙◌, ap, sym, subst}
+use Rattle.std.proofs.lemmas.List.{nil_from_length}
 use Rattle.std.specs.List.{AllByRecursion}
 use Rattle.std.specs.Vec.Iter.{into_iter_items}
 use Rattle.rsvp_messages.specs.Writable.{IsWritable}
 use Rattle.controller.specs.Adjacencies.{sendings_to}
-use Rattle.controller.specs.Frames.{frames_to}
+use Rattle.controller.specs.Frames.{AllSpelled, frames_to}
+use Rattle.controller.proofs.Spelled.{packet-spelled}
 use Rattle.controller.proofs.Writing.{framed-on}
 use Rattle.controller.proofs.adjacencies.frame_all.Goals as goal
 
@@ -14,6 +16,9 @@ loop-p-preserved-in_ok-push c =
       writable = (subst (AllByRecursion IsWritable) items c.loop-p.invariant.writable).1;
       frames = framed-on c.args.me c.args.to c.loop-p.frames.items c.push.new.self.items c.args.frames.now.items c.in_ok-frame.frame c.in-Some.p (into_iter_items c.next.new.self) c.args.packets.items c.in_ok-frame.ensures.frame c.in_ok-push.ensures.items
           (ap (λ ps. c.loop-p.frames.items ++ frames_to c.args.me (sendings_to c.args.to ps)) (sym items) ∙ c.loop-p.invariant.frames);
+      spelled = packet-spelled c.args.me c.args.to c.in_ok-frame.frame c.in-Some.p (into_iter_items c.next.new.self)
+          c.args.packets.items (into_iter_items c.loop-p.p-iterator) items c.in_ok-frame.ensures.frame
+          c.in_ok-frame.ensures.spelled c.loop-p.invariant.spelled;
     }
 
 pub loop-p-preserved-in_ok-push-2 : goal.loop-p-preserved-in_ok-push-2
@@ -23,4 +28,14 @@ loop-p-preserved-in_ok-push-2 c =
       writable = (subst (AllByRecursion IsWritable) items c.loop-p.invariant.writable).1;
       frames = framed-on c.args.me c.args.to c.loop-p.frames.items c.push.new.self.items c.args.frames.now.items c.in_ok-frame.frame c.in-Some.p (into_iter_items c.next.new.self) c.args.packets.items c.in_ok-frame.ensures.frame c.in_ok-push.ensures.items
           (ap (λ ps. c.loop-p.frames.items ++ frames_to c.args.me (sendings_to c.args.to ps)) (sym items) ∙ c.loop-p.invariant.frames);
+      spelled = packet-spelled c.args.me c.args.to c.in_ok-frame.frame c.in-Some.p (into_iter_items c.next.new.self)
+          c.args.packets.items (into_iter_items c.loop-p.p-iterator) items c.in_ok-frame.ensures.frame
+          c.in_ok-frame.ensures.spelled c.loop-p.invariant.spelled;
     }
+
+pub returns-clause-spelled : goal.returns-clause-spelled
+returns-clause-spelled c =
+    let none : into_iter_items c.loop-p.p-iterator ≡ [] =
+    nil_from_length (into_iter_items c.loop-p.p-iterator)
+    (sym c.loop-p.p-iterator.rest.ok.0 ∙ c.in-None.ensures.steps.0) in
+    c.loop-p.invariant.spelled (subst (λ ps. AllSpelled c.args.me (sendings_to c.args.to ps)) (sym none) tt)

@@ -1,6 +1,7 @@
-use Rattle.std.proofs.Common.{[], refl}
+use Rattle.std.proofs.Common.{[], refl, arith}
 use Rattle.mesh_rules.specs.Orders.{on_item}
 use Rattle.controller.specs.Adjacencies.{hop_at}
+use Rattle.controller.proofs.Counting.{frames-few}
 use Rattle.controller.proofs.Keeping.{item-sent, made-kept, made-to_neighbours}
 use Rattle.controller.proofs.Taking.{handled-made}
 use Rattle.controller.proofs.reactions.handle.Goals as goal
@@ -9,16 +10,16 @@ pub returns-clause-made : goal.returns-clause-made
 returns-clause-made c =
     handled-made c.args.node.now c.give.new.node c.args.adjacencies.now c.give.new.adjacencies c.commit_all.new.adjacencies c.in_ok-item.item c.args.item.now
     c.new-frames.result.items c.give.new.frames.items c.in_ok-item.ensures c.in_ok-give.ensures.node c.in_ok-give.ensures.hops c.in_ok-give.ensures.rest
-    c.commit_all.ensures c.new-frames.ensures.items c.in_ok-give.ensures.frames
+    c.commit_all.ensures c.new-frames.ensures.items c.in_ok-give.ensures.frames c.in_ok-give.ensures.spelled
 
 pub returns-clause-kept : goal.returns-clause-kept
 returns-clause-kept c = λ k kept.
     made-kept c.args.node.now c.give.new.node c.args.adjacencies.now c.commit_all.new.adjacencies k (hop_at c.args.adjacencies.now)
-    (on_item c.args.node.now.place c.args.node.now.state c.args.item.now) [] c.give.new.frames.items kept (λ d. refl) kept.again
+    (on_item c.args.node.now.place c.args.node.now.state c.args.item.now) [] c.give.new.frames.items kept (λ d. refl) kept.again kept.waiting
     (item-sent c.args.node.now.place c.args.node.now.state c.args.item.now c.fits.ensures.place c.fits.ensures.state)
     (handled-made c.args.node.now c.give.new.node c.args.adjacencies.now c.give.new.adjacencies c.commit_all.new.adjacencies c.in_ok-item.item c.args.item.now
     c.new-frames.result.items c.give.new.frames.items c.in_ok-item.ensures c.in_ok-give.ensures.node c.in_ok-give.ensures.hops c.in_ok-give.ensures.rest
-    c.commit_all.ensures c.new-frames.ensures.items c.in_ok-give.ensures.frames)
+    c.commit_all.ensures c.new-frames.ensures.items c.in_ok-give.ensures.frames c.in_ok-give.ensures.spelled)
 
 pub returns-clause-near : goal.returns-clause-near
 returns-clause-near c =
@@ -27,4 +28,12 @@ returns-clause-near c =
     (item-sent c.args.node.now.place c.args.node.now.state c.args.item.now c.fits.ensures.place c.fits.ensures.state)
     (handled-made c.args.node.now c.give.new.node c.args.adjacencies.now c.give.new.adjacencies c.commit_all.new.adjacencies c.in_ok-item.item c.args.item.now
     c.new-frames.result.items c.give.new.frames.items c.in_ok-item.ensures c.in_ok-give.ensures.node c.in_ok-give.ensures.hops c.in_ok-give.ensures.rest
-    c.commit_all.ensures c.new-frames.ensures.items c.in_ok-give.ensures.frames)
+    c.commit_all.ensures c.new-frames.ensures.items c.in_ok-give.ensures.frames c.in_ok-give.ensures.spelled)
+
+pub returns-clause-few : goal.returns-clause-few
+returns-clause-few c =
+    let n = c.args.node.now in
+    frames-few n.place n.place.id [] (hop_at c.args.adjacencies.now) (on_item n.place n.state c.in_ok-item.item)
+    c.new-frames.result.items c.give.new.frames.items (omega arith)
+    (item-sent n.place n.state c.in_ok-item.item c.fits.ensures.place c.fits.ensures.state)
+    c.new-frames.ensures.items c.in_ok-give.ensures.frames

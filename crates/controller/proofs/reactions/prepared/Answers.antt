@@ -2,6 +2,7 @@ use Rattle.std.proofs.Common.{◌∙◌, ap}
 use Rattle.mesh_rules.specs.Changes.{Answer}
 use Rattle.node_core.specs.Nodes.{answer_to}
 use Rattle.controller.proofs.Preparing.{answer-can_go, answer-framed, answer-prepared}
+use Rattle.controller.proofs.Spelled.{answer-spelled}
 use Rattle.controller.proofs.reactions.prepared.Goals as goal
 
 pub prepare_all-requires : goal.prepare_all-requires
@@ -23,3 +24,10 @@ returns-clause-frames c =
     c.in_ok-outs.outs.items c.args.frames.now.items c.prepare_all.new.frames.items c.requires.ready.rest
     (c.in_ok-outs.ensures ∙ c.items.ensures ∙ c.sent.ensures ∙ ap (λ (a : Answer). a.sent) c.in_ok-change.ensures.answer)
     c.id.ensures c.in_ok-prepare_all.ensures.frames
+
+pub returns-clause-spelled : goal.returns-clause-spelled
+returns-clause-spelled c =
+    answer-spelled c.id.result c.args.node.now.place.id c.args.adjacencies.now (answer_to c.args.node.now c.args.input.now).sent
+    c.in_ok-outs.outs.items c.requires.ready.rest
+    (c.in_ok-outs.ensures ∙ c.items.ensures ∙ c.sent.ensures ∙ ap (λ (a : Answer). a.sent) c.in_ok-change.ensures.answer)
+    c.id.ensures c.in_ok-prepare_all.ensures.spelled

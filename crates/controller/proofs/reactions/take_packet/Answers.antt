@@ -3,9 +3,9 @@ use Rattle.ason_base.specs.declared.ids.NodeId.{NodeId}
 use Rattle.hop_reliable.specs.Hop.{HopState}
 use Rattle.controller.specs.Adjacencies.{prepared_at, taken_by}
 use Rattle.controller.specs.Controllers.{acks_to}
-use Rattle.controller.specs.Frames.{frames_to}
+use Rattle.controller.specs.Frames.{AllSpelled, frames_to}
 use Rattle.controller.proofs.Resting.{same-hop, same-reach}
-use Rattle.controller.proofs.Taking.{took-becomes, took-frames}
+use Rattle.controller.proofs.Taking.{took-becomes, took-frames, took-spelled}
 use Rattle.controller.proofs.reactions.take_packet.Goals as goal
 
 pub take-requires-clause-reached : goal.take-requires-clause-reached
@@ -36,5 +36,17 @@ returns-clause-frames c =
     (λ d. c.take.ensures.hops d ∙ ap (λ acks. cond (nat_eq d c.args.from.0) (taken_by c.hears-heard.result acks (prepared_at mid d)) (prepared_at mid d)) c.items.ensures)
     c.take.ensures.peers c.commit_all.ensures
     c.args.frames.now.items c.acknowledge.new.frames.items c.hand_up.new.frames.items
-    (c.in_ok-acknowledge.ensures ∙ ap (λ (n : NodeId). c.args.frames.now.items ++ frames_to n (acks_to c.args.from c.hears-heard.result c.args.packet)) c.id.ensures)
+    (c.in_ok-acknowledge.ensures.frames ∙ ap (λ (n : NodeId). c.args.frames.now.items ++ frames_to n (acks_to c.args.from c.hears-heard.result c.args.packet)) c.id.ensures)
     c.in_ok-hand_up.ensures.frames
+
+pub returns-clause-spelled : goal.returns-clause-spelled
+returns-clause-spelled c =
+    let mid = c.hand_up.new.adjacencies in
+    took-spelled c.args.node.now c.hand_up.new.node c.args.adjacencies.now mid c.take.new.adjacencies _ c.args.from c.hears-heard.result c.args.packet c.handed_up-body.result
+    c.hears-heard.ensures.heard
+    c.handed_up-body.ensures.handed c.in_ok-hand_up.ensures.hops c.in_ok-hand_up.ensures.rest
+    (λ d. c.take.ensures.hops d ∙ ap (λ acks. cond (nat_eq d c.args.from.0) (taken_by c.hears-heard.result acks (prepared_at mid d)) (prepared_at mid d)) c.items.ensures)
+    c.take.ensures.peers c.commit_all.ensures
+    (subst (λ (n : NodeId). AllSpelled n (acks_to c.args.from c.hears-heard.result c.args.packet)) c.id.ensures
+    c.in_ok-acknowledge.ensures.spelled)
+    c.in_ok-hand_up.ensures.spelled
