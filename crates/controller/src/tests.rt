@@ -3,8 +3,8 @@
 use crate::controller::MOST_STEPS;
 use crate::{Controller, CoreInput, Frames, Pending};
 use ason_base::{
-    Bytes, CallNo, Command, DeskItem, Label, LegRow, LinkId, LinkSpec, Lsp, NodeId, NodeSpec,
-    Numbers, Phase, Role, Step, Steps, Topology,
+    Bytes, CallNo, Command, DeskItem, Label, LinkId, LinkSpec, NodeId, NodeSpec, Numbers, Phase,
+    Step, Steps, TableRows, Topology,
 };
 use std::alloc::Global;
 use std::test::Fail;
@@ -14,8 +14,6 @@ const A: NodeId = NodeId(1);
 const B: NodeId = NodeId(2);
 
 const DONE: Pending = Pending { hop: 0, flood: 0 };
-
-const LINK: Option<LinkId> = Some(LinkId(1));
 
 // Two nodes that convert, and one link of two labels.
 fn two_nodes(alloc: Global) -> Result<Topology, Fail> {
@@ -33,8 +31,10 @@ fn two_nodes(alloc: Global) -> Result<Topology, Fail> {
 }
 
 fn controller(alloc: Global, t: &Topology, id: NodeId) -> Result<Controller, Fail> {
-    t.node(id).ok_or("no such node")?;
-    Ok(Controller::new(alloc, t, id)?)
+    match t.node(id) {
+        Some(_) => Ok(Controller::new(alloc, t, id)?),
+        None => Ok(None.ok_or("no such node")?),
+    }
 }
 
 // The call of this number from a to b is asked for at a.
@@ -53,125 +53,162 @@ fn set_up(alloc: Global, a: &mut Controller, call: u16) -> Result<Frames, Fail> 
         via: Some(via),
         backup: None,
     };
-    if a.steps() >= MOST_STEPS {
-        Err("too many steps")?;
+    if a.steps() < MOST_STEPS {
+        Ok(a.step(&CoreInput::Desk(DeskItem::Order(command)))?)
+    } else {
+        Ok(None.ok_or("too many steps")?)
     }
-    Ok(a.step(&CoreInput::Desk(DeskItem::Order(command)))?)
 }
 
 fn tick(c: &mut Controller) -> Result<Frames, Fail> {
-    if c.steps() >= MOST_STEPS {
-        Err("too many steps")?;
+    if c.steps() < MOST_STEPS {
+        Ok(c.step(&CoreInput::Tick)?)
+    } else {
+        Ok(None.ok_or("too many steps")?)
     }
-    Ok(c.step(&CoreInput::Tick)?)
 }
 
-// Takes one of the frames that a neighbour sent.
+// What happens to the two controllers. A frame is named by the number of the act that sent it and its place among those.
+#[derive(Clone, Copy, Debug, PartialEq, Eq, Drop)]
+enum Act {
+    // The call of this number is asked for at a.
+    SetUp(u16),
+    // a ticks.
+    Tick,
+    // a takes this frame of b.
+    ToA(usize, usize),
+    // b takes this frame of a.
+    ToB(usize, usize),
+}
+
+// Two controllers, and what each act sent.
+#[derive(Drop)]
+struct Driven {
+    a: Controller,
+    b: Controller,
+    sent: Vec<Frames>,
+}
+
 fn take(
     alloc: Global,
     c: &mut Controller,
     from: NodeId,
-    frames: &Frames,
-    place: usize,
+    sent: &[Frames],
+    (act, place): (usize, usize),
 ) -> Result<Frames, Fail> {
+    let frames = sent.get(act).ok_or("no such act")?;
     let frame = frames.items().get(place).ok_or("no such frame")?;
     let bytes = frame.bytes.copy(alloc)?;
     take_bytes(c, from, bytes)
 }
 
 fn take_bytes(c: &mut Controller, from: NodeId, bytes: Bytes) -> Result<Frames, Fail> {
-    if c.steps() >= MOST_STEPS || !c.has_neighbour(from) {
-        Err("not a step")?;
+    if c.steps() < MOST_STEPS && c.has_neighbour(from) {
+        Ok(c.step(&CoreInput::Frame { from, bytes })?)
+    } else {
+        Ok(None.ok_or("not a step")?)
     }
-    Ok(c.step(&CoreInput::Frame { from, bytes })?)
 }
 
-// The bytes of the frames are the same.
-fn are_same(frames: &[crate::Frame], others: &[crate::Frame]) -> bool {
-    let bytes = frames.iter().map(|frame| frame.bytes.items());
-    bytes.eq(others.iter().map(|frame| frame.bytes.items()))
+fn carry_out(alloc: Global, driven: &mut Driven, act: Act) -> Result<(), Fail> {
+    let Driven { a, b, sent } = driven;
+    let frames = match act {
+        Act::SetUp(call) => set_up(alloc, a, call)?,
+        Act::Tick => tick(a)?,
+        Act::ToA(act, place) => take(alloc, a, B, sent, (act, place))?,
+        Act::ToB(act, place) => take(alloc, b, A, sent, (act, place))?,
+    };
+    sent.push(frames)?;
+    Ok(())
 }
 
-fn leg(number: u16, node: NodeId, in_label: Option<Label>, out_label: Option<Label>) -> LegRow {
-    LegRow {
-        lsp: Lsp {
-            ingress: A,
-            tunnel: number,
-            lsp: number,
-        },
-        node,
-        role: Role::Work,
-        phase: Phase::Live,
-        in_link: in_label.and(LINK),
-        in_label,
-        out_link: out_label.and(LINK),
-        out_label,
-        back_in: None,
-        back_out: None,
+fn drive(alloc: Global, acts: &[Act]) -> Result<Driven, Fail> {
+    let t = two_nodes(alloc)?;
+    let a = controller(alloc, &t, A)?;
+    let b = controller(alloc, &t, B)?;
+    let mut driven = Driven {
+        a,
+        b,
+        sent: Vec::new(alloc),
+    };
+    for next in acts {
+        carry_out(alloc, &mut driven, *next)?;
     }
+    Ok(driven)
+}
+
+// How many frames each act sent.
+fn sent_each(driven: &Driven, counts: &[usize]) -> bool {
+    let sent = driven.sent.iter().map(|frames| frames.items().len());
+    sent.eq(counts.iter().copied())
+}
+
+// Nothing waits for an acknowledgement.
+fn is_done(driven: &Driven) -> bool {
+    driven.a.pending() == DONE && driven.b.pending() == DONE
+}
+
+// The legs are Live, and come in and go out on these labels.
+fn are_live(rows: &TableRows, labels_in: &[Option<Label>], labels_out: &[Option<Label>]) -> bool {
+    let legs = rows.legs.items();
+    let enter = legs.iter().map(|leg| leg.in_label);
+    let leave = legs.iter().map(|leg| leg.out_label);
+    legs.iter().all(|leg| leg.phase == Phase::Live)
+        && enter.eq(labels_in.iter().copied())
+        && leave.eq(labels_out.iter().copied())
 }
 
 // The first Path is lost and goes again at the tick; it comes twice; the Resv overtakes the acknowledgement.
+const LOST: &[Act] = &[
+    Act::SetUp(0),
+    Act::Tick,
+    Act::ToB(1, 0),
+    Act::ToB(1, 0),
+    Act::ToA(2, 1),
+    Act::ToA(2, 0),
+    Act::ToB(4, 0),
+];
+
 #[test]
 fn a_path_that_is_lost_goes_again(rt: HostRuntime) -> Result<(), Fail> {
     let alloc = rt.alloc();
-    let t = two_nodes(alloc)?;
-    let mut a = controller(alloc, &t, A)?;
-    let mut b = controller(alloc, &t, B)?;
-    let lost = set_up(alloc, &mut a, 0)?;
-    assert_eq!(rt; a.pending(), Pending { hop: 1, flood: 0 });
-    let path = tick(&mut a)?;
-    assert!(rt; are_same(path.items(), lost.items()));
-    let answers = take(alloc, &mut b, A, &path, 0)?;
-    assert_eq!(rt; answers.items().len(), 2);
-    let again = take(alloc, &mut b, A, &path, 0)?;
-    assert!(rt; are_same(again.items(), &answers.items()[..1]));
-    let ack = take(alloc, &mut a, B, &answers, 1)?;
-    assert_eq!(rt; a.pending(), Pending { hop: 1, flood: 0 });
-    assert!(rt; take(alloc, &mut a, B, &answers, 0)?.items().is_empty());
-    assert!(rt; take(alloc, &mut b, A, &ack, 0)?.items().is_empty());
-    assert_eq!(rt; (a.pending(), b.pending()), (DONE, DONE));
-    assert_eq!(rt;
-        a.rows(alloc)?.legs.items(),
-        [leg(1, A, None, Label::new(1))].as_slice()
-    );
-    assert_eq!(rt;
-        b.rows(alloc)?.legs.items(),
-        [leg(1, B, Label::new(1), None)].as_slice()
-    );
+    let driven = drive(alloc, LOST)?;
+    assert!(rt; sent_each(&driven, &[1, 1, 2, 1, 1, 0, 0]));
+    assert!(rt; is_done(&driven));
+    let rows = driven.a.rows(alloc)?;
+    assert!(rt; are_live(&rows, &[None], &[Label::new(1)]));
+    let rows = driven.b.rows(alloc)?;
+    assert!(rt; are_live(&rows, &[Label::new(1)], &[None]));
     Ok(())
 }
 
 // The second Path comes before the first, which then comes once more; the Resvs come the other way round.
+const OVERTAKEN: &[Act] = &[
+    Act::SetUp(0),
+    Act::SetUp(1),
+    Act::ToB(1, 0),
+    Act::ToB(0, 0),
+    Act::ToB(1, 0),
+    Act::ToB(0, 0),
+    Act::ToA(4, 1),
+    Act::ToA(3, 0),
+    Act::ToA(3, 1),
+    Act::ToB(8, 0),
+    Act::ToA(4, 0),
+    Act::ToA(4, 1),
+    Act::ToB(11, 0),
+];
+
 #[test]
 fn a_newer_frame_waits_for_the_older(rt: HostRuntime) -> Result<(), Fail> {
     let alloc = rt.alloc();
-    let t = two_nodes(alloc)?;
-    let mut a = controller(alloc, &t, A)?;
-    let mut b = controller(alloc, &t, B)?;
-    let first = set_up(alloc, &mut a, 0)?;
-    let second = set_up(alloc, &mut a, 1)?;
-    assert!(rt; take(alloc, &mut b, A, &second, 0)?.items().is_empty());
-    let to_first = take(alloc, &mut b, A, &first, 0)?;
-    let to_second = take(alloc, &mut b, A, &second, 0)?;
-    assert_eq!(rt; take(alloc, &mut b, A, &first, 0)?.items().len(), 1);
-    assert!(rt; take(alloc, &mut a, B, &to_second, 1)?.items().is_empty());
-    for frames in [&to_first, &to_second] {
-        take(alloc, &mut a, B, frames, 0)?;
-        let ack = take(alloc, &mut a, B, frames, 1)?;
-        take(alloc, &mut b, A, &ack, 0)?;
-    }
-    assert_eq!(rt; (a.pending(), b.pending()), (DONE, DONE));
-    let legs = [
-        leg(1, A, None, Label::new(1)),
-        leg(2, A, None, Label::new(2)),
-    ];
-    assert_eq!(rt; a.rows(alloc)?.legs.items(), legs.as_slice());
-    let legs = [
-        leg(1, B, Label::new(1), None),
-        leg(2, B, Label::new(2), None),
-    ];
-    assert_eq!(rt; b.rows(alloc)?.legs.items(), legs.as_slice());
+    let driven = drive(alloc, OVERTAKEN)?;
+    assert!(rt; sent_each(&driven, &[1, 1, 0, 2, 2, 1, 0, 0, 1, 0, 0, 1, 0]));
+    assert!(rt; is_done(&driven));
+    let rows = driven.a.rows(alloc)?;
+    assert!(rt; are_live(&rows, &[None, None], &[Label::new(1), Label::new(2)]));
+    let rows = driven.b.rows(alloc)?;
+    assert!(rt; are_live(&rows, &[Label::new(1), Label::new(2)], &[None, None]));
     Ok(())
 }
 
