@@ -75,8 +75,10 @@ impl Controller {
 
     /// What a table shows of the node: its calls in order of number, its legs in order of LSP.
     pub fn rows(&self, alloc: Global) -> Result<TableRows, OutOfMemory>
-        ensures calls { IfOk result (λ rows. rows.calls ≡ call_rows self.now.node.place.id self.now.node.state) }
-        ensures legs { IfOk result (λ rows. rows.legs ≡ leg_rows self.now.node.place.id self.now.node.state) }
+        ensures calls { IfOk result
+            (λ rows. rows.calls ≡ call_rows self.now.node.place.id self.now.node.state) }
+        ensures legs { IfOk result
+            (λ rows. rows.legs ≡ leg_rows self.now.node.place.id self.now.node.state) }
     {
         self.node.rows(alloc)
     }

@@ -58,7 +58,8 @@ pub(crate) fn acknowledge(
     p: &Packet,
 ) -> Result<(), OutOfMemory>
     requires { (h : HopState) × (heard ≡ heard_as h p.now) }
-    ensures frames { OnOk result (frames.new.items ≡ frames.old.items ++ frames_to me (acks_to to heard p.now)) }
+    ensures frames { OnOk result
+        (frames.new.items ≡ frames.old.items ++ frames_to me (acks_to to heard p.now)) }
     ensures spelled { OnOk result (AllSpelled me (acks_to to heard p.now)) }
 {
     let answer = heard.answer(alloc, p)?;

@@ -78,7 +78,9 @@ impl Station {
     fn take_input(&mut self, input: &CoreInput) -> Result<(), OutOfMemory>
         requires below { self.old.controller.steps < 50000 }
         requires from { IsFromNeighbour self.old.controller.node.place input.now }
-        ensures step { OnOk result (HasReacted self.old.controller self.new.controller self.old.links self.new.links input.now) }
+        ensures step { OnOk result
+            (HasReacted self.old.controller self.new.controller self.old.links self.new.links
+            input.now) }
         ensures peers { peers_of self.new.links ≡ peers_of self.old.links }
         ensures desk { self.new.desk ≡ self.old.desk }
         ensures grows { self.old.controller.steps ≤ self.new.controller.steps }
@@ -102,7 +104,9 @@ impl Station {
     // The controller handles an item.
     fn handle(&mut self, item: DeskItem) -> Result<(), OutOfMemory>
         requires { self.old.controller.steps < 50000 }
-        ensures step { OnOk result (HasReacted self.old.controller self.new.controller self.old.links self.new.links (CoreInput.Desk item)) }
+        ensures step { OnOk result
+            (HasReacted self.old.controller self.new.controller self.old.links self.new.links
+            (CoreInput.Desk item)) }
         ensures desk { self.new.desk ≡ self.old.desk }
         ensures grows { self.old.controller.steps ≤ self.new.controller.steps }
     {
@@ -114,7 +118,9 @@ impl Station {
     fn deliver(&mut self, from: NodeId, frame: Bytes) -> Result<(), OutOfMemory>
         requires below { self.old.controller.steps < 50000 }
         requires near { IsTrue (is_neighbour self.old.controller.node.place from) }
-        ensures step { OnOk result (HasReacted self.old.controller self.new.controller self.old.links self.new.links (CoreInput.Frame from frame)) }
+        ensures step { OnOk result
+            (HasReacted self.old.controller self.new.controller self.old.links self.new.links
+            (CoreInput.Frame from frame)) }
         ensures peers { peers_of self.new.links ≡ peers_of self.old.links }
         ensures desk { self.new.desk ≡ self.old.desk }
         ensures grows { self.old.controller.steps ≤ self.new.controller.steps }
@@ -125,7 +131,8 @@ impl Station {
 
     // Takes the first item of the desk.
     fn pop_item(&mut self) -> Option<DeskItem>
-        ensures item { MatchOption result ((self.old.desk ≡ []) × (self.new ≡ self.old)) (λ i. self.old.desk ≡ i ∷ self.new.desk) }
+        ensures item { MatchOption result ((self.old.desk ≡ []) × (self.new ≡ self.old))
+            (λ i. self.old.desk ≡ i ∷ self.new.desk) }
         ensures controller { self.new.controller ≡ self.old.controller }
         ensures links { self.new.links ≡ self.old.links }
     {
@@ -156,7 +163,8 @@ impl Station {
     // How many frames came from the neighbour at this place.
     fn early_len(&self, place: usize) -> usize
         requires { place < length self.now.links }
-        ensures { (l : LinkState) → slice_get self.now.links place ≡ Some l → result ≡ length l.early }
+        ensures { (l : LinkState) → slice_get self.now.links place ≡ Some l →
+            result ≡ length l.early }
     {
         self.links[place].early_len()
     }
@@ -164,7 +172,8 @@ impl Station {
     // Takes the first frame that came from the neighbour at this place.
     fn pop(&mut self, place: usize, from: NodeId) -> Option<Parcel>
         requires { slice_get (peers_of self.old.links) place ≡ Some from }
-        ensures first { (l : LinkState) → slice_get self.old.links place ≡ Some l → result ≡ slice_get l.early 0 }
+        ensures first { (l : LinkState) → slice_get self.old.links place ≡ Some l →
+            result ≡ slice_get l.early 0 }
         ensures links { self.new.links ≡ map (popped_from from) self.old.links }
         ensures controller { self.new.controller ≡ self.old.controller }
         ensures desk { self.new.desk ≡ self.old.desk }
@@ -243,8 +252,10 @@ impl Station {
 
     // All frames that came are taken, by neighbour.
     fn take_rings(&mut self) -> Result<(), Halt>
-        ensures on { OnOk result (HasDone (λ t n h. rings_done t n (peers_of self.old.links) h) self.old self.new) }
-        ensures stops { IsCutBy result (λ t n h. rings_done t n (peers_of self.old.links) h) self.old }
+        ensures on { OnOk result
+            (HasDone (λ t n h. rings_done t n (peers_of self.old.links) h) self.old self.new) }
+        ensures stops { IsCutBy result
+            (λ t n h. rings_done t n (peers_of self.old.links) h) self.old }
         ensures grows { self.old.controller.steps ≤ self.new.controller.steps }
     {
         let count = self.link_count();
@@ -279,7 +290,8 @@ impl Station {
 
     /// Puts an item on the desk.
     pub fn order(&mut self, item: DeskItem) -> Result<(), OutOfMemory>
-        ensures ok { OnOk result (self.new ≡ record self.old { desk = self.old.desk ++ item ∷ [] }) }
+        ensures ok { OnOk result
+            (self.new ≡ record self.old { desk = self.old.desk ++ item ∷ [] }) }
         ensures err { OnErr result (self.new ≡ self.old) }
     {
         self.desk.push(item)
@@ -290,10 +302,16 @@ impl Station {
     pub fn look(&mut self, place: usize, other: &mut Station, back: usize)
         requires place { place < length self.old.links }
         requires back { back < length other.old.links }
-        requires few { (l m : LinkState) → slice_get self.old.links place ≡ Some l → slice_get other.old.links back ≡ Some m → AreFew l m }
-        ensures here { (l m : LinkState) → slice_get self.old.links place ≡ Some l → slice_get other.old.links back ≡ Some m → self.new.links ≡ slice_set self.old.links place (looked l m) }
-        ensures there { (l m : LinkState) → slice_get self.old.links place ≡ Some l → slice_get other.old.links back ≡ Some m → other.new.links ≡ slice_set other.old.links back (looked m l) }
-        ensures controllers { (self.new.controller ≡ self.old.controller) × (other.new.controller ≡ other.old.controller) }
+        requires few { (l m : LinkState) → slice_get self.old.links place ≡ Some l →
+            slice_get other.old.links back ≡ Some m → AreFew l m }
+        ensures here { (l m : LinkState) → slice_get self.old.links place ≡ Some l →
+            slice_get other.old.links back ≡ Some m →
+            self.new.links ≡ slice_set self.old.links place (looked l m) }
+        ensures there { (l m : LinkState) → slice_get self.old.links place ≡ Some l →
+            slice_get other.old.links back ≡ Some m →
+            other.new.links ≡ slice_set other.old.links back (looked m l) }
+        ensures controllers { (self.new.controller ≡ self.old.controller) ×
+            (other.new.controller ≡ other.old.controller) }
         ensures desks { (self.new.desk ≡ self.old.desk) × (other.new.desk ≡ other.old.desk) }
     {
         look_at(&mut self.links, place, &mut other.links, back);
