@@ -4,3 +4,13 @@ pub mod Counting
 pub mod Known
 pub mod DueLaws
 pub mod DifferentEnds
+pub mod Members
+pub mod SentMessages
+pub mod KnownRows
+pub mod NodeFacts
+pub mod ChannelFacts
+pub mod NetworkFacts
+pub mod Beginnings
+pub mod NetworkLaws
+pub mod TopologyRows
+pub mod Example
