@@ -1,7 +1,6 @@
 -- Nodes that declared their own rows.
-use Rattle.std.proofs.Common.{◌≡◌, ◌≢◌, inl, inr, ℕ, suc, ◌==◌, nat_lt, Bool, true, false, cond, List, [], ◌∷◌, ◌++◌, length, get_or, map, filter, fold, refl, sym, ap, ◌∙◌, subst, arith, append_assoc, append-nil, Contains, AllPairs}
-use Rattle.std.specs.Prelude.{None, Some}
-use Rattle.std.specs.List.{slice_get}
+use Rattle.std.proofs.Common.{◌≡◌, ◌≢◌, inl, inr, ℕ, suc, ◌==◌, nat_lt, Bool, true, false, cond, List, [], ◌∷◌, ◌++◌, get_or, map, refl, sym, ap, ◌∙◌, subst, arith, append_assoc, append-nil, Contains}
+use Rattle.std.specs.Prelude.{None}
 use Rattle.std.proofs.lemmas.List.Elements.{All-contains, Contains-append_left, Contains-append_right, Contains-get_or}
 use Rattle.std.proofs.lemmas.List.Kept.{AllPairs-cons, AllPairs-filter}
 use Rattle.ason_base.specs.Walks.{HaveDistinctLinks}
@@ -11,16 +10,14 @@ use Rattle.ason_base.specs.InOrder.{in_order}
 use Rattle.ason_base.specs.Network.{end_beside}
 use Rattle.ason_base.proofs.Ordered.{contains-cases, contains-head, contains-none, contains-tail, in_order-has}
 use Rattle.ason_base.proofs.RisingNumbers.{nat_order, numbers_in_order}
-use Rattle.flood.specs.declared.due.Due.{Due}
-use Rattle.flood.specs.declared.messages.FloodMsg.{FloodMsg}
 use Rattle.flood.specs.declared.messages.FloodMsg.TheVariants.{Row, Ack}
-use Rattle.flood.specs.State.{FloodState, NeighbourState, declared_row, fresh, has_room, is_end, is_known, IsStart}
+use Rattle.flood.specs.State.{FloodState, declared_row, fresh, has_room, is_end, is_known}
 use Rattle.flood.specs.Networks.{begun, begun_node, declared_rows, new_flood, nodes_beside, own_rows}
 use Rattle.flood.specs.NetworkLaws.{AreRowsOfLinks, OwnCanBeDeclared, StartIsNew}
 use Rattle.flood.proofs.Members.{each_mapped, there_filter, there_from_filter, there_from_map, there_map}
 use Rattle.flood.proofs.KnownRows.{known_row, room_for_row, row_of_known}
-use Rattle.flood.proofs.NodeFacts.{HasNeighbour, KnowsOwn, LineFacts, NodeFacts, facts_row}
-use Rattle.flood.proofs.ChannelFacts.{Flow, Given, LineFits, flow_learns}
+use Rattle.flood.proofs.NodeFacts.{LineFacts, NodeFacts, facts_row}
+use Rattle.flood.proofs.ChannelFacts.{LineFits, flow_learns}
 use Rattle.flood.proofs.NetworkFacts.{FlowOf, Lasts}
 
 -- What declaring leaves
@@ -142,8 +139,7 @@ facts_new rows are n = record {
         let other = other_end beside.0.low beside.0.high me apart in
         record {
           other = subst (λ j. (j == n) ≡ false) (ap (λ (m : NodeId). m.0) beside.2 ∙ number.2) other;
-          rising = λ i j d before within. absurd (omega arith);
-          below = λ e none. absurd (contains-none e none);
+          order = record { rising = λ i j d before within. absurd (omega arith); below = λ i d within. absurd (omega arith) };
         }
 
 facts_declared : (rows : List TeRow) (n : ℕ) (xs : List TeRow) (s : FloodState) → ((r : TeRow) → Contains xs r → Contains rows r)

@@ -1,7 +1,7 @@
 pub mod Envelopes
 pub mod InPlace
 pub mod Counting
-pub mod Known
+pub mod RowsBrought
 pub mod DueLaws
 pub mod DifferentEnds
 pub mod Members
@@ -14,3 +14,5 @@ pub mod Beginnings
 pub mod NetworkLaws
 pub mod TopologyRows
 pub mod Example
+pub mod DueOrder
+pub mod LinkNumbers

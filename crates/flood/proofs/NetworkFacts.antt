@@ -1,5 +1,5 @@
 -- What lasts in a network of floods, whatever happens in it.
-use Rattle.std.proofs.Common.{◌≡◌, ◌⊎◌, inl, inr, ℕ, ◌+◌, ◌==◌, Bool, true, false, cond, List, [], ◌∷◌, ◌++◌, refl, sym, ap, ◌∙◌, subst, arith, Contains}
+use Rattle.std.proofs.Common.{◌≡◌, inl, inr, ℕ, ◌==◌, Bool, true, false, cond, List, [], ◌∷◌, ◌++◌, refl, sym, subst, arith, Contains}
 use Rattle.std.specs.Prelude.{Option, Some, None}
 use Rattle.std.specs.List.{slice_get}
 use Rattle.std.proofs.lemmas.List.Elements.{Contains-append_cases}
@@ -13,7 +13,7 @@ use Rattle.flood.specs.Networks.{FloodEvent, FloodNetwork, Take, Tick, after, se
 use Rattle.flood.specs.NetworkLaws.{AreRowsOfLinks}
 use Rattle.flood.proofs.Members.{there_from_place}
 use Rattle.flood.proofs.KnownRows.{known_row}
-use Rattle.flood.proofs.SentMessages.{IsAnswer, SentFirst, sent_after_row, sent_in_tick}
+use Rattle.flood.proofs.SentMessages.{IsAnswer, sent_after_row, sent_in_tick}
 use Rattle.flood.proofs.NodeFacts.{KnowsOwn, NodeFacts, facts_received, facts_ticked, known_on, taken_is_known}
 use Rattle.flood.proofs.ChannelFacts.{Flow, Given, IsHeard, IsNumbered, again_numbered, first_numbered, flow_acked, flow_again, flow_far, flow_learns, flow_ticked, flow_told}
 

@@ -1,18 +1,16 @@
 -- The laws of a network of floods, of what lasts in it.
-use Rattle.std.proofs.Common.{◌≡◌, ◌≢◌, ◌≤◌, ◌↔◌, ◌⊎◌, inl, inr, ℕ, ◌+◌, ◌<◌, ◌==◌, Bool, true, false, cond, List, [], ◌∷◌, length, get_or, map, refl, sym, ap, ◌∙◌, subst, arith, Contains, All, sum_by}
+use Rattle.std.proofs.Common.{◌≡◌, ◌≢◌, ◌≤◌, ◌↔◌, ◌⊎◌, inl, inr, ℕ, ◌+◌, ◌<◌, ◌==◌, Bool, true, false, cond, List, [], ◌∷◌, length, get_or, refl, sym, ap, ◌∙◌, subst, arith, Contains, All}
 use Rattle.std.specs.Prelude.{◌||◌}
 use Rattle.std.proofs.lemmas.List.Elements.{All-contains, Contains-get_or}
 use Rattle.std.proofs.lemmas.List.Sums.{get_or-le-sum_by}
 use Rattle.ason_base.specs.Network.{end_beside}
-use Rattle.ason_base.specs.Walks.{HaveDistinctLinks, Hop, IsWalk, Joins, NoLink, NoNode}
+use Rattle.ason_base.specs.Walks.{HaveDistinctLinks, IsWalk, Joins, NoLink, NoNode}
 use Rattle.ason_base.specs.declared.ids.NodeId.{NodeId}
 use Rattle.ason_base.specs.declared.network.TeRow.{TeRow}
 use Rattle.ason_base.specs.declared.steps.Step.{Step}
-use Rattle.ason_base.proofs.Ordered.{contains-none}
-use Rattle.flood.specs.declared.due.Due.{Due}
 use Rattle.flood.specs.declared.messages.FloodMsg.TheVariants.{Row}
 use Rattle.flood.specs.State.{FloodState, NeighbourState, is_end, is_known, pending_count}
-use Rattle.flood.specs.Networks.{FloodEvent, FloodNetwork, after, begun, nodes_beside, own_rows}
+use Rattle.flood.specs.Networks.{FloodNetwork, after, begun, nodes_beside, own_rows}
 use Rattle.flood.specs.NetworkLaws.{AreJoined, AreRowsOfLinks, CanBeSearched, DueRises, InEveryRun, JoinedKnowTheLinks, JoinedKnowTheSame, KnownCanBeSearched, KnownIsTrue, NothingIsDue, OneNumberIsOneRow, SentIsKnown, UnknownIsNew}
 use Rattle.flood.proofs.Members.{there_filter, there_map}
 use Rattle.flood.proofs.KnownRows.{known_is_there}
@@ -78,7 +76,7 @@ unknown_is_new_there = in_every_run UnknownIsNew (λ rows are w all u d number o
     ((all.node u).truth row (sent_known rows w all u d number origin row there)))
 
 pub due_rises : InEveryRun DueRises
-due_rises = in_every_run DueRises (λ rows are w all n l there. ((all.node n).lines l there).rising)
+due_rises = in_every_run DueRises (λ rows are w all n l there. ((all.node n).lines l there).order.rising)
 
 pub one_number_is_one_row : InEveryRun OneNumberIsOneRow
 one_number_is_one_row = in_every_run OneNumberIsOneRow (λ rows are w all u d number o p r s first second.

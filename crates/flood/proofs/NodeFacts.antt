@@ -1,27 +1,23 @@
 -- What lasts at each node of a network of floods.
-use Rattle.std.proofs.Common.{◌≡◌, ◌≢◌, ◌≤◌, ◌<◌, inl, inr, ℕ, ◌+◌, ◌==◌, Bool, true, false, cond, not, List, [], ◌∷◌, ◌++◌, length, get_or, map, filter, refl, ap, ◌∙◌, sym, subst, arith, Contains, AllPairs}
-use Rattle.std.specs.Prelude.{Option, Some, None, ◌&&◌}
-use Rattle.std.proofs.lemmas.List.{get_or-map, length-map}
-use Rattle.std.proofs.lemmas.List.Elements.{Contains-append_left, Contains-get_or, Contains-push_cases}
-use Rattle.std.proofs.lemmas.List.Kept.{AllPairs-filter}
-use Rattle.std.proofs.lemmas.List.Quantifiers.{all_pairs_push}
-use Rattle.ason_base.specs.Walks.{HaveDistinctLinks, HaveFewEnds}
+use Rattle.std.proofs.Common.{◌≡◌, inl, inr, ℕ, ◌+◌, ◌==◌, Bool, true, false, cond, not, List, [], ◌∷◌, map, refl, ap, ◌∙◌, sym, subst, Contains}
+use Rattle.std.specs.Prelude.{Option, Some, ◌&&◌}
+use Rattle.std.proofs.lemmas.List.Elements.{Contains-append_left, Contains-push_cases}
+use Rattle.ason_base.specs.Walks.{HaveDistinctLinks}
 use Rattle.ason_base.specs.declared.ids.NodeId.{NodeId}
 use Rattle.ason_base.specs.declared.network.TeRow.{TeRow}
-use Rattle.flood.specs.declared.due.Due.{Due}
 use Rattle.flood.specs.declared.messages.FloodMsg.{FloodMsg}
 use Rattle.flood.specs.declared.messages.FloodMsg.TheVariants.{Row, Ack}
-use Rattle.flood.specs.State.{NeighbourState, FloodState, acked, acked_by, has_room, is_end, is_from, is_known, is_new, older, older_neighbour, queued, queued_unless, received, ticked, with_neighbours, with_row}
+use Rattle.flood.specs.State.{NeighbourState, FloodState, IsInOrder, acked, acked_by, has_room, is_end, is_from, is_known, is_new, older_neighbour, queued, queued_unless, received, ticked, with_neighbours, with_row}
 use Rattle.flood.specs.NetworkLaws.{AreRowsOfLinks}
 use Rattle.flood.specs.Networks.{nodes_beside}
-use Rattle.flood.proofs.Members.{each_mapped, there_from_filter, there_map}
+use Rattle.flood.proofs.DueOrder.{acked_in_order, older_in_order, queued_in_order}
+use Rattle.flood.proofs.Members.{each_mapped, there_map}
 use Rattle.flood.proofs.KnownRows.{distinct_push, known_last, known_more, room_for_row}
 
 -- what a node keeps of a neighbour
 pub record LineFacts (n : ℕ) (l : NeighbourState) : Type 0 where
   pub other : (l.id.0 == n) ≡ false
-  pub rising : AllPairs (λ (x y : Due). x.number < y.number) l.due
-  pub below : (e : Due) → Contains l.due e → e.number ≤ l.sent
+  pub order : IsInOrder l.sent l.due
 
 -- this is a neighbour
 pub record HasNeighbour (s : FloodState) (id : NodeId) : Type 0 where
@@ -55,56 +51,25 @@ neighbour_mapped s t g same are id h = record {
   is = same h.line ∙ h.is;
 }
 
-older_rises : (ds : List Due) → AllPairs (λ (x y : Due). x.number < y.number) ds → AllPairs (λ (x y : Due). x.number < y.number) (map older ds)
-older_rises ds rising i j d before within =
-    let long : length (map older ds) ≡ length ds = length-map ds older in
-    let first : get_or (map older ds) i d ≡ older (get_or ds i d) = get_or-map older ds i d d (omega arith) in
-    let second : get_or (map older ds) j d ≡ older (get_or ds j d) = get_or-map older ds j d d (omega arith) in
-    let less : (get_or ds i d).number < (get_or ds j d).number = rising i j d before (omega arith) in
-    rw (first, second) less
-
 line_older : (n : ℕ) (l : NeighbourState) → LineFacts n l → LineFacts n (older_neighbour l)
-line_older n l f = record {
-  other = f.other;
-  rising = older_rises l.due f.rising;
-  below = each_mapped (λ (e : Due). e.number ≤ l.sent) (λ (e : Due). e.number ≤ l.sent) older l.due (λ e low. low) f.below;
-}
+line_older n l f = record { other = f.other; order = older_in_order l.sent l.due f.order }
 
 line_acked : (n : ℕ) (from : NodeId) (number : ℕ) (l : NeighbourState) → LineFacts n l → LineFacts n (acked_by from number l)
 line_acked n from number l f = by_from (l.id.0 == from.0)
   where
     by_from : (b : Bool) → LineFacts n (cond b (acked number l) l)
-    by_from true = record {
-      other = f.other;
-      rising = AllPairs-filter (λ (x y : Due). x.number < y.number) (λ (e : Due). not (e.number == number)) l.due f.rising;
-      below = λ e there. f.below e (there_from_filter (λ (d : Due). not (d.number == number)) l.due e there).0;
-    }
+    by_from true = record { other = f.other; order = acked_in_order l.sent number l.due f.order }
     by_from false = f
 
 line_queued : (n : ℕ) (from : Option NodeId) (origin : NodeId) (age : Option ℕ) (row : TeRow) (l : NeighbourState) → LineFacts n l
     → LineFacts n (queued_unless from origin age row l)
 line_queued n from origin age row l f = by_from (is_from from l)
   where
-    new : Due
-    new = record { number = l.sent + 1; age = age; origin = origin; row = row }
-
-    above : (k : ℕ) (d : Due) → k < length l.due → (get_or l.due k d).number < l.sent + 1
-    above k d within =
-        let low : (get_or l.due k d).number ≤ l.sent = f.below (get_or l.due k d) (Contains-get_or l.due k d within) in
-        omega arith
-
-    low : (e : Due) → Contains (l.due ++ new ∷ []) e → e.number ≤ l.sent + 1
-    low e there = elim (Contains-push_cases l.due new e there) [
-      | inl before ↦ (let less : e.number ≤ l.sent = f.below e before in omega arith)
-      | inr is ↦ subst (λ (d : Due). d.number ≤ l.sent + 1) is (omega arith)
-    ]
-
     by_from : (b : Bool) → LineFacts n (cond b l (queued origin age row l))
     by_from true = f
     by_from false = record {
       other = f.other;
-      rising = all_pairs_push (λ (x y : Due). x.number < y.number) l.due new f.rising above;
-      below = low;
+      order = queued_in_order l.sent l.due (record { number = l.sent + 1; age = age; origin = origin; row = row }) refl f.order;
     }
 
 lines_mapped : (n : ℕ) (g : NeighbourState → NeighbourState) (ns : List NeighbourState)
