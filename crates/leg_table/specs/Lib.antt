@@ -1,3 +1,4 @@
+pub mod Edits
 pub mod Fits
 pub mod LegClaims
 pub mod States

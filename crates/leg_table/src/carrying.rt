@@ -10,14 +10,14 @@ ghost use Rattle.leg_table.specs.LegClaims.{ClaimsFit, IsOwnerOf, MayAllEnter, M
 ghost use Rattle.leg_table.specs.States.{local_of, state_of};
 ghost use Rattle.leg_table.specs.Tables.{LegsRise};
 
+use crate::boxes::{BoxedChange, BoxedLeg, LegEdit};
 use crate::calls::{Calls, change_calls};
 use crate::changes::Change;
 use crate::labels::{TakenLabel, taken, taken_of};
 use crate::legs::{find_leg, set_leg, take_leg};
 use crate::tables::NodeTables;
-use ason_base::{Leg, Lsp, OutOfMemory, Outs};
+use ason_base::{Lsp, OutOfMemory, Outs};
 use link_owner::{ClaimFault, Owner};
-use mesh_rules::LegChange;
 use std::alloc::Global;
 
 // Claims
@@ -46,7 +46,7 @@ fn free(owner: &mut Owner, lsp: Lsp, taken: Option<TakenLabel>)
 }
 
 // The label that the LSP's leg took is free again.
-fn free_label(legs: &[Leg], owner: &mut Owner, lsp: Lsp)
+fn free_label(legs: &[BoxedLeg], owner: &mut Owner, lsp: Lsp)
     requires rising { LegsRise legs.now }
     requires fit { ClaimsFit legs.now owner.old }
     ensures { owner.new ≡ freed_of lsp (taken_of (find_leg lsp legs.now)) owner.old }
@@ -56,7 +56,7 @@ fn free_label(legs: &[Leg], owner: &mut Owner, lsp: Lsp)
 
 // Legs
 
-fn remove_leg(legs: &mut Vec<Leg>, owner: &mut Owner, lsp: Lsp)
+fn remove_leg(legs: &mut Vec<BoxedLeg>, owner: &mut Owner, lsp: Lsp)
     requires rising { LegsRise legs.old.items }
     requires fit { ClaimsFit legs.old.items owner.old }
     ensures items { legs.new.items ≡ without_leg lsp legs.old.items }
@@ -71,7 +71,7 @@ fn remove_leg(legs: &mut Vec<Leg>, owner: &mut Owner, lsp: Lsp)
 }
 
 // Puts a leg that takes no label. There is room for it.
-fn put_leg(legs: &mut Vec<Leg>, owner: &mut Owner, leg: Leg)
+fn put_leg(legs: &mut Vec<BoxedLeg>, owner: &mut Owner, leg: BoxedLeg)
     requires rising { LegsRise legs.old.items }
     requires room { vec_len legs.old < vec_capacity legs.old }
     requires fit { ClaimsFit legs.old.items owner.old }
@@ -83,12 +83,12 @@ fn put_leg(legs: &mut Vec<Leg>, owner: &mut Owner, leg: Leg)
     ensures fit { ClaimsFit legs.new.items owner.new }
     ensures fibres { SameFibres owner.old owner.new }
 {
-    free_label(legs, owner, leg.lsp);
+    free_label(legs, owner, leg.leg().lsp);
     set_leg(legs, leg);
 }
 
 // Makes the changes, one after the other. None takes a label, and there is room for them.
-fn change_later(legs: &mut Vec<Leg>, owner: &mut Owner, changes: Vec<LegChange>)
+fn change_later(legs: &mut Vec<BoxedLeg>, owner: &mut Owner, changes: Vec<LegEdit>)
     requires rising { LegsRise legs.old.items }
     requires room { vec_len legs.old + vec_len changes ≤ vec_capacity legs.old }
     requires fit { ClaimsFit legs.old.items owner.old }
@@ -99,19 +99,19 @@ fn change_later(legs: &mut Vec<Leg>, owner: &mut Owner, changes: Vec<LegChange>)
     ensures fibres { SameFibres owner.old owner.new }
 {
     for change in changes {
-        match change {
-            LegChange::Goes(lsp) => remove_leg(legs, owner, lsp),
-            LegChange::Put(leg) => put_leg(legs, owner, leg),
+        match change.into_change() {
+            BoxedChange::Goes(lsp) => remove_leg(legs, owner, lsp),
+            BoxedChange::Put(leg) => put_leg(legs, owner, leg),
         }
     }
 }
 
 // Puts a leg that takes this label, where its LSP took none. There is room for it. After want of memory nothing has changed.
 fn enter_leg(
-    legs: &mut Vec<Leg>,
+    legs: &mut Vec<BoxedLeg>,
     owner: &mut Owner,
     alloc: Global,
-    leg: Leg,
+    leg: BoxedLeg,
     label: TakenLabel,
 ) -> Result<(), OutOfMemory>
     requires rising { LegsRise legs.old.items }
@@ -128,17 +128,17 @@ fn enter_leg(
     ensures fit { ClaimsFit legs.new.items owner.new }
     ensures fibres { SameFibres owner.old owner.new }
 {
-    claim(owner, alloc, leg.lsp, label)?;
+    claim(owner, alloc, leg.leg().lsp, label)?;
     set_leg(legs, leg);
     Ok(())
 }
 
 // Makes the first change, which may take a label. There is room for it. After want of memory nothing has changed.
 fn change_first(
-    legs: &mut Vec<Leg>,
+    legs: &mut Vec<BoxedLeg>,
     owner: &mut Owner,
     alloc: Global,
-    change: LegChange,
+    change: LegEdit,
 ) -> Result<(), OutOfMemory>
     requires rising { LegsRise legs.old.items }
     requires room { vec_len legs.old < vec_capacity legs.old }
@@ -153,12 +153,12 @@ fn change_first(
     ensures fit { ClaimsFit legs.new.items owner.new }
     ensures fibres { SameFibres owner.old owner.new }
 {
-    match change {
-        LegChange::Goes(lsp) => {
+    match change.into_change() {
+        BoxedChange::Goes(lsp) => {
             remove_leg(legs, owner, lsp);
             Ok(())
         }
-        LegChange::Put(leg) => match taken(&leg) {
+        BoxedChange::Put(leg) => match taken(leg.leg()) {
             None => {
                 put_leg(legs, owner, leg);
                 Ok(())
@@ -170,10 +170,10 @@ fn change_first(
 
 // Makes the changes, one after the other. There is room for them. After want of memory nothing has changed.
 fn change_legs(
-    legs: &mut Vec<Leg>,
+    legs: &mut Vec<BoxedLeg>,
     owner: &mut Owner,
     alloc: Global,
-    changes: Vec<LegChange>,
+    changes: Vec<LegEdit>,
 ) -> Result<(), OutOfMemory>
     requires rising { LegsRise legs.old.items }
     requires room { vec_len legs.old + vec_len changes ≤ vec_capacity legs.old }
@@ -198,11 +198,11 @@ fn change_legs(
 
 /// Carries out changes of legs, one after the other. The owner's claims follow the legs. After want of memory nothing has
 /// changed.
-pub fn carry_out_legs(
+pub(crate) fn carry_out_legs(
     alloc: Global,
     tables: &mut NodeTables,
     owner: &mut Owner,
-    changes: Vec<LegChange>,
+    changes: Vec<LegEdit>,
 ) -> Result<(), OutOfMemory>
     requires owner { IsOwnerOf tables.old owner.old }
     requires may { MayBeMade (local_of tables.old) tables.old.legs changes.items }
@@ -240,6 +240,7 @@ pub fn carry_out(
         calls: changes,
         numbers,
         sent,
+        ..
     } = change;
     calls.calls.reserve(changes.len())?;
     carry_out_legs(calls.alloc, tables, owner, legs)?;

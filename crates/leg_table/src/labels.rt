@@ -53,6 +53,6 @@ pub fn usable(tables: &NodeTables, owner: &Owner, f: Fibre) -> LabelSet
     requires comes_in { IsTrue (is_fibre_in (local_of tables.now) f) }
     ensures { result ≡ usable (local_of tables.now) tables.now.legs f }
 {
-    let _rising = tables.legs();
+    tables.rises();
     owner.unclaimed(f)
 }

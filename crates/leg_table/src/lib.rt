@@ -1,6 +1,7 @@
 //! What a node keeps: its own links and those that it knows, its legs and its calls; and what a rule changes of it.
 #![tactic(auto)]
 
+mod boxes;
 mod calls;
 pub mod carrying;
 pub mod changes;

@@ -7,6 +7,7 @@ ghost use Rattle.ason_base.specs.Network.{find_node, row_of, touches};
 ghost use Rattle.mesh_rules.specs.Legs.{find_leg, with_leg, without_leg};
 ghost use Rattle.leg_table.specs.Tables.{LegsRise, PutRefused, find_own, in_phase, knows, learnt, new_table, node_or_none, leg_changed, with_back_labels, with_fibre, with_labels};
 
+use crate::boxes::BoxedLeg;
 use crate::legs;
 use ason_base::routes::touches;
 use ason_base::{
@@ -35,7 +36,7 @@ pub struct NodeTables {
     own: Vec<LinkSpec>,
     rows: Vec<TeRow>,
     down: Fibres,
-    pub(crate) legs: Vec<Leg>,
+    pub(crate) legs: Vec<BoxedLeg>,
 }
 
 impl Model for NodeTables {
@@ -87,7 +88,7 @@ impl NodeTables {
     }
 
     /// Puts a leg in its place. `Full` exactly at 4,096 legs. After an error nothing has changed.
-    pub fn put(&mut self, _: Global, leg: Leg) -> Result<(), PutFault>
+    pub fn put(&mut self, alloc: Global, leg: Leg) -> Result<(), PutFault>
         requires { find_leg leg.lsp self.old.legs ≡ None }
         ensures ok { OnOk result (self.new ≡ record self.old { legs = with_leg leg self.old.legs }) }
         ensures err { OnErr result (self.new ≡ self.old) }
@@ -97,7 +98,7 @@ impl NodeTables {
         if self.legs.len() >= MOST_LEGS {
             return Err(PutFault::Full);
         }
-        match legs::put_leg(&mut self.legs, leg) {
+        match legs::put_leg(&mut self.legs, alloc, leg) {
             Ok(()) => Ok(()),
             Err(_) => Err(PutFault::OutOfMemory),
         }
@@ -142,20 +143,19 @@ impl NodeTables {
         legs::set_back(&mut self.legs, *lsp, back_in, back_out);
     }
 
-    /// The legs, in order of LSP.
-    pub fn legs(&self) -> &[Leg]
-        ensures value { result.now ≡ self.now.legs }
+    /// Law: the legs rise by LSP, and there are at most 4,096.
+    pub fn rises(&self)
         ensures rising { LegsRise self.now.legs }
         ensures few { length self.now.legs ≤ 4096 }
     {
-        &self.legs
+        let _legs = &self.legs;
     }
 
     /// The leg at this place, from 0, in order of LSP: none exactly from the number of legs on.
     pub fn leg_at(&self, place: usize) -> Option<&Leg>
         ensures { option_copied result ≡ slice_get self.now.legs place }
     {
-        self.legs.get(place)
+        legs::leg_at(&self.legs, place)
     }
 
     /// The number of legs.

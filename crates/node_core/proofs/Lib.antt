@@ -1,3 +1,4 @@
 pub mod Answers
 pub mod Followed
+mod LegRows
 pub mod RowOrder

@@ -131,7 +131,7 @@ impl Node {
     {
         let id = self.tables.node().id;
         let calls = call_rows(alloc, id, &self.tables, self.calls.calls())?;
-        let legs = leg_rows(alloc, id, self.tables.legs())?;
+        let legs = leg_rows(alloc, id, &self.tables)?;
         Ok(TableRows { calls, legs })
     }
 }

@@ -9,6 +9,6 @@ returns c =
     let t = c.args.tables.now in
     let o = c.args.owner.now in
     c.unclaimed.ensures
-    ∙ unclaimed-usable (local_of t) t.legs o c.args.f (legs-to t.legs c.legs-rising.ensures.rising)
+    ∙ unclaimed-usable (local_of t) t.legs o c.args.f (legs-to t.legs c.rises.ensures.rising)
     c.requires.owner.claims c.requires.owner.fibres
     (c.requires.owner.fibres.fibres c.args.f ∙ c.requires.comes_in)
