@@ -146,6 +146,13 @@ impl FibreOwner {
         self.claims.retain(|claim| !is_of_lsp(claim, label, lsp));
     }
 
+    /// The claims, in the order in which they were made.
+    pub(crate) fn claims(&self) -> &[Claim]
+        ensures { result.now ≡ self.now.claims }
+    {
+        &self.claims
+    }
+
     /// The labels that no leg has.
     pub(crate) fn unclaimed(&self) -> LabelSet
         ensures { result ≡ unclaimed self.now.labels self.now.claims }
