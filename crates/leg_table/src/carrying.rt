@@ -1,12 +1,12 @@
 //! Carrying out what a rule changes: the legs with the claims that they have, the calls and the numbers.
 
-ghost use Rattle.std.specs.Prelude.{◌≡◌, ◌≤◌, ◌<◌, ◌+◌, IfOk, IfSome, IsTrue, None, OnErr, OnOk, Some, length, vec_capacity, vec_len};
+ghost use Rattle.std.specs.Prelude.{◌≡◌, ◌≤◌, ◌<◌, ◌+◌, IfErr, IfOk, IfSome, IsTrue, None, OnErr, OnOk, Some, length, not, vec_capacity, vec_len};
 ghost use Rattle.std.specs.List.{AllByRecursion};
-ghost use Rattle.link_owner.specs.Claims.{NoClaim, has, working_claim};
+ghost use Rattle.link_owner.specs.Claims.{NoClaim, RefusedFor};
 ghost use Rattle.link_owner.specs.Owners.{claim_added, claims_of, comes_in, has_label, labels_of};
 ghost use Rattle.mesh_rules.specs.Changes.{changed};
 ghost use Rattle.mesh_rules.specs.Legs.{find_leg, leg_changed, legs_changed, with_leg, without_leg};
-ghost use Rattle.leg_table.specs.LegClaims.{ClaimsFit, IsOwnerOf, MayAllEnter, MayBeMade, MayClaim, MayEnter, SameFibres, TakesNone, freed_of, taken, taken_of};
+ghost use Rattle.leg_table.specs.LegClaims.{ClaimsFit, IsOwnerOf, MayAllEnter, MayBeMade, MayClaim, MayEnter, SameFibres, TakesNone, bars, first_claim, freed_of, taken, taken_of};
 ghost use Rattle.leg_table.specs.States.{local_of, state_of};
 ghost use Rattle.leg_table.specs.Tables.{LegsRise};
 
@@ -16,20 +16,48 @@ use crate::changes::Change;
 use crate::labels::{TakenLabel, taken, taken_of};
 use crate::legs::{find_leg, set_leg, take_leg};
 use crate::tables::NodeTables;
-use ason_base::{Lsp, OutOfMemory, Outs};
+use ason_base::{Lsp, OutOfMemory, Outs, Role};
 use link_owner::{ClaimFault, Owner};
 use std::alloc::Global;
 
 // Claims
 
-fn claim(owner: &mut Owner, alloc: Global, lsp: Lsp, taken: TakenLabel) -> Result<(), OutOfMemory>
+// The label is given to a leg of this role.
+fn give(
+    owner: &mut Owner,
+    alloc: Global,
+    role: Role,
+    lsp: Lsp,
+    taken: TakenLabel,
+) -> Result<(), ClaimFault>
     requires comes_in { IsTrue (comes_in owner.old taken.fibre) }
     requires within { taken.label ≤ labels_of taken.fibre owner.old }
-    requires free { NoClaim (has taken.label) (claims_of taken.fibre owner.old) }
-    ensures ok { OnOk result (owner.new ≡ claim_added taken.fibre (working_claim taken.label lsp) owner.old) }
+    requires new { IsTrue (not (has_label owner.old taken.fibre taken.label lsp)) }
+    ensures ok { OnOk result (owner.new ≡ claim_added taken.fibre (first_claim role taken.label lsp) owner.old) }
+    ensures err { OnErr result (owner.new ≡ owner.old) }
+    ensures fault { IfErr result (RefusedFor (bars role taken.label) (claims_of taken.fibre owner.old)) }
+{
+    match role {
+        Role::Work => owner.claim(alloc, taken.fibre, taken.label, lsp),
+        Role::Back => owner.hold(alloc, taken.fibre, taken.label, lsp),
+    }
+}
+
+fn claim(
+    owner: &mut Owner,
+    alloc: Global,
+    role: Role,
+    lsp: Lsp,
+    taken: TakenLabel,
+) -> Result<(), OutOfMemory>
+    requires comes_in { IsTrue (comes_in owner.old taken.fibre) }
+    requires within { taken.label ≤ labels_of taken.fibre owner.old }
+    requires new { IsTrue (not (has_label owner.old taken.fibre taken.label lsp)) }
+    requires free { NoClaim (bars role taken.label) (claims_of taken.fibre owner.old) }
+    ensures ok { OnOk result (owner.new ≡ claim_added taken.fibre (first_claim role taken.label lsp) owner.old) }
     ensures err { OnErr result (owner.new ≡ owner.old) }
 {
-    match owner.claim(alloc, taken.fibre, taken.label, lsp) {
+    match give(owner, alloc, role, lsp, taken) {
         Ok(()) => Ok(()),
         Err(ClaimFault::OutOfMemory) => Err(OutOfMemory),
         Err(ClaimFault::Held(_)) => unreachable!(),
@@ -128,7 +156,8 @@ fn enter_leg(
     ensures fit { ClaimsFit legs.new.items owner.new }
     ensures fibres { SameFibres owner.old owner.new }
 {
-    claim(owner, alloc, leg.leg().lsp, label)?;
+    let entered = leg.leg();
+    claim(owner, alloc, entered.role, entered.lsp, label)?;
     set_leg(legs, leg);
     Ok(())
 }

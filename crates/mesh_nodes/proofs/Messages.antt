@@ -16,7 +16,7 @@ use Rattle.mesh_rules.specs.declared.changes.CallChange.TheVariants as call
 use Rattle.mesh_rules.specs.declared.neighbours.Neighbour.{Neighbour}
 use Rattle.mesh_rules.specs.Calls.{bare, blocked, call_of, is_asking}
 use Rattle.mesh_rules.specs.Changes.{changes_calls, followed_by, nothing, puts, removes, to_node}
-use Rattle.mesh_rules.specs.Legs.{closed, connected, find_leg, following, is_asked, is_closing, is_node, is_over, is_work, previous, with_leg}
+use Rattle.mesh_rules.specs.Legs.{closed, connected, find_leg, following, is_asked, is_closing, is_node, is_over, previous, with_leg}
 use Rattle.mesh_rules.specs.Messages.{arrival}
 use Rattle.mesh_rules.specs.PathErrs.{PathFailure, call_refused, err_passed, path_err_with, refused_here, removed}
 use Rattle.mesh_rules.specs.Resvs.{answered, call_connected, connected_here, is_expected, label_back, labels_left, passed_back, resv_with}
@@ -156,9 +156,9 @@ resv-fits p s a x W None fits found = nothing-fits p s W fits
 resv-fits p s a x W (Some g) fits found =
     if_cases (AnswerFits p s W) (is_expected a x g) _ _
     (λ e.
-    let rest : (is_work g.role && (is_over (following g) a.from a.link && has g.sent x)) ≡ true = both_right (is_asked g.phase) _ e in
-    let rest' : (is_over (following g) a.from a.link && has g.sent x) ≡ true = both_right (is_work g.role) _ rest in
-    answered-fits p s a x g W fits (leg-stands p s a.lsp g fits found) (both_left (is_over (following g) a.from a.link) _ rest') (previous g) refl)
+    let rest : (is_over (following g) a.from a.link && has g.sent x) ≡ true = both_right (is_asked g.phase) _ e in
+    answered-fits p s a x g W fits (leg-stands p s a.lsp g fits found)
+    (both_left (is_over (following g) a.from a.link) _ rest) (previous g) refl)
     (λ e. nothing-fits p s W fits)
 
 -- PathErr

@@ -11,12 +11,12 @@ use Rattle.mesh_rules.specs.declared.neighbours.Neighbour.{Neighbour}
 use Rattle.mesh_rules.specs.State.{NodeState}
 use Rattle.mesh_rules.specs.Changes.{Answer, nothing, puts, changes_calls, followed_by, to_node}
 use Rattle.mesh_rules.specs.LocalNodes.{LocalNode}
-use Rattle.mesh_rules.specs.Legs.{find_leg, is_asked, is_work, closed, connected, previous, following, is_over, usable}
+use Rattle.mesh_rules.specs.Legs.{find_leg, is_asked, closed, connected, previous, following, is_over, usable}
 use Rattle.mesh_rules.specs.Calls.{call_of, is_asking, bare}
 
 -- a Resv is taken by an Asked leg, from its next node, over its outgoing link, with a label of the set that was sent on
 abbrev pub is_expected : Arrival → ℕ → Leg → Bool
-is_expected a x g = is_asked g.phase && (is_work g.role && (is_over (following g) a.from a.link && has g.sent x))
+is_expected a x g = is_asked g.phase && (is_over (following g) a.from a.link && has g.sent x)
 
 -- a call without protection that was asked for stands; no other call is touched
 abbrev pub call_connected : Option CallRec → Answer
@@ -52,7 +52,7 @@ connected_here s x g = followed_by (puts (connected g None x) []) (call_connecte
 
 -- the labels that may go back: those that were offered and are usable now
 abbrev pub labels_left : LocalNode → NodeState → Leg → Neighbour → List ℕ
-labels_left p s g h = meet g.offered (usable p s.legs h.fibre)
+labels_left p s g h = meet g.offered (usable p s.legs g.role g.risks h.fibre)
 
 abbrev pub answered : LocalNode → NodeState → Arrival → ℕ → Leg → Option Neighbour → Answer
 answered p s a x g None = connected_here s x g

@@ -22,7 +22,8 @@ use Rattle.mesh_rules.specs.Machine.{Mesh, start}
 use Rattle.mesh_rules.specs.Events.{IsRun, after, route_of}
 use Rattle.mesh_laws.specs.CallLaw.{fits, phase_of, IsNamed}
 use Rattle.mesh_laws.specs.HopLaw.{HasOneLegEach, EveryHopHasAShape}
-use Rattle.mesh_laws.proofs.nodes.Facts.{CallFacts, DeskFits, FitsDesk, MeshFacts}
+use Rattle.mesh_laws.specs.NodeLaw.{DeskFits, FitsDesk}
+use Rattle.mesh_laws.proofs.nodes.Facts.{CallFacts, MeshFacts}
 use Rattle.mesh_nodes.specs.Order.{LegsRise}
 use Rattle.mesh_nodes.proofs.LegList.{all-found, found-lsp}
 use Rattle.mesh_laws.proofs.nodes.Runs.{facts-start, facts-step, facts-hold}

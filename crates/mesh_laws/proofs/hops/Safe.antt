@@ -16,6 +16,7 @@ use Rattle.mesh_rules.specs.Legs.{takes}
 use Rattle.mesh_rules.specs.Machine.{Mesh, start}
 use Rattle.mesh_rules.specs.Events.{after, route_of}
 use Rattle.mesh_laws.specs.HopLaw.{leg_at, mail_between, HasOneLegEach}
+use Rattle.mesh_laws.specs.LabelLaw.{MayShare, is_in_use}
 use Rattle.mesh_laws.specs.SafeLaw.{StandsAt, EveryRunIsSafe}
 use Rattle.mesh_laws.proofs.nodes.Facts.{MeshFacts}
 use Rattle.mesh_laws.proofs.nodes.Runs.{facts-hold}
@@ -48,13 +49,24 @@ takes_label : (f : Fibre) (x : ℕ) (g : Leg) → g.phase ≡ Live → g.in_fibr
     takes f x g ≡ true
 takes_label f x g live fibre label = rw (live, fibre, same_fibre-refl f, label) (same x)
 
+-- of two legs that share a label not both are Live
+both_live : (g h : Leg) → MayShare g h → g.phase ≡ Live → h.phase ≡ Live → ⊥
+both_live g h shares this that =
+    let both : (is_in_use g.phase && is_in_use h.phase) ≡ true = rw (this, that) refl in
+    let one = shares.one_in_use in
+    cc (both, one)
+
 -- two owners of one label are one LSP's
 owners : (t : Network) (s : Mesh) (f : Fibre) (x : ℕ) (l m : Lsp) → MeshFacts t s → Owner t s f x l →
     Owner t s f x m → l ≡ m
 owners t s f x l m facts a b =
     let at_one : a.node ≡ b.node = (let p = a.receiver in let q = b.receiver in cc (p, q)) in
     let found : leg_at s l b.node ≡ Some a.leg = rw (← at_one) a.found in
-    (facts.node b.node.0).one_leg f x l m a.leg b.leg found b.found (takes_label f x a.leg a.live a.fibre a.label) (takes_label f x b.leg b.live b.fibre b.label)
+    elim ((facts.node b.node.0).labels f x l m a.leg b.leg found b.found
+    (takes_label f x a.leg a.live a.fibre a.label) (takes_label f x b.leg b.live b.fibre b.label)) [
+      | inl same ↦ same
+      | inr shares ↦ absurd (both_live a.leg b.leg shares a.live b.live)
+    ]
 
 -- The node into which the fibre of a hop leads
 

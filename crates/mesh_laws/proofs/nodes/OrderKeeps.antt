@@ -8,7 +8,8 @@ use Rattle.ason_base.specs.declared.steps.Step.{Step}
 use Rattle.ason_base.specs.declared.network.LinkSpec.{LinkSpec}
 use Rattle.ason_base.specs.declared.calls.Phase.{Phase}
 use Rattle.ason_base.specs.declared.calls.Phase.TheVariants.{Asked, Held, Armed, Live, Closing, Falling}
-use Rattle.ason_base.specs.declared.calls.Role.TheVariants.{Work}
+use Rattle.ason_base.specs.declared.calls.Role.{Role}
+use Rattle.ason_base.specs.declared.calls.Role.TheVariants.{Work, Back}
 use Rattle.ason_base.specs.declared.calls.CallState.TheVariants.{Asking, Blocked}
 use Rattle.ason_base.specs.declared.calls.Cause.{Cause}
 use Rattle.ason_base.specs.declared.calls.Cause.TheVariants.{Unset, Spent, Full}
@@ -32,7 +33,8 @@ use Rattle.mesh_rules.specs.Orders.{on_order, on_item}
 use Rattle.mesh_rules.specs.Changes.{Answer, nothing, changes_calls, followed_by, changed}
 use Rattle.mesh_laws.specs.CallLaw.{fits, names, phase_of}
 use Rattle.mesh_nodes.proofs.Cases.{if_cases, both_left, both_right, not-true}
-use Rattle.mesh_laws.proofs.nodes.Facts.{CallFacts, FitsDesk, LegFacts, NodeFacts}
+use Rattle.mesh_laws.proofs.nodes.Facts.{CallFacts, LegFacts, NodeFacts}
+use Rattle.mesh_laws.specs.NodeLaw.{FitsDesk}
 use Rattle.mesh_nodes.proofs.LegList.{found-lsp, same_lsp-refl, same_lsp-eq, find-with_leg}
 use Rattle.mesh_laws.proofs.nodes.LegParts.{part-with_leg}
 use Rattle.mesh_laws.proofs.nodes.NewLegs.{closed-stands, first-stands}
@@ -163,13 +165,15 @@ keeps-on_setup t p s w None valid is facts =
 
 -- Release
 
-closed-closing : (f : Phase) → is_closing (closing_phase f Work) ≡ true
-closed-closing Asked = refl
-closed-closing Held = refl
-closed-closing Armed = refl
-closed-closing Live = refl
-closed-closing Closing = refl
-closed-closing Falling = refl
+closed-closing : (f : Phase) (r : Role) → is_closing (closing_phase f r) ≡ true
+closed-closing Asked r = refl
+closed-closing Held r = refl
+closed-closing Armed Work = refl
+closed-closing Armed Back = refl
+closed-closing Live Work = refl
+closed-closing Live Back = refl
+closed-closing Closing r = refl
+closed-closing Falling r = refl
 
 -- a leg at its ingress has a next node
 ingress-goes_on : (n next : ℕ) (g : Leg) → LegFacts n next g → g.lsp.ingress.0 ≡ n → is_some g.next ≡ true
@@ -230,8 +234,7 @@ keeps-released p s n c g found work here ingress facts =
           let one : closed g ≡ h = cc became in
           let not_torn : is_closing (closed g).phase ≡ false =
           subst (λ y. is_closing y.phase ≡ false) (sym one) standing in
-          let torn : is_closing (closing_phase g.phase g.role) ≡ true =
-          subst (λ r. is_closing (closing_phase g.phase r) ≡ true) (sym mine.role) (closed-closing g.phase) in
+          let torn : is_closing (closing_phase g.phase g.role) ≡ true = closed-closing g.phase g.role in
           absurd (cc (not_torn, torn)));
     }
 

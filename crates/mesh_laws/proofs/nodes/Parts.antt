@@ -19,7 +19,7 @@ use Rattle.mesh_laws.proofs.nodes.LegParts.{LegPart, MayStand, part-with_leg, pa
 use Rattle.mesh_laws.proofs.nodes.CallParts.{CallPart, Unnamed, named-work, unnamed-part}
 
 pub leg_part : (n : ℕ) (s : NodeState) → NodeFacts n s → LegPart n s.lsp s.legs
-leg_part n s facts = record { rise = facts.legs_rise; leg = facts.leg; one_leg = facts.one_leg }
+leg_part n s facts = record { rise = facts.legs_rise; leg = facts.leg; labels = facts.labels }
 
 pub call_part : (n : ℕ) (s : NodeState) → NodeFacts n s → CallPart n s.lsp s.legs s.calls
 call_part n s facts =
@@ -29,7 +29,7 @@ pub node_facts : (n : ℕ) (s : NodeState) → LegPart n s.lsp s.legs → CallPa
 node_facts n s legs calls = record {
   legs_rise = legs.rise;
   leg = legs.leg;
-  one_leg = legs.one_leg;
+  labels = legs.labels;
   calls_rise = calls.rise;
   call = calls.call;
   one_call = calls.one_call;

@@ -17,16 +17,17 @@ use Rattle.mesh_rules.specs.Commands.{is_again, is_valid}
 use Rattle.mesh_rules.specs.Machine.{Mesh, commit, start, without_first, without_item}
 use Rattle.mesh_rules.specs.Events.{IsRun, after, is_enabled, on_first, on_first_item, posted, step}
 use Rattle.mesh_nodes.proofs.Cases.{both_left, if_cases}
-use Rattle.mesh_laws.proofs.nodes.Facts.{DeskFits, FitsDesk, MeshFacts, NodeFacts}
+use Rattle.mesh_laws.specs.NodeLaw.{DeskFits, FitsDesk}
+use Rattle.mesh_laws.proofs.nodes.Facts.{MeshFacts, NodeFacts}
 use Rattle.mesh_laws.proofs.nodes.PathKeeps.{Keeps}
 use Rattle.mesh_laws.proofs.nodes.MessageKeeps.{keeps-on_message}
 use Rattle.mesh_laws.proofs.nodes.OrderKeeps.{keeps-on_item}
 
-new-facts : (n : ℕ) → NodeFacts n new_node
+pub new-facts : (n : ℕ) → NodeFacts n new_node
 new-facts n = record {
   legs_rise = tt;
   leg = λ l g found. absurd (cc found);
-  one_leg = λ f x l m g h found there this that. absurd (cc found);
+  labels = λ f x l m g h found there this that. absurd (cc found);
   calls_rise = tt;
   call = λ k c found. absurd (cc found);
   one_call = λ l k m c d found there this that. absurd (cc found);
