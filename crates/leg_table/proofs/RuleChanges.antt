@@ -36,7 +36,9 @@ use Rattle.mesh_rules.specs.PathErrs.{PathFailure, call_refused, err_passed, on_
 use Rattle.mesh_rules.specs.Paths.{PathRequest, admitted, at_egress, checks, egress_leg, first_failure, first_path, in_transit, is_active, judged, offered_labels, on_path, path_with, risks_here, role_of}
 use Rattle.mesh_rules.specs.Releases.{release_with, releases, tears}
 use Rattle.mesh_rules.specs.Resvs.{answered, call_connected, is_expected, label_back, labels_left, on_resv, only, passed_back, resv_with}
-use Rattle.mesh_rules.specs.Setups.{SetupRequest, first_link, is_full, is_order_here, is_spent, new_call, on_setup, over_first, setup_with}
+use Rattle.mesh_rules.specs.KnownRows.{known_rows}
+use Rattle.mesh_rules.specs.LeastRoutes.{Trip, least_trip}
+use Rattle.mesh_rules.specs.Setups.{SetupRequest, first_link, is_full, is_order_here, is_spent, new_call, on_setup, over_first, over_found, setup_with}
 use Rattle.mesh_rules.specs.State.{NodeState}
 use Rattle.mesh_rules.specs.Tears.{on_tear, tear_with, torn}
 use Rattle.mesh_nodes.specs.Kept.{LegFits}
@@ -270,8 +272,12 @@ setup-may p s w = go (find_call w.call s.calls)
         if_cases (Fine p s.legs) (is_spent s) _ _ (λ e. tt)
         (λ e. if_cases (Fine p s.legs) (is_full s) _ _ (λ e. tt) (λ e. (tt, tt)))
 
+    found : (o : Option Trip) → MayBeMade p s.legs (over_found p s w o).legs
+    found None = tt
+    found (Some r) = over r.steps (first_link p r.steps)
+
     new : (via : Option (List Step)) → MayBeMade p s.legs (new_call p s w via).legs
-    new None = tt
+    new None = found (least_trip (known_rows p s) p.id w.egress)
     new (Some route) = over route (first_link p route)
 
     go : (o : Option CallRec) → MayBeMade p s.legs (setup_with p s w o).legs

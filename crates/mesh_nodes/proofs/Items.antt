@@ -3,7 +3,7 @@ use Rattle.std.proofs.Common.{◌≡◌, ◌≤◌, ◌<◌, ◌+◌, ℕ, Bool,
 use Rattle.std.specs.Prelude.{◌&&◌, Option, Some, None}
 use Rattle.std.specs.List.{AllByRecursion}
 use Rattle.ason_base.specs.declared.calls.Cause.{Cause}
-use Rattle.ason_base.specs.declared.calls.Cause.TheVariants.{Spent, Full}
+use Rattle.ason_base.specs.declared.calls.Cause.TheVariants.{NoRoute, Spent, Full}
 use Rattle.ason_base.specs.declared.commands.Command.TheVariants.{Setup, Release, Protect, Retry, Revert, Fail, Repair}
 use Rattle.ason_base.specs.declared.commands.DeskItem.TheVariants.{Order, Alarm, Clear}
 use Rattle.ason_base.specs.declared.ids.CallNo.{CallNo}
@@ -20,9 +20,11 @@ use Rattle.mesh_rules.specs.declared.limits.TheConstants.{MOST_LEGS, MOST_LINKS_
 use Rattle.mesh_rules.specs.declared.neighbours.Neighbour.{Neighbour}
 use Rattle.mesh_rules.specs.Calls.{find_call, without_call}
 use Rattle.mesh_rules.specs.Changes.{changes_calls, followed_by, nothing}
+use Rattle.mesh_rules.specs.KnownRows.{known_rows}
+use Rattle.mesh_rules.specs.LeastRoutes.{Trip, least_trip}
 use Rattle.mesh_rules.specs.Legs.{closed, find_leg, following, leg_of, with_leg}
 use Rattle.mesh_rules.specs.Releases.{release_with, releases, tear_to, tears}
-use Rattle.mesh_rules.specs.Setups.{SetupRequest, admitted_setup, begins, first_leg, first_link, is_followable, is_full, is_order_here, is_spent, new_call, next_lsp, over_first, refused_setup, setup_with}
+use Rattle.mesh_rules.specs.Setups.{SetupRequest, admitted_setup, begins, first_leg, first_link, is_followable, is_full, is_order_here, is_spent, new_call, next_lsp, over_first, over_found, refused_setup, setup_with}
 use Rattle.mesh_rules.specs.LocalNodes.{LocalNode, own_link}
 use Rattle.mesh_rules.specs.State.{NodeState}
 use Rattle.mesh_nodes.specs.Kept.{LegFits, LegsFit, NodeFits}
@@ -103,10 +105,17 @@ module _ (p : LocalNode) (s : NodeState) (w : SetupRequest) (W : Type 0) (place 
       go true e f = admitted-fits hop out route f (few-steps (length route) (both_right (nat_eq hop.node.0 p.id.0) _ e))
       go false e f = absurd (cc f)
 
+  route-fits : (route : List Step) → AnswerFits p s W (over_first p s w route (first_link p route))
+  route-fits [] = nothing-fits p s W fits
+  route-fits (hop ∷ route) = over-fits hop route (first_link p (hop ∷ route)) refl
+
+  found-fits : (o : Option Trip) → AnswerFits p s W (over_found p s w o)
+  found-fits None = refused-fits NoRoute
+  found-fits (Some r) = route-fits r.steps
+
   new_call-fits : (via : Option (List Step)) → AnswerFits p s W (new_call p s w via)
-  new_call-fits None = nothing-fits p s W fits
-  new_call-fits (Some []) = nothing-fits p s W fits
-  new_call-fits (Some (hop ∷ route)) = over-fits hop route (first_link p (hop ∷ route)) refl
+  new_call-fits None = found-fits (least_trip (known_rows p s) p.id w.egress)
+  new_call-fits (Some route) = route-fits route
 
 setup-fits : (p : LocalNode) (s : NodeState) (w : SetupRequest) (W : Type 0) (o : Option CallRec) → LocalNodeFits p → NodeFits p s →
     AnswerFits p s W (setup_with p s w o)

@@ -8,6 +8,7 @@ ghost use Rattle.mesh_rules.specs.State.{new_node};
 ghost use Rattle.mesh_nodes.specs.Kept.{NodeFits};
 ghost use Rattle.mesh_nodes.specs.LocalNodes.{LocalNodeFits};
 ghost use Rattle.mesh_nodes.specs.Order.{CallRowsRise, LegRowsRise};
+ghost use Rattle.mesh_nodes.specs.Routes.{RowsFit};
 ghost use Rattle.mesh_nodes.specs.Sent.{AllToNeighbours, AllWritable};
 ghost use Rattle.node_core.specs.Nodes.{IsAnswerOf, IsWritableInput, answer_to, stepped};
 
@@ -76,10 +77,11 @@ impl Node {
         self.tables.node().id
     }
 
-    /// Law: the node knows its own links, and what it keeps fits them.
+    /// Law: the node knows its own links, what it keeps fits them, and routes can be asked of the rows that it knows.
     pub fn fits(&self)
         ensures place { LocalNodeFits self.now.place }
         ensures state { NodeFits self.now.place self.now.state }
+        ensures rows { RowsFit self.now.place self.now.state }
     {
         let _tables = &self.tables;
     }

@@ -84,6 +84,7 @@ step_facts : (t : Network) (s : Mesh) → MeshFacts t s → StepFacts t s
 step_facts t s facts = record {
   call = λ n k c found. call_stands n (s.nodes n) c ((facts.node n).call k c found);
   desk = λ n i items is. item_fits t n i (let fits : DeskFits t n (i ∷ items) = rw is at (facts.desk n) in fits.0);
+  learnt = facts.learnt;
 }
 
 -- each LSP with its route, in every state of every run

@@ -14,6 +14,7 @@ use Rattle.mesh_rules.specs.Calls.{find_call}
 use Rattle.mesh_rules.specs.State.{NodeState}
 use Rattle.mesh_rules.specs.Machine.{Mesh}
 use Rattle.mesh_nodes.specs.Order.{CallsRise, LegsRise}
+use Rattle.mesh_nodes.specs.Routes.{AreRowsOf}
 use Rattle.mesh_laws.specs.CallLaw.{FitsLegs, names}
 use Rattle.mesh_laws.specs.LabelLaw.{MayShare}
 use Rattle.mesh_laws.specs.NodeLaw.{DeskFits}
@@ -94,3 +95,5 @@ pub record NodeFacts (n : ℕ) (s : NodeState) : Type 0 where
 pub record MeshFacts (t : Network) (s : Mesh) : Type 0 where
   pub node : (n : ℕ) → NodeFacts n (s.nodes n)
   pub desk : (n : ℕ) → DeskFits t n (s.desks n)
+  -- what a node learnt are rows of the network
+  pub learnt : (n : ℕ) → AreRowsOf t (s.nodes n).learnt

@@ -12,7 +12,7 @@ use Rattle.ason_base.specs.declared.calls.Role.{Role}
 use Rattle.ason_base.specs.declared.calls.Role.TheVariants.{Work, Back}
 use Rattle.ason_base.specs.declared.calls.CallState.TheVariants.{Asking, Blocked}
 use Rattle.ason_base.specs.declared.calls.Cause.{Cause}
-use Rattle.ason_base.specs.declared.calls.Cause.TheVariants.{Unset, Spent, Full}
+use Rattle.ason_base.specs.declared.calls.Cause.TheVariants.{Unset, NoRoute, Spent, Full}
 use Rattle.ason_base.specs.declared.commands.Command.{Command}
 use Rattle.ason_base.specs.declared.commands.Command.TheVariants.{Setup, Release, Protect, Retry, Revert, Fail, Repair}
 use Rattle.ason_base.specs.declared.commands.DeskItem.{DeskItem}
@@ -26,7 +26,9 @@ use Rattle.mesh_rules.specs.Legs.{find_leg, is_closing, closed, closing_phase, w
 use Rattle.mesh_rules.specs.Calls.{find_call, with_call, without_call}
 use Rattle.mesh_rules.specs.Commands.{is_given_backup}
 use Rattle.mesh_rules.specs.State.{NodeState}
-use Rattle.mesh_rules.specs.Setups.{SetupRequest, is_full, is_order_here, admitted_setup, call_record, refused_setup, first_leg, next_lsp, begins, is_spent, first_link, over_first, new_call, setup_with}
+use Rattle.mesh_rules.specs.KnownRows.{known_rows}
+use Rattle.mesh_rules.specs.LeastRoutes.{Trip, least_trip}
+use Rattle.mesh_rules.specs.Setups.{SetupRequest, is_full, is_order_here, admitted_setup, call_record, refused_setup, first_leg, next_lsp, begins, is_spent, first_link, over_first, over_found, new_call, setup_with}
 use Rattle.mesh_rules.specs.declared.changes.CallChange.TheVariants as call
 use Rattle.mesh_rules.specs.Releases.{tears, releases, release_with}
 use Rattle.mesh_rules.specs.Orders.{on_order, on_item}
@@ -134,10 +136,18 @@ keeps-over_first p s w route None unbacked away unknown facts = facts
 keeps-over_first p s w route (Some out) unbacked away unknown facts =
     keeps-admitted p s w out (drop 1 route) unbacked away unknown facts
 
+keeps-over_found : (p : LocalNode) (s : NodeState) (w : SetupRequest) (o : Option Trip) → w.backup ≡ None →
+    nat_eq w.egress.0 p.id.0 ≡ false → find_call w.call s.calls ≡ None → NodeFacts p.id.0 s →
+    Keeps p s (over_found p s w o)
+keeps-over_found p s w None unbacked away unknown facts = keeps-refused p s w NoRoute unbacked unknown facts
+keeps-over_found p s w (Some r) unbacked away unknown facts =
+    keeps-over_first p s w r.steps (first_link p r.steps) unbacked away unknown facts
+
 keeps-new_call : (p : LocalNode) (s : NodeState) (w : SetupRequest) (o : Option (List Step)) → w.backup ≡ None →
     nat_eq w.egress.0 p.id.0 ≡ false → find_call w.call s.calls ≡ None → NodeFacts p.id.0 s →
     Keeps p s (new_call p s w o)
-keeps-new_call p s w None unbacked away unknown facts = facts
+keeps-new_call p s w None unbacked away unknown facts =
+    keeps-over_found p s w (least_trip (known_rows p s) p.id w.egress) unbacked away unknown facts
 keeps-new_call p s w (Some route) unbacked away unknown facts =
     keeps-over_first p s w route (first_link p route) unbacked away unknown facts
 

@@ -2,16 +2,16 @@
 use Rattle.std.proofs.Common.{◌≡◌, ◌⊎◌, inl, inr, ℕ, Bool, true, false, cond, nat_eq, List, [], ◌∷◌, ◌++◌, refl, sym, ap, ◌∙◌}
 use Rattle.std.specs.Prelude.{◌&&◌, ◌||◌, Some, None, fold}
 use Rattle.ason_base.specs.Network.{Network, find_link, is_distinct, other_end, touches}
-use Rattle.ason_base.specs.Routes.{across, is_end, nodes_of, one_step, route_end}
-use Rattle.ason_base.specs.Walks.{Hop, IsWalk, Joins, NoLink, NoNode}
+use Rattle.ason_base.specs.Routes.{across, is_end, makes_route, nodes_of, one_step, route_end}
+use Rattle.ason_base.specs.Walks.{HaveMetrics, Hop, IsWalk, Joins, NoLink, NoNode}
 use Rattle.ason_base.specs.declared.ids.NodeId.{NodeId}
 use Rattle.ason_base.specs.declared.network.LinkSpec.{LinkSpec}
 use Rattle.ason_base.specs.declared.network.TeRow.{TeRow}
 use Rattle.ason_base.specs.declared.steps.Step.{Step}
 use Rattle.ason_base.proofs.Bridges.{same_node}
 use Rattle.mesh_rules.specs.declared.limits.TheConstants.{MOST_LINKS_OF_ROUTE}
-use Rattle.mesh_rules.specs.LeastRoutes.{trips}
-use Rattle.mesh_nodes.specs.Routes.{AreRowsOf, FoundRoutesLead, IsRowOf}
+use Rattle.mesh_rules.specs.LeastRoutes.{Trip, least_trip, trips}
+use Rattle.mesh_nodes.specs.Routes.{AreRowsOf, IsRowOf}
 use Rattle.mesh_nodes.proofs.routes.Found.{least_trip-once}
 use Rattle.mesh_nodes.proofs.routes.Least.{chosen-is}
 use Rattle.mesh_nodes.proofs.routes.Walked.{each-leads, node_test}
@@ -48,7 +48,7 @@ crosses : (t : Network) (rows : List TeRow) (a b : NodeId) (s : Step) (row : TeR
     Hop rows NoLink NoNode a s row b → one_step t (Some a) s ≡ Some b
 crosses t rows a b s row are hop =
     let is : IsRowOf t row = are row hop.known in
-    let joins = joins-link row is.link a b is.low is.high hop.joins in
+    let joins = joins-link row is.link a b (ap (λ (r : TeRow). r.low) is.is) (ap (λ (r : TeRow). r.high) is.is) hop.joins in
     let found : find_link t s.link ≡ Some is.link = ap (find_link t) hop.link ∙ is.found in
     ap (λ c. cond c (across (find_link t s.link) a) None) (node_test s.node a hop.sender)
     ∙ ap (λ o. across o a) found
@@ -65,8 +65,9 @@ leads-there t rows are b (s ∷ steps) a cost walk =
 both : (p q : Bool) → p ≡ true → q ≡ true → (p && q) ≡ true
 both p q h k = rw (h, k) refl
 
-pub found-leads : FoundRoutesLead
-found-leads t rows a b r are metrics e =
+pub found-over : (t : Network) (rows : List TeRow) (a b : NodeId) (r : Trip) → AreRowsOf t rows → HaveMetrics rows →
+    least_trip rows a b ≡ Some r → makes_route t a b r.steps ≡ true
+found-over t rows a b r are metrics e =
     let is = chosen-is (trips rows MOST_LINKS_OF_ROUTE a b) r e in
     let walk = (each-leads rows MOST_LINKS_OF_ROUTE a b r is.there).0 in
     both (is_end (route_end t a r.steps) b) (is_distinct (nodes_of r.steps ++ b.0 ∷ []))

@@ -1,6 +1,7 @@
 use Rattle.mesh_nodes.proofs.routes.Backups.{least_backup-least, least_backup-once, no_backup-none}
 use Rattle.mesh_nodes.proofs.routes.Found.{least_trip-least, least_trip-once, no_trip-none}
-use Rattle.mesh_nodes.proofs.routes.Makes.{found-leads}
+use Rattle.mesh_nodes.proofs.routes.Nodes.{found-followed, found-leads}
+use Rattle.mesh_nodes.proofs.routes.Topologies.{new-rows}
 use Rattle.mesh_nodes.proofs.laws.least_routes.Goals as goal
 
 pub returns-clause-least : goal.returns-clause-least
@@ -23,3 +24,9 @@ returns-clause-no_backup c = no_backup-none
 
 pub returns-clause-backup_once : goal.returns-clause-backup_once
 returns-clause-backup_once c = least_backup-once
+
+pub returns-clause-new : goal.returns-clause-new
+returns-clause-new c = new-rows
+
+pub returns-clause-followed : goal.returns-clause-followed
+returns-clause-followed c = found-followed
