@@ -1,4 +1,5 @@
--- In every state of every run a label of a fibre is one LSP's at the node into which the fibre leads, or backups share it
+-- In every state of every run a label of a fibre is one LSP's at the node into which the fibre leads, or backups share
+-- it
 -- whose primaries have no risk in common (RFC 4872, section 8); and a Live leg has a label for each fibre.
 use Rattle.std.specs.Prelude.{◌≡◌, ◌&&◌, ℕ, Bool, true, false, List, IsTrue, All, is_some}
 use Rattle.std.specs.List.{AllPairs}

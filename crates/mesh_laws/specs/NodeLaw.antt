@@ -19,7 +19,8 @@ use Rattle.mesh_laws.specs.LabelLaw.{LabelsAreShared}
 
 -- a valid command of a call that begins at node n
 abbrev pub FitsDesk : Network → ℕ → DeskItem → Type 0
-FitsDesk t n (Order (Setup call from to protected both via backup)) = IsTrue (is_valid t (Setup call from to protected both via backup)) × (from.0 ≡ n)
+FitsDesk t n (Order (Setup call from to protected both via backup)) =
+    IsTrue (is_valid t (Setup call from to protected both via backup)) × (from.0 ≡ n)
 FitsDesk t n (Order (Release call from)) = IsTrue (is_valid t (Release call from)) × (from.0 ≡ n)
 FitsDesk t n (Order (Protect call from)) = IsTrue (is_valid t (Protect call from)) × (from.0 ≡ n)
 FitsDesk t n (Order (Retry call from)) = IsTrue (is_valid t (Retry call from)) × (from.0 ≡ n)

@@ -54,7 +54,8 @@ role-fits (Work guard) = refl
 role-fits (Back active work primary) = refl
 
 -- A Path over this link, from its other end, whose ingress is elsewhere. W: the Path can be written.
-module _ (p : LocalNode) (s : NodeState) (m : PathRequest) (link : LinkSpec) (W : Type 0) (place : LocalNodeFits p) (fits : NodeFits p s)
+module _ (p : LocalNode) (s : NodeState) (m : PathRequest) (link : LinkSpec) (W : Type 0) (place : LocalNodeFits p)
+    (fits : NodeFits p s)
     (own : own_link p m.arrival.link ≡ Some link) (led : leads (Some link) m.arrival.from p.id ≡ true)
     (far : nat_eq m.arrival.lsp.ingress.0 p.id.0 ≡ false) where
   refused-fits : (code : ErrCode) → AnswerFits p s W (judged p s m link (Some code))
@@ -149,7 +150,9 @@ module _ (p : LocalNode) (s : NodeState) (m : PathRequest) (link : LinkSpec) (W 
       at_egress-fits risks offered (least offered) room (flip p.id.0 m.arrival.egress.0 true on)
   admitted-fits risks offered (hop ∷ route) on room some short =
       in_transit-fits risks hop.link route offered (own_link p hop.link) refl room
-      (flip p.id.0 m.arrival.egress.0 false (not-true (nat_eq p.id.0 m.arrival.egress.0) (both_left _ (nat_eq hop.node.0 p.id.0 && (not (nat_eq hop.link.0 m.arrival.link.0) && is_link_there (own_link p hop.link))) on)))
+      (flip p.id.0 m.arrival.egress.0 false (not-true (nat_eq p.id.0 m.arrival.egress.0)
+      (both_left _ (nat_eq hop.node.0 p.id.0 && (not (nat_eq hop.link.0 m.arrival.link.0)
+      && is_link_there (own_link p hop.link))) on)))
       some (λ w. (let few = (short w).0 in omega arith, (short w).1))
 
   judged-fits : (W → (length m.route ≤ 64) × IsWritableRole m.role) →
@@ -170,25 +173,31 @@ module _ (p : LocalNode) (s : NodeState) (m : PathRequest) (link : LinkSpec) (W 
           rw (e, f, h, g)
           (admitted-fits (risks_here p s m) (offered_labels p s m link) m.route f (below (length s.legs) e) g short)
 
-first-fits : (p : LocalNode) (s : NodeState) (m : PathRequest) (W : Type 0) (o : Option LinkSpec) → own_link p m.arrival.link ≡ o →
-    (W → (length m.route ≤ 64) × IsWritableRole m.role) → LocalNodeFits p → NodeFits p s → AnswerFits p s W (first_path p s m o)
+first-fits : (p : LocalNode) (s : NodeState) (m : PathRequest) (W : Type 0) (o : Option LinkSpec) →
+    own_link p m.arrival.link ≡ o →
+    (W → (length m.route ≤ 64) × IsWritableRole m.role) → LocalNodeFits p → NodeFits p s →
+    AnswerFits p s W (first_path p s m o)
 first-fits p s m W None own short place fits = nothing-fits p s W fits
 first-fits p s m W (Some link) own short place fits =
     if_cases (AnswerFits p s W)
-    (not (is_active m.role) && (leads (Some link) m.arrival.from p.id && not (nat_eq m.arrival.lsp.ingress.0 p.id.0))) _ _
+    (not (is_active m.role) && (leads (Some link) m.arrival.from p.id
+    && not (nat_eq m.arrival.lsp.ingress.0 p.id.0))) _ _
     (λ e.
     let rest : (leads (Some link) m.arrival.from p.id && not (nat_eq m.arrival.lsp.ingress.0 p.id.0)) ≡ true =
     both_right (not (is_active m.role)) _ e in
     let led : leads (Some link) m.arrival.from p.id ≡ true = both_left (leads (Some link) m.arrival.from p.id) _ rest in
-    let far : nat_eq m.arrival.lsp.ingress.0 p.id.0 ≡ false = not-true _ (both_right (leads (Some link) m.arrival.from p.id) _ rest) in
+    let far : nat_eq m.arrival.lsp.ingress.0 p.id.0 ≡ false =
+    not-true _ (both_right (leads (Some link) m.arrival.from p.id) _ rest) in
     judged-fits p s m link W place fits own led far short)
     (λ e. nothing-fits p s W fits)
 
 path-fits : (p : LocalNode) (s : NodeState) (m : PathRequest) (W : Type 0) (o : Option Leg) →
-    (W → (length m.route ≤ 64) × IsWritableRole m.role) → LocalNodeFits p → NodeFits p s → AnswerFits p s W (path_with p s m o)
+    (W → (length m.route ≤ 64) × IsWritableRole m.role) → LocalNodeFits p → NodeFits p s →
+    AnswerFits p s W (path_with p s m o)
 path-fits p s m W None short place fits = first-fits p s m W (own_link p m.arrival.link) refl short place fits
 path-fits p s m W (Some g) short place fits = nothing-fits p s W fits
 
 pub on_path-fits : (p : LocalNode) (s : NodeState) (m : PathRequest) (W : Type 0) →
-    (W → (length m.route ≤ 64) × IsWritableRole m.role) → LocalNodeFits p → NodeFits p s → AnswerFits p s W (on_path p s m)
+    (W → (length m.route ≤ 64) × IsWritableRole m.role) → LocalNodeFits p → NodeFits p s →
+    AnswerFits p s W (on_path p s m)
 on_path-fits p s m W short place fits = path-fits p s m W (find_leg m.arrival.lsp s.legs) short place fits

@@ -19,7 +19,8 @@ Rises n (l ∷ links) = (n < l.id.0) × Rises l.id.0 links
 
 -- the link at this place has a number above that of the one before, the first above n
 abbrev is_above : ℕ → List LinkSpec → ℕ → Bool
-is_above n links k = nat_lt (cond (nat_eq k 0) n (link_number (slice_get links (k - 1)))) (link_number (slice_get links k))
+is_above n links k = nat_lt (cond (nat_eq k 0) n (link_number (slice_get links (k - 1))))
+    (link_number (slice_get links k))
 
 without_first : (n : ℕ) (l : LinkSpec) (links : List LinkSpec) (k : ℕ) → is_above n (l ∷ links) (suc k) ≡ true →
     is_above l.id.0 links k ≡ true
@@ -30,10 +31,12 @@ without_first n l links (suc k) e =
     let first : nat_eq (suc (suc k)) 0 ≡ false = grind arith in
     let later : nat_eq (suc k) 0 ≡ false = grind arith in
     let at : nat_lt (link_number (slice_get (l ∷ links) (suc k))) (link_number (slice_get links (suc k))) ≡ true =
-    sym (ap (λ b. nat_lt (cond b n (link_number (slice_get (l ∷ links) (suc (suc k) - 1)))) (link_number (slice_get links (suc k)))) first
+    sym (ap (λ b. nat_lt (cond b n (link_number (slice_get (l ∷ links) (suc (suc k) - 1))))
+    (link_number (slice_get links (suc k)))) first
     ∙ ap (λ j. nat_lt (link_number (slice_get (l ∷ links) j)) (link_number (slice_get links (suc k)))) here) ∙ e
     in
-    ap (λ b. nat_lt (cond b l.id.0 (link_number (slice_get links (suc k - 1)))) (link_number (slice_get links (suc k)))) later
+    ap (λ b. nat_lt (cond b l.id.0 (link_number (slice_get links (suc k - 1))))
+    (link_number (slice_get links (suc k)))) later
     ∙ ap (λ j. nat_lt (link_number (slice_get links j)) (link_number (slice_get links (suc k)))) before ∙ at
 
 less : (a b : ℕ) → nat_lt a b ≡ true → a < b
@@ -59,13 +62,17 @@ none_equal n m (l ∷ links) most rise =
 
 distinct : (n : ℕ) (links : List LinkSpec) → Rises n links → is_distinct (map (λ l. l.id.0) links) ≡ true
 distinct n [] rise = refl
-distinct n (l ∷ links) rise = rw (none_equal l.id.0 l.id.0 links (omega arith) rise.1, distinct l.id.0 links rise.1) refl
+distinct n (l ∷ links) rise = rw (
+  none_equal l.id.0 l.id.0 links (omega arith) rise.1,
+  distinct l.id.0 links rise.1,
+) refl
 
 -- Metrics
 
 at-each-place : (t : Network) → IsTopology t → All (λ l. is_link t.nodes l ≡ true) t.links
 at-each-place t valid k d below =
-    let here : is_link_here t.nodes (slice_get t.links k) ≡ true = and_second (is_after t.links k) _ (valid.links k below) in
+    let here : is_link_here t.nodes (slice_get t.links k) ≡ true =
+    and_second (is_after t.links k) _ (valid.links k below) in
     let found : slice_get t.links k ≡ Some (get_or t.links k d) = slice_get-get_or t.links k d below in
     rw found at here
 
@@ -82,4 +89,7 @@ metrics nodes (l ∷ links) all = rw (link-metric nodes l all.0, metrics nodes l
 
 -- routes can be searched for in every topology
 pub topology_searchable : (t : Network) → IsTopology t → is_searchable t ≡ true
-topology_searchable t valid = rw (distinct 0 t.links (links-rise t valid), metrics t.nodes t.links (each-link t valid)) refl
+topology_searchable t valid = rw (
+  distinct 0 t.links (links-rise t valid),
+  metrics t.nodes t.links (each-link t valid),
+) refl

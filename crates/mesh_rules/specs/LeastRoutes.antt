@@ -1,4 +1,5 @@
--- The route that a rule names, as a function of the rows that its node knows: the least of all walks of at most 63 links.
+-- The route that a rule names, as a function of the rows that its node knows: the least of all walks of at most 63
+-- links.
 use Rattle.std.specs.Prelude.{ℕ, zero, suc, ◌+◌, ◌==◌, ◌&&◌, ◌||◌, nat_lt, Bool, true, false, not, List, [], ◌∷◌, ◌++◌, filter, map, Option, Some, None, if◌then◌else◌}
 use Rattle.std.specs.List.{flat_map, list_any}
 use Rattle.ason_base.specs.declared.ids.NodeId.{NodeId}
@@ -63,12 +64,14 @@ least_trip rows a b = least_of (trips rows MOST_LINKS_OF_ROUTE a b)
 
 -- the step's node is one between the ends, and the primary route visits it too
 abbrev pub shares_inner : NodeId → NodeId → List Step → Step → Bool
-shares_inner from to primary s = not (s.node.0 == from.0) && (not (s.node.0 == to.0) && list_any (λ q. q.node.0 == s.node.0) primary)
+shares_inner from to primary s = not (s.node.0 == from.0)
+    && (not (s.node.0 == to.0) && list_any (λ q. q.node.0 == s.node.0) primary)
 
 -- no risk is one of both routes, and they share no node between the ends
 abbrev pub is_backup : List TeRow → List Step → NodeId → NodeId → List Step → Bool
 is_backup rows primary from to route =
-    not (have_common (route_risks rows route) (route_risks rows primary)) && not (list_any (shares_inner from to primary) route)
+    not (have_common (route_risks rows route) (route_risks rows primary))
+    && not (list_any (shares_inner from to primary) route)
 
 -- the least of all walks that are risk-disjoint from the primary route and share no inner node with it
 abbrev pub least_backup : List TeRow → List Step → NodeId → NodeId → Option Trip

@@ -26,7 +26,8 @@ use Rattle.ason_base.specs.Network.{other_end}
 use Rattle.mesh_rules.specs.LocalNodes.{LocalNode, own_link, is_link_there, leads, fibre_in, fibre_out}
 use Rattle.mesh_rules.specs.Legs.{find_leg, reserved, usable}
 
--- what a Path asks for: of which LSP and from where it came, over which steps from here, with which labels, and for what
+-- what a Path asks for: of which LSP and from where it came, over which steps from here, with which labels, and for
+-- what
 pub record PathRequest : Type 0 where
   pub arrival : Arrival
   pub route : List Step
@@ -68,7 +69,8 @@ risks_here p s m = recorded (known_rows p s) m.role
 abbrev pub leads_on : LocalNode → Arrival → List Step → Bool
 leads_on p a [] = p.id.0 == a.egress.0
 leads_on p a (hop ∷ route) =
-    not (p.id.0 == a.egress.0) && (hop.node.0 == p.id.0 && (not (hop.link.0 == a.link.0) && is_link_there (own_link p hop.link)))
+    not (p.id.0 == a.egress.0) && (hop.node.0 == p.id.0
+    && (not (hop.link.0 == a.link.0) && is_link_there (own_link p hop.link)))
 
 -- the labels of the set that are usable on the fibre that the Path came by
 abbrev pub offered_labels : LocalNode → NodeState → PathRequest → LinkSpec → List ℕ
@@ -88,7 +90,8 @@ abbrev pub first_failure : List Check → Option ErrCode
 first_failure [] = None
 first_failure (c ∷ checks) = if c.fails then Some c.code else first_failure checks
 
--- in this order: the node keeps all the legs that it can; the route doesn't lead on from here; a link of the primary's route
+-- in this order: the node keeps all the legs that it can; the route doesn't lead on from here; a link of the primary's
+-- route
 -- isn't known; no label that was offered is usable
 abbrev pub checks : LocalNode → NodeState → PathRequest → LinkSpec → List Check
 checks p s m link =
@@ -156,7 +159,8 @@ abbrev pub in_transit : LocalNode → PathRequest → LinkSpec → List Risk →
 in_transit p m link risks route offered None = nothing
 in_transit p m link risks route offered (Some out) =
     puts (transit_leg p m link risks out route offered)
-    (to_node (other_end out p.id) (Path m.arrival.lsp m.arrival.egress out.id route (set_on p out offered) None m.role) ∷ [])
+    (to_node (other_end out p.id) (Path m.arrival.lsp m.arrival.egress out.id route
+    (set_on p out offered) None m.role) ∷ [])
 
 abbrev pub admitted : LocalNode → PathRequest → LinkSpec → List Risk → List ℕ → List Step → Answer
 admitted p m link risks offered [] = at_egress p m link risks offered (least offered)
@@ -167,7 +171,8 @@ abbrev pub judged : LocalNode → NodeState → PathRequest → LinkSpec → Opt
 judged p s m link (Some code) = sends (error_to m.arrival.from p m.arrival code ∷ [])
 judged p s m link None = admitted p m link (risks_here p s m) (offered_labels p s m link) m.route
 
--- the link leads from the sender to this node, the ingress is another node, and no backup is activated that has no leg here
+-- the link leads from the sender to this node, the ingress is another node, and no backup is activated that has no leg
+-- here
 abbrev pub first_path : LocalNode → NodeState → PathRequest → Option LinkSpec → Answer
 first_path p s m None = nothing
 first_path p s m (Some link) =

@@ -21,14 +21,16 @@ is_expected a x g = is_asked g.phase && (is_over (following g) a.from a.link && 
 -- a call without protection that was asked for stands; no other call is touched
 abbrev pub call_connected : Option CallRec → Answer
 call_connected None = nothing
-call_connected (Some c) = if is_asking c.state && not c.protected then changes_calls (call.Put (bare c) ∷ []) else nothing
+call_connected (Some c) = if is_asking c.state && not c.protected then changes_calls (call.Put (bare c) ∷ [])
+    else nothing
 
 -- this label, if it is one of them
 abbrev pub only : ℕ → Bool → Option ℕ
 only x true = Some x
 only x false = None
 
--- the label that goes back: the least that was offered and is usable now, at a node that doesn't convert the one that came
+-- the label that goes back: the least that was offered and is usable now, at a node that doesn't convert the one that
+-- came
 abbrev pub label_back : LocalNode → List ℕ → ℕ → Option ℕ
 label_back p labels x = if p.convert then least labels else only x (has labels x)
 
@@ -36,7 +38,8 @@ label_back p labels x = if p.convert then least labels else only x (has labels x
 abbrev pub torn_both_ways : LocalNode → Arrival → Leg → Neighbour → Answer
 torn_both_ways p a g h =
     puts (closed g)
-    (to_node a.from (PathTear g.lsp g.egress a.link) ∷ to_node h.node (PathErr g.lsp g.egress p.id true label_code) ∷ [])
+    (to_node a.from (PathTear g.lsp g.egress a.link) ∷ to_node h.node
+    (PathErr g.lsp g.egress p.id true label_code) ∷ [])
 
 -- the label x came, and y goes back
 abbrev pub label_passed : Leg → Neighbour → ℕ → ℕ → Answer

@@ -86,7 +86,8 @@ begins p s w out route = record nothing {
   legs = leg.Put (first_leg p (next_lsp p s) w.egress out route) ∷ [];
   calls = call.Put (call_record w Asking (Some (next_lsp p s)) Unset) ∷ [];
   numbers = Some (record { tunnel = s.tunnel + 1; lsp = s.lsp + 1 });
-  sent = to_node (other_end out p.id) (Path (next_lsp p s) w.egress out.id route (up_to out.labels) None (path_role.Work false)) ∷ [];
+  sent = to_node (other_end out p.id) (Path (next_lsp p s) w.egress out.id route (up_to out.labels) None
+      (path_role.Work false)) ∷ [];
 }
 
 -- no number is left: a tunnel's number is never above the LSP's
@@ -124,7 +125,8 @@ abbrev pub new_call : LocalNode → NodeState → SetupRequest → Option (List 
 new_call p s w None = over_found p s w (least_trip (known_rows p s) p.id w.egress)
 new_call p s w (Some route) = over_first p s w route (first_link p route)
 
--- it comes from this ingress to another node, is neither protected nor two-way, and its backup route can be followed from here
+-- it comes from this ingress to another node, is neither protected nor two-way, and its backup route can be followed
+-- from here
 abbrev pub is_order_here : LocalNode → SetupRequest → Bool
 is_order_here p w =
     w.from.0 == p.id.0 && (not (w.egress.0 == p.id.0) && (not w.protected && (not w.both && is_followable p w.backup)))

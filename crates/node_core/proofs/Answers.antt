@@ -86,7 +86,8 @@ new-fit t n s o c valid is owner calls =
     let state : state_of s c ≡ new_node = ap (state_of s) calls ∙ (at_start-is t n s is).1 in
     let kept = subst (NodeFits (local_of s)) (sym state) (new-fits (local_of s)) in
     let rows : RowsFit (local_of s) (state_of s c) =
-    subst (RowsFit (local_of s)) (sym state) (subst (λ p. RowsFit p new_node) (sym (at_start-is t n s is).0) (new-rows t n valid)) in
+    subst (RowsFit (local_of s)) (sym state) (subst (λ p. RowsFit p new_node) (sym (at_start-is t n s is).0)
+    (new-rows t n valid)) in
     (record { place = fits.links; state = kept; rows = rows }, subst (IsOwnerOf s) (sym owner) fits.owner)
 
 pub new-is : (t : Network) (n : NodeId) (s : LegTable) (c : CallTable) → s ≡ new_table t n → c ≡ no_call →

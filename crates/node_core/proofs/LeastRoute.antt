@@ -42,28 +42,35 @@ module _ (rows : List TeRow) (closed : List Bool) (no_rows : closed ≡ replicat
   no_node : (n : NodeId) → Contains [] n ↔ NoNode n
   no_node n = ((λ there. contains-none n there), (λ h. absurd h))
 
-  pub found-is : (found : Found) → IsLeastFound rows closed [] from to found → Some found.route ≡ steps_of (least_trip rows from to)
+  pub found-is : (found : Found) → IsLeastFound rows closed [] from to found →
+      Some found.route ≡ steps_of (least_trip rows from to)
   found-is found f =
-      let least = same_walks rows (IsClosed rows closed) NoLink (Contains []) NoNode none_closed no_node from to found.route found.cost f.route in
-      sym (ap steps_of ((least_trip-least rows from to (record { steps = found.route; cost = found.cost }) searchable).1 least))
+      let least = same_walks rows (IsClosed rows closed) NoLink
+      (Contains []) NoNode none_closed no_node from to found.route found.cost f.route in
+      sym (ap steps_of ((least_trip-least rows from to
+      (record { steps = found.route; cost = found.cost }) searchable).1 least))
 
   pub missed-is : (fault : RouteFault) (potentials : List (NodeId × ℕ)) → fault ≡ NoRoute potentials →
       IsRefusal rows (IsClosed rows closed) (Contains []) from to fault → None ≡ steps_of (least_trip rows from to)
   missed-is fault potentials is missed =
       let joins = subst (IsRefusal rows (IsClosed rows closed) (Contains []) from to) is missed in
-      let none = same_none rows (IsClosed rows closed) NoLink (Contains []) NoNode none_closed no_node from to potentials joins in
+      let none = same_none rows (IsClosed rows closed) NoLink
+      (Contains []) NoNode none_closed no_node from to potentials joins in
       sym (ap steps_of ((no_trip-none rows from to searchable).1 none.none))
 
 -- What becomes of a setup over the route that is found
 
-over-found : (t : LegTable) (c : CallTable) (w : SetupRequest) (o : Option Trip) (route : List Step) → Some route ≡ steps_of o →
+over-found : (t : LegTable) (c : CallTable) (w : SetupRequest) (o : Option Trip) (route : List Step) →
+    Some route ≡ steps_of o →
     over_here t c w route ≡ over_found (local_of t) (state_of t c) w o
 over-found t c w None route e = absurd (cc e)
 over-found t c w (Some r) route e = let is : route ≡ r.steps = cc e in ap (over_here t c w) is
 
-pub found-over : (t : LegTable) (c : CallTable) (w : SetupRequest) (route : List Step) → Some route ≡ found_here t c w.egress →
+pub found-over : (t : LegTable) (c : CallTable) (w : SetupRequest) (route : List Step) →
+    Some route ≡ found_here t c w.egress →
     over_here t c w route ≡ searched_here t c w
-found-over t c w route e = over-found t c w (least_trip (known_rows (local_of t) (state_of t c)) (local_of t).id w.egress) route e
+found-over t c w route e = over-found t c w (least_trip (known_rows (local_of t) (state_of t c))
+    (local_of t).id w.egress) route e
 
 refused-found : (t : LegTable) (c : CallTable) (w : SetupRequest) (o : Option Trip) → None ≡ steps_of o →
     refused_setup w NoWay ≡ over_found (local_of t) (state_of t c) w o
@@ -72,4 +79,5 @@ refused-found t c w (Some r) e = absurd (cc e)
 
 pub none-found : (t : LegTable) (c : CallTable) (w : SetupRequest) → None ≡ found_here t c w.egress →
     refused_setup w NoWay ≡ searched_here t c w
-none-found t c w e = refused-found t c w (least_trip (known_rows (local_of t) (state_of t c)) (local_of t).id w.egress) e
+none-found t c w e = refused-found t c w (least_trip (known_rows (local_of t) (state_of t c))
+    (local_of t).id w.egress) e

@@ -67,7 +67,8 @@ pub(crate) fn call_connected(
     change: &mut Change,
     call: Option<&CallRec>,
 ) -> Result<(), OutOfMemory>
-    ensures { OnOk result (change.new ≡ followed_by change.old (resvs.call_connected (option_copied call.entry))) }
+    ensures { OnOk result
+        (change.new ≡ followed_by change.old (resvs.call_connected (option_copied call.entry))) }
 {
     match call {
         Some(call) if is_asking(call.state) && !call.protected => {
@@ -84,7 +85,9 @@ pub(crate) fn call_refused(
     code: ErrCode,
     call: Option<&CallRec>,
 ) -> Result<(), OutOfMemory>
-    ensures { OnOk result (change.new ≡ followed_by change.old (path_errs.call_refused code (option_copied call.entry))) }
+    ensures { OnOk result
+        (change.new ≡ followed_by change.old
+        (path_errs.call_refused code (option_copied call.entry))) }
 {
     match call {
         Some(call) if is_asking(call.state) => {

@@ -126,7 +126,8 @@ impl Node {
 
     /// What a table shows of the node: its calls in order of number, its legs in order of LSP.
     pub fn rows(&self, alloc: Global) -> Result<TableRows, OutOfMemory>
-        ensures calls { IfOk result (λ rows. rows.calls ≡ call_rows self.now.place.id self.now.state) }
+        ensures calls { IfOk result
+            (λ rows. rows.calls ≡ call_rows self.now.place.id self.now.state) }
         ensures legs { IfOk result (λ rows. rows.legs ≡ leg_rows self.now.place.id self.now.state) }
         ensures calls_rise { IfOk result (λ rows. CallRowsRise rows.calls) }
         ensures legs_rise { IfOk result (λ rows. LegRowsRise rows.legs) }

@@ -133,7 +133,8 @@ fn asked_leg(
     link: &LinkSpec,
     offer: Offer,
 ) -> Result<Leg, OutOfMemory>
-    ensures { IfOk result (λ g. g ≡ asked_here tables.now request.now link.now offer.risks offer.labels) }
+    ensures { IfOk result
+        (λ g. g ≡ asked_here tables.now request.now link.now offer.risks offer.labels) }
 {
     let Offer { risks, labels } = offer;
     let path_role = request.role.copy(alloc)?;
@@ -166,7 +167,8 @@ fn end_here(
     link: &LinkSpec,
     offer: Offer,
 ) -> Result<Change, OutOfMemory>
-    ensures { IfOk result (λ c. c ≡ ended_here tables.now request.now link.now offer.risks offer.labels) }
+    ensures { IfOk result
+        (λ c. c ≡ ended_here tables.now request.now link.now offer.risks offer.labels) }
 {
     let Some(label) = offer.labels.least() else {
         return Ok(Change::nothing(alloc));
@@ -225,7 +227,8 @@ fn pass_on(
     offer: Offer,
 ) -> Result<Change, OutOfMemory>
     requires { LocalNodeFits (local_of tables.now) }
-    ensures { IfOk result (λ c. c ≡ passed_here tables.now request.now link.now offer.risks offer.labels hop.link) }
+    ensures { IfOk result
+        (λ c. c ≡ passed_here tables.now request.now link.now offer.risks offer.labels hop.link) }
 {
     let here = tables.node().id;
     let Some(out) = tables.own(hop.link) else {
@@ -250,7 +253,8 @@ fn admit(
     offer: Offer,
 ) -> Result<Change, OutOfMemory>
     requires { LocalNodeFits (local_of tables.now) }
-    ensures { IfOk result (λ c. c ≡ admitted_here tables.now request.now link.now offer.risks offer.labels) }
+    ensures { IfOk result
+        (λ c. c ≡ admitted_here tables.now request.now link.now offer.risks offer.labels) }
 {
     match request.route.items().first() {
         None => end_here(alloc, tables, request, link, offer),
@@ -267,7 +271,8 @@ fn admit_labelled(
     offer: Offer,
 ) -> Result<Change, OutOfMemory>
     requires { LocalNodeFits (local_of tables.now) }
-    ensures { IfOk result (λ c. c ≡ labelled_here tables.now request.now link.now offer.risks offer.labels) }
+    ensures { IfOk result
+        (λ c. c ≡ labelled_here tables.now request.now link.now offer.risks offer.labels) }
 {
     if offer.labels.least().is_none() {
         refuse(alloc, tables, request.arrival, SET)

@@ -219,7 +219,8 @@ module _ (t : Network) (s : Mesh) (n : NodeId) (w : SetupRequest) (out : LinkSpe
         (plan (h ∷ further) e)) hop_is (w.egress, new_planned blank));
   }
 
-  other_same : (l : Lsp) → same_lsp (next_lsp (local_node t n) (s.nodes n.0)) l ≡ false → SameOf s (commit s n.0 answer) l
+  other_same : (l : Lsp) → same_lsp (next_lsp (local_node t n) (s.nodes n.0)) l ≡ false →
+      SameOf s (commit s n.0 answer) l
   other_same l apart =
       let of : IsOf (next_lsp (local_node t n) (s.nodes n.0)) answer =
       record { legs = (refl, tt); sent = (refl, refl, tt) } in
@@ -285,7 +286,8 @@ module _ (t : Network) (s : Mesh) (n : NodeId) (l : Lsp) (o : Option (List Step)
         over (Some out) e = admitted_stepped out hop further made e
 
         go : (b : Bool) →
-            Stepped t s n l o (over_first place state w (hop ∷ further) (cond b (own_link (local_node t n) hop.link) None))
+            Stepped t s n l o (over_first place state w (hop ∷ further)
+            (cond b (own_link (local_node t n) hop.link) None))
         go true = over (own_link (local_node t n) hop.link) refl
         go false = stepped_nothing
 

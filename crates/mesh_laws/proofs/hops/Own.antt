@@ -150,7 +150,8 @@ own-first_path : (p : LocalNode) (s : NodeState) (m : PathRequest) (o : Option L
 own-first_path p s m None = own-nothing p.id.0 m.arrival.lsp
 own-first_path p s m (Some link) =
     if_cases (Own p.id.0 m.arrival.lsp)
-    (not (is_active m.role) && (leads (Some link) m.arrival.from p.id && not (nat_eq m.arrival.lsp.ingress.0 p.id.0))) _ _
+    (not (is_active m.role) && (leads (Some link) m.arrival.from p.id
+    && not (nat_eq m.arrival.lsp.ingress.0 p.id.0))) _ _
     (λ h.
     let away = both_right (leads (Some link) m.arrival.from p.id) _ (both_right (not (is_active m.role)) _ h) in
     own-judged p s m link (first_failure (checks p s m link)) (not-true (nat_eq m.arrival.lsp.ingress.0 p.id.0) away))
@@ -171,7 +172,8 @@ own-passed_back n l p a g h x None is =
 own-passed_back n l p a g h x (Some y) is =
     record { legs = (is, tt); sent = (is, refl, tt); numbers = refl; none_begins = λ k e. refl }
 
-own-answered : (n : ℕ) (l : Lsp) (p : LocalNode) (s : NodeState) (a : Arrival) (x : ℕ) (g : Leg) (o : Option Neighbour) →
+own-answered : (n : ℕ) (l : Lsp) (p : LocalNode) (s : NodeState) (a : Arrival) (x : ℕ) (g : Leg)
+    (o : Option Neighbour) →
     g.lsp ≡ l →
     Own n l (answered p s a x g o)
 own-answered n l p s a x g None is =

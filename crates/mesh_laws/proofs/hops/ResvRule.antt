@@ -169,7 +169,8 @@ module _ (t : Network) (s : Mesh) (l : Lsp) (p : Plan) (i : ℕ) (route : IsRout
           let labels : List ℕ = meet g.offered (usable place state.legs g.role g.risks (fibre_at t p j)) in
           rw (previous_is t Carries l p j g fits')
           (goes_back j before (label_back place labels x)
-          (λ y q. has_meet g.offered (usable place state.legs g.role g.risks (fibre_at t p j)) y (has_label_back place labels x y q)))
+          (λ y q. has_meet g.offered (usable place state.legs g.role g.risks (fibre_at t p j)) y
+          (has_label_back place labels x y q)))
 
       taken : Keeps (resv_with place state came x (Some g))
       taken =

@@ -55,13 +55,15 @@ searched t from to (Some r) e q = absurd (cc q)
 
 release_stepped : (t : Network) (s : Mesh) (n from : NodeId) (l : Lsp) (k : CallNo) (o : Option (List Step)) →
     Follows t s l o →
-    StepFacts t s → Stepped t s n l o (release_with (local_node t n) (s.nodes n.0) from (find_call k (s.nodes n.0).calls))
+    StepFacts t s → Stepped t s n l o (release_with (local_node t n) (s.nodes n.0) from
+    (find_call k (s.nodes n.0).calls))
 release_stepped t s n from l k o f facts =
     let r = release_leaves t s n from l o f (find_call k (s.nodes n.0).calls) (λ d e. facts.call n.0 k d e) in
     stepped_none t s n l o _ r.follows r.none
 
 order_stepped : (t : Network) (s : Mesh) (n : NodeId) (l : Lsp) (o : Option (List Step)) (c : Command) →
-    Follows t s l o → StepFacts t s → is_valid t c ≡ true → Stepped t s n l o (on_order (local_node t n) (s.nodes n.0) c)
+    Follows t s l o → StepFacts t s → is_valid t c ≡ true →
+    Stepped t s n l o (on_order (local_node t n) (s.nodes n.0) c)
 order_stepped t s n l o (Setup k from to protected both via backup) f facts valid =
     setup_stepped t s n l o f
     (record { call = k; from = from; egress = to; protected = protected; both = both; via = via; backup = backup })

@@ -114,7 +114,8 @@ pub call-fits : (n next : ℕ) (legs : List Leg) (d : CallRec) → d.protected �
     IfSome d.work (IsNamed n next legs Work d.egress) → CallFacts n next legs d
 call-fits n next legs d protected backup back work_reports back_reports state work = record {
   fits = record {
-    state = subst (λ o. fits d.state (phase_of (leg_of d.work legs)) (phase_of (leg_of o legs)) ≡ true) (sym back) state;
+    state = subst (λ o. fits d.state (phase_of (leg_of d.work legs)) (phase_of (leg_of o legs)) ≡ true)
+        (sym back) state;
     work = work;
     back = subst (λ o. IfSome o (IsNamed n next legs role.Back d.egress)) (sym back) tt;
     work_reports = work_reports;

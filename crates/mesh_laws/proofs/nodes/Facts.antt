@@ -38,7 +38,8 @@ FitsPhase Live g = HasItsLabels g
 FitsPhase Closing g = IsTornLeg g
 FitsPhase Falling g = IsTornLeg g
 
--- A leg at node n, whose next LSP number is this one. The ingress has no previous node and no fibre in, every other node has
+-- A leg at node n, whose next LSP number is this one. The ingress has no previous node and no fibre in, every other
+-- node has
 -- both; the egress has no next node and no fibre out, every other node has both; no node is both ends.
 pub record LegFacts (n : ℕ) (next : ℕ) (g : Leg) : Type 0 where
   pub prev : is_some g.prev ≡ not (g.lsp.ingress.0 == n)

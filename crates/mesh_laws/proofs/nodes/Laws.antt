@@ -1,4 +1,5 @@
--- What the facts of a node say of the places in its lists: each label is shared lawfully, a Live leg has its labels, and the
+-- What the facts of a node say of the places in its lists: each label is shared lawfully, a Live leg has its labels,
+-- and the
 -- state of each call fits its legs.
 use Rattle.std.proofs.Common.{◌≡◌, ◌<◌, ℕ, true, false, not, nat_eq, List, [], ◌∷◌, refl, sym, subst, ◌∙◌, arith, inl, inr}
 use Rattle.std.specs.Prelude.{Some, IsTrue}

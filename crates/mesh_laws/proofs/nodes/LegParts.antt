@@ -26,9 +26,11 @@ same_fibre-eq a b e = go a.forward b.forward refl refl (nat_eq a.link.0 b.link.0
     go : (p q : Bool) → a.forward ≡ p → b.forward ≡ q → (c : Bool) → nat_eq a.link.0 b.link.0 ≡ c → a ≡ b
     go p q f g false h = let no : (false && same_bool a.forward b.forward) ≡ true = rw h at e in cc no
     go true true f g true h =
-        let link : a.link.0 ≡ b.link.0 = grind arith in λ i. record { link = record { 0 = link i }; forward = (f ∙ sym g) i }
+        let link : a.link.0 ≡ b.link.0 = grind arith in λ i.
+        record { link = record { 0 = link i }; forward = (f ∙ sym g) i }
     go false false f g true h =
-        let link : a.link.0 ≡ b.link.0 = grind arith in λ i. record { link = record { 0 = link i }; forward = (f ∙ sym g) i }
+        let link : a.link.0 ≡ b.link.0 = grind arith in λ i.
+        record { link = record { 0 = link i }; forward = (f ∙ sym g) i }
     go true false f g true h = let no : false ≡ true = rw (h, f, g) at e in cc no
     go false true f g true h = let no : false ≡ true = rw (h, f, g) at e in cc no
 
@@ -101,7 +103,8 @@ pub part-with_leg : (n a b : ℕ) (g : Leg) (legs : List Leg) → a ≤ b → Le
     LegPart n b (with_leg g legs)
 part-with_leg n a b g legs le part may = record {
   rise = rise-with_leg g legs part.rise;
-  leg = λ l h found. found-after (LegFacts n b h) g h legs l found (λ e is. subst (LegFacts n b) is may.facts) (λ e f. later-facts n a b h le (part.leg l h f));
+  leg = λ l h found. found-after (LegFacts n b h) g h legs l found (λ e is. subst (LegFacts n b) is may.facts)
+      (λ e f. later-facts n a b h le (part.leg l h f));
   labels = λ f x l m i j at_l at_m takes_i takes_j.
       found-after ((l ≡ m) ⊎ MayShare i j) g i legs l at_l
       (λ e is. found-after ((l ≡ m) ⊎ MayShare i j) g j legs m at_m

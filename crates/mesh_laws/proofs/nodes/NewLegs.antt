@@ -69,7 +69,8 @@ no_label n next legs g none facts =
 
 -- At the ingress
 
-pub first-stands : (p : LocalNode) (l : Lsp) (e : NodeId) (out : LinkSpec) (route : List Step) (next : ℕ) (legs : List Leg) → nat_eq l.ingress.0 p.id.0 ≡ true → nat_eq e.0 p.id.0 ≡ false → l.lsp < next →
+pub first-stands : (p : LocalNode) (l : Lsp) (e : NodeId) (out : LinkSpec) (route : List Step) (next : ℕ)
+    (legs : List Leg) → nat_eq l.ingress.0 p.id.0 ≡ true → nat_eq e.0 p.id.0 ≡ false → l.lsp < next →
     MayStand p.id.0 next legs (first_leg p l e out route)
 first-stands p l e out route next legs here away small =
     no_label p.id.0 next legs (first_leg p l e out route) refl (record {
@@ -249,4 +250,5 @@ connected-stands p next legs g h x y facts fibre goes_on sent looked =
 pub ingress-stands : (n next : ℕ) (legs : List Leg) (g : Leg) (x : ℕ) → LegFacts n next g → g.in_fibre ≡ None →
     is_some g.next ≡ true → has g.sent x ≡ true → MayStand n next legs (connected g None x)
 ingress-stands n next legs g x facts none goes_on sent =
-    no_label n next legs (connected g None x) refl (connected-facts n next g None x facts (sym (ap is_some none)) goes_on tt sent)
+    no_label n next legs (connected g None x) refl
+    (connected-facts n next g None x facts (sym (ap is_some none)) goes_on tt sent)

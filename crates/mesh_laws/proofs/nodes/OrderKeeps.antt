@@ -248,7 +248,8 @@ keeps-released p s n c g found work here ingress facts =
           absurd (cc (not_torn, torn)));
     }
 
-keeps-releases : (p : LocalNode) (s : NodeState) (c : CallRec) → find_call c.call s.calls ≡ Some c → NodeFacts p.id.0 s →
+keeps-releases : (p : LocalNode) (s : NodeState) (c : CallRec) → find_call c.call s.calls ≡ Some c →
+    NodeFacts p.id.0 s →
     Keeps p s (releases s c)
 keeps-releases p s c found facts =
     subst (λ o. Keeps p s (followed_by (tears (leg_of c.work s.legs))

@@ -75,7 +75,8 @@ module _ (p : LocalNode) (s : NodeState) (m : PathRequest) (facts : NodeFacts p.
   keeps-first_path None = facts
   keeps-first_path (Some link) =
       if_cases (Keeps p s)
-      (not (is_active m.role) && (leads (Some link) m.arrival.from p.id && not (nat_eq m.arrival.lsp.ingress.0 p.id.0))) _ _
+      (not (is_active m.role) && (leads (Some link) m.arrival.from p.id
+      && not (nat_eq m.arrival.lsp.ingress.0 p.id.0))) _ _
       (λ h.
       let away = both_right (leads (Some link) m.arrival.from p.id) _ (both_right (not (is_active m.role)) _ h) in
       keeps-judged link (not-true (nat_eq m.arrival.lsp.ingress.0 p.id.0) away)

@@ -46,7 +46,8 @@ module _ (rows : List TeRow) (primary : List Step) (from to : NodeId) where
   differs a b apart = off (nat_eq a.0 b.0) (λ e. apart (same_node a b e))
 
   differ : (a b : NodeId) → not (nat_eq a.0 b.0) ≡ true → a ≢ b
-  differ a b e same = let t : nat_eq a.0 b.0 ≡ true = node_test a b same in let f = not-true (nat_eq a.0 b.0) e in cc (t, f)
+  differ a b e same = let t : nat_eq a.0 b.0 ≡ true = node_test a b same in let f =
+      not-true (nat_eq a.0 b.0) e in cc (t, f)
 
   both : (a b : Bool) → a ≡ true → b ≡ true → (a && b) ≡ true
   both a b e f = rw (e, f) refl
@@ -79,7 +80,8 @@ module _ (rows : List TeRow) (primary : List Step) (from to : NodeId) where
       let short = differ s.0.node to second in
       (s.0.node, (s.0, s.1, refl, away, short), (q.0, q.1, same_node q.0.node s.0.node q.2, away, short))
 
-  passes-is : (route : List Step) (cost : ℕ) → IsWalk rows NoLink NoNode from to route cost → is_backup rows primary from to route ≡ true →
+  passes-is : (route : List Step) (cost : ℕ) → IsWalk rows NoLink NoNode from to route cost →
+      is_backup rows primary from to route ≡ true →
       IsBackup rows primary from to route cost
   passes-is route cost walk e =
       let risks = not-true (have_common (route_risks rows route) (route_risks rows primary)) (both_left _ _ e) in
@@ -91,7 +93,8 @@ module _ (rows : List TeRow) (primary : List Step) (from to : NodeId) where
         nodes = λ n mine theirs. (let there = shares route n mine theirs in cc (there, inner));
       }
 
-  is-passes : (route : List Step) (cost : ℕ) → IsBackup rows primary from to route cost → is_backup rows primary from to route ≡ true
+  is-passes : (route : List Step) (cost : ℕ) → IsBackup rows primary from to route cost →
+      is_backup rows primary from to route ≡ true
   is-passes route cost is =
       both (not (have_common (route_risks rows route) (route_risks rows primary))) _
       (off (have_common (route_risks rows route) (route_risks rows primary)) (common-not route is.risks))
@@ -114,10 +117,12 @@ module _ (rows : List TeRow) (primary : List Step) (from to : NodeId) where
 
   backup-is : (r : Trip) → Contains backups r → IsBackup rows primary from to r.steps r.cost
   backup-is r there =
-      let kept = contains-unkept (λ x. is_backup rows primary from to x.steps) (trips rows MOST_LINKS_OF_ROUTE from to) r there in
+      let kept = contains-unkept (λ x. is_backup rows primary from to x.steps)
+      (trips rows MOST_LINKS_OF_ROUTE from to) r there in
       passes-is r.steps r.cost (each-leads rows MOST_LINKS_OF_ROUTE from to r kept.0).0 kept.1
 
-  is-there : (steps : List Step) (cost : ℕ) → IsBackup rows primary from to steps cost → length steps ≤ MOST_LINKS_OF_ROUTE →
+  is-there : (steps : List Step) (cost : ℕ) → IsBackup rows primary from to steps cost →
+      length steps ≤ MOST_LINKS_OF_ROUTE →
       Contains backups (record { steps = steps; cost = cost })
   is-there steps cost is few =
       contains-kept (λ x. is_backup rows primary from to x.steps) (trips rows MOST_LINKS_OF_ROUTE from to)
@@ -150,10 +155,12 @@ no_backup-none rows primary a b searchable =
 pub least_backup-once : LeastBackupVisitsOnce
 least_backup-once rows primary a b r metrics e =
     let is = chosen-is (backups rows primary a b) r e in
-    let kept = contains-unkept (λ x. is_backup rows primary a b x.steps) (trips rows MOST_LINKS_OF_ROUTE a b) r is.there in
+    let kept = contains-unkept (λ x. is_backup rows primary a b x.steps)
+    (trips rows MOST_LINKS_OF_ROUTE a b) r is.there in
     let leads = each-leads rows MOST_LINKS_OF_ROUTE a b r kept.0 in
     let short : length r.steps ≤ MOST_LINKS_OF_ROUTE = leads.1 in
     let mine = backup-is rows primary a b r is.there in
     first-once rows metrics a b (backups rows primary a b) r is leads.0
     (λ part less walk shorter among.
-    is-there rows primary a b part less (part-is rows primary a b r.steps part r.cost less mine among walk) (omega arith))
+    is-there rows primary a b part less (part-is rows primary a b r.steps part r.cost less mine among walk)
+    (omega arith))

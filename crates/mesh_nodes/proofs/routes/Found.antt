@@ -31,7 +31,8 @@ walks-represent rows a b searchable = record {
 
 pub least_trip-least : LeastTripIsLeast
 least_trip-least rows a b r searchable =
-    least-iff (IsWalk rows NoLink NoNode a b) (trips rows MOST_LINKS_OF_ROUTE a b) (walks-represent rows a b searchable) r
+    least-iff (IsWalk rows NoLink NoNode a b) (trips rows MOST_LINKS_OF_ROUTE a b)
+    (walks-represent rows a b searchable) r
 
 pub no_trip-none : NoTripIsNoWalk
 no_trip-none rows a b searchable =
@@ -46,7 +47,8 @@ pub first-once : (rows : List TeRow) → HaveMetrics rows → (a b : NodeId) (xs
 first-once rows metrics a b xs r is walk has =
     let q = shorten rows metrics b r.steps a r.cost walk in
     let there = has q.is.part q.is.less q.is.walk q.is.short q.is.among in
-    let first : r.cost ≤ q.is.less = precedes-cost r (record { steps = q.is.part; cost = q.is.less }) (is.before _ there) in
+    let first : r.cost ≤ q.is.less = precedes-cost r (record { steps = q.is.part; cost = q.is.less })
+    (is.before _ there) in
     let most : q.is.less ≤ r.cost = q.is.most in
     let same : q.is.less ≡ r.cost = omega arith in
     subst (λ steps. is_distinct (visited steps b) ≡ true) (q.same same) q.is.once

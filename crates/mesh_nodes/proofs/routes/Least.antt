@@ -59,7 +59,8 @@ pub record IsAsGood (xs : List Trip) (steps : List Step) (cost : ℕ) : Type 0 w
   pub most : trip.cost ≤ cost
   pub same : trip.cost ≡ cost → trip.steps ≡ steps
 
--- what is in the list is allowed; what is allowed has one in the list that is as good; and routes over the same links are one
+-- what is in the list is allowed; what is allowed has one in the list that is as good; and routes over the same links
+-- are one
 pub record Represents (Allowed : List Step → ℕ → Type 0) (xs : List Trip) : Type 0 where
   pub sound : (r : Trip) → Contains xs r → Allowed r.steps r.cost
   pub good : (steps : List Step) (cost : ℕ) → Allowed steps cost → IsAsGood xs steps cost
@@ -108,7 +109,8 @@ module _ (Allowed : List Step → ℕ → Type 0) (xs : List Trip) (rep : Repres
     where
       back : IsLeast Allowed r.steps r.cost → (o : Option Trip) → IsChoice xs o → o ≡ Some r
       back is None none =
-          absurd (let g = rep.good r.steps r.cost is.allowed in contains-none g.trip (subst (λ zs. Contains zs g.trip) none g.there))
+          absurd (let g = rep.good r.steps r.cost is.allowed in contains-none g.trip
+          (subst (λ zs. Contains zs g.trip) none g.there))
       back is (Some q) first = ap Some (least-first r q is first)
 
   -- and none exactly where none is allowed

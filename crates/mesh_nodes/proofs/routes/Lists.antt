@@ -11,7 +11,8 @@ contains-map f (y ∷ xs) x h = elim (contains-cases y x xs h) [
   | inr later ↦ contains-tail (f y) (f x) (map f xs) (contains-map f xs x later)
 ]
 
-pub contains-unmap : {X Y : Type 0} (f : X → Y) (xs : List X) (y : Y) → Contains (map f xs) y → (x : X) × Contains xs x × (f x ≡ y)
+pub contains-unmap : {X Y : Type 0} (f : X → Y) (xs : List X) (y : Y) → Contains (map f xs) y → (x : X) ×
+    Contains xs x × (f x ≡ y)
 contains-unmap f [] y h = absurd (contains-none y h)
 contains-unmap f (x ∷ xs) y h = elim (contains-cases (f x) y (map f xs) h) [
   | inl e ↦ (x, contains-head x xs, e)
@@ -34,7 +35,8 @@ contains-unflat f (x ∷ xs) y h = elim (Contains-append_cases (f x) (flat_map f
   | inr later ↦ (let r = contains-unflat f xs y later in (r.0, contains-tail x r.0 xs r.1, r.2))
 ]
 
-pub contains-kept : {X : Type 0} (p : X → Bool) (xs : List X) (x : X) → Contains xs x → p x ≡ true → Contains (filter p xs) x
+pub contains-kept : {X : Type 0} (p : X → Bool) (xs : List X) (x : X) → Contains xs x → p x ≡ true →
+    Contains (filter p xs) x
 contains-kept p [] x h passes = absurd (contains-none x h)
 contains-kept p (y ∷ xs) x h passes = elim (contains-cases y x xs h) [
   | inl e ↦ subst (λ z. Contains (filter p (y ∷ xs)) z) e (here (p y) (subst (λ z. p z ≡ true) (sym e) passes))
@@ -49,7 +51,8 @@ contains-kept p (y ∷ xs) x h passes = elim (contains-cases y x xs h) [
     there true k = contains-tail y x (filter p xs) k
     there false k = k
 
-pub contains-unkept : {X : Type 0} (p : X → Bool) (xs : List X) (x : X) → Contains (filter p xs) x → Contains xs x × (p x ≡ true)
+pub contains-unkept : {X : Type 0} (p : X → Bool) (xs : List X) (x : X) → Contains (filter p xs) x → Contains xs x ×
+    (p x ≡ true)
 contains-unkept p [] x h = absurd (contains-none x h)
 contains-unkept p (y ∷ xs) x h = go (p y) refl h (contains-unkept p xs x)
   where
@@ -59,7 +62,8 @@ contains-unkept p (y ∷ xs) x h = go (p y) refl h (contains-unkept p xs x)
     more : Contains xs x × (p x ≡ true) → Contains (y ∷ xs) x × (p x ≡ true)
     more r = (contains-tail y x xs r.0, r.1)
 
-    go : (b : Bool) → p y ≡ b → Contains (cond b (y ∷ filter p xs) (filter p xs)) x → Later → Contains (y ∷ xs) x × (p x ≡ true)
+    go : (b : Bool) → p y ≡ b → Contains (cond b (y ∷ filter p xs) (filter p xs)) x → Later → Contains (y ∷ xs) x ×
+        (p x ≡ true)
     go false e k later = more (later k)
     go true e k later = elim (contains-cases y x (filter p xs) k) [
       | inl is ↦ (subst (λ z. Contains (y ∷ xs) z) is (contains-head y xs), subst (λ z. p z ≡ true) is e)

@@ -20,7 +20,8 @@ use Rattle.mesh_nodes.proofs.routes.Walked.{each-leads, node_test}
 abbrev LinkJoins : LinkSpec → NodeId → NodeId → Type 0
 LinkJoins l a b = ((l.low ≡ a) × (l.high ≡ b)) ⊎ ((l.high ≡ a) × (l.low ≡ b))
 
-joins-link : (row : TeRow) (l : LinkSpec) (a b : NodeId) → row.low ≡ l.low → row.high ≡ l.high → Joins row a b → LinkJoins l a b
+joins-link : (row : TeRow) (l : LinkSpec) (a b : NodeId) → row.low ≡ l.low → row.high ≡ l.high → Joins row a b →
+    LinkJoins l a b
 joins-link row l a b low high (inl up) = inl (sym low ∙ up.0, sym high ∙ up.1)
 joins-link row l a b low high (inr down) = inr (sym high ∙ down.0, sym low ∙ down.1)
 
@@ -48,7 +49,8 @@ crosses : (t : Network) (rows : List TeRow) (a b : NodeId) (s : Step) (row : TeR
     Hop rows NoLink NoNode a s row b → one_step t (Some a) s ≡ Some b
 crosses t rows a b s row are hop =
     let is : IsRowOf t row = are row hop.known in
-    let joins = joins-link row is.link a b (ap (λ (r : TeRow). r.low) is.is) (ap (λ (r : TeRow). r.high) is.is) hop.joins in
+    let joins = joins-link row is.link a b (ap (λ (r : TeRow). r.low) is.is)
+    (ap (λ (r : TeRow). r.high) is.is) hop.joins in
     let found : find_link t s.link ≡ Some is.link = ap (find_link t) hop.link ∙ is.found in
     ap (λ c. cond c (across (find_link t s.link) a) None) (node_test s.node a hop.sender)
     ∙ ap (λ o. across o a) found
@@ -56,11 +58,13 @@ crosses t rows a b s row are hop =
     ∙ ap Some (far is.link a b joins)
 
 -- and all of them
-leads-there : (t : Network) (rows : List TeRow) → AreRowsOf t rows → (b : NodeId) (steps : List Step) (a : NodeId) (cost : ℕ) →
+leads-there : (t : Network) (rows : List TeRow) → AreRowsOf t rows →
+    (b : NodeId) (steps : List Step) (a : NodeId) (cost : ℕ) →
     IsWalk rows NoLink NoNode a b steps cost → route_end t a steps ≡ Some b
 leads-there t rows are b [] a cost walk = ap Some walk.0
 leads-there t rows are b (s ∷ steps) a cost walk =
-    ap (λ o. fold (one_step t) o steps) (crosses t rows a walk.1 s walk.0 are walk.3) ∙ leads-there t rows are b steps walk.1 walk.2 walk.4
+    ap (λ o. fold (one_step t) o steps) (crosses t rows a walk.1 s walk.0 are walk.3) ∙
+    leads-there t rows are b steps walk.1 walk.2 walk.4
 
 both : (p q : Bool) → p ≡ true → q ≡ true → (p && q) ≡ true
 both p q h k = rw (h, k) refl

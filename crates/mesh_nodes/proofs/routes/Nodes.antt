@@ -38,18 +38,22 @@ found-link : (links : List LinkSpec) (l : LinkSpec) → is_distinct (map (λ m. 
     find (λ m. nat_eq m.id.0 l.id.0) links ≡ Some l
 found-link [] l once there = absurd (contains-none l there)
 found-link (m ∷ links) l once there =
-    go (nat_eq m.id.0 l.id.0) refl (contains-cases m l links there) (found-link links l (both_right (not (stands_again m links)) _ once))
+    go (nat_eq m.id.0 l.id.0) refl (contains-cases m l links there)
+    (found-link links l (both_right (not (stands_again m links)) _ once))
   where
     go : (b : Bool) → nat_eq m.id.0 l.id.0 ≡ b → (m ≡ l) ⊎ Contains links l →
         (Contains links l → find (λ k. nat_eq k.id.0 l.id.0) links ≡ Some l) →
         cond b (Some m) (find (λ k. nat_eq k.id.0 l.id.0) links) ≡ Some l
     go true e (inl is) later = ap Some is
-    go false e (inl is) later = let same = same_number m.id l.id (ap (λ (k : LinkSpec). k.id) is) in absurd (cc (same, e))
+    go false e (inl is) later = let same = same_number m.id l.id (ap (λ (k : LinkSpec). k.id) is) in absurd
+        (cc (same, e))
     go true e (inr at) later =
-        let none : stands_again m links ≡ false = not-true (stands_again m links) (both_left (not (stands_again m links)) _ once) in
+        let none : stands_again m links ≡ false = not-true (stands_again m links)
+        (both_left (not (stands_again m links)) _ once) in
         let back : nat_eq l.id.0 m.id.0 ≡ true = grind arith in
         let twice : stands_again m links ≡ true =
-        there-any (λ y. nat_eq y m.id.0) (map (λ k. k.id.0) links) l.id.0 (contains-map (λ k. k.id.0) links l at) back in
+        there-any (λ y. nat_eq y m.id.0) (map (λ k. k.id.0) links) l.id.0
+        (contains-map (λ k. k.id.0) links l at) back in
         absurd (cc (none, twice))
     go false e (inr at) later = later at
 
@@ -57,11 +61,13 @@ find-there : (p : LinkSpec → Bool) (links : List LinkSpec) (l : LinkSpec) → 
 find-there p [] l e = absurd (cc e)
 find-there p (m ∷ links) l e = go (p m) e (find-there p links l)
   where
-    go : (b : Bool) → cond b (Some m) (find p links) ≡ Some l → (find p links ≡ Some l → Contains links l) → Contains (m ∷ links) l
+    go : (b : Bool) → cond b (Some m) (find p links) ≡ Some l → (find p links ≡ Some l → Contains links l) →
+        Contains (m ∷ links) l
     go true is later = let same : m ≡ l = cc is in subst (Contains (m ∷ links)) same (contains-head m links)
     go false is later = contains-tail m l links (later is)
 
-any-found : (p : LinkSpec → Bool) (links : List LinkSpec) → list_any p links ≡ true → is_link_there (find p links) ≡ true
+any-found : (p : LinkSpec → Bool) (links : List LinkSpec) → list_any p links ≡ true →
+    is_link_there (find p links) ≡ true
 any-found p [] e = absurd (cc e)
 any-found p (m ∷ links) e = go (p m) e (any-found p links)
   where
@@ -89,7 +95,8 @@ known-are t n s searchable are row there =
           let link : row.link ≡ own.0.id = sym (ap (λ (r : TeRow). r.link) own.2) in
           record {
             link = own.0;
-            found = ap (find_link t) link ∙ found-link t.links own.0 (both_left _ (list_all has_metric t.links) searchable) kept.0;
+            found = ap (find_link t) link ∙ found-link t.links own.0
+                (both_left _ (list_all has_metric t.links) searchable) kept.0;
             is = sym own.2;
           })
       | inr theirs ↦ are row theirs
@@ -125,7 +132,8 @@ module _ (p : LocalNode) (s : NodeState) (fit : RowsFit p s) where
     | inl mine ↦
         (let own = contains-unmap row_of p.own row mine in
         any-found (λ l. nat_eq l.id.0 row.link.0) p.own
-        (there-any (λ l. nat_eq l.id.0 row.link.0) p.own own.0 own.1 (same_number own.0.id row.link (ap (λ (r : TeRow). r.link) own.2))))
+        (there-any (λ l. nat_eq l.id.0 row.link.0) p.own own.0 own.1
+        (same_number own.0.id row.link (ap (λ (r : TeRow). r.link) own.2))))
     | inr theirs ↦
         (let elsewhere = All-contains (IsElsewhere p.id) s.learnt row fit.others theirs in
         elim joins [ inl up ↦ absurd (elsewhere.0 up.0) | inr down ↦ absurd (elsewhere.1 down.0) ])
@@ -134,14 +142,16 @@ module _ (p : LocalNode) (s : NodeState) (fit : RowsFit p s) where
   below : (n : ℕ) → suc n ≤ 63 → nat_lt n 63 ≡ true
   below n few = grind arith
 
-  followed : (b : NodeId) → p.id ≢ b → (steps : List Step) (cost : ℕ) → IsWalk (known_rows p s) NoLink NoNode p.id b steps cost →
+  followed : (b : NodeId) → p.id ≢ b → (steps : List Step) (cost : ℕ) →
+      IsWalk (known_rows p s) NoLink NoNode p.id b steps cost →
       length steps ≤ MOST_LINKS_OF_ROUTE → is_followable p (Some steps) ≡ true
   followed b away [] cost walk few = absurd (away walk.0)
   followed b away (h ∷ steps) cost walk few =
       let here : nat_eq h.node.0 p.id.0 ≡ true = node_test h.node p.id walk.3.sender in
       let short : nat_lt (length steps) 63 ≡ true = below (length steps) few in
       let there : is_link_there (own_link p h.link) ≡ true =
-      subst (λ k. is_link_there (own_link p k) ≡ true) (sym walk.3.link) (own-there walk.0 walk.1 walk.3.known walk.3.joins) in
+      subst (λ k. is_link_there (own_link p k) ≡ true) (sym walk.3.link)
+      (own-there walk.0 walk.1 walk.3.known walk.3.joins) in
       rw (here, short) there
 
 pub found-followed : FoundRoutesAreFollowed

@@ -26,7 +26,8 @@ reflexive : (a : ℕ) (p : Bool) → p ≡ true → comes_first a a p ≡ true
 reflexive a p h = grind arith
 
 -- each before the other: the numbers are the same, and what follows is each before the other
-both_ways : (a b : ℕ) (p q : Bool) → comes_first a b p ≡ true → comes_first b a q ≡ true → (a ≡ b) × (p ≡ true) × (q ≡ true)
+both_ways : (a b : ℕ) (p q : Bool) → comes_first a b p ≡ true → comes_first b a q ≡ true → (a ≡ b) × (p ≡ true) ×
+    (q ≡ true)
 both_ways a b p q h k = (grind arith, grind arith, grind arith)
 
 by_number : (a b : ℕ) (p : Bool) → a < b → comes_first a b p ≡ true
@@ -40,14 +41,16 @@ by_rest a b p h k = grind arith
 at_most-total : (xs ys : List Step) → is_at_most xs ys ≡ false → is_at_most ys xs ≡ true
 at_most-total [] ys h = absurd (cc h)
 at_most-total (x ∷ xs) [] h = refl
-at_most-total (x ∷ xs) (y ∷ ys) h = total x.link.0 y.link.0 (is_at_most xs ys) (is_at_most ys xs) (at_most-total xs ys) h
+at_most-total (x ∷ xs) (y ∷ ys) h = total x.link.0 y.link.0 (is_at_most xs ys) (is_at_most ys xs)
+    (at_most-total xs ys) h
 
 at_most-trans : (xs ys zs : List Step) → is_at_most xs ys ≡ true → is_at_most ys zs ≡ true → is_at_most xs zs ≡ true
 at_most-trans [] ys zs h k = refl
 at_most-trans (x ∷ xs) [] zs h k = absurd (cc h)
 at_most-trans (x ∷ xs) (y ∷ ys) [] h k = absurd (cc k)
 at_most-trans (x ∷ xs) (y ∷ ys) (z ∷ zs) h k =
-    transitive x.link.0 y.link.0 z.link.0 (is_at_most xs ys) (is_at_most ys zs) (is_at_most xs zs) (at_most-trans xs ys zs) h k
+    transitive x.link.0 y.link.0 z.link.0 (is_at_most xs ys) (is_at_most ys zs) (is_at_most xs zs)
+    (at_most-trans xs ys zs) h k
 
 at_most-self : (xs : List Step) → is_at_most xs xs ≡ true
 at_most-self [] = refl
@@ -58,7 +61,8 @@ at_most-test [] ys h = refl
 at_most-test (x ∷ xs) [] h = elim h [ ]
 at_most-test (x ∷ xs) (y ∷ ys) h = elim h [
   | inl less ↦ by_number x.link.0 y.link.0 (is_at_most xs ys) less
-  | inr same ↦ by_rest x.link.0 y.link.0 (is_at_most xs ys) (ap (λ (l : LinkId). l.0) same.0) (at_most-test xs ys same.1)
+  | inr same ↦ by_rest x.link.0 y.link.0 (is_at_most xs ys) (ap (λ (l : LinkId). l.0) same.0)
+      (at_most-test xs ys same.1)
 ]
 
 pub test-at_most : (xs ys : List Step) → is_at_most xs ys ≡ true → IsAtMost (links_of xs) (links_of ys)
@@ -77,7 +81,8 @@ test-at_most (x ∷ xs) (y ∷ ys) h = go (nat_lt x.link.0 y.link.0) refl h (tes
     on true e k rest = inr (same e, rest k)
     on false e k rest = absurd (cc k)
 
-    go : (b : Bool) → nat_lt x.link.0 y.link.0 ≡ b → (b || (nat_eq x.link.0 y.link.0 && is_at_most xs ys)) ≡ true → Rest →
+    go : (b : Bool) → nat_lt x.link.0 y.link.0 ≡ b → (b || (nat_eq x.link.0 y.link.0 && is_at_most xs ys)) ≡ true →
+        Rest →
         (x.link.0 < y.link.0) ⊎ ((x.link ≡ y.link) × IsAtMost (links_of xs) (links_of ys))
     go true e k rest = inl (grind arith)
     go false e k rest = on (nat_eq x.link.0 y.link.0) refl k rest
@@ -94,11 +99,13 @@ same_links (x ∷ xs) (y ∷ ys) h k =
 -- Walks
 
 pub precedes-total : (x y : Trip) → precedes x y ≡ false → precedes y x ≡ true
-precedes-total x y h = total x.cost y.cost (is_at_most x.steps y.steps) (is_at_most y.steps x.steps) (at_most-total x.steps y.steps) h
+precedes-total x y h = total x.cost y.cost (is_at_most x.steps y.steps) (is_at_most y.steps x.steps)
+    (at_most-total x.steps y.steps) h
 
 pub precedes-trans : (x y z : Trip) → precedes x y ≡ true → precedes y z ≡ true → precedes x z ≡ true
 precedes-trans x y z h k =
-    transitive x.cost y.cost z.cost (is_at_most x.steps y.steps) (is_at_most y.steps z.steps) (is_at_most x.steps z.steps)
+    transitive x.cost y.cost z.cost (is_at_most x.steps y.steps) (is_at_most y.steps z.steps)
+    (is_at_most x.steps z.steps)
     (at_most-trans x.steps y.steps z.steps) h k
 
 pub precedes-self : (x : Trip) → precedes x x ≡ true
@@ -135,5 +142,6 @@ cheaper a b false h f = by_test (nat_eq a b) refl
     by_test true e = let same : a ≡ b = grind arith in absurd (cc (f same))
     by_test false e = grind arith
 
-pub precedes-by : (x y : Trip) → x.cost ≤ y.cost → (x.cost ≡ y.cost → is_at_most x.steps y.steps ≡ true) → precedes x y ≡ true
+pub precedes-by : (x y : Trip) → x.cost ≤ y.cost → (x.cost ≡ y.cost → is_at_most x.steps y.steps ≡ true) →
+    precedes x y ≡ true
 precedes-by x y h f = cheaper x.cost y.cost (is_at_most x.steps y.steps) h f

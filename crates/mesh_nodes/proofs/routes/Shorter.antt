@@ -62,7 +62,8 @@ from_visited rows a b (s ∷ steps) x cost walk once at =
     (from_visited rows a b steps walk.1 walk.2 walk.4 (rest_distinct s.node.0 (visited steps b) once))
   where
     go : (c : Bool) → nat_eq s.node.0 a.0 ≡ c → (c || list_any (λ y. nat_eq y a.0) (visited steps b)) ≡ true →
-        (list_any (λ y. nat_eq y a.0) (visited steps b) ≡ true → IsPart rows a b steps walk.2) → IsPart rows a b (s ∷ steps) cost
+        (list_any (λ y. nat_eq y a.0) (visited steps b) ≡ true → IsPart rows a b steps walk.2) →
+        IsPart rows a b (s ∷ steps) cost
     go true e f later =
         let is : x ≡ a = sym walk.3.sender ∙ same_node s.node a e in
         record {
@@ -91,13 +92,23 @@ from_visited rows a b (s ∷ steps) x cost walk once at =
 metric_of : (rows : List TeRow) → HaveMetrics rows → (row : TeRow) → Contains rows row → 1 ≤ row.metric
 metric_of rows metrics row known = (All-contains (λ r. (1 ≤ r.metric) × (r.metric ≤ 65535)) rows row metrics known).0
 
-one_more : (x : ℕ) (xs : List ℕ) → list_any (λ y. nat_eq y x) xs ≡ false → is_distinct xs ≡ true → is_distinct (x ∷ xs) ≡ true
+one_more : (x : ℕ) (xs : List ℕ) → list_any (λ y. nat_eq y x) xs ≡ false → is_distinct xs ≡ true →
+    is_distinct (x ∷ xs) ≡ true
 one_more x xs none once = rw (none, once) refl
 
 pub shorten : (rows : List TeRow) → HaveMetrics rows → (b : NodeId) (steps : List Step) (a : NodeId) (cost : ℕ) →
     IsWalk rows NoLink NoNode a b steps cost → IsShorter rows a b steps cost
 shorten rows metrics b [] a cost walk = record {
-  is = record { part = []; less = cost; walk = walk; once = refl; among = λ s h. h; short = omega arith; most = omega arith };
+  is = record {
+    part = [];
+    less = cost;
+    walk = walk;
+    once = refl;
+    among = λ s h. h;
+    short = omega arith;
+    most =
+        omega arith;
+  };
   same = λ e. refl;
 }
 shorten rows metrics b (s ∷ steps) a cost walk =
@@ -118,19 +129,23 @@ shorten rows metrics b (s ∷ steps) a cost walk =
         less = walk.0.metric + q.is.less;
         walk = (walk.0, walk.1, q.is.less, walk.3, q.is.walk, refl);
         once = one_more s.node.0 (visited q.is.part b)
-            (subst (λ (n : NodeId). list_any (λ y. nat_eq y n.0) (visited q.is.part b) ≡ false) (sym walk.3.sender) none) q.is.once;
+            (subst (λ (n : NodeId). list_any (λ y. nat_eq y n.0) (visited q.is.part b) ≡ false)
+            (sym walk.3.sender) none) q.is.once;
         among = λ x h. elim (contains-cases s x q.is.part h) [
           | inl e ↦ subst (Contains (s ∷ steps)) e (contains-head s steps)
           | inr later ↦ contains-tail s x steps (q.is.among x later)
         ];
         short = (let short : length q.is.part ≤ length steps = q.is.short in omega arith);
-        most = (let most : q.is.less ≤ walk.2 = q.is.most in let all : cost ≡ walk.0.metric + walk.2 = sum in omega arith);
+        most = (let most : q.is.less ≤ walk.2 = q.is.most in let all : cost ≡ walk.0.metric + walk.2 =
+            sum in omega arith);
       };
-      same = λ e. (let all : cost ≡ walk.0.metric + walk.2 = sum in let left : q.is.less ≡ walk.2 = omega arith in ap (λ others. s ∷ others) (q.same left));
+      same = λ e. (let all : cost ≡ walk.0.metric + walk.2 = sum in let left : q.is.less ≡ walk.2 =
+          omega arith in ap (λ others. s ∷ others) (q.same left));
     }
 
     -- it is visited again: the way from there is shorter
-    cut : (q : IsShorter rows walk.1 b steps walk.2) → IsPart rows a b q.is.part q.is.less → IsShorter rows a b (s ∷ steps) cost
+    cut : (q : IsShorter rows walk.1 b steps walk.2) → IsPart rows a b q.is.part q.is.less →
+        IsShorter rows a b (s ∷ steps) cost
     cut q p =
         let first : p.less ≤ q.is.less = p.most in
         let second : q.is.less ≤ walk.2 = q.is.most in
@@ -143,7 +158,8 @@ shorten rows metrics b (s ∷ steps) a cost walk =
             walk = p.walk;
             once = p.once;
             among = λ x h. contains-tail s x steps (q.is.among x (p.among x h));
-            short = (let one : length p.part ≤ length q.is.part = p.short in let two : length q.is.part ≤ length steps = q.is.short in omega arith);
+            short = (let one : length p.part ≤ length q.is.part =
+                p.short in let two : length q.is.part ≤ length steps = q.is.short in omega arith);
             most = omega arith;
           };
           same = λ e. absurd (omega arith);
@@ -152,13 +168,15 @@ shorten rows metrics b (s ∷ steps) a cost walk =
     go : IsShorter rows walk.1 b steps walk.2 → IsShorter rows a b (s ∷ steps) cost
     go q = by_test (list_any (λ y. nat_eq y a.0) (visited q.is.part b)) refl
       where
-        by_test : (c : Bool) → list_any (λ y. nat_eq y a.0) (visited q.is.part b) ≡ c → IsShorter rows a b (s ∷ steps) cost
+        by_test : (c : Bool) → list_any (λ y. nat_eq y a.0) (visited q.is.part b) ≡ c →
+            IsShorter rows a b (s ∷ steps) cost
         by_test true e = cut q (from_visited rows a b q.is.part walk.1 q.is.less q.is.walk q.is.once e)
         by_test false e = longer q e
 
 -- A walk that visits no node twice has at most 63 links
 
-both_ends : (rows : List TeRow) (ends : HaveFewEnds rows) (row : TeRow) → Contains rows row → (a b : NodeId) → Joins row a b →
+both_ends : (rows : List TeRow) (ends : HaveFewEnds rows) (row : TeRow) → Contains rows row → (a b : NodeId) →
+    Joins row a b →
     Contains ends.0 a × Contains ends.0 b
 both_ends rows ends row known a b joins =
     let both = All-contains (λ r. Contains ends.0 r.low × Contains ends.0 r.high) rows row ends.2 known in
@@ -171,13 +189,16 @@ abbrev numbers : List NodeId → List ℕ
 numbers nodes = map (λ n. n.0) nodes
 
 visits_ends : (rows : List TeRow) (ends : HaveFewEnds rows) (b : NodeId) (steps : List Step) (a : NodeId) (cost : ℕ) →
-    IsWalk rows NoLink NoNode a b steps cost → Contains ends.0 a → (q : ℕ) → Contains (visited steps b) q → Contains (numbers ends.0) q
+    IsWalk rows NoLink NoNode a b steps cost → Contains ends.0 a → (q : ℕ) → Contains (visited steps b) q →
+    Contains (numbers ends.0) q
 visits_ends rows ends b [] a cost walk known q h = elim (contains-cases b.0 q [] h) [
-  | inl e ↦ subst (Contains (numbers ends.0)) e (contains-map (λ n. n.0) ends.0 b (subst (Contains ends.0) walk.0 known))
+  | inl e ↦ subst (Contains (numbers ends.0)) e
+      (contains-map (λ n. n.0) ends.0 b (subst (Contains ends.0) walk.0 known))
   | inr none ↦ absurd (contains-none q none)
 ]
 visits_ends rows ends b (s ∷ steps) a cost walk known q h = elim (contains-cases s.node.0 q (visited steps b) h) [
-  | inl e ↦ subst (Contains (numbers ends.0)) e (contains-map (λ n. n.0) ends.0 s.node (subst (Contains ends.0) (sym walk.3.sender) known))
+  | inl e ↦ subst (Contains (numbers ends.0)) e
+      (contains-map (λ n. n.0) ends.0 s.node (subst (Contains ends.0) (sym walk.3.sender) known))
   | inr later ↦
       visits_ends rows ends b steps walk.1 walk.2 walk.4
       (both_ends rows ends walk.0 walk.3.known a walk.1 walk.3.joins).1 q later
@@ -199,7 +220,8 @@ apart (x ∷ xs) e = go (list_any (λ y. nat_eq y x) xs) refl e (apart xs)
         at false g k later = (grind arith, later k)
 
     go : (b : Bool) → list_any (λ y. nat_eq y x) xs ≡ b → (not b && is_distinct xs) ≡ true →
-        (is_distinct xs ≡ true → IsDistinct nat_eq xs) → AllByRecursion (λ y. nat_eq x y ≡ false) xs × IsDistinct nat_eq xs
+        (is_distinct xs ≡ true → IsDistinct nat_eq xs) → AllByRecursion (λ y. nat_eq x y ≡ false) xs ×
+        IsDistinct nat_eq xs
     go true f g rest = absurd (cc g)
     go false f g rest = (none xs f, rest g)
 
@@ -216,13 +238,15 @@ pub few_links : (rows : List TeRow) → HaveFewEnds rows → (a b : NodeId) (ste
 few_links rows ends a b [] cost walk once = omega arith
 few_links rows ends a b (s ∷ steps) cost walk once =
     let known : Contains ends.0 a = (both_ends rows ends walk.0 walk.3.known a walk.1 walk.3.joins).0 in
-    let each : (q : ℕ) → list_any (nat_eq q) (visited (s ∷ steps) b) ≡ true → list_any (nat_eq q) (numbers ends.0) ≡ true =
+    let each : (q : ℕ) → list_any (nat_eq q) (visited (s ∷ steps) b) ≡ true →
+    list_any (nat_eq q) (numbers ends.0) ≡ true =
     (λ q h.
     let x = any-there (nat_eq q) (visited (s ∷ steps) b) h in
     there-any (nat_eq q) (numbers ends.0) x.0 (visits_ends rows ends b (s ∷ steps) a cost walk known x.0 x.1) x.2)
     in
     let few : length (visited (s ∷ steps) b) ≤ length (numbers ends.0) =
-    length-le_from_is_member nat_eq_equiv (visited (s ∷ steps) b) (numbers ends.0) (apart (visited (s ∷ steps) b) once) each
+    length-le_from_is_member nat_eq_equiv (visited (s ∷ steps) b) (numbers ends.0)
+    (apart (visited (s ∷ steps) b) once) each
     in
     let more : length (visited (s ∷ steps) b) ≡ suc (length (s ∷ steps)) = length-visited (s ∷ steps) b in
     let as_many : length (numbers ends.0) ≡ length ends.0 = length-numbers ends.0 in

@@ -20,7 +20,8 @@ use Rattle.mesh_nodes.proofs.Cases.{both_left, both_right}
 use Rattle.mesh_nodes.proofs.routes.Lists.{contains-map}
 
 -- what holds of each row of a topology's links holds of those of one node
-of-some : (P : TeRow → Type 0) (nodes : List NodeSpec) (n : NodeId) → ((l : LinkSpec) → is_link nodes l ≡ true → P (row_of l)) →
+of-some : (P : TeRow → Type 0) (nodes : List NodeSpec) (n : NodeId) →
+    ((l : LinkSpec) → is_link nodes l ≡ true → P (row_of l)) →
     (links : List LinkSpec) → AllByRecursion (λ l. is_link nodes l ≡ true) links →
     AllByRecursion P (map row_of (filter (touches n) links))
 of-some P nodes n holds [] all = tt
@@ -35,8 +36,10 @@ at_most : (a b : ℕ) → nat_le a b ≡ true → a ≤ b
 at_most a b e = grind arith
 
 metric-is : (l : LinkSpec) → has_metric l ≡ true → (1 ≤ l.metric) × (l.metric ≤ 65535)
-metric-is l e =
-    (at_most 1 l.metric (both_left _ (nat_le l.metric 65535) e), at_most l.metric 65535 (both_right (nat_le 1 l.metric) _ e))
+metric-is l e = (
+  at_most 1 l.metric (both_left _ (nat_le l.metric 65535) e),
+  at_most l.metric 65535 (both_right (nat_le 1 l.metric) _ e),
+)
 
 -- Ends
 
@@ -48,8 +51,11 @@ known-end nodes n e =
 both-ends : (nodes : List NodeSpec) (l : LinkSpec) → is_link nodes l ≡ true →
     Contains (map (λ m. m.id) nodes) l.low × Contains (map (λ m. m.id) nodes) l.high
 both-ends nodes l link =
-    let ends = both_right _ (is_node_id nodes l.low && is_node_id nodes l.high) (both_left _ _ (both_left _ _ (both_left _ _ link))) in
-    (known-end nodes l.low (both_left (is_node_id nodes l.low) _ ends), known-end nodes l.high (both_right (is_node_id nodes l.low) _ ends))
+    let ends = both_right _ (is_node_id nodes l.low && is_node_id nodes l.high)
+    (both_left _ _ (both_left _ _ (both_left _ _ link))) in (
+      known-end nodes l.low (both_left (is_node_id nodes l.low) _ ends),
+      known-end nodes l.high (both_right (is_node_id nodes l.low) _ ends),
+    )
 
 length-ids : (nodes : List NodeSpec) → length (map (λ m. m.id) nodes) ≡ length nodes
 length-ids [] = refl
@@ -74,7 +80,8 @@ apart k n p (l ∷ links) most rise =
     go true others = (differs, others)
     go false others = others
 
-distinct : (n : ℕ) (p : LinkSpec → Bool) (links : List LinkSpec) → Rises n links → HaveDistinctLinks (map row_of (filter p links))
+distinct : (n : ℕ) (p : LinkSpec → Bool) (links : List LinkSpec) → Rises n links →
+    HaveDistinctLinks (map row_of (filter p links))
 distinct n p [] rise = λ i j d less within. absurd (omega arith)
 distinct n p (l ∷ links) rise = go (p l) (distinct l.id.0 p links rise.1)
   where
@@ -82,7 +89,8 @@ distinct n p (l ∷ links) rise = go (p l) (distinct l.id.0 p links rise.1)
         HaveDistinctLinks (map row_of (cond b (l ∷ filter p links) (filter p links)))
     go true others =
         AllPairs-cons (λ x y. x.link ≢ y.link) (row_of l) (map row_of (filter p links))
-        (All-from_recursion (λ (row : TeRow). l.id ≢ row.link) (map row_of (filter p links)) (apart l.id l.id.0 p links (omega arith) rise.1))
+        (All-from_recursion (λ (row : TeRow). l.id ≢ row.link) (map row_of (filter p links))
+        (apart l.id l.id.0 p links (omega arith) rise.1))
         others
     go false others = others
 
@@ -92,19 +100,22 @@ own-searchable : (t : Network) (n : NodeId) → IsTopology t → AreSearchable (
 own-searchable t n valid = record {
   ends = (
     map (λ m. m.id) t.nodes,
-    (let few : length t.nodes ≤ 64 = at_most (length t.nodes) 64 (both_left _ (nat_le (length t.links) 256) (both_right (nat_le 1 (length t.nodes)) _ valid.count)) in
+    (let few : length t.nodes ≤ 64 = at_most (length t.nodes) 64
+        (both_left _ (nat_le (length t.links) 256) (both_right (nat_le 1 (length t.nodes)) _ valid.count)) in
         let same : length (map (λ m. m.id) t.nodes) ≡ length t.nodes = length-ids t.nodes in
         omega arith),
     All-from_recursion (λ row. Contains (map (λ m. m.id) t.nodes) row.low × Contains (map (λ m. m.id) t.nodes) row.high)
         (map row_of (filter (touches n) t.links)) (of-some _ t.nodes n (both-ends t.nodes) t.links (each-link t valid)),
   );
-  metrics = All-from_recursion (λ row. (1 ≤ row.metric) × (row.metric ≤ 65535)) (map row_of (filter (touches n) t.links))
+  metrics = All-from_recursion (λ row. (1 ≤ row.metric) × (row.metric ≤ 65535))
+      (map row_of (filter (touches n) t.links))
       (of-some _ t.nodes n (λ l e. metric-is l (link-metric t.nodes l e)) t.links (each-link t valid));
   links = distinct 0 (touches n) t.links (links-rise t valid);
 }
 
 pub new-rows : NewRowsFit
 new-rows t n valid = record {
-  searchable = subst AreSearchable (sym (append-nil (map row_of (filter (touches n) t.links)))) (own-searchable t n valid);
+  searchable = subst AreSearchable (sym (append-nil (map row_of (filter (touches n) t.links))))
+      (own-searchable t n valid);
   others = All-nil (IsElsewhere n);
 }

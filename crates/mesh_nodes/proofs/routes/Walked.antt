@@ -50,12 +50,14 @@ module _ (rows : List TeRow) (k : ℕ) (a b : NodeId) (row : TeRow) (onward : No
 
   row-leads : (r : Trip) → Contains (across_row onward a row) r → Leads rows (suc k) a b r
   row-leads r h =
-      elim (Contains-append_cases (from_end onward a row row.low row.high) (from_end onward a row row.high row.low) r h) [
+      elim (Contains-append_cases (from_end onward a row row.low row.high)
+      (from_end onward a row row.high row.low) r h) [
         | inl up ↦ end-leads row.low row.high (λ e. inl (e, refl)) r (nat_eq row.low.0 a.0) refl up
         | inr down ↦ end-leads row.high row.low (λ e. inr (e, refl)) r (nat_eq row.high.0 a.0) refl down
       ]
 
-pub each-leads : (rows : List TeRow) (k : ℕ) (a b : NodeId) (r : Trip) → Contains (trips rows k a b) r → Leads rows k a b r
+pub each-leads : (rows : List TeRow) (k : ℕ) (a b : NodeId) (r : Trip) → Contains (trips rows k a b) r →
+    Leads rows k a b r
 unfolding trips
 each-leads rows zero a b r h = stays rows zero a b r (nat_eq a.0 b.0) refl h
 each-leads rows (suc k) a b r h =
@@ -70,33 +72,41 @@ each-leads rows (suc k) a b r h =
 
 stay-there : (a b : NodeId) (cost : ℕ) → a ≡ b → cost ≡ 0 → Contains (here a b) (record { steps = []; cost = cost })
 stay-there a b cost same none =
-    rw (node_test a b same) (subst (λ c. Contains (stay ∷ []) (record { steps = []; cost = c })) (sym none) (contains-head stay []))
+    rw (node_test a b same) (subst (λ c. Contains (stay ∷ []) (record { steps = []; cost = c })) (sym none)
+    (contains-head stay []))
 
 end-there : (onward : NodeId → List Trip) (a : NodeId) (row : TeRow) (near far : NodeId) (q : Trip) → near ≡ a →
     Contains (onward far) q → Contains (from_end onward a row near far) (over_row a row q)
 end-there onward a row near far q e h = rw (node_test near a e) (contains-map (over_row a row) (onward far) q h)
 
-row-there : (onward : NodeId → List Trip) (a far : NodeId) (row : TeRow) (q : Trip) → Joins row a far → Contains (onward far) q →
+row-there : (onward : NodeId → List Trip) (a far : NodeId) (row : TeRow) (q : Trip) → Joins row a far →
+    Contains (onward far) q →
     Contains (across_row onward a row) (over_row a row q)
 row-there onward a far row q joins h = elim joins [
-  | inl up ↦ Contains-append_left (from_end onward a row row.low row.high) (from_end onward a row row.high row.low) (over_row a row q)
+  | inl up ↦ Contains-append_left (from_end onward a row row.low row.high) (from_end onward a row row.high row.low)
+      (over_row a row q)
       (end-there onward a row row.low row.high q up.0 (subst (λ n. Contains (onward n) q) (sym up.1) h))
-  | inr down ↦ Contains-append_right (from_end onward a row row.low row.high) (from_end onward a row row.high row.low) (over_row a row q)
+  | inr down ↦ Contains-append_right (from_end onward a row row.low row.high)
+      (from_end onward a row row.high row.low) (over_row a row q)
       (end-there onward a row row.high row.low q down.0 (subst (λ n. Contains (onward n) q) (sym down.1) h))
 ]
 
-over_row-is : (a : NodeId) (row : TeRow) (s : Step) (steps : List Step) (left cost : ℕ) → s.node ≡ a → s.link ≡ row.link →
-    cost ≡ row.metric + left → over_row a row (record { steps = steps; cost = left }) ≡ record { steps = s ∷ steps; cost = cost }
+over_row-is : (a : NodeId) (row : TeRow) (s : Step) (steps : List Step) (left cost : ℕ) → s.node ≡ a →
+    s.link ≡ row.link →
+    cost ≡ row.metric + left → over_row a row (record { steps = steps; cost = left }) ≡
+    record { steps = s ∷ steps; cost = cost }
 over_row-is a row s steps left cost sender link sum =
     λ i. record { steps = record { node = sym sender i; link = sym link i } ∷ steps; cost = sym sum i }
 
 pub each-there : (rows : List TeRow) (k : ℕ) (a b : NodeId) (steps : List Step) (cost : ℕ) →
-    IsWalk rows NoLink NoNode a b steps cost → length steps ≤ k → Contains (trips rows k a b) (record { steps = steps; cost = cost })
+    IsWalk rows NoLink NoNode a b steps cost → length steps ≤ k →
+    Contains (trips rows k a b) (record { steps = steps; cost = cost })
 unfolding trips
 each-there rows zero a b [] cost walk few = stay-there a b cost walk.0 walk.1
 each-there rows zero a b (s ∷ steps) cost walk few = absurd (omega arith)
 each-there rows (suc k) a b [] cost walk few =
-    Contains-append_left (here a b) (flat_map (across_row (λ n. trips rows k n b) a) rows) (record { steps = []; cost = cost })
+    Contains-append_left (here a b) (flat_map (across_row (λ n. trips rows k n b) a) rows)
+    (record { steps = []; cost = cost })
     (stay-there a b cost walk.0 walk.1)
 each-there rows (suc k) a b (s ∷ steps) cost walk few =
     let row = walk.0 in
@@ -122,7 +132,8 @@ get_same [] k d e h = absurd (omega arith)
 get_same (r ∷ rows) zero d e h = refl
 get_same (r ∷ rows) (suc k) d e h = get_same rows k d e (omega arith)
 
-one_row : (rows : List TeRow) → HaveDistinctLinks rows → (x y : TeRow) → Contains rows x → Contains rows y → x.link ≡ y.link → x ≡ y
+one_row : (rows : List TeRow) → HaveDistinctLinks rows → (x y : TeRow) → Contains rows x → Contains rows y →
+    x.link ≡ y.link → x ≡ y
 one_row rows distinct x y h k same = by_order (nat_lt h.0 k.0) refl (nat_lt k.0 h.0) refl
   where
     x-there : get_or rows h.0 x ≡ x
@@ -133,9 +144,11 @@ one_row rows distinct x y h k same = by_order (nat_lt h.0 k.0) refl (nat_lt k.0 
 
     by_order : (b : Bool) → nat_lt h.0 k.0 ≡ b → (c : Bool) → nat_lt k.0 h.0 ≡ c → x ≡ y
     by_order true e c f =
-        absurd (distinct h.0 k.0 x (grind arith) k.1 (ap (λ (r : TeRow). r.link) x-there ∙ same ∙ sym (ap (λ (r : TeRow). r.link) y-there)))
+        absurd (distinct h.0 k.0 x (grind arith) k.1
+        (ap (λ (r : TeRow). r.link) x-there ∙ same ∙ sym (ap (λ (r : TeRow). r.link) y-there)))
     by_order false e true f =
-        absurd (distinct k.0 h.0 x (grind arith) h.1 (ap (λ (r : TeRow). r.link) y-there ∙ sym same ∙ sym (ap (λ (r : TeRow). r.link) x-there)))
+        absurd (distinct k.0 h.0 x (grind arith) h.1
+        (ap (λ (r : TeRow). r.link) y-there ∙ sym same ∙ sym (ap (λ (r : TeRow). r.link) x-there)))
     by_order false e false f = let at : h.0 ≡ k.0 = grind arith in sym x-there ∙ ap (λ n. get_or rows n x) at ∙ y-there
 
 first_link : (x y : Step) (xs ys : List Step) → links_of (x ∷ xs) ≡ links_of (y ∷ ys) → x.link ≡ y.link

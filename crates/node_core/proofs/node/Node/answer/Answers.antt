@@ -21,7 +21,12 @@ fit c =
     let i = c.args.input.now in
     subst (AnswerFits n.place n.state (IsWritableInput i))
     (sym (c.in_ok-change.ensures ∙ ap (λ m. answer_to m i) c.self.view_is))
-    (answer-fits n i (record { place = c.fits.ensures.place; state = c.fits.ensures.state; rows = c.fits.ensures.rows }))
+    (answer-fits n i (record {
+      place = c.fits.ensures.place;
+      state = c.fits.ensures.state;
+      rows =
+          c.fits.ensures.rows;
+    }))
 
 pub returns-clause-near : goal.returns-clause-near
 returns-clause-near c = (fit c).near
