@@ -11,7 +11,7 @@ ghost use Rattle.leg_table.specs.States.{local_of, state_of};
 ghost use Rattle.leg_table.specs.Tables.{LegsRise};
 
 use crate::boxes::{BoxedChange, BoxedLeg, LegEdit};
-use crate::calls::{Calls, change_calls};
+use crate::call_table::Calls;
 use crate::changes::Change;
 use crate::labels::{TakenLabel, taken, taken_of};
 use crate::legs::{find_leg, set_leg, take_leg};
@@ -271,9 +271,9 @@ pub fn carry_out(
         sent,
         ..
     } = change;
-    calls.calls.reserve(changes.len())?;
+    calls.list.reserve(changes.len())?;
     carry_out_legs(calls.alloc, tables, owner, legs)?;
-    change_calls(&mut calls.calls, changes);
+    calls.list.change(changes);
     if let Some(numbers) = numbers {
         calls.tunnel = numbers.tunnel;
         calls.lsp = numbers.lsp;

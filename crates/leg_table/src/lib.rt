@@ -2,6 +2,8 @@
 #![tactic(auto)]
 
 mod boxes;
+mod call_list;
+mod call_table;
 mod calls;
 pub mod carrying;
 pub mod changes;
@@ -10,10 +12,11 @@ pub mod handling;
 pub mod labels;
 pub mod laws;
 mod legs;
+mod lsp_index;
 pub mod one_leg;
 mod tables;
 
-pub use calls::Calls;
+pub use call_table::Calls;
 pub use changes::Change;
 pub use labels::TakenLabel;
 pub use tables::{NodeTables, PutFault};

@@ -5,7 +5,7 @@ ghost use Rattle.std.specs.Option.{option_copied};
 ghost use Rattle.ason_base.specs.Lsps.{has_fibre, without_fibre};
 ghost use Rattle.ason_base.specs.Network.{find_node, row_of, touches};
 ghost use Rattle.mesh_rules.specs.Legs.{find_leg, with_leg, without_leg};
-ghost use Rattle.leg_table.specs.Tables.{LegsRise, PutRefused, find_own, in_phase, knows, learnt, new_table, node_or_none, leg_changed, with_back_labels, with_fibre, with_labels};
+ghost use Rattle.leg_table.specs.Tables.{LegsRise, PutRefused, find_own, in_phase, knows, learnt, new_table, node_or_none, with_back_labels, with_fibre, with_labels, with_leg_changed};
 
 use crate::boxes::BoxedLeg;
 use crate::legs;
@@ -122,7 +122,7 @@ impl NodeTables {
     /// Sets the phase of the leg of this LSP.
     pub fn set_phase(&mut self, lsp: &Lsp, p: Phase)
         requires { IsSome (find_leg lsp.now self.old.legs) }
-        ensures { self.new ≡ record self.old { legs = leg_changed lsp.now (in_phase p) self.old.legs } }
+        ensures { self.new ≡ with_leg_changed lsp.now (in_phase p) self.old }
     {
         legs::set_phase(&mut self.legs, *lsp, p);
     }
@@ -130,7 +130,7 @@ impl NodeTables {
     /// Sets the labels of the leg of this LSP.
     pub fn set_labels(&mut self, lsp: &Lsp, in_label: Option<Label>, out_label: Option<Label>)
         requires { IsSome (find_leg lsp.now self.old.legs) }
-        ensures { self.new ≡ record self.old { legs = leg_changed lsp.now (with_labels in_label out_label) self.old.legs } }
+        ensures { self.new ≡ with_leg_changed lsp.now (with_labels in_label out_label) self.old }
     {
         legs::set_labels(&mut self.legs, *lsp, in_label, out_label);
     }
@@ -138,7 +138,7 @@ impl NodeTables {
     /// Sets the labels of the backward direction of the leg of this LSP.
     pub fn set_back(&mut self, lsp: &Lsp, back_in: Option<Label>, back_out: Option<Label>)
         requires { IsSome (find_leg lsp.now self.old.legs) }
-        ensures { self.new ≡ record self.old { legs = leg_changed lsp.now (with_back_labels back_in back_out) self.old.legs } }
+        ensures { self.new ≡ with_leg_changed lsp.now (with_back_labels back_in back_out) self.old }
     {
         legs::set_back(&mut self.legs, *lsp, back_in, back_out);
     }
