@@ -118,7 +118,8 @@ find-changed n m change (d ∷ calls) kept =
     go below false false e f = rw (below, f) refl
 
 has-changed : (of : CallRec → Option Lsp) (change : CallRec → CallRec) (b : Bool) (o : Option CallRec)
-    (l : Option Lsp) → ((c : CallRec) → of (change c) ≡ of c) → has_lsp of (cond b (option_map change o) o) l ≡ has_lsp of o l
+    (l : Option Lsp) → ((c : CallRec) → of (change c) ≡ of c) →
+    has_lsp of (cond b (option_map change o) o) l ≡ has_lsp of o l
 has-changed of change true None l same = refl
 has-changed of change true (Some c) l same = ap (λ k. is_same k l) (same c)
 has-changed of change false o l same = refl

@@ -57,7 +57,8 @@ to-false : (b : Bool) → (b ≡ true → ⊥) → b ≡ false
 to-false b never = elim b as (λ c. b ≡ c → b ≡ false) [ true ↦ λ e. absurd (never e) | false ↦ λ e. e ] refl
 
 pub least-first : (of : CallRec → Option Lsp) (l : Lsp) (calls : List CallRec) (es : List LspOfCall)
-    (o : Option CallNo) → CallsRise calls → IsIndexOf of calls es → IsFirstCall l es o → IsLeast (λ c. is_lsp (of c) l) calls o
+    (o : Option CallNo) → CallsRise calls → IsIndexOf of calls es → IsFirstCall l es o →
+    IsLeast (λ c. is_lsp (of c) l) calls o
 least-first of l calls es None rise index none =
     all-calls_found (λ d. is_lsp (of d) l ≡ false) calls rise
     (λ k d found. to-false (is_lsp (of d) l)

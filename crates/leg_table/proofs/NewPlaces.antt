@@ -53,7 +53,8 @@ pub from_place : {X : Type 0} (same from : X → Bool) (xs : List X) (n k : ℕ)
     n ≡ position_or_len from xs → n ≤ k → k < length xs → from (get_or xs k d) ≡ true
 from_place same from xs n k d o place le below = elim (cases_lt n k) [
   | inl less ↦ o.last n k d less below (passes-first from xs n d place (omega (arith, less, below)))
-  | inr more ↦ (let is : n ≡ k = omega (arith, le, more) in subst (λ m. from (get_or xs m d) ≡ true) is (passes-first from xs n d place (omega (arith, is, below))))
+  | inr more ↦ (let is : n ≡ k = omega (arith, le, more) in subst (λ m. from (get_or xs m d) ≡ true) is
+      (passes-first from xs n d place (omega (arith, is, below))))
 ]
 
 -- Legs
@@ -78,7 +79,8 @@ pub leg-rises : (g : Leg) (legs : List Leg) (n : ℕ) → LegsRise legs → n �
 leg-rises g legs n rises place within none =
     rises-insert (λ a b. IsTrue (lsp_before a.lsp b.lsp)) legs n g within rises
     (λ k d less.
-    let fails = or_neither (same_lsp (get_or legs k d).lsp g.lsp) _ (fails_before_first (is_at_or_after g.lsp) legs k d (subst (λ m. k < m) place less)) in
+    let fails = or_neither (same_lsp (get_or legs k d).lsp g.lsp) _
+    (fails_before_first (is_at_or_after g.lsp) legs k d (subst (λ m. k < m) place less)) in
     before-total g.lsp (get_or legs k d).lsp fails.0 fails.1)
     (λ k d le below.
     or_second (same_lsp (get_or legs k d).lsp g.lsp) _

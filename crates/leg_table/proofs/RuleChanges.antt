@@ -140,7 +140,8 @@ module _ (p : LocalNode) (s : NodeState) (m : PathRequest) (absent : find_leg m.
   first-may None own = tt
   first-may (Some link) own =
       if_cases (Fine p s.legs)
-      (not (is_active m.role) && (leads (Some link) m.arrival.from p.id && not (nat_eq m.arrival.lsp.ingress.0 p.id.0))) _ _
+      (not (is_active m.role) && (leads (Some link) m.arrival.from p.id
+      && not (nat_eq m.arrival.lsp.ingress.0 p.id.0))) _ _
       (λ e. judged-may link (first_failure (checks p s m link)) own) (λ e. tt)
 
 path-with : (p : LocalNode) (s : NodeState) (m : PathRequest) (o : Option Leg) → find_leg m.arrival.lsp s.legs ≡ o →

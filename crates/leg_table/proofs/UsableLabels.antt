@@ -257,7 +257,8 @@ unless true b told none = let e : b ≡ true = told refl in absurd (cc (e, none)
 unless false b told none = refl
 
 -- no claim keeps a leg of this role from a label that is usable for it
-pub usable-unclaimed : (p : LocalNode) (legs : List Leg) (r : Role) (risks : List Risk) (o : List FibreClaims) (f : Fibre)
+pub usable-unclaimed : (p : LocalNode) (legs : List Leg) (r : Role) (risks : List Risk) (o : List FibreClaims)
+    (f : Fibre)
     (x : ℕ) → LegsRise legs → ClaimsFit legs o → labels.has (usable p legs r risks f) x ≡ true →
     list_any (bars r x) (claims_of f o) ≡ false
 usable-unclaimed p legs Work risks o f x rise fit h =

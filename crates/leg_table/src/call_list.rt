@@ -216,7 +216,8 @@ impl CallList {
     )
         requires fit { AreCalls self.old }
         requires stands { IsSome (find_call number self.old.calls.items) }
-        ensures calls { self.new.calls.items ≡ call_changed number (with_lsps work back) self.old.calls.items }
+        ensures calls { self.new.calls.items ≡ call_changed number
+            (with_lsps work back) self.old.calls.items }
         ensures fit { AreCalls self.new }
     {
         let before = find_call(&self.calls, number);

@@ -60,7 +60,8 @@ impl Calls {
     /// Adds a call of a new number. After want of memory nothing has changed.
     pub fn add(&mut self, _: Global, rec: CallRec) -> Result<(), OutOfMemory>
         requires { find_call rec.call self.old.calls ≡ None }
-        ensures ok { OnOk result (self.new ≡ record self.old { calls = with_call rec self.old.calls }) }
+        ensures ok { OnOk result
+            (self.new ≡ record self.old { calls = with_call rec self.old.calls }) }
         ensures err { OnErr result (self.new ≡ self.old) }
     {
         self.list.reserve(1)?;

@@ -104,7 +104,8 @@ pub(crate) fn set_state(
     ticks: u32,
 )
     requires { CallsRise calls.old.items }
-    ensures changed { calls.new.items ≡ call_changed number (in_state state cause ticks) calls.old.items }
+    ensures changed { calls.new.items ≡ call_changed number
+        (in_state state cause ticks) calls.old.items }
     ensures rising { CallsRise calls.new.items }
 {
     if let Some(place) = find_place(calls, number) {
@@ -176,7 +177,8 @@ pub(crate) fn report(
     f: Fibre,
 ) -> Result<(), OutOfMemory>
     requires { CallsRise calls.old.items }
-    ensures ok { OnOk result (calls.new.items ≡ call_changed number (reported role f) calls.old.items) }
+    ensures ok { OnOk result
+        (calls.new.items ≡ call_changed number (reported role f) calls.old.items) }
     ensures err { OnErr result (calls.new.items ≡ calls.old.items) }
     ensures rising { CallsRise calls.new.items }
 {

@@ -33,9 +33,11 @@ fn give(
     requires comes_in { IsTrue (comes_in owner.old taken.fibre) }
     requires within { taken.label ≤ labels_of taken.fibre owner.old }
     requires new { IsTrue (not (has_label owner.old taken.fibre taken.label lsp)) }
-    ensures ok { OnOk result (owner.new ≡ claim_added taken.fibre (first_claim role taken.label lsp) owner.old) }
+    ensures ok { OnOk result
+        (owner.new ≡ claim_added taken.fibre (first_claim role taken.label lsp) owner.old) }
     ensures err { OnErr result (owner.new ≡ owner.old) }
-    ensures fault { IfErr result (RefusedFor (bars role taken.label) (claims_of taken.fibre owner.old)) }
+    ensures fault { IfErr result
+        (RefusedFor (bars role taken.label) (claims_of taken.fibre owner.old)) }
 {
     match role {
         Role::Work => owner.claim(alloc, taken.fibre, taken.label, lsp),
@@ -54,7 +56,8 @@ fn claim(
     requires within { taken.label ≤ labels_of taken.fibre owner.old }
     requires new { IsTrue (not (has_label owner.old taken.fibre taken.label lsp)) }
     requires free { NoClaim (bars role taken.label) (claims_of taken.fibre owner.old) }
-    ensures ok { OnOk result (owner.new ≡ claim_added taken.fibre (first_claim role taken.label lsp) owner.old) }
+    ensures ok { OnOk result
+        (owner.new ≡ claim_added taken.fibre (first_claim role taken.label lsp) owner.old) }
     ensures err { OnErr result (owner.new ≡ owner.old) }
 {
     match give(owner, alloc, role, lsp, taken) {
@@ -236,7 +239,8 @@ pub(crate) fn carry_out_legs(
     requires owner { IsOwnerOf tables.old owner.old }
     requires may { MayBeMade (local_of tables.old) tables.old.legs changes.items }
     requires few { length (legs_changed changes.items tables.old.legs) ≤ 4096 }
-    ensures ok { OnOk result (tables.new ≡ record tables.old { legs = legs_changed changes.items tables.old.legs }) }
+    ensures ok { OnOk result
+        (tables.new ≡ record tables.old { legs = legs_changed changes.items tables.old.legs }) }
     ensures err { OnErr result (tables.new ≡ tables.old) }
     ensures err_owner { OnErr result (owner.new ≡ owner.old) }
     ensures owner { IsOwnerOf tables.new owner.new }
@@ -256,7 +260,8 @@ pub fn carry_out(
     requires owner { IsOwnerOf tables.old owner.old }
     requires may { MayBeMade (local_of tables.old) tables.old.legs change.legs }
     requires few { length (legs_changed change.legs tables.old.legs) ≤ 4096 }
-    ensures ok { OnOk result (state_of tables.new calls.new ≡ changed (state_of tables.old calls.old) change) }
+    ensures ok { OnOk result
+        (state_of tables.new calls.new ≡ changed (state_of tables.old calls.old) change) }
     ensures sent { IfOk result (λ outs. outs ≡ change.sent) }
     ensures err { OnErr result (tables.new ≡ tables.old) }
     ensures err_owner { OnErr result (owner.new ≡ owner.old) }

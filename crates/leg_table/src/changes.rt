@@ -96,7 +96,8 @@ impl Change {
 
     /// Then the call is put in its place.
     pub fn put_call(&mut self, call: CallRec) -> Result<(), OutOfMemory>
-        ensures { OnOk result (self.new ≡ followed_by self.old (changes_calls (calls.Put call ∷ []))) }
+        ensures { OnOk result
+            (self.new ≡ followed_by self.old (changes_calls (calls.Put call ∷ []))) }
     {
         self.calls.push(CallChange::Put(call))?;
         Ok(())
@@ -104,7 +105,8 @@ impl Change {
 
     /// Then the call of this number goes.
     pub fn remove_call(&mut self, number: CallNo) -> Result<(), OutOfMemory>
-        ensures { OnOk result (self.new ≡ followed_by self.old (changes_calls (calls.Goes number ∷ []))) }
+        ensures { OnOk result
+            (self.new ≡ followed_by self.old (changes_calls (calls.Goes number ∷ []))) }
     {
         self.calls.push(CallChange::Goes(number))?;
         Ok(())

@@ -150,7 +150,8 @@ pub(crate) fn set_labels(
     out_label: Option<Label>,
 )
     requires { LegsRise legs.old.items }
-    ensures changed { legs.new.items ≡ leg_changed lsp (with_labels in_label out_label) legs.old.items }
+    ensures changed { legs.new.items ≡ leg_changed lsp
+        (with_labels in_label out_label) legs.old.items }
     ensures rising { LegsRise legs.new.items }
     ensures len { length legs.new.items ≡ length legs.old.items }
 {
@@ -166,7 +167,8 @@ pub(crate) fn set_back(
     back_out: Option<Label>,
 )
     requires { LegsRise legs.old.items }
-    ensures changed { legs.new.items ≡ leg_changed lsp (with_back_labels back_in back_out) legs.old.items }
+    ensures changed { legs.new.items ≡ leg_changed lsp
+        (with_back_labels back_in back_out) legs.old.items }
     ensures rising { LegsRise legs.new.items }
     ensures len { length legs.new.items ≡ length legs.old.items }
 {

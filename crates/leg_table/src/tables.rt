@@ -90,7 +90,8 @@ impl NodeTables {
     /// Puts a leg in its place. `Full` exactly at 4,096 legs. After an error nothing has changed.
     pub fn put(&mut self, alloc: Global, leg: Leg) -> Result<(), PutFault>
         requires { find_leg leg.lsp self.old.legs ≡ None }
-        ensures ok { OnOk result (self.new ≡ record self.old { legs = with_leg leg self.old.legs }) }
+        ensures ok { OnOk result
+            (self.new ≡ record self.old { legs = with_leg leg self.old.legs }) }
         ensures err { OnErr result (self.new ≡ self.old) }
         ensures room { IfOk result (λ _. length self.old.legs < 4096) }
         ensures fault { IfErr result (PutRefused self.old.legs) }
@@ -213,7 +214,8 @@ impl NodeTables {
 
     /// Takes the fibre to be down. After want of memory nothing has changed.
     pub fn set_down(&mut self, _: Global, f: Fibre) -> Result<(), OutOfMemory>
-        ensures ok { OnOk result (self.new ≡ record self.old { down = with_fibre f self.old.down }) }
+        ensures ok { OnOk result
+            (self.new ≡ record self.old { down = with_fibre f self.old.down }) }
         ensures err { OnErr result (self.new ≡ self.old) }
     {
         add_fibre(&mut self.down, f)

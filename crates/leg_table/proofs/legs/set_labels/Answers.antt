@@ -9,10 +9,12 @@ returns-in-Some-clause-changed c =
     let place = sym (c.in-Some.ensures ∙ ap (position (is_of_lsp c.args.lsp)) c.deref.ensures.value) in
     let items = c.args.legs.now.items in
     ap (set items c.in-Some.place) c.set_labels.ensures
-    ∙ changed-at (is_of_lsp c.args.lsp) (with_labels c.args.in_label c.args.out_label) items c.in-Some.place c.index_mut.result.now place
+    ∙ changed-at (is_of_lsp c.args.lsp) (with_labels c.args.in_label c.args.out_label) items c.in-Some.place
+    c.index_mut.result.now place
     c.index_mut.ensures.value
 
 pub returns-in_default-clause-changed : goal.returns-in_default-clause-changed
 returns-in_default-clause-changed c =
     let none = sym (c.in_default.ensures ∙ ap (position (is_of_lsp c.args.lsp)) c.deref.ensures.value) in
-    sym (changed-nowhere (is_of_lsp c.args.lsp) (with_labels c.args.in_label c.args.out_label) c.args.legs.now.items none)
+    sym (changed-nowhere (is_of_lsp c.args.lsp) (with_labels c.args.in_label c.args.out_label) c.args.legs.now.items
+    none)

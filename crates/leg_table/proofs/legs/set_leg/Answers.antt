@@ -18,7 +18,8 @@ put : (g h : Leg) (legs xs ys : List Leg) (i : ℕ) (b there : Bool) (after : Li
     after ≡ cond b (set legs i g) (insert legs i g) → after ≡ with_leg g legs
 put g h legs xs ys i b there after leg first second place is test made =
     leg_put g legs i b after
-    (place ∙ ap (λ k. position_or_len (is_at_or_after k.lsp) xs) leg ∙ ap (position_or_len (is_at_or_after g.lsp)) first)
+    (place ∙ ap (λ k. position_or_len (is_at_or_after k.lsp) xs) leg ∙
+    ap (position_or_len (is_at_or_after g.lsp)) first)
     (sym test ∙ is ∙ ap (λ k. has_lsp (slice_get ys i) k.lsp) leg ∙ ap (λ zs. has_lsp (slice_get zs i) g.lsp) second)
     made
 
