@@ -264,7 +264,8 @@ pub(crate) fn frame_due(
 /// How many messages aren't acknowledged.
 pub(crate) fn pending(adjacencies: &[Adjacency]) -> usize
     requires { length adjacencies.now ≤ 256 }
-    ensures { result ≡ unacknowledged adjacencies.now }
+    ensures count { result ≡ unacknowledged adjacencies.now }
+    ensures few { result ≤ 2 ^ 40 }
 {
     let mut total = 0;
     for adjacency in adjacencies {

@@ -100,6 +100,7 @@ impl Controller {
     /// How many messages of its hops aren't acknowledged. It floods no row.
     pub fn pending(&self) -> Pending
         ensures hop { result.hop ≡ unacknowledged self.now.adjacencies }
+        ensures few { result.hop ≤ 2 ^ 40 }
         ensures flood { result.flood ≡ 0 }
     {
         Pending {

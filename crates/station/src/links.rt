@@ -91,7 +91,8 @@ impl Link {
     }
 }
 
-fn place_of(links: &[Link], n: NodeId) -> Option<usize>
+/// The place of the link to this neighbour.
+pub(crate) fn place_of(links: &[Link], n: NodeId) -> Option<usize>
     ensures { result ≡ position (is_to n) links.now }
 {
     links.iter().position(|link| link.peer() == n)

@@ -1,6 +1,6 @@
 //! The station of one node.
 
-ghost use Rattle.std.specs.Prelude.{◌≡◌, ◌+◌, ◌<◌, ◌≤◌, ◌++◌, ◌∷◌, ℕ, List, [], MatchOption, IfErr, IfOk, IsSome, IsTrue, OnErr, OnOk, Some, length, map, nat_lt, not, slice_get, slice_set};
+ghost use Rattle.std.specs.Prelude.{◌≡◌, ◌+◌, ◌<◌, ◌≤◌, ◌++◌, ◌∷◌, ℕ, List, [], MatchOption, IfErr, IfOk, IsSome, IsTrue, OnErr, OnOk, Some, length, map, nat_lt, not, position, slice_get, slice_set};
 ghost use Rattle.ason_base.specs.declared.ids.NodeId.{NodeId};
 ghost use Rattle.ason_base.specs.Network.{Network, find_node};
 ghost use Rattle.controller.specs.Kept.{IsFromNeighbour};
@@ -10,17 +10,17 @@ ghost use Rattle.controller.specs.declared.inputs.CoreInput.{CoreInput};
 ghost use Rattle.mesh_nodes.specs.LocalNodes.{is_neighbour};
 ghost use Rattle.station.specs.declared.halts.Halt.{Halt};
 ghost use Rattle.station.specs.Histories.{History, handled, made, new_history, took};
-ghost use Rattle.station.specs.Links.{AreFew, LinkState, looked, peers_of, popped_from};
+ghost use Rattle.station.specs.Links.{AreFew, LinkState, is_to, looked, new_link, peers_of, popped_from};
 ghost use Rattle.station.specs.Standing.{Stands, StationState};
 ghost use Rattle.station.specs.Steps.{HasReacted, LinksFit};
 ghost use Rattle.station.specs.Turning.{HasDone, HasTurned, IsCutBy, IsStopped, IsTurn, answer_of, worked};
 ghost use Rattle.station.specs.declared.turns.Turn.{Turn};
-ghost use Rattle.station.specs.Turns.{desk_done, ring_done, rings_done, tick_done, turn};
+ghost use Rattle.station.specs.Turns.{desk_done, neighbours, ring_done, rings_done, tick_done, turn};
 
 use crate::desks::Desk;
 use crate::events::react;
 use crate::halts::Halt;
-use crate::links::{Link, look_at, pop_at};
+use crate::links::{Link, look_at, place_of, pop_at};
 use crate::parcels::Parcel;
 use crate::turns::Turn;
 use crate::wiring::new_links;
@@ -55,7 +55,8 @@ impl Station {
     /// The station of node `id`, which has nothing on its desk and sent nothing.
     pub fn new(alloc: Global, t: &Topology, id: NodeId) -> Result<Station, OutOfMemory>
         requires { IsSome (find_node t.now id) }
-        ensures { IfOk result (Stands t.now new_history id (λ d. [])) }
+        ensures stands { IfOk result (Stands t.now new_history id (λ d. [])) }
+        ensures links { IfOk result (λ s. s.links ≡ map new_link (neighbours t.now id)) }
     {
         let _nodes = t.nodes();
         let controller = Controller::new(alloc, t, id)?;
@@ -235,19 +236,26 @@ impl Station {
         Ok(())
     }
 
-    // The neighbour at this place.
-    fn peer(&self, place: usize) -> NodeId
+    /// The neighbour at this place.
+    pub fn peer(&self, place: usize) -> NodeId
         requires { place < length self.now.links }
         ensures { slice_get (peers_of self.now.links) place ≡ Some result }
     {
         self.links[place].peer()
     }
 
-    // How many links there are.
-    fn link_count(&self) -> usize
+    /// How many links there are.
+    pub fn link_count(&self) -> usize
         ensures { result ≡ length self.now.links }
     {
         self.links.len()
+    }
+
+    /// The place of the link to this neighbour.
+    pub fn link_to(&self, n: NodeId) -> Option<usize>
+        ensures { result ≡ position (is_to n) self.now.links }
+    {
+        place_of(&self.links, n)
     }
 
     // All frames that came are taken, by neighbour.
