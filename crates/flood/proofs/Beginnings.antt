@@ -34,7 +34,8 @@ rows_declared (x ∷ xs) s = rows_declared xs (declared_row s x) ∙ append_asso
 
 apart_head : (x y : TeRow) (xs : List TeRow) → HaveDistinctLinks (x ∷ xs) → Contains xs y → x.link ≢ y.link
 apart_head x y xs distinct there same =
-    absurd (distinct 0 (suc there.0) y (omega arith) (let within = there.1 in omega arith) (same ∙ sym (ap (λ (r : TeRow). r.link) there.2)))
+    absurd (distinct 0 (suc there.0) y (omega arith) (let within = there.1 in omega arith)
+    (same ∙ sym (ap (λ (r : TeRow). r.link) there.2)))
 
 apart_tail : (x : TeRow) (xs : List TeRow) → HaveDistinctLinks (x ∷ xs) → HaveDistinctLinks xs
 apart_tail x xs distinct i j d before within = distinct (suc i) (suc j) d (omega arith) (omega arith)
@@ -47,12 +48,15 @@ unknown_before before row later distinct = by_test (is_known before row.link) re
     none : (xs : List TeRow) (x : TeRow) → HaveDistinctLinks (xs ++ row ∷ later) → Contains xs x → x.link ≢ row.link
     none [] x d there same = contains-none x there
     none (y ∷ xs) x d there same = elim (contains-cases y x xs there) [
-      | inl is ↦ apart_head y row (xs ++ row ∷ later) d (Contains-append_right xs (row ∷ later) row (contains-head row later)) (ap (λ (r : TeRow). r.link) is ∙ same)
+      | inl is ↦ apart_head y row (xs ++ row ∷ later) d
+          (Contains-append_right xs (row ∷ later) row (contains-head row later)) (ap (λ (r : TeRow). r.link) is ∙ same)
       | inr after ↦ none xs x (apart_tail y (xs ++ row ∷ later) d) after same
     ]
 
     by_test : (b : Bool) → is_known before row.link ≡ b → is_known before row.link ≡ false
-    by_test true known = let found = row_of_known before row.link known in absurd (none before found.0 distinct found.1 found.2)
+    by_test true known =
+        let found = row_of_known before row.link known in
+        absurd (none before found.0 distinct found.1 found.2)
     by_test false unknown = unknown
 
 -- Own rows
@@ -77,7 +81,8 @@ flow_new n ids y d = record {
   given = [];
   flow = record {
     lines = λ l there to.
-        each_mapped (λ k. Unit {0}) (LineFits [] y) (λ k. fresh (record { 0 = k })) (in_order nat_lt (map (λ (id : NodeId). id.0) ids))
+        each_mapped (λ k. Unit {0}) (LineFits [] y) (λ k. fresh (record { 0 = k }))
+        (in_order nat_lt (map (λ (id : NodeId). id.0) ids))
         (λ k t. fresh_fits y k) (λ k t. tt) l there;
     frames = λ k o r none. absurd (contains-none (Row k o r) none);
     acks = λ k none. absurd (contains-none (Ack k) none);
@@ -86,13 +91,15 @@ flow_new n ids y d = record {
   };
 }
 
-flow_declared : (xs : List TeRow) (s y : FloodState) (d : ℕ) → FlowOf s y d [] [] → FlowOf (declared_rows s xs) y d [] []
+flow_declared : (xs : List TeRow) (s y : FloodState) (d : ℕ) → FlowOf s y d [] []
+    → FlowOf (declared_rows s xs) y d [] []
 flow_declared [] s y d f = f
 flow_declared (x ∷ xs) s y d f =
     flow_declared xs (declared_row s x) y d
     (record {
       given = f.given ++ (s.me, x) ∷ [];
-      flow = flow_learns s y d [] [] [] f.given None s.me None x (λ l to. refl) (λ k o r none. absurd (contains-none (Row k o r) none)) f.flow;
+      flow = flow_learns s y d [] [] [] f.given None s.me None x (λ l to. refl)
+          (λ k o r none. absurd (contains-none (Row k o r) none)) f.flow;
     })
 
 same_number : (a b : ℕ) → (a == b) ≡ true → a ≡ b
@@ -112,18 +119,21 @@ other_end low high n apart = by_low (low.0 == n.0) refl
 numbers_beside : List TeRow → NodeId → List ℕ
 numbers_beside rows n = map (λ (id : NodeId). id.0) (nodes_beside rows n)
 
-facts_new : (rows : List TeRow) → AreRowsOfLinks rows → (n : ℕ) → NodeFacts rows n (new_flood (record { 0 = n }) (nodes_beside rows (record { 0 = n })))
+facts_new : (rows : List TeRow) → AreRowsOfLinks rows → (n : ℕ)
+    → NodeFacts rows n (new_flood (record { 0 = n }) (nodes_beside rows (record { 0 = n })))
 unfolding numbers_beside
 facts_new rows are n = record {
   me = refl;
   truth = λ r none. absurd (contains-none r none);
   links = λ i j d before within. absurd (omega arith);
-  lines = each_mapped (Contains (in_order nat_lt (numbers_beside rows me))) (LineFacts n) (λ k. fresh (record { 0 = k }))
+  lines = each_mapped (Contains (in_order nat_lt (numbers_beside rows me))) (LineFacts n)
+      (λ k. fresh (record { 0 = k }))
       (in_order nat_lt (numbers_beside rows me)) line (λ k there. there);
   near = λ id beside. record {
     line = fresh (record { 0 = id.0 });
     there = there_map (λ k. fresh (record { 0 = k })) (in_order nat_lt (numbers_beside rows me)) id.0
-        ((in_order-has nat_lt nat_order (numbers_beside rows me) id.0).1 (there_map (λ (m : NodeId). m.0) (nodes_beside rows me) id beside));
+        ((in_order-has nat_lt nat_order (numbers_beside rows me) id.0).1
+        (there_map (λ (m : NodeId). m.0) (nodes_beside rows me) id beside));
     is = refl;
   };
 }
@@ -133,16 +143,22 @@ facts_new rows are n = record {
 
     line : (k : ℕ) → Contains (in_order nat_lt (numbers_beside rows me)) k → LineFacts n (fresh (record { 0 = k }))
     line k there =
-        let number = there_from_map (λ (id : NodeId). id.0) (nodes_beside rows me) k ((in_order-has nat_lt nat_order (numbers_beside rows me) k).0 there) in
+        let number = there_from_map (λ (id : NodeId). id.0) (nodes_beside rows me) k
+        ((in_order-has nat_lt nat_order (numbers_beside rows me) k).0 there) in
         let beside = there_from_map (λ (r : TeRow). end_beside r.low r.high me) (own_rows rows me) number.0 number.1 in
-        let apart = All-contains (λ (r : TeRow). r.low.0 ≢ r.high.0) rows beside.0 are.apart (own_among rows me beside.0 beside.1) in
+        let apart = All-contains (λ (r : TeRow). r.low.0 ≢ r.high.0) rows beside.0 are.apart
+        (own_among rows me beside.0 beside.1) in
         let other = other_end beside.0.low beside.0.high me apart in
         record {
           other = subst (λ j. (j == n) ≡ false) (ap (λ (m : NodeId). m.0) beside.2 ∙ number.2) other;
-          order = record { rising = λ i j d before within. absurd (omega arith); below = λ i d within. absurd (omega arith) };
+          order = record {
+            rising = λ i j d before within. absurd (omega arith);
+            below = λ i d within. absurd (omega arith);
+          };
         }
 
-facts_declared : (rows : List TeRow) (n : ℕ) (xs : List TeRow) (s : FloodState) → ((r : TeRow) → Contains xs r → Contains rows r)
+facts_declared : (rows : List TeRow) (n : ℕ) (xs : List TeRow) (s : FloodState)
+    → ((r : TeRow) → Contains xs r → Contains rows r)
     → HaveDistinctLinks (s.rows ++ xs) → NodeFacts rows n s → NodeFacts rows n (declared_rows s xs)
 facts_declared rows n [] s among distinct f = f
 facts_declared rows n (x ∷ xs) s among distinct f =
@@ -163,7 +179,8 @@ begun_lasts rows are = record {
     new : ℕ → FloodState
     new n = new_flood (record { 0 = n }) (nodes_beside rows (record { 0 = n }))
 
-    own : (n : ℕ) (r : TeRow) → Contains rows r → is_end (record { 0 = n }) r ≡ true → is_known (begun_node rows (record { 0 = n })).rows r.link ≡ true
+    own : (n : ℕ) (r : TeRow) → Contains rows r → is_end (record { 0 = n }) r ≡ true
+        → is_known (begun_node rows (record { 0 = n })).rows r.link ≡ true
     own n r there end =
         subst (λ rs. is_known rs r.link ≡ true) (sym (rows_declared (own_rows rows (record { 0 = n })) (new n)))
         (known_row (own_rows rows (record { 0 = n })) r (there_filter (is_end (record { 0 = n })) rows r there end))
@@ -173,7 +190,7 @@ begun_lasts rows are = record {
 pub start_is_new : StartIsNew
 start_is_new me ids s start =
     let numbers : start.numbers ≡ in_order nat_lt (map (λ (id : NodeId). id.0) ids) =
-        numbers_in_order (map (λ (id : NodeId). id.0) ids) start.numbers start.rising start.same
+    numbers_in_order (map (λ (id : NodeId). id.0) ids) start.numbers start.rising start.same
     in
     start.is ∙ (λ i. record { me = me; rows = []; neighbours = map (λ n. fresh (record { 0 = n })) (numbers i) })
 
@@ -182,7 +199,9 @@ own_can_be_declared rows are n before row later split = record {
   own = ap (λ (m : NodeId). is_end m row) (me_declared before new) ∙ (there_from_filter (is_end n) rows row there).1;
   unknown = subst (λ rs. is_known rs row.link ≡ false) (sym (rows_declared before new)) unknown;
   room = subst (λ rs. has_room rs row ≡ true) (sym (rows_declared before new))
-      (room_for_row rows before row are.search.ends are.few (λ r h. own_among rows n r (subst (λ xs. Contains xs r) (sym split) (Contains-append_left before (row ∷ later) r h)))
+      (room_for_row rows before row are.search.ends are.few
+      (λ r h. own_among rows n r (subst (λ xs. Contains xs r) (sym split)
+      (Contains-append_left before (row ∷ later) r h)))
       (distinct_before before (row ∷ later) distinct) (own_among rows n row there) unknown);
 }
   where
@@ -190,7 +209,8 @@ own_can_be_declared rows are n before row later split = record {
     new = new_flood n (nodes_beside rows n)
 
     there : Contains (own_rows rows n) row
-    there = subst (λ xs. Contains xs row) (sym split) (Contains-append_right before (row ∷ later) row (contains-head row later))
+    there = subst (λ xs. Contains xs row) (sym split)
+        (Contains-append_right before (row ∷ later) row (contains-head row later))
 
     distinct : HaveDistinctLinks (before ++ row ∷ later)
     distinct = subst HaveDistinctLinks split (own_distinct rows n are.search.links)
@@ -202,5 +222,6 @@ own_can_be_declared rows are n before row later split = record {
     distinct_before [] ys d = λ i j e before within. absurd (omega arith)
     distinct_before (x ∷ xs) ys d =
         AllPairs-cons (λ x y. x.link ≢ y.link) x xs
-        (λ k e within. apart_head x (get_or xs k e) (xs ++ ys) d (Contains-append_left xs ys (get_or xs k e) (Contains-get_or xs k e within)))
+        (λ k e within. apart_head x (get_or xs k e) (xs ++ ys) d
+        (Contains-append_left xs ys (get_or xs k e) (Contains-get_or xs k e within)))
         (distinct_before xs ys (apart_tail x (xs ++ ys) d))

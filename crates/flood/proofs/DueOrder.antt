@@ -18,7 +18,8 @@ use Rattle.flood.specs.State.{IsInOrder, NeighbourState, is_from, older, queued,
 abbrev pub Rises : List Due → Type 0
 Rises due = AllPairs (λ d e. d.number < e.number) due
 
-comparisons_rise : (due : List Due) (number : ℕ) → Rises due → IsNonDecreasingBy (λ d. ordering_index (nat_cmp d.number number)) due
+comparisons_rise : (due : List Due) (number : ℕ) → Rises due
+    → IsNonDecreasingBy (λ d. ordering_index (nat_cmp d.number number)) due
 comparisons_rise due number rising i j d below within = by_place (by_order i j below)
   where
     by_order : (a b : ℕ) → a ≤ b → (a ≡ b) ⊎ (a < b)
@@ -27,9 +28,11 @@ comparisons_rise due number rising i j d below within = by_place (by_order i j b
     ranks : (m n : ℕ) → m < n → ordering_index (nat_cmp m number) ≤ ordering_index (nat_cmp n number)
     ranks m n less = grind (arith, nat_tests)
 
-    by_place : (i ≡ j) ⊎ (i < j) → ordering_index (nat_cmp (get_or due i d).number number) ≤ ordering_index (nat_cmp (get_or due j d).number number)
+    by_place : (i ≡ j) ⊎ (i < j) → ordering_index (nat_cmp (get_or due i d).number number) ≤ ordering_index
+        (nat_cmp (get_or due j d).number number)
     by_place p = elim p [
-      | inl same ↦ subst (λ k. ordering_index (nat_cmp (get_or due i d).number number) ≤ ordering_index (nat_cmp (get_or due k d).number number)) same (omega arith)
+      | inl same ↦ subst (λ k. ordering_index (nat_cmp (get_or due i d).number number) ≤ ordering_index
+          (nat_cmp (get_or due k d).number number)) same (omega arith)
       | inr before ↦ ranks (get_or due i d).number (get_or due j d).number (rising i j d before within)
     ]
 
@@ -45,23 +48,27 @@ differ a b apart = by_test (a == b) refl
 without : ℕ → List Due → List Due
 without number due = filter (λ (d : Due). not (d.number == number)) due
 
-all_stay : (number : ℕ) (due : List Due) → ((k : ℕ) (d : Due) → k < length due → (get_or due k d).number ≢ number) → without number due ≡ due
+all_stay : (number : ℕ) (due : List Due) → ((k : ℕ) (d : Due) → k < length due → (get_or due k d).number ≢ number)
+    → without number due ≡ due
 unfolding without
 all_stay number [] other = refl
 all_stay number (e ∷ due) other =
-    subst (λ b. cond (not b) (e ∷ without number due) (without number due) ≡ e ∷ due) (sym (differ e.number number (other 0 e (omega arith))))
+    subst (λ b. cond (not b) (e ∷ without number due) (without number due) ≡ e ∷ due)
+    (sym (differ e.number number (other 0 e (omega arith))))
     (ap (λ ds. e ∷ ds) (all_stay number due (λ k d within. other (suc k) d (omega arith))))
 
 tail_rises : (e : Due) (due : List Due) → Rises (e ∷ due) → Rises due
 tail_rises e due rising i j d before within = rising (suc i) (suc j) d (omega arith) (omega arith)
 
-one_goes : (number : ℕ) (due : List Due) (i : ℕ) → Rises due → i < length due → ((d : Due) → (get_or due i d).number ≡ number)
+one_goes : (number : ℕ) (due : List Due) (i : ℕ) → Rises due → i < length due
+    → ((d : Due) → (get_or due i d).number ≡ number)
     → remove due i ≡ without number due
 unfolding without
 one_goes number [] i rising within is = absurd (omega arith)
 one_goes number (e ∷ due) zero rising within is =
     let same : (e.number == number) ≡ true = (let equal : e.number ≡ number = is e in grind arith) in
-    subst (λ b. due ≡ cond (not b) (e ∷ without number due) (without number due)) (sym same) (sym (all_stay number due later))
+    subst (λ b. due ≡ cond (not b) (e ∷ without number due) (without number due)) (sym same)
+    (sym (all_stay number due later))
   where
     later : (k : ℕ) (d : Due) → k < length due → (get_or due k d).number ≢ number
     later k d h equal =
@@ -82,14 +89,16 @@ IsFoundBy number due r = IsBinarySearchResult (λ (d : Due). nat_cmp d.number nu
 pub found_goes : (number : ℕ) (due : List Due) (i : ℕ) → Rises due → i < length due → IsFoundBy number due (Ok i)
     → remove due i ≡ filter (λ (d : Due). not (d.number == number)) due
 unfolding without
-found_goes number due i rising within found = one_goes number due i rising within (λ d. ranked (get_or due i d).number number _ (sym (found d)))
+found_goes number due i rising within found =
+    one_goes number due i rising within (λ d. ranked (get_or due i d).number number _ (sym (found d)))
 
 pub none_goes : (number : ℕ) (due : List Due) (i : ℕ) → Rises due → IsFoundBy number due (Err i)
     → due ≡ filter (λ (d : Due). not (d.number == number)) due
 unfolding without
 none_goes number due i rising absent = sym (all_stay number due other)
   where
-    parted : IsPartitionPoint (λ (d : Due). nat_cmp d.number number ≡ Less) (λ (d : Due). nat_cmp d.number number ≡ Greater) due i
+    parted : IsPartitionPoint (λ (d : Due). nat_cmp d.number number ≡ Less)
+        (λ (d : Due). nat_cmp d.number number ≡ Greater) due i
     parted = absent (comparisons_rise due number rising)
 
     by_order : (a b : ℕ) → (a < b) ⊎ (b ≤ a)
@@ -97,8 +106,12 @@ none_goes number due i rising absent = sym (all_stay number due other)
 
     other : (k : ℕ) (d : Due) → k < length due → (get_or due k d).number ≢ number
     other k d within equal = elim (by_order k i) [
-      | inl before ↦ (let less : (get_or due k d).number < number = ranked (get_or due k d).number number _ (sym (parted.0 k d (omega arith) before)) in absurd (omega arith))
-      | inr after ↦ (let more : number < (get_or due k d).number = ranked (get_or due k d).number number _ (sym (parted.1 k d after within)) in absurd (omega arith))
+      | inl before ↦ (let less : (get_or due k d).number < number =
+          ranked (get_or due k d).number number _
+          (sym (parted.0 k d (omega arith) before)) in absurd (omega arith))
+      | inr after ↦ (let more : number < (get_or due k d).number =
+          ranked (get_or due k d).number number _ (sym (parted.1 k d after within)) in absurd
+          (omega arith))
     ]
 
 -- The order stays.
@@ -112,7 +125,10 @@ older_rises due rising i j d before within =
     rw (first, second) less
 
 pub older_in_order : (sent : ℕ) (due : List Due) → IsInOrder sent due → IsInOrder sent (map older due)
-older_in_order sent due o = record { rising = older_rises due o.rising; below = All-map (λ (d : Due). d.number ≤ sent) older due o.below }
+older_in_order sent due o = record {
+  rising = older_rises due o.rising;
+  below = All-map (λ (d : Due). d.number ≤ sent) older due o.below;
+}
 
 pub acked_in_order : (sent number : ℕ) (due : List Due) → IsInOrder sent due
     → IsInOrder sent (filter (λ (d : Due). not (d.number == number)) due)
@@ -148,7 +164,8 @@ back_as_it_was from origin age row l = by_from (is_from from l) refl
     shorter = let long : length (l.due ++ new ∷ []) ≡ length l.due + 1 = length-append l.due (new ∷ []) in omega arith
 
     due : take (length (l.due ++ new ∷ []) - 1) (l.due ++ new ∷ []) ≡ l.due
-    due = ap (λ (n : ℕ). take n (l.due ++ new ∷ [])) shorter ∙ take-append-le (length l.due) l.due (new ∷ []) (omega arith) ∙ take-length l.due
+    due = ap (λ (n : ℕ). take n (l.due ++ new ∷ [])) shorter ∙
+        take-append-le (length l.due) l.due (new ∷ []) (omega arith) ∙ take-length l.due
 
     sent : l.sent + 1 - 1 ≡ l.sent
     sent = omega arith
@@ -162,4 +179,5 @@ back_as_it_was from origin age row l = by_from (is_from from l) refl
 
     by_from : (b : Bool) → is_from from l ≡ b → unqueued_unless from (cond b l (queued origin age row l)) ≡ l
     by_from true e = subst (λ b. cond b l (unqueued l) ≡ l) (sym e) refl
-    by_from false e = subst (λ b. cond b (queued origin age row l) (unqueued (queued origin age row l)) ≡ l) (sym (same_from from ∙ e)) taken
+    by_from false e = subst (λ b. cond b (queued origin age row l) (unqueued (queued origin age row l)) ≡ l)
+        (sym (same_from from ∙ e)) taken

@@ -13,7 +13,8 @@ node n = record { 0 = n }
 link : ℕ → ℕ → ℕ → TeRow
 link number low high = record { link = record { 0 = number }; low = node low; high = node high; metric = 1; srlgs = [] }
 
--- Three nodes in a line. Of the rows that the middle one floods, one is lost on its way to the first node, the other comes
+-- Three nodes in a line. Of the rows that the middle one floods, one is lost on its way to the first node, the other
+-- comes
 -- twice; the lost one goes again in the next tick.
 
 line : List TeRow
@@ -43,7 +44,8 @@ events =
 settled : FloodNetwork
 settled = after (begun line) events
 
-sent : settled.channels 2 1 ≡ Row 1 (node 2) (link 1 1 2) ∷ Row 2 (node 2) (link 2 2 3) ∷ Ack 1 ∷ Row 1 (node 2) (link 1 1 2) ∷ []
+sent : settled.channels 2 1 ≡ Row 1 (node 2) (link 1 1 2) ∷ Row 2 (node 2) (link 2 2 3) ∷ Ack 1 ∷ Row 1 (node 2)
+    (link 1 1 2) ∷ []
 unfolding settled events line link node
 sent = refl
 
@@ -59,11 +61,13 @@ last_knows : (settled.nodes 3).rows ≡ link 2 2 3 ∷ link 1 1 2 ∷ []
 unfolding settled events line link node
 last_knows = refl
 
-nothing_is_due : (pending_count (settled.nodes 1) ≡ 0) × (pending_count (settled.nodes 2) ≡ 0) × (pending_count (settled.nodes 3) ≡ 0)
+nothing_is_due : (pending_count (settled.nodes 1) ≡ 0) × (pending_count (settled.nodes 2) ≡ 0) ×
+    (pending_count (settled.nodes 3) ≡ 0)
 unfolding settled events line link node
 nothing_is_due = (refl, refl, refl)
 
--- A star: the node in the middle passes on what it learns, to all but the giver, as the origin gave it, under its next number.
+-- A star: the node in the middle passes on what it learns, to all but the giver, as the origin gave it, under its next
+-- number.
 
 star : List TeRow
 star = link 1 1 4 ∷ link 2 2 4 ∷ link 3 3 4 ∷ link 4 3 5 ∷ []
@@ -75,7 +79,8 @@ acknowledged : passed_on.channels 4 3 ≡ Ack 2 ∷ []
 unfolding passed_on star link node
 acknowledged = refl
 
-to_the_others : (passed_on.channels 4 1 ≡ Row 4 (node 3) (link 4 3 5) ∷ []) × (passed_on.channels 4 2 ≡ Row 4 (node 3) (link 4 3 5) ∷ [])
+to_the_others : (passed_on.channels 4 1 ≡ Row 4 (node 3) (link 4 3 5) ∷ []) ×
+    (passed_on.channels 4 2 ≡ Row 4 (node 3) (link 4 3 5) ∷ [])
 unfolding passed_on star link node
 to_the_others = (refl, refl)
 

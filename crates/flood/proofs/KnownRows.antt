@@ -30,7 +30,8 @@ self_test n = grind arith
 pub known_row : (rows : List TeRow) (row : TeRow) → Contains rows row → is_known rows row.link ≡ true
 known_row rows row there = there-any (λ (r : TeRow). r.link.0 == row.link.0) rows row there (self_test row.link.0)
 
-pub row_of_known : (rows : List TeRow) (link : LinkId) → is_known rows link ≡ true → (row : TeRow) × Contains rows row × (row.link ≡ link)
+pub row_of_known : (rows : List TeRow) (link : LinkId) → is_known rows link ≡ true → (row : TeRow) ×
+    Contains rows row × (row.link ≡ link)
 row_of_known rows link known =
     let found = any-there (λ (r : TeRow). r.link.0 == link.0) rows known in
     let same : found.0.link.0 ≡ link.0 = same_number found.0.link.0 link.0 found.2 in
@@ -42,7 +43,8 @@ known_more [] row link known = absurd (cc (known))
 known_more (r ∷ rows) row link known = by_test (r.link.0 == link.0) known (known_more rows row link)
   where
     by_test : (b : Bool) → (b || is_known rows link) ≡ true
-        → (is_known rows link ≡ true → is_known (rows ++ row ∷ []) link ≡ true) → (b || is_known (rows ++ row ∷ []) link) ≡ true
+        → (is_known rows link ≡ true → is_known (rows ++ row ∷ []) link ≡ true)
+        → (b || is_known (rows ++ row ∷ []) link) ≡ true
     by_test true h rest = refl
     by_test false h rest = rest h
 
@@ -53,7 +55,8 @@ known_last rows row = known_row (rows ++ row ∷ []) row (last rows)
     last rs = Contains-push rs row
 
 -- two rows of one link are one
-pub one_row : (rows : List TeRow) (x y : TeRow) → HaveDistinctLinks rows → Contains rows x → Contains rows y → x.link ≡ y.link
+pub one_row : (rows : List TeRow) (x y : TeRow) → HaveDistinctLinks rows → Contains rows x → Contains rows y
+    → x.link ≡ y.link
     → x ≡ y
 one_row rows x y distinct first second link = by_order (order first.0 second.0)
   where
@@ -70,13 +73,16 @@ one_row rows x y distinct first second link = by_order (order first.0 second.0)
     by_order o = elim o [
       | inl same ↦ sym here ∙ ap (λ (k : ℕ). get_or rows k x) same ∙ there
       | inr apart ↦ elim apart [
-        | inl below ↦ absurd (distinct first.0 second.0 x below second.1 (ap (λ (r : TeRow). r.link) here ∙ link ∙ sym (ap (λ (r : TeRow). r.link) there)))
-        | inr above ↦ absurd (distinct second.0 first.0 x above first.1 (ap (λ (r : TeRow). r.link) there ∙ sym link ∙ sym (ap (λ (r : TeRow). r.link) here)))
+        | inl below ↦ absurd (distinct first.0 second.0 x below second.1
+            (ap (λ (r : TeRow). r.link) here ∙ link ∙ sym (ap (λ (r : TeRow). r.link) there)))
+        | inr above ↦ absurd (distinct second.0 first.0 x above first.1
+            (ap (λ (r : TeRow). r.link) there ∙ sym link ∙ sym (ap (λ (r : TeRow). r.link) here)))
       ]
     ]
 
 -- a row of the network whose link is known is known
-pub known_is_there : (rows known : List TeRow) (row : TeRow) → HaveDistinctLinks rows → ((r : TeRow) → Contains known r → Contains rows r)
+pub known_is_there : (rows known : List TeRow) (row : TeRow) → HaveDistinctLinks rows
+    → ((r : TeRow) → Contains known r → Contains rows r)
     → Contains rows row → is_known known row.link ≡ true → Contains known row
 known_is_there rows known row distinct truth there is =
     let found = row_of_known known row.link is in
@@ -110,7 +116,8 @@ links rows = map (λ (r : TeRow). r.link.0) rows
 distinct_numbers : (rows : List TeRow) → HaveDistinctLinks rows → AllPairs (λ x y. x ≢ y) (links rows)
 distinct_numbers rows distinct i j d before within same =
     let long : length (links rows) ≡ length rows = length-map rows (λ (r : TeRow). r.link.0) in
-    let equal : (get_or rows i row).link.0 ≡ (get_or rows j row).link.0 = sym (at i (omega arith)) ∙ same ∙ at j (omega arith) in
+    let equal : (get_or rows i row).link.0 ≡ (get_or rows j row).link.0 = sym (at i (omega arith)) ∙ same ∙
+    at j (omega arith) in
     absurd (distinct i j row before (omega arith) (λ k. record { 0 = equal k }))
   where
     row : TeRow
@@ -122,7 +129,8 @@ distinct_numbers rows distinct i j d before within same =
 no_more_rows : (rows known : List TeRow) → HaveDistinctLinks known → ((r : TeRow) → Contains known r → Contains rows r)
     → length known ≤ length rows
 no_more_rows rows known distinct truth =
-    let fewer = no_more (links known) (links rows) (IsDistinct-from_AllPairs decides (links known) (distinct_numbers known distinct)) among in
+    let fewer = no_more (links known) (links rows)
+    (IsDistinct-from_AllPairs decides (links known) (distinct_numbers known distinct)) among in
     let a = length-map known (λ (r : TeRow). r.link.0) in
     let b = length-map rows (λ (r : TeRow). r.link.0) in
     omega arith
@@ -159,20 +167,24 @@ either false c h = inr h
 few_ends : (rows known : List TeRow) → HaveFewEnds rows
     → ((r : TeRow) → Contains known r → Contains rows r) → length (ends_of known) ≤ 64
 few_ends rows known few truth =
-    let fewer = no_more (ends_of known) (map (λ (n : NodeId). n.0) few.0) (once (ends_of known) (ends_stand_once known)) among in
+    let fewer = no_more (ends_of known) (map (λ (n : NodeId). n.0) few.0)
+    (once (ends_of known) (ends_stand_once known)) among in
     let long = length-map few.0 (λ (n : NodeId). n.0) in
     let most : length few.0 ≤ 64 = few.1 in
     omega arith
   where
-    node_there : (n : ℕ) (m : NodeId) → (m.0 == n) ≡ true → Contains few.0 m → Contains (map (λ (k : NodeId). k.0) few.0) n
+    node_there : (n : ℕ) (m : NodeId) → (m.0 == n) ≡ true → Contains few.0 m
+        → Contains (map (λ (k : NodeId). k.0) few.0) n
     node_there n m same there =
-        subst (Contains (map (λ (k : NodeId). k.0) few.0)) (same_number m.0 n same) (there_map (λ (k : NodeId). k.0) few.0 m there)
+        subst (Contains (map (λ (k : NodeId). k.0) few.0)) (same_number m.0 n same)
+        (there_map (λ (k : NodeId). k.0) few.0 m there)
 
     among : (n : ℕ) → Contains (ends_of known) n → Contains (map (λ (k : NodeId). k.0) few.0) n
     among n h =
         let test = there-any (λ m. m == n) (ends_of known) n h (self_test n) in
         let found = any-there (is_end (record { 0 = n })) known (sym (ends_are_listed known n) ∙ test) in
-        let ends = All-contains (λ r. Contains few.0 r.low × Contains few.0 r.high) rows found.0 few.2 (truth found.0 found.1) in
+        let ends = All-contains (λ r. Contains few.0 r.low × Contains few.0 r.high) rows found.0 few.2
+        (truth found.0 found.1) in
         elim (either (found.0.low.0 == n) (found.0.high.0 == n) found.2) [
           | inl low ↦ node_there n found.0.low low ends.0
           | inr high ↦ node_there n found.0.high high ends.1
@@ -180,7 +192,8 @@ few_ends rows known few truth =
 
 -- Room
 
-fold_last : (xs : List TeRow) (y : TeRow) (ends : List ℕ) → fold with_ends ends (xs ++ y ∷ []) ≡ with_ends (fold with_ends ends xs) y
+fold_last : (xs : List TeRow) (y : TeRow) (ends : List ℕ)
+    → fold with_ends ends (xs ++ y ∷ []) ≡ with_ends (fold with_ends ends xs) y
 fold_last [] y ends = refl
 fold_last (x ∷ xs) y ends = fold_last xs y (with_ends ends x)
 
@@ -192,12 +205,17 @@ room_for_row rows known row few most truth distinct there unknown =
     let ends : length (ends_of (known ++ row ∷ [])) ≤ 64 = few_ends rows (known ++ row ∷ []) few more in
     let last : ends_of (known ++ row ∷ []) ≡ with_ends (ends_of known) row = fold_last known row [] in
     let fit : length (with_ends (ends_of known) row) ≤ 64 = subst (λ (es : List ℕ). length es ≤ 64) last ends in
-    let all : length (known ++ row ∷ []) ≤ length rows = no_more_rows rows (known ++ row ∷ []) (distinct_push known row distinct unknown) more in
+    let all : length (known ++ row ∷ []) ≤ length rows =
+    no_more_rows rows (known ++ row ∷ []) (distinct_push known row distinct unknown) more in
     let long : length (known ++ row ∷ []) ≡ length known + 1 = length-append known (row ∷ []) in
     by_numbers (length known) (length (with_ends (ends_of known) row)) (omega arith) fit
   where
     more : (r : TeRow) → Contains (known ++ row ∷ []) r → Contains rows r
-    more r h = elim (Contains-push_cases known row r h) [ inl before ↦ truth r before | inr is ↦ subst (Contains rows) is there ]
+    more r h = elim (Contains-push_cases known row r h) [
+      | inl before ↦ truth r before
+      | inr is ↦ subst
+          (Contains rows) is there
+    ]
 
     by_numbers : (k e : ℕ) → k + 1 ≤ 256 → e ≤ 64 → (nat_lt k 256 && nat_le e 64) ≡ true
     by_numbers k e less fits = grind arith

@@ -23,12 +23,14 @@ pub found_is_there : (xs : List ℕ) (x i : ℕ) → IsNonDecreasing xs → IsSo
 found_is_there xs x i rising sought =
     let found = searched xs x (Ok i) sought (λ j k le within. rising j k 0 le within) in
     subst (λ y. has xs y ≡ true) found.1
-    (there-any (λ m. m == get_or xs i 0) xs (get_or xs i 0) (Contains-get_or xs i 0 found.0) (self_test (get_or xs i 0)))
+    (there-any (λ m. m == get_or xs i 0) xs (get_or xs i 0) (Contains-get_or xs i 0 found.0)
+    (self_test (get_or xs i 0)))
 
 pub missed_is_not : (xs : List ℕ) (x i : ℕ) → IsNonDecreasing xs → IsSought x xs (Err i) → has xs x ≡ false
 missed_is_not xs x i rising sought = by_test (has xs x) refl
   where
-    missed : (i ≤ length xs) × ((k : ℕ) → k < i → get_or xs k 0 < x) × ((k : ℕ) → i ≤ k → k < length xs → x < get_or xs k 0)
+    missed : (i ≤ length xs) × ((k : ℕ) → k < i → get_or xs k 0 < x) ×
+        ((k : ℕ) → i ≤ k → k < length xs → x < get_or xs k 0)
     missed = searched xs x (Err i) sought (λ j k le within. rising j k 0 le within)
 
     order : (a b : ℕ) → (a < b) ⊎ (b ≤ a)
@@ -49,9 +51,12 @@ missed_is_not xs x i rising sought = by_test (has xs x) refl
         absurd (none found.1.0 found.1.1 (ap (λ y. y == x) at ∙ found.2))
     by_test false e = e
 
-pub sought_is : (xs ys : List ℕ) (x : ℕ) (r : Result ℕ ℕ) → ys ≡ xs → IsNonDecreasing xs → IsSought x ys r → is_ok r ≡ has xs x
-sought_is xs ys x (Ok i) same rising sought = sym (found_is_there xs x i rising (subst (λ zs. IsSought x zs (Ok i)) same sought))
-sought_is xs ys x (Err i) same rising sought = sym (missed_is_not xs x i rising (subst (λ zs. IsSought x zs (Err i)) same sought))
+pub sought_is : (xs ys : List ℕ) (x : ℕ) (r : Result ℕ ℕ) → ys ≡ xs → IsNonDecreasing xs → IsSought x ys r
+    → is_ok r ≡ has xs x
+sought_is xs ys x (Ok i) same rising sought =
+    sym (found_is_there xs x i rising (subst (λ zs. IsSought x zs (Ok i)) same sought))
+sought_is xs ys x (Err i) same rising sought =
+    sym (missed_is_not xs x i rising (subst (λ zs. IsSought x zs (Err i)) same sought))
 
 -- One number more
 
@@ -66,20 +71,22 @@ pub has-insert : (xs : List ℕ) (i x n : ℕ) → has (insert xs i x) n ≡ (ha
 has-insert xs i x n =
     list_any-append (λ m. m == n) (take i xs) (x ∷ drop i xs)
     ∙ swapped (has (take i xs) n) (has (drop i xs) n) (x == n)
-    ∙ ap (λ b. b || (x == n)) (sym (list_any-append (λ m. m == n) (take i xs) (drop i xs)) ∙ ap (λ zs. has zs n) (take-append-drop i xs))
+    ∙ ap (λ b. b || (x == n)) (sym (list_any-append (λ m. m == n) (take i xs) (drop i xs)) ∙
+    ap (λ zs. has zs n) (take-append-drop i xs))
 
-pub rising-insert : (xs : List ℕ) (i x : ℕ) → IsNonDecreasing xs → IsSought x xs (Err i) → IsNonDecreasing (insert xs i x)
+pub rising-insert : (xs : List ℕ) (i x : ℕ) → IsNonDecreasing xs → IsSought x xs (Err i)
+    → IsNonDecreasing (insert xs i x)
 rising-insert xs i x rising sought =
     let missed = searched xs x (Err i) sought (λ j k le within. rising j k 0 le within) in
     IsNonDecreasingBy-insert (λ y. y) xs i x rising missed.0
     (λ k d below.
-        (let at : get_or xs k d ≡ get_or xs k 0 = get_or_default xs k d 0 (let most = missed.0 in omega arith) in
-        let less : get_or xs k 0 < x = missed.1 k below in
-        omega arith))
+    (let at : get_or xs k d ≡ get_or xs k 0 = get_or_default xs k d 0 (let most = missed.0 in omega arith) in
+    let less : get_or xs k 0 < x = missed.1 k below in
+    omega arith))
     (λ k d above within.
-        (let at : get_or xs k d ≡ get_or xs k 0 = get_or_default xs k d 0 within in
-        let less : x < get_or xs k 0 = missed.2 k above within in
-        omega arith))
+    (let at : get_or xs k d ≡ get_or xs k 0 = get_or_default xs k d 0 within in
+    let less : x < get_or xs k 0 = missed.2 k above within in
+    omega arith))
 
 -- a number that is there already
 pub has_again : (xs : List ℕ) (x n : ℕ) → has xs x ≡ true → has xs n ≡ (has xs n || (x == n))

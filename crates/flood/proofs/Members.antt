@@ -44,7 +44,8 @@ there_from_filter {X} p (y ∷ xs) x h = by_test (p y) refl (there_from_filter p
 pub there_filter : {X : Type 0} (p : X → Bool) (xs : List X) (x : X) → Contains xs x → p x ≡ true
     → Contains (filter p xs) x
 there_filter p [] x h passes = absurd (contains-none x h)
-there_filter {X} p (y ∷ xs) x h passes = by_test (p y) refl (contains-cases y x xs h) (λ later. there_filter p xs x later passes)
+there_filter {X} p (y ∷ xs) x h passes = by_test (p y) refl (contains-cases y x xs h)
+    (λ later. there_filter p xs x later passes)
   where
     clash : p y ≡ false → y ≡ x → ⊥
     clash e is = absurd (cc (ap p is, e, passes))

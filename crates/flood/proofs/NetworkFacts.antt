@@ -32,17 +32,21 @@ same_number a b h = grind arith
 
 -- A node n becomes s, and sends this.
 
-pub record Follows (rows : List TeRow) (w : FloodNetwork) (n : ℕ) (s : FloodState) (sends : List (NodeId × FloodMsg)) : Type 0 where
+pub record Follows (rows : List TeRow) (w : FloodNetwork) (n : ℕ) (s : FloodState)
+    (sends : List (NodeId × FloodMsg)) : Type 0 where
   pub node : NodeFacts rows n s
   pub own : KnowsOwn rows n s
   pub silent : (m : FloodMsg) → Contains (sent_to_node n sends) m → ⊥
-  pub near : (b : ℕ) → (n == b) ≡ false → FlowOf s (w.nodes b) b (w.channels n b ++ sent_to_node b sends) (w.channels b n)
-  pub far : (a : ℕ) → (a == n) ≡ false → FlowOf (w.nodes a) s n (w.channels a n) (w.channels n a ++ sent_to_node a sends)
+  pub near : (b : ℕ) → (n == b) ≡ false → FlowOf s (w.nodes b) b (w.channels n b ++ sent_to_node b sends)
+      (w.channels b n)
+  pub far : (a : ℕ) → (a == n) ≡ false → FlowOf (w.nodes a) s n (w.channels a n)
+      (w.channels n a ++ sent_to_node a sends)
 
 clash : (u d n : ℕ) → (u == d) ≡ false → (u == n) ≡ true → (d == n) ≡ true → ⊥
 clash u d n p q r = absurd (grind arith)
 
-lasts_with : (rows : List TeRow) (w : FloodNetwork) (n : ℕ) (s : FloodState) (sends : List (NodeId × FloodMsg)) → Lasts rows w
+lasts_with : (rows : List TeRow) (w : FloodNetwork) (n : ℕ) (s : FloodState) (sends : List (NodeId × FloodMsg))
+    → Lasts rows w
     → Follows rows w n s sends → Lasts rows (with_node w n s sends)
 lasts_with rows w n s sends all f = record {
   node = λ m. node m (m == n) refl;
@@ -68,8 +72,9 @@ lasts_with rows w n s sends all f = record {
     silent m msg false e there = all.silent m msg there
 
     flow : (u d : ℕ) → (u == d) ≡ false → (b : Bool) → (u == n) ≡ b → (c : Bool) → (d == n) ≡ c
-        → FlowOf (cond b s (w.nodes u)) (cond c s (w.nodes d)) d (cond b (w.channels u d ++ sent_to_node d sends) (w.channels u d))
-            (cond c (w.channels d u ++ sent_to_node u sends) (w.channels d u))
+        → FlowOf (cond b s (w.nodes u)) (cond c s (w.nodes d)) d
+        (cond b (w.channels u d ++ sent_to_node d sends) (w.channels u d))
+        (cond c (w.channels d u ++ sent_to_node u sends) (w.channels d u))
     flow u d other true e true h = absurd (clash u d n other e h)
     flow u d other true e false h =
         let is : n ≡ u = sym (same_number u n e) in
@@ -99,23 +104,30 @@ ticks_follow rows w n all = record {
 }
   where
     near : (b : ℕ) → FlowOf (w.nodes n) (w.nodes b) b (w.channels n b) (w.channels b n)
-        → FlowOf (ticked (w.nodes n)) (w.nodes b) b (w.channels n b ++ sent_to_node b (sent_at_tick (w.nodes n))) (w.channels b n)
+        → FlowOf (ticked (w.nodes n)) (w.nodes b) b (w.channels n b ++ sent_to_node b (sent_at_tick (w.nodes n)))
+        (w.channels b n)
     near b f = record {
       given = f.given;
-      flow = flow_ticked (w.nodes n) (w.nodes b) b (w.channels n b ++ sent_to_node b (sent_at_tick (w.nodes n))) (w.channels b n) f.given
-          (flow_again (w.nodes n) (w.nodes b) b (w.channels n b) (w.channels b n) (sent_to_node b (sent_at_tick (w.nodes n))) f.given numbered f.flow);
+      flow = flow_ticked (w.nodes n) (w.nodes b) b (w.channels n b ++ sent_to_node b (sent_at_tick (w.nodes n)))
+          (w.channels b n) f.given
+          (flow_again (w.nodes n) (w.nodes b) b (w.channels n b) (w.channels b n)
+          (sent_to_node b (sent_at_tick (w.nodes n))) f.given numbered f.flow);
     }
       where
-        numbered : (k : ℕ) (o : NodeId) (r : TeRow) → Contains (sent_to_node b (sent_at_tick (w.nodes n))) (Row k o r) → IsNumbered f.given k o r
+        numbered : (k : ℕ) (o : NodeId) (r : TeRow)
+            → Contains (sent_to_node b (sent_at_tick (w.nodes n))) (Row k o r) → IsNumbered f.given k o r
         numbered k o r there =
             let sent = sent_in_tick (w.nodes n) b (Row k o r) there in
-            again_numbered f.given (w.nodes b) sent.line sent.due k o r (f.flow.lines sent.line sent.neighbour sent.to) sent.there sent.is
+            again_numbered f.given (w.nodes b) sent.line sent.due k o r
+            (f.flow.lines sent.line sent.neighbour sent.to) sent.there sent.is
 
     far : (a : ℕ) → FlowOf (w.nodes a) (w.nodes n) n (w.channels a n) (w.channels n a)
-        → FlowOf (w.nodes a) (ticked (w.nodes n)) n (w.channels a n) (w.channels n a ++ sent_to_node a (sent_at_tick (w.nodes n)))
+        → FlowOf (w.nodes a) (ticked (w.nodes n)) n (w.channels a n)
+        (w.channels n a ++ sent_to_node a (sent_at_tick (w.nodes n)))
     far a f = record {
       given = f.given;
-      flow = flow_far (w.nodes a) (w.nodes n) (ticked (w.nodes n)) n (w.channels a n) (w.channels n a) (sent_to_node a (sent_at_tick (w.nodes n))) f.given
+      flow = flow_far (w.nodes a) (w.nodes n) (ticked (w.nodes n)) n (w.channels a n) (w.channels n a)
+          (sent_to_node a (sent_at_tick (w.nodes n))) f.given
           (λ r known. known)
           (λ k there. (let sent = sent_in_tick (w.nodes n) a (Ack k) there in absurd (cc (sent.is))))
           f.flow;
@@ -149,7 +161,8 @@ acks_follow rows w n u number all there = record {
         → FlowOf (w.nodes a) (received (w.nodes n) u (Ack number)) n (w.channels a n) (w.channels n a ++ [])
     far a f = record {
       given = f.given;
-      flow = flow_far (w.nodes a) (w.nodes n) (received (w.nodes n) u (Ack number)) n (w.channels a n) (w.channels n a) [] f.given (λ r known. known)
+      flow = flow_far (w.nodes a) (w.nodes n) (received (w.nodes n) u (Ack number)) n (w.channels a n)
+          (w.channels n a) [] f.given (λ r known. known)
           (λ k none. absurd (contains-none (Ack k) none))
           f.flow;
     }
@@ -157,9 +170,8 @@ acks_follow rows w n u number all there = record {
 -- A row is taken.
 
 module _ (rows : List TeRow) (w : FloodNetwork) (n : ℕ) (u : NodeId) (number : ℕ) (origin : NodeId) (row : TeRow)
-  (are : AreRowsOfLinks rows) (all : Lasts rows w)
-  (there : Contains (w.channels u.0 n) (Row number origin row)) where
-
+    (are : AreRowsOfLinks rows) (all : Lasts rows w)
+    (there : Contains (w.channels u.0 n) (Row number origin row)) where
   abbrev next : FloodState
   next = received (w.nodes n) u (Row number origin row)
 
@@ -167,7 +179,8 @@ module _ (rows : List TeRow) (w : FloodNetwork) (n : ℕ) (u : NodeId) (number :
   sends = sends_after (w.nodes n) u (Row number origin row)
 
   apart : (b : Bool) → (u.0 == n) ≡ b → (u.0 == n) ≡ false
-  apart true e = absurd (all.silent n (Row number origin row) (subst (λ k. Contains (w.channels k n) (Row number origin row)) (same_number u.0 n e) there))
+  apart true e = absurd (all.silent n (Row number origin row)
+      (subst (λ k. Contains (w.channels k n) (Row number origin row)) (same_number u.0 n e) there))
   apart false e = e
 
   other : (u.0 == n) ≡ false
@@ -198,7 +211,8 @@ module _ (rows : List TeRow) (w : FloodNetwork) (n : ℕ) (u : NodeId) (number :
       → FlowOf next (w.nodes b) b (w.channels n b ++ sent_to_node b sends) (w.channels b n)
   near b f = by_new (is_new (w.nodes n) row) refl (u.0 == b) refl
     where
-      told : (u.0 == b) ≡ true → (k : ℕ) (o : NodeId) (r : TeRow) → Contains (sent_to_node b sends) (Row k o r) → IsNumbered f.given k o r
+      told : (u.0 == b) ≡ true → (k : ℕ) (o : NodeId) (r : TeRow) → Contains (sent_to_node b sends) (Row k o r)
+          → IsNumbered f.given k o r
       told is k o r at = elim (sent_after_row (w.nodes n) u number origin row b (Row k o r) at) [
         | inl answer ↦ absurd (no_row k o r b answer)
         | inr first ↦ absurd (untrue (first.line.id.0 == u.0) (agree first.line.id.0 u.0 b first.to is) first.other)
@@ -207,13 +221,16 @@ module _ (rows : List TeRow) (w : FloodNetwork) (n : ℕ) (u : NodeId) (number :
           agree : (x y z : ℕ) → (x == z) ≡ true → (y == z) ≡ true → (x == y) ≡ true
           agree x y z h k = grind arith
 
-      first : (k : ℕ) (o : NodeId) (r : TeRow) → Contains (sent_to_node b sends) (Row k o r) → IsNumbered (f.given ++ (origin, row) ∷ []) k o r
+      first : (k : ℕ) (o : NodeId) (r : TeRow) → Contains (sent_to_node b sends) (Row k o r)
+          → IsNumbered (f.given ++ (origin, row) ∷ []) k o r
       first k o r at = elim (sent_after_row (w.nodes n) u number origin row b (Row k o r) at) [
         | inl answer ↦ absurd (no_row k o r b answer)
-        | inr new ↦ first_numbered f.given (w.nodes b) new.line origin row k o r (f.flow.lines new.line new.neighbour new.to) new.is
+        | inr new ↦ first_numbered f.given (w.nodes b) new.line origin row k o r
+            (f.flow.lines new.line new.neighbour new.to) new.is
       ]
 
-      none : is_new (w.nodes n) row ≡ false → (k : ℕ) (o : NodeId) (r : TeRow) → Contains (sent_to_node b sends) (Row k o r) → IsNumbered f.given k o r
+      none : is_new (w.nodes n) row ≡ false → (k : ℕ) (o : NodeId) (r : TeRow)
+          → Contains (sent_to_node b sends) (Row k o r) → IsNumbered f.given k o r
       none old k o r at = elim (sent_after_row (w.nodes n) u number origin row b (Row k o r) at) [
         | inl answer ↦ absurd (no_row k o r b answer)
         | inr new ↦ absurd (untrue (is_new (w.nodes n) row) new.new old)
@@ -227,20 +244,24 @@ module _ (rows : List TeRow) (w : FloodNetwork) (n : ℕ) (u : NodeId) (number :
 
       by_new : (c : Bool) → is_new (w.nodes n) row ≡ c → (e : Bool) → (u.0 == b) ≡ e
           → FlowOf (cond c (with_row (w.nodes n) (Some u) origin (Some 0) row) (w.nodes n)) (w.nodes b) b
-              (w.channels n b ++ sent_to_node b (sends_after (w.nodes n) u (Row number origin row))) (w.channels b n)
+          (w.channels n b ++ sent_to_node b (sends_after (w.nodes n) u (Row number origin row))) (w.channels b n)
       by_new true new true is = record {
         given = f.given;
-        flow = flow_told (w.nodes n) (w.nodes b) b (w.channels n b) (w.channels b n) (sent_to_node b sends) f.given u origin (Some 0) row is
-            (known_row (w.nodes b).rows row (subst (λ k. Contains (w.nodes k).rows row) (same_number u.0 b is) sender_knows)) (told is) f.flow;
+        flow = flow_told (w.nodes n) (w.nodes b) b (w.channels n b) (w.channels b n)
+            (sent_to_node b sends) f.given u origin (Some 0) row is
+            (known_row (w.nodes b).rows row (subst (λ k. Contains (w.nodes k).rows row)
+            (same_number u.0 b is) sender_knows)) (told is) f.flow;
       }
       by_new true new false h = record {
         given = f.given ++ (origin, row) ∷ [];
-        flow = flow_learns (w.nodes n) (w.nodes b) b (w.channels n b) (w.channels b n) (sent_to_node b sends) f.given (Some u) origin (Some 0) row
+        flow = flow_learns (w.nodes n) (w.nodes b) b (w.channels n b) (w.channels b n) (sent_to_node b sends) f.given
+            (Some u) origin (Some 0) row
             (goes_there h) first f.flow;
       }
       by_new false old e h = record {
         given = f.given;
-        flow = flow_again (w.nodes n) (w.nodes b) b (w.channels n b) (w.channels b n) (sent_to_node b sends) f.given (none old) f.flow;
+        flow = flow_again (w.nodes n) (w.nodes b) b (w.channels n b) (w.channels b n) (sent_to_node b sends) f.given
+            (none old) f.flow;
       }
 
   -- for another node a
@@ -249,7 +270,8 @@ module _ (rows : List TeRow) (w : FloodNetwork) (n : ℕ) (u : NodeId) (number :
       → FlowOf (w.nodes a) next n (w.channels a n) (w.channels n a ++ sent_to_node a sends)
   far a f = record {
     given = f.given;
-    flow = flow_far (w.nodes a) (w.nodes n) next n (w.channels a n) (w.channels n a) (sent_to_node a sends) f.given more_known heard f.flow;
+    flow = flow_far (w.nodes a) (w.nodes n) next n (w.channels a n) (w.channels n a)
+        (sent_to_node a sends) f.given more_known heard f.flow;
   }
     where
       heard : (k : ℕ) → Contains (sent_to_node a sends) (Ack k) → IsHeard f.given next k
@@ -257,7 +279,7 @@ module _ (rows : List TeRow) (w : FloodNetwork) (n : ℕ) (u : NodeId) (number :
         | inl answer ↦
             let is : number ≡ k = (let same = answer.is in cc) in
             let to : Contains (w.channels a n) (Row number origin row) =
-                subst (λ j. Contains (w.channels j n) (Row number origin row)) (same_number u.0 a answer.to) there
+            subst (λ j. Contains (w.channels j n) (Row number origin row)) (same_number u.0 a answer.to) there
             in
             record {
               origin = origin;
@@ -274,7 +296,8 @@ module _ (rows : List TeRow) (w : FloodNetwork) (n : ℕ) (u : NodeId) (number :
     | inr first ↦ untrue (first.line.id.0 == n) first.to ((all.node n).lines first.line first.neighbour).other
   ]
 
-  rows_follow : Follows rows w n (received (w.nodes n) u (Row number origin row)) (sends_after (w.nodes n) u (Row number origin row))
+  rows_follow : Follows rows w n (received (w.nodes n) u (Row number origin row))
+      (sends_after (w.nodes n) u (Row number origin row))
   rows_follow = record {
     node = facts_received rows n (w.nodes n) u (Row number origin row)
         (λ k o r is. subst (Contains rows) (let same : row ≡ r = cc in same) of_network)
@@ -287,17 +310,21 @@ module _ (rows : List TeRow) (w : FloodNetwork) (n : ℕ) (u : NodeId) (number :
 
 -- Every event
 
-taken_lasts : (rows : List TeRow) → AreRowsOfLinks rows → (w : FloodNetwork) (d u : NodeId) (o : Option FloodMsg) (k : ℕ)
+taken_lasts : (rows : List TeRow) → AreRowsOfLinks rows
+    → (w : FloodNetwork) (d u : NodeId) (o : Option FloodMsg) (k : ℕ)
     → slice_get (w.channels u.0 d.0) k ≡ o → Lasts rows w → Lasts rows (taken w d u o)
 taken_lasts rows are w d u None k at all = all
 taken_lasts rows are w d u (Some (Ack number)) k at all =
     lasts_with rows w d.0 (received (w.nodes d.0) u (Ack number)) [] all
     (acks_follow rows w d.0 u number all (there_from_place (w.channels u.0 d.0) k (Ack number) at))
 taken_lasts rows are w d u (Some (Row number origin row)) k at all =
-    lasts_with rows w d.0 (received (w.nodes d.0) u (Row number origin row)) (sends_after (w.nodes d.0) u (Row number origin row)) all
-    (rows_follow rows w d.0 u number origin row are all (there_from_place (w.channels u.0 d.0) k (Row number origin row) at))
+    lasts_with rows w d.0 (received (w.nodes d.0) u (Row number origin row))
+    (sends_after (w.nodes d.0) u (Row number origin row)) all
+    (rows_follow rows w d.0 u number origin row are all
+    (there_from_place (w.channels u.0 d.0) k (Row number origin row) at))
 
-step_lasts : (rows : List TeRow) → AreRowsOfLinks rows → (w : FloodNetwork) (e : FloodEvent) → Lasts rows w → Lasts rows (step w e)
+step_lasts : (rows : List TeRow) → AreRowsOfLinks rows → (w : FloodNetwork) (e : FloodEvent) → Lasts rows w
+    → Lasts rows (step w e)
 step_lasts rows are w (Tick n) all =
     lasts_with rows w n.0 (ticked (w.nodes n.0)) (sent_at_tick (w.nodes n.0)) all (ticks_follow rows w n.0 all)
 step_lasts rows are w (Take d u k) all =

@@ -54,14 +54,16 @@ neighbour_mapped s t g same are id h = record {
 line_older : (n : ℕ) (l : NeighbourState) → LineFacts n l → LineFacts n (older_neighbour l)
 line_older n l f = record { other = f.other; order = older_in_order l.sent l.due f.order }
 
-line_acked : (n : ℕ) (from : NodeId) (number : ℕ) (l : NeighbourState) → LineFacts n l → LineFacts n (acked_by from number l)
+line_acked : (n : ℕ) (from : NodeId) (number : ℕ) (l : NeighbourState) → LineFacts n l
+    → LineFacts n (acked_by from number l)
 line_acked n from number l f = by_from (l.id.0 == from.0)
   where
     by_from : (b : Bool) → LineFacts n (cond b (acked number l) l)
     by_from true = record { other = f.other; order = acked_in_order l.sent number l.due f.order }
     by_from false = f
 
-line_queued : (n : ℕ) (from : Option NodeId) (origin : NodeId) (age : Option ℕ) (row : TeRow) (l : NeighbourState) → LineFacts n l
+line_queued : (n : ℕ) (from : Option NodeId) (origin : NodeId) (age : Option ℕ) (row : TeRow) (l : NeighbourState)
+    → LineFacts n l
     → LineFacts n (queued_unless from origin age row l)
 line_queued n from origin age row l f = by_from (is_from from l)
   where
@@ -69,18 +71,21 @@ line_queued n from origin age row l f = by_from (is_from from l)
     by_from true = f
     by_from false = record {
       other = f.other;
-      order = queued_in_order l.sent l.due (record { number = l.sent + 1; age = age; origin = origin; row = row }) refl f.order;
+      order = queued_in_order l.sent l.due (record { number = l.sent + 1; age = age; origin = origin; row = row })
+          refl f.order;
     }
 
 lines_mapped : (n : ℕ) (g : NeighbourState → NeighbourState) (ns : List NeighbourState)
-    → ((l : NeighbourState) → LineFacts n l → LineFacts n (g l)) → ((l : NeighbourState) → Contains ns l → LineFacts n l)
+    → ((l : NeighbourState) → LineFacts n l → LineFacts n (g l))
+    → ((l : NeighbourState) → Contains ns l → LineFacts n l)
     → (l : NeighbourState) → Contains (map g ns) l → LineFacts n l
 lines_mapped n g ns keeps all = each_mapped (LineFacts n) (LineFacts n) g ns keeps all
 
 -- A node that changes
 
 facts_changed : (rows : List TeRow) (n : ℕ) (s : FloodState) (g : NeighbourState → NeighbourState)
-    → ((l : NeighbourState) → (g l).id ≡ l.id) → ((l : NeighbourState) → LineFacts n l → LineFacts n (g l)) → NodeFacts rows n s
+    → ((l : NeighbourState) → (g l).id ≡ l.id) → ((l : NeighbourState) → LineFacts n l → LineFacts n (g l))
+    → NodeFacts rows n s
     → NodeFacts rows n (with_neighbours s (map g s.neighbours))
 facts_changed rows n s g same keeps f = record {
   me = f.me;
@@ -93,15 +98,22 @@ facts_changed rows n s g same keeps f = record {
 pub facts_ticked : (rows : List TeRow) (n : ℕ) (s : FloodState) → NodeFacts rows n s → NodeFacts rows n (ticked s)
 facts_ticked rows n s f = facts_changed rows n s older_neighbour (λ l. refl) (line_older n) f
 
-pub facts_row : (rows : List TeRow) (n : ℕ) (s : FloodState) (from : Option NodeId) (origin : NodeId) (age : Option ℕ) (row : TeRow)
-    → Contains rows row → is_known s.rows row.link ≡ false → NodeFacts rows n s → NodeFacts rows n (with_row s from origin age row)
+pub facts_row : (rows : List TeRow) (n : ℕ) (s : FloodState) (from : Option NodeId) (origin : NodeId)
+    (age : Option ℕ) (row : TeRow)
+    → Contains rows row → is_known s.rows row.link ≡ false → NodeFacts rows n s
+    → NodeFacts rows n (with_row s from origin age row)
 facts_row rows n s from origin age row there unknown f = record {
   me = f.me;
-  truth = λ r known. elim (Contains-push_cases s.rows row r known) [ inl before ↦ f.truth r before | inr is ↦ subst (Contains rows) is there ];
+  truth = λ r known. elim (Contains-push_cases s.rows row r known) [
+    | inl before ↦ f.truth r before
+    | inr is ↦ subst
+        (Contains rows) is there
+  ];
   links = distinct_push s.rows row f.links unknown;
   lines = lines_mapped n (queued_unless from origin age row) s.neighbours (line_queued n from origin age row) f.lines;
   near = λ id beside.
-      neighbour_mapped s (with_row s from origin age row) (queued_unless from origin age row) (queued_id from origin age row) refl id
+      neighbour_mapped s (with_row s from origin age row) (queued_unless from origin age row)
+      (queued_id from origin age row) refl id
       (f.near id beside);
 }
 
@@ -120,7 +132,8 @@ facts_received rows n s from (Ack number) is f =
 facts_received rows n s from (Row number origin row) is f = by_new (is_new s row) refl
   where
     by_new : (b : Bool) → is_new s row ≡ b → NodeFacts rows n (cond b (with_row s (Some from) origin (Some 0) row) s)
-    by_new true new = facts_row rows n s (Some from) origin (Some 0) row (is number origin row refl) (is_unknown s row new) f
+    by_new true new = facts_row rows n s (Some from) origin (Some 0) row (is number origin row refl)
+        (is_unknown s row new) f
     by_new false old = f
 
 -- What is known
@@ -138,7 +151,8 @@ known_on s from (Row number origin row) r known =
       | false ↦ known
     ]
 
-pub there_on : (s : FloodState) (from : NodeId) (m : FloodMsg) (r : TeRow) → Contains s.rows r → Contains (received s from m).rows r
+pub there_on : (s : FloodState) (from : NodeId) (m : FloodMsg) (r : TeRow) → Contains s.rows r
+    → Contains (received s from m).rows r
 there_on s from (Ack number) r there = there
 there_on s from (Row number origin row) r there =
     elim (is_new s row) as (λ b. Contains (cond b (with_row s (Some from) origin (Some 0) row) s).rows r) [
@@ -151,12 +165,15 @@ pub unknown_is_new : (rows : List TeRow) → AreRowsOfLinks rows → (n : ℕ) (
     → NodeFacts rows n s → KnowsOwn rows n s → Contains rows row → is_new s row ≡ not (is_known s.rows row.link)
 unknown_is_new rows are n s row f k there = by_known (is_known s.rows row.link) refl (is_end s.me row) refl
   where
-    by_known : (a : Bool) → is_known s.rows row.link ≡ a → (b : Bool) → is_end s.me row ≡ b → (not a && not b && has_room s.rows row) ≡ not a
+    by_known : (a : Bool) → is_known s.rows row.link ≡ a → (b : Bool) → is_end s.me row ≡ b
+        → (not a && not b && has_room s.rows row) ≡ not a
     by_known true known b e = refl
     by_known false unknown true end =
-        let own : is_known s.rows row.link ≡ true = k.own row there (ap (λ (m : NodeId). is_end m row) (sym f.me) ∙ end) in
+        let own : is_known s.rows row.link ≡ true = k.own row there
+        (ap (λ (m : NodeId). is_end m row) (sym f.me) ∙ end) in
         absurd (cc (own, unknown))
-    by_known false unknown false end = room_for_row rows s.rows row are.search.ends are.few f.truth f.links there unknown
+    by_known false unknown false end = room_for_row rows s.rows row are.search.ends are.few f.truth f.links there
+        unknown
 
 -- a row of the network that was taken is known
 pub taken_is_known : (rows : List TeRow) → AreRowsOfLinks rows → (n : ℕ) (s : FloodState)
@@ -165,7 +182,9 @@ pub taken_is_known : (rows : List TeRow) → AreRowsOfLinks rows → (n : ℕ) (
 taken_is_known rows are n s from origin number row f k there =
     by_known (is_known s.rows row.link) refl (unknown_is_new rows are n s row f k there)
   where
-    by_known : (a : Bool) → is_known s.rows row.link ≡ a → is_new s row ≡ not a → is_known (received s from (Row number origin row)).rows row.link ≡ true
+    by_known : (a : Bool) → is_known s.rows row.link ≡ a → is_new s row ≡ not a
+        → is_known (received s from (Row number origin row)).rows row.link ≡ true
     by_known true known new = known_on s from (Row number origin row) row known
     by_known false unknown new =
-        subst (λ b. is_known (cond b (with_row s (Some from) origin (Some 0) row) s).rows row.link ≡ true) (sym new) (known_last s.rows row)
+        subst (λ b. is_known (cond b (with_row s (Some from) origin (Some 0) row) s).rows row.link ≡ true) (sym new)
+        (known_last s.rows row)

@@ -12,7 +12,8 @@ known_once : (s : FloodState) (c : Call) → (more : List TeRow) × (s.rows ++ m
 known_once s (Declares row) = (row ∷ [], refl)
 known_once s (Receives from (Ack number)) = ([], append-nil s.rows)
 known_once s (Receives from (Row number origin row)) =
-    elim (is_new s row) as (λ b. (more : List TeRow) × (s.rows ++ more ≡ (cond b (with_row s (Some from) origin (Some 0) row) s).rows)) [
+    elim (is_new s row) as (λ b. (more : List TeRow) ×
+    (s.rows ++ more ≡ (cond b (with_row s (Some from) origin (Some 0) row) s).rows)) [
       | true ↦ (row ∷ [], refl)
       | false ↦ ([], append-nil s.rows)
     ]
@@ -22,18 +23,24 @@ pub known_stays : KnownStays
 known_stays s [] = ([], append-nil s.rows)
 known_stays s (c ∷ cs) =
     let first = known_once s c in
-    let rest = known_stays (called s c) cs in
-    (first.0 ++ rest.0, sym (append_assoc s.rows first.0 rest.0) ∙ ap (λ (rows : List TeRow). rows ++ rest.0) first.1 ∙ rest.1)
+    let rest = known_stays (called s c) cs in (
+      first.0 ++ rest.0,
+      sym (append_assoc s.rows first.0 rest.0) ∙
+          ap (λ (rows : List TeRow). rows ++ rest.0) first.1 ∙ rest.1,
+    )
 
-last_or_before : (rows : List TeRow) (new row : TeRow) (k : ℕ) → slice_get (rows ++ new ∷ []) k ≡ Some row → ((j : ℕ) × (slice_get rows j ≡ Some row)) ⊎ (new ≡ row)
+last_or_before : (rows : List TeRow) (new row : TeRow) (k : ℕ) → slice_get (rows ++ new ∷ []) k ≡ Some row →
+    ((j : ℕ) × (slice_get rows j ≡ Some row)) ⊎ (new ≡ row)
 last_or_before rows new row k there =
     elim (get-append_cases rows new k row there) [ inl before ↦ inl (k, before) | inr last ↦ inr last.1 ]
 
-brought_once : (s : FloodState) (c : Call) (k : ℕ) (row : TeRow) → slice_get (called s c).rows k ≡ Some row → ((j : ℕ) × (slice_get s.rows j ≡ Some row)) ⊎ Brings row c
+brought_once : (s : FloodState) (c : Call) (k : ℕ) (row : TeRow) → slice_get (called s c).rows k ≡ Some row →
+    ((j : ℕ) × (slice_get s.rows j ≡ Some row)) ⊎ Brings row c
 brought_once s (Declares new) k row there = last_or_before s.rows new row k there
 brought_once s (Receives from (Ack number)) k row there = inl (k, there)
 brought_once s (Receives from (Row number origin new)) k row there =
-    elim (is_new s new) as (λ b. slice_get (cond b (with_row s (Some from) origin (Some 0) new) s).rows k ≡ Some row → ((j : ℕ) × (slice_get s.rows j ≡ Some row)) ⊎ (new ≡ row)) [
+    elim (is_new s new) as (λ b. slice_get (cond b (with_row s (Some from) origin (Some 0) new) s).rows k ≡
+    Some row → ((j : ℕ) × (slice_get s.rows j ≡ Some row)) ⊎ (new ≡ row)) [
       | true ↦ λ at. last_or_before s.rows new row k at
       | false ↦ λ at. inl (k, at)
     ] there

@@ -18,9 +18,11 @@ pub record GoesTo (d : ℕ) (sends : List (NodeId × FloodMsg)) (m : FloodMsg) :
   pub to : (send.0.0 == d) ≡ true
   pub is : send.1 ≡ m
 
-goes_to : (d : ℕ) (sends : List (NodeId × FloodMsg)) (m : FloodMsg) → Contains (sent_to_node d sends) m → GoesTo d sends m
+goes_to : (d : ℕ) (sends : List (NodeId × FloodMsg)) (m : FloodMsg) → Contains (sent_to_node d sends) m
+    → GoesTo d sends m
 goes_to d sends m there =
-    let made = there_from_map (λ (s : NodeId × FloodMsg). s.1) (filter (λ (s : NodeId × FloodMsg). s.0.0 == d) sends) m there in
+    let made = there_from_map (λ (s : NodeId × FloodMsg). s.1)
+    (filter (λ (s : NodeId × FloodMsg). s.0.0 == d) sends) m there in
     let kept = there_from_filter (λ (s : NodeId × FloodMsg). s.0.0 == d) sends made.0 made.1 in
     record { send = made.0; there = kept.0; to = kept.1; is = made.2 }
 
@@ -33,11 +35,13 @@ pub record SentAgain (s : FloodState) (d : ℕ) (m : FloodMsg) : Type 0 where
   pub there : Contains line.due due
   pub is : Row due.number due.origin due.row ≡ m
 
-pub sent_in_tick : (s : FloodState) (d : ℕ) (m : FloodMsg) → Contains (sent_to_node d (sent_at_tick s)) m → SentAgain s d m
+pub sent_in_tick : (s : FloodState) (d : ℕ) (m : FloodMsg) → Contains (sent_to_node d (sent_at_tick s)) m
+    → SentAgain s d m
 sent_in_tick s d m there =
     let goes = goes_to d (sent_at_tick s) m there in
     let of = there_from_flat_map sent_to s.neighbours goes.send goes.there in
-    let sent = there_from_map (sending of.0.id) (filter (λ (e : Due). goes_at e.age) (map older of.0.due)) goes.send of.2 in
+    let sent = there_from_map (sending of.0.id) (filter (λ (e : Due). goes_at e.age) (map older of.0.due)) goes.send
+    of.2 in
     let aged = there_from_filter (λ (e : Due). goes_at e.age) (map older of.0.due) sent.0 sent.1 in
     let before = there_from_map older of.0.due sent.0 aged.0 in
     let send : sending of.0.id (older before.0) ≡ goes.send = ap (sending of.0.id) before.2 ∙ sent.2 in
@@ -71,7 +75,8 @@ untrue false h = refl
 first_sent : (s : FloodState) (from origin : NodeId) (row : TeRow) (d : ℕ) (m : FloodMsg) → is_new s row ≡ true
     → GoesTo d (first_sendings from origin row s.neighbours) m → SentFirst s from origin row d m
 first_sent s from origin row d m new goes =
-    let made = there_from_map (first_sending origin row) (filter (λ (n : NeighbourState). not (is_from (Some from) n)) s.neighbours) goes.send goes.there in
+    let made = there_from_map (first_sending origin row)
+    (filter (λ (n : NeighbourState). not (is_from (Some from) n)) s.neighbours) goes.send goes.there in
     let kept = there_from_filter (λ (n : NeighbourState). not (is_from (Some from) n)) s.neighbours made.0 made.1 in
     record {
       new = new;
@@ -82,14 +87,16 @@ first_sent s from origin row d m new goes =
       is = ap (λ (q : NodeId × FloodMsg). q.1) made.2 ∙ goes.is;
     }
 
-pub sent_after_row : (s : FloodState) (from : NodeId) (number : ℕ) (origin : NodeId) (row : TeRow) (d : ℕ) (m : FloodMsg)
+pub sent_after_row : (s : FloodState) (from : NodeId) (number : ℕ) (origin : NodeId) (row : TeRow) (d : ℕ)
+    (m : FloodMsg)
     → Contains (sent_to_node d (sends_after s from (Row number origin row))) m
     → IsAnswer from number d m ⊎ SentFirst s from origin row d m
 sent_after_row s from number origin row d m there =
     let goes = goes_to d (sends_after s from (Row number origin row)) m there in
     by_new goes (is_new s row) refl goes.there
   where
-    answer : (g : GoesTo d (sends_after s from (Row number origin row)) m) → (from, Ack number) ≡ g.send → IsAnswer from number d m
+    answer : (g : GoesTo d (sends_after s from (Row number origin row)) m) → (from, Ack number) ≡ g.send
+        → IsAnswer from number d m
     answer g first = record {
       to = ap (λ (q : NodeId × FloodMsg). q.0.0 == d) first ∙ g.to;
       is = ap (λ (q : NodeId × FloodMsg). q.1) first ∙ g.is;
@@ -98,10 +105,12 @@ sent_after_row s from number origin row d m there =
     by_new : (g : GoesTo d (sends_after s from (Row number origin row)) m) (b : Bool) → is_new s row ≡ b
         → Contains ((from, Ack number) ∷ cond b (first_sendings from origin row s.neighbours) []) g.send
         → IsAnswer from number d m ⊎ SentFirst s from origin row d m
-    by_new g true new at = elim (contains-cases (from, Ack number) g.send (first_sendings from origin row s.neighbours) at) [
-      | inl first ↦ inl (answer g first)
-      | inr later ↦ inr (first_sent s from origin row d m new (record { send = g.send; there = later; to = g.to; is = g.is }))
-    ]
+    by_new g true new at = elim (contains-cases (from, Ack number) g.send
+        (first_sendings from origin row s.neighbours) at) [
+          | inl first ↦ inl (answer g first)
+          | inr later ↦ inr (first_sent s from origin row d m new
+              (record { send = g.send; there = later; to = g.to; is = g.is }))
+        ]
     by_new g false new at = elim (contains-cases (from, Ack number) g.send [] at) [
       | inl first ↦ inl (answer g first)
       | inr later ↦ absurd (contains-none g.send later)

@@ -43,10 +43,11 @@ OwnCanBeDeclared =
     → (n : NodeId) (before : List TeRow) (row : TeRow) (later : List TeRow) → own_rows rows n ≡ before ++ row ∷ later
     → CanBeDeclared (declared_rows (new_flood n (nodes_beside rows n)) before) row
 
--- What holds whatever happens after the start: whichever messages are lost, and however often and in whatever order the others
--- are taken.
+-- What holds whatever happens after the start: whichever messages are lost, and however often and in whatever order the
+-- others are taken.
 abbrev pub InEveryRun : (List TeRow → FloodNetwork → Type 0) → Type 0
-InEveryRun P = (rows : List TeRow) → AreRowsOfLinks rows → (events : List FloodEvent) → P rows (after (begun rows) events)
+InEveryRun P =
+    (rows : List TeRow) → AreRowsOfLinks rows → (events : List FloodEvent) → P rows (after (begun rows) events)
 
 -- what a node knows is a row of the network
 abbrev pub KnownIsTrue : List TeRow → FloodNetwork → Type 0

@@ -28,7 +28,7 @@ with_node w n s sends = record {
 -- A message that is lost is never taken, one that is repeated is taken again, and one that is overtaken is taken later.
 pub data FloodEvent : Type 0 where
   Tick : (node : NodeId) → FloodEvent
-  Take : (to : NodeId) (from : NodeId) (place : ℕ) → FloodEvent  -- the message at this place of their channel
+  Take : (to : NodeId) (from : NodeId) (place : ℕ) → FloodEvent  -- what stands at this place of the channel, from 0
 
 -- the node d takes a message from u, if there is one
 abbrev pub taken : FloodNetwork → NodeId → NodeId → Option FloodMsg → FloodNetwork

@@ -57,7 +57,11 @@ is_new s row = not (is_known s.rows row.link) && not (is_end s.me row) && has_ro
 -- A row becomes due to a neighbour with the next number. One that isn't sent at once has no age yet.
 
 abbrev pub queued : NodeId → Option ℕ → TeRow → NeighbourState → NeighbourState
-queued origin age row n = record { id = n.id; sent = n.sent + 1; due = n.due ++ record { number = n.sent + 1; age = age; origin = origin; row = row } ∷ [] }
+queued origin age row n = record {
+  id = n.id;
+  sent = n.sent + 1;
+  due = n.due ++ record { number = n.sent + 1; age = age; origin = origin; row = row } ∷ [];
+}
 
 abbrev pub is_from : Option NodeId → NeighbourState → Bool
 is_from None n = false
@@ -118,7 +122,8 @@ sends_after s from (Ack number) = []
 sends_after s from (Row number origin row) =
     (from, Ack number) ∷ (if is_new s row then first_sendings from origin row s.neighbours else [])
 
--- A tick: a row that wasn't sent yet goes out first and gets age 0; the others age, and go again at the ages of a hop's messages.
+-- A tick: a row that wasn't sent yet goes out first and gets age 0. The others age, and go again at the ages of a hop's
+-- messages.
 
 abbrev pub age_after_tick : Option ℕ → Option ℕ
 age_after_tick None = Some 0
@@ -160,7 +165,8 @@ pub record IsStart (me : NodeId) (ids : List NodeId) (s : FloodState) : Type 0 w
   pub same : (n : ℕ) → Contains numbers n ↔ Contains (map (λ id. id.0) ids) n
   pub is : s ≡ record { me = me; rows = []; neighbours = map (λ n. fresh (record { 0 = n })) numbers }
 
--- what holds of the fields of every flood: no neighbour's number is above the number of known rows, of which there are 256 at most
+-- what holds of the fields of every flood: no neighbour's number is above the number of known rows, of which there are
+-- 256 at most
 pub record IsCounted (rows : ℕ) (ns : List NeighbourState) : Type 0 where
   pub few : rows ≤ 256
   pub hops : length ns ≤ 2 ^ 32

@@ -54,11 +54,7 @@ pub(crate) fn goes_at(age: Option<u8>) -> bool
 }
 
 // Adds the same rows again.
-fn push_copies(
-    alloc: Global,
-    all: &mut VecDeque<Due>,
-    due: &[Due],
-) -> Result<(), OutOfMemory>
+fn push_copies(alloc: Global, all: &mut VecDeque<Due>, due: &[Due]) -> Result<(), OutOfMemory>
     ensures { OnOk result (all.new.items ≡ all.old.items ++ due.now) }
 {
     for d in due {

@@ -141,9 +141,12 @@ impl Flood {
         origin: NodeId,
         row: &TeRow,
     ) -> Result<FloodOut, OutOfMemory>
-        ensures learnt { IfOk result (λ out. out.learnt ≡ learnt_of self.old (FloodMsg.Row number origin row.now)) }
-        ensures sends { IfOk result (λ out. out.sends ≡ sends_after self.old from (FloodMsg.Row number origin row.now)) }
-        ensures ok { OnOk result (self.new ≡ received self.old from (FloodMsg.Row number origin row.now)) }
+        ensures learnt { IfOk result
+            (λ out. out.learnt ≡ learnt_of self.old (FloodMsg.Row number origin row.now)) }
+        ensures sends { IfOk result
+            (λ out. out.sends ≡ sends_after self.old from (FloodMsg.Row number origin row.now)) }
+        ensures ok { OnOk result
+            (self.new ≡ received self.old from (FloodMsg.Row number origin row.now)) }
         ensures err { OnErr result (self.new ≡ self.old) }
     {
         let mut sends = FloodSends::new(alloc);

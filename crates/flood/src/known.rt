@@ -105,7 +105,8 @@ fn insert_link(links: &mut Vec<u32>, link: u32)
     requires room { vec_len links.old < vec_capacity links.old }
     requires rising { IsNonDecreasing links.old.items }
     ensures rising { IsNonDecreasing links.new.items }
-    ensures has { (n : ℕ) → list_any (λ m. m == n) links.new.items ≡ (list_any (λ m. m == n) links.old.items || (link == n)) }
+    ensures has { (n : ℕ) → list_any (λ m. m == n) links.new.items ≡
+        (list_any (λ m. m == n) links.old.items || (link == n)) }
 {
     if let Err(place) = links.binary_search(&link) {
         match links.insert(place, link) {

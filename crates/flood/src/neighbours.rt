@@ -205,7 +205,8 @@ pub(crate) fn queue_all(
     row: &TeRow,
 ) -> Result<(), OutOfMemory>
     requires { All (λ n. n.sent + 1 < 2 ^ 32) neighbours.old }
-    ensures ok { OnOk result (neighbours.new ≡ map (queued_unless from origin age row.now) neighbours.old) }
+    ensures ok { OnOk result
+        (neighbours.new ≡ map (queued_unless from origin age row.now) neighbours.old) }
     ensures err { OnErr result (neighbours.new ≡ neighbours.old) }
 {
     for i in 0..neighbours.len() {
@@ -220,7 +221,8 @@ pub(crate) fn queue_all(
 /// Takes back the row that became due last to the first ones of these, but to the one that it came from.
 pub(crate) fn unqueue_first(neighbours: &mut [Neighbour], count: usize, from: Option<NodeId>)
     requires { count ≤ length neighbours.old }
-    ensures { neighbours.new ≡ map (unqueued_unless from) (take count neighbours.old) ++ drop count neighbours.old }
+    ensures { neighbours.new ≡ map (unqueued_unless from) (take count neighbours.old) ++
+        drop count neighbours.old }
 {
     for i in 0..count {
         neighbours[i].unqueue_unless(from);
@@ -269,7 +271,8 @@ pub(crate) fn push_first_sendings(
     row: &TeRow,
 ) -> Result<(), OutOfMemory>
     requires { All (λ n. n.sent + 1 < 2 ^ 32) neighbours.now }
-    ensures { OnOk result (sends.new ≡ sends.old ++ first_sendings from origin row.now neighbours.now) }
+    ensures { OnOk result
+        (sends.new ≡ sends.old ++ first_sendings from origin row.now neighbours.now) }
 {
     for n in neighbours {
         if !n.is_from(Some(from)) {
@@ -311,7 +314,8 @@ fn numbers_of(alloc: Global, ids: &[NodeId]) -> Result<Vec<u32>, OutOfMemory>
 /// The numbers of these nodes, each once, rising.
 pub(crate) fn rising(alloc: Global, ids: &[NodeId]) -> Result<Vec<u32>, OutOfMemory>
     ensures rising { IfOk result (λ ns. IsStrictlyIncreasing ns.items) }
-    ensures same { IfOk result (λ ns. (n : ℕ) → Contains ns.items n ↔ Contains (map (λ id. id.0) ids.now) n) }
+    ensures same { IfOk result
+        (λ ns. (n : ℕ) → Contains ns.items n ↔ Contains (map (λ id. id.0) ids.now) n) }
 {
     let mut numbers = numbers_of(alloc, ids)?;
     numbers.sort_unstable();

@@ -10,7 +10,7 @@ returns-in-Ok c =
     let items : c.remove.new.self.items ≡ remove c.args.due.now.items c.in-Ok.place = search rules in
     items
     ∙ found_goes c.args.number c.args.due.now.items c.in-Ok.place c.requires within
-        (c.in-Ok.ensures.position (λ d. d.number) (answers_always _ _ _ (λ f a r g called. search rules)))
+    (c.in-Ok.ensures.position (λ d. d.number) (answers_always _ _ _ (λ f a r g called. search rules)))
 
 pub returns-in_default : goal.returns-in_default
 returns-in_default c =

@@ -13,5 +13,6 @@ returns-in-Err-clause-err c =
 
 pub loop-i-preserved : goal.loop-i-preserved
 loop-i-preserved c =
-    changed_more (queued_unless c.args.from c.args.origin c.args.age c.args.row.now) c.args.neighbours.now c.loop-i.neighbours c.loop-i.i
+    changed_more (queued_unless c.args.from c.args.origin c.args.age c.args.row.now) c.args.neighbours.now
+    c.loop-i.neighbours c.loop-i.i
     c.index-neighbours-i.result _ (omega arith) c.loop-i.invariant c.in_default.ensures.ok

@@ -3,4 +3,5 @@ use Rattle.flood.specs.State.{queued_unless}
 use Rattle.flood.proofs.neighbours.queue_all.Given as goal
 
 abbrev pub invariant-loop-i : goal.invariant-loop-i
-invariant-loop-i l = l.neighbours ≡ map (queued_unless l.from l.origin l.age l.row) (take l.i l.fn.neighbours) ++ drop l.i l.fn.neighbours
+invariant-loop-i l = l.neighbours ≡ map (queued_unless l.from l.origin l.age l.row) (take l.i l.fn.neighbours) ++
+    drop l.i l.fn.neighbours

@@ -8,7 +8,8 @@ use Rattle.flood.proofs.known.KnownRows.has_link.Goals as goal
 pub returns : goal.returns
 returns c =
     c.is_ok.ensures.value
-    ∙ sought_is c.self.inside.links.items c.deref.result.now c.args.link.0 c.binary_search.result c.deref.ensures.value c.self.invariant.rising
-        c.binary_search.ensures.position
+    ∙ sought_is c.self.inside.links.items c.deref.result.now c.args.link.0 c.binary_search.result
+    c.deref.ensures.value c.self.invariant.rising
+    c.binary_search.ensures.position
     ∙ c.self.invariant.links c.args.link.0
     ∙ ap (λ (rows : List TeRow). is_known rows c.args.link) c.self.view_is
