@@ -68,4 +68,5 @@ from-near t n u place at = all-get (λ (m : NodeId). is_channel t m n ≡ true) 
 
 -- and whence one leads is a neighbour
 pub near-at : (t : Network) (n u : NodeId) → is_channel t u n ≡ true → IsAt (neighbours t n) u
-near-at t n u on = at-if (λ m. is_channel t m.id n) (λ m. is_channel t m n) (λ m. refl) u on t.nodes (parts t u n on).from
+near-at t n u on = at-if (λ m. is_channel t m.id n) (λ m. is_channel t m n) (λ m. refl) u on t.nodes
+    (parts t u n on).from

@@ -29,7 +29,8 @@ seat-id t seats place n seat are at seated = one_there (ids_of t) place seat.id 
     (ap (λ ids. slice_get ids place) (sym are.ids) ∙ get-map (λ (y : Seat). y.id) seats place seat seated) at
 
 seat-of : (t : Network) (seats : List Seat) (place : ℕ) (n : NodeId) (seat : Seat) → AreSeats t seats →
-    slice_get (ids_of t) place ≡ Some n → slice_get seats place ≡ Some seat → IsSeat t (record { id = n; ends = seat.ends })
+    slice_get (ids_of t) place ≡ Some n → slice_get seats place ≡ Some seat →
+    IsSeat t (record { id = n; ends = seat.ends })
 seat-of t seats place n seat are at seated =
     subst (λ (k : NodeId). IsSeat t (record { id = k; ends = seat.ends })) (seat-id t seats place n seat are at seated)
     (all-get (IsSeat t) seats place seat are.each seated)

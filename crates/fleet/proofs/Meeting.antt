@@ -206,7 +206,8 @@ is_met_there n u = grind arith
 pub one_link : (wires : Wires) (n u a b : ℕ) → is_met n u a b ≡ false → wires a b ≡ met wires n u a b
 one_link wires n u a b e = sym (ap (λ c. cond c (looked (wires a b) (wires b a)) (wires a b)) e)
 
-pub this_link : (wires : Wires) (n u a b : ℕ) → is_met n u a b ≡ true → met wires n u a b ≡ looked (wires a b) (wires b a)
+pub this_link : (wires : Wires) (n u a b : ℕ) → is_met n u a b ≡ true →
+    met wires n u a b ≡ looked (wires a b) (wires b a)
 this_link wires n u a b e = ap (λ c. cond c (looked (wires a b) (wires b a)) (wires a b)) e
 
 -- the links of a node of which one is looked at
@@ -216,7 +217,8 @@ links-set : (t : Network) (wires : Wires) (n u : ℕ) (a b : NodeId) (place : �
     slice_set (map (λ (v : NodeId). wires a.0 v.0) (neighbours t a)) place l
     ≡ map (λ (v : NodeId). met wires n u a.0 v.0) (neighbours t a)
 links-set t wires n u a b place l s at on is others =
-    ap (slice_set (map (λ (v : NodeId). wires a.0 v.0) (neighbours t a)) place) (is ∙ sym (this_link wires n u a.0 b.0 on))
+    ap (slice_set (map (λ (v : NodeId). wires a.0 v.0) (neighbours t a)) place)
+    (is ∙ sym (this_link wires n u a.0 b.0 on))
     ∙ set-one (λ (v : NodeId). wires a.0 v.0) (λ (v : NodeId). met wires n u a.0 v.0) (neighbours t a) place b
     (rising-near t s a) at (λ v other. one_link wires n u a.0 v.0 (others v other))
 
@@ -297,7 +299,8 @@ met-stands t h f new s n u place link e at near end x seats posts stations = rec
             let node : u ≡ m = one_there (ids_of t) k u m
             (subst (λ j. slice_get (ids_of t) j ≡ Some u) (sym last) end.station) id in
             let state : far ≡ z = sym (get-set (slice_set f.stations place here) e.station far z
-            (subst (λ j. slice_get (slice_set (slice_set f.stations place here) e.station far) j ≡ Some z) last found_there)) in
+            (subst (λ j. slice_get (slice_set (slice_set f.stations place here) e.station far) j ≡ Some z) last
+            found_there)) in
             subst (λ y. IsStationOf t (world_after t h) (met s.wires n.0 u.0) m y) state
             (subst (λ (y : NodeId). IsStationOf t (world_after t h) (met s.wires n.0 u.0) y far) node is_far)
         go false p true q =

@@ -202,4 +202,5 @@ pub pushed-each : {X : Type 0} (P : ℕ → X → Type 0) (xs : List X) (y : X) 
 pushed-each P [] y f last zero x at = let same : y ≡ x = cc (at) in subst (P 0) same last
 pushed-each P [] y f last (suc k) x at = absurd (cc (at))
 pushed-each P (w ∷ xs) y f last zero x at = f 0 x at
-pushed-each P (w ∷ xs) y f last (suc k) x at = pushed-each (λ j z. P (suc j) z) xs y (λ j z e. f (suc j) z e) last k x at
+pushed-each P (w ∷ xs) y f last (suc k) x at =
+    pushed-each (λ j z. P (suc j) z) xs y (λ j z e. f (suc j) z e) last k x at

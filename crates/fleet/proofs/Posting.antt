@@ -71,14 +71,16 @@ first_and true b h = refl
 first_and false b h = absurd (cc (h))
 
 first_of : (a b c d e : Bool) → (a && b && c && d && e) ≡ true → a ≡ true
-first_of a b c d e h = first_and a b (first_and (a && b) c (first_and (a && b && c) d (first_and (a && b && c && d) e h)))
+first_of a b c d e h = first_and a b (first_and (a && b) c
+    (first_and (a && b && c) d (first_and (a && b && c && d) e h)))
 
 -- the ingress of a valid command is a node
 valid_ingress : (t : Network) (c : Command) (n : NodeId) → ingress_of c ≡ Some n → is_valid t c ≡ true →
     is_node_id t.nodes n ≡ true
 valid_ingress t (Setup k from to protected both via backup) n e h = let same : from ≡ n = cc (e) in
     subst (λ (x : NodeId). is_node_id t.nodes x ≡ true) same
-    (first_of (is_node_id t.nodes from) (is_node_id t.nodes to) (not (nat_eq from.0 to.0)) (is_given_route t from to via)
+    (first_of (is_node_id t.nodes from) (is_node_id t.nodes to) (not (nat_eq from.0 to.0))
+    (is_given_route t from to via)
     (is_given_backup t from to protected via backup) h)
 valid_ingress t (Release k from) n e h = let same : from ≡ n = cc (e) in
     subst (λ (x : NodeId). is_node_id t.nodes x ≡ true) same h
@@ -136,7 +138,8 @@ post-stands t h c old new s on seats few stations fewer = record {
   seats = subst (λ xs. AreSeats t xs) (sym seats) s.seats;
   wires = s.wires;
   stations = subst (λ w. AreStations t w s.wires new.stations) (sym world) stations;
-  wired = λ u d joined. subst (λ w. IsWired w (refilled (world_after t h) (posted (world_after t h) c) h.waiting) s.wires u d)
+  wired = λ u d joined. subst (λ w. IsWired w (refilled (world_after t h) (posted (world_after t h) c) h.waiting)
+      s.wires u d)
       (sym world) (posted-wired t (world_after t h) c h.waiting s.wires u d (s.wired u d joined));
   posted = λ n. subst (λ (w : World). length (w.desks n.0) ≤ new.posts) (sym world) (fewer n);
   few = few;
@@ -218,7 +221,8 @@ order-stands t h c old new n ingress few orders s on = post-stands t h c old new
             (sym (get-set-elsewhere old.stations done.place k after e) ∙ found) in
             record {
               node = posted-node t w c m z.controller z.desk z.desk (old_one.node.desk
-                  ∙ sym (there m (apart (ids_of t) (rising-ids t s.valid) k done.place m n id done.node e))) old_one.node;
+                  ∙ sym (there m (apart (ids_of t) (rising-ids t s.valid) k done.place m n id done.node e)))
+                  old_one.node;
               links = old_one.links;
             }
 

@@ -28,7 +28,8 @@ part t h place = fold (λ (g : History) (n : NodeSpec). turn t true n.id g) h (t
 
 pub node-at : (t : Network) (h : History) (f : FleetState) → StandsFor t f h → (place : ℕ) →
     place < length f.stations → IsThere t.nodes place
-node-at t h f s place below = there t.nodes place (less place (length f.stations) (length t.nodes) below s.stations.count)
+node-at t h f s place below = there t.nodes place
+    (less place (length f.stations) (length t.nodes) below s.stations.count)
   where
     less : (a b c : ℕ) → a < b → b ≡ c → a < c
     less a b c p q = omega arith
@@ -45,7 +46,8 @@ pub part-cut : (t : Network) (h : History) (place : ℕ) (m : NodeSpec) (k : Nod
     slice_get t.nodes place ≡ Some m → (turn t true m.id (part t h place)).stopped ≡ Some k →
     (round t h).stopped ≡ Some k
 part-cut t h place m k at is =
-    fold-cut-at (λ (g : History) (n : NodeSpec). turn t true n.id g) (λ n. turn-stays t true n.id) h t.nodes place m k at is
+    fold-cut-at (λ (g : History) (n : NodeSpec). turn t true n.id g)
+    (λ n. turn-stays t true n.id) h t.nodes place m k at is
 
 pub part-all : (P : History → Type 0) (t : Network) (h : History) (place : ℕ) → length t.nodes ≤ place →
     P (part t h place) → P (round t h)

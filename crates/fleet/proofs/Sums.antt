@@ -193,7 +193,8 @@ legs-stand t h f s =
 -- Sums that fit
 
 few-nodes : (t : Network) → IsTopology t → length t.nodes ≤ 64
-few-nodes t valid = go (nat_le 1 (length t.nodes)) (nat_le (length t.nodes) 64) (nat_le (length t.links) 256) refl valid.count
+few-nodes t valid = go (nat_le 1 (length t.nodes)) (nat_le (length t.nodes) 64)
+    (nat_le (length t.links) 256) refl valid.count
   where
     within : (a : ℕ) → nat_le a 64 ≡ true → a ≤ 64
     within a h = grind arith
@@ -234,7 +235,8 @@ items-fit t h f s = all-places (λ (x : StationState). length x.desk ≤ 2 ^ 40)
 
     one : (i : ℕ) (x : StationState) → slice_get f.stations i ≡ Some x → length x.desk ≤ 2 ^ 40
     one i x at =
-        let n : IsThere (ids_of t) i = there (ids_of t) i (less i (length f.stations) (length t.nodes) (length (ids_of t))
+        let n : IsThere (ids_of t) i = there (ids_of t) i
+        (less i (length f.stations) (length t.nodes) (length (ids_of t))
         (within f.stations i x at) s.stations.count (length-map (λ (m : NodeSpec). m.id) t.nodes)) in
         few (length x.desk) (length ((world_after t h).desks n.item.0)) f.posts
         (ap length (s.stations.each i n.item x n.is at).node.desk) (s.posted n.item) s.few
@@ -266,7 +268,8 @@ few-more xs i d each is few below k x under at = go (nat_eq k i) refl
 
     go : (b : Bool) → nat_eq k i ≡ b → unacked_of x ≤ 2 ^ 40
     go true e =
-        let same : x ≡ d = sym (get_or_from_slice_get xs k x d at) ∙ ap (λ j. get_or xs j d) (same_number k i e) ∙ sym is in
+        let same : x ≡ d = sym (get_or_from_slice_get xs k x d at) ∙ ap (λ j. get_or xs j d) (same_number k i e) ∙
+        sym is in
         subst (λ (y : StationState). unacked_of y ≤ 2 ^ 40) (sym same) few
     go false e = each k x (before k i under e) at
 

@@ -309,7 +309,8 @@ after-turn t h g f new n place after x at stations seats posts is running stands
         subst (λ (k : NodeId). IsWired (world_after t g) g.waiting wires a k) (sym last)
         (to_it a p (subst (λ (k : NodeId). is_channel t a k ≡ true) last on))
     wired a b on false p false q =
-        wired-elsewhere (world_after t h) (world_after t g) h.waiting g.waiting x.stands.wires n a b after.links left p q
+        wired-elsewhere (world_after t h) (world_after t g) h.waiting g.waiting x.stands.wires n a b after.links left
+        p q
         (is.rings a.0 b.0 p q) (x.stands.wired a b on)
 
     up_to : (a b c : ℕ) → a ≤ b → b ≤ c → a ≤ c

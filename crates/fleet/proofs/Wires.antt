@@ -47,7 +47,8 @@ links-by-peer [] rising = refl
 links-by-peer (l ∷ ls) rising =
     ap (λ ks. l ∷ ks) (links-by-peer ls rising.1
     ∙ same-map (λ u. link_to ls u.0) (λ u. link_to (l ∷ ls) u.0) (map (λ (k : LinkState). k.peer) ls)
-    (all-above (λ u. link_to ls u.0 ≡ link_to (l ∷ ls) u.0) l.peer.0 (map (λ (k : LinkState). k.peer) ls) elsewhere rising.0))
+    (all-above (λ u. link_to ls u.0 ≡ link_to (l ∷ ls) u.0) l.peer.0
+    (map (λ (k : LinkState). k.peer) ls) elsewhere rising.0))
     ∙ ap (λ k. k ∷ map (λ (u : NodeId). link_to (l ∷ ls) u.0) (map (λ (k : LinkState). k.peer) ls))
     (sym (ap (λ b. cond b l (link_to ls l.peer.0)) (self_test l.peer.0)))
   where
@@ -74,6 +75,7 @@ link-found P (l ∷ ls) place u all at = go (nat_eq l.peer.0 u.0) refl place at 
     go true e i k rest = record { is = all.0; peer = same_node l.peer u e }
     go false e zero k rest =
         let same : l.peer ≡ u = cc (k) in
-        let on : nat_eq l.peer.0 u.0 ≡ true = ap (λ (n : NodeId). nat_eq l.peer.0 n.0) (sym same) ∙ self_test l.peer.0 in
+        let on : nat_eq l.peer.0 u.0 ≡ true = ap (λ (n : NodeId). nat_eq l.peer.0 n.0) (sym same) ∙
+        self_test l.peer.0 in
         absurd (cc (on, e))
     go false e (suc i) k rest = rest i k

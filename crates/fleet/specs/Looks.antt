@@ -34,7 +34,8 @@ abbrev pub with_link : StationState → ℕ → LinkState → StationState
 with_link s place l = record s { links = slice_set s.links place l }
 
 -- after a look at both links
-abbrev pub after_look : List StationState → ℕ → ℕ → End → StationState → StationState → LinkState → LinkState → List StationState
+abbrev pub after_look : List StationState → ℕ → ℕ → End → StationState → StationState → LinkState → LinkState →
+    List StationState
 after_look stations place link e here there near far =
     slice_set (slice_set stations place (with_link here link (looked near far))) e.station
     (with_link there e.link (looked far near))
@@ -52,7 +53,8 @@ pub record IsKnown (wires : Wires) (n u : ℕ) : Type 0 where
 -- The fleet after looks
 
 -- after a look at the links between n and u it stands for the same run
-pub record IsMet (t : Network) (h : History) (old new : FleetState) (s : StandsFor t old h) (n u : NodeId) : Type 0 where
+pub record IsMet (t : Network) (h : History) (old new : FleetState) (s : StandsFor t old h)
+    (n u : NodeId) : Type 0 where
   pub stands : StandsFor t new h
   pub wires : stands.wires ≡ met s.wires n.0 u.0
 

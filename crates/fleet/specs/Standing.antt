@@ -47,7 +47,8 @@ pub record AreSeats (t : Network) (seats : List Seat) : Type 0 where
 abbrev pub Wires : Type 0
 Wires = ℕ → ℕ → LinkState
 
--- The link at u to d, and the one back there. What u sent since the last look waits at u, and what came before it waits at d:
+-- The link at u to d, and the one back there. What u sent since the last look waits at u, and what came before it waits
+-- at d:
 -- together that is what waits in the ring.
 pub record IsWired (w : World) (rings : ℕ → ℕ → List ℕ) (wires : Wires) (u d : NodeId) : Type 0 where
   pub peer : (wires u.0 d.0).peer ≡ d
@@ -56,7 +57,8 @@ pub record IsWired (w : World) (rings : ℕ → ℕ → List ℕ) (wires : Wires
   pub came : AreParcelsOf (w.channels u.0 d.0) (wires d.0 u.0).early
   pub going : AreParcelsOf (w.channels u.0 d.0) (wires u.0 d.0).backlog
 
--- the controller and the desk are what the world has of the node n, and it has a link to each neighbour, in order of number
+-- the controller and the desk are what the world has of the node n, and it has a link to each neighbour, in order of
+-- number
 pub record IsStationOf (t : Network) (w : World) (wires : Wires) (n : NodeId) (s : StationState) : Type 0 where
   pub node : NodeStands t w n s.controller s.desk
   pub links : s.links ≡ map (λ u. wires n.0 u.0) (neighbours t n)

@@ -112,7 +112,8 @@ impl Fleet {
     // How many links the station at this place has.
     fn link_count(&self, place: usize) -> usize
         requires { place < length self.now.stations }
-        ensures { (s : Seat) → slice_get self.now.seats place ≡ Some s → result ≡ length s.ends.items }
+        ensures { (s : Seat) → slice_get self.now.seats place ≡ Some s →
+            result ≡ length s.ends.items }
     {
         self.seats[place].ends.len()
     }
@@ -129,7 +130,8 @@ impl Fleet {
     fn look(&mut self, place: usize, link: usize)
         requires some { StandsForSome self.old }
         requires within { place < length self.old.stations }
-        requires link { (s : Seat) → slice_get self.old.seats place ≡ Some s → link < length s.ends.items }
+        requires link { (s : Seat) → slice_get self.old.seats place ≡ Some s →
+            link < length s.ends.items }
         ensures looks { LooksOver place link self.old self.new }
         ensures seats { self.new.seats ≡ self.old.seats }
         ensures count { length self.new.stations ≡ length self.old.stations }
@@ -167,7 +169,8 @@ impl Fleet {
         ensures on { OnOk result (TurnsAt place self.old self.new) }
         ensures made { IfOk result (IsCountedAt place self.old) }
         ensures few { IfOk result (λ k. k ≤ 50000) }
-        ensures stops { IfErr result (λ e. (n : NodeId) → e ≡ RoundFault.AtLimit n → IsCutAt place self.old n) }
+        ensures stops { IfErr result
+            (λ e. (n : NodeId) → e ≡ RoundFault.AtLimit n → IsCutAt place self.old n) }
         ensures count { length self.new.stations ≡ length self.old.stations }
     {
         let node = self.node(place);
@@ -180,9 +183,13 @@ impl Fleet {
     /// ended.
     pub fn round(&mut self) -> Result<u64, RoundFault>
         requires { StandsForSome self.old }
-        ensures on { OnOk result ((t : Network) (h : History) → StandsFor t self.old h → StandsFor t self.new (round t h)) }
-        ensures made { IfOk result (λ k. (t : Network) (h : History) → StandsFor t self.old h → length (round t h).events ≡ length h.events + k) }
-        ensures stops { IfErr result (λ e. (n : NodeId) → e ≡ RoundFault.AtLimit n → (t : Network) (h : History) → StandsFor t self.old h → (round t h).stopped ≡ Some n) }
+        ensures on { OnOk result ((t : Network) (h : History) → StandsFor t self.old h →
+            StandsFor t self.new (round t h)) }
+        ensures made { IfOk result (λ k. (t : Network) (h : History) → StandsFor t self.old h →
+            length (round t h).events ≡ length h.events + k) }
+        ensures stops { IfErr result
+            (λ e. (n : NodeId) → e ≡ RoundFault.AtLimit n → (t : Network) (h : History) →
+            StandsFor t self.old h → (round t h).stopped ≡ Some n) }
     {
         let count = self.count();
         let mut made = 0;
@@ -243,15 +250,18 @@ impl Fleet {
 
     /// Whether every desk is empty and no message is unacknowledged.
     pub fn quiet(&self) -> bool
-        ensures { (t : Network) (h : History) → StandsFor t self.now h → result ≡ is_quiet t (world_after t h) }
+        ensures { (t : Network) (h : History) → StandsFor t self.now h →
+            result ≡ is_quiet t (world_after t h) }
     {
         are_quiet(&self.stations)
     }
 
     /// What waits at all nodes.
     pub fn pending(&self) -> FleetPending
-        ensures desk { (t : Network) (h : History) → StandsFor t self.now h → result.desk ≡ items_waiting t (world_after t h) }
-        ensures hop { (t : Network) (h : History) → StandsFor t self.now h → result.hop ≡ unacked_waiting t (world_after t h) }
+        ensures desk { (t : Network) (h : History) → StandsFor t self.now h →
+            result.desk ≡ items_waiting t (world_after t h) }
+        ensures hop { (t : Network) (h : History) → StandsFor t self.now h →
+            result.hop ≡ unacked_waiting t (world_after t h) }
         ensures flood { result.flood ≡ 0 }
     {
         FleetPending {
@@ -263,8 +273,10 @@ impl Fleet {
 
     /// What a table shows of each node, nodes in order of number.
     pub fn rows(&self, alloc: Global) -> Result<TableRows, OutOfMemory>
-        ensures calls { IfOk result (λ rows. (t : Network) (h : History) → StandsFor t self.now h → rows.calls ≡ all_call_rows t (image (world_after t h))) }
-        ensures legs { IfOk result (λ rows. (t : Network) (h : History) → StandsFor t self.now h → rows.legs ≡ all_leg_rows t (image (world_after t h))) }
+        ensures calls { IfOk result (λ rows. (t : Network) (h : History) → StandsFor t self.now h →
+            rows.calls ≡ all_call_rows t (image (world_after t h))) }
+        ensures legs { IfOk result (λ rows. (t : Network) (h : History) → StandsFor t self.now h →
+            rows.legs ≡ all_leg_rows t (image (world_after t h))) }
     {
         rows_of(alloc, &self.stations)
     }

@@ -9,7 +9,8 @@ use station::Station;
 /// Looks at the link of one station and the link back at another. It takes no memory.
 pub(crate) fn look(stations: &mut [Station], place: usize, link: usize, end: End)
     requires { AreJoined stations.old place link end }
-    ensures { (j : AreJoined stations.old place link end) → stations.new ≡ after_look stations.old place link end j.here j.there j.near j.far }
+    ensures { (j : AreJoined stations.old place link end) →
+        stations.new ≡ after_look stations.old place link end j.here j.there j.near j.far }
 {
     if place < end.station {
         let (low, high) = stations.split_at_mut(end.station);

@@ -24,7 +24,8 @@ pub(crate) fn are_quiet(stations: &[Station]) -> bool
 
 /// How many items wait on all desks. A sum that doesn't fit is the most that does.
 pub(crate) fn items_of(stations: &[Station]) -> usize
-    ensures { sum_by (λ s. length s.desk) stations.now < 2 ^ 64 → result ≡ sum_by (λ s. length s.desk) stations.now }
+    ensures { sum_by (λ s. length s.desk) stations.now < 2 ^ 64 →
+        result ≡ sum_by (λ s. length s.desk) stations.now }
 {
     let mut sum: usize = 0;
     for station in stations {
@@ -36,7 +37,8 @@ pub(crate) fn items_of(stations: &[Station]) -> usize
 /// How many messages aren't acknowledged. A sum that doesn't fit is the most that does.
 pub(crate) fn unacked_of(stations: &[Station]) -> usize
     ensures few { AllByRecursion (λ s. unacked_of s ≤ 2 ^ 40) stations.now }
-    ensures sum { sum_by unacked_of stations.now < 2 ^ 64 → result ≡ sum_by unacked_of stations.now }
+    ensures sum { sum_by unacked_of stations.now < 2 ^ 64 →
+        result ≡ sum_by unacked_of stations.now }
 {
     let mut sum: usize = 0;
     for station in stations {

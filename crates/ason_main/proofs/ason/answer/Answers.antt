@@ -17,9 +17,10 @@ pub returns-in-Err-Failed : goal.returns-in-Err-Failed
 returns-in-Err-Failed g c = (
   ReadFault,
   reply_read g.S.Source.left g.S.Source.handed g.S.Source.ended g.S.Source.faults (map string_bytes c.args.words.now)
-      c.args.src.now c.read_all.new.src c.in-Some.task ReadFault (sym c.task_of.ensures ∙ c.in-Some.is)
-      (c.in-Err-Failed.ensures.failed (ap Err c.in-Err-Failed.field-0-is),
-      c.in-Err-Failed.ensures.failed_within (ap Err c.in-Err-Failed.field-0-is)),
+      c.args.src.now c.read_all.new.src c.in-Some.task ReadFault (sym c.task_of.ensures ∙ c.in-Some.is) (
+        c.in-Err-Failed.ensures.failed (ap Err c.in-Err-Failed.field-0-is),
+        c.in-Err-Failed.ensures.failed_within (ap Err c.in-Err-Failed.field-0-is),
+      ),
   inl (refl, Appends-nil (g.K.Sink.written c.args.out.now)),
 )
 

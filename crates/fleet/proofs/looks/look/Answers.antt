@@ -7,7 +7,8 @@ returns-then-place-end c j =
     let low = c.split_at_mut-low.result.0.now in
     let high = c.split_at_mut-low.result.1.now in
     look-low c.args.stations.now low high c.args.place c.args.link c.args.end
-    (get_or low c.args.place c.index-low-place.result) (get_or high 0 c.index-high-0.result) c.look.new.self c.look.new.other j
+    (get_or low c.args.place c.index-low-place.result)
+    (get_or high 0 c.index-high-0.result) c.look.new.self c.look.new.other j
     (omega (arith, c.if-place-end.true)) c.split_at_mut-low.ensures.front c.split_at_mut-low.ensures.back
     (ap (get_or low c.args.place) c.index-low-place.is) (ap (get_or high 0) c.index-high-0.is)
     (record {

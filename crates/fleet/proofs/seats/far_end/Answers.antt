@@ -10,7 +10,8 @@ use Rattle.fleet.proofs.seats.far_end.Goals as goal
 pub unreachable-requires : goal.unreachable-requires
 unreachable-requires c =
     let t = c.args.t.now in
-    let into : is_channel t c.args.peer c.args.me ≡ true = from-near t c.args.me c.args.peer c.requires.near.0 c.requires.near.1 in
+    let into : is_channel t c.args.peer c.args.me ≡ true =
+    from-near t c.args.me c.args.peer c.requires.near.0 c.requires.near.1 in
     node-lost t c.args.peer (ap (position (is_node c.args.peer)) (sym c.nodes.ensures.list) ∙ sym c.in-None.ensures)
     (parts t c.args.peer c.args.me into).from
 
@@ -18,7 +19,8 @@ pub unreachable-requires-in-None-link_to : goal.unreachable-requires-in-None-lin
 unreachable-requires-in-None-link_to c =
     let t = c.args.t.now in
     let s = c.index-stations-station.result in
-    let into : is_channel t c.args.peer c.args.me ≡ true = from-near t c.args.me c.args.peer c.requires.near.0 c.requires.near.1 in
+    let into : is_channel t c.args.peer c.args.me ≡ true =
+    from-near t c.args.me c.args.peer c.requires.near.0 c.requires.near.1 in
     let at : slice_get (ids_of t) c.in-Some.station ≡ Some c.args.peer = node-found t c.args.peer c.in-Some.station
     (ap (position (is_node c.args.peer)) (sym c.nodes.ensures.list) ∙ sym c.in-Some.ensures) in
     let new : IsNew t c.args.peer s = new-found t c.args.stations.now c.in-Some.station c.args.peer s c.requires.new at

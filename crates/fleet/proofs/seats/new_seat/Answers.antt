@@ -14,7 +14,8 @@ loop-link-preserved c =
     let end = c.far_end-end.result in
     record {
       within = omega (arith, c.loop-link-test.true);
-      total = ap length c.in_ok-push.ensures.items ∙ length-append ends (end ∷ []) ∙ ap (λ k. k + 1) c.loop-link.invariant.total;
+      total = ap length c.in_ok-push.ensures.items ∙ length-append ends (end ∷ []) ∙
+          ap (λ k. k + 1) c.loop-link.invariant.total;
       each = λ k e u at near.
           ends-more t n c.args.station.now ends end c.loop-link.link c.peer.result c.requires.one
           c.loop-link.invariant.total c.loop-link.invariant.each c.peer.ensures c.far_end-end.ensures k e u

@@ -21,5 +21,6 @@ loop-station-preserved c =
     }
 
 pub returns-clause-few : goal.returns-clause-few
-returns-clause-few c = few-all c.args.stations.now c.loop-station.station-index (omega (arith, c.loop-station-test.false))
+returns-clause-few c = few-all c.args.stations.now c.loop-station.station-index
+    (omega (arith, c.loop-station-test.false))
     c.loop-station.invariant.few

@@ -13,9 +13,11 @@ index-end-requires c =
     let f = c.args.self.now in
     let seats = c.self.inside.seats.items in
     let seat = c.index.result.now in
-    let below : c.args.place < length seats = subst (λ n. c.args.place < n) (ap (λ (x : FleetState). length x.stations) (sym c.self.view_is)
+    let below : c.args.place < length seats = subst (λ n. c.args.place < n)
+    (ap (λ (x : FleetState). length x.stations) (sym c.self.view_is)
     ∙ c.self.invariant) c.requires.within in
-    let seated : slice_get f.seats c.args.place ≡ Some seat = ap (λ (x : FleetState). slice_get x.seats c.args.place) (sym c.self.view_is)
+    let seated : slice_get f.seats c.args.place ≡ Some seat =
+    ap (λ (x : FleetState). slice_get x.seats c.args.place) (sym c.self.view_is)
     ∙ slice_get_read seats (length seats) c.args.place seat refl below c.index.ensures in
     let link : c.args.link < length seat.ends.items = c.requires.link seat seated in
     omega (arith, link, seat.ends.ok.0)
@@ -28,12 +30,15 @@ look-requires c =
     let e = c.index-end.result.now in
     let same : c.deref_mut.result.now ≡ f.stations = c.deref_mut.ensures.value
     ∙ ap (λ (x : FleetState). x.stations) c.self.view_is in
-    let below : c.args.place < length seats = subst (λ n. c.args.place < n) (ap (λ (x : FleetState). length x.stations) (sym c.self.view_is)
+    let below : c.args.place < length seats = subst (λ n. c.args.place < n)
+    (ap (λ (x : FleetState). length x.stations) (sym c.self.view_is)
     ∙ c.self.invariant) c.requires.within in
-    let seated : slice_get f.seats c.args.place ≡ Some seat = ap (λ (x : FleetState). slice_get x.seats c.args.place) (sym c.self.view_is)
+    let seated : slice_get f.seats c.args.place ≡ Some seat =
+    ap (λ (x : FleetState). slice_get x.seats c.args.place) (sym c.self.view_is)
     ∙ slice_get_read seats (length seats) c.args.place seat refl below c.index.ensures in
     let ended : slice_get seat.ends.items c.args.link ≡ Some e =
-    slice_get_read seat.ends.items (length seat.ends.items) c.args.link e refl (c.requires.link seat seated) c.index-end.ensures in
+    slice_get_read seat.ends.items (length seat.ends.items) c.args.link e refl
+    (c.requires.link seat seated) c.index-end.ensures in
     subst (λ xs. AreJoined xs c.args.place c.args.link e) (sym same)
     (joined c.args.place c.args.link f seat e c.requires.some c.requires.within seated ended)
 
@@ -45,12 +50,15 @@ returns-clause-looks c =
     let e = c.index-end.result.now in
     let same : c.deref_mut.result.now ≡ f.stations = c.deref_mut.ensures.value
     ∙ ap (λ (x : FleetState). x.stations) c.self.view_is in
-    let below : c.args.place < length seats = subst (λ n. c.args.place < n) (ap (λ (x : FleetState). length x.stations) (sym c.self.view_is)
+    let below : c.args.place < length seats = subst (λ n. c.args.place < n)
+    (ap (λ (x : FleetState). length x.stations) (sym c.self.view_is)
     ∙ c.self.invariant) c.requires.within in
-    let seated : slice_get f.seats c.args.place ≡ Some seat = ap (λ (x : FleetState). slice_get x.seats c.args.place) (sym c.self.view_is)
+    let seated : slice_get f.seats c.args.place ≡ Some seat =
+    ap (λ (x : FleetState). slice_get x.seats c.args.place) (sym c.self.view_is)
     ∙ slice_get_read seats (length seats) c.args.place seat refl below c.index.ensures in
     let ended : slice_get seat.ends.items c.args.link ≡ Some e =
-    slice_get_read seat.ends.items (length seat.ends.items) c.args.link e refl (c.requires.link seat seated) c.index-end.ensures in
+    slice_get_read seat.ends.items (length seat.ends.items) c.args.link e refl
+    (c.requires.link seat seated) c.index-end.ensures in
     looks-over c.args.place c.args.link f _ seat e seated ended (ap (λ (x : FleetState). x.seats) c.self.view_is)
     (ap (λ (x : FleetState). x.posts) c.self.view_is)
     (λ j. sym (whole c.look.new.stations c.self.inside.stations.items c.self.inside.stations.len

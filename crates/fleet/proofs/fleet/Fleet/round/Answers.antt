@@ -16,7 +16,8 @@ pub loop-place-preserved : goal.loop-place-preserved
 loop-place-preserved c =
     let f = c.loop-place.self in
     let place = c.loop-place.place in
-    let below : place < length f.stations = omega (arith, c.loop-place-test.true, c.count-count.ensures, c.loop-place.invariant.count) in
+    let below : place < length f.stations = omega
+    (arith, c.loop-place-test.true, c.count-count.ensures, c.loop-place.invariant.count) in
     record {
       within = omega (arith, c.loop-place-test.true);
       count = c.turn.ensures.count ∙ c.loop-place.invariant.count;
@@ -28,8 +29,13 @@ loop-place-preserved c =
       made = λ t h s.
           let now : StandsFor t f (part t h place) = c.loop-place.invariant.on t h s in
           let m : IsThere t.nodes place = node-at t (part t h place) f now place below in
-          part-next (λ (g : History). length g.events ≡ length h.events + (c.loop-place.made + c.in_ok-events.events)) t h place m.item m.is
-          (omega (arith, c.in_ok-events.ensures.made t (part t h place) m.item.id (id-of t place m.item m.is) now, c.loop-place.invariant.made t h s));
+          part-next (λ (g : History). length g.events ≡ length h.events +
+          (c.loop-place.made + c.in_ok-events.events)) t h place m.item m.is
+          (omega (
+            arith,
+            c.in_ok-events.ensures.made t (part t h place) m.item.id (id-of t place m.item m.is) now,
+            c.loop-place.invariant.made t h s,
+          ));
       few = omega (arith, c.in_ok-events.ensures.few, c.loop-place.invariant.few);
     }
 
@@ -37,7 +43,8 @@ pub returns-in_err-events-clause-stops : goal.returns-in_err-events-clause-stops
 returns-in_err-events-clause-stops c =
     let f = c.loop-place.self in
     let place = c.loop-place.place in
-    let below : place < length f.stations = omega (arith, c.loop-place-test.true, c.count-count.ensures, c.loop-place.invariant.count) in
+    let below : place < length f.stations = omega
+    (arith, c.loop-place-test.true, c.count-count.ensures, c.loop-place.invariant.count) in
     passed-on c.from_residual.result _ _
     (λ e same n is t h s.
     let now : StandsFor t f (part t h place) = c.loop-place.invariant.on t h s in
@@ -48,6 +55,7 @@ returns-in_err-events-clause-stops c =
 
 pub returns-clause-made : goal.returns-clause-made
 returns-clause-made c t h s =
-    let past : length t.nodes ≤ c.loop-place.place = omega (arith, c.loop-place-test.false, c.count-count.ensures, s.stations.count) in
+    let past : length t.nodes ≤ c.loop-place.place =
+    omega (arith, c.loop-place-test.false, c.count-count.ensures, s.stations.count) in
     part-all (λ (g : History). length g.events ≡ length h.events + c.loop-place.made) t h c.loop-place.place past
     (c.loop-place.invariant.made t h s)

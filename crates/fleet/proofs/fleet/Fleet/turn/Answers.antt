@@ -28,8 +28,10 @@ returns-clause-few c =
 
 pub returns-clause-stops : goal.returns-clause-stops
 returns-clause-stops c =
-    let seat : IsThere c.args.self.now.seats c.args.place = seat-there c.args.place c.args.self.now c.requires.some c.requires.within in
+    let seat : IsThere c.args.self.now.seats c.args.place =
+    seat-there c.args.place c.args.self.now c.requires.some c.requires.within in
     subst (λ r. IfErr r (λ e. (m : NodeId) → e ≡ fault.AtLimit m → IsCutAt c.args.place c.args.self.now m))
     (sym c.answer_of.ensures)
     (answered-stops c.args.place c.args.self.now c.look_around.new.self c.work-end.new.self c.work-end.result
-    c.node-node.result seat.item seat.is (c.node-node.ensures seat.item seat.is) c.look_around.ensures.looks c.work-end.ensures)
+    c.node-node.result seat.item seat.is (c.node-node.ensures seat.item seat.is) c.look_around.ensures.looks
+    c.work-end.ensures)
