@@ -23,7 +23,7 @@ made_delivered : (t : Network) (w : World) (d u : NodeId) (o : Option Content) �
 made_delivered t w d u None = refl
 made_delivered t w d u (Some (Message p)) = made_handled t (taken w d u p) d u (handed_up w d u p)
 
-made_posted : (w : World) (c : Command) → (posted w c).made ≡ w.made
+pub made_posted : (w : World) (c : Command) → (posted w c).made ≡ w.made
 made_posted w (Setup n from to protected both via backup) = refl
 made_posted w (Release n from) = refl
 made_posted w (Protect n from) = refl

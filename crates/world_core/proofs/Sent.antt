@@ -1,6 +1,5 @@
 -- What a controller sends is what the ends of a world send.
-use Rattle.std.proofs.Common.{◌≡◌, ℕ, ◌+◌, Bool, true, false, cond, nat_eq, List, [], ◌∷◌, ◌++◌, map, filter, refl, sym, ap, ◌∙◌, arith}
-use Rattle.ason_base.specs.declared.messages.Msg.{Msg}
+use Rattle.std.proofs.Common.{◌≡◌, ℕ, ◌+◌, Bool, true, false, cond, nat_eq, List, [], ◌∷◌, refl, sym, ap, ◌∙◌, arith}
 use Rattle.ason_base.specs.declared.tables.Out.{Out}
 use Rattle.hop_reliable.specs.Hop.{HopState, numbered, sent_message}
 use Rattle.hop_reliable.specs.Schedules.{HopEnd, sends}

@@ -1,10 +1,9 @@
 -- A controller's step is what the world does at its node.
-use Rattle.std.proofs.Common.{◌≡◌, ℕ, Bool, true, false, cond, nat_eq, List, [], ◌∷◌, ◌++◌, map, filter, refl, sym, ap, ◌∙◌, subst, arith, append-nil, append_assoc}
-use Rattle.std.specs.Prelude.{◌&&◌, Option, Some, None}
+use Rattle.std.proofs.Common.{◌≡◌, ℕ, Bool, true, false, cond, nat_eq, List, [], ◌∷◌, ◌++◌, map, refl, sym, ap, ◌∙◌, subst, arith, append-nil, append_assoc}
+use Rattle.std.specs.Prelude.{◌&&◌, Some}
 use Rattle.std.specs.List.{flat_map}
 use Rattle.std.proofs.lemmas.List.{map-append}
 use Rattle.ason_base.specs.declared.ids.NodeId.{NodeId}
-use Rattle.ason_base.specs.declared.commands.DeskItem.{DeskItem}
 use Rattle.ason_base.specs.declared.messages.Msg.{Msg}
 use Rattle.ason_base.specs.declared.messages.Packet.{Packet}
 use Rattle.ason_base.specs.Network.{Network}
@@ -18,10 +17,8 @@ use Rattle.mesh_rules.specs.LocalNodes.{local_node}
 use Rattle.mesh_rules.specs.Machine.{sent_to}
 use Rattle.mesh_rules.specs.Messages.{on_message}
 use Rattle.mesh_rules.specs.Orders.{on_item, on_tick}
-use Rattle.mesh_rules.specs.State.{NodeState}
-use Rattle.controller.specs.declared.adjacencies.Adjacency.{Adjacency}
 use Rattle.controller.specs.Adjacencies.{again_to, hop_at, packets_on}
-use Rattle.controller.specs.Controllers.{Meaning, Stepped, acks_to, after_tick, carried, handled, heard_hops, took, unmoved}
+use Rattle.controller.specs.Controllers.{Meaning, acks_to, after_tick, carried, handled, heard_hops, took}
 use Rattle.controller.specs.Frames.{Sending}
 use Rattle.world_core.specs.Frames.{Content, Message}
 use Rattle.world_core.specs.Worlds.{World, commit, delivered, frame_at, handed_up, heard_at, hops_ticked, taken, with_event, with_packets}

@@ -1,16 +1,14 @@
 -- What an event isn't of stays, and a channel leads to a node from its neighbour.
-use Rattle.std.proofs.Common.{◌≡◌, ℕ, Bool, true, false, cond, nat_eq, List, [], ◌∷◌, filter, refl, sym, ap, ◌∙◌, arith}
-use Rattle.std.specs.Prelude.{◌&&◌, ◌||◌, not, Option, Some, None, if◌then◌else◌}
+use Rattle.std.proofs.Common.{◌≡◌, ℕ, Bool, true, false, cond, nat_eq, List, [], ◌∷◌, filter, refl, ap, ◌∙◌, arith}
+use Rattle.std.specs.Prelude.{◌&&◌, ◌||◌, not, Option, Some, None}
 use Rattle.std.specs.List.{list_any}
 use Rattle.ason_base.specs.declared.ids.NodeId.{NodeId}
 use Rattle.ason_base.specs.declared.network.LinkSpec.{LinkSpec}
 use Rattle.ason_base.specs.declared.commands.Command.{Command}
 use Rattle.ason_base.specs.declared.commands.Command.TheVariants.{Setup, Release, Protect, Retry, Revert, Fail, Repair}
-use Rattle.ason_base.specs.declared.commands.Event.{Event}
 use Rattle.ason_base.specs.declared.commands.Event.TheVariants.{Deliver, Noise, Tick, Desk, Post}
 use Rattle.ason_base.specs.declared.messages.Msg.{Msg}
 use Rattle.ason_base.specs.Network.{Network, are_ends, end_beside, is_node_id, other_end, touches}
-use Rattle.mesh_nodes.specs.LocalNodes.{is_neighbour}
 use Rattle.mesh_rules.specs.Changes.{Answer}
 use Rattle.mesh_rules.specs.Events.{on_first_item}
 use Rattle.mesh_rules.specs.LocalNodes.{local_node}
@@ -18,7 +16,7 @@ use Rattle.mesh_rules.specs.Messages.{on_message}
 use Rattle.mesh_rules.specs.Orders.{on_tick}
 use Rattle.world_core.specs.Frames.{Content, Message}
 use Rattle.world_core.specs.Worlds.{World, commit, delivered, frame_at, handed_up, handled, hops_ticked, taken, with_event}
-use Rattle.world_core.specs.Runs.{is_channel, is_event_of, posted, step, without_item}
+use Rattle.world_core.specs.Runs.{posted, step, without_item}
 use Rattle.world_core.specs.Standing.{ChannelsJoinNeighbours, IsUntouched, OthersAreUntouched}
 use Rattle.world_core.proofs.Sent.{turned}
 
@@ -52,7 +50,7 @@ delivered_elsewhere t w d u (Some (Message p)) m e =
     (record { nodes = refl; ends = λ b. rw e refl; channels = λ b. rw e refl })
     (handled_elsewhere t (taken w d u p) d u (handed_up w d u p) m e)
 
-posted_elsewhere : (w : World) (c : Command) (m : ℕ) → IsUntouched w (posted w c) m
+pub posted_elsewhere : (w : World) (c : Command) (m : ℕ) → IsUntouched w (posted w c) m
 posted_elsewhere w (Setup n from to protected both via backup) m =
     same_nodes w (posted w (Setup n from to protected both via backup)) m refl refl refl
 posted_elsewhere w (Release n from) m = same_nodes w (posted w (Release n from)) m refl refl refl
