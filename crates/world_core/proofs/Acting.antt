@@ -52,7 +52,8 @@ others-left t w (world.Deliver d u k) n m of other = record {
 }
 others-left t w (world.Noise d u bytes) n m of other =
     record { desk = refl; made = uncounted w d.0 m (differs d.0 n m of other) }
-others-left t w (world.Tick d) n m of other = record { desk = refl; made = uncounted w d.0 m (differs d.0 n m of other) }
+others-left t w (world.Tick d) n m of other =
+    record { desk = refl; made = uncounted w d.0 m (differs d.0 n m of other) }
 others-left t w (world.Desk d) n m of other = record {
   desk = ap (λ b. cond b (drop 1 (w.desks m)) (w.desks m)) (differs d.0 n m of other);
   made = uncounted w d.0 m (differs d.0 n m of other);
@@ -193,7 +194,8 @@ pub record IsSent (t : Network) (w : World) (u d : NodeId) (k : ℕ) (bytes : Li
 
 channel_false : (t : Network) (u d : NodeId) → is_node_id t.nodes u ≡ false → is_channel t u d ≡ false
 channel_false t u d h =
-    go (is_node_id t.nodes u) (is_node_id t.nodes d) (not (nat_eq u.0 d.0)) (list_any (λ l. are_ends l.low l.high u d) t.links) h
+    go (is_node_id t.nodes u) (is_node_id t.nodes d) (not (nat_eq u.0 d.0))
+    (list_any (λ l. are_ends l.low l.high u d) t.links) h
   where
     go : (a b c f : Bool) → a ≡ false → (a && b && c && f) ≡ false
     go true b c f h = absurd (cc (h))
@@ -220,11 +222,13 @@ channel-there t k w u d stands = go (find (is_at u.0) k.seats) refl
         let is = seat_of t k w u s stands e in
         is.1.channels d ∙ ap (λ (n : NodeId). is_channel t n d) is.0
 
-pub was-sent : (t : Network) (k : WorldState) (w : World) (u d : NodeId) (number : ℕ) (bytes : List ℕ) → StandsFor t k w →
+pub was-sent : (t : Network) (k : WorldState) (w : World) (u d : NodeId) (number : ℕ) (bytes : List ℕ) →
+    StandsFor t k w →
     frame_there k.seats u d number ≡ Some bytes → IsSent t w u d number bytes
 was-sent t k w u d number bytes stands e = go (find (is_at u.0) k.seats) refl e
   where
-    on_channel : (s : SeatState) → (s.node ≡ u) × SeatStands t w s → (o : Option ChannelState) → channel_to s.channels d.0 ≡ o →
+    on_channel : (s : SeatState) → (s.node ≡ u) × SeatStands t w s → (o : Option ChannelState) →
+        channel_to s.channels d.0 ≡ o →
         frame_on o number ≡ Some bytes → IsSent t w u d number bytes
     on_channel s is None e h = absurd (cc (h))
     on_channel s is (Some c) e h = record {
@@ -250,7 +254,8 @@ never-sent t k w u d number stands e = go (find (is_at u.0) k.seats) refl e
     right true b h = h
     right false b h = refl
 
-    on_channel : (s : SeatState) → (s.node ≡ u) × SeatStands t w s → (o : Option ChannelState) → channel_to s.channels d.0 ≡ o →
+    on_channel : (s : SeatState) → (s.node ≡ u) × SeatStands t w s → (o : Option ChannelState) →
+        channel_to s.channels d.0 ≡ o →
         frame_on o number ≡ None → (is_channel t u d && is_some (frame_at w u d number)) ≡ false
     on_channel s is None e h =
         left (is_channel t u d) (is_some (frame_at w u d number))
@@ -286,7 +291,10 @@ refused t k w n a stands unable can = go (position (is_able n.0) k.seats) refl
     go None at = cannot-act t k w n stands at
     go (Some i) at =
         let first = is-first (is_able n.0) k.seats i at in
-        absurd (cc (can first.item (acting t k w n i first.item stands at first.there), unable i first.item at first.there))
+        absurd (cc (
+          can first.item (acting t k w n i first.item stands at first.there),
+          unable i first.item at first.there,
+        ))
 
 near : (t : Network) (w : World) (u d : NodeId) (s : SeatState) (bytes : List ℕ) → is_channel t u d ≡ true →
     IsActing t w d s → can_do s (act.Take u bytes) ≡ true
@@ -304,7 +312,8 @@ delivered-steps t k after d u number bytes e acted w stands =
     let is : IsActing t w d acted.seat = acting t k w d acted.place acted.seat stands acted.found acted.there in (
       three (may_act t w d) (is_channel t u d) (is_some (frame_at w u d number)) is.may sent.channel
           (ap is_some sent.frame.there),
-      acted-stands t k after w (world.Deliver d u number) d acted.place acted.seat acted.done.new stands (self_test d.0) is
+      acted-stands t k after w (world.Deliver d u number) d acted.place acted.seat acted.done.new stands
+          (self_test d.0) is
           acted.there acted.done.done.0.node
           (subst (λ (n : NodeId). SeatStands t (step t w (world.Deliver n u number)) acted.done.new) is.node
           (frame-stands t w acted.seat acted.done.new u number bytes sent.frame.content
@@ -315,10 +324,12 @@ delivered-steps t k after d u number bytes e acted w stands =
 pub undelivered : (t : Network) (k : WorldState) (d u : NodeId) (number : ℕ) → frame_there k.seats u d number ≡ None →
     IsDisabled t k (world.Deliver d u number)
 undelivered t k d u number none w stands on =
-    last_false (may_act t w d) (is_channel t u d) (is_some (frame_at w u d number)) (never-sent t k w u d number stands none) on
+    last_false (may_act t w d) (is_channel t u d) (is_some (frame_at w u d number))
+    (never-sent t k w u d number stands none) on
 
 pub not-taken : (t : Network) (k : WorldState) (d u : NodeId) (number : ℕ) (bytes : List ℕ) →
-    frame_there k.seats u d number ≡ Some bytes → IsUnable k d (act.Take u bytes) → IsDisabled t k (world.Deliver d u number)
+    frame_there k.seats u d number ≡ Some bytes → IsUnable k d (act.Take u bytes) →
+    IsDisabled t k (world.Deliver d u number)
 not-taken t k d u number bytes e unable w stands on =
     let sent : IsSent t w u d number bytes = was-sent t k w u d number bytes stands e in
     first_false (may_act t w d) (is_channel t u d) (is_some (frame_at w u d number))
@@ -335,7 +346,8 @@ noise-steps t k after d u bytes on nothing acted w stands =
       acted-stands t k after w (world.Noise d u bytes) d acted.place acted.seat acted.done.new stands (self_test d.0) is
           acted.there acted.done.done.0.node
           (subst (λ (n : NodeId). SeatStands t (step t w (world.Noise n u bytes)) acted.done.new) is.node
-          (noise-stands t w acted.seat acted.done.new u bytes nothing is.stands acted.done.done)) acted.done.seats acted.posted,
+          (noise-stands t w acted.seat acted.done.new u bytes nothing is.stands acted.done.done)) acted.done.seats
+          acted.posted,
     )
 
 second : (a b : Bool) → (a && b) ≡ true → b ≡ true
@@ -368,7 +380,8 @@ pub ticked-steps : (t : Network) (k after : WorldState) (n : NodeId) → HasActe
 ticked-steps t k after n acted w stands =
     let is : IsActing t w n acted.seat = acting t k w n acted.place acted.seat stands acted.found acted.there in (
       is.may,
-      acted-stands t k after w (world.Tick n) n acted.place acted.seat acted.done.new stands (self_test n.0) is acted.there
+      acted-stands t k after w (world.Tick n) n acted.place acted.seat acted.done.new stands
+          (self_test n.0) is acted.there
           acted.done.done.0.node
           (subst (λ (m : NodeId). SeatStands t (step t w (world.Tick m)) acted.done.new) is.node
           (tick-stands t w acted.seat acted.done.new is.stands acted.done.done)) acted.done.seats acted.posted,
@@ -385,7 +398,8 @@ handled-steps t k after n acted w stands =
     let is : IsActing t w n acted.seat = acting t k w n acted.place acted.seat stands acted.found acted.there in
     let items = sym acted.done.done.1 ∙ is.stands.desk ∙ ap (λ (m : NodeId). w.desks m.0) is.node in (
       rw is.may (sym (ap has_first items)),
-      acted-stands t k after w (world.Desk n) n acted.place acted.seat acted.done.new stands (self_test n.0) is acted.there
+      acted-stands t k after w (world.Desk n) n acted.place acted.seat acted.done.new stands
+          (self_test n.0) is acted.there
           acted.done.done.2.node
           (subst (λ (m : NodeId). SeatStands t (step t w (world.Desk m)) acted.done.new) is.node
           (handle-stands t w acted.seat acted.done.new is.stands acted.done.done)) acted.done.seats acted.posted,
@@ -393,7 +407,11 @@ handled-steps t k after n acted w stands =
 
 pub not-handled : (t : Network) (k : WorldState) (n : NodeId) → IsUnable k n act.Handle → IsDisabled t k (world.Desk n)
 not-handled t k n unable w stands on =
-    absurd (cc (parts.0, refused t k w n act.Handle stands unable (λ s is. ap has_first (is.stands.desk ∙ ap (λ (m : NodeId). w.desks m.0) is.node) ∙ parts.1)))
+    absurd (cc (
+      parts.0,
+      refused t k w n act.Handle stands unable
+          (λ s is. ap has_first (is.stands.desk ∙ ap (λ (m : NodeId). w.desks m.0) is.node) ∙ parts.1),
+    ))
   where
     parts : (may_act t w n ≡ true) × (has_first (w.desks n.0) ≡ true)
     parts = both_of (may_act t w n) (has_first (w.desks n.0)) on

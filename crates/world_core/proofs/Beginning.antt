@@ -43,7 +43,8 @@ at_start nodes (suc k) =
 
 rises : (t : Network) → IsTopology t → Rises 0 t.nodes
 rises t is =
-    rises-from 0 t.nodes (λ k below. subst (λ j. j < node_number (slice_get t.nodes k)) (at_start t.nodes k) (less _ _ (is.nodes k below)))
+    rises-from 0 t.nodes (λ k below. subst (λ j. j < node_number (slice_get t.nodes k)) (at_start t.nodes k)
+    (less _ _ (is.nodes k below)))
   where
     less : (a b : ℕ) → nat_lt a b ≡ true → a < b
     less a b h = grind arith

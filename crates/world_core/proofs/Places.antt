@@ -34,7 +34,8 @@ seat-there (s ∷ ss) (m ∷ ms) n e =
 
 -- What stays where one seat changes
 
-pub numbers-set : (seats : List SeatState) (i : ℕ) (s new : SeatState) → slice_get seats i ≡ Some s → new.node ≡ s.node →
+pub numbers-set : (seats : List SeatState) (i : ℕ) (s new : SeatState) → slice_get seats i ≡ Some s →
+    new.node ≡ s.node →
     numbers_of (set seats i new) ≡ numbers_of seats
 numbers-set [] i s new e same = absurd (cc (e))
 numbers-set (x ∷ xs) zero s new e same =
@@ -56,17 +57,20 @@ apart : (b c : Bool) → (not b && c) ≡ true → (b ≡ false) × (c ≡ true)
 apart true c h = absurd (cc (h))
 apart false c h = (refl, h)
 
-other_node : (seats : List SeatState) (n : ℕ) (i : ℕ) (s : SeatState) → list_any (λ y. nat_eq y n) (numbers_of seats) ≡ false →
+other_node : (seats : List SeatState) (n : ℕ) (i : ℕ) (s : SeatState) →
+    list_any (λ y. nat_eq y n) (numbers_of seats) ≡ false →
     slice_get seats i ≡ Some s → nat_eq s.node.0 n ≡ false
 other_node [] n i s none e = absurd (cc (e))
 other_node (x ∷ xs) n zero s none e =
     let here : x ≡ s = cc (e) in
-    subst (λ (y : SeatState). nat_eq y.node.0 n ≡ false) here (left (nat_eq x.node.0 n) (list_any (λ y. nat_eq y n) (numbers_of xs)) none)
+    subst (λ (y : SeatState). nat_eq y.node.0 n ≡ false) here
+    (left (nat_eq x.node.0 n) (list_any (λ y. nat_eq y n) (numbers_of xs)) none)
   where
     left : (b c : Bool) → (b || c) ≡ false → b ≡ false
     left true c h = absurd (cc (h))
     left false c h = refl
-other_node (x ∷ xs) n (suc i) s none e = other_node xs n i s (right (nat_eq x.node.0 n) (list_any (λ y. nat_eq y n) (numbers_of xs)) none) e
+other_node (x ∷ xs) n (suc i) s none e = other_node xs n i s
+    (right (nat_eq x.node.0 n) (list_any (λ y. nat_eq y n) (numbers_of xs)) none) e
   where
     right : (b c : Bool) → (b || c) ≡ false → c ≡ false
     right true c h = absurd (cc (h))
@@ -101,5 +105,7 @@ all-set P Q (x ∷ xs) zero s new e distinct all f here =
           (subst (λ (z : SeatState). list_any (λ y. nat_eq y z.node.0) (numbers_of xs) ≡ false) same parts.0) all.1,
     )
 all-set P Q (x ∷ xs) (suc i) s new e distinct all f here =
-    let parts = apart (list_any (λ y. nat_eq y x.node.0) (numbers_of xs)) (is_distinct (numbers_of xs)) distinct in
-    (f x (turned s.node.0 x.node.0 (other_node xs x.node.0 i s parts.0 e)) all.0, all-set P Q xs i s new e parts.1 all.1 f here)
+    let parts = apart (list_any (λ y. nat_eq y x.node.0) (numbers_of xs)) (is_distinct (numbers_of xs)) distinct in (
+      f x (turned s.node.0 x.node.0 (other_node xs x.node.0 i s parts.0 e)) all.0,
+      all-set P Q xs i s new e parts.1 all.1 f here,
+    )

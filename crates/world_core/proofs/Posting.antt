@@ -52,7 +52,8 @@ ingress-is-node : (t : Network) (c : Command) (n : NodeId) → is_valid t c ≡ 
 ingress-is-node t (Setup k from to protected both via backup) n valid e =
     let same : from ≡ n = cc (e) in
     subst (λ m. is_node_id t.nodes m ≡ true) same
-    (first (is_node_id t.nodes from) (is_node_id t.nodes to) (not (nat_eq from.0 to.0)) (is_given_route t from to via) (is_given_backup t from to protected via backup) valid)
+    (first (is_node_id t.nodes from) (is_node_id t.nodes to) (not (nat_eq from.0 to.0))
+    (is_given_route t from to via) (is_given_backup t from to protected via backup) valid)
   where
     first : (a b c d f : Bool) → (a && b && c && d && f) ≡ true → a ≡ true
     first true b c d f h = refl
@@ -96,7 +97,8 @@ given-stands t k after w c valid stands given = go (ingress_of c) refl given.sea
     numbers : after.posted ≡ (posted w c).posted
     numbers = given.posted ∙ ap (λ ns. ns ++ numbers_of c) stands.posted ∙ sym (numbers-posted w c)
 
-    go : (o : Option NodeId) → ingress_of c ≡ o → IsPutIf k.seats o (Order c) after.seats → StandsFor t after (posted w c)
+    go : (o : Option NodeId) → ingress_of c ≡ o → IsPutIf k.seats o (Order c) after.seats →
+        StandsFor t after (posted w c)
     go None e same = record {
       nodes = ap (map (λ (x : SeatState). x.node)) same ∙ stands.nodes;
       apart = ap (λ (xs : List SeatState). is_distinct (map (λ (x : SeatState). x.node.0) xs)) same ∙ stands.apart;
@@ -112,7 +114,8 @@ given-stands t k after w c valid stands given = go (ingress_of c) refl given.sea
       apart = ap (λ (xs : List SeatState). is_distinct (map (λ (x : SeatState). x.node.0) xs)) put.seats
           ∙ ap is_distinct (numbers-set k.seats put.place put.seat new put.there refl) ∙ stands.apart;
       seats = subst (AllByRecursion (SeatStands t (posted w c))) (sym put.seats)
-          (all-set (SeatStands t w) (SeatStands t (posted w c)) k.seats put.place put.seat new put.there stands.apart stands.seats other here);
+          (all-set (SeatStands t w) (SeatStands t (posted w c)) k.seats put.place put.seat new put.there stands.apart
+          stands.seats other here);
       nowhere = λ m none. nowhere_left t w c m.0 (elsewhere m.0 (not_it m none)) (stands.nowhere m none);
       posted = numbers;
     }
@@ -138,18 +141,25 @@ given-stands t k after w c valid stands given = go (ingress_of c) refl given.sea
             by : (b : Bool) → nat_eq m.0 n.0 ≡ b → b ≡ false
             by true h =
                 let is : m.0 ≡ n.0 = same_number m.0 n.0 h in
-                absurd (cc (none, subst (λ x. is_node_id t.nodes (record { 0 = x }) ≡ true) (sym is) (ingress-is-node t c n valid e)))
+                absurd (cc (
+                  none,
+                  subst (λ x. is_node_id t.nodes (record { 0 = x }) ≡ true) (sym is)
+                      (ingress-is-node t c n valid e),
+                ))
             by false h = refl
 
-        other : (x : SeatState) → nat_eq x.node.0 put.seat.node.0 ≡ false → SeatStands t w x → SeatStands t (posted w c) x
+        other : (x : SeatState) → nat_eq x.node.0 put.seat.node.0 ≡ false → SeatStands t w x →
+            SeatStands t (posted w c) x
         other x apart sits = seat_left t w c x (elsewhere x.node.0 (ap (nat_eq x.node.0) (sym node) ∙ apart)) sits
 
         here : SeatStands t (posted w c) new
         here =
             put-stands t w (posted w c) put.seat (Order c) (posted_elsewhere w c put.seat.node.0)
             (desks-posted w c put.seat.node.0 ∙ ap (λ o. desk_after w o (Order c) put.seat.node.0) e
-            ∙ ap (λ x. cond (nat_eq put.seat.node.0 x) (w.desks put.seat.node.0 ++ Order c ∷ []) (w.desks put.seat.node.0)) (sym node)
-            ∙ ap (λ b. cond b (w.desks put.seat.node.0 ++ Order c ∷ []) (w.desks put.seat.node.0)) (self_test put.seat.node.0))
+            ∙ ap (λ x. cond (nat_eq put.seat.node.0 x) (w.desks put.seat.node.0 ++ Order c ∷ [])
+            (w.desks put.seat.node.0)) (sym node)
+            ∙ ap (λ b. cond b (w.desks put.seat.node.0 ++ Order c ∷ []) (w.desks put.seat.node.0))
+            (self_test put.seat.node.0))
             (ap (λ (f : ℕ → ℕ). f put.seat.node.0) (made_posted w c))
             (all-get (SeatStands t w) k.seats put.place put.seat stands.seats put.there)
 
@@ -180,14 +190,19 @@ not-new t k c again w stands on =
 pub not-given : (t : Network) (k : WorldState) (c : Command) → is_valid t c ≡ true → IsForNobody k.seats c →
     IsDisabled t k (Post c)
 not-given t k c valid is w stands on =
-    absurd (cc (ap is_some (not-found (is_at is.node.0) k.seats is.nowhere), seat-there k.seats t.nodes is.node stands.nodes, ingress-is-node t c is.node valid is.ingress))
+    absurd (cc (
+      ap is_some (not-found (is_at is.node.0) k.seats is.nowhere),
+      seat-there k.seats t.nodes is.node stands.nodes,
+      ingress-is-node t c is.node valid is.ingress,
+    ))
 
 -- The place of the ingress
 
 pub place-within : (n : ℕ) (seats : List SeatState) (i : ℕ) → position (is_at n) seats ≡ Some i → i < length seats
 place-within n seats i at = (is-first (is_at n) seats i at).within
 
-pub is-put : (seats after : List SeatState) (n : NodeId) (item : DeskItem) (i : ℕ) → position (is_at n.0) seats ≡ Some i →
+pub is-put : (seats after : List SeatState) (n : NodeId) (item : DeskItem) (i : ℕ) →
+    position (is_at n.0) seats ≡ Some i →
     ((s : SeatState) → slice_get seats i ≡ Some s → after ≡ set seats i (with_item item s)) → IsPut seats n item after
 is-put seats after n item i at puts =
     let first = is-first (is_at n.0) seats i at in

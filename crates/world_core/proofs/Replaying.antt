@@ -7,7 +7,8 @@ use Rattle.world_core.specs.Replays.{HasStepped, IsDisabled, IsFirstDisabled, St
 use Rattle.world_core.specs.Runs.{IsEnabled, IsRun, after, step}
 use Rattle.world_core.specs.Worlds.{World, start}
 
-after-more : (t : Network) (es : List Event) (e : Event) (w : World) → after t w (es ++ e ∷ []) ≡ step t (after t w es) e
+after-more : (t : Network) (es : List Event) (e : Event) (w : World) →
+    after t w (es ++ e ∷ []) ≡ step t (after t w es) e
 after-more t [] e w = refl
 after-more t (x ∷ es) e w = after-more t es e (step t w x)
 

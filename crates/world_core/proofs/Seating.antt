@@ -77,7 +77,8 @@ stepped t w new s after x frames stands is =
         (found-passes (λ (y : ChannelState). nat_eq y.to.0 d.0) s.channels k there) in
         subst (λ (y : ChannelState). HasFrames s.node (new.channels s.node.0 d.0) y.frames) same
         (subst (λ contents. HasFrames s.node contents (after_frames frames k).frames) (sym (is.world.channels d.0))
-        (subst (λ fs. HasFrames s.node (with_packets (w.channels s.node.0 d.0) (packets d)) (after_frames fs k).frames) (sym sent)
+        (subst (λ fs. HasFrames s.node (with_packets (w.channels s.node.0 d.0) (packets d))
+        (after_frames fs k).frames) (sym sent)
         (has-sent s.node (w.channels s.node.0 d.0) k d.0 x.sendings to spelled (stands.frames d k there))))
       where
         packets : NodeId → List Packet
@@ -129,7 +130,8 @@ handle-stands t w s after stands done =
       node = done.2.node;
       world = subst (λ (p : LocalNode). IsStepOf w (step t w (world.Desk s.node)) s.node.0
           (handled p (meaning s.controller.node s.controller.adjacencies) done.0)) (sym stands.place)
-          (items-are-handled t w s.node done.0 after.desk (meaning s.controller.node s.controller.adjacencies) stands.stands
+          (items-are-handled t w s.node done.0 after.desk
+          (meaning s.controller.node s.controller.adjacencies) stands.stands
           (sym stands.desk ∙ done.1));
       desk = ap (drop 1) (sym done.1 ∙ stands.desk)
           ∙ sym (ap (λ b. cond b (drop 1 (w.desks s.node.0)) (w.desks s.node.0)) (self_test s.node.0));
@@ -169,7 +171,8 @@ frame-stands t w s after u k bytes (Message p) there bears stands done =
       node = done.0.node;
       world = subst (λ (m : LocalNode). IsStepOf w (step t w (world.Deliver s.node u k)) s.node.0
           (took m (meaning s.controller.node s.controller.adjacencies) u p)) (sym stands.place)
-          (deliveries-are-taken t w s.node u k p (meaning s.controller.node s.controller.adjacencies) stands.stands there);
+          (deliveries-are-taken t w s.node u k p (meaning s.controller.node s.controller.adjacencies) stands.stands
+          there);
       desk = done.1 ∙ stands.desk ∙ sym (desk_kept t (with_event w s.node.0) s.node u (frame_at w u s.node k) s.node.0);
       count = made_kept t (with_event w s.node.0) s.node u (frame_at w u s.node k) s.node.0 ∙ made_once w s.node;
     })
@@ -203,7 +206,8 @@ still-stands t w new s same desks made stands = record {
   made = stands.made ∙ sym made;
   desk = stands.desk ∙ sym desks;
   channels = stands.channels;
-  frames = λ d c found. subst (λ contents. HasFrames s.node contents c.frames) (sym (same.channels d.0)) (stands.frames d c found);
+  frames = λ d c found. subst (λ contents. HasFrames s.node contents c.frames) (sym (same.channels d.0))
+      (stands.frames d c found);
 }
 
 -- an item more on the desk, here and in the world
@@ -220,7 +224,8 @@ put-stands t w new s i same desks made stands = record {
   made = stands.made ∙ sym made;
   desk = ap (λ items. items ++ i ∷ []) stands.desk ∙ sym desks;
   channels = stands.channels;
-  frames = λ d c found. subst (λ contents. HasFrames s.node contents c.frames) (sym (same.channels d.0)) (stands.frames d c found);
+  frames = λ d c found. subst (λ contents. HasFrames s.node contents c.frames) (sym (same.channels d.0))
+      (stands.frames d c found);
 }
 
 -- A new seat

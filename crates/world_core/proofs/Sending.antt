@@ -57,19 +57,22 @@ frame-pushed f before after i at changes d = go (nat_eq d f.to.0) refl
 
     go : (b : Bool) → nat_eq d n ≡ b → channel_to after d ≡ option_map (after_frame f) (channel_to before d)
     go true e =
-        subst (λ k. channel_to after k ≡ option_map (after_frame f) (channel_to before k)) (sym (same_number d n e)) here
+        subst (λ k. channel_to after k ≡ option_map (after_frame f) (channel_to before k))
+        (sym (same_number d n e)) here
     go false e =
         let elsewhere : leads_to d first.item ≡ false = other first.item.to.0 d n first.passes e in
         ap (λ cs. channel_to cs d) is
         ∙ find_past (leads_to d) before i new first.item
         (ap (leads_to d) (get_or_from_slice_get before i first.item first.item first.there) ∙ elsewhere) elsewhere
         ∙ same_map (after_frame f) (channel_to before d) (λ c found.
-        ap (λ b. cond b (with_frame f.bytes c) c) (other c.to.0 n d (found-passes (leads_to d) before c found) (turned d n false e)))
+        ap (λ b. cond b (with_frame f.bytes c) c) (other c.to.0 n d (found-passes (leads_to d) before c found)
+        (turned d n false e)))
 
 -- no channel leads to the node
 pub frame-unsent : (f : Frame) (before : List ChannelState) → position (leads_to f.to.0) before ≡ None →
     AreSent (f ∷ []) before before
-frame-unsent f before none d = same_map (after_frame f) (channel_to before d) (λ c found. go c found (leads_to f.to.0 c) refl)
+frame-unsent f before none d = same_map (after_frame f) (channel_to before d)
+    (λ c found. go c found (leads_to f.to.0 c) refl)
   where
     go : (c : ChannelState) → channel_to before d ≡ Some c → (b : Bool) → leads_to f.to.0 c ≡ b →
         cond b (with_frame f.bytes c) c ≡ c
@@ -82,7 +85,8 @@ frame-unsent f before none d = same_map (after_frame f) (channel_to before d) (�
 pub sent-none : (channels : List ChannelState) → AreSent [] channels channels
 sent-none channels d = same_map (after_frames []) (channel_to channels d) (λ c found. refl)
 
-more : (fs : List Frame) (f : Frame) (c : ChannelState) → after_frames (fs ++ f ∷ []) c ≡ after_frame f (after_frames fs c)
+more : (fs : List Frame) (f : Frame) (c : ChannelState) →
+    after_frames (fs ++ f ∷ []) c ≡ after_frame f (after_frames fs c)
 more [] f c = refl
 more (g ∷ fs) f c = more fs f (after_frame g c)
 
@@ -125,7 +129,8 @@ frames-sent u (s ∷ ss) c = go (nat_eq s.to.0 c.to.0) refl (frames-sent u ss)
     packets false h = rw h refl
 
     go : (b : Bool) → nat_eq s.to.0 c.to.0 ≡ b →
-        ((k : ChannelState) → (after_frames (frames_to u ss) k).frames ≡ k.frames ++ bytes_from u (packets_to k.to.0 ss)) →
+        ((k : ChannelState) → (after_frames (frames_to u ss) k).frames ≡ k.frames ++
+        bytes_from u (packets_to k.to.0 ss)) →
         (after_frames (frames_to u ss) (cond (nat_eq c.to.0 s.to.0) (with_frame bytes c) c)).frames
         ≡ c.frames ++ bytes_from u (packets_to c.to.0 (s ∷ ss))
     go true e rest =
@@ -149,7 +154,8 @@ spelled-to u d (s ∷ ss) all = go (nat_eq s.to.0 d) (spelled-to u d ss all.1)
   where
     go : (b : Bool) → AllByRecursion (λ (c : Content). Bears (bytes_of u c) c) (map Message (packets_to d ss)) →
         AllByRecursion (λ (c : Content). Bears (bytes_of u c) c)
-        (map Message (map (λ (x : Sending). x.packet) (cond b (s ∷ filter (λ (x : Sending). nat_eq x.to.0 d) ss) (filter (λ (x : Sending). nat_eq x.to.0 d) ss))))
+        (map Message (map (λ (x : Sending). x.packet)
+        (cond b (s ∷ filter (λ (x : Sending). nat_eq x.to.0 d) ss) (filter (λ (x : Sending). nat_eq x.to.0 d) ss))))
     go true rest = (all.0, rest)
     go false rest = rest
 
@@ -160,7 +166,8 @@ has-sent u contents c d ss to all is = record {
   bytes = frames-sent u ss c ∙ ap (λ n. c.frames ++ bytes_from u (packets_to n ss)) to
       ∙ ap (λ fs. fs ++ bytes_from u (packets_to d ss)) is.bytes
       ∙ sym (map-append (bytes_of u) contents (map Message (packets_to d ss)));
-  spelled = both (λ (x : Content). Bears (bytes_of u x) x) contents (map Message (packets_to d ss)) is.spelled (spelled-to u d ss all);
+  spelled = both (λ (x : Content). Bears (bytes_of u x) x) contents (map Message (packets_to d ss)) is.spelled
+      (spelled-to u d ss all);
 }
 
 -- The frame with a number
@@ -177,7 +184,8 @@ later_number frames k =
     let past : nat_eq (suc k) 0 ≡ false = grind arith in
     ap (λ b. cond b None (slice_get frames (suc k - 1))) past ∙ ap (λ j. slice_get frames j) less
 
-all-at : (P : Content → Type 0) (xs : List Content) (i : ℕ) (x : Content) → AllByRecursion P xs → slice_get xs i ≡ Some x → P x
+all-at : (P : Content → Type 0) (xs : List Content) (i : ℕ) (x : Content) → AllByRecursion P xs →
+    slice_get xs i ≡ Some x → P x
 all-at P [] i x all e = absurd (cc (e))
 all-at P (y ∷ ys) zero x all e = let same : y ≡ x = cc (e) in subst P same all.0
 all-at P (y ∷ ys) (suc i) x all e = all-at P ys i x all.1 e
@@ -187,7 +195,8 @@ pub is-numbered : (u : NodeId) (contents : List Content) (frames : List (List �
 is-numbered u contents frames zero bytes is e = absurd (cc (e))
 is-numbered u contents frames (suc k) bytes is e =
     go (slice_get contents k) refl
-    (sym (slice_get-map (bytes_of u) contents k) ∙ ap (λ fs. slice_get fs k) (sym is.bytes) ∙ sym (later_number frames k) ∙ e)
+    (sym (slice_get-map (bytes_of u) contents k) ∙ ap (λ fs. slice_get fs k) (sym is.bytes) ∙
+    sym (later_number frames k) ∙ e)
   where
     go : (o : Option Content) → slice_get contents k ≡ o → option_map (bytes_of u) o ≡ Some bytes →
         IsNumbered contents (suc k) bytes
@@ -197,16 +206,19 @@ is-numbered u contents frames (suc k) bytes is e =
         record {
           content = x;
           there = at;
-          bears = subst (λ b. Bears b x) same (all-at (λ (y : Content). Bears (bytes_of u y) y) contents k x is.spelled at);
+          bears = subst (λ b. Bears b x) same (all-at (λ (y : Content). Bears (bytes_of u y) y) contents k x
+              is.spelled at);
         }
 
 -- and where there is none, the world has none
-pub not-numbered : (u : NodeId) (contents : List Content) (frames : List (List ℕ)) (k : ℕ) → HasFrames u contents frames →
+pub not-numbered : (u : NodeId) (contents : List Content) (frames : List (List ℕ)) (k : ℕ) →
+    HasFrames u contents frames →
     frame_numbered frames k ≡ None → is_some (numbered_at contents k) ≡ false
 not-numbered u contents frames zero is e = refl
 not-numbered u contents frames (suc k) is e =
     go (slice_get contents k)
-    (sym (slice_get-map (bytes_of u) contents k) ∙ ap (λ fs. slice_get fs k) (sym is.bytes) ∙ sym (later_number frames k) ∙ e)
+    (sym (slice_get-map (bytes_of u) contents k) ∙ ap (λ fs. slice_get fs k) (sym is.bytes) ∙
+    sym (later_number frames k) ∙ e)
   where
     go : (o : Option Content) → option_map (bytes_of u) o ≡ None → is_some o ≡ false
     go None h = refl
@@ -228,7 +240,8 @@ made_of q d (m ∷ ms) = go (q m.id) (nat_eq m.id.0 d.0) refl refl (made_of q d 
     never false = refl
 
     go : (b c : Bool) → q m.id ≡ b → nat_eq m.id.0 d.0 ≡ c → is_some (channel_to rest d.0) ≡ (is_node_id ms d && q d) →
-        is_some (channel_to (map new_channel (map (λ (k : NodeSpec). k.id) (cond b (m ∷ filter (λ (k : NodeSpec). q k.id) ms) (filter (λ (k : NodeSpec). q k.id) ms)))) d.0)
+        is_some (channel_to (map new_channel (map (λ (k : NodeSpec). k.id)
+        (cond b (m ∷ filter (λ (k : NodeSpec). q k.id) ms) (filter (λ (k : NodeSpec). q k.id) ms)))) d.0)
         ≡ ((c || is_node_id ms d) && q d)
     go true true t e later =
         let same : m.id.0 ≡ d.0 = same_number m.id.0 d.0 e in
@@ -244,7 +257,8 @@ pub new-there : (t : Network) (n d : NodeId) →
     is_some (channel_to (map new_channel (receivers t n)) d.0) ≡ is_channel t n d
 new-there t n d =
     made_of (λ k. is_channel t n k) d t.nodes
-    ∙ absorbed (is_node_id t.nodes n) (is_node_id t.nodes d) (not (nat_eq n.0 d.0)) (list_any (λ l. are_ends l.low l.high n d) t.links)
+    ∙ absorbed (is_node_id t.nodes n) (is_node_id t.nodes d) (not (nat_eq n.0 d.0))
+    (list_any (λ l. are_ends l.low l.high n d) t.links)
   where
     absorbed : (a b c e : Bool) → (b && (a && b && c && e)) ≡ (a && b && c && e)
     absorbed true true c e = refl
@@ -252,7 +266,8 @@ new-there t n d =
     absorbed false true c e = refl
     absorbed false false c e = refl
 
-pub new-frames : (us : List NodeId) (d : ℕ) (c : ChannelState) → channel_to (map new_channel us) d ≡ Some c → c.frames ≡ []
+pub new-frames : (us : List NodeId) (d : ℕ) (c : ChannelState) → channel_to (map new_channel us) d ≡ Some c →
+    c.frames ≡ []
 new-frames [] d c e = absurd (cc (e))
 new-frames (u ∷ us) d c e = go (nat_eq u.0 d) (new-frames us d c) e
   where

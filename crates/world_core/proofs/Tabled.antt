@@ -22,7 +22,8 @@ use Rattle.world_core.proofs.Places.{nodes_of, seat-there}
 -- Tables
 
 pub rows-are : {R : Type 0} (F : NodeId → NodeState → List R) (t : Network) (w : World) (seats : List SeatState)
-    (nodes : List NodeSpec) → nodes_of seats ≡ map (λ (m : NodeSpec). m.id) nodes → AllByRecursion (SeatStands t w) seats →
+    (nodes : List NodeSpec) → nodes_of seats ≡ map (λ (m : NodeSpec). m.id) nodes →
+    AllByRecursion (SeatStands t w) seats →
     flat_map (λ (s : SeatState). F s.controller.node.place.id s.controller.node.state) seats
     ≡ flat_map (λ (m : NodeSpec). F m.id (w.nodes m.id.0)) nodes
 rows-are F t w [] [] e all = refl
@@ -71,7 +72,8 @@ no-unacked (a ∷ xs) none d = go (nat_eq a.peer.0 d) (no-unacked xs (omega arit
     go true later = none_left a.hop.state.unacked (omega arith)
     go false later = later
 
-all-acked : (xs : List Adjacency) → AllByRecursion (λ (a : Adjacency). a.hop.state.unacked ≡ []) xs → unacknowledged xs ≡ 0
+all-acked : (xs : List Adjacency) → AllByRecursion (λ (a : Adjacency). a.hop.state.unacked ≡ []) xs →
+    unacknowledged xs ≡ 0
 all-acked [] all = refl
 all-acked (a ∷ xs) all =
     let none : length a.hop.state.unacked ≡ 0 = ap length all.0 in
@@ -99,7 +101,8 @@ seat_still t w s quiet stands =
     both_of true c h = (refl, h)
     both_of false c h = absurd (cc (h))
 
-still_at : (t : Network) (k : WorldState) (w : World) → StandsFor t k w → list_all is_quiet k.seats ≡ true → (n : NodeId) →
+still_at : (t : Network) (k : WorldState) (w : World) → StandsFor t k w → list_all is_quiet k.seats ≡ true →
+    (n : NodeId) →
     IsStill w n.0
 still_at t k w stands quiet n = go (find (is_at n.0) k.seats) refl
   where
@@ -109,10 +112,12 @@ still_at t k w stands quiet n = go (find (is_at n.0) k.seats) refl
         record { desk = is.desk; hops = is.hops }
     go (Some s) e =
         let sits = found-has (is_at n.0) (SeatStands t w) k.seats s stands.seats e in
-        let rests = found-has (is_at n.0) (λ (x : SeatState). is_quiet x ≡ true) k.seats s (all_pass is_quiet k.seats quiet) e in
+        let rests = found-has (is_at n.0) (λ (x : SeatState). is_quiet x ≡ true) k.seats s
+        (all_pass is_quiet k.seats quiet) e in
         subst (IsStill w) (same_number s.node.0 n.0 sits.0) (seat_still t w s rests.1 sits.1)
 
-pub quiet-is : (t : Network) (k : WorldState) (w : World) → StandsFor t k w → list_all is_quiet k.seats ≡ true → IsQuiet w
+pub quiet-is : (t : Network) (k : WorldState) (w : World) → StandsFor t k w → list_all is_quiet k.seats ≡ true →
+    IsQuiet w
 quiet-is t k w stands quiet = record {
   desks = λ n. (still_at t k w stands quiet (record { 0 = n })).desk;
   hops = λ u d. (still_at t k w stands quiet (record { 0 = u })).hops d;
@@ -132,7 +137,8 @@ seat_quiet t w s quiet stands =
         each-to_neighbour (λ h. h.unacked ≡ []) (local_node t s.node) s.controller.adjacencies stands.hops refl
         (λ d. ap (λ (h : HopState). h.unacked) (stands.stands.hops d) ∙ quiet.hops s.node.0 d)
 
-pub is-quiet : (t : Network) (k : WorldState) (w : World) → StandsFor t k w → IsQuiet w → list_all is_quiet k.seats ≡ true
+pub is-quiet : (t : Network) (k : WorldState) (w : World) → StandsFor t k w → IsQuiet w →
+    list_all is_quiet k.seats ≡ true
 is-quiet t k w stands quiet = pass_all is_quiet k.seats (go k.seats stands.seats)
   where
     go : (seats : List SeatState) → AllByRecursion (SeatStands t w) seats →

@@ -72,7 +72,8 @@ fn place_of(channels: &[Channel], n: NodeId) -> Option<usize>
 
 fn push_at(channels: &mut Vec<Channel>, place: usize, frame: Bytes) -> Result<(), OutOfMemory>
     requires { place < length channels.old.items }
-    ensures { OnOk result (IsChangedAt channels.old.items place (with_frame frame) channels.new.items) }
+    ensures { OnOk result
+        (IsChangedAt channels.old.items place (with_frame frame) channels.new.items) }
 {
     let channel = &mut channels[place];
     channel.push(frame)

@@ -31,7 +31,8 @@ impl From<OutOfMemory> for ReplayError {
 pub fn replay(alloc: Global, t: &Topology, events: &[Event]) -> Result<World, ReplayError>
     ensures run { IfOk result (λ w. IsRun t.now start events.now) }
     ensures last { IfOk result (λ w. StandsFor t.now w (after t.now start events.now)) }
-    ensures not_run { IfErr result (λ e. (i : ℕ) → e ≡ ReplayError.NotRun i → IsFirstDisabled t.now events.now i) }
+    ensures not_run { IfErr result
+        (λ e. (i : ℕ) → e ≡ ReplayError.NotRun i → IsFirstDisabled t.now events.now i) }
 {
     let mut world = World::new(alloc, t)?;
     for (place, event) in events.iter().enumerate() {

@@ -78,7 +78,8 @@ impl Seat {
     fn take(&mut self, from: NodeId, bytes: Bytes) -> Result<(), Fault>
         requires { self.old.controller.steps < 50000 }
         ensures done { OnOk result (HasDone self.old (Act.Take from bytes) self.new) }
-        ensures refused { IfErr result (λ f. f ≡ Fault.NotEnabled → can_do self.old (Act.Take from bytes) ≡ false) }
+        ensures refused { IfErr result
+            (λ f. f ≡ Fault.NotEnabled → can_do self.old (Act.Take from bytes) ≡ false) }
     {
         if !self.controller.has_neighbour(from) {
             return Err(Fault::NotEnabled);
@@ -98,8 +99,10 @@ impl Seat {
 
     // Takes the first item of the desk.
     fn pop(&mut self) -> Option<DeskItem>
-        ensures item { MatchOption result (self.old.desk ≡ []) (λ i. self.old.desk ≡ i ∷ self.new.desk) }
-        ensures rest { (self.new.node ≡ self.old.node) × (self.new.controller ≡ self.old.controller) × (self.new.channels ≡ self.old.channels) }
+        ensures item { MatchOption result (self.old.desk ≡ [])
+            (λ i. self.old.desk ≡ i ∷ self.new.desk) }
+        ensures rest { (self.new.node ≡ self.old.node) ×
+            (self.new.controller ≡ self.old.controller) × (self.new.channels ≡ self.old.channels) }
     {
         self.desk.pop_front()
     }
@@ -107,7 +110,8 @@ impl Seat {
     fn handle(&mut self) -> Result<(), Fault>
         requires { self.old.controller.steps < 50000 }
         ensures done { OnOk result (HasDone self.old Act.Handle self.new) }
-        ensures refused { IfErr result (λ f. f ≡ Fault.NotEnabled → can_do self.old Act.Handle ≡ false) }
+        ensures refused { IfErr result
+            (λ f. f ≡ Fault.NotEnabled → can_do self.old Act.Handle ≡ false) }
     {
         match self.pop() {
             None => Err(Fault::NotEnabled),
@@ -155,8 +159,12 @@ impl Seat {
 
     /// What a table shows of the node.
     pub(crate) fn rows(&self, alloc: Global) -> Result<TableRows, OutOfMemory>
-        ensures calls { IfOk result (λ rows. rows.calls ≡ call_rows self.now.controller.node.place.id self.now.controller.node.state) }
-        ensures legs { IfOk result (λ rows. rows.legs ≡ leg_rows self.now.controller.node.place.id self.now.controller.node.state) }
+        ensures calls { IfOk result
+            (λ rows. rows.calls ≡
+            call_rows self.now.controller.node.place.id self.now.controller.node.state) }
+        ensures legs { IfOk result
+            (λ rows. rows.legs ≡
+            leg_rows self.now.controller.node.place.id self.now.controller.node.state) }
     {
         self.controller.rows(alloc)
     }

@@ -42,9 +42,13 @@ pub(crate) fn able_place(seats: &[Seat], n: NodeId) -> Option<usize>
 /// The node at this place does this, where it can be done.
 pub(crate) fn act_at(seats: &mut Vec<Seat>, place: usize, act: Act) -> Result<(), Fault>
     requires within { place < length seats.old.items }
-    requires few { (s : SeatState) → slice_get seats.old.items place ≡ Some s → s.controller.steps < 50000 }
-    ensures done { OnOk result ((s : SeatState) → slice_get seats.old.items place ≡ Some s → HasDoneAt seats.old.items place s act seats.new.items) }
-    ensures refused { IfErr result (λ f. f ≡ Fault.NotEnabled → (s : SeatState) → slice_get seats.old.items place ≡ Some s → can_do s act ≡ false) }
+    requires few { (s : SeatState) → slice_get seats.old.items place ≡ Some s →
+        s.controller.steps < 50000 }
+    ensures done { OnOk result ((s : SeatState) → slice_get seats.old.items place ≡ Some s →
+        HasDoneAt seats.old.items place s act seats.new.items) }
+    ensures refused { IfErr result
+        (λ f. f ≡ Fault.NotEnabled → (s : SeatState) → slice_get seats.old.items place ≡ Some s →
+        can_do s act ≡ false) }
 {
     let seat = &mut seats[place];
     seat.act(act)
@@ -53,7 +57,8 @@ pub(crate) fn act_at(seats: &mut Vec<Seat>, place: usize, act: Act) -> Result<()
 /// Puts an item on the desk at this place.
 pub(crate) fn put_at(seats: &mut Vec<Seat>, place: usize, item: DeskItem) -> Result<(), OutOfMemory>
     requires { place < length seats.old.items }
-    ensures { OnOk result ((s : SeatState) → slice_get seats.old.items place ≡ Some s → seats.new.items ≡ slice_set seats.old.items place (with_item item s)) }
+    ensures { OnOk result ((s : SeatState) → slice_get seats.old.items place ≡ Some s →
+        seats.new.items ≡ slice_set seats.old.items place (with_item item s)) }
 {
     let seat = &mut seats[place];
     seat.put(item)
@@ -87,8 +92,12 @@ pub(crate) fn frame_there(seats: &[Seat], u: NodeId, d: NodeId, number: u64) -> 
 
 /// What a table shows of each node, one after the other.
 pub(crate) fn rows_of(alloc: Global, seats: &[Seat]) -> Result<TableRows, OutOfMemory>
-    ensures calls { IfOk result (λ rows. rows.calls ≡ flat_map (λ s. call_rows s.controller.node.place.id s.controller.node.state) seats.now) }
-    ensures legs { IfOk result (λ rows. rows.legs ≡ flat_map (λ s. leg_rows s.controller.node.place.id s.controller.node.state) seats.now) }
+    ensures calls { IfOk result
+        (λ rows. rows.calls ≡ flat_map
+        (λ s. call_rows s.controller.node.place.id s.controller.node.state) seats.now) }
+    ensures legs { IfOk result
+        (λ rows. rows.legs ≡ flat_map
+        (λ s. leg_rows s.controller.node.place.id s.controller.node.state) seats.now) }
 {
     let mut calls = Vec::new(alloc);
     let mut legs = Vec::new(alloc);

@@ -99,8 +99,10 @@ impl World {
     }
 
     fn deliver(&mut self, alloc: Global, to: NodeId, from: NodeId, number: u64) -> Result<(), Fault>
-        ensures done { OnOk result ((t : Network) → HasStepped t self.old (Event.Deliver to from number) self.new) }
-        ensures refused { IsRefused result ((t : Network) → IsDisabled t self.old (Event.Deliver to from number)) }
+        ensures done { OnOk result
+            ((t : Network) → HasStepped t self.old (Event.Deliver to from number) self.new) }
+        ensures refused { IsRefused result
+            ((t : Network) → IsDisabled t self.old (Event.Deliver to from number)) }
     {
         match self.frame(alloc, from, to, number)? {
             None => Err(Fault::NotEnabled),
@@ -115,8 +117,10 @@ impl World {
         from: NodeId,
         bytes: &Bytes,
     ) -> Result<(), Fault>
-        ensures done { OnOk result ((t : Network) → HasStepped t self.old (Event.Noise to from bytes.now) self.new) }
-        ensures refused { IsRefused result ((t : Network) → IsDisabled t self.old (Event.Noise to from bytes.now)) }
+        ensures done { OnOk result
+            ((t : Network) → HasStepped t self.old (Event.Noise to from bytes.now) self.new) }
+        ensures refused { IsRefused result
+            ((t : Network) → IsDisabled t self.old (Event.Noise to from bytes.now)) }
     {
         if !is_channel_there(&self.seats, from, to) {
             return Err(Fault::NotEnabled);
@@ -129,15 +133,19 @@ impl World {
     }
 
     fn tick(&mut self, node: NodeId) -> Result<(), Fault>
-        ensures done { OnOk result ((t : Network) → HasStepped t self.old (Event.Tick node) self.new) }
-        ensures refused { IsRefused result ((t : Network) → IsDisabled t self.old (Event.Tick node)) }
+        ensures done { OnOk result
+            ((t : Network) → HasStepped t self.old (Event.Tick node) self.new) }
+        ensures refused { IsRefused result
+            ((t : Network) → IsDisabled t self.old (Event.Tick node)) }
     {
         self.act(node, Act::Tick)
     }
 
     fn handle(&mut self, node: NodeId) -> Result<(), Fault>
-        ensures done { OnOk result ((t : Network) → HasStepped t self.old (Event.Desk node) self.new) }
-        ensures refused { IsRefused result ((t : Network) → IsDisabled t self.old (Event.Desk node)) }
+        ensures done { OnOk result
+            ((t : Network) → HasStepped t self.old (Event.Desk node) self.new) }
+        ensures refused { IsRefused result
+            ((t : Network) → IsDisabled t self.old (Event.Desk node)) }
     {
         self.act(node, Act::Handle)
     }
@@ -160,7 +168,8 @@ impl World {
 
     // A call's command goes to the desk of its ingress.
     fn order(&mut self, alloc: Global, command: &Command) -> Result<(), Fault>
-        ensures done { OnOk result (IsPutIf self.old.seats (ingress_of command.now) (Order command.now) self.new.seats) }
+        ensures done { OnOk result
+            (IsPutIf self.old.seats (ingress_of command.now) (Order command.now) self.new.seats) }
         ensures refused { IsRefused result (IsForNobody self.old.seats command.now) }
         ensures posted { self.new.posted ≡ self.old.posted }
     {

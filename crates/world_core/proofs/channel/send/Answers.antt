@@ -15,4 +15,5 @@ returns-in-Some c =
     let at : position (leads_to c.args.frame.to.0) c.args.channels.now.items ≡ Some c.in-Some.place =
     ap (position (leads_to c.args.frame.to.0)) (sym c.deref.ensures.value) ∙ sym c.in-Some.ensures in
     on-ok c.push_at.result _ _
-    (frame-pushed c.args.frame c.args.channels.now.items c.push_at.new.channels.items c.in-Some.place at) c.push_at.ensures
+    (frame-pushed c.args.frame c.args.channels.now.items c.push_at.new.channels.items c.in-Some.place at)
+    c.push_at.ensures

@@ -11,5 +11,6 @@ returns-in-Err-NotEnabled-clause-not_run c i e =
 
 pub loop-place-preserved : goal.loop-place-preserved
 loop-place-preserved c =
-    run-next c.args.t.now c.args.events.now c.loop-place.place c.index-events-place.result c.loop-place.world c.step.new.self
+    run-next c.args.t.now c.args.events.now c.loop-place.place c.index-events-place.result c.loop-place.world
+    c.step.new.self
     c.loop-place-test.true c.index-events-place.is c.loop-place.invariant c.in-Ok.ensures.done

@@ -4,5 +4,6 @@ use Rattle.world_core.proofs.seats.new_seats.Goals as goal
 
 pub new-requires : goal.new-requires
 new-requires c =
-    node-found c.args.t.now c.nodes-m-items.result.now c.loop-m.m-index (record { id = record { 0 = 0 }; convert = false })
+    node-found c.args.t.now c.nodes-m-items.result.now c.loop-m.m-index
+    (record { id = record { 0 = 0 }; convert = false })
     c.nodes-m-items.ensures.list c.loop-m-test.true

@@ -4,7 +4,8 @@ use Rattle.world_core.proofs.world.World.handle.Goals as goal
 
 pub returns-clause-done : goal.returns-clause-done
 returns-clause-done c =
-    on-ok c.act.result _ _ (λ acted t. handled-steps t c.args.self.now c.act.new.self c.args.node acted) c.act.ensures.done
+    on-ok c.act.result _ _ (λ acted t. handled-steps t c.args.self.now c.act.new.self c.args.node acted)
+    c.act.ensures.done
 
 pub returns-clause-refused : goal.returns-clause-refused
 returns-clause-refused c =

@@ -11,7 +11,8 @@ pub returns-then-not-is_channel_there-clause-refused : goal.returns-then-not-is_
 returns-then-not-is_channel_there-clause-refused c e t =
     let there : is_channel_there c.args.self.now.seats c.args.from c.args.to ≡ c.is_channel_there.result =
     ap (λ (k : WorldState). is_channel_there k.seats c.args.from c.args.to) (sym c.self.view_is)
-    ∙ ap (λ seats. is_channel_there seats c.args.from c.args.to) (sym c.deref.ensures.value) ∙ sym c.is_channel_there.ensures in
+    ∙ ap (λ seats. is_channel_there seats c.args.from c.args.to) (sym c.deref.ensures.value) ∙
+    sym c.is_channel_there.ensures in
     let none : c.is_channel_there.result ≡ false = grind (arith, c.if-not-is_channel_there.true) in
     no-channel t c.args.self.now c.args.to c.args.from c.args.bytes.now (there ∙ none)
 
@@ -25,20 +26,23 @@ pub returns-clause-done : goal.returns-clause-done
 returns-clause-done c =
     let there : is_channel_there c.args.self.now.seats c.args.from c.args.to ≡ c.is_channel_there.result =
     ap (λ (k : WorldState). is_channel_there k.seats c.args.from c.args.to) (sym c.self.view_is)
-    ∙ ap (λ seats. is_channel_there seats c.args.from c.args.to) (sym c.deref.ensures.value) ∙ sym c.is_channel_there.ensures in
+    ∙ ap (λ seats. is_channel_there seats c.args.from c.args.to) (sym c.deref.ensures.value) ∙
+    sym c.is_channel_there.ensures in
     let on : c.is_channel_there.result ≡ true = grind (arith, c.if-not-is_channel_there.false) in
     let yes : c.in_ok-spells_nothing.field-0 ≡ true = grind (arith, c.if-not-branch.false) in
     on-ok c.act.result _ _
     (λ acted t. noise-steps t c.args.self.now c.act.new.self c.args.to c.args.from c.args.bytes.now (there ∙ on)
     (subst SpellsNothing c.items.ensures (c.in_ok-spells_nothing.ensures.nothing yes))
-    (subst (λ bytes. HasActed c.args.self.now c.args.to (Take c.args.from bytes) c.act.new.self) c.in_ok-bytes.ensures acted))
+    (subst (λ bytes. HasActed c.args.self.now c.args.to (Take c.args.from bytes) c.act.new.self)
+    c.in_ok-bytes.ensures acted))
     c.act.ensures.done
 
 pub returns-clause-refused : goal.returns-clause-refused
 returns-clause-refused c =
     let there : is_channel_there c.args.self.now.seats c.args.from c.args.to ≡ c.is_channel_there.result =
     ap (λ (k : WorldState). is_channel_there k.seats c.args.from c.args.to) (sym c.self.view_is)
-    ∙ ap (λ seats. is_channel_there seats c.args.from c.args.to) (sym c.deref.ensures.value) ∙ sym c.is_channel_there.ensures in
+    ∙ ap (λ seats. is_channel_there seats c.args.from c.args.to) (sym c.deref.ensures.value) ∙
+    sym c.is_channel_there.ensures in
     let on : c.is_channel_there.result ≡ true = grind (arith, c.if-not-is_channel_there.false) in
     if-err c.act.result _ _
     (λ f unable e t. not-heard t c.args.self.now c.args.to c.args.from c.args.bytes.now (there ∙ on)

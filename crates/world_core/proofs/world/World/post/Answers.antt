@@ -10,7 +10,8 @@ returns-clause-done c =
     let yes : c.is_valid.result ≡ true = grind (arith, c.if-not-is_valid.false) in
     let fresh : is_again c.args.self.now.posted c.args.command.now ≡ false =
     ap (λ (k : WorldState). is_again k.posted c.args.command.now) (sym c.self.view_is)
-    ∙ ap (λ ns. is_again ns c.args.command.now) (sym c.deref.ensures.value) ∙ sym c.is_again.ensures ∙ c.if-is_again.false in
+    ∙ ap (λ ns. is_again ns c.args.command.now) (sym c.deref.ensures.value) ∙ sym c.is_again.ensures ∙
+    c.if-is_again.false in
     on-ok c.give.result _ _
     (posted-steps c.args.t.now c.args.self.now c.give.new.self c.args.command.now (sym c.is_valid.ensures ∙ yes) fresh)
     c.give.ensures.done

@@ -11,7 +11,8 @@ returns-in_ok-put_at-in-Some-clause-done c =
     let seats = c.self.inside.seats.items in
     let at : position (is_at c.args.node.0) seats ≡ Some c.in-Some.place =
     ap (position (is_at c.args.node.0)) (sym c.deref.ensures.value) ∙ sym c.place_of.ensures ∙ c.in-Some.is in
-    subst (λ (k : WorldState). IsPut k.seats c.args.node (Order c.args.command.now) c.put_at.new.seats.items) c.self.view_is
+    subst (λ (k : WorldState). IsPut k.seats c.args.node (Order c.args.command.now) c.put_at.new.seats.items)
+    c.self.view_is
     (is-put seats c.put_at.new.seats.items c.args.node (Order c.args.command.now) c.in-Some.place at
     (λ s there. c.in_ok-put_at-in-Some.ensures s there
     ∙ ap (λ x. set seats c.in-Some.place (with_item (Order x) s)) c.in_ok-copy-in-Some.ensures))
