@@ -10,9 +10,8 @@ use Rattle.ason_base.specs.declared.commands.DeskItem.{DeskItem}
 use Rattle.ason_base.specs.declared.commands.DeskItem.TheVariants.{Order}
 use Rattle.ason_base.specs.declared.commands.Event.TheVariants.{Post}
 use Rattle.ason_base.specs.Network.{Network, is_node_id}
-use Rattle.ason_base.specs.Routes.{is_given_route}
 use Rattle.controller.specs.Controllers.{ControllerState}
-use Rattle.mesh_rules.specs.Commands.{is_again, is_given_backup, is_valid}
+use Rattle.mesh_rules.specs.Commands.{has_way, is_again, is_given_backup, is_valid}
 use Rattle.world_core.specs.Runs.{IsEnabled, posted, step}
 use Rattle.world_core.specs.Standing.{IsUntouched}
 use Rattle.world_core.specs.Worlds.{World}
@@ -80,7 +79,7 @@ valid_ingress : (t : Network) (c : Command) (n : NodeId) → ingress_of c ≡ So
 valid_ingress t (Setup k from to protected both via backup) n e h = let same : from ≡ n = cc (e) in
     subst (λ (x : NodeId). is_node_id t.nodes x ≡ true) same
     (first_of (is_node_id t.nodes from) (is_node_id t.nodes to) (not (nat_eq from.0 to.0))
-    (is_given_route t from to via)
+    (has_way t from to via)
     (is_given_backup t from to protected via backup) h)
 valid_ingress t (Release k from) n e h = let same : from ≡ n = cc (e) in
     subst (λ (x : NodeId). is_node_id t.nodes x ≡ true) same h

@@ -9,9 +9,8 @@ use Rattle.ason_base.specs.declared.commands.DeskItem.{DeskItem}
 use Rattle.ason_base.specs.declared.commands.DeskItem.TheVariants.{Order}
 use Rattle.ason_base.specs.declared.commands.Event.TheVariants.{Post}
 use Rattle.ason_base.specs.Network.{Network, is_distinct, is_node_id}
-use Rattle.ason_base.specs.Routes.{is_given_route}
 use Rattle.hop_reliable.specs.Schedules.{HopEnd}
-use Rattle.mesh_rules.specs.Commands.{is_again, is_given_backup, is_valid}
+use Rattle.mesh_rules.specs.Commands.{has_way, is_again, is_given_backup, is_valid}
 use Rattle.world_core.specs.Replays.{HasStepped, IsDisabled, IsForNobody, IsGiven, IsNowhere, IsPut, IsPutIf, StandsFor, WorldState, ingress_of, numbers_of}
 use Rattle.world_core.specs.Runs.{posted}
 use Rattle.world_core.specs.Seats.{SeatStands, SeatState, is_at, with_item}
@@ -53,7 +52,7 @@ ingress-is-node t (Setup k from to protected both via backup) n valid e =
     let same : from ≡ n = cc (e) in
     subst (λ m. is_node_id t.nodes m ≡ true) same
     (first (is_node_id t.nodes from) (is_node_id t.nodes to) (not (nat_eq from.0 to.0))
-    (is_given_route t from to via) (is_given_backup t from to protected via backup) valid)
+    (has_way t from to via) (is_given_backup t from to protected via backup) valid)
   where
     first : (a b c d f : Bool) → (a && b && c && d && f) ≡ true → a ≡ true
     first true b c d f h = refl
