@@ -1,7 +1,7 @@
 use Rattle.std.proofs.Common.{◌≡◌, ◌<◌, length, sym, subst}
 use Rattle.fleet.specs.Posts.{is_seat}
 use Rattle.fleet.specs.Standing.{FleetState}
-use Rattle.station.proofs.Results.{on-ok}
+use Rattle.ason_base.proofs.Results.{on_ok}
 use Rattle.station.proofs.Linking.{IsPlaced}
 use Rattle.fleet.specs.declared.seats.Seat.{Seat}
 use Rattle.fleet.proofs.Finding.{placed-at, seat-found, seat-lost}
@@ -23,7 +23,7 @@ returns-in-None-clause-on c t h s known =
 
 pub returns-in-Some-clause-on : goal.returns-in-Some-clause-on
 returns-in-Some-clause-on c =
-    on-ok c.order_at.result _ _
+    on_ok c.order_at.result _ _
     (λ done t h s known. record {
       place = c.in-Some.place;
       node = seat-found t c.args.self.now.seats c.args.node c.in-Some.place s.seats (sym c.in-Some.ensures);

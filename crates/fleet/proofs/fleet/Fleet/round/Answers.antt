@@ -1,5 +1,5 @@
 use Rattle.std.proofs.Common.{◌≡◌, ◌≤◌, ◌<◌, ◌+◌, length, sym, ◌∙◌, subst, arith}
-use Rattle.station.proofs.Results.{passed-on}
+use Rattle.ason_base.proofs.Results.{passed_on}
 use Rattle.station.specs.Histories.{History}
 use Rattle.fleet.specs.Standing.{StandsFor}
 use Rattle.fleet.proofs.Places.{IsThere}
@@ -45,7 +45,7 @@ returns-in_err-events-clause-stops c =
     let place = c.loop-place.place in
     let below : place < length f.stations = omega
     (arith, c.loop-place-test.true, c.count-count.ensures, c.loop-place.invariant.count) in
-    passed-on c.from_residual.result _ _
+    passed_on c.from_residual.result _ _
     (λ e same n is t h s.
     let now : StandsFor t f (part t h place) = c.loop-place.invariant.on t h s in
     let m : IsThere t.nodes place = node-at t (part t h place) f now place below in
