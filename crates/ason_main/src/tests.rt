@@ -52,6 +52,26 @@ ends = [\"b\", \"d\"]
 labels = 1
 ";
 
+// Three nodes in a row, with 80 labels on each link.
+const THREE: &str = "[[node]]
+name = \"n1\"
+id = 1
+[[node]]
+name = \"n2\"
+id = 2
+[[node]]
+name = \"n3\"
+id = 3
+[[link]]
+id = 1
+ends = [\"n1\", \"n2\"]
+labels = 80
+[[link]]
+id = 2
+ends = [\"n2\", \"n3\"]
+labels = 80
+";
+
 const LOOPED: &str = "[[node]]
 name = \"a\"
 id = 1
@@ -295,31 +315,30 @@ fn an_input_has_its_greatest_length(rt: HostRuntime) -> Result<(), Fail> {
     Ok(())
 }
 
-// Three nodes in a row, and calls from the first to the last, each set up and released before the next. The node
-// between takes the frames of both others, so it makes the most events.
+// Calls from the first node of a row of three to the last: 25 are set up at once, and released at once.
+fn push_calls(text: &mut String, group: u32) -> Result<(), OutOfMemory> {
+    for call in 0u32..25 {
+        write!(
+            text,
+            "\"setup c{group}-{call} n1 n3 unprotected via 1,2\",\n"
+        )?;
+    }
+    text.push_str("\"settle 1000\",\n")?;
+    for call in 0u32..25 {
+        write!(text, "\"release c{group}-{call}\",\n")?;
+    }
+    text.push_str("\"settle 1000\",\n")?;
+    Ok(())
+}
+
+// 4,075 calls. The node between takes the frames of both others, so it makes the most events.
 fn long_plan(alloc: Global) -> Result<Vec<u8>, OutOfMemory> {
     let mut text = "script = [\"show\",\n".to_string(alloc)?;
-    for call in 0u32..4000 {
-        write!(text, "\"setup c{call} n1 n3 unprotected via 1,2\",\n")?;
-        write!(
-            text,
-            "\"settle 1000\", \"release c{call}\", \"settle 1000\",\n"
-        )?;
+    for group in 0u32..163 {
+        push_calls(&mut text, group)?;
     }
     text.push_str("]\n")?;
-    for node in 1u32..4 {
-        write!(
-            text,
-            "[[node]]\nname = \"n{node}\"\nid = {node}\nconvert = true\n"
-        )?;
-    }
-    for link in 1u32..3 {
-        let next = link + 1;
-        write!(
-            text,
-            "[[link]]\nid = {link}\nends = [\"n{link}\", \"n{next}\"]\nlabels = 1\n"
-        )?;
-    }
+    text.push_str(THREE)?;
     let bytes = text.as_bytes().to_vec(alloc)?;
     Ok(bytes)
 }
