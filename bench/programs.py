@@ -18,14 +18,22 @@ def ason():
     return os.path.join(TOP, "crates", "ason_main", "out", "ason_main")
 
 
-def route_pairs():
-    """The path of the program of the crate `route_pairs`."""
-    folder = os.path.join(TOP, "crates", "route_pairs")
-    program = os.path.join(folder, "out", "route_pairs")
+def of_crate(name):
+    """The path of the program of a crate beside `ason_main`."""
+    folder = os.path.join(TOP, "crates", name)
+    program = os.path.join(folder, "out", name)
     if not os.access(program, os.X_OK):
-        print("route_pairs: building, which takes some minutes", file=sys.stderr)
+        print(f"{name}: building, which takes some minutes", file=sys.stderr)
         quiet = {"stdin": subprocess.DEVNULL, "stdout": subprocess.DEVNULL, "stderr": subprocess.DEVNULL}
         subprocess.run(["rt", "run"], cwd=folder, check=False, **quiet)
     if not os.access(program, os.X_OK):
         sys.exit(f"{program} can't be built: rt run in {folder} shows why")
     return program
+
+
+def route_pairs():
+    return of_crate("route_pairs")
+
+
+def flood_rows():
+    return of_crate("flood_rows")

@@ -56,7 +56,8 @@ filter-agree p q (x ∷ xs) agree =
 pub filter-filter : (p q : ℕ → Bool) (xs : List ℕ) → filter q (filter p xs) ≡ filter (λ l. p l && q l) xs
 filter-filter p q [] = refl
 filter-filter p q (x ∷ xs) =
-    elim (p x) as (λ b. filter q (cond b (x ∷ filter p xs) (filter p xs)) ≡ cond (b && q x) (x ∷ filter (λ l. p l && q l) xs) (filter (λ l. p l && q l) xs)) [
+    elim (p x) as (λ b. filter q (cond b (x ∷ filter p xs) (filter p xs)) ≡ cond (b && q x)
+    (x ∷ filter (λ l. p l && q l) xs) (filter (λ l. p l && q l) xs)) [
       | true ↦ rw (filter-filter p q xs) refl
       | false ↦ filter-filter p q xs
     ]
@@ -76,38 +77,47 @@ pub has-bound : (n first l : ℕ) → has (numbers_from first n) l ≡ true → 
 unfolding numbers_from
 has-bound zero first l h = cc
 has-bound (suc n) first l h =
-    elim (nat_eq first l) as (λ b. nat_eq first l ≡ b → (b || has (numbers_from (first + 1) n) l) ≡ true → l < first + suc n) [
+    elim (nat_eq first l) as (λ b. nat_eq first l ≡ b → (b || has (numbers_from (first + 1) n) l) ≡ true →
+    l < first + suc n) [
       | true ↦ λ e f. grind arith
       | false ↦ λ e f. let above : l < first + 1 + n = has-bound n (first + 1) l f in omega arith
     ] refl h
 
 -- of a run of numbers just the first n pass
-filter-front : (p : ℕ → Bool) (first n count : ℕ) → ((k : ℕ) → first ≤ k → k < first + n → p k ≡ true) → ((k : ℕ) → first + n ≤ k → p k ≡ false) → n ≤ count → filter p (numbers_from first count) ≡ numbers_from first n
+filter-front : (p : ℕ → Bool) (first n count : ℕ) → ((k : ℕ) → first ≤ k → k < first + n → p k ≡ true) →
+    ((k : ℕ) → first + n ≤ k → p k ≡ false) → n ≤ count → filter p (numbers_from first count) ≡ numbers_from first n
 unfolding numbers_from
 filter-front p first zero zero pass fail within = refl
 filter-front p first zero (suc count) pass fail within =
-    rw (fail first (omega arith)) (filter-front p (first + 1) zero count (λ k a b. absurd (omega arith)) (λ k a. fail k (omega arith)) (omega arith))
+    rw (fail first (omega arith)) (filter-front p (first + 1) zero count (λ k a b. absurd (omega arith))
+    (λ k a. fail k (omega arith)) (omega arith))
 filter-front p first (suc n) zero pass fail within = absurd (omega arith)
 filter-front p first (suc n) (suc count) pass fail within =
     rw (pass first (omega arith) (omega arith))
-    (ap (λ xs. first ∷ xs) (filter-front p (first + 1) n count (λ k a b. pass k (omega arith) (omega arith)) (λ k a. fail k (omega arith)) (omega arith)))
+    (ap (λ xs. first ∷ xs) (filter-front p (first + 1) n count (λ k a b. pass k (omega arith) (omega arith))
+    (λ k a. fail k (omega arith)) (omega arith)))
 
 -- the first number that passes stands at the front
-first-passes : (p : ℕ → Bool) (first count n : ℕ) → ((k : ℕ) → first ≤ k → k < n → p k ≡ false) → p n ≡ true → first ≤ n → n < first + count → slice_get (filter p (numbers_from first count)) 0 ≡ Some n
+first-passes : (p : ℕ → Bool) (first count n : ℕ) → ((k : ℕ) → first ≤ k → k < n → p k ≡ false) → p n ≡ true →
+    first ≤ n → n < first + count → slice_get (filter p (numbers_from first count)) 0 ≡ Some n
 unfolding numbers_from
 first-passes p first zero n before here low high = absurd (omega arith)
 first-passes p first (suc count) n before here low high =
-    elim (nat_eq first n) as (λ b. nat_eq first n ≡ b → slice_get (cond (p first) (first ∷ filter p (numbers_from (first + 1) count)) (filter p (numbers_from (first + 1) count))) 0 ≡ Some n) [
+    elim (nat_eq first n) as (λ b. nat_eq first n ≡ b →
+    slice_get (cond (p first) (first ∷ filter p (numbers_from (first + 1) count))
+    (filter p (numbers_from (first + 1) count))) 0 ≡ Some n) [
       | true ↦ λ e. let same : first ≡ n = grind arith in rw (same, here) refl
       | false ↦ λ e. let apart : first ≢ n = grind arith in
           rw (before first (omega arith) (omega arith))
           (first-passes p (first + 1) count n (λ k a b. before k (omega arith) b) here (omega arith) (omega arith))
     ] refl
 
-nothing-passes : (p : ℕ → Bool) (n first : ℕ) → ((k : ℕ) → first ≤ k → k < first + n → p k ≡ false) → filter p (numbers_from first n) ≡ []
+nothing-passes : (p : ℕ → Bool) (n first : ℕ) → ((k : ℕ) → first ≤ k → k < first + n → p k ≡ false) →
+    filter p (numbers_from first n) ≡ []
 unfolding numbers_from
 nothing-passes p zero first fail = refl
-nothing-passes p (suc n) first fail = rw (fail first (omega arith) (omega arith)) (nothing-passes p n (first + 1) (λ k a b. fail k (omega arith) (omega arith)))
+nothing-passes p (suc n) first fail = rw (fail first (omega arith) (omega arith))
+    (nothing-passes p n (first + 1) (λ k a b. fail k (omega arith) (omega arith)))
 
 -- Masks
 
@@ -121,7 +131,8 @@ members-zero = filter-none (is_marked 0) (up_to 80) (λ k. rw (bit_at-zero k) re
 
 pub has-members : (mask l : ℕ) → 1 ≤ l → l ≤ 80 → has (members mask) l ≡ is_marked mask l
 unfolding members
-has-members mask l low high = has-filter (is_marked mask) (up_to 80) l ∙ ap (λ b. b && is_marked mask l) (has-numbers 80 1 l low (omega arith))
+has-members mask l low high = has-filter (is_marked mask) (up_to 80) l ∙
+    ap (λ b. b && is_marked mask l) (has-numbers 80 1 l low (omega arith))
 
 has-low : (n first l : ℕ) → has (numbers_from first n) l ≡ true → first ≤ l
 unfolding numbers_from
@@ -156,23 +167,31 @@ members-and a b =
     (λ l h. marked-and a b l ∙ ap (λ t. is_marked a l && t) (sym (has-filter (is_marked b) (up_to 80) l ∙ rw h refl)))
     ∙ sym (filter-filter (is_marked a) (has (members b)) (up_to 80))
 
-marked-without : (mask l x : ℕ) → l ≤ 80 → x ≤ 80 → is_marked (bit_and mask (2 ^ 128 - 1 - 1 * 2 ^ l % 2 ^ 128)) x ≡ (is_marked mask x && not (nat_eq x l))
+marked-without : (mask l x : ℕ) → l ≤ 80 → x ≤ 80 →
+    is_marked (bit_and mask (2 ^ 128 - 1 - 1 * 2 ^ l % 2 ^ 128)) x ≡ (is_marked mask x && not (nat_eq x l))
 marked-without mask l x low small =
-    elim (nat_eq x l) as (λ b. nat_eq x l ≡ b → is_marked (bit_and mask (2 ^ 128 - 1 - 1 * 2 ^ l % 2 ^ 128)) x ≡ (is_marked mask x && not b)) [
-      | true ↦ λ e. let same : x ≡ l = grind arith in rw (same, bit_at_clear_same w128 mask l (omega arith)) (sym (and_false (is_marked mask l)))
-      | false ↦ λ e. let other : x ≢ l = grind arith in rw (bit_at_clear_other w128 mask l (omega arith) x (omega arith) other) (sym (and_true (is_marked mask x)))
+    elim (nat_eq x l) as (λ b. nat_eq x l ≡ b → is_marked (bit_and mask (2 ^ 128 - 1 - 1 * 2 ^ l % 2 ^ 128)) x ≡
+    (is_marked mask x && not b)) [
+      | true ↦ λ e. let same : x ≡ l = grind arith in rw (same, bit_at_clear_same w128 mask l (omega arith))
+          (sym (and_false (is_marked mask l)))
+      | false ↦ λ e. let other : x ≢ l = grind arith in rw
+          (bit_at_clear_other w128 mask l (omega arith) x (omega arith) other)
+          (sym (and_true (is_marked mask x)))
     ] refl
 
-pub members-without : (mask l : ℕ) → l ≤ 80 → members (bit_and mask (2 ^ 128 - 1 - 1 * 2 ^ l % 2 ^ 128)) ≡ without (members mask) l
+pub members-without : (mask l : ℕ) → l ≤ 80 →
+    members (bit_and mask (2 ^ 128 - 1 - 1 * 2 ^ l % 2 ^ 128)) ≡ without (members mask) l
 unfolding members
 members-without mask l low =
     filter-agree _ (λ x. is_marked mask x && not (nat_eq x l)) (up_to 80)
     (λ x h. marked-without mask l x low (let b : x < 1 + 80 = has-bound 80 1 x h in omega arith))
     ∙ sym (filter-filter (is_marked mask) (λ x. not (nat_eq x l)) (up_to 80))
 
-marked-with : (mask l x : ℕ) → l ≤ 80 → is_marked (bit_or mask (1 * 2 ^ l % 2 ^ 128)) x ≡ (nat_eq x l || is_marked mask x)
+marked-with : (mask l x : ℕ) → l ≤ 80 → is_marked (bit_or mask (1 * 2 ^ l % 2 ^ 128)) x ≡
+    (nat_eq x l || is_marked mask x)
 marked-with mask l x low =
-    elim (nat_eq x l) as (λ b. nat_eq x l ≡ b → is_marked (bit_or mask (1 * 2 ^ l % 2 ^ 128)) x ≡ (b || is_marked mask x)) [
+    elim (nat_eq x l) as (λ b. nat_eq x l ≡ b → is_marked (bit_or mask (1 * 2 ^ l % 2 ^ 128)) x ≡
+    (b || is_marked mask x)) [
       | true ↦ λ e. let same : x ≡ l = grind arith in rw (same, bit_at_set_same w128 mask l (omega arith)) refl
       | false ↦ λ e. let other : x ≢ l = grind arith in rw (bit_at_set_other w128 mask l (omega arith) x other) refl
     ] refl
@@ -181,7 +200,8 @@ pub members-with : (mask l : ℕ) → l ≤ 80 → members (bit_or mask (1 * 2 ^
 unfolding members
 members-with mask l low =
     filter-agree _ (λ x. nat_eq x l || has (members mask) x) (up_to 80)
-    (λ x h. marked-with mask l x low ∙ ap (λ t. nat_eq x l || t) (sym (has-filter (is_marked mask) (up_to 80) x ∙ rw h refl)))
+    (λ x h. marked-with mask l x low ∙ ap (λ t. nat_eq x l || t)
+    (sym (has-filter (is_marked mask) (up_to 80) x ∙ rw h refl)))
 
 doubled : (n : ℕ) → n ≤ 80 → 2 * 2 ^ n % 2 ^ 128 ≡ 2 ^ (n + 1)
 doubled n small =
@@ -200,7 +220,8 @@ members-up_to n small =
     (λ k a b. rw (bit_at_mask_inside 1 (n + 1) k a (omega arith)) refl)
     (λ k a. rw (bit_at_mask_above 1 (n + 1) k (omega arith)) refl) small)
 
-pub least-here : (mask n : ℕ) → ((k : ℕ) → 1 ≤ k → k < n → is_marked mask k ≡ false) → is_marked mask n ≡ true → 1 ≤ n → n ≤ 80 → least (members mask) ≡ Some n
+pub least-here : (mask n : ℕ) → ((k : ℕ) → 1 ≤ k → k < n → is_marked mask k ≡ false) → is_marked mask n ≡ true →
+    1 ≤ n → n ≤ 80 → least (members mask) ≡ Some n
 unfolding members
 least-here mask n before here low high = first-passes (is_marked mask) 1 80 n before here low (omega arith)
 

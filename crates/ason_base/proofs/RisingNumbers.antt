@@ -19,12 +19,17 @@ nat_order = record {
 }
 
 pub rises : (xs : List ℕ) → IsStrictlyIncreasing xs → Rises nat_lt xs
-rises xs rising = record { pairs = λ i j d before within. let less : get_or xs i d < get_or xs j d = AllPairs-from_increasing xs rising i j d before within in grind arith }
+rises xs rising = record {
+  pairs = λ i j d before within. let less : get_or xs i d < get_or xs j d =
+      AllPairs-from_increasing xs rising i j d before within in grind arith;
+}
 
 pub increases : (xs : List ℕ) → Rises nat_lt xs → IsStrictlyIncreasing xs
-increases xs r k within = let test : nat_lt (get_or xs k 0) (get_or xs (k + 1) 0) ≡ true = r.pairs k (k + 1) 0 (omega arith) within in grind arith
+increases xs r k within = let test : nat_lt (get_or xs k 0) (get_or xs (k + 1) 0) ≡ true =
+    r.pairs k (k + 1) 0 (omega arith) within in grind arith
 
-pub numbers_in_order : (xs ys : List ℕ) → IsStrictlyIncreasing ys → ((n : ℕ) → Contains ys n ↔ Contains xs n) → ys ≡ in_order nat_lt xs
+pub numbers_in_order : (xs ys : List ℕ) → IsStrictlyIncreasing ys → ((n : ℕ) → Contains ys n ↔ Contains xs n) →
+    ys ≡ in_order nat_lt xs
 numbers_in_order xs ys rising same = in_order-is nat_lt nat_order xs ys (rises ys rising) same
 
 -- what is left of numbers after a sort and a `dedup`

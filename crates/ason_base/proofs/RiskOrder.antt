@@ -56,7 +56,8 @@ unfolding IsStrictlySortedBy
 rising-strictly [] sorted = λ i j d h k. absurd (omega arith)
 rising-strictly (x ∷ xs) sorted =
     AllPairs-cons (λ a b. IsTrue (is_below a b)) x xs
-    (All-weaker (λ y. ghosts.cmp x y ≡ Less) (λ y. is_below x y ≡ true) (below-less x) xs (All-from_recursion _ xs sorted.0))
+    (All-weaker (λ y. ghosts.cmp x y ≡ Less) (λ y. is_below x y ≡ true) (below-less x) xs
+    (All-from_recursion _ xs sorted.0))
     (rising-strictly xs sorted.1)
 
 below_or_same : (i k : ℕ) → i ≤ k → (i < k) ⊎ (i ≡ k)
@@ -69,10 +70,12 @@ before_or_from : (m j : ℕ) → (m < j) ⊎ (j ≤ m)
 before_or_from m j = grind arith
 
 -- what stands at or after a place is not below what stands there
-pub at-or-after : (risks : List Risk) (a : Risk) (i k : ℕ) (d : Risk) → AreRising risks → i ≤ k → k < length risks → is_below a (get_or risks i d) ≡ true → a ≢ get_or risks k d
+pub at-or-after : (risks : List Risk) (a : Risk) (i k : ℕ) (d : Risk) → AreRising risks → i ≤ k → k < length risks →
+    is_below a (get_or risks i d) ≡ true → a ≢ get_or risks k d
 at-or-after risks a i k d rising le within below =
     elim (below_or_same i k le) [
-      | inl lt ↦ below-differs a (get_or risks k d) (below-trans a (get_or risks i d) (get_or risks k d) below (rising i k d lt within))
+      | inl lt ↦ below-differs a (get_or risks k d)
+          (below-trans a (get_or risks i d) (get_or risks k d) below (rising i k d lt within))
       | inr same ↦ subst (λ n. a ≢ get_or risks n d) same (below-differs a (get_or risks i d) below)
     ]
 
@@ -80,15 +83,20 @@ at-or-after risks a i k d rising le within below =
 abbrev pub Apart : List Risk → List Risk → ℕ → Type 0
 Apart a b i = (k m : ℕ) (d : Risk) → k < i → m < length b → get_or a k d ≢ get_or b m d
 
--- the element at i, which is below the one at j of the other list, isn't there: neither before j, as is known, nor from j on
-pub apart_more : (a b : List Risk) (i j : ℕ) (e : Risk) → AreRising b → i < length a → j < length b → Apart a b i → Apart b a j → is_below (get_or a i e) (get_or b j e) ≡ true → Apart a b (i + 1)
+-- the element at i, which is below the one at j of the other list, isn't there: neither before j, as is known, nor from
+-- j on
+pub apart_more : (a b : List Risk) (i j : ℕ) (e : Risk) → AreRising b → i < length a → j < length b → Apart a b i →
+    Apart b a j → is_below (get_or a i e) (get_or b j e) ≡ true → Apart a b (i + 1)
 apart_more a b i j e rising within inside left right here k m d h n =
-    let below : is_below (get_or a i d) (get_or b j d) ≡ true = subst (λ x. is_below x (get_or b j d) ≡ true) (get_or_default a i e d within) (subst (λ y. is_below (get_or a i e) y ≡ true) (get_or_default b j e d inside) here) in
+    let below : is_below (get_or a i d) (get_or b j d) ≡ true =
+    subst (λ x. is_below x (get_or b j d) ≡ true) (get_or_default a i e d within)
+    (subst (λ y. is_below (get_or a i e) y ≡ true) (get_or_default b j e d inside) here) in
     elim (before_or_same k i h) [
       | inl lt ↦ left k m d lt n
       | inr same ↦ elim (before_or_from m j) [
         | inl lt ↦ subst (λ p. get_or a p d ≢ get_or b m d) (sym same) (λ q. right m i d lt within (sym q))
-        | inr le ↦ subst (λ p. get_or a p d ≢ get_or b m d) (sym same) (at-or-after b (get_or a i d) j m d rising le n below)
+        | inr le ↦ subst (λ p. get_or a p d ≢ get_or b m d) (sym same)
+            (at-or-after b (get_or a i d) j m d rising le n below)
       ]
     ]
 
@@ -101,9 +109,11 @@ pub disjoint-flip : (a b : List Risk) → AreDisjoint a b → AreDisjoint b a
 disjoint-flip a b h r in_b in_a = h r in_a in_b
 
 -- an element that both lists have
-pub met : (a b : List Risk) (i j : ℕ) (e : Risk) → i < length a → j < length b → get_or a i e ≡ get_or b j e → AreDisjoint a b → ⊥
+pub met : (a b : List Risk) (i j : ℕ) (e : Risk) → i < length a → j < length b → get_or a i e ≡ get_or b j e →
+    AreDisjoint a b → ⊥
 met a b i j e within inside same h =
-    h (get_or a i e) (Contains-get_or a i e within) (subst (λ x. Contains b x) (sym same) (Contains-get_or b j e inside))
+    h (get_or a i e) (Contains-get_or a i e within)
+    (subst (λ x. Contains b x) (sym same) (Contains-get_or b j e inside))
 
 pub same-eq : (a b : Risk) → equality.eq a b ≡ true → a ≡ b
 same-eq (Srlg a) (Srlg b) h = let e : a ≡ b = grind arith in ap Srlg e
@@ -121,7 +131,8 @@ ties (Link a) (Link b) = grind arith
 pub ordered_rising : (xs : List Risk) → IsSorted ghosts.cmp xs → AreRising (dedup equality.eq xs)
 ordered_rising xs sorted = rising-strictly (dedup equality.eq xs) (IsStrictlySortedBy-dedup total-law ties xs sorted)
 
-pub ordered_same : (xs ys : List Risk) (r : Risk) → IsPermutation xs ys → Contains (dedup equality.eq ys) r ↔ Contains xs r
+pub ordered_same : (xs ys : List Risk) (r : Risk) → IsPermutation xs ys →
+    Contains (dedup equality.eq ys) r ↔ Contains xs r
 ordered_same xs ys r moved = (
   (λ h. Contains-permutation ys xs r (IsPermutation-sym xs ys moved) (Contains-from_dedup equality.eq ys r h)),
   (λ h. Contains-dedup laws-law same-eq ys r (Contains-permutation xs ys r moved h)),
@@ -157,7 +168,8 @@ pub contains-has_risk : (risks : List Risk) (r : Risk) → Contains risks r → 
 contains-has_risk risks r there = there-any (same_risk r) risks r there (same_risk-refl r)
 
 pub common-there : (xs ys : List Risk) → have_common xs ys ≡ true → (r : Risk) × Contains xs r × Contains ys r
-common-there xs ys h = let there = any-there (has_risk ys) xs h in (there.0, there.1, has_risk-contains ys there.0 there.2)
+common-there xs ys h = let there = any-there (has_risk ys) xs h in
+    (there.0, there.1, has_risk-contains ys there.0 there.2)
 
 pub there-common : (xs ys : List Risk) (r : Risk) → Contains xs r → Contains ys r → have_common xs ys ≡ true
 there-common xs ys r in_xs in_ys = there-any (has_risk ys) xs r in_xs (contains-has_risk ys r in_ys)

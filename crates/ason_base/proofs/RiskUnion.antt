@@ -20,13 +20,16 @@ Passes route l = (s : Step) × Contains route s × (l ≡ s.link)
 abbrev pub AreRisks : List TeRow → List Step → List Risk → Type 0
 AreRisks rows route risks = (r : Risk) → Contains risks r ↔ HasRisk rows route r
 
-pub taken : (rows : List TeRow) (i : ℕ) (row : TeRow) → i < length rows → row ≡ get_or rows i row → take (i + 1) rows ≡ take i rows ++ row ∷ []
+pub taken : (rows : List TeRow) (i : ℕ) (row : TeRow) → i < length rows → row ≡ get_or rows i row →
+    take (i + 1) rows ≡ take i rows ++ row ∷ []
 taken rows i row within same = take_more rows i row within ∙ ap (λ x. take i rows ++ x ∷ []) (sym same)
 
-pub added : (rows : List TeRow) (row : TeRow) (route : List Step) (old : List Risk) → AreRisks rows route old → Passes route row.link → AreRisks (rows ++ row ∷ []) route (old ++ risks_of row)
+pub added : (rows : List TeRow) (row : TeRow) (route : List Step) (old : List Risk) → AreRisks rows route old →
+    Passes route row.link → AreRisks (rows ++ row ∷ []) route (old ++ risks_of row)
 added rows row route old are passes r = (
   (λ h. elim (Contains-append_cases old (risks_of row) r h) [
-    | inl before ↦ (let has = (are r).0 before in (has.0, has.1, Contains-append_left rows (row ∷ []) has.0 has.2, has.3, has.4, has.5))
+    | inl before ↦ (let has = (are r).0 before in
+        (has.0, has.1, Contains-append_left rows (row ∷ []) has.0 has.2, has.3, has.4, has.5))
     | inr here ↦ (row, passes.0, Contains-push rows row, passes.1, passes.2, here)
   ]),
   (λ has. elim (Contains-push_cases rows row has.0 has.2) [
@@ -35,7 +38,8 @@ added rows row route old are passes r = (
   ]),
 )
 
-pub skipped : (rows : List TeRow) (row : TeRow) (route : List Step) (old : List Risk) → AreRisks rows route old → ¬ Passes route row.link → AreRisks (rows ++ row ∷ []) route old
+pub skipped : (rows : List TeRow) (row : TeRow) (route : List Step) (old : List Risk) → AreRisks rows route old →
+    ¬ Passes route row.link → AreRisks (rows ++ row ∷ []) route old
 skipped rows row route old are misses r = (
   (λ h. let has = (are r).0 h in (has.0, has.1, Contains-append_left rows (row ∷ []) has.0 has.2, has.3, has.4, has.5)),
   (λ has. elim (Contains-push_cases rows row has.0 has.2) [
@@ -44,12 +48,14 @@ skipped rows row route old are misses r = (
   ]),
 )
 
-pub both : (rows : List TeRow) (route : List Step) (xs ys : List Risk) → AreRisks rows route ys → ((r : Risk) → Contains xs r ↔ Contains ys r) → AreRisks rows route xs
+pub both : (rows : List TeRow) (route : List Step) (xs ys : List Risk) → AreRisks rows route ys →
+    ((r : Risk) → Contains xs r ↔ Contains ys r) → AreRisks rows route xs
 both rows route xs ys are same r = ((λ h. (are r).0 ((same r).0 h)), (λ h. (same r).1 ((are r).1 h)))
 
 -- The risks as a function
 
-flat-there : (rows : List TeRow) (r : Risk) → Contains (flat_map risks_of rows) r → (row : TeRow) × Contains rows row × Contains (risks_of row) r
+flat-there : (rows : List TeRow) (r : Risk) → Contains (flat_map risks_of rows) r → (row : TeRow) ×
+    Contains rows row × Contains (risks_of row) r
 flat-there [] r h = absurd (contains-none r h)
 flat-there (row ∷ rows) r h =
     elim (Contains-append_cases (risks_of row) (flat_map risks_of rows) r h) [
@@ -57,11 +63,13 @@ flat-there (row ∷ rows) r h =
       | inr later ↦ (let there = flat-there rows r later in (there.0, contains-tail row there.0 rows there.1, there.2))
     ]
 
-there-flat : (rows : List TeRow) (row : TeRow) (r : Risk) → Contains rows row → Contains (risks_of row) r → Contains (flat_map risks_of rows) r
+there-flat : (rows : List TeRow) (row : TeRow) (r : Risk) → Contains rows row → Contains (risks_of row) r →
+    Contains (flat_map risks_of rows) r
 there-flat [] row r there here = absurd (contains-none row there)
 there-flat (first ∷ rows) row r there here =
     elim (contains-cases first row rows there) [
-      | inl is ↦ Contains-append_left (risks_of first) (flat_map risks_of rows) r (subst (λ x. Contains (risks_of x) r) (sym is) here)
+      | inl is ↦ Contains-append_left (risks_of first) (flat_map risks_of rows) r
+          (subst (λ x. Contains (risks_of x) r) (sym is) here)
       | inr later ↦ Contains-append_right (risks_of first) (flat_map risks_of rows) r (there-flat rows row r later here)
     ]
 
@@ -69,7 +77,8 @@ kept-there : {X : Type 0} (p : X → Bool) (xs : List X) (x : X) → Contains (f
 kept-there p [] x h = absurd (contains-none x h)
 kept-there {X} p (y ∷ ys) x h = go (p y) refl h (kept-there p ys x)
   where
-    go : (a : Bool) → p y ≡ a → Contains (cond a (y ∷ filter p ys) (filter p ys)) x → (Contains (filter p ys) x → Contains ys x × (p x ≡ true)) → Contains (y ∷ ys) x × (p x ≡ true)
+    go : (a : Bool) → p y ≡ a → Contains (cond a (y ∷ filter p ys) (filter p ys)) x →
+        (Contains (filter p ys) x → Contains ys x × (p x ≡ true)) → Contains (y ∷ ys) x × (p x ≡ true)
     go true e there later = elim (contains-cases y x (filter p ys) there) [
       | inl is ↦ (subst (λ z. Contains (y ∷ ys) z) is (contains-head y ys), subst (λ z. p z ≡ true) is e)
       | inr behind ↦ (let found = later behind in (contains-tail y x ys found.0, found.1))
@@ -80,7 +89,8 @@ there-kept : {X : Type 0} (p : X → Bool) (xs : List X) (x : X) → Contains xs
 there-kept p [] x there e = absurd (contains-none x there)
 there-kept {X} p (y ∷ ys) x there e = go (p y) refl (there-kept p ys x)
   where
-    go : (a : Bool) → p y ≡ a → (Contains ys x → p x ≡ true → Contains (filter p ys) x) → Contains (cond a (y ∷ filter p ys) (filter p ys)) x
+    go : (a : Bool) → p y ≡ a → (Contains ys x → p x ≡ true → Contains (filter p ys) x) →
+        Contains (cond a (y ∷ filter p ys) (filter p ys)) x
     go true f before = elim (contains-cases y x ys there) [
       | inl is ↦ subst (λ z. Contains (y ∷ filter p ys) z) is (contains-head y (filter p ys))
       | inr later ↦ contains-tail y x (filter p ys) (before later e)
@@ -94,10 +104,12 @@ same_link : (k l : LinkId) → nat_eq k.0 l.0 ≡ true → k ≡ l
 same_link k l h = let e : k.0 ≡ l.0 = grind arith in λ i. record { 0 = e i }
 
 pub passes-there : (route : List Step) (l : LinkId) → passes route l ≡ true → Passes route l
-passes-there route l h = let there = any-there (λ s. nat_eq s.link.0 l.0) route h in (there.0, there.1, sym (same_link there.0.link l there.2))
+passes-there route l h = let there = any-there (λ s. nat_eq s.link.0 l.0) route h in
+    (there.0, there.1, sym (same_link there.0.link l there.2))
 
 pub there-passes : (route : List Step) (l : LinkId) → Passes route l → passes route l ≡ true
-there-passes route l (s, there, is) = there-any (λ s. nat_eq s.link.0 l.0) route s there (let e : l.0 ≡ s.link.0 = ap (λ k. k.0) is in grind arith)
+there-passes route l (s, there, is) = there-any (λ s. nat_eq s.link.0 l.0) route s there
+    (let e : l.0 ≡ s.link.0 = ap (λ k. k.0) is in grind arith)
 
 -- the risks of a route are just those that one of its links has
 pub route_risks-are : (rows : List TeRow) (route : List Step) → AreRisks rows route (route_risks rows route)
@@ -111,14 +123,19 @@ route_risks-are rows route r =
           (found.0, way.0, kept.0, way.1, way.2, found.2)),
       (λ has.
           ordered.1 (there-flat on has.0 r
-          (there-kept (λ (row : TeRow). passes route row.link) rows has.0 has.2 (there-passes route has.0.link (has.1, has.3, has.4))) has.5)),
+          (there-kept (λ (row : TeRow). passes route row.link) rows has.0 has.2
+          (there-passes route has.0.link (has.1, has.3, has.4))) has.5)),
     )
 
 pub route_risks-rise : (rows : List TeRow) (route : List Step) → AreRising (route_risks rows route)
-route_risks-rise rows route = (in_order-rises is_below risk_order (flat_map risks_of (filter (λ (row : TeRow). passes route row.link) rows))).pairs
+route_risks-rise rows route = (in_order-rises is_below risk_order
+    (flat_map risks_of (filter (λ (row : TeRow). passes route row.link) rows))).pairs
 
 -- a rising list of the route's risks is that list
-pub risks-exact : (rows : List TeRow) (route : List Step) (risks : List Risk) → AreRising risks → AreRisks rows route risks → risks ≡ route_risks rows route
+pub risks-exact : (rows : List TeRow) (route : List Step) (risks : List Risk) → AreRising risks →
+    AreRisks rows route risks → risks ≡ route_risks rows route
 risks-exact rows route risks rising are =
-    rising_once is_below risk_order risks (route_risks rows route) (record { pairs = rising }) (record { pairs = route_risks-rise rows route })
-    (λ r there. (route_risks-are rows route r).1 ((are r).0 there)) (λ r there. (are r).1 ((route_risks-are rows route r).0 there))
+    rising_once is_below risk_order risks (route_risks rows route) (record { pairs = rising })
+    (record { pairs = route_risks-rise rows route })
+    (λ r there. (route_risks-are rows route r).1 ((are r).0 there))
+    (λ r there. (are r).1 ((route_risks-are rows route r).0 there))

@@ -32,7 +32,8 @@ link_number (Some l) = l.id.0
 
 -- the node at this place has a number above that of the one before, the first above 0
 abbrev pub is_node_at : List NodeSpec → ℕ → Bool
-is_node_at nodes k = nat_lt (if k == 0 then 0 else node_number (slice_get nodes (k - 1))) (node_number (slice_get nodes k))
+is_node_at nodes k = nat_lt (if k == 0 then 0 else node_number (slice_get nodes (k - 1)))
+    (node_number (slice_get nodes k))
 
 abbrev pub is_distinct : List ℕ → Bool
 is_distinct [] = true
@@ -53,7 +54,8 @@ is_link_here nodes (Some l) = is_link nodes l
 
 -- the link at this place has a number above that of the one before, the first above 0
 abbrev pub is_after : List LinkSpec → ℕ → Bool
-is_after links k = nat_lt (if k == 0 then 0 else link_number (slice_get links (k - 1))) (link_number (slice_get links k))
+is_after links k = nat_lt (if k == 0 then 0 else link_number (slice_get links (k - 1)))
+    (link_number (slice_get links k))
 
 -- the link at this place may stand there
 abbrev pub is_link_at : List NodeSpec → List LinkSpec → ℕ → Bool
@@ -73,8 +75,10 @@ pub record IsTopology (t : Network) : Type 0 where
 -- the first fault: the count, then the nodes in order, then the links in order
 abbrev pub FaultOf : List NodeSpec → List LinkSpec → TopologyFault → Type 0
 FaultOf nodes links Count = is_count nodes links ≡ false
-FaultOf nodes links (Node i) = IsTrue (is_count nodes links) × AreNodes nodes i × (i < length nodes) × (is_node_at nodes i ≡ false)
-FaultOf nodes links (Link i) = IsTrue (is_count nodes links) × AreNodes nodes (length nodes) × AreLinks nodes links i × (i < length links) × (is_link_at nodes links i ≡ false)
+FaultOf nodes links (Node i) = IsTrue (is_count nodes links) × AreNodes nodes i × (i < length nodes) ×
+    (is_node_at nodes i ≡ false)
+FaultOf nodes links (Link i) = IsTrue (is_count nodes links) × AreNodes nodes (length nodes) ×
+    AreLinks nodes links i × (i < length links) × (is_link_at nodes links i ≡ false)
 FaultOf nodes links OutOfMemory = Unit {0}
 
 -- Look-ups

@@ -41,7 +41,8 @@ risks_of row = map Srlg row.srlgs ++ (Link row.link ∷ [])
 
 -- the risk is one of a link of the route
 abbrev pub HasRisk : List TeRow → List Step → Risk → Type 0
-HasRisk rows route r = (row : TeRow) × (s : Step) × Contains rows row × Contains route s × (row.link ≡ s.link) × Contains (risks_of row) r
+HasRisk rows route r = (row : TeRow) × (s : Step) × Contains rows row × Contains route s × (row.link ≡ s.link) ×
+    Contains (risks_of row) r
 
 abbrev pub passes : List Step → LinkId → Bool
 passes route l = list_any (λ s. s.link.0 == l.0) route

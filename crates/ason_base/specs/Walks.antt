@@ -1,5 +1,6 @@
 -- Walks over rows from node to node, their costs, and the least of them.
--- A walk is a list of steps. Its bans are two properties: of links that it must not use, and of nodes that it must not visit after its start.
+-- A walk is a list of steps. Its bans are two properties: of links that it must not use, and of nodes that it must not
+-- visit after its start.
 use Rattle.std.specs.Prelude.{◌≡◌, ◌≢◌, ℕ, ◌+◌, ◌<◌, ◌≤◌, ◌⊎◌, List, [], ◌∷◌, length, map, All}
 use Rattle.std.specs.List.{AllPairs, Contains}
 use Rattle.ason_base.specs.Risks.{AreRiskDisjoint, HasRisk, risks_of}
@@ -14,7 +15,8 @@ abbrev pub Joins : TeRow → NodeId → NodeId → Type 0
 Joins row a b = ((row.low ≡ a) × (row.high ≡ b)) ⊎ ((row.high ≡ a) × (row.low ≡ b))
 
 -- one step of a walk, from node a over a row of the step's link to node b
-pub record Hop (rows : List TeRow) (BannedLink : LinkId → Type 0) (BannedNode : NodeId → Type 0) (a : NodeId) (s : Step) (row : TeRow) (b : NodeId) : Type 0 where
+pub record Hop (rows : List TeRow) (BannedLink : LinkId → Type 0) (BannedNode : NodeId → Type 0) (a : NodeId)
+    (s : Step) (row : TeRow) (b : NodeId) : Type 0 where
   pub known : Contains rows row
   pub sender : s.node ≡ a
   pub link : s.link ≡ row.link
@@ -26,7 +28,8 @@ pub record Hop (rows : List TeRow) (BannedLink : LinkId → Type 0) (BannedNode 
 abbrev pub IsWalk : List TeRow → (LinkId → Type 0) → (NodeId → Type 0) → NodeId → NodeId → List Step → ℕ → Type 0
 IsWalk rows BannedLink BannedNode a b [] cost = (a ≡ b) × (cost ≡ 0)
 IsWalk rows BannedLink BannedNode a b (s ∷ steps) cost =
-    (row : TeRow) × (next : NodeId) × (left : ℕ) × Hop rows BannedLink BannedNode a s row next × IsWalk rows BannedLink BannedNode next b steps left × (cost ≡ row.metric + left)
+    (row : TeRow) × (next : NodeId) × (left : ℕ) × Hop rows BannedLink BannedNode a s row next ×
+    IsWalk rows BannedLink BannedNode next b steps left × (cost ≡ row.metric + left)
 
 -- no link, and no node, is banned
 abbrev pub NoLink : LinkId → Type 0
@@ -38,13 +41,15 @@ NoNode n = ⊥
 abbrev pub links_of : List Step → List LinkId
 links_of steps = map (λ s. s.link) steps
 
--- the lists are the same, or the first stands before the second: at the first place where they differ it has ended or has the lesser link
+-- the lists are the same, or the first stands before the second: at the first place where they differ it has ended or
+-- has the lesser link
 abbrev pub IsAtMost : List LinkId → List LinkId → Type 0
 IsAtMost [] ys = Unit {0}
 IsAtMost (x ∷ xs) [] = ⊥
 IsAtMost (x ∷ xs) (y ∷ ys) = (x.0 < y.0) ⊎ ((x ≡ y) × IsAtMost xs ys)
 
--- of the routes that are allowed at some cost, this one has the least cost, and among those of that cost the least list of links
+-- of the routes that are allowed at some cost, this one has the least cost, and among those of that cost the least list
+-- of links
 pub record IsLeast (IsAllowed : List Step → ℕ → Type 0) (route : List Step) (cost : ℕ) : Type 0 where
   pub allowed : IsAllowed route cost
   pub least : (other : List Step) (c : ℕ) → IsAllowed other c → cost ≤ c
@@ -54,18 +59,22 @@ pub record IsLeast (IsAllowed : List Step → ℕ → Type 0) (route : List Step
 pub record ArePotentials (Leads : NodeId → List Step → ℕ → Type 0) (potentials : List (NodeId × ℕ)) : Type 0 where
   pub rising : AllPairs (λ x y. x.0.0 < y.0.0) potentials
   pub attained : (n : NodeId) (p : ℕ) → Contains potentials (n, p) → (route : List Step) × Leads n route p
-  pub least : (n : NodeId) (route : List Step) (cost : ℕ) → Leads n route cost → (p : ℕ) × Contains potentials (n, p) × (p ≤ cost)
+  pub least : (n : NodeId) (route : List Step) (cost : ℕ) → Leads n route cost → (p : ℕ) ×
+      Contains potentials (n, p) × (p ≤ cost)
 
 -- what shows that no walk costs less: 0 at the start, and over each row that is allowed a rise of at most the metric
-pub record Certify (rows : List TeRow) (BannedLink : LinkId → Type 0) (BannedNode : NodeId → Type 0) (from : NodeId) (potentials : List (NodeId × ℕ)) : Type 0 where
+pub record Certify (rows : List TeRow) (BannedLink : LinkId → Type 0) (BannedNode : NodeId → Type 0) (from : NodeId)
+    (potentials : List (NodeId × ℕ)) : Type 0 where
   pub start : Contains potentials (from, 0)
   pub rises :
-      (a b : NodeId) (s : Step) (row : TeRow) (p : ℕ) → Hop rows BannedLink BannedNode a s row b → Contains potentials (a, p)
+      (a b : NodeId) (s : Step) (row : TeRow) (p : ℕ) → Hop rows BannedLink BannedNode a s row b →
+      Contains potentials (a, p)
       → (q : ℕ) × Contains potentials (b, q) × (q ≤ p + row.metric)
 
 -- at most 64 nodes are ends of the rows
 abbrev pub HaveFewEnds : List TeRow → Type 0
-HaveFewEnds rows = (nodes : List NodeId) × (length nodes ≤ 64) × All (λ row. Contains nodes row.low × Contains nodes row.high) rows
+HaveFewEnds rows = (nodes : List NodeId) × (length nodes ≤ 64) ×
+    All (λ row. Contains nodes row.low × Contains nodes row.high) rows
 
 -- each metric is 1 to 65,535
 abbrev pub HaveMetrics : List TeRow → Type 0
@@ -80,11 +89,13 @@ abbrev pub IsInner : NodeId → NodeId → List Step → NodeId → Type 0
 IsInner from to route n = (s : Step) × Contains route s × (s.node ≡ n) × (n ≢ from) × (n ≢ to)
 
 -- a walk that is risk-disjoint from the primary route and shares no inner node with it
-pub record IsBackup (rows : List TeRow) (primary : List Step) (from to : NodeId) (route : List Step) (cost : ℕ) : Type 0 where
+pub record IsBackup (rows : List TeRow) (primary : List Step) (from to : NodeId) (route : List Step)
+    (cost : ℕ) : Type 0 where
   pub walk : IsWalk rows NoLink NoNode from to route cost
   pub risks : AreRiskDisjoint rows route primary
   pub nodes : (n : NodeId) → IsInner from to route n → ¬ IsInner from to primary n
 
 -- the link has a risk of the route
 abbrev pub SharesRisk : List TeRow → List Step → LinkId → Type 0
-SharesRisk rows route l = (row : TeRow) × (r : Risk) × Contains rows row × (row.link ≡ l) × Contains (risks_of row) r × HasRisk rows route r
+SharesRisk rows route l = (row : TeRow) × (r : Risk) × Contains rows row × (row.link ≡ l) ×
+    Contains (risks_of row) r × HasRisk rows route r

@@ -12,7 +12,8 @@ IsWritableRole (Back active work primary) = (1 ≤ length primary) × (length pr
 
 -- the set of labels isn't empty, and the route has at most 64 steps
 abbrev pub IsWritableMsg : Msg → Type 0
-IsWritableMsg (Path lsp egress link route set upstream role) = (1 ≤ length set) × (length route ≤ 64) × IsWritableRole role
+IsWritableMsg (Path lsp egress link route set upstream role) = (1 ≤ length set) × (length route ≤ 64) ×
+    IsWritableRole role
 IsWritableMsg (Resv lsp egress link label) = Unit {0}
 IsWritableMsg (PathTear lsp egress link) = Unit {0}
 IsWritableMsg (PathErr lsp egress at removed code) = Unit {0}

@@ -132,7 +132,8 @@ impl Topology {
         nodes: &[NodeSpec],
         links: &[LinkSpec],
     ) -> Result<Topology, TopologyFault>
-        ensures value { IfOk result (λ t. t ≡ record { wait = wait; nodes = nodes.now; links = links.now }) }
+        ensures value { IfOk result
+            (λ t. t ≡ record { wait = wait; nodes = nodes.now; links = links.now }) }
         ensures valid { IfOk result IsTopology }
         ensures fault { IfErr result (FaultOf nodes.now links.now) }
     {
@@ -245,7 +246,8 @@ fn is_node_at(nodes: &[NodeSpec], i: usize) -> bool
 // The first node whose number isn't above the one before.
 fn bad_node(nodes: &[NodeSpec]) -> Option<usize>
     ensures none { IfNone result (AreNodes nodes.now (length nodes.now)) }
-    ensures first { IfSome result (λ i. AreNodes nodes.now i × (i < length nodes.now) × (is_node_at nodes.now i ≡ false)) }
+    ensures first { IfSome result (λ i. AreNodes nodes.now i × (i < length nodes.now) ×
+        (is_node_at nodes.now i ≡ false)) }
 {
     for i in 0..nodes.len() {
         if !is_node_at(nodes, i) {
@@ -303,7 +305,8 @@ fn is_link_at(nodes: &[NodeSpec], links: &[LinkSpec], i: usize) -> bool
 // The first link that can't stand at its place.
 fn bad_link(nodes: &[NodeSpec], links: &[LinkSpec]) -> Option<usize>
     ensures none { IfNone result (AreLinks nodes.now links.now (length links.now)) }
-    ensures first { IfSome result (λ i. AreLinks nodes.now links.now i × (i < length links.now) × (is_link_at nodes.now links.now i ≡ false)) }
+    ensures first { IfSome result (λ i. AreLinks nodes.now links.now i × (i < length links.now) ×
+        (is_link_at nodes.now links.now i ≡ false)) }
 {
     for i in 0..links.len() {
         if !is_link_at(nodes, links, i) {

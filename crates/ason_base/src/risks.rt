@@ -95,10 +95,12 @@ impl RiskSet {
     /// The risks of a route: of each of its links the declared SRLGs and the link itself.
     pub fn of(alloc: Global, rows: &[TeRow], route: &Steps) -> Result<RiskSet, RiskFault>
         ensures exact { IfOk result (λ set. set ≡ route_risks rows.now route.now) }
-        ensures risks { IfOk result (λ set. (r : Risk) → Contains set r ↔ HasRisk rows.now route.now r) }
+        ensures risks { IfOk result
+            (λ set. (r : Risk) → Contains set r ↔ HasRisk rows.now route.now r) }
         ensures rising { IfOk result (λ set. AreRising set) }
         ensures known { OnOk result (unknown_link rows.now route.now ≡ None) }
-        ensures unknown { IfErr result (λ fault. (l : LinkId) → fault ≡ RiskFault.Unknown l → unknown_link rows.now route.now ≡ Some l) }
+        ensures unknown { IfErr result (λ fault. (l : LinkId) → fault ≡ RiskFault.Unknown l →
+            unknown_link rows.now route.now ≡ Some l) }
     {
         if let Some(link) = first_unknown(rows, route) {
             return Err(RiskFault::Unknown(link));
@@ -167,7 +169,8 @@ fn push_risks(risks: &mut Vec<Risk>, row: &TeRow) -> Result<(), OutOfMemory>
 
 // Puts the risks in order, each once.
 fn order(risks: &mut Vec<Risk>) -> Result<(), OutOfMemory>
-    ensures same { OnOk result ((r : Risk) → Contains risks.new.items r ↔ Contains risks.old.items r) }
+    ensures same { OnOk result
+        ((r : Risk) → Contains risks.new.items r ↔ Contains risks.old.items r) }
     ensures rising { OnOk result (AreRising risks.new.items) }
 {
     risks.sort()?;

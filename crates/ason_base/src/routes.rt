@@ -130,7 +130,8 @@ fn shares_risk(a: Option<&LinkSpec>, b: Option<&LinkSpec>) -> bool
 }
 
 fn shares_risk_with(t: &Topology, link: Option<&LinkSpec>, route: &[Step]) -> bool
-    ensures { result ≡ list_any (λ k. shares_risk (option_copied link.entry) (find_link t.now k.link)) route.now }
+    ensures { result ≡ list_any
+        (λ k. shares_risk (option_copied link.entry) (find_link t.now k.link)) route.now }
 {
     route.iter().any(|hop| shares_risk(link, t.link(hop.link)))
 }

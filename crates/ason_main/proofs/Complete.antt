@@ -5,10 +5,10 @@ use Rattle.std.specs.Io.KnownBytes.{Appends, Consumes}
 use Rattle.ason_io.specs.Faults.{Rose}
 use Rattle.ason_io.specs.Reading.{WasReadToEnd}
 use Rattle.plan_reader.specs.declared.plan.Plan.{Plan}
-use Rattle.ason_main.specs.declared.ason.Reply.{Reply}
 use Rattle.ason_main.specs.declared.ason.Status.{Status}
 use Rattle.ason_main.specs.declared.ason.Task.{Task}
-use Rattle.ason_main.specs.Answers.{EndsTooLong, EndsWell, HasReadFew, IsComplete, IsDecodeReply, IsEnd, IsJudged, IsReadAndJudged, IsReply, IsReplyFor, IsReplyTo, IsRunReply, WasGiven, status_of, task_of, text_of_reply}
+use Rattle.ason_main.specs.Answers.{Done, EventLimit, PlanRefused, ReadFault, Reply, TooLong, Unfinished, Usage}
+use Rattle.ason_main.specs.Answers.{EndsTooLong, EndsWell, HasReadFew, IsComplete, IsDecodeReply, IsEnd, IsJudged, IsReadAndJudged, IsReply, IsReplyFor, IsReplyTo, IsRunReply, WasGiven, status_of, task_of}
 use Rattle.ason_main.specs.Outputs.{run_of}
 use Rattle.plan_reader.specs.Plans.{PlanOf}
 use Rattle.plan_reader.proofs.Agree.{no_plan, one_plan}
@@ -19,53 +19,81 @@ consumed all bs None is = absurd is
 consumed all bs (Some rest) is = subst (λ n. length bs ≤ n) (sym (ap length is ∙ length-append bs rest)) (grind arith)
 
 -- what was read to its end
-read_few : {S : Type 0} (left : S → Option (List ℕ)) (handed : S → List ℕ → S → Type 0) (ended : S → Type 0) (old new : S) (bs : List ℕ) →
+read_few : {S : Type 0} (left : S → Option (List ℕ)) (handed : S → List ℕ → S → Type 0) (ended : S → Type 0)
+    (old new : S) (bs : List ℕ) →
     WasReadToEnd left handed ended old new bs → length bs ≤ 4194304 → HasReadFew left handed old new
-read_few left handed ended old new bs read few = (bs, record { handed_out = read.handed_out; told = all (left old) (left new) read.told }, few)
+read_few left handed ended old new bs read few = (
+  bs,
+  record {
+    handed_out = read.handed_out;
+    told = all (left old)
+        (left new) read.told;
+  },
+  few,
+)
   where
     all : (known rest : Option (List ℕ)) → IfSome known (λ all. (all ≡ bs) × (rest ≡ Some [])) → Consumes known rest bs
     all None rest told = tt
     all (Some xs) None told = let none : None ≡ Some [] = told.1 in absurd (cc)
-    all (Some xs) (Some ys) told = let none : ys ≡ [] = cc (told.1) in told.0 ∙ (sym (append-nil bs) ∙ ap (λ zs. bs ++ zs) (sym none))
+    all (Some xs) (Some ys) told = let none : ys ≡ [] = cc (told.1) in
+        told.0 ∙ (sym (append-nil bs) ∙ ap (λ zs. bs ++ zs) (sym none))
 
 -- what is answered of it
-judged_for : {S : Type 0} (left : S → Option (List ℕ)) (handed : S → List ℕ → S → Type 0) (ended : S → Type 0) (faults : S → ℕ) (old new : S) (bs : List ℕ) (k : Task) (r : Reply) →
-    WasReadToEnd left handed ended old new bs → length bs ≤ 4194304 → IsJudged k bs r → IsReplyFor left handed ended faults old new k r
-judged_for left handed ended faults old new bs k (Reply.Done text) read few is = (bs, read, few, is)
-judged_for left handed ended faults old new bs Task.Run Reply.Usage read few is = absurd is
-judged_for left handed ended faults old new bs Task.Decode Reply.Usage read few is = absurd is
-judged_for left handed ended faults old new bs k (Reply.PlanRefused text) read few is = (bs, read, few, is)
-judged_for left handed ended faults old new bs Task.Run Reply.ReadFault read few is = absurd is
-judged_for left handed ended faults old new bs Task.Decode Reply.ReadFault read few is = absurd is
-judged_for left handed ended faults old new bs k (Reply.EventLimit text) read few is = (bs, read, few, is)
-judged_for left handed ended faults old new bs k Reply.OutOfMemory read few is = read_few left handed ended old new bs read few
-judged_for left handed ended faults old new bs Task.Run Reply.TooLong read few is = absurd is
-judged_for left handed ended faults old new bs Task.Decode Reply.TooLong read few is = absurd is
+judged_for : {S : Type 0} (left : S → Option (List ℕ)) (handed : S → List ℕ → S → Type 0) (ended : S → Type 0)
+    (faults : S → ℕ) (old new : S) (bs : List ℕ) (k : Task) (r : Reply) →
+    WasReadToEnd left handed ended old new bs → length bs ≤ 4194304 → IsJudged k bs r →
+    IsReplyFor left handed ended faults old new k r
+judged_for left handed ended faults old new bs k (Done text) read few is = (bs, read, few, is)
+judged_for left handed ended faults old new bs Task.Run Usage read few is = absurd is
+judged_for left handed ended faults old new bs Task.Decode Usage read few is = absurd is
+judged_for left handed ended faults old new bs k (PlanRefused text) read few is = (bs, read, few, is)
+judged_for left handed ended faults old new bs Task.Run ReadFault read few is = absurd is
+judged_for left handed ended faults old new bs Task.Decode ReadFault read few is = absurd is
+judged_for left handed ended faults old new bs k (EventLimit text) read few is = (bs, read, few, is)
+judged_for left handed ended faults old new bs k (Unfinished text) read few is =
+    (read_few left handed ended old new bs read few, inr (bs, read, few, is))
+judged_for left handed ended faults old new bs Task.Run TooLong read few is = absurd is
+judged_for left handed ended faults old new bs Task.Decode TooLong read few is = absurd is
 
-pub judged_reply : {S : Type 0} (left : S → Option (List ℕ)) (handed : S → List ℕ → S → Type 0) (ended : S → Type 0) (faults : S → ℕ) (words : List (List ℕ)) (old new : S) (bs : List ℕ) (k : Task) (r : Reply) →
-    task_of words ≡ Some k → WasReadToEnd left handed ended old new bs → length bs ≤ 4194304 → IsJudged k bs r → IsReply left handed ended faults words old new r
+pub judged_reply : {S : Type 0} (left : S → Option (List ℕ)) (handed : S → List ℕ → S → Type 0) (ended : S → Type 0)
+    (faults : S → ℕ) (words : List (List ℕ)) (old new : S) (bs : List ℕ) (k : Task) (r : Reply) →
+    task_of words ≡ Some k → WasReadToEnd left handed ended old new bs → length bs ≤ 4194304 → IsJudged k bs r →
+    IsReply left handed ended faults words old new r
 judged_reply left handed ended faults words old new bs k r word read few is =
-    subst (λ w. IsReplyTo left handed ended faults old new r w) (sym word) (judged_for left handed ended faults old new bs k r read few is)
+    subst (λ w. IsReplyTo left handed ended faults old new r w) (sym word)
+    (judged_for left handed ended faults old new bs k r read few is)
 
 -- a plan's reply
-judged_end : (bs : List ℕ) (p : Plan) (r : Reply) (s : Status) → PlanOf bs (Ok p) → IsRunReply bs r → s ≡ status_of r → IsEnd p s
-judged_end bs p (Reply.Done text) s plan holds is = inl (is, subst (λ (q : Plan). (run_of q).stopped ≡ None) (one_plan bs holds.0 p holds.1 plan) holds.2.output.ended)
-judged_end bs p (Reply.PlanRefused text) s plan holds is = absurd (no_plan bs holds.0 p holds.1 plan)
-judged_end bs p (Reply.EventLimit text) s plan holds is = inr (inl (is, (holds.2.0, subst (λ (q : Plan). (run_of q).stopped ≡ Some holds.2.0) (one_plan bs holds.0 p holds.1 plan) holds.2.1.output.stopped)))
-judged_end bs p Reply.OutOfMemory s plan holds is = inr (inr is)
-judged_end bs p Reply.Usage s plan holds is = absurd holds
-judged_end bs p Reply.ReadFault s plan holds is = absurd holds
-judged_end bs p Reply.TooLong s plan holds is = absurd holds
+judged_end : (bs : List ℕ) (p : Plan) (r : Reply) (s : Status) → PlanOf bs (Ok p) → IsRunReply bs r →
+    s ≡ status_of r → IsEnd p s
+judged_end bs p (Done text) s plan holds is = inl (
+  is,
+  subst (λ (q : Plan). (run_of q).stopped ≡ None)
+      (one_plan bs holds.0 p holds.1 plan) holds.2.output.ended,
+)
+judged_end bs p (PlanRefused text) s plan holds is = absurd (no_plan bs holds.0 p holds.1 plan)
+judged_end bs p (EventLimit text) s plan holds is = inr (inl (
+  is,
+  (
+    holds.2.0,
+    subst (λ (q : Plan).
+        (run_of q).stopped ≡ Some holds.2.0) (one_plan bs holds.0 p holds.1 plan) holds.2.1.output.stopped,
+  ),
+))
+judged_end bs p (Unfinished text) s plan holds is = inr (inr is)
+judged_end bs p Usage s plan holds is = absurd holds
+judged_end bs p ReadFault s plan holds is = absurd holds
+judged_end bs p TooLong s plan holds is = absurd holds
 
 -- a reply to `decode`
 decoded_end : (bs : List ℕ) (r : Reply) (s : Status) → IsDecodeReply bs r → s ≡ status_of r → EndsWell Task.Decode bs s
-decoded_end bs (Reply.Done text) s holds is = inl is
-decoded_end bs (Reply.PlanRefused text) s holds is = absurd holds
-decoded_end bs (Reply.EventLimit text) s holds is = absurd holds
-decoded_end bs Reply.OutOfMemory s holds is = inr is
-decoded_end bs Reply.Usage s holds is = absurd holds
-decoded_end bs Reply.ReadFault s holds is = absurd holds
-decoded_end bs Reply.TooLong s holds is = absurd holds
+decoded_end bs (Done text) s holds is = inl is
+decoded_end bs (PlanRefused text) s holds is = absurd holds
+decoded_end bs (EventLimit text) s holds is = absurd holds
+decoded_end bs (Unfinished text) s holds is = inr is
+decoded_end bs Usage s holds is = absurd holds
+decoded_end bs ReadFault s holds is = absurd holds
+decoded_end bs TooLong s holds is = absurd holds
 
 well_ended : (k : Task) (bs : List ℕ) (r : Reply) (s : Status) → IsJudged k bs r → s ≡ status_of r → EndsWell k bs s
 well_ended Task.Run bs r s holds is = λ p plan. judged_end bs p r s plan holds is
@@ -79,27 +107,35 @@ too_many : (n m : ℕ) → n ≡ 4194304 + 1 → m ≤ 4194304 → n ≤ m → �
 too_many n m a b c = grind arith
 
 -- where the source tells its bytes, all of them were read
-all_read : {S : Type 0} (left : S → Option (List ℕ)) (old new : S) (bs read : List ℕ) → left old ≡ Some bs → IfSome (left old) (λ all. (all ≡ read) × (left new ≡ Some [])) → read ≡ bs
-all_read left old new bs read tells told = sym (subst (λ l. IfSome l (λ all. (all ≡ read) × (left new ≡ Some []))) tells told).0
+all_read : {S : Type 0} (left : S → Option (List ℕ)) (old new : S) (bs read : List ℕ) → left old ≡ Some bs →
+    IfSome (left old) (λ all. (all ≡ read) × (left new ≡ Some [])) → read ≡ bs
+all_read left old new bs read tells told = sym (subst (λ l. IfSome l (λ all. (all ≡ read) ×
+    (left new ≡ Some []))) tells told).0
 
-replied_end : {S : Type 0} (left : S → Option (List ℕ)) (handed : S → List ℕ → S → Type 0) (ended : S → Type 0) (faults : S → ℕ) (old new : S) (k : Task) (bs : List ℕ) (r : Reply) (s : Status) →
-    left old ≡ Some bs → length bs ≤ 4194304 → ¬ Rose (faults old) (faults new) → IsReplyFor left handed ended faults old new k r → s ≡ status_of r → EndsWell k bs s
+replied_end : {S : Type 0} (left : S → Option (List ℕ)) (handed : S → List ℕ → S → Type 0) (ended : S → Type 0)
+    (faults : S → ℕ) (old new : S) (k : Task) (bs : List ℕ) (r : Reply) (s : Status) →
+    left old ≡ Some bs → length bs ≤ 4194304 → ¬ Rose (faults old) (faults new) →
+    IsReplyFor left handed ended faults old new k r → s ≡ status_of r → EndsWell k bs s
 replied_end left handed ended faults old new k bs r s tells short no_read = go r
   where
     judged : (r : Reply) → IsReadAndJudged left handed ended old new k r → s ≡ status_of r → EndsWell k bs s
-    judged r holds is = well_ended k bs r s (subst (λ xs. IsJudged k xs r) (all_read left old new bs holds.0 tells holds.1.told) holds.3) is
+    judged r holds is = well_ended k bs r s (subst (λ xs. IsJudged k xs r)
+        (all_read left old new bs holds.0 tells holds.1.told) holds.3) is
 
     go : (r : Reply) → IsReplyFor left handed ended faults old new k r → s ≡ status_of r → EndsWell k bs s
-    go (Reply.Done text) holds is = judged (Reply.Done text) holds is
-    go Reply.Usage holds is = absurd holds
-    go (Reply.PlanRefused text) holds is = judged (Reply.PlanRefused text) holds is
-    go Reply.ReadFault holds is = absurd (no_read holds.0)
-    go (Reply.EventLimit text) holds is = judged (Reply.EventLimit text) holds is
-    go Reply.OutOfMemory holds is = out_of_memory k bs s is
-    go Reply.TooLong holds is = absurd (too_many (length holds.0) (length bs) holds.2 short (consumed bs holds.0 (left new) (subst (λ l. Consumes l (left new) holds.0) tells holds.1.told)))
+    go (Done text) holds is = judged (Done text) holds is
+    go Usage holds is = absurd holds
+    go (PlanRefused text) holds is = judged (PlanRefused text) holds is
+    go ReadFault holds is = absurd (no_read holds.0)
+    go (EventLimit text) holds is = judged (EventLimit text) holds is
+    go (Unfinished text) holds is = out_of_memory k bs s is
+    go TooLong holds is = absurd (too_many (length holds.0) (length bs) holds.2 short (consumed bs holds.0
+        (left new) (subst (λ l. Consumes l (left new) holds.0) tells holds.1.told)))
 
-replied_too_long : {S : Type 0} (left : S → Option (List ℕ)) (handed : S → List ℕ → S → Type 0) (ended : S → Type 0) (faults : S → ℕ) (old new : S) (k : Task) (bs : List ℕ) (r : Reply) (s : Status) →
-    left old ≡ Some bs → 4194304 < length bs → ¬ Rose (faults old) (faults new) → IsReplyFor left handed ended faults old new k r → s ≡ status_of r → EndsTooLong s
+replied_too_long : {S : Type 0} (left : S → Option (List ℕ)) (handed : S → List ℕ → S → Type 0) (ended : S → Type 0)
+    (faults : S → ℕ) (old new : S) (k : Task) (bs : List ℕ) (r : Reply) (s : Status) →
+    left old ≡ Some bs → 4194304 < length bs → ¬ Rose (faults old) (faults new) →
+    IsReplyFor left handed ended faults old new k r → s ≡ status_of r → EndsTooLong s
 replied_too_long left handed ended faults old new k bs r s tells long no_read = go r
   where
     not_judged : (r : Reply) → IsReadAndJudged left handed ended old new k r → ⊥
@@ -109,25 +145,24 @@ replied_too_long left handed ended faults old new k bs r s tells long no_read = 
         absurd (omega arith)
 
     go : (r : Reply) → IsReplyFor left handed ended faults old new k r → s ≡ status_of r → EndsTooLong s
-    go (Reply.Done text) holds is = absurd (not_judged (Reply.Done text) holds)
-    go Reply.Usage holds is = absurd holds
-    go (Reply.PlanRefused text) holds is = absurd (not_judged (Reply.PlanRefused text) holds)
-    go Reply.ReadFault holds is = absurd (no_read holds.0)
-    go (Reply.EventLimit text) holds is = absurd (not_judged (Reply.EventLimit text) holds)
-    go Reply.OutOfMemory holds is = inr is
-    go Reply.TooLong holds is = inl is
+    go (Done text) holds is = absurd (not_judged (Done text) holds)
+    go Usage holds is = absurd holds
+    go (PlanRefused text) holds is = absurd (not_judged (PlanRefused text) holds)
+    go ReadFault holds is = absurd (no_read holds.0)
+    go (EventLimit text) holds is = absurd (not_judged (EventLimit text) holds)
+    go (Unfinished text) holds is = inr is
+    go TooLong holds is = inl is
 
-pub is_complete : {S K : Type 0} (left : S → Option (List ℕ)) (handed : S → List ℕ → S → Type 0) (ended : S → Type 0) (faults : S → ℕ) (written : K → Option (List ℕ)) (sink_faults : K → ℕ)
+pub is_complete : {S K : Type 0} (left : S → Option (List ℕ)) (handed : S → List ℕ → S → Type 0) (ended : S →
+    Type 0) (faults : S → ℕ) (written : K → Option (List ℕ)) (sink_faults : K → ℕ)
     (words : List (List ℕ)) (old new : S) (sink_old sink_new : K) (r : Reply) (s : Status) →
-    IsReply left handed ended faults words old new r → WasGiven written sink_faults sink_old sink_new r s → IsComplete left faults sink_faults words old new sink_old sink_new s
-is_complete left handed ended faults written sink_faults words old new sink_old sink_new r s reply (inr failed) k word bs tells no_read no_write = absurd (no_write failed.1)
-is_complete left handed ended faults written sink_faults words old new sink_old sink_new r s reply (inl given) k word bs tells no_read no_write =
+    IsReply left handed ended faults words old new r → WasGiven written sink_faults sink_old sink_new r s →
+    IsComplete left faults sink_faults words old new sink_old sink_new s
+is_complete left handed ended faults written sink_faults words old new sink_old sink_new r s reply
+    (inr failed) k word bs tells no_read no_write = absurd (no_write failed.1)
+is_complete left handed ended faults written sink_faults words old new sink_old sink_new r s reply
+    (inl given) k word bs tells no_read no_write =
     let said = subst (λ w. IsReplyTo left handed ended faults old new r w) word reply in (
       λ short. replied_end left handed ended faults old new k bs r s tells short no_read said given.0,
       λ long. replied_too_long left handed ended faults old new k bs r s tells long no_read said given.0,
     )
-
--- the sink failed
-pub write_failed : {K : Type 0} (written : K → Option (List ℕ)) (faults : K → ℕ) (old new : K) (r : Reply) (text : List ℕ) → text ≡ text_of_reply r → Rose (faults old) (faults new) →
-    (n : ℕ) × (n < length text) × Appends (written old) (written new) (take n text) → WasGiven written faults old new r Status.WriteFault
-write_failed written faults old new r text is rose part = inr (refl, rose, subst (λ xs. (n : ℕ) × (n < length xs) × Appends (written old) (written new) (take n xs)) is part)

@@ -1,62 +1,113 @@
--- What one line of a script does to what the runner keeps.
-use Rattle.std.proofs.Common.{◌≡◌, ◌+◌, ℕ, cond, List, [], refl, sym, ap, ◌∙◌, subst, arith}
-use Rattle.std.specs.Prelude.{Option, Some, None, is_some}
+-- What one line of a script does.
+use Rattle.std.proofs.Common.{◌≡◌, ◌∙◌, ℕ, true, false, cond, List, [], refl, sym, ap, subst}
+use Rattle.std.specs.Prelude.{Some, None}
+use Rattle.std.specs.List.Sorted.{IsPermutation, IsSortedBy}
 use Rattle.ason_base.specs.declared.calls.TableRows.{TableRows}
 use Rattle.ason_base.specs.declared.commands.Command.{Command}
-use Rattle.ason_base.specs.declared.ids.CallNo.{CallNo}
+use Rattle.ason_base.specs.declared.commands.Event.TheVariants as event
 use Rattle.ason_base.specs.declared.ids.NodeId.{NodeId}
 use Rattle.ason_base.specs.Network.{Network}
-use Rattle.mesh_rules.specs.declared.events.MeshEvent.TheVariants as event
-use Rattle.mesh_rules.specs.Events.{posted}
+use Rattle.mesh_rules.specs.Rows.{all_call_rows, all_leg_rows}
+use Rattle.world_core.specs.Images.{image}
+use Rattle.world_core.specs.Runs.{IsEnabled}
+use Rattle.station.specs.Histories.{History, with_event, world_after}
+use Rattle.fleet.specs.Rounds.{is_quiet, items_waiting, settled, unacked_waiting}
+use Rattle.fleet.specs.Standing.{FleetState, StandsFor}
 use Rattle.plan_reader.specs.declared.lines.Line.{Line}
-use Rattle.plan_reader.specs.declared.lines.Line.TheVariants.{Post}
+use Rattle.plan_reader.specs.declared.lines.Line.TheVariants.{Post, Settle, Show}
 use Rattle.plan_reader.specs.declared.plan.Plan.{Plan}
-use Rattle.ason_main.specs.declared.runner.lanes.Lane.{Lane}
-use Rattle.ason_main.specs.declared.runner.seats.Seat.{Seat}
-use Rattle.ason_main.specs.Histories.{History, events_of, is_event_of, state_after, with_event}
-use Rattle.ason_main.specs.Kept.{StandsFor, mesh_with, seat_at, seat_made}
-use Rattle.plan_reader.specs.Plans.{calls_after}
-use Rattle.ason_main.specs.Outputs.{IsTable, LinePrints, Shows, UnlessStopped, line_done, unsettled_line}
-use Rattle.ason_main.proofs.Standing.{count_more, state_with}
-
--- A post
-
-pub stands_posted : (t : Network) (old new : List Seat) (lanes : List Lane) (c : Command) (h : History) →
-    ((lanes : List Lane) (before : List CallNo) → mesh_with new lanes (calls_after before c) ≡ posted (mesh_with old lanes before) c) →
-    ((m : ℕ) → seat_made (seat_at new m) ≡ seat_made (seat_at old m)) → StandsFor t old lanes h → StandsFor t new lanes (line_done t h (Post c))
-stands_posted t old new lanes c h posts keeps stands = subst (StandsFor t new lanes) (sym goes) now
-  where
-    goes : line_done t h (Post c) ≡ with_event h (event.Post c)
-    goes = ap (λ (o : Option NodeId). cond (is_some o) h (with_event h (event.Post c))) stands.going
-
-    no_more : (a : ℕ) → a ≡ a + 0
-    no_more a = omega arith
-
-    now : StandsFor t new lanes (with_event h (event.Post c))
-    now = record {
-      posted = calls_after stands.posted c;
-      mesh = posts lanes stands.posted ∙ (ap (λ s. posted s c) stands.mesh ∙ sym (state_with t h (event.Post c)));
-      made = λ m. keeps m ∙ (stands.made m ∙ (no_more (events_of m h.events) ∙ sym (count_more (is_event_of m) h.events (event.Post c))));
-      going = refl;
-    }
+use Rattle.table_text.specs.TableText.{table_text, unsettled_text}
+use Rattle.ason_main.specs.Outputs.{IsTable, LinePrints, Shows, UnlessStopped, call_before, leg_before, line_done}
+use Rattle.ason_main.specs.Running.{Does, Settles, TellsUnsettled}
+use Rattle.ason_main.proofs.ScriptRuns.{both_tests, post_goes}
+use Rattle.mesh_rules.specs.Commands.{is_again, is_valid}
 
 -- what a line prints, where the run isn't stopped
-pub printed : (p : Plan) (line : Line) (h : History) (text : List ℕ) → h.stopped ≡ None → Shows p line (state_after p.topology h) text → LinePrints p line h text
-printed p line h text going shows = subst (λ o. UnlessStopped o (Shows p line (state_after p.topology h) text) text) (sym going) shows
+printed : (p : Plan) (line : Line) (h : History) (text : List ℕ) → h.stopped ≡ None →
+    Shows p line (world_after p.topology h) text → LinePrints p line h text
+printed p line h text going shows =
+    subst (λ o. UnlessStopped o (Shows p line (world_after p.topology h) text) text) (sym going) shows
 
 -- and where it is
 pub nothing_printed : (p : Plan) (line : Line) (h : History) (k : NodeId) → h.stopped ≡ Some k → LinePrints p line h []
-nothing_printed p line h k stopped = subst (λ o. UnlessStopped o (Shows p line (state_after p.topology h) []) []) (sym stopped) refl
+nothing_printed p line h k stopped =
+    subst (λ o. UnlessStopped o (Shows p line (world_after p.topology h) []) []) (sym stopped) refl
 
--- Tables and unsettled lines
+-- Posts
 
-pub table_now : (t : Network) (seats : List Seat) (lanes : List Lane) (h : History) (rows : TableRows) → StandsFor t seats lanes h → IsTable t (mesh_with seats [] []) rows → IsTable t (state_after t h) rows
-table_now t seats lanes h rows stands table = subst (λ s. IsTable t s rows) stands.mesh (record {
-  same_calls = table.same_calls;
-  calls = table.calls;
-  same_legs = table.same_legs;
-  legs = table.legs;
-})
+pub post_does : (p : Plan) (c : Command) (old new : FleetState) (text : List ℕ) → text ≡ [] →
+    ((t : Network) (h : History) → StandsFor t old h → IsEnabled t (world_after t h) (event.Post c) →
+    StandsFor t new (with_event t h (event.Post c))) →
+    Does p (Post c) old new text
+post_does p c old new text none posts = record {
+  done = λ h stands postable.
+      let t = p.topology in
+      let enabled : IsEnabled t (world_after t h) (event.Post c) =
+      both_tests (is_valid t c) (is_again (world_after t h).posted c) postable.0 postable.1 in
+      let now : StandsFor t new (line_done t h (Post c)) =
+      subst (StandsFor t new) (sym (post_goes t c h stands.going)) (posts t h stands enabled) in
+      record { stands = now; printed = printed p (Post c) (line_done t h (Post c)) text now.going none };
+}
 
-pub unsettled_now : (t : Network) (seats : List Seat) (lanes : List Lane) (h : History) → StandsFor t seats lanes h → unsettled_line t (mesh_with seats lanes []) ≡ unsettled_line t (state_after t h)
-unsettled_now t seats lanes h stands = ap (unsettled_line t) stands.mesh
+-- Settling
+
+pub tells_nothing : (f : FleetState) (text : List ℕ) → text ≡ [] →
+    ((t : Network) (h : History) → StandsFor t f h → is_quiet t (world_after t h) ≡ true) → TellsUnsettled f text
+tells_nothing f text none quiet = record {
+  tells = λ t h stands.
+      none ∙ sym (ap (λ b. cond b [] (unsettled_text (items_waiting t (world_after t h))
+      (unacked_waiting t (world_after t h)) 0)) (quiet t h stands));
+}
+
+pub tells_counts : (f : FleetState) (text : List ℕ) (desk hop flood : ℕ) → text ≡ unsettled_text desk hop flood →
+    ((t : Network) (h : History) → StandsFor t f h → is_quiet t (world_after t h) ≡ false) →
+    ((t : Network) (h : History) → StandsFor t f h → desk ≡ items_waiting t (world_after t h)) →
+    ((t : Network) (h : History) → StandsFor t f h → hop ≡ unacked_waiting t (world_after t h)) → flood ≡ 0 →
+    TellsUnsettled f text
+tells_counts f text desk hop flood is busy items unacked none = record {
+  tells = λ t h stands.
+      let w = world_after t h in
+      is ∙ ((λ i. unsettled_text (items t h stands i) (unacked t h stands i) (none i))
+      ∙ sym (ap (λ b. cond b [] (unsettled_text (items_waiting t w) (unacked_waiting t w) 0)) (busy t h stands)));
+}
+
+pub settle_does : (p : Plan) (rounds : ℕ) (old new : FleetState) (text : List ℕ) → Settles rounds old new →
+    TellsUnsettled new text → Does p (Settle rounds) old new text
+settle_does p rounds old new text settles tells = record {
+  done = λ h stands postable.
+      let t = p.topology in
+      let now : StandsFor t new (settled t rounds h) = settles.settled t h stands in
+      record {
+        stands = now;
+        printed = printed p (Settle rounds) (settled t rounds h) text now.going
+            (tells.tells t (settled t rounds h) now);
+      };
+}
+
+-- Tables
+
+-- the rows are those of all nodes, in whatever run the stations stand
+pub record AreRows (f : FleetState) (rows : TableRows) : Type 0 where
+  pub calls : (t : Network) (h : History) → StandsFor t f h → rows.calls ≡ all_call_rows t (image (world_after t h))
+  pub legs : (t : Network) (h : History) → StandsFor t f h → rows.legs ≡ all_leg_rows t (image (world_after t h))
+
+-- and these are the same in the order of the table
+pub record AreInOrder (rows sorted : TableRows) : Type 0 where
+  pub same_calls : IsPermutation rows.calls sorted.calls
+  pub calls : IsSortedBy call_before sorted.calls
+  pub same_legs : IsPermutation rows.legs sorted.legs
+  pub legs : IsSortedBy leg_before sorted.legs
+
+pub show_does : (p : Plan) (f : FleetState) (rows sorted : TableRows) (text : List ℕ) → AreRows f rows →
+    AreInOrder rows sorted → text ≡ table_text p sorted → Does p Show f f text
+show_does p f rows sorted text are order is = record {
+  done = λ h stands postable.
+      let t = p.topology in
+      let table : IsTable t (image (world_after t h)) sorted = record {
+        same_calls = subst (λ xs. IsPermutation xs sorted.calls) (are.calls t h stands) order.same_calls;
+        calls = order.calls;
+        same_legs = subst (λ xs. IsPermutation xs sorted.legs) (are.legs t h stands) order.same_legs;
+        legs = order.legs;
+      } in
+      record { stands = stands; printed = printed p Show h text stands.going (sorted, table, is) };
+}

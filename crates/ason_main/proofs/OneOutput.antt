@@ -1,52 +1,65 @@
 -- A plan has one output.
-use Rattle.std.proofs.Common.{◌≡◌, List, [], ◌∷◌, ◌++◌, ℕ, sym, ap, ◌∙◌, append-nil}
+use Rattle.std.proofs.Common.{◌≡◌, List, [], ◌∷◌, ◌++◌, ℕ, sym, ap, ◌∙◌, subst, append-nil}
 use Rattle.std.specs.Prelude.{Option, Some, None}
 use Rattle.ason_base.specs.declared.calls.TableRows.{TableRows}
+use Rattle.ason_base.specs.declared.commands.Event.{Event}
 use Rattle.ason_base.specs.declared.ids.NodeId.{NodeId}
 use Rattle.ason_base.specs.Network.{Network}
-use Rattle.mesh_rules.specs.declared.events.MeshEvent.{MeshEvent}
 use Rattle.mesh_rules.specs.Machine.{Mesh}
 use Rattle.mesh_laws.specs.CallLaw.{CallsFit}
 use Rattle.mesh_laws.specs.HopLaw.{HasOneLegEach}
-use Rattle.mesh_laws.specs.Laws.{LawsHold}
+use Rattle.world_core.specs.Images.{image}
+use Rattle.world_core.specs.Runs.{after}
+use Rattle.world_core.specs.Worlds.{World, start}
+use Rattle.station.specs.Histories.{History, new_history, world_after}
 use Rattle.plan_reader.specs.declared.lines.Line.{Line}
 use Rattle.plan_reader.specs.declared.lines.Line.TheVariants.{Post, Settle, Show}
 use Rattle.plan_reader.specs.declared.plan.Plan.{Plan}
 use Rattle.table_text.specs.TableText.{stopped_text, table_text}
-use Rattle.ason_main.specs.Histories.{History, new_history, state_after}
-use Rattle.ason_main.specs.Outputs.{IsOneRun, IsOutput, IsStoppedOutput, IsTheOutput, IsTheStoppedOutput, LeadThrough, LinePrints, Prints, Shows, UnlessStopped, line_done, run_of, script_of}
+use Rattle.ason_main.specs.Outputs.{IsLawful, IsOneRun, IsOutput, IsStoppedOutput, IsTheOutput, IsTheStoppedOutput, LeadThrough, LinePrints, Prints, Shows, UnlessStopped, line_done, run_of, script_of}
 use Rattle.ason_main.proofs.OneTable.{one_table}
 
--- the laws hold after each first part of these events
-abbrev LawsBefore : Network → List MeshEvent → Type 0
-LawsBefore t es = (first left : List MeshEvent) → first ++ left ≡ es → LawsHold t first
+-- each first part of these events is lawful
+abbrev AreLawful : Network → List Event → Type 0
+AreLawful t es = (first left : List Event) → first ++ left ≡ es → IsLawful t first
+
+-- what makes the table of a mesh one
+record HasOneTable (s : Mesh) : Type 0 where
+  legs : HasOneLegEach s
+  calls : (n : ℕ) → CallsFit n (s.nodes n)
+
+lawful_table : (t : Network) (es : List Event) → IsLawful t es → HasOneTable (image (after t start es))
+lawful_table t es is =
+    subst HasOneTable is.shown.leads (record { legs = is.laws.one_leg; calls = is.laws.calls })
 
 -- Lines
 
-one_show : (p : Plan) (line : Line) (s : Mesh) (a b : List ℕ) → HasOneLegEach s → ((n : ℕ) → CallsFit n (s.nodes n)) →
-    Shows p line s a → Shows p line s b → a ≡ b
-one_show p (Post c) s a b one fit this that = this ∙ sym that
-one_show p (Settle r) s a b one fit this that = this ∙ sym that
-one_show p Show s a b one fit this that =
-    let same : this.0 ≡ that.0 = one_table p.topology s this.0 that.0 one fit this.1 that.1 in
+one_show : (p : Plan) (line : Line) (w : World) (a b : List ℕ) → HasOneTable (image w) →
+    Shows p line w a → Shows p line w b → a ≡ b
+one_show p (Post c) w a b one this that = this ∙ sym that
+one_show p (Settle r) w a b one this that = this ∙ sym that
+one_show p Show w a b one this that =
+    let same : this.0 ≡ that.0 =
+    one_table p.topology (image w) this.0 that.0 one.legs one.calls this.1 that.1 in
     this.2 ∙ (ap (λ (rows : TableRows). table_text p rows) same ∙ sym that.2)
 
-one_line : (p : Plan) (line : Line) (h : History) (a b : List ℕ) → LawsHold p.topology h.events →
+one_line : (p : Plan) (line : Line) (h : History) (a b : List ℕ) → IsLawful p.topology h.events →
     LinePrints p line h a → LinePrints p line h b → a ≡ b
-one_line p line h a b laws this that = go h.stopped this that
+one_line p line h a b lawful this that = go h.stopped this that
   where
-    go : (o : Option NodeId) → UnlessStopped o (Shows p line (state_after p.topology h) a) a →
-        UnlessStopped o (Shows p line (state_after p.topology h) b) b → a ≡ b
-    go None shown seen = one_show p line (state_after p.topology h) a b laws.one_leg laws.calls shown seen
+    go : (o : Option NodeId) → UnlessStopped o (Shows p line (world_after p.topology h) a) a →
+        UnlessStopped o (Shows p line (world_after p.topology h) b) b → a ≡ b
+    go None shown seen =
+        one_show p line (world_after p.topology h) a b (lawful_table p.topology h.events lawful) shown seen
     go (Some n) none nothing = none ∙ sym nothing
 
-so_far : (t : Network) (es : List MeshEvent) (lines : List Line) (h : History) → LeadThrough t es lines h →
-    (left : List MeshEvent) × (h.events ++ left ≡ es)
+so_far : (t : Network) (es : List Event) (lines : List Line) (h : History) → LeadThrough t es lines h →
+    (left : List Event) × (h.events ++ left ≡ es)
 so_far t es [] h lead = ([], append-nil h.events ∙ lead)
 so_far t es (line ∷ lines) h lead = lead.0
 
-one_text : (p : Plan) (es : List MeshEvent) (lines : List Line) (h : History) (a b : List ℕ) →
-    LawsBefore p.topology es → LeadThrough p.topology es lines h →
+one_text : (p : Plan) (es : List Event) (lines : List Line) (h : History) (a b : List ℕ) →
+    AreLawful p.topology es → LeadThrough p.topology es lines h →
     Prints p lines h a → Prints p lines h b → a ≡ b
 one_text p es [] h a b laws lead this that = this ∙ sym that
 one_text p es (line ∷ lines) h a b laws lead this that =

@@ -1,145 +1,249 @@
--- A plan's script as a whole.
-use Rattle.std.proofs.Common.{◌≡◌, ◌<◌, ℕ, zero, suc, List, [], ◌∷◌, ◌++◌, length, get_or, refl, sym, ap, ◌∙◌, subst, arith}
+-- The lines of a script that are done, and where they stop.
+use Rattle.std.proofs.Common.{◌≡◌, ◌<◌, ◌≤◌, ◌+◌, ◌⊎◌, ℕ, List, [], ◌∷◌, ◌++◌, length, get_or, take, drop, inl, inr, refl, sym, ap, ◌∙◌, subst, append_assoc, arith}
+use Rattle.std.specs.Prelude.{Option, Some}
+use Rattle.std.specs.Io.KnownBytes.{Appends}
+use Rattle.std.proofs.KnownBytes.{Appends-nil}
+use Rattle.std.proofs.lemmas.List.{take-append-drop, take_all, take_more}
+use Rattle.ason_io.specs.Faults.{Rose}
 use Rattle.ason_base.specs.declared.ids.CallNo.{CallNo}
 use Rattle.ason_base.specs.declared.ids.NodeId.{NodeId}
-use Rattle.ason_base.specs.Network.{Network, IsTopology}
-use Rattle.mesh_rules.specs.Machine.{Mesh, start}
-use Rattle.mesh_rules.specs.declared.events.MeshEvent.{MeshEvent}
-use Rattle.mesh_rules.specs.Events.{IsRun, step}
-use Rattle.mesh_laws.specs.Laws.{LawsHold}
-use Rattle.mesh_laws.proofs.EveryRun.{laws_hold}
+use Rattle.ason_base.specs.Network.{Network}
+use Rattle.station.specs.Histories.{History, world_after}
+use Rattle.fleet.specs.Standing.{FleetState, StandsFor}
 use Rattle.plan_reader.specs.declared.lines.Line.{Line}
-use Rattle.plan_reader.specs.declared.lines.Line.TheVariants.{Post, Settle, Show}
+use Rattle.plan_reader.specs.declared.lines.Line.TheVariants.{Settle, Show}
 use Rattle.plan_reader.specs.declared.plan.Plan.{Plan}
-use Rattle.table_text.specs.TableText.{stopped_text}
-use Rattle.ason_main.specs.declared.runner.run.Run.{Run}
-use Rattle.ason_main.specs.Histories.{History, new_history}
-use Rattle.ason_main.specs.Outputs.{IsOneRun, IsTheOutput, IsTheStoppedOutput, Prints, run_of, script_of, settling_script}
-use Rattle.plan_reader.specs.Plans.{ArePostable, AreValidLines, IsValidLine, calls_after_line}
-use Rattle.ason_main.specs.Running.{AreCut, AreDone, IsCut, IsDone, StandsNow}
-use Rattle.ason_main.proofs.HistoryRuns.{lines_run}
-use Rattle.ason_main.proofs.Leading.{lead_through}
-use Rattle.ason_main.proofs.Limits.{full_where_stopped}
-use Rattle.ason_main.proofs.OneOutput.{the_output, the_stopped_output}
-use Rattle.ason_main.proofs.Printing.{cut_append, cut_early, cut_one, done_append, done_one}
+use Rattle.plan_reader.specs.Plans.{ArePostable, calls_after_lines}
+use Rattle.ason_main.specs.declared.runner.stops.Stop.{Stop}
+use Rattle.ason_main.specs.Outputs.{line_done, lines_done, settling_script}
+use Rattle.ason_main.specs.Running.{AreCut, AreDone, CanPost, CutsAll, Does, DoesAll, EndsIn, FailsIn, IsReady, RunState, Stops, StopsAll, at}
+use Rattle.ason_main.proofs.Lines.{nothing_printed}
+use Rattle.ason_main.proofs.Printing.{both_done, calls_append, postable_first, postable_rest, prints_one, written_both, written_early, written_later, written_part_early, written_part_later, written_stopped}
+use Rattle.ason_main.proofs.ScriptRuns.{line_posted}
+use Rattle.ason_main.proofs.Stopping.{lines_stay}
 
--- Lines that can be posted
+-- Counts of faults
 
-pub valid_lines : (t : Network) (q : List CallNo) (lines : List Line) → ArePostable t q lines → AreValidLines t lines
-valid_lines t q [] are = tt
-valid_lines t q (Post c ∷ lines) are = (are.0.0, valid_lines t (calls_after_line q (Post c)) lines are.1)
-valid_lines t q (Settle r ∷ lines) are = (tt, valid_lines t q lines are.1)
-valid_lines t q (Show ∷ lines) are = (tt, valid_lines t q lines are.1)
+pub rose_later : (a b c : ℕ) → a ≤ b → Rose b c → Rose a c
+rose_later a b c rises (inl more) = inl (omega arith)
+rose_later a b c rises (inr last) = inr last
 
-pub valid_at : (t : Network) (lines : List Line) (i : ℕ) (d : Line) → i < length lines → AreValidLines t lines → IsValidLine t (get_or lines i d)
-valid_at t [] i d below are = absurd (omega arith)
-valid_at t (line ∷ lines) zero d below are = are.0
-valid_at t (line ∷ lines) (suc i) d below are = valid_at t lines i d (omega arith) are.1
+no_fall : (n : ℕ) → n ≤ n
+no_fall n = omega arith
 
-postable_append : (t : Network) (q : List CallNo) (xs ys : List Line) → ArePostable t q xs → ((r : List CallNo) → ArePostable t r ys) → ArePostable t q (xs ++ ys)
-postable_append t q [] ys first second = second q
-postable_append t q (x ∷ xs) ys first second = (first.0, postable_append t (calls_after_line q x) xs ys first.1 second)
+two_rises : (a b c : ℕ) → a ≤ b → b ≤ c → a ≤ c
+two_rises a b c h k = omega arith
 
-postable_script : (rounds : ℕ) (p : Plan) → ArePostable p.topology [] p.lines → ArePostable p.topology [] (settling_script rounds p)
-postable_script rounds p are = (tt, postable_append p.topology [] p.lines (Settle rounds ∷ Show ∷ []) are (λ r. (tt, (tt, tt))))
+-- One line
 
--- The parts of a script
-
--- what a function does for one line, and for lines
-pub record Does (p : Plan) (old new : Run) (line : Line) : Type 0 where
-  pub done : (h : History) → StandsNow p.topology old h → IsDone p old new line h
-
-pub record DoesAll (p : Plan) (old new : Run) (lines : List Line) : Type 0 where
-  pub done : (h : History) → StandsNow p.topology old h → AreDone p old new lines h
-
-pub record Cuts (p : Plan) (old new : Run) (line : Line) (k : NodeId) : Type 0 where
-  pub cut : (h : History) → StandsNow p.topology old h → IsCut p old new line k h
-
-pub record CutsAll (p : Plan) (old new : Run) (lines : List Line) (k : NodeId) : Type 0 where
-  pub cut : (h : History) → StandsNow p.topology old h → AreCut p old new lines k h
-
-does_one : (p : Plan) (a b : Run) (line : Line) → Does p a b line → DoesAll p a b (line ∷ [])
-does_one p a b line does = record { done = λ h stands. done_one p a b line h (does.done h stands) }
-
-does_both : (p : Plan) (a b c : Run) (xs ys : List Line) → DoesAll p a b xs → DoesAll p b c ys → DoesAll p a c (xs ++ ys)
-does_both p a b c xs ys first second = record { done = λ h stands. let now = first.done h stands in done_append p a b c xs ys h now (second.done _ now.stands) }
-
-cuts_one : (p : Plan) (a b : Run) (line : Line) (k : NodeId) → Cuts p a b line k → CutsAll p a b (line ∷ []) k
-cuts_one p a b line k cuts = record { cut = λ h stands. cut_one p a b line k h (cuts.cut h stands) }
-
-cuts_later : (p : Plan) (a b c : Run) (xs ys : List Line) (k : NodeId) → DoesAll p a b xs → CutsAll p b c ys k → CutsAll p a c (xs ++ ys) k
-cuts_later p a b c xs ys k first second = record { cut = λ h stands. let now = first.done h stands in cut_append p a b c xs ys k h now (second.cut _ now.stands) }
-
-cuts_early : (p : Plan) (a b : Run) (xs ys : List Line) (k : NodeId) → CutsAll p a b xs k → CutsAll p a b (xs ++ ys) k
-cuts_early p a b xs ys k first = record { cut = λ h stands. cut_early p a b xs ys k h (first.cut h stands) }
-
--- The whole script, and where it is cut
-
-abbrev last_lines : ℕ → List Line
-last_lines rounds = Settle rounds ∷ Show ∷ []
-
-pub does_script : (p : Plan) (rounds : ℕ) (a b c d e : Run) → Does p a b (Settle rounds) → DoesAll p b c p.lines → Does p c d (Settle rounds) → Does p d e Show → DoesAll p a e (settling_script rounds p)
-does_script p rounds a b c d e first lines last show =
-    does_both p a b e (Settle rounds ∷ []) (p.lines ++ last_lines rounds) (does_one p a b (Settle rounds) first)
-    (does_both p b c e p.lines (last_lines rounds) lines (does_both p c d e (Settle rounds ∷ []) (Show ∷ []) (does_one p c d (Settle rounds) last) (does_one p d e Show show)))
-
-pub cut_first : (p : Plan) (rounds : ℕ) (a b : Run) (k : NodeId) → Cuts p a b (Settle rounds) k → CutsAll p a b (settling_script rounds p) k
-cut_first p rounds a b k cuts = cuts_early p a b (Settle rounds ∷ []) (p.lines ++ last_lines rounds) k (cuts_one p a b (Settle rounds) k cuts)
-
-pub cut_lines : (p : Plan) (rounds : ℕ) (a b c : Run) (k : NodeId) → Does p a b (Settle rounds) → CutsAll p b c p.lines k → CutsAll p a c (settling_script rounds p) k
-cut_lines p rounds a b c k first cuts =
-    cuts_later p a b c (Settle rounds ∷ []) (p.lines ++ last_lines rounds) k (does_one p a b (Settle rounds) first) (cuts_early p b c p.lines (last_lines rounds) k cuts)
-
-pub cut_last : (p : Plan) (rounds : ℕ) (a b c d : Run) (k : NodeId) → Does p a b (Settle rounds) → DoesAll p b c p.lines → Cuts p c d (Settle rounds) k → CutsAll p a d (settling_script rounds p) k
-cut_last p rounds a b c d k first lines cuts =
-    cuts_later p a b d (Settle rounds ∷ []) (p.lines ++ last_lines rounds) k (does_one p a b (Settle rounds) first)
-    (cuts_later p b c d p.lines (last_lines rounds) k lines (cuts_early p c d (Settle rounds ∷ []) (Show ∷ []) k (cuts_one p c d (Settle rounds) k cuts)))
-
-pub cut_show : (p : Plan) (rounds : ℕ) (a b c d e : Run) (k : NodeId) → Does p a b (Settle rounds) → DoesAll p b c p.lines → Does p c d (Settle rounds) → Cuts p d e Show k → CutsAll p a e (settling_script rounds p) k
-cut_show p rounds a b c d e k first lines last cuts =
-    cuts_later p a b e (Settle rounds ∷ []) (p.lines ++ last_lines rounds) k (does_one p a b (Settle rounds) first)
-    (cuts_later p b c e p.lines (last_lines rounds) k lines (cuts_later p c d e (Settle rounds ∷ []) (Show ∷ []) k (does_one p c d (Settle rounds) last) (cuts_one p d e Show k cuts)))
-
--- Outputs
-
--- each first part of a run is a run
-first_part : (t : Network) (s : Mesh) (first left : List MeshEvent) → IsRun t s (first ++ left) → IsRun t s first
-first_part t s [] left run = tt
-first_part t s (e ∷ first) left run = (run.0, first_part t (step t s e) first left run.1)
-
-laws_before : (t : Network) (events first left : List MeshEvent) → IsRun t start events → first ++ left ≡ events → LawsHold t first
-laws_before t events first left run is = laws_hold t first (first_part t start first left (subst (IsRun t start) (sym is) run))
-
-the_run : (p : Plan) → IsTopology p.topology → ArePostable p.topology [] p.lines → IsRun p.topology start (run_of p).events
-the_run p topology postable = lines_run p.topology topology [] (script_of p) new_history (postable_script 1000 p postable) (record { run = tt; calls = refl })
-
-pub one_run : (p : Plan) → IsTopology p.topology → ArePostable p.topology [] p.lines → IsOneRun p
-one_run p topology postable = record {
-  run = the_run p topology postable;
-  laws = λ first left is. laws_before p.topology (run_of p).events first left (the_run p topology postable) is;
-  leads = lead_through p.topology (script_of p) new_history;
+pub does_line : (p : Plan) (line : Line) (f g : FleetState) (a b : Option (List ℕ)) (n m : ℕ) (text : List ℕ) →
+    Does p line f g text → Appends a b text → n ≤ m → DoesAll p (line ∷ []) (at f a n) (at g b m)
+does_line p line f g a b n m text does written rises = record {
+  done = λ h stands can.
+      let is = does.done h stands can.0 in
+      record {
+        stands = is.stands;
+        posted = line_posted p.topology line h stands.going;
+        printed = (text, prints_one p line h text is.printed, written);
+      };
+  rises = rises;
 }
 
-from_nothing : (p : Plan) (old new : Run) → old.text.items ≡ [] → (text : List ℕ) → new.text.items ≡ old.text.items ++ text → new.text.items ≡ text
-from_nothing p old new none text is = is ∙ ap (λ xs. xs ++ text) none
+-- the sink failed while it took what the line prints
+pub fails_line :
+    (p : Plan) (line : Line) (f g : FleetState) (a b : Option (List ℕ)) (n m : ℕ) (text : List ℕ) →
+    Does p line f g text → (k : ℕ) × (k < length text) × Appends a b (take k text) → Rose n m →
+    FailsIn p (line ∷ []) (at f a n) (at g b m)
+fails_line p line f g a b n m text does part rose = record {
+  rose = rose;
+  part = λ h stands can.
+      (text, (line ∷ [], [], refl, prints_one p line h text (does.done h stands can.0).printed), part);
+}
 
-pub output_of : (p : Plan) (old new : Run) → IsTopology p.topology → ArePostable p.topology [] p.lines → old.text.items ≡ [] →
-    AreDone p old new (script_of p) new_history → IsTheOutput p new.text.items
-output_of p old new topology postable none are =
-    the_output p new.text.items
-    (record {
-      one_run = one_run p topology postable;
-      ended = are.stands.going;
-      printed = subst (Prints p (script_of p) new_history) (sym (from_nothing p old new none are.printed.0 are.printed.1)) are.printed.2;
-    })
+-- the line isn't done, and nothing was written
+pub stops_line : (p : Plan) (line : Line) (f g : FleetState) (a : Option (List ℕ)) (n : ℕ) (s : Stop) →
+    Stops p line f s → StopsAll p (line ∷ []) (at f a n) (at g a n) s
+stops_line p line f g a n (Stop.AtLimit k) stops = record {
+  cut = λ h stands can. record {
+    stopped = stops.cut h stands;
+    printed = (
+      [],
+      prints_one p line h [] (nothing_printed p line (line_done p.topology h line) k (stops.cut h stands)),
+      Appends-nil a,
+    );
+  };
+  rises = no_fall n;
+}
+stops_line p line f g a n Stop.Failed stops = absurd stops
+stops_line p line f g a n Stop.OutOfMemory stops = record {
+  part = λ h stands can. ([], ([], line ∷ [], refl, refl), Appends-nil a);
+}
 
-pub stopped_output_of : (p : Plan) (old new : Run) (n : NodeId) (text : List ℕ) → IsTopology p.topology → ArePostable p.topology [] p.lines → old.text.items ≡ [] →
-    AreCut p old new (script_of p) n new_history → text ≡ new.text.items ++ stopped_text p n → IsTheStoppedOutput p n text
-stopped_output_of p old new n text topology postable none are is =
-    the_stopped_output p n text
-    (record {
-      one_run = one_run p topology postable;
-      stopped = are.stopped;
-      full = full_where_stopped p n are.stopped;
-      printed = (are.printed.0, are.printed.2, is ∙ ap (λ xs. xs ++ stopped_text p n) (from_nothing p old new none are.printed.0 are.printed.1));
-    })
+-- Lines one after the other
+
+pub does_none : (p : Plan) (f : FleetState) (a : Option (List ℕ)) (n : ℕ) → DoesAll p [] (at f a n) (at f a n)
+does_none p f a n = record {
+  done = λ h stands can. record { stands = stands; posted = refl; printed = ([], refl, Appends-nil a) };
+  rises = no_fall n;
+}
+
+-- after the first lines the later ones can be posted
+can_later : (p : Plan) (xs ys : List Line) (old new : RunState) (h : History) → AreDone p xs old new h →
+    CanPost p.topology h (xs ++ ys) → CanPost p.topology (lines_done p.topology xs h) ys
+can_later p xs ys old new h are can =
+    subst (λ q. ArePostable p.topology q ys) (sym are.posted)
+    (postable_rest p.topology (world_after p.topology h).posted xs ys can)
+
+pub does_both : (p : Plan) (xs ys : List Line) (a b c : RunState) → DoesAll p xs a b → DoesAll p ys b c →
+    DoesAll p (xs ++ ys) a c
+does_both p xs ys a b c first second = record {
+  done = λ h stands can.
+      let t = p.topology in
+      let here = first.done h stands (postable_first t (world_after t h).posted xs ys can) in
+      let there = second.done (lines_done t xs h) here.stands (can_later p xs ys a b h here can) in
+      record {
+        stands = subst (StandsFor t c.fleet) (sym (both_done p xs ys h)) there.stands;
+        posted = ap (λ g. (world_after t g).posted) (both_done p xs ys h)
+            ∙ (there.posted ∙ (ap (λ q. calls_after_lines q ys) here.posted
+            ∙ sym (calls_append (world_after t h).posted xs ys)));
+        printed = written_both p xs ys h a.written b.written c.written here.printed there.printed;
+      };
+  rises = two_rises a.faults b.faults c.faults first.rises second.rises;
+}
+
+pub stops_early : (p : Plan) (xs ys : List Line) (a b : RunState) (s : Stop) → StopsAll p xs a b s →
+    StopsAll p (xs ++ ys) a b s
+stops_early p xs ys a b (Stop.AtLimit k) stops = record {
+  cut = λ h stands can.
+      let t = p.topology in
+      let here = stops.cut h stands (postable_first t (world_after t h).posted xs ys can) in
+      record {
+        stopped = ap (λ (g : History). g.stopped) (both_done p xs ys h
+            ∙ lines_stay t ys (lines_done t xs h) k (record { stopped = here.stopped })) ∙ here.stopped;
+        printed = written_stopped p xs ys h a.written b.written k here.stopped here.printed;
+      };
+  rises = stops.rises;
+}
+stops_early p xs ys a b Stop.Failed stops = record {
+  rose = stops.rose;
+  part = λ h stands can.
+      written_part_early p xs ys h a.written b.written
+      (stops.part h stands (postable_first p.topology (world_after p.topology h).posted xs ys can));
+}
+stops_early p xs ys a b Stop.OutOfMemory stops = record {
+  part = λ h stands can.
+      written_early p xs ys h a.written b.written
+      (stops.part h stands (postable_first p.topology (world_after p.topology h).posted xs ys can));
+}
+
+pub stops_later : (p : Plan) (xs ys : List Line) (a b c : RunState) (s : Stop) → DoesAll p xs a b →
+    StopsAll p ys b c s → StopsAll p (xs ++ ys) a c s
+stops_later p xs ys a b c (Stop.AtLimit k) first stops = record {
+  cut = λ h stands can.
+      let t = p.topology in
+      let here = first.done h stands (postable_first t (world_after t h).posted xs ys can) in
+      let there = stops.cut (lines_done t xs h) here.stands (can_later p xs ys a b h here can) in
+      record {
+        stopped = ap (λ (g : History). g.stopped) (both_done p xs ys h) ∙ there.stopped;
+        printed = written_both p xs ys h a.written b.written c.written here.printed there.printed;
+      };
+  rises = two_rises a.faults b.faults c.faults first.rises stops.rises;
+}
+stops_later p xs ys a b c Stop.Failed first stops = record {
+  rose = rose_later a.faults b.faults c.faults first.rises stops.rose;
+  part = λ h stands can.
+      let t = p.topology in
+      let here = first.done h stands (postable_first t (world_after t h).posted xs ys can) in
+      written_part_later p xs ys h a.written b.written c.written here.printed
+      (stops.part (lines_done t xs h) here.stands (can_later p xs ys a b h here can));
+}
+stops_later p xs ys a b c Stop.OutOfMemory first stops = record {
+  part = λ h stands can.
+      let t = p.topology in
+      let here = first.done h stands (postable_first t (world_after t h).posted xs ys can) in
+      written_later p xs ys h a.written b.written c.written here.printed
+      (stops.part (lines_done t xs h) here.stands (can_later p xs ys a b h here can));
+}
+
+-- Lines by number
+
+parts : (lines : List Line) (i : ℕ) (d : Line) → i < length lines →
+    take i lines ++ (get_or lines i d ∷ drop (i + 1) lines) ≡ lines
+parts lines i d below =
+    sym (append_assoc (take i lines) (get_or lines i d ∷ []) (drop (i + 1) lines))
+    ∙ (ap (λ xs. xs ++ drop (i + 1) lines) (sym (take_more lines i d below)) ∙ take-append-drop (i + 1) lines)
+
+pub does_more : (p : Plan) (lines : List Line) (i : ℕ) (d : Line) (a b c : RunState) → i < length lines →
+    DoesAll p (take i lines) a b → DoesAll p (get_or lines i d ∷ []) b c → DoesAll p (take (i + 1) lines) a c
+does_more p lines i d a b c below first second =
+    subst (λ ls. DoesAll p ls a c) (sym (take_more lines i d below))
+    (does_both p (take i lines) (get_or lines i d ∷ []) a b c first second)
+
+pub stops_at : (p : Plan) (lines : List Line) (i : ℕ) (d : Line) (a b c : RunState) (s : Stop) → i < length lines →
+    DoesAll p (take i lines) a b → StopsAll p (get_or lines i d ∷ []) b c s → StopsAll p lines a c s
+stops_at p lines i d a b c s below first stops =
+    subst (λ ls. StopsAll p ls a c s) (parts lines i d below)
+    (stops_later p (take i lines) (get_or lines i d ∷ drop (i + 1) lines) a b c s first
+    (stops_early p (get_or lines i d ∷ []) (drop (i + 1) lines) b c s stops))
+
+-- Ready for more lines
+
+pub ready_first : (p : Plan) (xs ys : List Line) (f : FleetState) → IsReady p (xs ++ ys) f → IsReady p xs f
+ready_first p xs ys f is =
+    (is.0, is.1, postable_first p.topology (world_after p.topology is.0).posted xs ys is.2)
+
+pub ready_later : (p : Plan) (xs ys : List Line) (a b : RunState) → IsReady p (xs ++ ys) a.fleet →
+    DoesAll p xs a b → IsReady p ys b.fleet
+ready_later p xs ys a b is does =
+    let t = p.topology in
+    let are = does.done is.0 is.1 (postable_first t (world_after t is.0).posted xs ys is.2) in
+    (lines_done t xs is.0, are.stands, can_later p xs ys a b is.0 are is.2)
+
+pub ready_at : (p : Plan) (lines : List Line) (i : ℕ) (d : Line) (a b : RunState) → i < length lines →
+    IsReady p lines a.fleet → DoesAll p (take i lines) a b → IsReady p (get_or lines i d ∷ []) b.fleet
+ready_at p lines i d a b below is does =
+    ready_first p (get_or lines i d ∷ []) (drop (i + 1) lines) b.fleet
+    (ready_later p (take i lines) (get_or lines i d ∷ drop (i + 1) lines) a b
+    (subst (λ ls. IsReady p ls a.fleet) (sym (parts lines i d below)) is) does)
+
+-- The whole script
+
+abbrev pub first_lines : ℕ → List Line
+first_lines rounds = Settle rounds ∷ []
+
+abbrev pub last_lines : ℕ → List Line
+last_lines rounds = Settle rounds ∷ Show ∷ []
+
+pub does_script : (p : Plan) (rounds : ℕ) (a b c d : RunState) → DoesAll p (first_lines rounds) a b →
+    DoesAll p p.lines b c → DoesAll p (last_lines rounds) c d → DoesAll p (settling_script rounds p) a d
+does_script p rounds a b c d first lines last =
+    does_both p (first_lines rounds) (p.lines ++ last_lines rounds) a b d first
+    (does_both p p.lines (last_lines rounds) b c d lines last)
+
+pub stops_first : (p : Plan) (rounds : ℕ) (a b : RunState) (s : Stop) → StopsAll p (first_lines rounds) a b s →
+    StopsAll p (settling_script rounds p) a b s
+stops_first p rounds a b s stops = stops_early p (first_lines rounds) (p.lines ++ last_lines rounds) a b s stops
+
+pub stops_lines : (p : Plan) (rounds : ℕ) (a b c : RunState) (s : Stop) → DoesAll p (first_lines rounds) a b →
+    StopsAll p p.lines b c s → StopsAll p (settling_script rounds p) a c s
+stops_lines p rounds a b c s first stops =
+    stops_later p (first_lines rounds) (p.lines ++ last_lines rounds) a b c s first
+    (stops_early p p.lines (last_lines rounds) b c s stops)
+
+pub stops_last : (p : Plan) (rounds : ℕ) (a b c d : RunState) (s : Stop) → DoesAll p (first_lines rounds) a b →
+    DoesAll p p.lines b c → StopsAll p (last_lines rounds) c d s → StopsAll p (settling_script rounds p) a d s
+stops_last p rounds a b c d s first lines stops =
+    stops_later p (first_lines rounds) (p.lines ++ last_lines rounds) a b d s first
+    (stops_later p p.lines (last_lines rounds) b c d s lines stops)
+
+pub ready_lines : (p : Plan) (rounds : ℕ) (a b : RunState) → IsReady p (settling_script rounds p) a.fleet →
+    DoesAll p (first_lines rounds) a b → IsReady p p.lines b.fleet
+ready_lines p rounds a b is first =
+    ready_first p p.lines (last_lines rounds) b.fleet
+    (ready_later p (first_lines rounds) (p.lines ++ last_lines rounds) a b is first)
+
+pub ready_last : (p : Plan) (rounds : ℕ) (a b c : RunState) → IsReady p (settling_script rounds p) a.fleet →
+    DoesAll p (first_lines rounds) a b → DoesAll p p.lines b c → IsReady p (last_lines rounds) c.fleet
+ready_last p rounds a b c is first lines =
+    ready_later p p.lines (last_lines rounds) b c
+    (ready_later p (first_lines rounds) (p.lines ++ last_lines rounds) a b is first) lines

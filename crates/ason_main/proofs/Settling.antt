@@ -1,65 +1,94 @@
--- Rounds until all is quiet, and what is quiet and what waits by the nodes' neighbours.
-use Rattle.std.proofs.Common.{◌≡◌, ◌<◌, ◌≤◌, ◌+◌, ◌-◌, ℕ, suc, Bool, true, false, cond, List, [], refl, sym, ap, ◌∙◌, arith}
-use Rattle.std.specs.Prelude.{◌&&◌, Some, map, sum_by}
-use Rattle.std.specs.List.{list_all}
-use Rattle.std.proofs.lemmas.List.Folds.{fold-map, list_all-map}
+-- Rounds until all is quiet.
+use Rattle.std.proofs.Common.{◌≡◌, ◌<◌, ◌≤◌, ◌+◌, ◌-◌, ℕ, suc, Bool, true, false, cond, refl, sym, ap, ◌∙◌, subst, arith}
+use Rattle.std.specs.Prelude.{Some}
 use Rattle.ason_base.specs.declared.ids.NodeId.{NodeId}
 use Rattle.ason_base.specs.Network.{Network}
-use Rattle.ason_main.specs.declared.runner.lanes.Lane.{Lane}
-use Rattle.ason_main.specs.declared.runner.seats.Seat.{Seat}
-use Rattle.ason_main.specs.Histories.{History, state_after}
-use Rattle.ason_main.specs.Kept.{mesh_with}
-use Rattle.ason_main.specs.Rounds.{Around, around, has_no_item, has_no_mail, is_quiet, mail_waiting, mail_waiting_at, round, settled}
+use Rattle.station.specs.Histories.{History, world_after}
+use Rattle.fleet.specs.Rounds.{is_quiet, round, settled}
+use Rattle.fleet.specs.declared.fleet.RoundFault.{RoundFault}
+use Rattle.fleet.specs.declared.fleet.RoundFault.TheVariants.{AtLimit, Starved}
+use Rattle.fleet.specs.Standing.{FleetState, StandsFor}
+use Rattle.ason_main.specs.Running.{StopsSettling}
 use Rattle.ason_main.proofs.Stopping.{settled_stays}
-
-quiet_of : (t : Network) (seats : List Seat) (lanes : List Lane) (hoods : List Around) → hoods ≡ map (around t) t.nodes →
-    (list_all (λ k. has_no_item (mesh_with seats [] []) k.id) hoods && list_all (λ k. has_no_mail (mesh_with [] lanes []) k.id k.near) hoods) ≡ is_quiet t (mesh_with seats lanes [])
-quiet_of t seats lanes hoods are =
-    ap (λ (ks : List Around). list_all (λ k. has_no_item (mesh_with seats [] []) k.id) ks && list_all (λ k. has_no_mail (mesh_with [] lanes []) k.id k.near) ks) are
-    ∙ (λ i. list_all-map (λ (k : Around). has_no_item (mesh_with seats [] []) k.id) (around t) t.nodes i && list_all-map (λ (k : Around). has_no_mail (mesh_with [] lanes []) k.id k.near) (around t) t.nodes i)
-
-pub quiet_then : (t : Network) (seats : List Seat) (lanes : List Lane) (hoods : List Around) (mails : Bool) → hoods ≡ map (around t) t.nodes → list_all (λ k. has_no_item (mesh_with seats [] []) k.id) hoods ≡ true →
-    mails ≡ list_all (λ k. has_no_mail (mesh_with [] lanes []) k.id k.near) hoods → mails ≡ is_quiet t (mesh_with seats lanes [])
-quiet_then t seats lanes hoods mails are items is =
-    is ∙ (sym (ap (λ b. b && list_all (λ k. has_no_mail (mesh_with [] lanes []) k.id k.near) hoods) items) ∙ quiet_of t seats lanes hoods are)
-
-pub quiet_else : (t : Network) (seats : List Seat) (lanes : List Lane) (hoods : List Around) → hoods ≡ map (around t) t.nodes → list_all (λ k. has_no_item (mesh_with seats [] []) k.id) hoods ≡ false → false ≡ is_quiet t (mesh_with seats lanes [])
-quiet_else t seats lanes hoods are items =
-    sym (ap (λ b. b && list_all (λ k. has_no_mail (mesh_with [] lanes []) k.id k.near) hoods) items) ∙ quiet_of t seats lanes hoods are
-
-pub waiting_of : (t : Network) (lanes : List Lane) (hoods : List Around) → hoods ≡ map (around t) t.nodes →
-    sum_by (λ a. mail_waiting_at (mesh_with [] lanes []) a.id a.near) hoods ≡ mail_waiting t (mesh_with [] lanes [])
-waiting_of t lanes hoods are =
-    ap (λ (ks : List Around). sum_by (λ a. mail_waiting_at (mesh_with [] lanes []) a.id a.near) ks) are ∙ fold-map (λ (total : ℕ) (a : Around). total + mail_waiting_at (mesh_with [] lanes []) a.id a.near) (around t) 0 t.nodes
-
--- Rounds
 
 one_less : (count i : ℕ) → i < count → count - i ≡ suc (count - (i + 1))
 one_less count i h = omega arith
 
-settled_step : (t : Network) (r : ℕ) (h : History) → settled t (suc r) h ≡ cond (is_quiet t (state_after t h)) h (settled t r (round t h))
+settled_step : (t : Network) (r : ℕ) (h : History) →
+    settled t (suc r) h ≡ cond (is_quiet t (world_after t h)) h (settled t r (round t h))
 unfolding settled
 settled_step t r h = refl
 
-pub settled_all : (t : Network) (rounds : ℕ) (h : History) → settled t (rounds - 0) h ≡ settled t rounds h
-settled_all t rounds h = let all : rounds - 0 ≡ rounds = omega arith in ap (λ k. settled t k h) all
-
-pub settled_quiet : (t : Network) (rounds i : ℕ) (h : History) → i < rounds → is_quiet t (state_after t h) ≡ true → settled t (rounds - i) h ≡ h
-settled_quiet t rounds i h below quiet = ap (λ k. settled t k h) (one_less rounds i below) ∙ (settled_step t (rounds - (i + 1)) h ∙ ap (λ b. cond b h (settled t (rounds - (i + 1)) (round t h))) quiet)
-
-pub settled_next : (t : Network) (rounds i : ℕ) (h : History) → i < rounds → is_quiet t (state_after t h) ≡ false → settled t (rounds - i) h ≡ settled t (rounds - (i + 1)) (round t h)
-settled_next t rounds i h below busy = ap (λ k. settled t k h) (one_less rounds i below) ∙ (settled_step t (rounds - (i + 1)) h ∙ ap (λ b. cond b h (settled t (rounds - (i + 1)) (round t h))) busy)
+settled_more : (t : Network) (rounds i : ℕ) (h : History) → i < rounds → (b : Bool) →
+    is_quiet t (world_after t h) ≡ b →
+    settled t (rounds - i) h ≡ cond b h (settled t (rounds - (i + 1)) (round t h))
+settled_more t rounds i h below b is =
+    ap (λ k. settled t k h) (one_less rounds i below) ∙ (settled_step t (rounds - (i + 1)) h
+    ∙ ap (λ c. cond c h (settled t (rounds - (i + 1)) (round t h))) is)
 
 settled_none : (t : Network) (h : History) → settled t 0 h ≡ h
 unfolding settled
 settled_none t h = refl
 
-pub settled_end : (t : Network) (rounds i : ℕ) (h : History) → rounds ≤ i → settled t (rounds - i) h ≡ h
-settled_end t rounds i h past =
+-- after so many rounds the stations stand for a run from which as many are left
+pub record IsSettling (rounds made : ℕ) (old new : FleetState) : Type 0 where
+  pub so_far :
+      (t : Network) (h : History) → StandsFor t old h →
+      (g : History) × StandsFor t new g × (settled t (rounds - made) g ≡ settled t rounds h)
+
+pub settling_begins : (rounds : ℕ) (f : FleetState) → IsSettling rounds 0 f f
+settling_begins rounds f = record { so_far = λ t h stands. (h, stands, ap (λ k. settled t k h) all) }
+  where
+    all : rounds - 0 ≡ rounds
+    all = omega arith
+
+-- it is quiet
+pub settled_quiet : (rounds i : ℕ) (old new : FleetState) → i < rounds → IsSettling rounds i old new →
+    ((t : Network) (h : History) → StandsFor t new h → is_quiet t (world_after t h) ≡ true) →
+    (t : Network) (h : History) → StandsFor t old h → StandsFor t new (settled t rounds h)
+settled_quiet rounds i old new below is quiet t h stands =
+    let x = is.so_far t h stands in
+    let same : settled t (rounds - i) x.0 ≡ x.0 = settled_more t rounds i x.0 below true (quiet t x.0 x.1) in
+    subst (StandsFor t new) (sym same ∙ x.2) x.1
+
+-- one round more
+pub settled_next : (rounds i : ℕ) (old now new : FleetState) → i < rounds → IsSettling rounds i old now →
+    ((t : Network) (h : History) → StandsFor t now h → is_quiet t (world_after t h) ≡ false) →
+    ((t : Network) (h : History) → StandsFor t now h → StandsFor t new (round t h)) →
+    IsSettling rounds (i + 1) old new
+settled_next rounds i old now new below is busy on = record {
+  so_far = λ t h stands.
+      let x = is.so_far t h stands in
+      (round t x.0, on t x.0 x.1, sym (settled_more t rounds i x.0 below false (busy t x.0 x.1)) ∙ x.2);
+}
+
+-- all rounds were made
+pub settled_end : (rounds i : ℕ) (old new : FleetState) → rounds ≤ i → IsSettling rounds i old new →
+    (t : Network) (h : History) → StandsFor t old h → StandsFor t new (settled t rounds h)
+settled_end rounds i old new past is t h stands =
+    let x = is.so_far t h stands in
     let none : rounds - i ≡ 0 = omega arith in
-    ap (λ k. settled t k h) none ∙ settled_none t h
+    let same : settled t (rounds - i) x.0 ≡ x.0 = ap (λ k. settled t k x.0) none ∙ settled_none t x.0 in
+    subst (StandsFor t new) (sym same ∙ x.2) x.1
 
 -- the run is stopped in a round
-pub settled_cut : (t : Network) (rounds i : ℕ) (h g : History) (k : NodeId) → i < rounds → is_quiet t (state_after t g) ≡ false → settled t (rounds - i) g ≡ settled t rounds h → (round t g).stopped ≡ Some k → (settled t rounds h).stopped ≡ Some k
-settled_cut t rounds i h g k below busy same stopped =
-    ap (λ (x : History). x.stopped) (sym same ∙ (settled_next t rounds i g below busy ∙ settled_stays t (rounds - (i + 1)) (round t g) k (record { stopped = stopped }))) ∙ stopped
+pub settled_cut : (rounds i : ℕ) (old now : FleetState) (n : NodeId) → i < rounds → IsSettling rounds i old now →
+    ((t : Network) (h : History) → StandsFor t now h → is_quiet t (world_after t h) ≡ false) →
+    ((t : Network) (h : History) → StandsFor t now h → (round t h).stopped ≡ Some n) →
+    (t : Network) (h : History) → StandsFor t old h → (settled t rounds h).stopped ≡ Some n
+settled_cut rounds i old now n below is busy stops t h stands =
+    let x = is.so_far t h stands in
+    let stopped : (round t x.0).stopped ≡ Some n = stops t x.0 x.1 in
+    let same : settled t rounds h ≡ round t x.0 =
+    sym x.2 ∙ (settled_more t rounds i x.0 below false (busy t x.0 x.1)
+    ∙ settled_stays t (rounds - (i + 1)) (round t x.0) n (record { stopped = stopped })) in
+    ap (λ (g : History). g.stopped) same ∙ stopped
+
+pub settling_stops : (rounds i : ℕ) (old now : FleetState) (e : RoundFault) → i < rounds →
+    IsSettling rounds i old now →
+    ((t : Network) (h : History) → StandsFor t now h → is_quiet t (world_after t h) ≡ false) →
+    ((n : NodeId) → e ≡ AtLimit n → (t : Network) (h : History) → StandsFor t now h → (round t h).stopped ≡ Some n) →
+    StopsSettling rounds old e
+settling_stops rounds i old now (AtLimit n) below is busy stops =
+    settled_cut rounds i old now n below is busy (stops n refl)
+settling_stops rounds i old now Starved below is busy stops = tt

@@ -4,7 +4,6 @@ use Rattle.std.specs.Io.KnownBytes.{Appends}
 use Rattle.ason_io.specs.Faults.{Rose}
 use Rattle.ason_io.specs.Reading.{HasRead, WasReadToEnd}
 use Rattle.plan_reader.specs.declared.plan.Plan.{Plan}
-use Rattle.ason_main.specs.declared.ason.Reply.{Reply}
 use Rattle.ason_main.specs.declared.ason.Status.{Status}
 use Rattle.ason_main.specs.declared.ason.Task.{Task}
 use Rattle.ason_base.specs.declared.ids.NodeId.{NodeId}
@@ -12,7 +11,7 @@ use Rattle.plan_reader.specs.declared.faults.PlanFault.{PlanFault}
 use Rattle.message_text.specs.DecodeText.{IsDecodeText}
 use Rattle.message_text.specs.OneText.{IsOne}
 use Rattle.table_text.specs.FaultText.{refused_text}
-use Rattle.ason_main.specs.Outputs.{IsTheOutput, IsTheStoppedOutput, run_of}
+use Rattle.ason_main.specs.Outputs.{IsBegun, IsTheOutput, IsTheStoppedOutput, run_of}
 use Rattle.plan_reader.specs.Plans.{PlanOf}
 
 -- the words are this one word
@@ -23,16 +22,31 @@ is_word (w ∷ v ∷ ws) word = false
 
 -- what the words ask for: the one word `run` or the one word `decode`; all else has no meaning
 abbrev pub task_of : List (List ℕ) → Option Task
-task_of words = if is_word words (codes "run") then Some Task.Run else (if is_word words (codes "decode") then Some Task.Decode else None)
+task_of words =
+    if is_word words (codes "run") then Some Task.Run
+    else (if is_word words (codes "decode") then Some Task.Decode else None)
 
+-- Replies
+
+-- a reply, with what is to be written of it
+pub data Reply : Type 0 where
+  Done : (text : List ℕ) → Reply
+  Usage : Reply
+  PlanRefused : (text : List ℕ) → Reply
+  ReadFault : Reply
+  EventLimit : (text : List ℕ) → Reply
+  Unfinished : (text : List ℕ) → Reply  -- what is to be written until memory is wanting, or the sink fails
+  TooLong : Reply
+
+-- the status of a reply that was written as a whole
 abbrev pub status_of : Reply → Status
-status_of (Reply.Done text) = Status.Done
-status_of Reply.Usage = Status.Usage
-status_of (Reply.PlanRefused text) = Status.PlanRefused
-status_of Reply.ReadFault = Status.ReadFault
-status_of (Reply.EventLimit text) = Status.EventLimit
-status_of Reply.OutOfMemory = Status.OutOfMemory
-status_of Reply.TooLong = Status.TooLong
+status_of (Done text) = Status.Done
+status_of Usage = Status.Usage
+status_of (PlanRefused text) = Status.PlanRefused
+status_of ReadFault = Status.ReadFault
+status_of (EventLimit text) = Status.EventLimit
+status_of (Unfinished text) = Status.OutOfMemory
+status_of TooLong = Status.TooLong
 
 -- the exit status of the process
 abbrev pub exit_status : Status → ℕ
@@ -45,74 +59,117 @@ exit_status Status.EventLimit = 6
 exit_status Status.OutOfMemory = 7
 exit_status Status.TooLong = 8
 
--- what is written
+-- what is to be written
 abbrev pub text_of_reply : Reply → List ℕ
-text_of_reply (Reply.Done text) = text.items
-text_of_reply Reply.Usage = codes "usage: ason run [--workers N] [--stride T] [--trace] | check | decode | route FROM TO | load SEED NODES CALLS\n"
-text_of_reply (Reply.PlanRefused text) = text.items
-text_of_reply Reply.ReadFault = []
-text_of_reply (Reply.EventLimit text) = text.items
-text_of_reply Reply.OutOfMemory = []
-text_of_reply Reply.TooLong = codes "refused input too long\n"
+text_of_reply (Done text) = text
+text_of_reply Usage =
+    codes "usage: ason run [--workers N] [--stride T] [--trace] | check | decode | route FROM TO | load SEED NODES CALLS\n"
+text_of_reply (PlanRefused text) = text
+text_of_reply ReadFault = []
+text_of_reply (EventLimit text) = text
+text_of_reply (Unfinished text) = text
+text_of_reply TooLong = codes "refused input too long\n"
+
+-- Judging
+
+-- nothing was told yet, or what is told of a plan is begun
+abbrev pub IsFirstPart : List ℕ → List ℕ → Type 0
+IsFirstPart bs text = (text ≡ []) ⊎ ((p : Plan) × PlanOf bs (Ok p) × IsBegun p text)
 
 -- what the reply to `run` says of the bytes that were read to their end
 abbrev pub IsRunReply : List ℕ → Reply → Type 0
-IsRunReply bs (Reply.Done text) = (p : Plan) × PlanOf bs (Ok p) × IsTheOutput p text.items
-IsRunReply bs (Reply.PlanRefused text) = (f : PlanFault) × PlanOf bs (Err f) × (text.items ≡ refused_text f)
-IsRunReply bs (Reply.EventLimit text) = (p : Plan) × PlanOf bs (Ok p) × ((n : NodeId) × IsTheStoppedOutput p n text.items)
-IsRunReply bs Reply.OutOfMemory = Unit {0}
-IsRunReply bs Reply.Usage = ⊥
-IsRunReply bs Reply.ReadFault = ⊥
-IsRunReply bs Reply.TooLong = ⊥
+IsRunReply bs (Done text) = (p : Plan) × PlanOf bs (Ok p) × IsTheOutput p text
+IsRunReply bs (PlanRefused text) = (f : PlanFault) × PlanOf bs (Err f) × (text ≡ refused_text f)
+IsRunReply bs (EventLimit text) = (p : Plan) × PlanOf bs (Ok p) × ((n : NodeId) × IsTheStoppedOutput p n text)
+IsRunReply bs (Unfinished text) = IsFirstPart bs text
+IsRunReply bs Usage = ⊥
+IsRunReply bs ReadFault = ⊥
+IsRunReply bs TooLong = ⊥
 
 -- what the reply to `decode` says of them
 abbrev pub IsDecodeReply : List ℕ → Reply → Type 0
-IsDecodeReply bs (Reply.Done text) = IsOne (IsDecodeText bs) text.items
-IsDecodeReply bs (Reply.PlanRefused text) = ⊥
-IsDecodeReply bs (Reply.EventLimit text) = ⊥
-IsDecodeReply bs Reply.OutOfMemory = Unit {0}
-IsDecodeReply bs Reply.Usage = ⊥
-IsDecodeReply bs Reply.ReadFault = ⊥
-IsDecodeReply bs Reply.TooLong = ⊥
+IsDecodeReply bs (Done text) = IsOne (IsDecodeText bs) text
+IsDecodeReply bs (PlanRefused text) = ⊥
+IsDecodeReply bs (EventLimit text) = ⊥
+IsDecodeReply bs (Unfinished text) = text ≡ []
+IsDecodeReply bs Usage = ⊥
+IsDecodeReply bs ReadFault = ⊥
+IsDecodeReply bs TooLong = ⊥
 
 abbrev pub IsJudged : Task → List ℕ → Reply → Type 0
 IsJudged Task.Run bs r = IsRunReply bs r
 IsJudged Task.Decode bs r = IsDecodeReply bs r
 
+-- Reading
+
 -- the source was read to its end, which came after at most 4,194,304 bytes, and that is what is judged
-abbrev pub IsReadAndJudged : {S : Type 0} → (S → Option (List ℕ)) → (S → List ℕ → S → Type 0) → (S → Type 0) → S → S → Task → Reply → Type 0
-IsReadAndJudged left handed ended old new k r = (bs : List ℕ) × WasReadToEnd left handed ended old new bs × (length bs ≤ 4194304) × IsJudged k bs r
+abbrev pub IsReadAndJudged :
+    {S : Type 0} → (S → Option (List ℕ)) → (S → List ℕ → S → Type 0) → (S → Type 0) → S → S → Task →
+    Reply → Type 0
+IsReadAndJudged left handed ended old new k r =
+    (bs : List ℕ) × WasReadToEnd left handed ended old new bs × (length bs ≤ 4194304) × IsJudged k bs r
 
 -- at most 4,194,304 bytes were read
 abbrev pub HasReadFew : {S : Type 0} → (S → Option (List ℕ)) → (S → List ℕ → S → Type 0) → S → S → Type 0
 HasReadFew left handed old new = HasRead left handed old new (λ n. n ≤ 4194304)
 
 -- what the reply to this says of the source
-abbrev pub IsReplyFor : {S : Type 0} → (S → Option (List ℕ)) → (S → List ℕ → S → Type 0) → (S → Type 0) → (S → ℕ) → S → S → Task → Reply → Type 0
-IsReplyFor left handed ended faults old new k (Reply.Done text) = IsReadAndJudged left handed ended old new k (Reply.Done text)
-IsReplyFor left handed ended faults old new k Reply.Usage = ⊥
-IsReplyFor left handed ended faults old new k (Reply.PlanRefused text) = IsReadAndJudged left handed ended old new k (Reply.PlanRefused text)
-IsReplyFor left handed ended faults old new k Reply.ReadFault = Rose (faults old) (faults new) × HasReadFew left handed old new
-IsReplyFor left handed ended faults old new k (Reply.EventLimit text) = IsReadAndJudged left handed ended old new k (Reply.EventLimit text)
-IsReplyFor left handed ended faults old new k Reply.OutOfMemory = HasReadFew left handed old new
-IsReplyFor left handed ended faults old new k Reply.TooLong = HasRead left handed old new (λ n. n ≡ 4194304 + 1)
+abbrev pub IsReplyFor :
+    {S : Type 0} → (S → Option (List ℕ)) → (S → List ℕ → S → Type 0) → (S → Type 0) → (S → ℕ) → S → S →
+    Task → Reply → Type 0
+IsReplyFor left handed ended faults old new k (Done text) =
+    IsReadAndJudged left handed ended old new k (Done text)
+IsReplyFor left handed ended faults old new k Usage = ⊥
+IsReplyFor left handed ended faults old new k (PlanRefused text) =
+    IsReadAndJudged left handed ended old new k (PlanRefused text)
+IsReplyFor left handed ended faults old new k ReadFault =
+    Rose (faults old) (faults new) × HasReadFew left handed old new
+IsReplyFor left handed ended faults old new k (EventLimit text) =
+    IsReadAndJudged left handed ended old new k (EventLimit text)
+IsReplyFor left handed ended faults old new k (Unfinished text) =
+    HasReadFew left handed old new × ((text ≡ []) ⊎ IsReadAndJudged left handed ended old new k (Unfinished text))
+IsReplyFor left handed ended faults old new k TooLong =
+    HasRead left handed old new (λ n. n ≡ 4194304 + 1)
 
 -- where the words have no meaning the reply is the usage, and nothing is read
-abbrev pub IsReplyTo : {S : Type 0} → (S → Option (List ℕ)) → (S → List ℕ → S → Type 0) → (S → Type 0) → (S → ℕ) → S → S → Reply → Option Task → Type 0
-IsReplyTo left handed ended faults old new r None = (r ≡ Reply.Usage) × (new ≡ old)
+abbrev pub IsReplyTo :
+    {S : Type 0} → (S → Option (List ℕ)) → (S → List ℕ → S → Type 0) → (S → Type 0) → (S → ℕ) → S → S →
+    Reply → Option Task → Type 0
+IsReplyTo left handed ended faults old new r None = (r ≡ Usage) × (new ≡ old)
 IsReplyTo left handed ended faults old new r (Some k) = IsReplyFor left handed ended faults old new k r
 
 -- what the reply says of the words and the source
-abbrev pub IsReply : {S : Type 0} → (S → Option (List ℕ)) → (S → List ℕ → S → Type 0) → (S → Type 0) → (S → ℕ) → List (List ℕ) → S → S → Reply → Type 0
+abbrev pub IsReply :
+    {S : Type 0} → (S → Option (List ℕ)) → (S → List ℕ → S → Type 0) → (S → Type 0) → (S → ℕ) →
+    List (List ℕ) → S → S → Reply → Type 0
 IsReply left handed ended faults words old new r = IsReplyTo left handed ended faults old new r (task_of words)
+
+-- Writing
+
+-- the text was written and the status is this one, or the sink failed and only a part was written
+abbrev pub WasTold : {K : Type 0} → (K → Option (List ℕ)) → (K → ℕ) → K → K → List ℕ → Status → Status → Type 0
+WasTold written faults old new text status s =
+    ((s ≡ status) × Appends (written old) (written new) text)
+    ⊎ ((s ≡ Status.WriteFault) × Rose (faults old) (faults new)
+    × ((n : ℕ) × (n < length text) × Appends (written old) (written new) (take n text)))
+
+-- or memory was wanting, and nothing was written
+abbrev pub WasToldOrNothing : {K : Type 0} → (K → Option (List ℕ)) → (K → ℕ) → K → K → List ℕ → Status → Status → Type 0
+WasToldOrNothing written faults old new text status s =
+    WasTold written faults old new text status s ⊎ ((s ≡ Status.OutOfMemory) × Appends (written old) (written new) [])
 
 -- the reply's status is answered and its text written, or the sink failed and only a part was written
 abbrev pub WasGiven : {K : Type 0} → (K → Option (List ℕ)) → (K → ℕ) → K → K → Reply → Status → Type 0
-WasGiven written faults old new r s =
-    ((s ≡ status_of r) × Appends (written old) (written new) (text_of_reply r))
-    ⊎ ((s ≡ Status.WriteFault) × Rose (faults old) (faults new) × ((n : ℕ) × (n < length (text_of_reply r)) × Appends (written old) (written new) (take n (text_of_reply r))))
+WasGiven written faults old new r s = WasTold written faults old new (text_of_reply r) (status_of r) s
 
--- the status is one of these, for this plan: done where the run comes to its end, the event limit where it doesn't, or want of memory
+-- a reply to the bytes was given
+abbrev pub IsAnswered : {K : Type 0} → (K → Option (List ℕ)) → (K → ℕ) → Task → List ℕ → K → K → Status → Type 0
+IsAnswered written faults k bs old new s = (r : Reply) × IsJudged k bs r × WasGiven written faults old new r s
+
+-- How it ends
+
+-- the status is one of these, for this plan: done where the run comes to its end, the event limit where it doesn't, or
+-- want of memory
 abbrev pub IsEnd : Plan → Status → Type 0
 IsEnd p s =
     ((s ≡ Status.Done) × ((run_of p).stopped ≡ None))
@@ -129,7 +186,8 @@ abbrev pub EndsTooLong : Status → Type 0
 EndsTooLong s = (s ≡ Status.TooLong) ⊎ (s ≡ Status.OutOfMemory)
 
 -- words with a meaning, and no end that fails
-abbrev pub IsComplete : {S K : Type 0} → (S → Option (List ℕ)) → (S → ℕ) → (K → ℕ) → List (List ℕ) → S → S → K → K → Status → Type 0
+abbrev pub IsComplete :
+    {S K : Type 0} → (S → Option (List ℕ)) → (S → ℕ) → (K → ℕ) → List (List ℕ) → S → S → K → K → Status → Type 0
 IsComplete left faults sink_faults words old new sink_old sink_new s =
     (k : Task) → task_of words ≡ Some k → (bs : List ℕ) → left old ≡ Some bs →
     ¬ Rose (faults old) (faults new) → ¬ Rose (sink_faults sink_old) (sink_faults sink_new) →

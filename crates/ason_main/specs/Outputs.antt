@@ -5,21 +5,24 @@ use Rattle.ason_base.specs.declared.calls.CallRow.{CallRow}
 use Rattle.ason_base.specs.declared.calls.LegRow.{LegRow}
 use Rattle.ason_base.specs.declared.calls.TableRows.{TableRows}
 use Rattle.ason_base.specs.declared.commands.Command.{Command}
+use Rattle.ason_base.specs.declared.commands.Event.{Event}
+use Rattle.ason_base.specs.declared.commands.Event.TheVariants as event
 use Rattle.ason_base.specs.declared.ids.NodeId.{NodeId}
 use Rattle.ason_base.specs.Lsps.{same_lsp, lsp_before}
 use Rattle.ason_base.specs.Network.{Network}
-use Rattle.mesh_rules.specs.declared.events.MeshEvent.{MeshEvent}
-use Rattle.mesh_rules.specs.declared.events.MeshEvent.TheVariants as event
-use Rattle.mesh_rules.specs.Machine.{Mesh, start}
-use Rattle.mesh_rules.specs.Events.{IsRun}
+use Rattle.mesh_rules.specs.Machine.{Mesh}
 use Rattle.mesh_rules.specs.Rows.{all_call_rows, all_leg_rows}
 use Rattle.mesh_laws.specs.Laws.{LawsHold}
+use Rattle.world_core.specs.Worlds.{World, start}
+use Rattle.world_core.specs.Runs.{IsRun, events_of}
+use Rattle.world_core.specs.Images.{image, mesh_events}
+use Rattle.world_core.specs.Laws.{IsShown}
+use Rattle.station.specs.Histories.{History, new_history, with_event, world_after}
+use Rattle.fleet.specs.Rounds.{is_quiet, items_waiting, settled, unacked_waiting}
 use Rattle.plan_reader.specs.declared.lines.Line.{Line}
 use Rattle.plan_reader.specs.declared.lines.Line.TheVariants.{Post, Settle, Show}
 use Rattle.plan_reader.specs.declared.plan.Plan.{Plan}
 use Rattle.table_text.specs.TableText.{stopped_text, table_text, unsettled_text}
-use Rattle.ason_main.specs.Histories.{History, events_of, new_history, state_after, with_event}
-use Rattle.ason_main.specs.Rounds.{is_quiet, items_waiting, mail_waiting, settled}
 
 -- The table
 
@@ -41,12 +44,12 @@ pub record IsTable (t : Network) (s : Mesh) (rows : TableRows) : Type 0 where
 -- The script
 
 -- the command is posted, unless the run is stopped
-abbrev pub posted_on : Command → History → History
-posted_on c h = if is_some h.stopped then h else with_event h (event.Post c)
+abbrev pub posted_on : Network → Command → History → History
+posted_on t c h = if is_some h.stopped then h else with_event t h (event.Post c)
 
 -- what a line makes of the run
 abbrev pub line_done : Network → History → Line → History
-line_done t h (Post c) = posted_on c h
+line_done t h (Post c) = posted_on t c h
 line_done t h (Settle r) = settled t r h
 line_done t h Show = h
 
@@ -66,15 +69,16 @@ run_of p = lines_done p.topology (script_of p) new_history
 
 -- What is printed
 
--- the line of what is unsettled, where it isn't quiet
-abbrev pub unsettled_line : Network → Mesh → List ℕ
-unsettled_line t s = if is_quiet t s then [] else unsettled_text (items_waiting t s) (mail_waiting t s) 0
+-- the line of what is unsettled, where it isn't quiet: desk items, unacknowledged messages, and floods, of which there
+-- are none
+abbrev pub unsettled_line : Network → World → List ℕ
+unsettled_line t w = if is_quiet t w then [] else unsettled_text (items_waiting t w) (unacked_waiting t w) 0
 
--- what a line prints of the state that it leads to
-abbrev pub Shows : Plan → Line → Mesh → List ℕ → Type 0
-Shows p (Post c) s text = text ≡ []
-Shows p (Settle r) s text = text ≡ unsettled_line p.topology s
-Shows p Show s text = (rows : TableRows) × IsTable p.topology s rows × (text ≡ table_text p rows)
+-- what a line prints of the world that it leads to; a table is that of the mesh which this world shows
+abbrev pub Shows : Plan → Line → World → List ℕ → Type 0
+Shows p (Post c) w text = text ≡ []
+Shows p (Settle r) w text = text ≡ unsettled_line p.topology w
+Shows p Show w text = (rows : TableRows) × IsTable p.topology (image w) rows × (text ≡ table_text p rows)
 
 -- nothing is printed once the run is stopped
 abbrev pub UnlessStopped : Option NodeId → Type 0 → List ℕ → Type 0
@@ -83,7 +87,7 @@ UnlessStopped (Some n) shows text = text ≡ []
 
 -- what a line prints that leads to this history
 abbrev pub LinePrints : Plan → Line → History → List ℕ → Type 0
-LinePrints p line h text = UnlessStopped h.stopped (Shows p line (state_after p.topology h) text) text
+LinePrints p line h text = UnlessStopped h.stopped (Shows p line (world_after p.topology h) text) text
 
 -- what these lines print, one after the other
 abbrev pub Prints : Plan → List Line → History → List ℕ → Type 0
@@ -92,17 +96,29 @@ Prints p (line ∷ lines) h text =
     (first : List ℕ) × (others : List ℕ) × LinePrints p line (line_done p.topology h line) first
     × Prints p lines (line_done p.topology h line) others × (text ≡ first ++ others)
 
+-- what some first ones of these lines print
+abbrev pub PrintsFirst : Plan → List Line → History → List ℕ → Type 0
+PrintsFirst p lines h text =
+    (first : List Line) × (left : List Line) × (first ++ left ≡ lines) × Prints p first h text
+
 -- The run and its output
 
 -- these events lead through the history of each line
-abbrev pub LeadThrough : Network → List MeshEvent → List Line → History → Type 0
+abbrev pub LeadThrough : Network → List Event → List Line → History → Type 0
 LeadThrough t es [] h = h.events ≡ es
-LeadThrough t es (line ∷ lines) h = ((left : List MeshEvent) × (h.events ++ left ≡ es)) × LeadThrough t es lines (line_done t h line)
+LeadThrough t es (line ∷ lines) h =
+    ((left : List Event) × (h.events ++ left ≡ es)) × LeadThrough t es lines (line_done t h line)
 
--- one run of the machine leads through the whole script, and after each first part of it the laws hold
+-- what these events of a world show is a run of the machine to the mesh that the last world shows, and the laws hold
+-- of it
+pub record IsLawful (t : Network) (events : List Event) : Type 0 where
+  pub shown : IsShown t events
+  pub laws : LawsHold t (mesh_events t start events)
+
+-- one run of a world leads through the whole script, and each first part of it is lawful
 pub record IsOneRun (p : Plan) : Type 0 where
   pub run : IsRun p.topology start (run_of p).events
-  pub laws : (first left : List MeshEvent) → first ++ left ≡ (run_of p).events → LawsHold p.topology first
+  pub laws : (first left : List Event) → first ++ left ≡ (run_of p).events → IsLawful p.topology first
   pub leads : LeadThrough p.topology (run_of p).events (script_of p) new_history
 
 -- what is printed of a run that comes to the script's end
@@ -111,12 +127,18 @@ pub record IsOutput (p : Plan) (text : List ℕ) : Type 0 where
   pub ended : (run_of p).stopped ≡ None
   pub printed : Prints p (script_of p) new_history text
 
--- what is printed of a run that is stopped at the limit of this node, which has made 50,000 events: that, and the line of the stop
+-- what is printed of a run that is stopped at the limit of this node, which has made 50,000 events: that, and the line
+-- of the stop
 pub record IsStoppedOutput (p : Plan) (n : NodeId) (text : List ℕ) : Type 0 where
   pub one_run : IsOneRun p
   pub stopped : (run_of p).stopped ≡ Some n
   pub full : events_of n.0 (run_of p).events ≡ 50000
   pub printed : (told : List ℕ) × Prints p (script_of p) new_history told × (text ≡ told ++ stopped_text p n)
+
+-- the first part of what is printed, up to the end of a line
+pub record IsBegun (p : Plan) (text : List ℕ) : Type 0 where
+  pub one_run : IsOneRun p
+  pub printed : PrintsFirst p (script_of p) new_history text
 
 -- The one output of a plan
 

@@ -1,20 +1,25 @@
 //! The top call: reads an input, and writes what a plan's network came to, or what messages say.
 
 ghost use Rattle.std.specs.Prelude.{◌≡◌, ℕ, List, [], Ok, Err, map, string_bytes};
-ghost use Rattle.ason_base.specs.Network.{IsTopology};
-ghost use Rattle.ason_main.specs.Answers.{IsComplete, IsDecodeReply, IsJudged, IsReply, IsRunReply, WasGiven, exit_status, is_word, status_of, task_of, text_of_reply};
+ghost use Rattle.ason_main.specs.Answers.{IsAnswered, IsComplete, IsReply, Reply, WasGiven, WasTold};
+ghost use Rattle.ason_main.specs.Answers.{WasToldOrNothing, exit_status, is_word, task_of};
 ghost use Rattle.plan_reader.specs.Plans.{ArePostable, PlanOf};
+ghost use Rattle.table_text.specs.TableText.{stopped_text};
 
 use crate::runner::run::{Ran, run_plan};
-use ason_base::OutOfMemory;
+use ason_base::{NodeId, OutOfMemory};
 use ason_io::{ReadAllFault, Sink, Source, read_all, write_all};
 use message_text::decode_text;
 use plan_reader::{Plan, PlanError, PlanFault, read_plan};
 use std::alloc::Global;
-use table_text::refused_text;
+use table_text::{refused_text, write_stopped};
 
 /// The most bytes of an input.
 const LIMIT: usize = 4_194_304;
+
+/// What is told of words that have no meaning.
+const USAGE: &[u8] =
+    b"usage: ason run [--workers N] [--stride T] [--trace] | check | decode | route FROM TO | load SEED NODES CALLS\n";
 
 /// How a command ended, with the process's exit status as its number.
 #[derive(Clone, Copy, Debug, PartialEq, Eq, Drop)]
@@ -64,47 +69,6 @@ enum Task {
     Decode,
 }
 
-// What is to be answered, before it is written.
-#[derive(Debug, Drop)]
-enum Reply {
-    Done(Vec<u8>),
-    Usage,
-    PlanRefused(Vec<u8>),
-    ReadFault,
-    EventLimit(Vec<u8>),
-    OutOfMemory,
-    TooLong,
-}
-
-impl Reply {
-    fn status(&self) -> Status
-        ensures { result ≡ status_of self.now }
-    {
-        match self {
-            Reply::Done(_) => Status::Done,
-            Reply::Usage => Status::Usage,
-            Reply::PlanRefused(_) => Status::PlanRefused,
-            Reply::ReadFault => Status::ReadFault,
-            Reply::EventLimit(_) => Status::EventLimit,
-            Reply::OutOfMemory => Status::OutOfMemory,
-            Reply::TooLong => Status::TooLong,
-        }
-    }
-
-    fn text(&self) -> &[u8]
-        ensures { result.now ≡ text_of_reply self.now }
-    {
-        match self {
-            Reply::Done(text) | Reply::PlanRefused(text) | Reply::EventLimit(text) => text,
-            Reply::Usage =>
-                b"usage: ason run [--workers N] [--stride T] [--trace] | check | decode | route FROM TO | load SEED NODES CALLS\n",
-            Reply::ReadFault => b"",
-            Reply::OutOfMemory => b"",
-            Reply::TooLong => b"refused input too long\n",
-        }
-    }
-}
-
 // Whether the words are this one word.
 fn is_word(words: &[String], word: &str) -> bool
     ensures { result ≡ is_word (map string_bytes words.now) word.now }
@@ -127,84 +91,111 @@ fn task_of(words: &[String]) -> Option<Task>
     }
 }
 
-// Runs the plan.
-fn run(alloc: Global, plan: &Plan) -> Reply
-    requires topology { IsTopology plan.now.topology }
-    requires postable { ArePostable plan.now.topology [] plan.now.lines }
-    ensures { (bs : List ℕ) → PlanOf bs (Ok plan.now) → IsRunReply bs result }
+// Writes the text. The status is this one, or that of a sink that failed.
+fn tell<K: Sink>(out: &mut K, text: &[u8], status: Status) -> Status
+    ensures { WasTold K.written K.faults out.old out.new text.now status result }
 {
-    match run_plan(alloc, plan) {
-        Ok(Ran::Ended(text)) => Reply::Done(text),
-        Ok(Ran::AtLimit(text)) => Reply::EventLimit(text),
-        Err(OutOfMemory) => Reply::OutOfMemory,
+    match write_all(out, text) {
+        Ok(()) => status,
+        Err(_) => Status::WriteFault,
+    }
+}
+
+// Writes the line of the node at its limit.
+fn tell_stop<K: Sink>(alloc: Global, plan: &Plan, node: NodeId, out: &mut K) -> Status
+    ensures { WasToldOrNothing K.written K.faults out.old out.new
+        (stopped_text plan.now node) Status.EventLimit result }
+{
+    let mut text = Vec::new(alloc);
+    match write_stopped(alloc, &mut text, plan, node) {
+        Ok(()) => tell(out, &text, Status::EventLimit),
+        Err(OutOfMemory) => Status::OutOfMemory,
+    }
+}
+
+// Runs the plan.
+fn run<K: Sink>(alloc: Global, plan: &Plan, out: &mut K) -> Status
+    requires { ArePostable plan.now.topology [] plan.now.lines }
+    ensures { (bs : List ℕ) → PlanOf bs (Ok plan.now)
+        → IsAnswered K.written K.faults Task.Run bs out.old out.new result }
+{
+    match run_plan(alloc, plan, out) {
+        Ran::Ended => Status::Done,
+        Ran::AtLimit(node) => tell_stop(alloc, plan, node, out),
+        Ran::Failed => Status::WriteFault,
+        Ran::OutOfMemory => Status::OutOfMemory,
     }
 }
 
 // Tells the fault of what is no plan.
-fn refuse(alloc: Global, fault: PlanFault) -> Reply
-    ensures { (bs : List ℕ) → PlanOf bs (Err fault) → IsRunReply bs result }
+fn refuse<K: Sink>(alloc: Global, fault: PlanFault, out: &mut K) -> Status
+    ensures { (bs : List ℕ) → PlanOf bs (Err fault)
+        → IsAnswered K.written K.faults Task.Run bs out.old out.new result }
 {
     match refused_text(alloc, fault) {
-        Ok(text) => Reply::PlanRefused(text),
-        Err(OutOfMemory) => Reply::OutOfMemory,
+        Ok(text) => tell(out, &text, Status::PlanRefused),
+        Err(OutOfMemory) => Status::OutOfMemory,
     }
 }
 
 // What `run` answers of the input.
-fn run_input(alloc: Global, bytes: &[u8]) -> Reply
-    ensures { IsRunReply bytes.now result }
+fn run_input<K: Sink>(alloc: Global, bytes: &[u8], out: &mut K) -> Status
+    ensures { IsAnswered K.written K.faults Task.Run bytes.now out.old out.new result }
 {
     match read_plan(alloc, bytes) {
-        Ok(plan) => run(alloc, &plan),
-        Err(PlanError::Fault(fault)) => refuse(alloc, fault),
-        Err(PlanError::OutOfMemory) => Reply::OutOfMemory,
+        Ok(plan) => run(alloc, &plan, out),
+        Err(PlanError::Fault(fault)) => refuse(alloc, fault, out),
+        Err(PlanError::OutOfMemory) => Status::OutOfMemory,
     }
 }
 
 // What `decode` answers of the input.
-fn decode_input(alloc: Global, bytes: &[u8]) -> Reply
-    ensures { IsDecodeReply bytes.now result }
+fn decode_input<K: Sink>(alloc: Global, bytes: &[u8], out: &mut K) -> Status
+    ensures { IsAnswered K.written K.faults Task.Decode bytes.now out.old out.new result }
 {
     match decode_text(alloc, bytes) {
-        Ok(text) => Reply::Done(text),
-        Err(OutOfMemory) => Reply::OutOfMemory,
+        Ok(text) => tell(out, &text, Status::Done),
+        Err(OutOfMemory) => Status::OutOfMemory,
     }
 }
 
 // What is answered of the input.
-fn judge(alloc: Global, task: Task, bytes: &[u8]) -> Reply
-    ensures { IsJudged task bytes.now result }
+fn judge<K: Sink>(alloc: Global, task: Task, bytes: &[u8], out: &mut K) -> Status
+    ensures { IsAnswered K.written K.faults task bytes.now out.old out.new result }
 {
     match task {
-        Task::Run => run_input(alloc, bytes),
-        Task::Decode => decode_input(alloc, bytes),
+        Task::Run => run_input(alloc, bytes, out),
+        Task::Decode => decode_input(alloc, bytes, out),
     }
 }
 
-fn reply_to<S: Source>(alloc: Global, words: &[String], src: &mut S) -> Reply
-    ensures { IsReply S.left S.handed S.ended S.faults (map string_bytes words.now) src.old src.new result }
+// Reads the input, and answers.
+fn answer<S: Source, K: Sink>(alloc: Global, words: &[String], src: &mut S, out: &mut K) -> Status
+    ensures { (r : Reply)
+        × IsReply S.left S.handed S.ended S.faults (map string_bytes words.now) src.old src.new r
+        × WasGiven K.written K.faults out.old out.new r result }
 {
     let Some(task) = task_of(words) else {
-        return Reply::Usage;
+        return tell(out, USAGE, Status::Usage);
     };
     match read_all(alloc, src, LIMIT) {
-        Ok(bytes) => judge(alloc, task, &bytes),
-        Err(ReadAllFault::Failed) => Reply::ReadFault,
-        Err(ReadAllFault::OutOfMemory) => Reply::OutOfMemory,
-        Err(ReadAllFault::TooLong) => Reply::TooLong,
+        Ok(bytes) => judge(alloc, task, &bytes, out),
+        Err(ReadAllFault::Failed) => Status::ReadFault,
+        Err(ReadAllFault::OutOfMemory) => Status::OutOfMemory,
+        Err(ReadAllFault::TooLong) => tell(out, b"refused input too long\n", Status::TooLong),
     }
 }
 
-/// Answers the words, those after the program's name. `run` reads a plan, runs its script, and writes its tables, or tells the
-/// plan's first fault. `decode` reads lines of RSVP messages in hexadecimal and writes what each says. If the sink fails the
-/// status is `WriteFault`.
+/// Answers the words, those after the program's name. `run` reads a plan, runs its script and writes what each line
+/// prints as it is done, or tells the plan's first fault. `decode` reads lines of RSVP messages in hexadecimal and
+/// writes what each says. If the sink fails the status is `WriteFault`; after that and after `OutOfMemory` a first part
+/// is written.
 pub fn ason<S: Source, K: Sink>(alloc: Global, words: &[String], src: &mut S, out: &mut K) -> Status
-    ensures answer { (r : Reply) × IsReply S.left S.handed S.ended S.faults (map string_bytes words.now) src.old src.new r × WasGiven K.written K.faults out.old out.new r result }
-    ensures complete { IsComplete S.left S.faults K.faults (map string_bytes words.now) src.old src.new out.old out.new result }
+    ensures answer { (r : Reply)
+        × IsReply S.left S.handed S.ended S.faults (map string_bytes words.now) src.old src.new r
+        × WasGiven K.written K.faults out.old out.new r result }
+    ensures complete { IsComplete S.left S.faults K.faults (map string_bytes words.now)
+        src.old src.new out.old out.new result }
 {
-    let reply = reply_to(alloc, words, src);
-    match write_all(out, reply.text()) {
-        Ok(()) => reply.status(),
-        Err(_) => Status::WriteFault,
-    }
+    answer(alloc, words, src, out)
 }

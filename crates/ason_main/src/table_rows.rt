@@ -1,71 +1,50 @@
 //! The rows of all nodes in the order of the table.
 
-ghost use Rattle.std.specs.Prelude.{◌≡◌, IfOk};
+ghost use Rattle.std.specs.Prelude.{IfOk};
 ghost use Rattle.std.specs.List.Sorted.{IsPermutation, IsSortedBy};
 ghost use Rattle.ason_main.specs.Outputs.{call_before, leg_before};
 
-use ason_base::{CallRow, CallRows, LegRow, LegRows, OutOfMemory, TableRows};
-use std::alloc::Global;
+use ason_base::{CallRows, LegRows, OutOfMemory, TableRows};
 
-/// Puts calls in order of number, those of one number in order of ingress, and legs in order of LSP, those of one LSP in order
-/// of node.
-pub fn sort_rows(
-    alloc: Global,
-    calls: Vec<CallRow>,
-    legs: Vec<LegRow>,
-) -> Result<TableRows, OutOfMemory>
-    ensures same_calls { IfOk result (λ rows. IsPermutation calls.items rows.calls) }
-    ensures calls { IfOk result (λ rows. IsSortedBy call_before rows.calls) }
-    ensures same_legs { IfOk result (λ rows. IsPermutation legs.items rows.legs) }
-    ensures legs { IfOk result (λ rows. IsSortedBy leg_before rows.legs) }
+/// Puts calls in order of number, those of one number in order of ingress, and legs in order of LSP, those of one LSP
+/// in order of node.
+pub fn sort_rows(rows: TableRows) -> Result<TableRows, OutOfMemory>
+    ensures same_calls { IfOk result (λ sorted. IsPermutation rows.calls sorted.calls) }
+    ensures calls { IfOk result (λ sorted. IsSortedBy call_before sorted.calls) }
+    ensures same_legs { IfOk result (λ sorted. IsPermutation rows.legs sorted.legs) }
+    ensures legs { IfOk result (λ sorted. IsSortedBy leg_before sorted.legs) }
 {
-    let calls = sort_calls(alloc, calls)?;
-    let legs = sort_legs(alloc, legs)?;
+    let TableRows { calls, legs } = rows;
+    let calls = sort_calls(calls)?;
+    let legs = sort_legs(legs)?;
     Ok(TableRows { calls, legs })
 }
 
-fn sort_calls(alloc: Global, calls: Vec<CallRow>) -> Result<CallRows, OutOfMemory>
-    ensures same { IfOk result (λ rows. IsPermutation calls.items rows) }
-    ensures sorted { IfOk result (λ rows. IsSortedBy call_before rows) }
+fn sort_calls(rows: CallRows) -> Result<CallRows, OutOfMemory>
+    ensures same { IfOk result (λ sorted. IsPermutation rows sorted) }
+    ensures sorted { IfOk result (λ sorted. IsSortedBy call_before sorted) }
 {
-    let mut calls = calls;
+    let mut calls = rows.into_vec();
     calls.sort_by_key(|call| (call.call, call.ingress))?;
-    call_rows(alloc, &calls)
+    Ok(CallRows::from_vec(calls))
 }
 
-fn sort_legs(alloc: Global, legs: Vec<LegRow>) -> Result<LegRows, OutOfMemory>
-    ensures same { IfOk result (λ rows. IsPermutation legs.items rows) }
-    ensures sorted { IfOk result (λ rows. IsSortedBy leg_before rows) }
+fn sort_legs(rows: LegRows) -> Result<LegRows, OutOfMemory>
+    ensures same { IfOk result (λ sorted. IsPermutation rows sorted) }
+    ensures sorted { IfOk result (λ sorted. IsSortedBy leg_before sorted) }
 {
-    let mut legs = legs;
+    let mut legs = rows.into_vec();
     legs.sort_by_key(|leg| (leg.lsp, leg.node))?;
-    leg_rows(alloc, &legs)
-}
-
-fn call_rows(alloc: Global, calls: &[CallRow]) -> Result<CallRows, OutOfMemory>
-    ensures { IfOk result (λ rows. rows ≡ calls.now) }
-{
-    let mut rows = CallRows::new(alloc);
-    for call in calls {
-        rows.push(*call)?;
-    }
-    Ok(rows)
-}
-
-fn leg_rows(alloc: Global, legs: &[LegRow]) -> Result<LegRows, OutOfMemory>
-    ensures { IfOk result (λ rows. rows ≡ legs.now) }
-{
-    let mut rows = LegRows::new(alloc);
-    for leg in legs {
-        rows.push(*leg)?;
-    }
-    Ok(rows)
+    Ok(LegRows::from_vec(legs))
 }
 
 #[cfg(test)]
 mod tests {
     use super::sort_rows;
-    use ason_base::{CallNo, CallRow, CallState, Cause, LegRow, Lsp, NodeId, Phase, Role};
+    use ason_base::{
+        CallNo, CallRow, CallRows, CallState, Cause, LegRow, LegRows, Lsp, NodeId, Phase, Role,
+        TableRows,
+    };
     use std::test::Fail;
 
     fn call(number: u16) -> CallRow {
@@ -103,7 +82,10 @@ mod tests {
     fn sorts_rows(rt: HostRuntime) -> Result<(), Fail> {
         let calls = vec![in rt.alloc(); call(1), call(0)]?;
         let legs = vec![in rt.alloc(); leg(2, 1), leg(1, 3), leg(1, 1)]?;
-        let rows = sort_rows(rt.alloc(), calls, legs)?;
+        let rows = sort_rows(TableRows {
+            calls: CallRows::from_vec(calls),
+            legs: LegRows::from_vec(legs),
+        })?;
         assert_eq!(rt; rows.calls.items(), [call(0), call(1)].as_slice());
         assert_eq!(rt;
             rows.legs.items(),

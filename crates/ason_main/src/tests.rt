@@ -52,6 +52,26 @@ ends = [\"b\", \"d\"]
 labels = 1
 ";
 
+// Three nodes in a row, with 80 labels on each link.
+const THREE: &str = "[[node]]
+name = \"n1\"
+id = 1
+[[node]]
+name = \"n2\"
+id = 2
+[[node]]
+name = \"n3\"
+id = 3
+[[link]]
+id = 1
+ends = [\"n1\", \"n2\"]
+labels = 80
+[[link]]
+id = 2
+ends = [\"n2\", \"n3\"]
+labels = 80
+";
+
 const LOOPED: &str = "[[node]]
 name = \"a\"
 id = 1
@@ -110,7 +130,7 @@ const ROWS: &[Row] = &[
         &[],
         Status::Done,
         "calls 0 legs 0
-unsettled desk 0 hop 1 flood 0
+unsettled desk 0 hop 2 flood 0
 calls 1 legs 2
 call c1 a b bare a.1.1 - -
 leg a.1.1 a work live - 1/1
@@ -295,34 +315,30 @@ fn an_input_has_its_greatest_length(rt: HostRuntime) -> Result<(), Fail> {
     Ok(())
 }
 
-// A row of 16 nodes, and calls from the last to the first, each set up and released before the next. A message takes a round
-// for each link towards the first node, so that every node makes many events.
+// Calls from the first node of a row of three to the last: 25 are set up at once, and released at once.
+fn push_calls(text: &mut String, group: u32) -> Result<(), OutOfMemory> {
+    for call in 0u32..25 {
+        write!(
+            text,
+            "\"setup c{group}-{call} n1 n3 unprotected via 1,2\",\n"
+        )?;
+    }
+    text.push_str("\"settle 1000\",\n")?;
+    for call in 0u32..25 {
+        write!(text, "\"release c{group}-{call}\",\n")?;
+    }
+    text.push_str("\"settle 1000\",\n")?;
+    Ok(())
+}
+
+// 4,075 calls. The node between takes the frames of both others, so it makes the most events.
 fn long_plan(alloc: Global) -> Result<Vec<u8>, OutOfMemory> {
     let mut text = "script = [\"show\",\n".to_string(alloc)?;
-    for call in 0u32..1400 {
-        write!(
-            text,
-            "\"setup c{call} n16 n1 unprotected via 15,14,13,12,11,10,9,8,7,6,5,4,3,2,1\",\n"
-        )?;
-        write!(
-            text,
-            "\"settle 1000\", \"release c{call}\", \"settle 1000\",\n"
-        )?;
+    for group in 0u32..163 {
+        push_calls(&mut text, group)?;
     }
     text.push_str("]\n")?;
-    for node in 1u32..17 {
-        write!(
-            text,
-            "[[node]]\nname = \"n{node}\"\nid = {node}\nconvert = true\n"
-        )?;
-    }
-    for link in 1u32..16 {
-        let next = link + 1;
-        write!(
-            text,
-            "[[link]]\nid = {link}\nends = [\"n{link}\", \"n{next}\"]\nlabels = 1\n"
-        )?;
-    }
+    text.push_str(THREE)?;
     let bytes = text.as_bytes().to_vec(alloc)?;
     Ok(bytes)
 }
@@ -334,21 +350,25 @@ fn a_run_ends_at_the_limit_of_a_node(rt: HostRuntime) -> Result<(), Fail> {
     assert_eq!(rt; answer.0, Status::EventLimit);
     assert_eq!(rt;
         answer.1.as_slice(),
-        b"calls 0 legs 0\nstopped at limit n5\n".as_slice()
+        b"calls 0 legs 0\nstopped at limit n2\n".as_slice()
     );
     Ok(())
 }
 
-#[test]
-fn a_sink_that_fails_has_a_prefix(rt: HostRuntime) -> Result<(), Fail> {
-    let alloc = rt.alloc();
+// What is written to a sink whose second call fails, and that takes five bytes in a call.
+fn told_in_part(alloc: Global, script: &str) -> Result<(Status, Vec<u8>), Fail> {
     let words = ["run".to_string(alloc)?];
-    let input = plan(alloc, "\"setup c1 a b unprotected via 1\"", PAIR)?;
-    let mut src = MemSource::new(input, Vec::new(alloc));
+    let mut src = MemSource::new(plan(alloc, script, PAIR)?, Vec::new(alloc));
     let mut out = MemSink::new(alloc, 5, [2].to_vec(alloc)?);
     out.reserve(alloc, 4096)?;
     let status = ason(alloc, &words, &mut src, &mut out);
-    assert_eq!(rt; status, Status::WriteFault);
-    assert_eq!(rt; out.written(), b"calls".as_slice());
+    Ok((status, out.written().to_vec(alloc)?))
+}
+
+#[test]
+fn a_sink_that_fails_has_a_prefix(rt: HostRuntime) -> Result<(), Fail> {
+    let answer = told_in_part(rt.alloc(), "\"setup c1 a b unprotected via 1\"")?;
+    assert_eq!(rt; answer.0, Status::WriteFault);
+    assert_eq!(rt; answer.1.as_slice(), b"calls".as_slice());
     Ok(())
 }

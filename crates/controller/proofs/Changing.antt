@@ -23,20 +23,23 @@ record IsFound (n : ℕ) (f : PreparedHop → PreparedHop) (before : List Adjace
   after : set before place (with_hop (f item.hop) item) ≡ changed n f before
 
 found_first : (n : ℕ) (f : PreparedHop → PreparedHop) (before : List Adjacency) →
-    nat_lt (position_or_len (is_to n) before) (length before) ≡ true → IsFound n f before (position_or_len (is_to n) before)
+    nat_lt (position_or_len (is_to n) before) (length before) ≡ true →
+    IsFound n f before (position_or_len (is_to n) before)
 found_first n f [] within = absurd (cc within)
 found_first n f (a ∷ rest) within = go (found_first n f rest) (nat_eq a.peer.0 n) refl within
   where
     nearer : (i j : ℕ) → nat_lt (1 + i) (suc j) ≡ true → nat_lt i j ≡ true
     nearer i j h = grind arith
 
-    go : (nat_lt (position_or_len (is_to n) rest) (length rest) ≡ true → IsFound n f rest (position_or_len (is_to n) rest)) →
+    go : (nat_lt (position_or_len (is_to n) rest) (length rest) ≡ true →
+        IsFound n f rest (position_or_len (is_to n) rest)) →
         (b : Bool) → nat_eq a.peer.0 n ≡ b →
         nat_lt (cond (not b) (1 + position_or_len (is_to n) rest) 0) (suc (length rest)) ≡ true →
         IsFound n f (a ∷ rest) (cond (not b) (1 + position_or_len (is_to n) rest) 0)
     go later true e h = record { item = a; there = refl; first = rw e refl; after = rw e refl }
     go later false e h =
-        let k : IsFound n f rest (position_or_len (is_to n) rest) = later (nearer (position_or_len (is_to n) rest) (length rest) h) in
+        let k : IsFound n f rest (position_or_len (is_to n) rest) =
+        later (nearer (position_or_len (is_to n) rest) (length rest) h) in
         record {
           item = k.item;
           there = rw (one_more (position_or_len (is_to n) rest)) k.there;
@@ -50,17 +53,20 @@ place_is : (n : ℕ) (before : List Adjacency) (i : ℕ) → position (is_to n) 
 place_is n before i e = go (nat_lt (position_or_len (is_to n) before) (length before)) refl e
   where
     go : (b : Bool) → nat_lt (position_or_len (is_to n) before) (length before) ≡ b →
-        cond b (Some (position_or_len (is_to n) before)) None ≡ Some i → (i ≡ position_or_len (is_to n) before) × (b ≡ true)
+        cond b (Some (position_or_len (is_to n) before)) None ≡ Some i → (i ≡ position_or_len (is_to n) before) ×
+        (b ≡ true)
     go true e h = (cc h, refl)
     go false e h = absurd (cc h)
 
-found_at : (n : ℕ) (f : PreparedHop → PreparedHop) (before : List Adjacency) (i : ℕ) → position (is_to n) before ≡ Some i →
+found_at : (n : ℕ) (f : PreparedHop → PreparedHop) (before : List Adjacency) (i : ℕ) →
+    position (is_to n) before ≡ Some i →
     IsFound n f before i
 found_at n f before i at =
     let place = place_is n before i at in
     subst (λ k. IsFound n f before k) (sym place.0) (found_first n f before place.1)
 
-pub changed_is : (n : ℕ) (f : PreparedHop → PreparedHop) (before after : List Adjacency) (i : ℕ) → position (is_to n) before ≡ Some i →
+pub changed_is : (n : ℕ) (f : PreparedHop → PreparedHop) (before after : List Adjacency) (i : ℕ) →
+    position (is_to n) before ≡ Some i →
     IsChangedAt before i f after → after ≡ changed n f before
 changed_is n f before after i at changes =
     let k = found_at n f before i at in changes k.item k.there ∙ k.after
@@ -82,7 +88,8 @@ item_there n before i at =
 
 -- nothing is reached where no place is found
 pub none_there : (n : ℕ) (before : List Adjacency) → position (is_to n) before ≡ None → reaches before n ≡ true → ⊥
-none_there n before nowhere there = go before (beyond (nat_lt (position_or_len (is_to n) before) (length before)) nowhere) there
+none_there n before nowhere there = go before
+    (beyond (nat_lt (position_or_len (is_to n) before) (length before)) nowhere) there
   where
     beyond : (b : Bool) → cond b (Some (position_or_len (is_to n) before)) None ≡ None → b ≡ false
     beyond true h = absurd (cc h)
@@ -120,7 +127,8 @@ at_changed n f (a ∷ xs) d b e r = go (nat_eq a.peer.0 n) (nat_eq a.peer.0 d) r
     late : (x y z : ℕ) → nat_eq z y ≡ true → nat_eq x y ≡ false → nat_eq x z ≡ true → ⊥
     late x y z p q s = absurd (grind arith)
 
-    later : (c : Bool) → b ≡ c → (reaches xs n ≡ true → prepared_at (changed n f xs) d ≡ cond b (f (prepared_at xs d)) (prepared_at xs d)) →
+    later : (c : Bool) → b ≡ c → (reaches xs n ≡ true →
+        prepared_at (changed n f xs) d ≡ cond b (f (prepared_at xs d)) (prepared_at xs d)) →
         reaches xs n ≡ true → prepared_at (changed n f xs) d ≡ cond b (f (prepared_at xs d)) (prepared_at xs d)
     later c k rest r = rest r
 
@@ -146,7 +154,8 @@ at_changed n f (a ∷ xs) d b e r = go (nat_eq a.peer.0 n) (nat_eq a.peer.0 d) r
         by false k = refl
     go false false p q rest s = rw q (rest s)
 
-pub rested-changed : (n : ℕ) (f : PreparedHop → PreparedHop) (xs : List Adjacency) → ((h : PreparedHop) → (f h).state ≡ h.state) →
+pub rested-changed : (n : ℕ) (f : PreparedHop → PreparedHop) (xs : List Adjacency) →
+    ((h : PreparedHop) → (f h).state ≡ h.state) →
     map rested (changed n f xs) ≡ map rested xs
 rested-changed n f [] keeps = refl
 rested-changed n f (a ∷ xs) keeps = go (nat_eq a.peer.0 n) (rested-changed n f xs keeps)
@@ -170,15 +179,22 @@ pub prepared_changed : (n : ℕ) (f : PreparedHop → PreparedHop) (before after
     position (is_to n) before ≡ Some i → IsChangedAt before i f after → reaches before n ≡ true →
     (d : ℕ) → prepared_at after d ≡ cond (nat_eq d n) (f (prepared_at before d)) (prepared_at before d)
 prepared_changed n f before after i at changes there d =
-    ap (λ xs. prepared_at xs d) (changed_is n f before after i at changes) ∙ at_changed n f before d (nat_eq d n) refl there
+    ap (λ xs. prepared_at xs d) (changed_is n f before after i at changes) ∙
+    at_changed n f before d (nat_eq d n) refl there
 
 -- One message more is prepared, or nothing has changed
 
 with_next-sent : (h : PreparedHop) (m : Msg) → all_sent (with_next h m) ≡ sent_message (all_sent h) m
 with_next-sent h m =
     let w : Unacked = record { number = last_number h + 1; age = 0; msg = m } in
-    let count : h.state.sent + length (h.prepared ++ w ∷ []) ≡ h.state.sent + length h.prepared + 1 = rw (length-append h.prepared (w ∷ [])) (omega arith) in
-    λ i. record { sent = count i; handed_up = h.state.handed_up; unacked = sym (append_assoc h.state.unacked h.prepared (w ∷ [])) i }
+    let count : h.state.sent + length (h.prepared ++ w ∷ []) ≡ h.state.sent + length h.prepared + 1 =
+    rw (length-append h.prepared (w ∷ [])) (omega arith) in
+    λ i. record {
+      sent = count i;
+      handed_up = h.state.handed_up;
+      unacked =
+          sym (append_assoc h.state.unacked h.prepared (w ∷ [])) i;
+    }
 
 pub next_changed : (n : ℕ) (m : Msg) (before after : List Adjacency) (i : ℕ) →
     position (is_to n) before ≡ Some i → IsChangedAt before i (λ h. with_next h m) after → reaches before n ≡ true →
@@ -186,7 +202,8 @@ pub next_changed : (n : ℕ) (m : Msg) (before after : List Adjacency) (i : ℕ)
 next_changed n m before after i at changes there d =
     ap all_sent (prepared_changed n (λ h. with_next h m) before after i at changes there d) ∙ go (nat_eq d n)
   where
-    go : (b : Bool) → all_sent (cond b (with_next (prepared_at before d) m) (prepared_at before d)) ≡ cond b (sent_message (next_at before d) m) (next_at before d)
+    go : (b : Bool) → all_sent (cond b (with_next (prepared_at before d) m) (prepared_at before d)) ≡ cond b
+        (sent_message (next_at before d) m) (next_at before d)
     go true = with_next-sent (prepared_at before d) m
     go false = refl
 

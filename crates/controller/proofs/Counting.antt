@@ -54,7 +54,8 @@ fewer-left acks (w ∷ ws) = go (not (is_acked acks w)) (fewer-left acks ws)
     go false h = omega arith
 
 pub heard-waits : (hops : ℕ → HopState) (u : NodeId) (q : Packet) →
-    ((d : ℕ) → length (hops d).unacked ≤ (hops d).sent) → (d : ℕ) → length (heard_hops hops u q d).unacked ≤ (heard_hops hops u q d).sent
+    ((d : ℕ) → length (hops d).unacked ≤ (hops d).sent) → (d : ℕ) →
+    length (heard_hops hops u q d).unacked ≤ (heard_hops hops u q d).sent
 heard-waits hops u q wait d = go (nat_eq d u.0) (wait d) (fewer-left q.acks (hops d).unacked)
   where
     go : (b : Bool) → length (hops d).unacked ≤ (hops d).sent →

@@ -59,40 +59,49 @@ is-ready p xs steps k few = record {
 
 -- Hops that sent
 
-one-again : (hops : ℕ → HopState) (o : Out) → IsWritableMsg o.msg → ((d : ℕ) → CanGoAgain (hops d)) → (d : ℕ) → CanGoAgain (sent_one hops o d)
+one-again : (hops : ℕ → HopState) (o : Out) → IsWritableMsg o.msg → ((d : ℕ) → CanGoAgain (hops d)) → (d : ℕ) →
+    CanGoAgain (sent_one hops o d)
 one-again hops o can again d = go (nat_eq d o.to.0)
   where
     go : (b : Bool) → CanGoAgain (cond b (sent_message (hops d) o.msg) (hops d))
     go true =
-        each-append (λ (w : Unacked). IsWritableMsg w.msg) (hops d).unacked (record { number = (hops d).sent + 1; age = 0; msg = o.msg } ∷ []) (again d) (can, tt)
+        each-append (λ (w : Unacked). IsWritableMsg w.msg) (hops d).unacked
+        (record { number = (hops d).sent + 1; age = 0; msg = o.msg } ∷ []) (again d) (can, tt)
     go false = again d
 
-all-again : (outs : List Out) (hops : ℕ → HopState) → AllWritable outs → ((d : ℕ) → CanGoAgain (hops d)) → (d : ℕ) → CanGoAgain (sent_on hops outs d)
+all-again : (outs : List Out) (hops : ℕ → HopState) → AllWritable outs → ((d : ℕ) → CanGoAgain (hops d)) → (d : ℕ) →
+    CanGoAgain (sent_on hops outs d)
 all-again [] hops can again d = again d
 all-again (o ∷ outs) hops can again d = all-again outs (sent_one hops o) can.1 (one-again hops o can.0 again) d
 
-one-sent : (hops : ℕ → HopState) (o : Out) (most : ℕ) → ((d : ℕ) → (hops d).sent ≤ most) → (d : ℕ) → (sent_one hops o d).sent ≤ most + 1
+one-sent : (hops : ℕ → HopState) (o : Out) (most : ℕ) → ((d : ℕ) → (hops d).sent ≤ most) → (d : ℕ) →
+    (sent_one hops o d).sent ≤ most + 1
 one-sent hops o most few d = go (nat_eq d o.to.0) (few d)
   where
     go : (b : Bool) → (hops d).sent ≤ most → (cond b (sent_message (hops d) o.msg) (hops d)).sent ≤ most + 1
     go true h = omega arith
     go false h = omega arith
 
-all-sent : (outs : List Out) (hops : ℕ → HopState) (most : ℕ) → ((d : ℕ) → (hops d).sent ≤ most) → (d : ℕ) → (sent_on hops outs d).sent ≤ most + length outs
+all-sent : (outs : List Out) (hops : ℕ → HopState) (most : ℕ) → ((d : ℕ) → (hops d).sent ≤ most) → (d : ℕ) →
+    (sent_on hops outs d).sent ≤ most + length outs
 all-sent [] hops most few d = let f = few d in omega arith
-all-sent (o ∷ outs) hops most few d = let f = all-sent outs (sent_one hops o) (most + 1) (one-sent hops o most few) d in omega arith
+all-sent (o ∷ outs) hops most few d = let f =
+    all-sent outs (sent_one hops o) (most + 1) (one-sent hops o most few) d in omega arith
 
-pub kept-next : (p : LocalNode) (before after : List Adjacency) (steps : ℕ) (hops : ℕ → HopState) (a : Answer) → IsKept p before steps →
+pub kept-next : (p : LocalNode) (before after : List Adjacency) (steps : ℕ) (hops : ℕ → HopState) (a : Answer) →
+    IsKept p before steps →
     ((d : ℕ) → (hops d).sent ≡ (hop_at before d).sent) → ((d : ℕ) → CanGoAgain (hops d)) →
     ((d : ℕ) → length (hops d).unacked ≤ (hops d).sent) → CanBeSent p a →
-    ((d : ℕ) → hop_at after d ≡ sent_on hops a.sent d) → peer_numbers after ≡ peer_numbers before → map rested after ≡ after →
+    ((d : ℕ) → hop_at after d ≡ sent_on hops a.sent d) → peer_numbers after ≡ peer_numbers before →
+    map rested after ≡ after →
     IsKept p after (steps + 1)
 kept-next p before after steps hops a k same again wait can are peers rest = record {
   peers = peers ∙ k.peers;
   narrow = k.narrow;
   again = λ d. subst CanGoAgain (sym (are d)) (all-again a.sent hops can.written again d);
   few = λ d.
-      let sent : (sent_on hops a.sent d).sent ≤ 65536 * steps + length a.sent = all-sent a.sent hops (65536 * steps) (λ e. subst (λ n. n ≤ 65536 * steps) (sym (same e)) (k.few e)) d in
+      let sent : (sent_on hops a.sent d).sent ≤ 65536 * steps + length a.sent =
+      all-sent a.sent hops (65536 * steps) (λ e. subst (λ n. n ≤ 65536 * steps) (sym (same e)) (k.few e)) d in
       let few : length a.sent ≤ 65536 = can.few in
       subst (λ (h : HopState). h.sent ≤ 65536 * (steps + 1)) (sym (are d)) (omega arith);
   waiting = λ d. subst (λ (h : HopState). length h.unacked ≤ h.sent) (sym (are d)) (all-wait a.sent hops wait d);
@@ -107,11 +116,13 @@ each-left acks [] h = tt
 each-left acks (w ∷ ws) h = go (not (is_acked acks w)) (each-left acks ws h.1)
   where
     go : (b : Bool) → AllByRecursion (λ (v : Unacked). IsWritableMsg v.msg) (still_unacked acks ws) →
-        AllByRecursion (λ (v : Unacked). IsWritableMsg v.msg) (cond b (w ∷ still_unacked acks ws) (still_unacked acks ws))
+        AllByRecursion (λ (v : Unacked). IsWritableMsg v.msg)
+        (cond b (w ∷ still_unacked acks ws) (still_unacked acks ws))
     go true r = (h.0, r)
     go false r = r
 
-pub heard-again : (hops : ℕ → HopState) (u : NodeId) (q : Packet) → ((d : ℕ) → CanGoAgain (hops d)) → (d : ℕ) → CanGoAgain (heard_hops hops u q d)
+pub heard-again : (hops : ℕ → HopState) (u : NodeId) (q : Packet) → ((d : ℕ) → CanGoAgain (hops d)) → (d : ℕ) →
+    CanGoAgain (heard_hops hops u q d)
 heard-again hops u q again d = go (nat_eq d u.0)
   where
     go : (b : Bool) → CanGoAgain (cond b (received (hops d) q) (hops d))
@@ -138,13 +149,15 @@ fits-sent p s W a f w = record { near = f.near; written = f.written w; few = f.f
 nothing-sent : (p : LocalNode) → CanBeSent p nothing
 nothing-sent p = record { near = tt; written = tt; few = omega arith }
 
-pub item-sent : (p : LocalNode) (s : NodeState) (i : DeskItem) → LocalNodeFits p → NodeFits p s → CanBeSent p (on_item p s i)
+pub item-sent : (p : LocalNode) (s : NodeState) (i : DeskItem) → LocalNodeFits p → NodeFits p s →
+    CanBeSent p (on_item p s i)
 item-sent p s i place fits = fits-sent p s (Unit {0}) (on_item p s i) (items-fit p s i place fits) tt
 
 pub tick-sent : (p : LocalNode) (s : NodeState) → CanBeSent p (on_tick p s)
 tick-sent p s = nothing-sent p
 
-pub heard-answered : (p : LocalNode) (s : NodeState) (u : NodeId) (v : Heard) (q : Packet) → LocalNodeFits p → NodeFits p s →
+pub heard-answered : (p : LocalNode) (s : NodeState) (u : NodeId) (v : Heard) (q : Packet) → LocalNodeFits p →
+    NodeFits p s →
     BodyCanBePassedOn q.body → CanBeSent p (on_first p s u (handed_up_of v q))
 heard-answered p s u v q place fits body = go v
   where
@@ -161,7 +174,8 @@ heard-answered p s u v q place fits body = go v
 
 -- Where frames go
 
-frames-near : (p : LocalNode) (me : NodeId) (ss : List Sending) → AllByRecursion (λ (s : Sending). is_neighbour p s.to ≡ true) ss →
+frames-near : (p : LocalNode) (me : NodeId) (ss : List Sending) →
+    AllByRecursion (λ (s : Sending). is_neighbour p s.to ≡ true) ss →
     kept.AllToNeighbours p (frames_to me ss)
 frames-near p me [] h = tt
 frames-near p me (s ∷ ss) h = (h.0, frames-near p me ss h.1)
@@ -176,33 +190,39 @@ sendings-near : (p : LocalNode) (n : NodeId) (qs : List Packet) → is_neighbour
 sendings-near p n [] h = tt
 sendings-near p n (q ∷ qs) h = (h, sendings-near p n qs h)
 
-pub again-near : (p : LocalNode) (xs : List Adjacency) → AllByRecursion (λ (a : Adjacency). is_neighbour p a.peer ≡ true) xs →
+pub again-near : (p : LocalNode) (xs : List Adjacency) →
+    AllByRecursion (λ (a : Adjacency). is_neighbour p a.peer ≡ true) xs →
     AllByRecursion (λ (s : Sending). is_neighbour p s.to ≡ true) (flat_map again_to xs)
 again-near p [] h = tt
 again-near p (a ∷ xs) h =
-    each-append (λ (s : Sending). is_neighbour p s.to ≡ true) (again_to a) (flat_map again_to xs) (sendings-near p a.peer _ h.0) (again-near p xs h.1)
+    each-append (λ (s : Sending). is_neighbour p s.to ≡ true) (again_to a) (flat_map again_to xs)
+    (sendings-near p a.peer _ h.0) (again-near p xs h.1)
 
 pub acks-near : (p : LocalNode) (u : NodeId) (v : Heard) (q : Packet) → is_neighbour p u ≡ true →
     AllByRecursion (λ (s : Sending). is_neighbour p s.to ≡ true) (acks_to u v q)
 acks-near p u v q h = sendings-near p u (answers_to v q) h
 
 -- the frames of a step
-pub made-near : (p : LocalNode) (me : NodeId) (first : List Sending) (hops : ℕ → HopState) (a : Answer) (none frames : List Frame) →
+pub made-near : (p : LocalNode) (me : NodeId) (first : List Sending) (hops : ℕ → HopState) (a : Answer)
+    (none frames : List Frame) →
     AllByRecursion (λ (s : Sending). is_neighbour p s.to ≡ true) first → CanBeSent p a → none ≡ [] →
     frames ≡ none ++ frames_to me (first ++ packets_on hops a.sent) → kept.AllToNeighbours p frames
 made-near p me first hops a none frames near can start e =
     subst (kept.AllToNeighbours p) (sym (e ∙ ap (λ fs. fs ++ frames_to me (first ++ packets_on hops a.sent)) start))
     (frames-near p me (first ++ packets_on hops a.sent)
-    (each-append (λ (s : Sending). is_neighbour p s.to ≡ true) first (packets_on hops a.sent) near (packets-near p a.sent hops can.near)))
+    (each-append (λ (s : Sending). is_neighbour p s.to ≡ true) first (packets_on hops a.sent) near
+    (packets-near p a.sent hops can.near)))
 
-pub made-to_neighbours : (n m : NodeView) (before after : List Adjacency) (hops : ℕ → HopState) (a : Answer) (first : List Sending) (frames : List Frame) →
+pub made-to_neighbours : (n m : NodeView) (before after : List Adjacency) (hops : ℕ → HopState) (a : Answer)
+    (first : List Sending) (frames : List Frame) →
     AllByRecursion (λ (s : Sending). is_neighbour n.place s.to ≡ true) first → CanBeSent n.place a →
     IsMade n m before after (carried hops n.state a first) frames → kept.AllToNeighbours n.place frames
 made-to_neighbours n m before after hops a first frames near can made =
     made-near n.place n.place.id first hops a [] frames near can refl made.frames
 
 -- the next step of a made one
-pub made-kept : (n m : NodeView) (before after : List Adjacency) (steps : ℕ) (hops : ℕ → HopState) (a : Answer) (first : List Sending) (frames : List Frame) →
+pub made-kept : (n m : NodeView) (before after : List Adjacency) (steps : ℕ) (hops : ℕ → HopState) (a : Answer)
+    (first : List Sending) (frames : List Frame) →
     IsKept n.place before steps → ((d : ℕ) → (hops d).sent ≡ (hop_at before d).sent) → ((d : ℕ) → CanGoAgain (hops d)) →
     ((d : ℕ) → length (hops d).unacked ≤ (hops d).sent) → CanBeSent n.place a →
     IsMade n m before after (carried hops n.state a first) frames → IsKept m.place after (steps + 1)
@@ -246,7 +266,8 @@ order-few : (xs : List ℕ) → length (in_order nat_lt xs) ≤ length xs
 order-few [] = omega arith
 order-few (x ∷ xs) =
     let later : length (in_order nat_lt xs) ≤ length xs = order-few xs in
-    let one : length (put_in nat_lt x (in_order nat_lt xs)) ≤ 1 + length (in_order nat_lt xs) = one-put x (in_order nat_lt xs) in
+    let one : length (put_in nat_lt x (in_order nat_lt xs)) ≤ 1 + length (in_order nat_lt xs) =
+    one-put x (in_order nat_lt xs) in
     omega arith
 
 map-few : (f : LinkSpec → ℕ) (ls : List LinkSpec) → length (map f ls) ≤ length ls
@@ -264,12 +285,14 @@ both true true c h = h
 both true false c h = absurd (cc h)
 both false b c h = absurd (cc h)
 
-pub new-kept : (t : Network) (n : NodeId) → IsTopology t → IsKept (local_node t n) (map new_adjacency (neighbours (local_node t n))) 0
+pub new-kept : (t : Network) (n : NodeId) → IsTopology t →
+    IsKept (local_node t n) (map new_adjacency (neighbours (local_node t n))) 0
 new-kept t n valid = record {
   peers = peers-new (neighbours p);
   narrow = few-links (length (neighbours p)) (length ends) (length p.own) (length t.links) (order-few ends)
       (map-few (λ l. (other_end l p.id).0) p.own) (ends-few n t.links)
-      (at-most (length t.links) (both (nat_le 1 (length t.nodes)) (nat_le (length t.nodes) 64) (nat_le (length t.links) 256) valid.count));
+      (at-most (length t.links) (both (nat_le 1 (length t.nodes)) (nat_le (length t.nodes) 64)
+      (nat_le (length t.links) 256) valid.count));
   again = λ d. subst CanGoAgain (sym (hop-new (neighbours p) d)) tt;
   few = λ d. subst (λ (h : HopState). h.sent ≤ 65536 * 0) (sym (hop-new (neighbours p) d)) (omega arith);
   waiting = λ d. subst (λ (h : HopState). length h.unacked ≤ h.sent) (sym (hop-new (neighbours p) d)) (omega arith);
@@ -286,6 +309,7 @@ new-kept t n valid = record {
     rests [] = refl
     rests (m ∷ ns) = ap (λ xs. new_adjacency m ∷ xs) (rests ns)
 
-pub kept-of : (t : Network) (n : NodeId) (xs : List Adjacency) → IsTopology t → xs ≡ map new_adjacency (neighbours (local_node t n)) →
+pub kept-of : (t : Network) (n : NodeId) (xs : List Adjacency) → IsTopology t →
+    xs ≡ map new_adjacency (neighbours (local_node t n)) →
     IsKept (local_node t n) xs 0
 kept-of t n xs valid e = subst (λ ys. IsKept (local_node t n) ys 0) (sym e) (new-kept t n valid)

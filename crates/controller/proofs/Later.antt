@@ -20,7 +20,8 @@ abbrev pub with-entries : HopState → List Unacked → HopState
 with-entries h ws = all_sent (record { state = h; prepared = ws })
 
 one-more : (h : HopState) (w : Unacked) (ws : List Unacked) →
-    with-entries (record { sent = h.sent + 1; handed_up = h.handed_up; unacked = h.unacked ++ w ∷ [] }) ws ≡ with-entries h (w ∷ ws)
+    with-entries (record { sent = h.sent + 1; handed_up = h.handed_up; unacked = h.unacked ++ w ∷ [] }) ws ≡
+    with-entries h (w ∷ ws)
 one-more h w ws =
     let count : (h.sent + 1) + length ws ≡ h.sent + length (w ∷ ws) = omega arith in
     λ i. record { sent = count i; handed_up = h.handed_up; unacked = append_assoc h.unacked (w ∷ []) ws i }
@@ -35,17 +36,21 @@ pub sent-entries : (outs : List Out) (hops : ℕ → HopState) (d : ℕ) →
 sent-entries [] hops d = no-more (hops d)
 sent-entries (o ∷ outs) hops d = go (sent-entries outs (sent_one hops o) d) (nat_eq d o.to.0) refl
   where
-    later : sent_on (sent_one hops o) outs d ≡ with-entries (sent_one hops o d) (entries d (sent_one hops o d).sent outs) →
-        (h : HopState) → sent_one hops o d ≡ h → sent_on (sent_one hops o) outs d ≡ with-entries h (entries d h.sent outs)
+    later : sent_on (sent_one hops o) outs d ≡ with-entries (sent_one hops o d)
+        (entries d (sent_one hops o d).sent outs) →
+        (h : HopState) → sent_one hops o d ≡ h → sent_on (sent_one hops o) outs d ≡ with-entries h
+        (entries d h.sent outs)
     later rest h e = rest ∙ ap (λ (x : HopState). with-entries x (entries d x.sent outs)) e
 
     go : sent_on (sent_one hops o) outs d ≡ with-entries (sent_one hops o d) (entries d (sent_one hops o d).sent outs) →
         (b : Bool) → nat_eq d o.to.0 ≡ b →
         sent_on (sent_one hops o) outs d
-        ≡ with-entries (hops d) (cond b (record { number = (hops d).sent + 1; age = 0; msg = o.msg } ∷ entries d ((hops d).sent + 1) outs) (entries d (hops d).sent outs))
+        ≡ with-entries (hops d) (cond b (record { number = (hops d).sent + 1; age = 0; msg = o.msg } ∷ entries d
+        ((hops d).sent + 1) outs) (entries d (hops d).sent outs))
     go rest true e =
         later rest (sent_message (hops d) o.msg) (rw e refl)
-        ∙ one-more (hops d) (record { number = (hops d).sent + 1; age = 0; msg = o.msg }) (entries d ((hops d).sent + 1) outs)
+        ∙ one-more (hops d) (record { number = (hops d).sent + 1; age = 0; msg = o.msg })
+        (entries d ((hops d).sent + 1) outs)
     go rest false e = later rest (hops d) (rw e refl)
 
 tails : (xs : List Unacked) (ys zs : List Unacked) → xs ++ ys ≡ xs ++ zs → ys ≡ zs
@@ -57,7 +62,8 @@ pub sent-later : (hops after : ℕ → HopState) (outs : List Out) (d : ℕ) (pr
     all_sent (record { state = hops d; prepared = prepared }) ≡ sent_on hops outs d → (after d).sent ≡ (hops d).sent →
     all_sent (record { state = after d; prepared = prepared }) ≡ sent_on after outs d
 sent-later hops after outs d prepared e same =
-    let whole : with-entries (hops d) prepared ≡ with-entries (hops d) (entries d (hops d).sent outs) = e ∙ sent-entries outs hops d in
+    let whole : with-entries (hops d) prepared ≡ with-entries (hops d) (entries d (hops d).sent outs) = e ∙
+    sent-entries outs hops d in
     let are : prepared ≡ entries d (hops d).sent outs =
     tails (hops d).unacked prepared (entries d (hops d).sent outs) (ap (λ (h : HopState). h.unacked) whole) in
     ap (λ ws. with-entries (after d) ws) are
@@ -78,7 +84,8 @@ packets-later (o ∷ outs) hops after same =
     next : (d : ℕ) → (sent_one after o d).sent ≡ (sent_one hops o d).sent
     next d = go (nat_eq d o.to.0)
       where
-        go : (b : Bool) → (cond b (sent_message (after d) o.msg) (after d)).sent ≡ (cond b (sent_message (hops d) o.msg) (hops d)).sent
+        go : (b : Bool) → (cond b (sent_message (after d) o.msg) (after d)).sent ≡
+            (cond b (sent_message (hops d) o.msg) (hops d)).sent
         go true = ap (λ n. n + 1) (same d)
         go false = same d
 
@@ -94,7 +101,8 @@ more-sent hops o count left d = go (nat_eq d o.to.0) (left d)
     go false h = omega arith
 
 pub all-go : (p : LocalNode) (near : ℕ → Bool) → ((n : NodeId) → is_neighbour p n ≡ true → near n.0 ≡ true) →
-    (outs : List Out) (hops : ℕ → HopState) (count : ℕ) → length outs ≤ count → ((d : ℕ) → (hops d).sent + count < 2 ^ 32 - 1) →
+    (outs : List Out) (hops : ℕ → HopState) (count : ℕ) → length outs ≤ count →
+    ((d : ℕ) → (hops d).sent + count < 2 ^ 32 - 1) →
     AllToNeighbours p outs → AllWritable outs → AllCanGo near hops outs
 all-go p near reached [] hops count few left to can = tt
 all-go p near reached (o ∷ outs) hops count few left to can =
@@ -103,5 +111,6 @@ all-go p near reached (o ∷ outs) hops count few left to can =
       omega arith,
       can.0,
       all-go p near reached outs (sent_one hops o) (count - 1) (omega arith)
-          (more-sent hops o (count - 1) (λ d. let one : (hops d).sent + count < 2 ^ 32 - 1 = left d in omega arith)) to.1 can.1,
+          (more-sent hops o (count - 1) (λ d. let one : (hops d).sent + count < 2 ^ 32 - 1 = left d in omega arith))
+          to.1 can.1,
     )

@@ -1,5 +1,4 @@
 pub mod Changing
-pub mod Results
 pub mod Sending
 pub mod Spelling
 pub mod Later

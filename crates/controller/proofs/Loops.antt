@@ -18,12 +18,14 @@ set-mapped f (x ∷ xs) zero d h = refl
 set-mapped f (x ∷ xs) (suc i) d h = ap (λ ys. f x ∷ ys) (set-mapped f xs i d (omega arith))
 
 pub mapped-more : (f : Adjacency → Adjacency) (xs now : List Adjacency) (i : ℕ) (d y : Adjacency) → i < length xs →
-    now ≡ map f (take i xs) ++ drop i xs → y ≡ f (get_or now i d) → set now i y ≡ map f (take (i + 1) xs) ++ drop (i + 1) xs
+    now ≡ map f (take i xs) ++ drop i xs → y ≡ f (get_or now i d) → set now i y ≡ map f (take (i + 1) xs) ++
+    drop (i + 1) xs
 mapped-more f xs now i d y h same is = rw (is, same, get-mapped f xs i d h, add-one i) (set-mapped f xs i d h)
 
 -- one more is counted
 
-pub count-more : (xs : List Adjacency) (i : ℕ) (d : Adjacency) (total more : ℕ) → i < length xs → total ≡ unacknowledged (take i xs) →
+pub count-more : (xs : List Adjacency) (i : ℕ) (d : Adjacency) (total more : ℕ) → i < length xs →
+    total ≡ unacknowledged (take i xs) →
     more ≡ length (get_or xs i d).hop.state.unacked → total + more ≡ unacknowledged (take (i + 1) xs)
 count-more xs i d total more h is one = rw (add-one i, is, one) (sym (go xs i h))
   where
@@ -32,7 +34,8 @@ count-more xs i d total more h is one = rw (add-one i, is, one) (sym (go xs i h)
     go [] i h = absurd (omega arith)
     go (x ∷ xs) zero h = omega arith
     go (x ∷ xs) (suc i) h =
-        let later : unacknowledged (take (suc i) xs) ≡ unacknowledged (take i xs) + length (get_or xs i d).hop.state.unacked = go xs i (omega arith) in
+        let later : unacknowledged (take (suc i) xs) ≡ unacknowledged (take i xs) + length
+        (get_or xs i d).hop.state.unacked = go xs i (omega arith) in
         omega arith
 
 pub most-more : (i total more : ℕ) → total ≤ i * 2 ^ 32 → more < 2 ^ 32 → total + more ≤ (i + 1) * 2 ^ 32

@@ -15,16 +15,19 @@ use Rattle.controller.specs.Adjacencies.{hop_at, hop_of, is_to, neighbours, new_
 
 -- Members
 
-any-member : (f : LinkSpec → ℕ) (ls : List LinkSpec) (n : ℕ) → list_any (λ l. nat_eq (f l) n) ls ≡ true → Contains (map f ls) n
+any-member : (f : LinkSpec → ℕ) (ls : List LinkSpec) (n : ℕ) → list_any (λ l. nat_eq (f l) n) ls ≡ true →
+    Contains (map f ls) n
 any-member f [] n h = absurd (cc h)
 any-member f (l ∷ ls) n h = go (nat_eq (f l) n) refl (any-member f ls n) h
   where
     go : (b : Bool) → nat_eq (f l) n ≡ b → (list_any (λ k. nat_eq (f k) n) ls ≡ true → Contains (map f ls) n) →
         (b || list_any (λ k. nat_eq (f k) n) ls) ≡ true → Contains (f l ∷ map f ls) n
-    go true e later k = let same : f l ≡ n = grind arith in subst (λ m. Contains (f l ∷ map f ls) m) same (contains-head (f l) (map f ls))
+    go true e later k = let same : f l ≡ n = grind arith in subst (λ m. Contains (f l ∷ map f ls) m) same
+        (contains-head (f l) (map f ls))
     go false e later k = contains-tail (f l) n (map f ls) (later k)
 
-member-any : (f : LinkSpec → ℕ) (ls : List LinkSpec) (n : ℕ) → Contains (map f ls) n → list_any (λ l. nat_eq (f l) n) ls ≡ true
+member-any : (f : LinkSpec → ℕ) (ls : List LinkSpec) (n : ℕ) → Contains (map f ls) n →
+    list_any (λ l. nat_eq (f l) n) ls ≡ true
 member-any f [] n h = absurd (contains-none n h)
 member-any f (l ∷ ls) n h = go (contains-cases (f l) n (map f ls) h) (member-any f ls n)
   where
@@ -70,8 +73,10 @@ reaches-member (a ∷ xs) n h = go (nat_eq a.peer.0 n) refl (reaches-member xs n
 each-peer : (P : ℕ → Type 0) (xs : List Adjacency) → ((n : ℕ) → Contains (peer_numbers xs) n → P n) →
     AllByRecursion (λ (a : Adjacency). P a.peer.0) xs
 each-peer P [] f = tt
-each-peer P (a ∷ xs) f =
-    (f a.peer.0 (contains-head a.peer.0 (peer_numbers xs)), each-peer P xs (λ n h. f n (contains-tail a.peer.0 n (peer_numbers xs) h)))
+each-peer P (a ∷ xs) f = (
+  f a.peer.0 (contains-head a.peer.0 (peer_numbers xs)),
+  each-peer P xs (λ n h. f n (contains-tail a.peer.0 n (peer_numbers xs) h)),
+)
 
 -- Neighbours
 
@@ -90,7 +95,8 @@ reached-neighbour p xs e n there =
     ((in_order-has nat_lt nat_order ends n.0).0 (subst (λ ns. Contains ns n.0) e (reaches-member xs n.0 there)))
 
 -- a node is reached exactly where it is a neighbour
-pub reach-is : (p : LocalNode) (xs : List Adjacency) → peer_numbers xs ≡ neighbours p → (n : NodeId) → reaches xs n.0 ≡ is_neighbour p n
+pub reach-is : (p : LocalNode) (xs : List Adjacency) → peer_numbers xs ≡ neighbours p → (n : NodeId) →
+    reaches xs n.0 ≡ is_neighbour p n
 reach-is p xs e n = go (reaches xs n.0) (is_neighbour p n) refl refl
   where
     go : (a b : Bool) → reaches xs n.0 ≡ a → is_neighbour p n ≡ b → reaches xs n.0 ≡ is_neighbour p n
@@ -105,28 +111,35 @@ peers-near p xs e = each-peer (λ n. list_any (λ (l : LinkSpec). nat_eq (other_
     ends : List ℕ
     ends = map (λ l. (other_end l p.id).0) p.own
 
-    near : (n : ℕ) → Contains (peer_numbers xs) n → list_any (λ (l : LinkSpec). nat_eq (other_end l p.id).0 n) p.own ≡ true
-    near n h = member-any (λ l. (other_end l p.id).0) p.own n ((in_order-has nat_lt nat_order ends n).0 (subst (λ ns. Contains ns n) e h))
+    near : (n : ℕ) → Contains (peer_numbers xs) n →
+        list_any (λ (l : LinkSpec). nat_eq (other_end l p.id).0 n) p.own ≡ true
+    near n h = member-any (λ l. (other_end l p.id).0) p.own n
+        ((in_order-has nat_lt nat_order ends n).0 (subst (λ ns. Contains ns n) e h))
 
 -- Each hop is the one to its neighbour
 
 head-below : (x z : ℕ) (xs : List ℕ) → Rises nat_lt (x ∷ xs) → Contains xs z → nat_lt x z ≡ true
-head-below x z xs r (k, within, is) = subst (λ y. nat_lt x y ≡ true) is (r.pairs 0 (suc k) z (omega arith) (omega arith))
+head-below x z xs r (k, within, is) = subst (λ y. nat_lt x y ≡ true) is
+    (r.pairs 0 (suc k) z (omega arith) (omega arith))
 
 tail-rises : (x : ℕ) (xs : List ℕ) → Rises nat_lt (x ∷ xs) → Rises nat_lt xs
 tail-rises x xs r = record { pairs = λ i j d before within. r.pairs (suc i) (suc j) d (omega arith) (omega arith) }
 
 no-hop : (xs : List Adjacency) (n : ℕ) → (Contains (peer_numbers xs) n → ⊥) → hop_at xs n ≡ fresh
 no-hop [] n none = refl
-no-hop (a ∷ xs) n none = go (nat_eq a.peer.0 n) refl (no-hop xs n (λ h. none (contains-tail a.peer.0 n (peer_numbers xs) h)))
+no-hop (a ∷ xs) n none = go (nat_eq a.peer.0 n) refl
+    (no-hop xs n (λ h. none (contains-tail a.peer.0 n (peer_numbers xs) h)))
   where
-    go : (b : Bool) → nat_eq a.peer.0 n ≡ b → hop_at xs n ≡ fresh → (hop_of (cond b (Some a) (find (is_to n) xs))).state ≡ fresh
+    go : (b : Bool) → nat_eq a.peer.0 n ≡ b → hop_at xs n ≡ fresh →
+        (hop_of (cond b (Some a) (find (is_to n) xs))).state ≡ fresh
     go true e later =
         let same : a.peer.0 ≡ n = grind arith in
-        absurd (none (subst (λ m. Contains (a.peer.0 ∷ peer_numbers xs) m) same (contains-head a.peer.0 (peer_numbers xs))))
+        absurd (none (subst (λ m. Contains (a.peer.0 ∷ peer_numbers xs) m) same
+        (contains-head a.peer.0 (peer_numbers xs))))
     go false e later = later
 
-each-hop : (P : HopState → Type 0) (xs : List Adjacency) → Rises nat_lt (peer_numbers xs) → P fresh → ((d : ℕ) → P (hop_at xs d)) →
+each-hop : (P : HopState → Type 0) (xs : List Adjacency) → Rises nat_lt (peer_numbers xs) → P fresh →
+    ((d : ℕ) → P (hop_at xs d)) →
     AllByRecursion (λ (a : Adjacency). P a.hop.state) xs
 each-hop P [] rises none each = tt
 each-hop P (a ∷ xs) rises none each = (
@@ -140,16 +153,20 @@ each-hop P (a ∷ xs) rises none each = (
     irreflexive : (m : ℕ) → nat_lt m m ≡ true → ⊥
     irreflexive m h = absurd (grind arith)
 
-    go : (d : ℕ) (b : Bool) → nat_eq a.peer.0 d ≡ b → P (hop_of (cond b (Some a) (find (is_to d) xs))).state → P (hop_at xs d)
+    go : (d : ℕ) (b : Bool) → nat_eq a.peer.0 d ≡ b → P (hop_of (cond b (Some a) (find (is_to d) xs))).state →
+        P (hop_at xs d)
     go d true e h =
         let same : a.peer.0 ≡ d = grind arith in
-        subst P (sym (no-hop xs d (λ there. irreflexive d (subst (λ m. nat_lt m d ≡ true) same (head-below a.peer.0 d (peer_numbers xs) rises there))))) none
+        subst P (sym (no-hop xs d (λ there. irreflexive d
+        (subst (λ m. nat_lt m d ≡ true) same (head-below a.peer.0 d (peer_numbers xs) rises there))))) none
     go d false e h = h
 
-pub each-to_neighbour : (P : HopState → Type 0) (p : LocalNode) (xs : List Adjacency) → peer_numbers xs ≡ neighbours p → P fresh →
+pub each-to_neighbour : (P : HopState → Type 0) (p : LocalNode) (xs : List Adjacency) →
+    peer_numbers xs ≡ neighbours p → P fresh →
     ((d : ℕ) → P (hop_at xs d)) → AllByRecursion (λ (a : Adjacency). P a.hop.state) xs
 each-to_neighbour P p xs e none each =
-    each-hop P xs (subst (λ ns. Rises nat_lt ns) (sym e) (in_order-rises nat_lt nat_order (map (λ l. (other_end l p.id).0) p.own))) none each
+    each-hop P xs (subst (λ ns. Rises nat_lt ns) (sym e)
+    (in_order-rises nat_lt nat_order (map (λ l. (other_end l p.id).0) p.own))) none each
 
 -- New ones
 

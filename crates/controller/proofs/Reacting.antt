@@ -11,9 +11,11 @@ use Rattle.controller.specs.declared.inputs.CoreInput.TheVariants as input
 use Rattle.controller.specs.Controllers.{IsMade, IsReaction, meaning, took, unmoved}
 use Rattle.controller.specs.Frames.{IsFrame, SpellsNothing}
 
-pub frame-reaction : {T E : Type 0} (r : Result T E) (out : T → List Frame) (n m : NodeView) (before after : List Adjacency) (i : CoreInput) (u : NodeId)
+pub frame-reaction : {T E : Type 0} (r : Result T E) (out : T → List Frame) (n m : NodeView)
+    (before after : List Adjacency) (i : CoreInput) (u : NodeId)
     (bytes given : List ℕ) → i ≡ input.Frame u bytes → given ≡ bytes →
-    ((p : Packet) → IsFrame given p → IfOk r (λ x. IsMade n m before after (took n.place (meaning n before) u p) (out x))) →
+    ((p : Packet) → IsFrame given p → IfOk r (λ x. IsMade n m before after (took n.place (meaning n before) u p)
+    (out x))) →
     (SpellsNothing given → IfOk r (λ x. IsMade n m before after (unmoved (meaning n before)) (out x))) →
     IfOk r (λ x. IsReaction n m before after i (out x))
 frame-reaction (Ok x) out n m before after i u bytes given e same packet noise =

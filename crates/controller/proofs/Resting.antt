@@ -22,7 +22,8 @@ module _ (f : PreparedHop → PreparedHop) where
   peers-map (a ∷ xs) = ap (λ ns. a.peer.0 ∷ ns) (peers-map xs)
 
   -- what is read of each is what is read of it before
-  read-map : {X : Type 0} (g h : PreparedHop → X) → ((k : PreparedHop) → g (f k) ≡ h k) → g (hop_of None) ≡ h (hop_of None) →
+  read-map : {X : Type 0} (g h : PreparedHop → X) → ((k : PreparedHop) → g (f k) ≡ h k) →
+      g (hop_of None) ≡ h (hop_of None) →
       (xs : List Adjacency) (d : ℕ) → g (prepared_at (map (λ a. with_hop (f a.hop) a) xs) d) ≡ h (prepared_at xs d)
   read-map g h each none [] d = none
   read-map g h each none (a ∷ xs) d = go (nat_eq a.peer.0 d) (read-map g h each none xs d)
@@ -42,7 +43,8 @@ hop-committed xs d = read-map (λ h. resting (all_sent h)) (λ h. h.state) all_s
 pub next-aged : (xs : List Adjacency) (d : ℕ) →
     next_at (map aged xs) d ≡ all_sent (record { state = ticked (hop_at xs d); prepared = (prepared_at xs d).prepared })
 next-aged xs d =
-    read-map (λ h. record { state = ticked h.state; prepared = h.prepared }) all_sent (λ h. all_sent (record { state = ticked h.state; prepared = h.prepared })) (λ h. refl) refl xs d
+    read-map (λ h. record { state = ticked h.state; prepared = h.prepared }) all_sent
+    (λ h. all_sent (record { state = ticked h.state; prepared = h.prepared })) (λ h. refl) refl xs d
 
 -- Two lists that differ in what is prepared alone
 
@@ -50,7 +52,8 @@ pub same-hop : (xs bs : List Adjacency) → map rested xs ≡ map rested bs → 
 same-hop xs bs e d = sym (hop-rested xs d) ∙ ap (λ cs. hop_at cs d) e ∙ hop-rested bs d
 
 pub same-reach : (xs bs : List Adjacency) → map rested xs ≡ map rested bs → (d : ℕ) → reaches xs d ≡ reaches bs d
-same-reach xs bs e d = sym (reaches-map (λ h. resting h.state) xs d) ∙ ap (λ cs. reaches cs d) e ∙ reaches-map (λ h. resting h.state) bs d
+same-reach xs bs e d = sym (reaches-map (λ h. resting h.state) xs d) ∙ ap (λ cs. reaches cs d) e ∙
+    reaches-map (λ h. resting h.state) bs d
 
 pub same-peers : (xs bs : List Adjacency) → map rested xs ≡ map rested bs → peer_numbers xs ≡ peer_numbers bs
 same-peers xs bs e = sym (peers-map (λ h. resting h.state) xs) ∙ ap peer_numbers e ∙ peers-map (λ h. resting h.state) bs
@@ -72,7 +75,8 @@ all-resting h =
     λ i. record { sent = count i; handed_up = h.handed_up; unacked = append-nil h.unacked i }
 
 pub next-rested : (xs : List Adjacency) (d : ℕ) → next_at (map rested xs) d ≡ hop_at xs d
-next-rested xs d = read-map (λ h. resting h.state) all_sent (λ h. h.state) (λ h. all-resting h.state) (all-resting fresh) xs d
+next-rested xs d = read-map (λ h. resting h.state) all_sent (λ h. h.state) (λ h. all-resting h.state)
+    (all-resting fresh) xs d
 
 -- where nothing is prepared, what will be sent is sent
 pub next-is : (xs : List Adjacency) → map rested xs ≡ xs → (d : ℕ) → next_at xs d ≡ hop_at xs d

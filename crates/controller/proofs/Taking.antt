@@ -32,16 +32,21 @@ frames-append me [] ys = refl
 frames-append me (x ∷ xs) ys = ap (λ fs. sent_frame me x.to x.packet ∷ fs) (frames-append me xs ys)
 
 -- what is prepared at a hop, after an answer
-prepared-for : (before mid : List Adjacency) (outs : List Out) → ArePrepared before outs mid → map rested mid ≡ map rested before →
-    (d : ℕ) → all_sent (record { state = hop_at before d; prepared = (prepared_at mid d).prepared }) ≡ sent_on (hop_at before) outs d
+prepared-for : (before mid : List Adjacency) (outs : List Out) → ArePrepared before outs mid →
+    map rested mid ≡ map rested before →
+    (d : ℕ) → all_sent (record { state = hop_at before d; prepared = (prepared_at mid d).prepared }) ≡ sent_on
+    (hop_at before) outs d
 prepared-for before mid outs are rest d =
-    ap (λ (h : HopState). all_sent (record { state = h; prepared = (prepared_at mid d).prepared })) (sym (same-hop mid before rest d)) ∙ are d
+    ap (λ (h : HopState). all_sent (record { state = h; prepared = (prepared_at mid d).prepared }))
+    (sym (same-hop mid before rest d)) ∙ are d
 
-pub committed-hops : (before mid after : List Adjacency) (outs : List Out) → ArePrepared before outs mid → after ≡ map committed mid →
+pub committed-hops : (before mid after : List Adjacency) (outs : List Out) → ArePrepared before outs mid →
+    after ≡ map committed mid →
     (d : ℕ) → hop_at after d ≡ sent_on (hop_at before) outs d
 committed-hops before mid after outs are is d = ap (λ xs. hop_at xs d) is ∙ hop-committed mid d ∙ are d
 
-pub committed-peers : (before mid after : List Adjacency) → map rested mid ≡ map rested before → after ≡ map committed mid →
+pub committed-peers : (before mid after : List Adjacency) → map rested mid ≡ map rested before →
+    after ≡ map committed mid →
     peer_numbers after ≡ peer_numbers before
 committed-peers before mid after rest is = ap peer_numbers is ∙ peers-committed mid ∙ same-peers mid before rest
 
@@ -50,63 +55,77 @@ committed-rest mid after is = ap (map rested) is ∙ committed-rests mid ∙ sym
 
 -- Ticks
 
-pub ticked-hops : (before mid late after : List Adjacency) (outs : List Out) → ArePrepared before outs mid → map rested mid ≡ map rested before →
-    late ≡ map aged mid → after ≡ map committed late → (d : ℕ) → hop_at after d ≡ sent_on (λ e. ticked (hop_at before e)) outs d
+pub ticked-hops : (before mid late after : List Adjacency) (outs : List Out) → ArePrepared before outs mid →
+    map rested mid ≡ map rested before →
+    late ≡ map aged mid → after ≡ map committed late → (d : ℕ) →
+    hop_at after d ≡ sent_on (λ e. ticked (hop_at before e)) outs d
 ticked-hops before mid late after outs are rest ages is d =
     ap (λ xs. hop_at xs d) is ∙ hop-committed late d ∙ ap (λ xs. next_at xs d) ages ∙ next-aged mid d
-    ∙ ap (λ (h : HopState). all_sent (record { state = ticked h; prepared = (prepared_at mid d).prepared })) (same-hop mid before rest d)
-    ∙ sent-later (hop_at before) (λ e. ticked (hop_at before e)) outs d (prepared_at mid d).prepared (prepared-for before mid outs are rest d) refl
+    ∙ ap (λ (h : HopState). all_sent (record { state = ticked h; prepared = (prepared_at mid d).prepared }))
+    (same-hop mid before rest d)
+    ∙ sent-later (hop_at before) (λ e. ticked (hop_at before e)) outs d (prepared_at mid d).prepared
+    (prepared-for before mid outs are rest d) refl
 
-pub ticked-peers : (before mid late after : List Adjacency) → map rested mid ≡ map rested before → late ≡ map aged mid → after ≡ map committed late →
+pub ticked-peers : (before mid late after : List Adjacency) → map rested mid ≡ map rested before →
+    late ≡ map aged mid → after ≡ map committed late →
     peer_numbers after ≡ peer_numbers before
 ticked-peers before mid late after rest ages is =
     ap peer_numbers is ∙ peers-committed late ∙ ap peer_numbers ages ∙ peers-aged mid ∙ same-peers mid before rest
 
 -- an item was handled
-pub handled-made : (n m : NodeView) (before mid after : List Adjacency) (i j : DeskItem) (none frames : List Frame) → i ≡ j → m ≡ stepped n (input.Desk i) →
-    ArePrepared before (on_item n.place n.state i).sent mid → map rested mid ≡ map rested before → after ≡ map committed mid → none ≡ [] →
+pub handled-made : (n m : NodeView) (before mid after : List Adjacency) (i j : DeskItem) (none frames : List Frame) →
+    i ≡ j → m ≡ stepped n (input.Desk i) →
+    ArePrepared before (on_item n.place n.state i).sent mid → map rested mid ≡ map rested before →
+    after ≡ map committed mid → none ≡ [] →
     frames ≡ none ++ frames_to n.place.id (packets_on (hop_at before) (on_item n.place n.state i).sent) →
     AllSpelled n.place.id (packets_on (hop_at before) (on_item n.place n.state i).sent) →
     IsMade n m before after (handled n.place (meaning n before) j) frames
-handled-made n m before mid after i j none frames same node are rest is start framed spelled = subst (λ k. IsMade n m before after (handled n.place (meaning n before) k) frames) same (record {
-  becomes = record {
-    place = ap (λ (k : NodeView). k.place) node;
-    state = ap (λ (k : NodeView). k.state) node;
-    hops = committed-hops before mid after (on_item n.place n.state i).sent are is;
-    peers = committed-peers before mid after rest is;
-    rest = committed-rest mid after is;
-  };
-  frames = framed ∙ ap (λ fs. fs ++ frames_to n.place.id (packets_on (hop_at before) (on_item n.place n.state i).sent)) start;
-  spelled = spelled;
-})
+handled-made n m before mid after i j none frames same node are rest is start framed spelled =
+    subst (λ k. IsMade n m before after (handled n.place (meaning n before) k) frames) same (record {
+      becomes = record {
+        place = ap (λ (k : NodeView). k.place) node;
+        state = ap (λ (k : NodeView). k.state) node;
+        hops = committed-hops before mid after (on_item n.place n.state i).sent are is;
+        peers = committed-peers before mid after rest is;
+        rest = committed-rest mid after is;
+      };
+      frames = framed ∙ ap (λ fs. fs ++ frames_to n.place.id
+          (packets_on (hop_at before) (on_item n.place n.state i).sent)) start;
+      spelled = spelled;
+    })
 
 -- a tick was made
-pub ticked-made : (n m : NodeView) (me : NodeId) (before mid late after : List Adjacency) (none due frames : List Frame) → m ≡ stepped n input.Tick →
-    ArePrepared before (on_tick n.place n.state).sent mid → map rested mid ≡ map rested before → late ≡ map aged mid → after ≡ map committed late →
+pub ticked-made : (n m : NodeView) (me : NodeId) (before mid late after : List Adjacency)
+    (none due frames : List Frame) → m ≡ stepped n input.Tick →
+    ArePrepared before (on_tick n.place n.state).sent mid → map rested mid ≡ map rested before →
+    late ≡ map aged mid → after ≡ map committed late →
     none ≡ [] → me ≡ n.place.id → due ≡ none ++ frames_to me (flat_map again_to before) →
     frames ≡ due ++ frames_to n.place.id (packets_on (hop_at before) (on_tick n.place n.state).sent) →
     AllSpelled me (flat_map again_to before) →
     AllSpelled n.place.id (packets_on (hop_at before) (on_tick n.place n.state).sent) →
     IsMade n m before after (after_tick n.place n.state before) frames
-ticked-made n m me before mid late after none due frames node are rest ages is start same again framed resent spelled = record {
-  becomes = record {
-    place = ap (λ (k : NodeView). k.place) node;
-    state = ap (λ (k : NodeView). k.state) node;
-    hops = ticked-hops before mid late after (on_tick n.place n.state).sent are rest ages is;
-    peers = ticked-peers before mid late after rest ages is;
-    rest = committed-rest late after is;
-  };
-  frames = framed
-      ∙ ap (λ fs. fs ++ frames_to n.place.id (packets_on (hop_at before) sent))
-      (again ∙ ap (λ fs. fs ++ frames_to me (flat_map again_to before)) start ∙ ap (λ k. frames_to k (flat_map again_to before)) same)
-      ∙ ap (λ ps. frames_to n.place.id (flat_map again_to before) ++ frames_to n.place.id ps)
-      (packets-later sent (hop_at before) (λ d. ticked (hop_at before d)) (λ d. refl))
-      ∙ sym (frames-append n.place.id (flat_map again_to before) (packets_on (λ d. ticked (hop_at before d)) sent));
-  spelled = both-spelled n.place.id (flat_map again_to before) (packets_on (λ d. ticked (hop_at before d)) sent)
-      (subst (λ k. AllSpelled k (flat_map again_to before)) same resent)
-      (subst (AllSpelled n.place.id) (packets-later sent (hop_at before) (λ d. ticked (hop_at before d)) (λ d. refl))
-      spelled);
-}
+ticked-made n m me before mid late after none due frames node are rest ages is start same again framed resent spelled
+    = record {
+      becomes = record {
+        place = ap (λ (k : NodeView). k.place) node;
+        state = ap (λ (k : NodeView). k.state) node;
+        hops = ticked-hops before mid late after (on_tick n.place n.state).sent are rest ages is;
+        peers = ticked-peers before mid late after rest ages is;
+        rest = committed-rest late after is;
+      };
+      frames = framed
+          ∙ ap (λ fs. fs ++ frames_to n.place.id (packets_on (hop_at before) sent))
+          (again ∙ ap (λ fs. fs ++ frames_to me (flat_map again_to before)) start ∙
+          ap (λ k. frames_to k (flat_map again_to before)) same)
+          ∙ ap (λ ps. frames_to n.place.id (flat_map again_to before) ++ frames_to n.place.id ps)
+          (packets-later sent (hop_at before) (λ d. ticked (hop_at before d)) (λ d. refl))
+          ∙ sym (frames-append n.place.id (flat_map again_to before) (packets_on (λ d. ticked (hop_at before d)) sent));
+      spelled = both-spelled n.place.id (flat_map again_to before) (packets_on (λ d. ticked (hop_at before d)) sent)
+          (subst (λ k. AllSpelled k (flat_map again_to before)) same resent)
+          (subst (AllSpelled n.place.id) (packets-later sent (hop_at before) (λ d. ticked (hop_at before d))
+          (λ d. refl))
+          spelled);
+    }
   where
     sent : List Out
     sent = (on_tick n.place n.state).sent
@@ -120,11 +139,13 @@ handed-is Unnumbered q = refl
 handed-is Ahead q = refl
 handed-is Repeat q = refl
 
-module _ (n m : NodeView) (before mid late after : List Adjacency) (u : NodeId) (v : Heard) (q : Packet) (body : Option Msg)
+module _ (n m : NodeView) (before mid late after : List Adjacency) (u : NodeId) (v : Heard) (q : Packet)
+    (body : Option Msg)
     (heard : v ≡ heard_as (hop_at before u.0) q) (handed : option_to_list body ≡ handed_body v q.body)
     (are : ArePrepared before (body_answer n u body).sent mid)
     (rest : map rested mid ≡ map rested before)
-    (takes : (d : ℕ) → prepared_at late d ≡ cond (nat_eq d u.0) (taken_by v q.acks (prepared_at mid d)) (prepared_at mid d))
+    (takes : (d : ℕ) → prepared_at late d ≡ cond (nat_eq d u.0) (taken_by v q.acks (prepared_at mid d))
+    (prepared_at mid d))
     (peers : peer_numbers late ≡ peer_numbers mid) (is : after ≡ map committed late) where
   abbrev pub outs : List Out
   outs = (body_answer n u body).sent
@@ -133,7 +154,8 @@ module _ (n m : NodeView) (before mid late after : List Adjacency) (u : NodeId) 
   answer-is =
       ap (λ ms. on_first n.place n.state u ms) (handed ∙ handed-is v q ∙ ap (λ w. handed_up_of w q) heard)
 
-  taken-hop : (d : ℕ) → all_sent (prepared_at late d) ≡ all_sent (record { state = heard_hops (hop_at before) u q d; prepared = (prepared_at mid d).prepared })
+  taken-hop : (d : ℕ) → all_sent (prepared_at late d) ≡ all_sent
+      (record { state = heard_hops (hop_at before) u q d; prepared = (prepared_at mid d).prepared })
   taken-hop d = ap all_sent (takes d) ∙ go (nat_eq d u.0) refl
     where
       state : hop_at mid d ≡ hop_at before d
@@ -141,18 +163,31 @@ module _ (n m : NodeView) (before mid late after : List Adjacency) (u : NodeId) 
 
       go : (b : Bool) → nat_eq d u.0 ≡ b →
           all_sent (cond b (taken_by v q.acks (prepared_at mid d)) (prepared_at mid d))
-          ≡ all_sent (record { state = cond b (received (hop_at before d) q) (hop_at before d); prepared = (prepared_at mid d).prepared })
+          ≡ all_sent (record {
+            state = cond b (received (hop_at before d) q) (hop_at before d);
+            prepared =
+                (prepared_at mid d).prepared;
+          })
       go true e =
           let same : d ≡ u.0 = grind arith in
-          ap (λ (h : HopState). all_sent (record { state = taken h v q.acks; prepared = (prepared_at mid d).prepared })) state
-          ∙ ap (λ w. all_sent (record { state = taken (hop_at before d) w q.acks; prepared = (prepared_at mid d).prepared }))
+          ap (λ (h : HopState). all_sent (record {
+            state = taken h v q.acks;
+            prepared =
+                (prepared_at mid d).prepared;
+          })) state
+          ∙ ap (λ w. all_sent (record {
+            state = taken (hop_at before d) w q.acks;
+            prepared =
+                (prepared_at mid d).prepared;
+          }))
           (heard ∙ ap (λ k. heard_as (hop_at before k) q) (sym same))
       go false e = ap (λ (h : HopState). all_sent (record { state = h; prepared = (prepared_at mid d).prepared })) state
 
   took-hops : (d : ℕ) → hop_at after d ≡ sent_on (heard_hops (hop_at before) u q) outs d
   took-hops d =
       ap (λ xs. hop_at xs d) is ∙ hop-committed late d ∙ taken-hop d
-      ∙ sent-later (hop_at before) (heard_hops (hop_at before) u q) outs d (prepared_at mid d).prepared (prepared-for before mid outs are rest d) (heard-sent (hop_at before) u q d)
+      ∙ sent-later (hop_at before) (heard_hops (hop_at before) u q) outs d (prepared_at mid d).prepared
+      (prepared-for before mid outs are rest d) (heard-sent (hop_at before) u q d)
 
   pub took-becomes : m.place ≡ n.place → m.state ≡ changed n.state (body_answer n u body) →
       Becomes n m before after (took n.place (meaning n before) u q).after
@@ -169,12 +204,15 @@ module _ (n m : NodeView) (before mid late after : List Adjacency) (u : NodeId) 
       last ≡ first ++ frames_to n.place.id (took n.place (meaning n before) u q).sendings
   took-frames first acked last a l =
       l ∙ ap (λ fs. fs ++ frames_to n.place.id (packets_on (hop_at before) outs)) a
-      ∙ append_assoc first (frames_to n.place.id (acks_to u v q)) (frames_to n.place.id (packets_on (hop_at before) outs))
+      ∙ append_assoc first (frames_to n.place.id (acks_to u v q))
+      (frames_to n.place.id (packets_on (hop_at before) outs))
       ∙ ap (λ fs. first ++ fs) (sym (frames-append n.place.id (acks_to u v q) (packets_on (hop_at before) outs)))
       ∙ ap (λ ps. first ++ frames_to n.place.id (acks_to u v q ++ ps))
       (packets-later outs (hop_at before) (heard_hops (hop_at before) u q) (λ d. heard-sent (hop_at before) u q d))
-      ∙ ap (λ w. first ++ frames_to n.place.id (acks_to u w q ++ packets_on (heard_hops (hop_at before) u q) outs)) heard
-      ∙ ap (λ b. first ++ frames_to n.place.id (acks_to u (heard_as (hop_at before u.0) q) q ++ packets_on (heard_hops (hop_at before) u q) b.sent)) answer-is
+      ∙ ap (λ w. first ++ frames_to n.place.id (acks_to u w q ++ packets_on (heard_hops (hop_at before) u q) outs))
+      heard
+      ∙ ap (λ b. first ++ frames_to n.place.id (acks_to u (heard_as (hop_at before u.0) q) q ++
+      packets_on (heard_hops (hop_at before) u q) b.sent)) answer-is
 
   pub took-spelled : AllSpelled n.place.id (acks_to u v q) → AllSpelled n.place.id (packets_on (hop_at before) outs) →
       AllSpelled n.place.id (took n.place (meaning n before) u q).sendings

@@ -73,9 +73,11 @@ passed-on bytes p (body, is, spelled) = go p.body spelled.1.packet.body
 
 -- Frames at the end of a list
 
-pub framed-on : (me to : NodeId) (fs new first : List Frame) (f : Frame) (p : Packet) (rest all : List Packet) → f ≡ sent_frame me to p → new ≡ fs ++ f ∷ [] →
+pub framed-on : (me to : NodeId) (fs new first : List Frame) (f : Frame) (p : Packet) (rest all : List Packet) →
+    f ≡ sent_frame me to p → new ≡ fs ++ f ∷ [] →
     fs ++ frames_to me (sendings_to to (p ∷ rest)) ≡ first ++ frames_to me (sendings_to to all) →
     new ++ frames_to me (sendings_to to rest) ≡ first ++ frames_to me (sendings_to to all)
 framed-on me to fs new first f p rest all is pushed h =
-    ap (λ n. n ++ frames_to me (sendings_to to rest)) pushed ∙ append_assoc fs (f ∷ []) (frames_to me (sendings_to to rest))
+    ap (λ n. n ++ frames_to me (sendings_to to rest)) pushed ∙
+    append_assoc fs (f ∷ []) (frames_to me (sendings_to to rest))
     ∙ ap (λ g. fs ++ g ∷ frames_to me (sendings_to to rest)) is ∙ h

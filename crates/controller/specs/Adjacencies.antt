@@ -66,6 +66,11 @@ IsChangedAt before place f after =
 abbrev pub taken_by : Heard → List MsgId → PreparedHop → PreparedHop
 taken_by v acks h = record { state = taken h.state v acks; prepared = h.prepared }
 
+-- each hop, after one took what was heard of this neighbour
+abbrev pub taken_at : List Adjacency → NodeId → Heard → List MsgId → ℕ → PreparedHop
+taken_at adjacencies u v acks d =
+    if d == u.0 then taken_by v acks (prepared_at adjacencies d) else prepared_at adjacencies d
+
 -- nothing is prepared
 abbrev pub rested : Adjacency → Adjacency
 rested a = with_hop (resting a.hop.state) a
@@ -103,7 +108,8 @@ ArePrepared before outs after = (d : ℕ) → next_at after d ≡ sent_on (hop_a
 abbrev pub AllCanGo : (ℕ → Bool) → (ℕ → HopState) → List Out → Type 0
 AllCanGo near hops [] = Unit {0}
 AllCanGo near hops (o ∷ outs) =
-    (near o.to.0 ≡ true) × ((hops o.to.0).sent < 2 ^ 32 - 1) × IsWritableMsg o.msg × AllCanGo near (sent_one hops o) outs
+    (near o.to.0 ≡ true) × ((hops o.to.0).sent < 2 ^ 32 - 1) × IsWritableMsg o.msg ×
+    AllCanGo near (sent_one hops o) outs
 
 -- A tick
 

@@ -86,9 +86,32 @@ abbrev pub after_tick : LocalNode → NodeState → List Adjacency → Stepped
 after_tick p s adjacencies =
     carried (λ d. ticked (hop_at adjacencies d)) s (on_tick p s) (flat_map again_to adjacencies)
 
+-- The steps of a node over its hops
+
+abbrev pub packet_step : NodeView → List Adjacency → NodeId → Packet → Stepped
+packet_step n adjacencies u p = took n.place (meaning n adjacencies) u p
+
+abbrev pub item_step : NodeView → List Adjacency → DeskItem → Stepped
+item_step n adjacencies i = handled n.place (meaning n adjacencies) i
+
+abbrev pub tick_step : NodeView → List Adjacency → Stepped
+tick_step n adjacencies = after_tick n.place n.state adjacencies
+
+-- bytes that spell nothing
+abbrev pub idle_step : NodeView → List Adjacency → Stepped
+idle_step n adjacencies = unmoved (meaning n adjacencies)
+
+-- the packets of an answer go out in frames, behind those that stand in the list
+abbrev pub AddsAnswer : NodeView → List Adjacency → Answer → List Frame → List Frame → Type 0
+AddsAnswer n adjacencies a old new = new ≡ old ++ frames_to n.place.id (packets_on (hop_at adjacencies) a.sent)
+
+abbrev pub AnswerIsSpelled : NodeView → List Adjacency → Answer → Type 0
+AnswerIsSpelled n adjacencies a = AllSpelled n.place.id (packets_on (hop_at adjacencies) a.sent)
+
 -- What a step makes
 
--- the node and the hops mean this; the node knows the same of itself, the neighbours are the same, and nothing is prepared
+-- the node and the hops mean this; the node knows the same of itself, the neighbours are the same, and nothing is
+-- prepared
 pub record Becomes (n m : NodeView) (before after : List Adjacency) (c : Meaning) : Type 0 where
   pub place : m.place ≡ n.place
   pub state : m.state ≡ c.state
@@ -105,10 +128,11 @@ pub record IsMade (n m : NodeView) (before after : List Adjacency) (s : Stepped)
 -- A frame: for each packet that its bytes spell, and for bytes that spell none. An item of the desk. A tick.
 abbrev pub IsReaction : NodeView → NodeView → List Adjacency → List Adjacency → CoreInput → List Frame → Type 0
 IsReaction n m before after (input.Frame u bytes) frames =
-    ((p : Packet) → IsFrame bytes p → IsMade n m before after (took n.place (meaning n before) u p) frames)
-    × (SpellsNothing bytes → IsMade n m before after (unmoved (meaning n before)) frames)
-IsReaction n m before after input.Tick frames = IsMade n m before after (after_tick n.place n.state before) frames
-IsReaction n m before after (input.Desk i) frames = IsMade n m before after (handled n.place (meaning n before) i) frames
+    ((p : Packet) → IsFrame bytes p → IsMade n m before after (packet_step n before u p) frames)
+    × (SpellsNothing bytes → IsMade n m before after (idle_step n before) frames)
+IsReaction n m before after input.Tick frames = IsMade n m before after (tick_step n before) frames
+IsReaction n m before after (input.Desk i) frames =
+    IsMade n m before after (item_step n before i) frames
 
 pub record IsStep (c d : ControllerState) (i : CoreInput) (frames : List Frame) : Type 0 where
   pub reaction : IsReaction c.node d.node c.adjacencies d.adjacencies i frames

@@ -4,10 +4,10 @@ ghost use Rattle.std.specs.Prelude.{◌≡◌, ◌+◌, ◌-◌, ◌<◌, ◌≤
 ghost use Rattle.std.specs.Option.{option_copied};
 ghost use Rattle.std.specs.List.{AllByRecursion, flat_map};
 ghost use Rattle.ason_base.specs.Writable.{IsWritableMsg};
-ghost use Rattle.hop_reliable.specs.Hop.{heard_as, last_number, numbered, sent_message, with_next};
+ghost use Rattle.hop_reliable.specs.Hop.{heard_as, last_number, numbered, with_next};
 ghost use Rattle.rsvp_messages.specs.Writable.{IsWritable};
 ghost use Rattle.controller.specs.declared.adjacencies.Adjacency.{Adjacency};
-ghost use Rattle.controller.specs.Adjacencies.{AllCanGo, CanGoAgain, IsChangedAt, adjacency_at, aged, again_to, committed, hop_at, is_to, next_at, packets_on, peer_numbers, prepared_at, reaches, rested, sendings_to, sent_on, taken_by};
+ghost use Rattle.controller.specs.Adjacencies.{AllCanGo, CanGoAgain, IsChangedAt, adjacency_at, aged, again_to, committed, hop_at, is_to, next_at, packets_on, peer_numbers, prepared_at, reaches, rested, sendings_to, sent_on, sent_one, taken_at, taken_by};
 ghost use Rattle.controller.specs.Frames.{AllSpelled, IsFrame, frames_to, sent_frame};
 ghost use Rattle.controller.specs.Kept.{unacknowledged};
 
@@ -58,7 +58,8 @@ pub(crate) fn hears(adjacencies: &[Adjacency], from: NodeId, p: &Packet) -> Hear
 
 fn take_at(adjacencies: &mut [Adjacency], place: usize, heard: Heard, acks: &[MsgId])
     requires within { place < length adjacencies.old }
-    requires next { (a : Adjacency) → slice_get adjacencies.old place ≡ Some a → heard ≡ Heard.Next → a.hop.state.handed_up + 1 < 2 ^ 32 }
+    requires next { (a : Adjacency) → slice_get adjacencies.old place ≡ Some a →
+        heard ≡ Heard.Next → a.hop.state.handed_up + 1 < 2 ^ 32 }
     ensures { IsChangedAt adjacencies.old place (taken_by heard acks.now) adjacencies.new }
 {
     let adjacency = &mut adjacencies[place];
@@ -69,7 +70,8 @@ fn take_at(adjacencies: &mut [Adjacency], place: usize, heard: Heard, acks: &[Ms
 pub(crate) fn take(adjacencies: &mut [Adjacency], from: NodeId, heard: Heard, acks: &[MsgId])
     requires reached { IsTrue (reaches adjacencies.old from.0) }
     requires next { heard ≡ Heard.Next → (hop_at adjacencies.old from.0).handed_up + 1 < 2 ^ 32 }
-    ensures hops { (d : ℕ) → prepared_at adjacencies.new d ≡ (if d == from.0 then taken_by heard acks.now (prepared_at adjacencies.old d) else prepared_at adjacencies.old d) }
+    ensures hops { (d : ℕ) → prepared_at adjacencies.new d ≡
+        taken_at adjacencies.old from heard acks.now d }
     ensures peers { peer_numbers adjacencies.new ≡ peer_numbers adjacencies.old }
 {
     match place_of(adjacencies, from) {
@@ -87,10 +89,13 @@ fn prepare_at(
     msg: Msg,
 ) -> Result<Packet, OutOfMemory>
     requires within { place < length adjacencies.old }
-    requires below { (a : Adjacency) → slice_get adjacencies.old place ≡ Some a → last_number a.hop < 2 ^ 32 - 1 }
-    ensures ok { OnOk result (IsChangedAt adjacencies.old place (λ h. with_next h msg) adjacencies.new) }
+    requires below { (a : Adjacency) → slice_get adjacencies.old place ≡ Some a →
+        last_number a.hop < 2 ^ 32 - 1 }
+    ensures ok { OnOk result
+        (IsChangedAt adjacencies.old place (λ h. with_next h msg) adjacencies.new) }
     ensures err { OnErr result (IsChangedAt adjacencies.old place (λ h. h) adjacencies.new) }
-    ensures packet { IfOk result (λ p. (a : Adjacency) → slice_get adjacencies.old place ≡ Some a → p ≡ numbered (last_number a.hop + 1) msg) }
+    ensures packet { IfOk result (λ p. (a : Adjacency) → slice_get adjacencies.old place ≡ Some a →
+        p ≡ numbered (last_number a.hop + 1) msg) }
 {
     let adjacency = &mut adjacencies[place];
     adjacency.hop.prepare(alloc, msg)
@@ -100,9 +105,11 @@ fn prepare_at(
 fn prepare(alloc: Global, adjacencies: &mut [Adjacency], out: Out) -> Result<Packet, OutOfMemory>
     requires reached { IsTrue (reaches adjacencies.old out.to.0) }
     requires below { (next_at adjacencies.old out.to.0).sent < 2 ^ 32 - 1 }
-    ensures hops { OnOk result ((d : ℕ) → next_at adjacencies.new d ≡ (if d == out.to.0 then sent_message (next_at adjacencies.old d) out.msg else next_at adjacencies.old d)) }
+    ensures hops { OnOk result
+        ((d : ℕ) → next_at adjacencies.new d ≡ sent_one (next_at adjacencies.old) out d) }
     ensures rest { map rested adjacencies.new ≡ map rested adjacencies.old }
-    ensures packet { IfOk result (λ p. p ≡ numbered ((next_at adjacencies.old out.to.0).sent + 1) out.msg) }
+    ensures packet { IfOk result
+        (λ p. p ≡ numbered ((next_at adjacencies.old out.to.0).sent + 1) out.msg) }
 {
     let Out { to, msg } = out;
     match place_of(adjacencies, to) {
@@ -120,11 +127,14 @@ fn prepare_framed(
     requires reached { IsTrue (reaches adjacencies.old out.to.0) }
     requires below { (next_at adjacencies.old out.to.0).sent < 2 ^ 32 - 1 }
     requires writable { IsWritableMsg out.msg }
-    ensures hops { OnOk result ((d : ℕ) → next_at adjacencies.new d ≡ (if d == out.to.0 then sent_message (next_at adjacencies.old d) out.msg else next_at adjacencies.old d)) }
+    ensures hops { OnOk result
+        ((d : ℕ) → next_at adjacencies.new d ≡ sent_one (next_at adjacencies.old) out d) }
     ensures rest { map rested adjacencies.new ≡ map rested adjacencies.old }
-    ensures frame { IfOk result (λ f. f ≡ sent_frame me out.to (numbered ((next_at adjacencies.old out.to.0).sent + 1) out.msg)) }
-    ensures spelled { IfOk result (λ f. IsFrame f.bytes
+    ensures frame { IfOk result
+        (λ f. f ≡ sent_frame me out.to
         (numbered ((next_at adjacencies.old out.to.0).sent + 1) out.msg)) }
+    ensures spelled { IfOk result
+        (λ f. IsFrame f.bytes (numbered ((next_at adjacencies.old out.to.0).sent + 1) out.msg)) }
 {
     let to = out.to;
     let packet = prepare(alloc, adjacencies, out)?;
@@ -152,10 +162,14 @@ pub(crate) fn prepare_all(
     outs: Vec<Out>,
 ) -> Result<(), OutOfMemory>
     requires { AllCanGo (reaches adjacencies.old) (next_at adjacencies.old) outs.items }
-    ensures hops { OnOk result ((d : ℕ) → next_at adjacencies.new d ≡ sent_on (next_at adjacencies.old) outs.items d) }
+    ensures hops { OnOk result
+        ((d : ℕ) → next_at adjacencies.new d ≡ sent_on (next_at adjacencies.old) outs.items d) }
     ensures rest { map rested adjacencies.new ≡ map rested adjacencies.old }
-    ensures frames { OnOk result (frames.new.items ≡ frames.old.items ++ frames_to me (packets_on (next_at adjacencies.old) outs.items)) }
-    ensures spelled { OnOk result (AllSpelled me (packets_on (next_at adjacencies.old) outs.items)) }
+    ensures frames { OnOk result
+        (frames.new.items ≡ frames.old.items ++
+        frames_to me (packets_on (next_at adjacencies.old) outs.items)) }
+    ensures spelled { OnOk result
+        (AllSpelled me (packets_on (next_at adjacencies.old) outs.items)) }
 {
     for out in outs {
         let frame = prepare_framed(alloc, me, adjacencies, out)?;
@@ -202,7 +216,8 @@ fn frame_all(
     frames: &mut Vec<Frame>,
 ) -> Result<(), OutOfMemory>
     requires { AllByRecursion IsWritable packets.items }
-    ensures frames { OnOk result (frames.new.items ≡ frames.old.items ++ frames_to me (sendings_to to packets.items)) }
+    ensures frames { OnOk result
+        (frames.new.items ≡ frames.old.items ++ frames_to me (sendings_to to packets.items)) }
     ensures spelled { OnOk result (AllSpelled me (sendings_to to packets.items)) }
 {
     for p in packets {
@@ -220,7 +235,8 @@ fn frame_again(
     frames: &mut Vec<Frame>,
 ) -> Result<(), OutOfMemory>
     requires { CanGoAgain adjacency.now.hop.state }
-    ensures frames { OnOk result (frames.new.items ≡ frames.old.items ++ frames_to me (again_to adjacency.now)) }
+    ensures frames { OnOk result
+        (frames.new.items ≡ frames.old.items ++ frames_to me (again_to adjacency.now)) }
     ensures spelled { OnOk result (AllSpelled me (again_to adjacency.now)) }
 {
     let due = adjacency.hop.due(alloc)?;
@@ -235,7 +251,8 @@ pub(crate) fn frame_due(
     frames: &mut Vec<Frame>,
 ) -> Result<(), OutOfMemory>
     requires { All (λ a. CanGoAgain a.hop.state) adjacencies.now }
-    ensures frames { OnOk result (frames.new.items ≡ frames.old.items ++ frames_to me (flat_map again_to adjacencies.now)) }
+    ensures frames { OnOk result
+        (frames.new.items ≡ frames.old.items ++ frames_to me (flat_map again_to adjacencies.now)) }
     ensures spelled { OnOk result (AllSpelled me (flat_map again_to adjacencies.now)) }
 {
     for adjacency in adjacencies {
@@ -247,7 +264,8 @@ pub(crate) fn frame_due(
 /// How many messages aren't acknowledged.
 pub(crate) fn pending(adjacencies: &[Adjacency]) -> usize
     requires { length adjacencies.now ≤ 256 }
-    ensures { result ≡ unacknowledged adjacencies.now }
+    ensures count { result ≡ unacknowledged adjacencies.now }
+    ensures few { result ≤ 2 ^ 40 }
 {
     let mut total = 0;
     for adjacency in adjacencies {

@@ -75,8 +75,10 @@ impl Controller {
 
     /// What a table shows of the node: its calls in order of number, its legs in order of LSP.
     pub fn rows(&self, alloc: Global) -> Result<TableRows, OutOfMemory>
-        ensures calls { IfOk result (λ rows. rows.calls ≡ call_rows self.now.node.place.id self.now.node.state) }
-        ensures legs { IfOk result (λ rows. rows.legs ≡ leg_rows self.now.node.place.id self.now.node.state) }
+        ensures calls { IfOk result
+            (λ rows. rows.calls ≡ call_rows self.now.node.place.id self.now.node.state) }
+        ensures legs { IfOk result
+            (λ rows. rows.legs ≡ leg_rows self.now.node.place.id self.now.node.state) }
     {
         self.node.rows(alloc)
     }
@@ -98,6 +100,7 @@ impl Controller {
     /// How many messages of its hops aren't acknowledged. It floods no row.
     pub fn pending(&self) -> Pending
         ensures hop { result.hop ≡ unacknowledged self.now.adjacencies }
+        ensures few { result.hop ≤ 2 ^ 40 }
         ensures flood { result.flood ≡ 0 }
     {
         Pending {

@@ -15,3 +15,4 @@ pub use adjacencies::Adjacency;
 pub use controller::Controller;
 pub use frames::{Frame, Frames};
 pub use inputs::{CoreInput, Pending};
+pub use packets::packet_of;

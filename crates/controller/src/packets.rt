@@ -14,7 +14,7 @@ use rsvp_messages::decode;
 use std::alloc::Global;
 
 /// The packet that a frame spells, if it spells one.
-pub(crate) fn packet_of(alloc: Global, bytes: &[u8]) -> Result<Option<Packet>, OutOfMemory>
+pub fn packet_of(alloc: Global, bytes: &[u8]) -> Result<Option<Packet>, OutOfMemory>
     ensures found { (p : Packet) → result ≡ Ok (Some p) → IsFrame bytes.now p }
     ensures only { (p : Packet) → IsFrame bytes.now p → IfOk result (λ o. o ≡ Some p) }
     ensures none { SpellsNothing bytes.now → IfOk result (λ o. o ≡ None) }
@@ -58,7 +58,8 @@ pub(crate) fn acknowledge(
     p: &Packet,
 ) -> Result<(), OutOfMemory>
     requires { (h : HopState) × (heard ≡ heard_as h p.now) }
-    ensures frames { OnOk result (frames.new.items ≡ frames.old.items ++ frames_to me (acks_to to heard p.now)) }
+    ensures frames { OnOk result
+        (frames.new.items ≡ frames.old.items ++ frames_to me (acks_to to heard p.now)) }
     ensures spelled { OnOk result (AllSpelled me (acks_to to heard p.now)) }
 {
     let answer = heard.answer(alloc, p)?;

@@ -21,7 +21,8 @@ fn touches(n: NodeId, link: &LinkSpec) -> bool
 
 // The other ends of the node's links.
 fn other_ends(alloc: Global, links: &[LinkSpec], n: NodeId) -> Result<Vec<u32>, OutOfMemory>
-    ensures { IfOk result (λ v. v.items ≡ map (λ l. (other_end l n).0) (filter (touches n) links.now)) }
+    ensures { IfOk result
+        (λ v. v.items ≡ map (λ l. (other_end l n).0) (filter (touches n) links.now)) }
 {
     let mut ends = Vec::new(alloc);
     for link in links {
@@ -34,7 +35,9 @@ fn other_ends(alloc: Global, links: &[LinkSpec], n: NodeId) -> Result<Vec<u32>, 
 
 // The nodes that these links lead to, in order, each once.
 fn neighbours(alloc: Global, links: &[LinkSpec], n: NodeId) -> Result<Vec<u32>, OutOfMemory>
-    ensures { IfOk result (λ v. v.items ≡ in_order nat_lt (map (λ l. (other_end l n).0) (filter (touches n) links.now))) }
+    ensures { IfOk result
+        (λ v. v.items ≡ in_order nat_lt
+        (map (λ l. (other_end l n).0) (filter (touches n) links.now))) }
 {
     let mut ends = other_ends(alloc, links, n)?;
     ends.sort_unstable();

@@ -7,9 +7,9 @@ ghost use Rattle.ason_base.specs.declared.messages.Packet.{Packet};
 ghost use Rattle.mesh_nodes.specs.LocalNodes.{is_neighbour};
 ghost use Rattle.mesh_rules.specs.Changes.{changed};
 ghost use Rattle.node_core.specs.Nodes.{IsWritableInput, answer_to, stepped};
-ghost use Rattle.controller.specs.Adjacencies.{ArePrepared, hop_at, packets_on, reaches, rested};
+ghost use Rattle.controller.specs.Adjacencies.{ArePrepared, reaches, rested};
 ghost use Rattle.controller.specs.Answers.{BodyCanBePassedOn, body_answer};
-ghost use Rattle.controller.specs.Controllers.{Becomes, IsMade, IsReaction, after_tick, handed_body, handled, meaning, took, unmoved};
+ghost use Rattle.controller.specs.Controllers.{AddsAnswer, AnswerIsSpelled, Becomes, IsMade, IsReaction, handed_body, idle_step, item_step, packet_step, tick_step};
 ghost use Rattle.controller.specs.Frames.{AllSpelled, IsFrame, SpellsNothing, frames_to};
 ghost use Rattle.controller.specs.Kept.{AllToNeighbours, IsFromNeighbour, IsKept, IsReady};
 
@@ -35,11 +35,14 @@ fn prepared(
     requires ready { IsReady node.now.place adjacencies.old }
     requires input { IsWritableInput input.now }
     ensures change { IfOk result (λ c. c ≡ answer_to node.now input.now) }
-    ensures hops { OnOk result (ArePrepared adjacencies.old (answer_to node.now input.now).sent adjacencies.new) }
+    ensures hops { OnOk result
+        (ArePrepared adjacencies.old (answer_to node.now input.now).sent adjacencies.new) }
     ensures rest { map rested adjacencies.new ≡ map rested adjacencies.old }
-    ensures frames { OnOk result (frames.new.items ≡ frames.old.items ++ frames_to node.now.place.id (packets_on (hop_at adjacencies.old) (answer_to node.now input.now).sent)) }
-    ensures spelled { OnOk result (AllSpelled node.now.place.id
-        (packets_on (hop_at adjacencies.old) (answer_to node.now input.now).sent)) }
+    ensures frames { OnOk result
+        (AddsAnswer node.now adjacencies.old
+        (answer_to node.now input.now) frames.old.items frames.new.items) }
+    ensures spelled { OnOk result
+        (AnswerIsSpelled node.now adjacencies.old (answer_to node.now input.now)) }
 {
     let change = node.answer(alloc, input)?;
     let outs = copy_outs(alloc, change.sent().items())?;
@@ -58,11 +61,14 @@ fn carry_out(
     requires input { IsWritableInput input.now }
     ensures node { OnOk result (node.new ≡ stepped node.old input.now) }
     ensures same { OnErr result (node.new ≡ node.old) }
-    ensures hops { OnOk result (ArePrepared adjacencies.old (answer_to node.old input.now).sent adjacencies.new) }
+    ensures hops { OnOk result
+        (ArePrepared adjacencies.old (answer_to node.old input.now).sent adjacencies.new) }
     ensures rest { map rested adjacencies.new ≡ map rested adjacencies.old }
-    ensures frames { OnOk result (frames.new.items ≡ frames.old.items ++ frames_to node.old.place.id (packets_on (hop_at adjacencies.old) (answer_to node.old input.now).sent)) }
-    ensures spelled { OnOk result (AllSpelled node.old.place.id
-        (packets_on (hop_at adjacencies.old) (answer_to node.old input.now).sent)) }
+    ensures frames { OnOk result
+        (AddsAnswer node.old adjacencies.old
+        (answer_to node.old input.now) frames.old.items frames.new.items) }
+    ensures spelled { OnOk result
+        (AnswerIsSpelled node.old adjacencies.old (answer_to node.old input.now)) }
 {
     let change = prepared(alloc, node, adjacencies, frames, input)?;
     node.carry_out(change)?;
@@ -81,12 +87,15 @@ fn give(
     requires input { IsWritableInput input.now }
     ensures node { OnOk result (node.new ≡ stepped node.old input.now) }
     ensures same { OnErr result (node.new ≡ node.old) }
-    ensures hops { OnOk result (ArePrepared adjacencies.old (answer_to node.old input.now).sent adjacencies.new) }
+    ensures hops { OnOk result
+        (ArePrepared adjacencies.old (answer_to node.old input.now).sent adjacencies.new) }
     ensures rest { OnOk result (map rested adjacencies.new ≡ map rested adjacencies.old) }
     ensures err { OnErr result (adjacencies.new ≡ adjacencies.old) }
-    ensures frames { OnOk result (frames.new.items ≡ frames.old.items ++ frames_to node.old.place.id (packets_on (hop_at adjacencies.old) (answer_to node.old input.now).sent)) }
-    ensures spelled { OnOk result (AllSpelled node.old.place.id
-        (packets_on (hop_at adjacencies.old) (answer_to node.old input.now).sent)) }
+    ensures frames { OnOk result
+        (AddsAnswer node.old adjacencies.old
+        (answer_to node.old input.now) frames.old.items frames.new.items) }
+    ensures spelled { OnOk result
+        (AnswerIsSpelled node.old adjacencies.old (answer_to node.old input.now)) }
 {
     match carry_out(alloc, node, adjacencies, frames, input) {
         Ok(()) => Ok(()),
@@ -116,14 +125,18 @@ fn hand_up(
     requires ready { IsReady node.old.place adjacencies.old }
     requires body { BodyCanBePassedOn body }
     ensures place { node.new.place ≡ node.old.place }
-    ensures node { OnOk result (node.new.state ≡ changed node.old.state (body_answer node.old from body)) }
+    ensures node { OnOk result
+        (node.new.state ≡ changed node.old.state (body_answer node.old from body)) }
     ensures same { OnErr result (node.new ≡ node.old) }
-    ensures hops { OnOk result (ArePrepared adjacencies.old (body_answer node.old from body).sent adjacencies.new) }
+    ensures hops { OnOk result
+        (ArePrepared adjacencies.old (body_answer node.old from body).sent adjacencies.new) }
     ensures rest { OnOk result (map rested adjacencies.new ≡ map rested adjacencies.old) }
     ensures err { OnErr result (adjacencies.new ≡ adjacencies.old) }
-    ensures frames { OnOk result (frames.new.items ≡ frames.old.items ++ frames_to node.old.place.id (packets_on (hop_at adjacencies.old) (body_answer node.old from body).sent)) }
-    ensures spelled { OnOk result (AllSpelled node.old.place.id
-        (packets_on (hop_at adjacencies.old) (body_answer node.old from body).sent)) }
+    ensures frames { OnOk result
+        (AddsAnswer node.old adjacencies.old
+        (body_answer node.old from body) frames.old.items frames.new.items) }
+    ensures spelled { OnOk result
+        (AnswerIsSpelled node.old adjacencies.old (body_answer node.old from body)) }
 {
     match body {
         None => Ok(()),
@@ -149,12 +162,16 @@ fn take_packet(
     requires ready { IsReady node.old.place adjacencies.old }
     requires reached { IsTrue (reaches adjacencies.old from.0) }
     requires body { BodyCanBePassedOn packet.body }
-    ensures becomes { OnOk result (Becomes node.old node.new adjacencies.old adjacencies.new (took node.old.place (meaning node.old adjacencies.old) from packet).after) }
+    ensures becomes { OnOk result
+        (Becomes node.old node.new adjacencies.old adjacencies.new
+        (packet_step node.old adjacencies.old from packet).after) }
     ensures same { OnErr result (node.new ≡ node.old) }
     ensures err { OnErr result (adjacencies.new ≡ adjacencies.old) }
-    ensures frames { OnOk result (frames.new.items ≡ frames.old.items ++ frames_to node.old.place.id (took node.old.place (meaning node.old adjacencies.old) from packet).sendings) }
-    ensures spelled { OnOk result (AllSpelled node.old.place.id
-        (took node.old.place (meaning node.old adjacencies.old) from packet).sendings) }
+    ensures frames { OnOk result
+        (frames.new.items ≡ frames.old.items ++
+        frames_to node.old.place.id (packet_step node.old adjacencies.old from packet).sendings) }
+    ensures spelled { OnOk result
+        (AllSpelled node.old.place.id (packet_step node.old adjacencies.old from packet).sendings) }
 {
     let heard = hears(adjacencies, from, &packet);
     acknowledge(alloc, node.id(), from, frames, heard, &packet)?;
@@ -176,9 +193,12 @@ fn taken(
     requires ready { IsReady node.old.place adjacencies.old }
     requires from { IsTrue (is_neighbour node.old.place from) }
     requires body { BodyCanBePassedOn packet.body }
-    ensures made { IfOk result (λ fs. IsMade node.old node.new adjacencies.old adjacencies.new (took node.old.place (meaning node.old adjacencies.old) from packet) fs.items) }
+    ensures made { IfOk result
+        (λ fs. IsMade node.old node.new adjacencies.old adjacencies.new
+        (packet_step node.old adjacencies.old from packet) fs.items) }
     ensures place { node.new.place ≡ node.old.place }
-    ensures kept { (k : ℕ) → IsKept node.old.place adjacencies.old k → OnOk result (IsKept node.new.place adjacencies.new (k + 1)) }
+    ensures kept { (k : ℕ) → IsKept node.old.place adjacencies.old k →
+        OnOk result (IsKept node.new.place adjacencies.new (k + 1)) }
     ensures near { IfOk result (λ fs. AllToNeighbours node.old.place fs.items) }
     ensures few { IfOk result (λ fs. length fs.items ≤ 2 ^ 40) }
     ensures same { OnErr result (node.new ≡ node.old) }
@@ -200,10 +220,15 @@ fn take_frame(
 ) -> Result<Vec<Frame>, OutOfMemory>
     requires ready { IsReady node.old.place adjacencies.old }
     requires from { IsTrue (is_neighbour node.old.place from) }
-    ensures packet { (p : Packet) → IsFrame bytes.now p → IfOk result (λ fs. IsMade node.old node.new adjacencies.old adjacencies.new (took node.old.place (meaning node.old adjacencies.old) from p) fs.items) }
-    ensures noise { SpellsNothing bytes.now → IfOk result (λ fs. IsMade node.old node.new adjacencies.old adjacencies.new (unmoved (meaning node.old adjacencies.old)) fs.items) }
+    ensures packet { (p : Packet) → IsFrame bytes.now p →
+        IfOk result (λ fs. IsMade node.old node.new adjacencies.old adjacencies.new
+        (packet_step node.old adjacencies.old from p) fs.items) }
+    ensures noise { SpellsNothing bytes.now →
+        IfOk result (λ fs. IsMade node.old node.new adjacencies.old adjacencies.new
+        (idle_step node.old adjacencies.old) fs.items) }
     ensures place { node.new.place ≡ node.old.place }
-    ensures kept { (k : ℕ) → IsKept node.old.place adjacencies.old k → OnOk result (IsKept node.new.place adjacencies.new (k + 1)) }
+    ensures kept { (k : ℕ) → IsKept node.old.place adjacencies.old k →
+        OnOk result (IsKept node.new.place adjacencies.new (k + 1)) }
     ensures near { IfOk result (λ fs. AllToNeighbours node.old.place fs.items) }
     ensures few { IfOk result (λ fs. length fs.items ≤ 2 ^ 40) }
     ensures same { OnErr result (node.new ≡ node.old) }
@@ -224,9 +249,12 @@ fn handle(
     item: &DeskItem,
 ) -> Result<Vec<Frame>, OutOfMemory>
     requires ready { IsReady node.old.place adjacencies.old }
-    ensures made { IfOk result (λ fs. IsMade node.old node.new adjacencies.old adjacencies.new (handled node.old.place (meaning node.old adjacencies.old) item.now) fs.items) }
+    ensures made { IfOk result
+        (λ fs. IsMade node.old node.new adjacencies.old adjacencies.new
+        (item_step node.old adjacencies.old item.now) fs.items) }
     ensures place { node.new.place ≡ node.old.place }
-    ensures kept { (k : ℕ) → IsKept node.old.place adjacencies.old k → OnOk result (IsKept node.new.place adjacencies.new (k + 1)) }
+    ensures kept { (k : ℕ) → IsKept node.old.place adjacencies.old k →
+        OnOk result (IsKept node.new.place adjacencies.new (k + 1)) }
     ensures near { IfOk result (λ fs. AllToNeighbours node.old.place fs.items) }
     ensures few { IfOk result (λ fs. length fs.items ≤ 2 ^ 40) }
     ensures same { OnErr result (node.new ≡ node.old) }
@@ -247,9 +275,12 @@ fn tick(
     adjacencies: &mut [Adjacency],
 ) -> Result<Vec<Frame>, OutOfMemory>
     requires ready { IsReady node.old.place adjacencies.old }
-    ensures made { IfOk result (λ fs. IsMade node.old node.new adjacencies.old adjacencies.new (after_tick node.old.place node.old.state adjacencies.old) fs.items) }
+    ensures made { IfOk result
+        (λ fs. IsMade node.old node.new adjacencies.old adjacencies.new
+        (tick_step node.old adjacencies.old) fs.items) }
     ensures place { node.new.place ≡ node.old.place }
-    ensures kept { (k : ℕ) → IsKept node.old.place adjacencies.old k → OnOk result (IsKept node.new.place adjacencies.new (k + 1)) }
+    ensures kept { (k : ℕ) → IsKept node.old.place adjacencies.old k →
+        OnOk result (IsKept node.new.place adjacencies.new (k + 1)) }
     ensures near { IfOk result (λ fs. AllToNeighbours node.old.place fs.items) }
     ensures few { IfOk result (λ fs. length fs.items ≤ 2 ^ 40) }
     ensures same { OnErr result (node.new ≡ node.old) }
@@ -273,9 +304,11 @@ pub(crate) fn react(
 ) -> Result<Vec<Frame>, OutOfMemory>
     requires ready { IsReady node.old.place adjacencies.old }
     requires from { IsFromNeighbour node.old.place input.now }
-    ensures reaction { IfOk result (λ fs. IsReaction node.old node.new adjacencies.old adjacencies.new input.now fs.items) }
+    ensures reaction { IfOk result
+        (λ fs. IsReaction node.old node.new adjacencies.old adjacencies.new input.now fs.items) }
     ensures place { node.new.place ≡ node.old.place }
-    ensures kept { (k : ℕ) → IsKept node.old.place adjacencies.old k → OnOk result (IsKept node.new.place adjacencies.new (k + 1)) }
+    ensures kept { (k : ℕ) → IsKept node.old.place adjacencies.old k →
+        OnOk result (IsKept node.new.place adjacencies.new (k + 1)) }
     ensures near { IfOk result (λ fs. AllToNeighbours node.old.place fs.items) }
     ensures few { IfOk result (λ fs. length fs.items ≤ 2 ^ 40) }
     ensures same { OnErr result (node.new ≡ node.old) }

@@ -1,5 +1,5 @@
--- Frames that were sent stay sent.
-use Rattle.std.proofs.Common.{◌≤◌, ℕ, Bool, true, false, cond, nat_eq, List, [], ◌∷◌, length, arith}
+-- What was sent on a channel stays there, and frames that were sent stay sent.
+use Rattle.std.proofs.Common.{◌≡◌, ◌≤◌, ◌+◌, ℕ, Bool, true, false, cond, nat_eq, List, [], ◌∷◌, ◌++◌, length, map, refl, sym, ap, ◌∙◌, arith, append_assoc, append-nil}
 use Rattle.std.specs.Prelude.{◌&&◌, Option, Some, None}
 use Rattle.std.proofs.lemmas.List.{length-append}
 use Rattle.ason_base.specs.declared.ids.NodeId.{NodeId}
@@ -22,55 +22,68 @@ use Rattle.world_core.specs.Worlds.{World, commit, delivered, frame_at, handed_u
 use Rattle.world_core.specs.Runs.{posted, step, without_item}
 use Rattle.station.specs.Histories.{count_of}
 
-longer : (contents : List Content) (packets : List Packet) → length contents ≤ length (with_packets contents packets)
-longer contents packets = rw length-append (omega arith)
+-- the channel has this more at its end
+pub record Grows (old new : List Content) : Type 0 where
+  pub more : List Content
+  pub whole : new ≡ old ++ more
 
-same_count : (n : ℕ) → n ≤ n
-same_count n = omega arith
+same : (cs : List Content) → Grows cs cs
+same cs = record { more = []; whole = sym (append-nil cs) }
 
-two_steps : (a b c : ℕ) → a ≤ b → b ≤ c → a ≤ c
-two_steps a b c h k = omega arith
+then_grows : (a b c : List Content) → Grows a b → Grows b c → Grows a c
+then_grows a b c f g = record {
+  more = f.more ++ g.more;
+  whole = g.whole ∙ ap (λ cs. cs ++ g.more) f.whole ∙ append_assoc a f.more g.more;
+}
 
-if_sent : (b : Bool) (contents : List Content) (packets : List Packet) →
-    length contents ≤ length (cond b (with_packets contents packets) contents)
-if_sent true contents packets = longer contents packets
-if_sent false contents packets = same_count (length contents)
+if_sent : (b : Bool) (cs : List Content) (packets : List Packet) → Grows cs (cond b (with_packets cs packets) cs)
+if_sent true cs packets = record { more = map Message packets; whole = refl }
+if_sent false cs packets = same cs
 
-grows_commit : (w : World) (n : ℕ) (a : Answer) (u d : ℕ) → count_of w u d ≤ count_of (commit w n a) u d
+grows_commit : (w : World) (n : ℕ) (a : Answer) (u d : ℕ) → Grows (w.channels u d) ((commit w n a).channels u d)
 grows_commit w n a u d = if_sent (nat_eq u n) (w.channels u d) (numbered_after (w.ends u d).hop.sent (sent_to d a.sent))
 
 grows_handled : (t : Network) (w : World) (d u : NodeId) (ms : List Msg) (a b : ℕ) →
-    count_of w a b ≤ count_of (handled t w d u ms) a b
-grows_handled t w d u [] a b = same_count (count_of w a b)
+    Grows (w.channels a b) ((handled t w d u ms).channels a b)
+grows_handled t w d u [] a b = same (w.channels a b)
 grows_handled t w d u (m ∷ ms) a b = grows_commit w d.0 (on_message (local_node t d) (w.nodes d.0) u m) a b
 
 grows_delivered : (t : Network) (w : World) (d u : NodeId) (o : Option Content) (a b : ℕ) →
-    count_of w a b ≤ count_of (delivered t w d u o) a b
-grows_delivered t w d u None a b = same_count (count_of w a b)
+    Grows (w.channels a b) ((delivered t w d u o).channels a b)
+grows_delivered t w d u None a b = same (w.channels a b)
 grows_delivered t w d u (Some (Message p)) a b =
-    two_steps (count_of w a b) (count_of (taken w d u p) a b)
-    (count_of (handled t (taken w d u p) d u (handed_up w d u p)) a b)
+    then_grows (w.channels a b) ((taken w d u p).channels a b)
+    ((handled t (taken w d u p) d u (handed_up w d u p)).channels a b)
     (if_sent (nat_eq a d.0 && nat_eq b u.0) (w.channels a b) (answers_to (heard_as (w.ends a b).hop p) p))
     (grows_handled t (taken w d u p) d u (handed_up w d u p) a b)
 
-grows_posted : (w : World) (c : Command) (a b : ℕ) → count_of w a b ≤ count_of (posted w c) a b
-grows_posted w (Setup n from to protected both via backup) a b = same_count (count_of w a b)
-grows_posted w (Release n from) a b = same_count (count_of w a b)
-grows_posted w (Protect n from) a b = same_count (count_of w a b)
-grows_posted w (Retry n from) a b = same_count (count_of w a b)
-grows_posted w (Revert n from) a b = same_count (count_of w a b)
-grows_posted w (Fail g) a b = same_count (count_of w a b)
-grows_posted w (Repair g) a b = same_count (count_of w a b)
+grows_posted : (w : World) (c : Command) (a b : ℕ) → Grows (w.channels a b) ((posted w c).channels a b)
+grows_posted w (Setup n from to protected both via backup) a b = same (w.channels a b)
+grows_posted w (Release n from) a b = same (w.channels a b)
+grows_posted w (Protect n from) a b = same (w.channels a b)
+grows_posted w (Retry n from) a b = same (w.channels a b)
+grows_posted w (Revert n from) a b = same (w.channels a b)
+grows_posted w (Fail g) a b = same (w.channels a b)
+grows_posted w (Repair g) a b = same (w.channels a b)
 
-pub count-grows : (t : Network) (w : World) (e : Event) (a b : ℕ) → count_of w a b ≤ count_of (step t w e) a b
-count-grows t w (Deliver d u k) a b = grows_delivered t (with_event w d.0) d u (frame_at w u d k) a b
-count-grows t w (Noise d u bytes) a b = same_count (count_of w a b)
-count-grows t w (Tick n) a b =
-    two_steps (count_of w a b) (count_of (hops_ticked (with_event w n.0) n.0) a b)
-    (count_of (commit (hops_ticked (with_event w n.0) n.0) n.0 (on_tick (local_node t n) (w.nodes n.0))) a b)
+pub channel-grows : (t : Network) (w : World) (e : Event) (a b : ℕ) →
+    Grows (w.channels a b) ((step t w e).channels a b)
+channel-grows t w (Deliver d u k) a b = grows_delivered t (with_event w d.0) d u (frame_at w u d k) a b
+channel-grows t w (Noise d u bytes) a b = same (w.channels a b)
+channel-grows t w (Tick n) a b =
+    then_grows (w.channels a b) ((hops_ticked (with_event w n.0) n.0).channels a b)
+    ((commit (hops_ticked (with_event w n.0) n.0) n.0 (on_tick (local_node t n) (w.nodes n.0))).channels a b)
     (if_sent (nat_eq a n.0) (w.channels a b) (resent (w.ends a b).hop))
     (grows_commit (hops_ticked (with_event w n.0) n.0) n.0 (on_tick (local_node t n) (w.nodes n.0)) a b)
-count-grows t w (Desk n) a b =
+channel-grows t w (Desk n) a b =
     grows_commit (without_item (with_event w n.0) n.0) n.0 (on_first_item (local_node t n) (w.nodes n.0)
     (w.desks n.0)) a b
-count-grows t w (Post c) a b = grows_posted w c a b
+channel-grows t w (Post c) a b = grows_posted w c a b
+
+longer : (old new : List Content) → Grows old new → length old ≤ length new
+longer old new is =
+    let whole : length new ≡ length old + length is.more = ap length is.whole ∙ length-append old is.more in
+    omega arith
+
+pub count-grows : (t : Network) (w : World) (e : Event) (a b : ℕ) → count_of w a b ≤ count_of (step t w e) a b
+count-grows t w e a b = longer (w.channels a b) ((step t w e).channels a b) (channel-grows t w e a b)

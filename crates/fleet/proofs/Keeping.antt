@@ -13,33 +13,37 @@ use Rattle.station.specs.Turns.{desk_done, neighbours, repeated, ring_done, turn
 use Rattle.station.proofs.NewStations.{all-near}
 use Rattle.fleet.specs.Rounds.{is_quiet, round, settled}
 
-pub record IsKept (t : Network) (P : History → Type 0) : Type 0 where
-  pub by_tick : (n : NodeId) (h : History) → is_node_id t.nodes n ≡ true → P h → P (made t n (Tick n) h)
+-- what the events of node n keep
+pub record IsKeptBy (t : Network) (n : NodeId) (P : History → Type 0) : Type 0 where
+  pub by_tick : (h : History) → is_node_id t.nodes n ≡ true → P h → P (made t n (Tick n) h)
   pub by_item :
-      (n : NodeId) (h : History) (i : DeskItem) (items : List DeskItem) → is_node_id t.nodes n ≡ true →
+      (h : History) (i : DeskItem) (items : List DeskItem) → is_node_id t.nodes n ≡ true →
       (world_after t h).desks n.0 ≡ i ∷ items →
       P h → P (made t n (Desk n) h)
   pub by_frame :
-      (n u : NodeId) (h : History) (k : ℕ) (ks : List ℕ) → is_node_id t.nodes n ≡ true → is_channel t u n ≡ true →
+      (u : NodeId) (h : History) (k : ℕ) (ks : List ℕ) → is_node_id t.nodes n ≡ true → is_channel t u n ≡ true →
       h.waiting u.0 n.0 ≡ k ∷ ks →
       P h → P (if_able t n h (with_event_over t h (popped h.waiting u n) (Deliver n u k)))
 
-handled_keeps : (t : Network) (P : History → Type 0) → IsKept t P → (n : NodeId) → is_node_id t.nodes n ≡ true →
+abbrev pub IsKept : Network → (History → Type 0) → Type 0
+IsKept t P = (n : NodeId) → IsKeptBy t n P
+
+handled_keeps : (t : Network) (P : History → Type 0) (n : NodeId) → IsKeptBy t n P → is_node_id t.nodes n ≡ true →
     (h : History) → P h → P (handled t n h)
-handled_keeps t P kept n known h is = go ((world_after t h).desks n.0) refl
+handled_keeps t P n kept known h is = go ((world_after t h).desks n.0) refl
   where
     go : (items : List DeskItem) → (world_after t h).desks n.0 ≡ items → P (handled_first t n h items)
     go [] e = is
-    go (i ∷ items) e = kept.by_item n h i items known e is
+    go (i ∷ items) e = kept.by_item h i items known e is
 
 took_keeps :
-    (t : Network) (P : History → Type 0) → IsKept t P → (n u : NodeId) → is_node_id t.nodes n ≡ true →
+    (t : Network) (P : History → Type 0) (n u : NodeId) → IsKeptBy t n P → is_node_id t.nodes n ≡ true →
     is_channel t u n ≡ true → (h : History) → P h → P (took t n u h)
-took_keeps t P kept n u known channel h is = go (h.waiting u.0 n.0) refl
+took_keeps t P n u kept known channel h is = go (h.waiting u.0 n.0) refl
   where
     go : (ks : List ℕ) → h.waiting u.0 n.0 ≡ ks → P (took_first t n u h ks)
     go [] e = is
-    go (k ∷ ks) e = kept.by_frame n u h k ks known channel e is
+    go (k ∷ ks) e = kept.by_frame u h k ks known channel e is
 
 repeated_keeps : (P : History → Type 0) (f : History → History) → ((h : History) → P h → P (f h)) → (k : ℕ)
     (h : History) → P h → P (repeated f k h)
@@ -53,26 +57,26 @@ fold_keeps :
 fold_keeps P Q f keeps [] all h is = is
 fold_keeps P Q f keeps (x ∷ xs) all h is = fold_keeps P Q f keeps xs all.1 (f h x) (keeps x all.0 h is)
 
-tick_keeps : (t : Network) (P : History → Type 0) → IsKept t P → (tick : Bool) (n : NodeId) →
+tick_keeps : (t : Network) (P : History → Type 0) (tick : Bool) (n : NodeId) → IsKeptBy t n P →
     is_node_id t.nodes n ≡ true → (h : History) → P h → P (cond tick (made t n (Tick n) h) h)
-tick_keeps t P kept true n known h is = kept.by_tick n h known is
-tick_keeps t P kept false n known h is = is
+tick_keeps t P true n kept known h is = kept.by_tick h known is
+tick_keeps t P false n kept known h is = is
 
-pub turn_keeps : (t : Network) (P : History → Type 0) → IsKept t P → (tick : Bool) (n : NodeId) →
+pub turn_keeps : (t : Network) (P : History → Type 0) (tick : Bool) (n : NodeId) → IsKeptBy t n P →
     is_node_id t.nodes n ≡ true → (h : History) → P h → P (turn t tick n h)
-turn_keeps t P kept tick n known h is =
+turn_keeps t P tick n kept known h is =
     fold_keeps P (λ (u : NodeId). is_channel t u n ≡ true) (ring_done t n)
-    (λ u channel g r. repeated_keeps P (took t n u) (took_keeps t P kept n u known channel)
+    (λ u channel g r. repeated_keeps P (took t n u) (took_keeps t P n u kept known channel)
     (length (g.waiting u.0 n.0)) g r)
     (neighbours t n) (all-near (λ m. is_channel t m.id n) (λ u. is_channel t u n) (λ m. refl) t.nodes)
     (desk_done t n ticked)
-    (repeated_keeps P (handled t n) (handled_keeps t P kept n known)
-    (length ((world_after t ticked).desks n.0)) ticked (tick_keeps t P kept tick n known h is))
+    (repeated_keeps P (handled t n) (handled_keeps t P n kept known)
+    (length ((world_after t ticked).desks n.0)) ticked (tick_keeps t P tick n kept known h is))
   where
     ticked : History
     ticked = cond tick (made t n (Tick n) h) h
 
-self_test : (n : ℕ) → nat_eq n n ≡ true
+pub self_test : (n : ℕ) → nat_eq n n ≡ true
 self_test n = grind arith
 
 right_or : (b c : Bool) → c ≡ true → (b || c) ≡ true
@@ -84,14 +88,14 @@ all_among : (ns ms : List NodeSpec) (m : NodeSpec) → AllByRecursion (λ (n : N
 all_among [] ms m p = tt
 all_among (n ∷ ns) ms m p = (right_or (nat_eq m.id.0 n.id.0) (is_node_id ms n.id) p.0, all_among ns ms m p.1)
 
-all_known : (ns : List NodeSpec) → AllByRecursion (λ (n : NodeSpec). is_node_id ns n.id ≡ true) ns
+pub all_known : (ns : List NodeSpec) → AllByRecursion (λ (n : NodeSpec). is_node_id ns n.id ≡ true) ns
 all_known [] = tt
 all_known (n ∷ ns) = (rw (self_test n.id.0) refl, all_among ns ns n (all_known ns))
 
 pub round_keeps : (t : Network) (P : History → Type 0) → IsKept t P → (h : History) → P h → P (round t h)
 round_keeps t P kept h is =
     fold_keeps P (λ (n : NodeSpec). is_node_id t.nodes n.id ≡ true) (λ g n. turn t true n.id g)
-    (λ n known g r. turn_keeps t P kept true n.id known g r) t.nodes (all_known t.nodes) h is
+    (λ n known g r. turn_keeps t P true n.id (kept n.id) known g r) t.nodes (all_known t.nodes) h is
 
 pub settled_keeps : (t : Network) (P : History → Type 0) → IsKept t P → (rounds : ℕ) (h : History) → P h →
     P (settled t rounds h)

@@ -1,4 +1,17 @@
+pub mod Channels
+pub mod Elsewhere
+pub mod Ends
 pub mod Example
+pub mod Finding
 pub mod Growing
 pub mod Keeping
+pub mod Looking
+pub mod Meeting
+pub mod Places
+pub mod Posting
+pub mod Rounding
 pub mod Runs
+pub mod Splitting
+pub mod Sums
+pub mod Turned
+pub mod Wires

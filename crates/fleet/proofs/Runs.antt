@@ -170,7 +170,7 @@ not_below : (a : ℕ) → nat_lt a 50000 ≡ false → a ≤ 50000 → a ≡ 500
 not_below a h k = grind arith
 
 -- the run is stopped, the event is made, or the run stops
-able_cases :
+pub able_cases :
     (t : Network) (P : History → Type 0) (n : NodeId) (h next : History) → P h →
     (h.stopped ≡ None → nat_lt (made_by t h n) 50000 ≡ true → P next) →
     (h.stopped ≡ None → nat_lt (made_by t h n) 50000 ≡ false → P (stopped_at h n)) → P (if_able t n h next)
@@ -214,16 +214,16 @@ has_item : (items : List DeskItem) (i : DeskItem) (desk : List DeskItem) → des
 has_item items i [] e = absurd (cc (e))
 has_item items i (j ∷ desk) e = refl
 
-running_is_kept : (t : Network) → IsKept t (IsRunning t)
-running_is_kept t = record {
-  by_tick = λ n h known is.
+pub running_is_kept : (t : Network) → IsKept t (IsRunning t)
+running_is_kept t n = record {
+  by_tick = λ h known is.
       runs_able t n h h.waiting (Tick n) is is.rings (λ below. both (is_node_id t.nodes n)
       (nat_lt (made_by t h n) 50000) known below) (λ m. refl);
-  by_item = λ n h i items known desk is.
+  by_item = λ h i items known desk is.
       runs_able t n h h.waiting (Desk n) is is.rings
       (λ below. both _ _ (both (is_node_id t.nodes n) (nat_lt (made_by t h n) 50000) known below)
       (has_item items i ((world_after t h).desks n.0) desk)) (λ m. refl);
-  by_frame = λ n u h k ks known channel first is.
+  by_frame = λ u h k ks known channel first is.
       let sent : IsSent (world_after t h) u.0 n.0 k = (subst (AllByRecursion (IsSent (world_after t h) u.0 n.0)) first
       (is.rings.sent u.0 n.0)).0 in
       runs_able t n h (popped h.waiting u n) (Deliver n u k) is (rings_popped (world_after t h) h.waiting u n is.rings)
@@ -269,10 +269,10 @@ part_with h g rings t e is = record {
 }
 
 part_is_kept : (t : Network) (h : History) → IsKept t (IsPart h)
-part_is_kept t h = record {
-  by_tick = λ n g known is. able n g g.waiting (Tick n) is;
-  by_item = λ n g i items known desk is. able n g g.waiting (Desk n) is;
-  by_frame = λ n u g k ks known channel first is. able n g (popped g.waiting u n) (Deliver n u k) is;
+part_is_kept t h n = record {
+  by_tick = λ g known is. able n g g.waiting (Tick n) is;
+  by_item = λ g i items known desk is. able n g g.waiting (Desk n) is;
+  by_frame = λ u g k ks known channel first is. able n g (popped g.waiting u n) (Deliver n u k) is;
 }
   where
     able : (n : NodeId) (g : History) (rings : ℕ → ℕ → List ℕ) (e : Event) → IsPart h g →

@@ -3,9 +3,11 @@ use Rattle.std.specs.Prelude.{ℕ, zero, suc, ◌==◌, ◌&&◌, Bool, true, le
 use Rattle.std.specs.List.{list_all}
 use Rattle.ason_base.specs.declared.ids.NodeId.{NodeId}
 use Rattle.ason_base.specs.Network.{Network}
+use Rattle.mesh_rules.specs.LocalNodes.{local_node}
+use Rattle.controller.specs.Adjacencies.{neighbours}
 use Rattle.world_core.specs.Worlds.{World}
 use Rattle.station.specs.Histories.{History, world_after}
-use Rattle.station.specs.Turns.{neighbours, turn}
+use Rattle.station.specs.Turns.{turn}
 
 -- a round gives each node one turn with a tick, in order of number
 abbrev pub round : Network → History → History
@@ -18,7 +20,7 @@ items_waiting t w = sum_by (λ n. length (w.desks n.id.0)) t.nodes
 
 -- the messages that the node has sent and its neighbours haven't acknowledged
 abbrev pub unacked_at : Network → World → NodeId → ℕ
-unacked_at t w n = sum_by (λ u. length (w.ends n.0 u.0).hop.unacked) (neighbours t n)
+unacked_at t w n = sum_by (λ u. length (w.ends n.0 u).hop.unacked) (neighbours (local_node t n))
 
 abbrev pub unacked_waiting : Network → World → ℕ
 unacked_waiting t w = sum_by (λ n. unacked_at t w n.id) t.nodes

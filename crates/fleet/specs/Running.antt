@@ -17,7 +17,8 @@ pub record AreRings (w : World) (rings : ℕ → ℕ → List ℕ) : Type 0 wher
   pub sent : (u d : ℕ) → AllByRecursion (IsSent w u d) (rings u d)
   pub few : (u d : ℕ) → length (rings u d) ≤ 256
 
--- The events are a run of a world. No node makes more than 50,000 of them, and one at whose limit the run is stopped has
+-- The events are a run of a world. No node makes more than 50,000 of them, and one at whose limit the run is stopped
+-- has
 -- made as many.
 pub record IsRunning (t : Network) (h : History) : Type 0 where
   pub run : IsRun t start h.events

@@ -15,12 +15,16 @@ use Rattle.flood.specs.Messages.{CanBeWritten, FitsEnvelope, SpellsFlood, flood_
 first : (n : ℕ) → n * 1 + 0 ≡ n
 first n = omega arith
 
-pub row_found : (bytes : List ℕ) (number origin : ℕ) (row : TeRow) → 12 ≤ length bytes → slice_index bytes 0 ≡ 1 → number ≡ big_number 4 (drop 4 bytes) → origin ≡ big_number 4 (drop 8 bytes) →
+pub row_found : (bytes : List ℕ) (number origin : ℕ) (row : TeRow) → 12 ≤ length bytes → slice_index bytes 0 ≡ 1 →
+    number ≡ big_number 4 (drop 4 bytes) → origin ≡ big_number 4 (drop 8 bytes) →
     SpellsRow (record { 0 = origin }) (drop 12 bytes) row → SpellsFlood bytes (Row number (record { 0 = origin }) row)
-row_found bytes number origin row long kind is_number is_origin spelled = (long, first (slice_index bytes 0) ∙ kind, is_number, is_origin, spelled)
+row_found bytes number origin row long kind is_number is_origin spelled =
+    (long, first (slice_index bytes 0) ∙ kind, is_number, is_origin, spelled)
 
-pub row_only : (bytes : List ℕ) (number origin : ℕ) (row : TeRow) → slice_index bytes 0 ≡ 1 → number ≡ big_number 4 (drop 4 bytes) → origin ≡ big_number 4 (drop 8 bytes) →
-    ((r : TeRow) → SpellsRow (record { 0 = origin }) (drop 12 bytes) r → row ≡ r) → (m : FloodMsg) → SpellsFlood bytes m → Row number (record { 0 = origin }) row ≡ m
+pub row_only : (bytes : List ℕ) (number origin : ℕ) (row : TeRow) → slice_index bytes 0 ≡ 1 →
+    number ≡ big_number 4 (drop 4 bytes) → origin ≡ big_number 4 (drop 8 bytes) →
+    ((r : TeRow) → SpellsRow (record { 0 = origin }) (drop 12 bytes) r → row ≡ r) → (m : FloodMsg) →
+    SpellsFlood bytes m → Row number (record { 0 = origin }) row ≡ m
 row_only bytes number origin row kind is_number is_origin only (Ack n) spelled = absurd (omega (arith, spelled.1, kind))
 row_only bytes number origin row kind is_number is_origin only (Row n o r) spelled =
     let same_number : number ≡ n = is_number ∙ sym spelled.2 in
@@ -29,7 +33,8 @@ row_only bytes number origin row kind is_number is_origin only (Row n o r) spell
     let same_row : row ≡ r = only r (subst (λ (node : NodeId). SpellsRow node (drop 12 bytes) r) same_node spelled.4) in
     λ i. Row (same_number i) (sym same_node i) (same_row i)
 
-pub row_none : (bytes : List ℕ) (origin : ℕ) → slice_index bytes 0 ≡ 1 → origin ≡ big_number 4 (drop 8 bytes) → ((r : TeRow) → SpellsRow (record { 0 = origin }) (drop 12 bytes) r → ⊥) →
+pub row_none : (bytes : List ℕ) (origin : ℕ) → slice_index bytes 0 ≡ 1 → origin ≡ big_number 4 (drop 8 bytes) →
+    ((r : TeRow) → SpellsRow (record { 0 = origin }) (drop 12 bytes) r → ⊥) →
     (m : FloodMsg) → SpellsFlood bytes m → ⊥
 row_none bytes origin kind is_origin none (Ack n) spelled = absurd (omega (arith, spelled.1, kind))
 row_none bytes origin kind is_origin none (Row n o r) spelled =
@@ -37,7 +42,8 @@ row_none bytes origin kind is_origin none (Row n o r) spelled =
     let same_node : o ≡ record { 0 = origin } = λ i. record { 0 = same_origin i } in
     none r (subst (λ (node : NodeId). SpellsRow node (drop 12 bytes) r) same_node spelled.4)
 
-long_enough : (number origin : ℕ) (rest : List ℕ) → 12 ≤ length (big_bytes 1 1 ++ big_bytes 3 0 ++ big_bytes 4 number ++ big_bytes 4 origin ++ rest)
+long_enough : (number origin : ℕ) (rest : List ℕ) →
+    12 ≤ length (big_bytes 1 1 ++ big_bytes 3 0 ++ big_bytes 4 number ++ big_bytes 4 origin ++ rest)
 long_enough number origin rest = omega arith
 
 pub flood_spelled : (m : FloodMsg) → CanBeWritten m → FitsEnvelope m → SpellsFlood (flood_bytes m) m

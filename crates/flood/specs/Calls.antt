@@ -46,6 +46,10 @@ abbrev pub IsDue : ℕ → TeRow → List Due → Type 0
 IsDue number row [] = ⊥
 IsDue number row (d ∷ ds) = ((d.number ≡ number) × (d.row ≡ row)) ⊎ IsDue number row ds
 
+-- no row with this number is due
+abbrev pub IsNotDue : ℕ → List Due → Type 0
+IsNotDue number due = (row : TeRow) → IsDue number row due → ⊥
+
 -- the call is an acknowledgement of this number by this neighbour
 abbrev pub Acknowledges : NodeId → ℕ → Call → Type 0
 Acknowledges id number (Declares row) = ⊥
@@ -60,24 +64,30 @@ NoneAcknowledges id number (c ∷ cs) = (Acknowledges id number c → ⊥) × No
 -- A row that is due to a neighbour stays due to it until that neighbour acknowledges its number.
 abbrev pub DueUntilAcknowledged : Type 0
 DueUntilAcknowledged =
-    (s : FloodState) (calls : List Call) (place : ℕ) (n : NeighbourState) (number : ℕ) (row : TeRow) → slice_get s.neighbours place ≡ Some n → IsDue number row n.due →
-    NoneAcknowledges n.id number calls → (m : NeighbourState) × (slice_get (after s calls).neighbours place ≡ Some m) × (m.id ≡ n.id) × IsDue number row m.due
+    (s : FloodState) (calls : List Call) (place : ℕ) (n : NeighbourState) (number : ℕ) (row : TeRow)
+    → slice_get s.neighbours place ≡ Some n → IsDue number row n.due → NoneAcknowledges n.id number calls
+    → (m : NeighbourState) × (slice_get (after s calls).neighbours place ≡ Some m) × (m.id ≡ n.id)
+    × IsDue number row m.due
 
 -- A number that was given, and whose row isn't due any more, never becomes due to that neighbour again.
 abbrev pub NoneAfterwards : Type 0
 NoneAfterwards =
-    (s : FloodState) (calls : List Call) (place : ℕ) (n : NeighbourState) (number : ℕ) → slice_get s.neighbours place ≡ Some n → number ≤ n.sent → ((row : TeRow) → IsDue number row n.due → ⊥) →
-    (m : NeighbourState) × (slice_get (after s calls).neighbours place ≡ Some m) × ((row : TeRow) → IsDue number row m.due → ⊥)
+    (s : FloodState) (calls : List Call) (place : ℕ) (n : NeighbourState) (number : ℕ)
+    → slice_get s.neighbours place ≡ Some n → number ≤ n.sent → IsNotDue number n.due
+    → (m : NeighbourState) × (slice_get (after s calls).neighbours place ≡ Some m) × IsNotDue number m.due
 
 -- An acknowledgement takes the row off what is due to its neighbour.
 abbrev pub AcknowledgedIsOff : Type 0
 AcknowledgedIsOff =
-    (s : FloodState) (from : NodeId) (number place : ℕ) (n : NeighbourState) → slice_get s.neighbours place ≡ Some n → n.id.0 ≡ from.0 →
-    (m : NeighbourState) × (slice_get (received s from (Ack number)).neighbours place ≡ Some m) × ((row : TeRow) → IsDue number row m.due → ⊥)
+    (s : FloodState) (from : NodeId) (number place : ℕ) (n : NeighbourState)
+    → slice_get s.neighbours place ≡ Some n → n.id.0 ≡ from.0
+    → (m : NeighbourState) × (slice_get (received s from (Ack number)).neighbours place ≡ Some m)
+    × IsNotDue number m.due
 
 -- A new row becomes due to each neighbour but the one that it came from, and to that one it doesn't go.
 abbrev pub GoesToTheOthers : Type 0
 GoesToTheOthers =
-    (s : FloodState) (from origin : NodeId) (number place : ℕ) (row : TeRow) (n : NeighbourState) → is_new s row ≡ true → slice_get s.neighbours place ≡ Some n →
-    (m : NeighbourState) × (slice_get (received s from (Row number origin row)).neighbours place ≡ Some m)
+    (s : FloodState) (from origin : NodeId) (number place : ℕ) (row : TeRow) (n : NeighbourState)
+    → is_new s row ≡ true → slice_get s.neighbours place ≡ Some n
+    → (m : NeighbourState) × (slice_get (received s from (Row number origin row)).neighbours place ≡ Some m)
     × (n.id.0 ≢ from.0 → IsDue (n.sent + 1) row m.due) × (n.id.0 ≡ from.0 → m ≡ n)

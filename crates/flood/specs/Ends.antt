@@ -6,7 +6,8 @@ use Rattle.flood.specs.State.{ends_of, is_end}
 
 -- a node is among them just where it is an end of a row
 abbrev pub EndsAreListed : Type 0
-EndsAreListed = (rows : List TeRow) (n : ℕ) → list_any (λ m. m == n) (ends_of rows) ≡ list_any (is_end (record { 0 = n })) rows
+EndsAreListed = (rows : List TeRow) (n : ℕ) →
+    list_any (λ m. m == n) (ends_of rows) ≡ list_any (is_end (record { 0 = n })) rows
 
 -- no number stands twice
 abbrev pub IsApart : List ℕ → Type 0

@@ -6,8 +6,8 @@ use Rattle.flood.specs.declared.messages.FloodMsg.TheVariants.{Row, Ack}
 use Rattle.te_tlv.specs.Rows.{SpellsRow}
 use Rattle.te_tlv.specs.Written.{HasNumbers, IsWritable, link_tlv}
 
--- The envelope: a kind, three bytes that nothing reads, and the number. Kind 2 ends there. Kind 1 goes on with the origin
--- and the Link TLV of the row, to the end. Other kinds spell nothing.
+-- The envelope: a kind, three bytes that nothing reads, and the number. Kind 2 ends there. Kind 1 goes on with the
+-- origin and the Link TLV of the row, to the end. Other kinds spell nothing.
 abbrev pub SpellsFlood : List ℕ → FloodMsg → Type 0
 SpellsFlood bytes (Ack number) =
     (length bytes ≡ 8) × (big_number 1 bytes ≡ 2) × (number ≡ big_number 4 (drop 4 bytes))
@@ -18,7 +18,8 @@ SpellsFlood bytes (Row number origin row) =
 -- the written form, with zeros where nothing reads
 abbrev pub flood_bytes : FloodMsg → List ℕ
 flood_bytes (Ack number) = big_bytes 1 2 ++ big_bytes 3 0 ++ big_bytes 4 number
-flood_bytes (Row number origin row) = big_bytes 1 1 ++ big_bytes 3 0 ++ big_bytes 4 number ++ big_bytes 4 origin.0 ++ link_tlv origin row
+flood_bytes (Row number origin row) =
+    big_bytes 1 1 ++ big_bytes 3 0 ++ big_bytes 4 number ++ big_bytes 4 origin.0 ++ link_tlv origin row
 
 -- what has a written form
 abbrev pub CanBeWritten : FloodMsg → Type 0

@@ -1,6 +1,6 @@
 -- What a node knows of links, which rows are due to each neighbour, and what each call makes of it.
-use Rattle.std.specs.List.Sorted.{IsStrictlyIncreasing}
-use Rattle.std.specs.Prelude.{◌≡◌, ◌≤◌, ◌↔◌, ◌^◌, All, Contains, ℕ, ◌+◌, Bool, false, not, ◌==◌, ◌&&◌, ◌||◌, nat_lt, nat_le, if◌then◌else◌, Option, Some, None, List, [], ◌∷◌, ◌++◌, length, map, filter, fold, sum_by}
+use Rattle.std.specs.List.Sorted.{IsNonDecreasing, IsStrictlyIncreasing}
+use Rattle.std.specs.Prelude.{◌≡◌, ◌≤◌, ◌<◌, ◌↔◌, ◌^◌, All, AllPairs, Contains, ℕ, ◌+◌, ◌-◌, Bool, false, not, ◌==◌, ◌&&◌, ◌||◌, nat_lt, nat_le, if◌then◌else◌, Option, Some, None, List, [], ◌∷◌, ◌++◌, length, map, filter, fold, sum_by, take}
 use Rattle.std.specs.List.{list_any, flat_map}
 use Rattle.ason_base.specs.declared.ids.LinkId.{LinkId}
 use Rattle.ason_base.specs.declared.ids.NodeId.{NodeId}
@@ -19,6 +19,11 @@ pub record FloodState : Type 0 where
   pub me : NodeId
   pub rows : List TeRow  -- the known rows, in order of learning
   pub neighbours : List NeighbourState
+
+-- what holds of the fields of every neighbour: the numbers of what is due rise, and none is above the last one given
+pub record IsInOrder (sent : ℕ) (due : List Due) : Type 0 where
+  pub rising : AllPairs (λ d e. d.number < e.number) due
+  pub below : All (λ d. d.number ≤ sent) due
 
 abbrev pub fresh : NodeId → NeighbourState
 fresh id = record { id = id; sent = 0; due = [] }
@@ -52,7 +57,11 @@ is_new s row = not (is_known s.rows row.link) && not (is_end s.me row) && has_ro
 -- A row becomes due to a neighbour with the next number. One that isn't sent at once has no age yet.
 
 abbrev pub queued : NodeId → Option ℕ → TeRow → NeighbourState → NeighbourState
-queued origin age row n = record { id = n.id; sent = n.sent + 1; due = n.due ++ record { number = n.sent + 1; age = age; origin = origin; row = row } ∷ [] }
+queued origin age row n = record {
+  id = n.id;
+  sent = n.sent + 1;
+  due = n.due ++ record { number = n.sent + 1; age = age; origin = origin; row = row } ∷ [];
+}
 
 abbrev pub is_from : Option NodeId → NeighbourState → Bool
 is_from None n = false
@@ -61,6 +70,14 @@ is_from (Some from) n = n.id.0 == from.0
 -- to all neighbours but the one that it came from
 abbrev pub queued_unless : Option NodeId → NodeId → Option ℕ → TeRow → NeighbourState → NeighbourState
 queued_unless from origin age row n = if is_from from n then n else queued origin age row n
+
+-- A row that became due to a neighbour last is taken back, with its number.
+
+abbrev pub unqueued : NeighbourState → NeighbourState
+unqueued n = record { id = n.id; sent = n.sent - 1; due = take (length n.due - 1) n.due }
+
+abbrev pub unqueued_unless : Option NodeId → NeighbourState → NeighbourState
+unqueued_unless from n = if is_from from n then n else unqueued n
 
 abbrev pub with_row : FloodState → Option NodeId → NodeId → Option ℕ → TeRow → FloodState
 with_row s from origin age row = record {
@@ -105,7 +122,8 @@ sends_after s from (Ack number) = []
 sends_after s from (Row number origin row) =
     (from, Ack number) ∷ (if is_new s row then first_sendings from origin row s.neighbours else [])
 
--- A tick: a row that wasn't sent yet goes out first and gets age 0; the others age, and go again at the ages of a hop's messages.
+-- A tick: a row that wasn't sent yet goes out first and gets age 0. The others age, and go again at the ages of a hop's
+-- messages.
 
 abbrev pub age_after_tick : Option ℕ → Option ℕ
 age_after_tick None = Some 0
@@ -147,9 +165,16 @@ pub record IsStart (me : NodeId) (ids : List NodeId) (s : FloodState) : Type 0 w
   pub same : (n : ℕ) → Contains numbers n ↔ Contains (map (λ id. id.0) ids) n
   pub is : s ≡ record { me = me; rows = []; neighbours = map (λ n. fresh (record { 0 = n })) numbers }
 
--- what holds of the fields of every flood: no neighbour's number is above the number of known rows, of which there are 256 at most
+-- what holds of the fields of every flood: no neighbour's number is above the number of known rows, of which there are
+-- 256 at most
 pub record IsCounted (rows : ℕ) (ns : List NeighbourState) : Type 0 where
   pub few : rows ≤ 256
   pub hops : length ns ≤ 2 ^ 32
   pub sent : All (λ n. n.sent ≤ rows) ns
   pub due : All (λ n. length n.due ≤ n.sent) ns
+
+-- what is kept beside the known rows: the numbers of their links, rising, and their different ends
+pub record IsIndexed (rows : List TeRow) (numbers nodes : List ℕ) : Type 0 where
+  pub rising : IsNonDecreasing numbers
+  pub links : (n : ℕ) → list_any (λ m. m == n) numbers ≡ is_known rows (record { 0 = n })
+  pub ends : nodes ≡ ends_of rows

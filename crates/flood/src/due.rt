@@ -1,11 +1,12 @@
 //! Rows that are due to a neighbour.
 
-ghost use Rattle.std.specs.Prelude.{◌≡◌, ◌==◌, ◌∷◌, ◌++◌, not, filter, IfOk, map};
+ghost use Rattle.std.specs.Prelude.{◌≡◌, ◌<◌, ◌==◌, ◌++◌, AllPairs, not, filter, IfOk, OnOk, map};
 ghost use Rattle.flood.specs.State.{age_after_tick, goes_at, older};
 
 use ason_base::{NodeId, OutOfMemory, TeRow};
 use hop_reliable::ages::{is_due, older_age};
 use std::alloc::Global;
+use std::collections::VecDeque;
 
 /// A row that a neighbour hasn't acknowledged, with its number there. `age` counts ticks since its first sending, where 68
 /// counts as 8; before that it is none.
@@ -52,14 +53,24 @@ pub(crate) fn goes_at(age: Option<u8>) -> bool
     }
 }
 
-/// The same rows again.
-pub(crate) fn copies(alloc: Global, due: &[Due]) -> Result<Vec<Due>, OutOfMemory>
-    ensures { IfOk result (λ ds. ds.items ≡ due.now) }
+// Adds the same rows again.
+fn push_copies(alloc: Global, all: &mut VecDeque<Due>, due: &[Due]) -> Result<(), OutOfMemory>
+    ensures { OnOk result (all.new.items ≡ all.old.items ++ due.now) }
 {
-    let mut all = Vec::with_capacity(alloc, due.len())?;
     for d in due {
-        all.push(d.copy(alloc)?)?;
+        all.push_back(d.copy(alloc)?)?;
     }
+    Ok(())
+}
+
+/// The same rows again.
+pub(crate) fn copies(alloc: Global, due: &VecDeque<Due>) -> Result<VecDeque<Due>, OutOfMemory>
+    ensures { IfOk result (λ ds. ds.items ≡ due.now.items) }
+{
+    let (first, others) = due.as_slices();
+    let mut all = VecDeque::with_capacity(alloc, due.len())?;
+    push_copies(alloc, &mut all, first)?;
+    push_copies(alloc, &mut all, others)?;
     Ok(all)
 }
 
@@ -72,9 +83,12 @@ pub(crate) fn age_all(due: &mut [Due])
     }
 }
 
-/// Takes off the row of this number.
-pub(crate) fn take_off(due: &mut Vec<Due>, number: u32)
+/// Takes off the row of this number. The numbers rise, so it is looked up; the first ones are taken off the fastest.
+pub(crate) fn take_off(due: &mut VecDeque<Due>, number: u32)
+    requires { AllPairs (λ d e. d.number < e.number) due.old.items }
     ensures { due.new.items ≡ filter (λ d. not (d.number == number)) due.old.items }
 {
-    due.retain(|d| d.number != number);
+    if let Ok(place) = due.binary_search_by_key(&number, |d| d.number) {
+        let _ = due.remove(place);
+    }
 }

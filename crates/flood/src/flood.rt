@@ -3,11 +3,11 @@
 ghost use Rattle.std.specs.Prelude.{◌≡◌, ◌<◌, length, Some, IfOk, OnErr, OnOk, IsTrue, false};
 ghost use Rattle.flood.specs.State.{IsStart, declared_row, has_room, is_end, is_known, is_new, learnt_of, pending_count, received, sends_after, sent_at_tick, ticked, with_row};
 
-use crate::ends::{has_room, is_end, is_known};
+use crate::known::KnownRows;
 use crate::messages::FloodMsg;
 use crate::neighbours::{
-    Neighbour, age_neighbours, copy_all, new_all, pending, push_first_sendings, queued_all, rising,
-    sent_at_tick, take_ack,
+    Neighbour, age_neighbours, copy_all, new_all, pending, push_first_sendings, queue_all, rising,
+    sent_at_tick, take_ack, unqueue_first,
 };
 use crate::sends::{FloodOut, FloodSends};
 use ason_base::{LinkId, NodeId, OutOfMemory, TeRow};
@@ -18,7 +18,7 @@ use std::marker::Model;
 #[derive(Debug, Drop)]
 pub struct Flood {
     me: NodeId,
-    rows: Vec<TeRow>,
+    known: KnownRows,
     neighbours: Vec<Neighbour>,
 }
 
@@ -28,9 +28,9 @@ impl Model for Flood {
 
     ghost Value = { FloodState };
 
-    ghost view = { λ f. record { me = f.me; rows = f.rows.items; neighbours = f.neighbours.items } };
+    ghost view = { λ f. record { me = f.me; rows = f.known; neighbours = f.neighbours.items } };
 
-    ghost invariant = { λ f. IsCounted (length f.rows.items) f.neighbours.items };
+    ghost invariant = { λ f. IsCounted (length f.known) f.neighbours.items };
 }
 
 impl Flood {
@@ -42,7 +42,7 @@ impl Flood {
         let neighbours = new_all(alloc, &ids)?;
         Ok(Flood {
             me,
-            rows: Vec::new(alloc),
+            known: KnownRows::new(alloc),
             neighbours,
         })
     }
@@ -51,11 +51,11 @@ impl Flood {
     pub fn copy(&self, alloc: Global) -> Result<Flood, OutOfMemory>
         ensures { IfOk result (λ f. f ≡ self.now) }
     {
-        let rows = copy_rows(alloc, &self.rows)?;
+        let known = self.known.copy(alloc)?;
         let neighbours = copy_all(alloc, &self.neighbours)?;
         Ok(Flood {
             me: self.me,
-            rows,
+            known,
             neighbours,
         })
     }
@@ -68,10 +68,31 @@ impl Flood {
         ensures ok { OnOk result (self.new ≡ declared_row self.old row) }
         ensures err { OnErr result (self.new ≡ self.old) }
     {
-        let neighbours = queued_all(alloc, &self.neighbours, None, self.me, None, &row)?;
-        self.rows.push(row)?;
-        self.neighbours = neighbours;
-        Ok(())
+        self.add(alloc, None, self.me, None, row)
+    }
+
+    /// Makes a row known, and due to each neighbour but the one that it came from.
+    fn add(
+        &mut self,
+        alloc: Global,
+        from: Option<NodeId>,
+        origin: NodeId,
+        age: Option<u8>,
+        row: TeRow,
+    ) -> Result<(), OutOfMemory>
+        requires { length self.old.rows < 256 }
+        ensures ok { OnOk result (self.new ≡ with_row self.old from origin age row) }
+        ensures err { OnErr result (self.new ≡ self.old) }
+    {
+        queue_all(alloc, &mut self.neighbours, from, origin, age, &row)?;
+        match self.known.add(row) {
+            Ok(()) => Ok(()),
+            Err(error) => {
+                let count = self.neighbours.len();
+                unqueue_first(&mut self.neighbours, count, from);
+                Err(error)
+            }
+        }
     }
 
     /// Takes a flood message of a neighbour. A row is acknowledged; a new one becomes known and goes at once to the other
@@ -105,31 +126,10 @@ impl Flood {
     }
 
     /// Whether a row that a neighbour gave becomes known.
-    fn is_new(&self, alloc: Global, row: &TeRow) -> Result<bool, OutOfMemory>
-        ensures { IfOk result (λ new. new ≡ is_new self.now row.now) }
+    fn is_new(&self, row: &TeRow) -> bool
+        ensures { result ≡ is_new self.now row.now }
     {
-        if is_known(&self.rows, row.link) || is_end(self.me, row) {
-            return Ok(false);
-        }
-        has_room(alloc, &self.rows, row)
-    }
-
-    /// Makes a new row known, and due to the other neighbours with age 0.
-    fn learn(
-        &mut self,
-        alloc: Global,
-        from: NodeId,
-        origin: NodeId,
-        row: &TeRow,
-    ) -> Result<(), OutOfMemory>
-        requires { length self.old.rows < 256 }
-        ensures ok { OnOk result (self.new ≡ with_row self.old (Some from) origin (Some 0) row.now) }
-        ensures err { OnErr result (self.new ≡ self.old) }
-    {
-        let neighbours = queued_all(alloc, &self.neighbours, Some(from), origin, Some(0), row)?;
-        self.rows.push(row.copy(alloc)?)?;
-        self.neighbours = neighbours;
-        Ok(())
+        !self.known.has_link(row.link) && !is_end(self.me, row) && self.known.has_room(row)
     }
 
     /// Takes a row of a neighbour.
@@ -141,14 +141,17 @@ impl Flood {
         origin: NodeId,
         row: &TeRow,
     ) -> Result<FloodOut, OutOfMemory>
-        ensures learnt { IfOk result (λ out. out.learnt ≡ learnt_of self.old (FloodMsg.Row number origin row.now)) }
-        ensures sends { IfOk result (λ out. out.sends ≡ sends_after self.old from (FloodMsg.Row number origin row.now)) }
-        ensures ok { OnOk result (self.new ≡ received self.old from (FloodMsg.Row number origin row.now)) }
+        ensures learnt { IfOk result
+            (λ out. out.learnt ≡ learnt_of self.old (FloodMsg.Row number origin row.now)) }
+        ensures sends { IfOk result
+            (λ out. out.sends ≡ sends_after self.old from (FloodMsg.Row number origin row.now)) }
+        ensures ok { OnOk result
+            (self.new ≡ received self.old from (FloodMsg.Row number origin row.now)) }
         ensures err { OnErr result (self.new ≡ self.old) }
     {
         let mut sends = FloodSends::new(alloc);
         sends.push((from, FloodMsg::Ack { number }))?;
-        if !self.is_new(alloc, row)? {
+        if !self.is_new(row) {
             return Ok(FloodOut {
                 learnt: None,
                 sends,
@@ -156,7 +159,8 @@ impl Flood {
         }
         push_first_sendings(alloc, &mut sends, &self.neighbours, from, origin, row)?;
         let learnt = row.copy(alloc)?;
-        self.learn(alloc, from, origin, row)?;
+        let row = row.copy(alloc)?;
+        self.add(alloc, Some(from), origin, Some(0), row)?;
         Ok(FloodOut {
             learnt: Some(learnt),
             sends,
@@ -178,14 +182,14 @@ impl Flood {
     pub fn rows(&self) -> &[TeRow]
         ensures { result.now ≡ self.now.rows }
     {
-        &self.rows
+        self.known.items()
     }
 
     /// Whether a row of this link is known.
     pub fn known(&self, link: LinkId) -> bool
         ensures { result ≡ is_known self.now.rows link }
     {
-        is_known(&self.rows, link)
+        self.known.has_link(link)
     }
 
     /// How many rows are due, to each neighbour that hasn't acknowledged them.
@@ -196,13 +200,9 @@ impl Flood {
     }
 }
 
-/// The same rows again.
-fn copy_rows(alloc: Global, rows: &[TeRow]) -> Result<Vec<TeRow>, OutOfMemory>
-    ensures { IfOk result (λ all. all.items ≡ rows.now) }
+/// Whether the node is an end of the row.
+fn is_end(node: NodeId, row: &TeRow) -> bool
+    ensures { result ≡ is_end node row.now }
 {
-    let mut all = Vec::with_capacity(alloc, rows.len())?;
-    for row in rows {
-        all.push(row.copy(alloc)?)?;
-    }
-    Ok(all)
+    row.low.0 == node.0 || row.high.0 == node.0
 }

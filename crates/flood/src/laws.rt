@@ -5,6 +5,8 @@ ghost use Rattle.flood.specs.declared.messages.FloodMsg.{FloodMsg};
 ghost use Rattle.flood.specs.Calls.{AcknowledgedIsOff, DueUntilAcknowledged, GoesToTheOthers, KnownStays, KnownWasBrought, NoneAfterwards};
 ghost use Rattle.flood.specs.Ends.{EndsAreListed, EndsStandOnce};
 ghost use Rattle.flood.specs.Messages.{CanBeWritten, FitsEnvelope, SpellsFlood, flood_bytes};
+ghost use Rattle.flood.specs.NetworkLaws.{DueRises, InEveryRun, JoinedKnowTheLinks, JoinedKnowTheSame, KnownCanBeSearched, KnownIsTrue};
+ghost use Rattle.flood.specs.NetworkLaws.{LinksOfATopology, OneNumberIsOneRow, OwnCanBeDeclared, SentIsKnown, StartIsNew, UnknownIsNew};
 
 /// What is written of a flood message spells that message.
 pub fn floods_come_back()
@@ -27,4 +29,27 @@ pub fn every_list_of_calls()
 pub fn different_ends()
     ensures listed { EndsAreListed }
     ensures once { EndsStandOnce }
+{}
+
+/// The nodes of a network declare their own rows and flood them. Whatever messages are lost, repeated or overtaken: what a
+/// node knows is a row of the network, and routes can be asked for over it. Who sent a row knows it, and it is new to who
+/// takes it where its link isn't known there. What is due stands in order of number, and on one channel one number is one
+/// row. Where nothing is due, nodes that a walk joins know the same, the rows of all their links among it.
+pub fn every_flooding()
+    ensures truth { InEveryRun KnownIsTrue }
+    ensures search { InEveryRun KnownCanBeSearched }
+    ensures sent { InEveryRun SentIsKnown }
+    ensures new { InEveryRun UnknownIsNew }
+    ensures rising { InEveryRun DueRises }
+    ensures numbers { InEveryRun OneNumberIsOneRow }
+    ensures same { InEveryRun JoinedKnowTheSame }
+    ensures links { InEveryRun JoinedKnowTheLinks }
+{}
+
+/// The rows of a topology's links are such as the laws of flooding ask for, and the calls make the start of which they speak:
+/// `Flood::new` a node that knows nothing, and `declare`, which is never refused a row of the node's own, the rest.
+pub fn every_start()
+    ensures topology { LinksOfATopology }
+    ensures new { StartIsNew }
+    ensures declared { OwnCanBeDeclared }
 {}

@@ -2,8 +2,8 @@
 #![tactic(auto)]
 
 pub mod due;
-pub mod ends;
 pub mod flood;
+pub mod known;
 pub mod laws;
 pub mod messages;
 pub mod neighbours;

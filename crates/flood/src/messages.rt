@@ -48,8 +48,10 @@ fn number_at(bytes: &[u8], place: usize) -> u32
 fn row_behind(alloc: Global, origin: NodeId, bytes: &[u8]) -> Result<TeRow, DecodeError>
     requires { 12 ≤ length bytes.now }
     ensures found { IfOk result (λ row. SpellsRow origin (drop 12 bytes.now) row) }
-    ensures only { (row : TeRow) → SpellsRow origin (drop 12 bytes.now) row → IfOk result (λ read. read ≡ row) }
-    ensures not_message { IsErrOf result DecodeError.NotMessage → (row : TeRow) → ¬ SpellsRow origin (drop 12 bytes.now) row }
+    ensures only { (row : TeRow) → SpellsRow origin (drop 12 bytes.now) row →
+        IfOk result (λ read. read ≡ row) }
+    ensures not_message { IsErrOf result DecodeError.NotMessage → (row : TeRow) →
+        ¬ SpellsRow origin (drop 12 bytes.now) row }
 {
     let (_, tlv) = bytes.split_at(12);
     read_row(alloc, origin, tlv)
@@ -61,7 +63,8 @@ pub fn decode_flood(alloc: Global, bytes: &[u8]) -> Result<FloodMsg, DecodeError
     ensures found { IfOk result (λ m. SpellsFlood bytes.now m) }
     // What is spelled so is read, unless memory runs out.
     ensures only { (m : FloodMsg) → SpellsFlood bytes.now m → IfOk result (λ read. read ≡ m) }
-    ensures not_message { IsErrOf result DecodeError.NotMessage → (m : FloodMsg) → ¬ SpellsFlood bytes.now m }
+    ensures not_message { IsErrOf result DecodeError.NotMessage → (m : FloodMsg) →
+        ¬ SpellsFlood bytes.now m }
 {
     if bytes.len() < 8 {
         return Err(DecodeError::NotMessage);
@@ -86,7 +89,9 @@ pub fn decode_flood(alloc: Global, bytes: &[u8]) -> Result<FloodMsg, DecodeError
 
 /// Appends the head of a message: its kind, three zeros and its number.
 fn push_head(out: &mut Vec<u8>, kind: u8, number: u32) -> Result<(), OutOfMemory>
-    ensures { OnOk result (out.new.items ≡ out.old.items ++ (big_bytes 1 kind ++ big_bytes 3 0 ++ big_bytes 4 number)) }
+    ensures { OnOk result
+        (out.new.items ≡ out.old.items ++
+        (big_bytes 1 kind ++ big_bytes 3 0 ++ big_bytes 4 number)) }
 {
     push_u8(out, kind)?;
     push_u24(out, 0)?;

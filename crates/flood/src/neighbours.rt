@@ -1,15 +1,16 @@
 //! What a node keeps of each neighbour.
 
-ghost use Rattle.std.specs.Prelude.{◌≡◌, ℕ, ◌↔◌, Contains, ◌<◌, ◌+◌, ◌^◌, ◌∷◌, ◌++◌, IfOk, OnOk, map, All, length, Some, slice_index, sum_by};
+ghost use Rattle.std.specs.Prelude.{◌≡◌, ℕ, ◌↔◌, Contains, ◌<◌, ◌≤◌, ◌+◌, ◌^◌, ◌∷◌, ◌++◌, IfOk, OnErr, OnOk, map, take, drop, All, length, Some, slice_index, sum_by};
 ghost use Rattle.std.specs.List.{flat_map};
 ghost use Rattle.std.specs.List.Sorted.{IsStrictlyIncreasing};
-ghost use Rattle.flood.specs.State.{acked_by, due_to, first_sending, first_sendings, fresh, is_from, older_neighbour, queued, queued_unless, sent_to};
+ghost use Rattle.flood.specs.State.{acked_by, due_to, first_sending, first_sendings, fresh, is_from, older_neighbour, queued, queued_unless, sent_to, unqueued, unqueued_unless};
 
 use crate::due::{Due, age_after_tick, age_all, copies, goes_at, take_off};
 use crate::messages::FloodMsg;
 use crate::sends::FloodSends;
 use ason_base::{NodeId, OutOfMemory, TeRow};
 use std::alloc::Global;
+use std::collections::VecDeque;
 use std::marker::Model;
 
 /// A neighbour, the last number that a row due to it got, and the rows that it hasn't acknowledged, in order of number.
@@ -17,15 +18,17 @@ use std::marker::Model;
 pub struct Neighbour {
     id: NodeId,
     sent: u32,
-    due: Vec<Due>,
+    due: VecDeque<Due>,
 }
 
 impl Model for Neighbour {
-    ghost use Rattle.flood.specs.State.{NeighbourState};
+    ghost use Rattle.flood.specs.State.{IsInOrder, NeighbourState};
 
     ghost Value = { NeighbourState };
 
     ghost view = { λ n. record { id = n.id; sent = n.sent; due = n.due.items } };
+
+    ghost invariant = { λ n. IsInOrder n.sent n.due.items };
 }
 
 impl Neighbour {
@@ -36,7 +39,7 @@ impl Neighbour {
         Neighbour {
             id,
             sent: 0,
-            due: Vec::new(alloc),
+            due: VecDeque::new(alloc),
         }
     }
 
@@ -52,48 +55,63 @@ impl Neighbour {
         })
     }
 
-    /// The neighbour once the row is due to it with the next number.
-    fn queued(
-        &self,
+    /// Makes the row due to it with the next number.
+    fn queue(
+        &mut self,
         alloc: Global,
         origin: NodeId,
         age: Option<u8>,
         row: &TeRow,
-    ) -> Result<Neighbour, OutOfMemory>
-        requires { self.now.sent + 1 < 2 ^ 32 }
-        ensures { IfOk result (λ n. n ≡ queued origin age row.now self.now) }
+    ) -> Result<(), OutOfMemory>
+        requires { self.old.sent + 1 < 2 ^ 32 }
+        ensures ok { OnOk result (self.new ≡ queued origin age row.now self.old) }
+        ensures err { OnErr result (self.new ≡ self.old) }
     {
         let number = self.sent + 1;
-        let mut due = copies(alloc, &self.due)?;
-        due.push(Due {
+        let row = row.copy(alloc)?;
+        self.due.push_back(Due {
             number,
             age,
             origin,
-            row: row.copy(alloc)?,
+            row,
         })?;
-        Ok(Neighbour {
-            id: self.id,
-            sent: number,
-            due,
-        })
+        self.sent = number;
+        Ok(())
     }
 
-    /// The neighbour once the row is due to it, if it isn't the one that the row came from.
-    fn queued_unless(
-        &self,
+    /// Makes the row due to it, if it isn't the one that the row came from.
+    fn queue_unless(
+        &mut self,
         alloc: Global,
         from: Option<NodeId>,
         origin: NodeId,
         age: Option<u8>,
         row: &TeRow,
-    ) -> Result<Neighbour, OutOfMemory>
-        requires { self.now.sent + 1 < 2 ^ 32 }
-        ensures { IfOk result (λ n. n ≡ queued_unless from origin age row.now self.now) }
+    ) -> Result<(), OutOfMemory>
+        requires { self.old.sent + 1 < 2 ^ 32 }
+        ensures ok { OnOk result (self.new ≡ queued_unless from origin age row.now self.old) }
+        ensures err { OnErr result (self.new ≡ self.old) }
     {
         if self.is_from(from) {
-            self.copy(alloc)
-        } else {
-            self.queued(alloc, origin, age, row)
+            return Ok(());
+        }
+        self.queue(alloc, origin, age, row)
+    }
+
+    /// Takes back the row that became due to it last, and its number.
+    fn unqueue(&mut self)
+        ensures { self.new ≡ unqueued self.old }
+    {
+        let _ = self.due.pop_back();
+        self.sent = self.sent.saturating_sub(1);
+    }
+
+    /// Takes it back, if this isn't the neighbour that the row came from.
+    fn unqueue_unless(&mut self, from: Option<NodeId>)
+        ensures { self.new ≡ unqueued_unless from self.old }
+    {
+        if !self.is_from(from) {
+            self.unqueue();
         }
     }
 
@@ -140,13 +158,15 @@ impl Neighbour {
     fn push_sent(&self, alloc: Global, sends: &mut FloodSends) -> Result<(), OutOfMemory>
         ensures { OnOk result (sends.new ≡ sends.old ++ sent_to self.now) }
     {
-        push_due(alloc, sends, self.id, &self.due)
+        let (first, others) = self.due.as_slices();
+        push_due(alloc, sends, self.id, first)?;
+        push_due(alloc, sends, self.id, others)
     }
 
     fn age(&mut self)
         ensures { self.new ≡ older_neighbour self.old }
     {
-        age_all(&mut self.due);
+        age_all(self.due.make_contiguous());
     }
 }
 
@@ -175,23 +195,38 @@ fn push_due(
     Ok(())
 }
 
-/// Each neighbour once the row is due to it, but the one that the row came from.
-pub(crate) fn queued_all(
+/// Makes the row due to each neighbour but the one that it came from. Where memory runs out, nothing has changed.
+pub(crate) fn queue_all(
     alloc: Global,
-    neighbours: &[Neighbour],
+    neighbours: &mut [Neighbour],
     from: Option<NodeId>,
     origin: NodeId,
     age: Option<u8>,
     row: &TeRow,
-) -> Result<Vec<Neighbour>, OutOfMemory>
-    requires { All (λ n. n.sent + 1 < 2 ^ 32) neighbours.now }
-    ensures { IfOk result (λ ns. ns.items ≡ map (queued_unless from origin age row.now) neighbours.now) }
+) -> Result<(), OutOfMemory>
+    requires { All (λ n. n.sent + 1 < 2 ^ 32) neighbours.old }
+    ensures ok { OnOk result
+        (neighbours.new ≡ map (queued_unless from origin age row.now) neighbours.old) }
+    ensures err { OnErr result (neighbours.new ≡ neighbours.old) }
 {
-    let mut all = Vec::with_capacity(alloc, neighbours.len())?;
-    for n in neighbours {
-        all.push(n.queued_unless(alloc, from, origin, age, row)?)?;
+    for i in 0..neighbours.len() {
+        if let Err(error) = neighbours[i].queue_unless(alloc, from, origin, age, row) {
+            unqueue_first(neighbours, i, from);
+            return Err(error);
+        }
     }
-    Ok(all)
+    Ok(())
+}
+
+/// Takes back the row that became due last to the first ones of these, but to the one that it came from.
+pub(crate) fn unqueue_first(neighbours: &mut [Neighbour], count: usize, from: Option<NodeId>)
+    requires { count ≤ length neighbours.old }
+    ensures { neighbours.new ≡ map (unqueued_unless from) (take count neighbours.old) ++
+        drop count neighbours.old }
+{
+    for i in 0..count {
+        neighbours[i].unqueue_unless(from);
+    }
 }
 
 /// The same neighbours again.
@@ -236,7 +271,8 @@ pub(crate) fn push_first_sendings(
     row: &TeRow,
 ) -> Result<(), OutOfMemory>
     requires { All (λ n. n.sent + 1 < 2 ^ 32) neighbours.now }
-    ensures { OnOk result (sends.new ≡ sends.old ++ first_sendings from origin row.now neighbours.now) }
+    ensures { OnOk result
+        (sends.new ≡ sends.old ++ first_sendings from origin row.now neighbours.now) }
 {
     for n in neighbours {
         if !n.is_from(Some(from)) {
@@ -278,7 +314,8 @@ fn numbers_of(alloc: Global, ids: &[NodeId]) -> Result<Vec<u32>, OutOfMemory>
 /// The numbers of these nodes, each once, rising.
 pub(crate) fn rising(alloc: Global, ids: &[NodeId]) -> Result<Vec<u32>, OutOfMemory>
     ensures rising { IfOk result (λ ns. IsStrictlyIncreasing ns.items) }
-    ensures same { IfOk result (λ ns. (n : ℕ) → Contains ns.items n ↔ Contains (map (λ id. id.0) ids.now) n) }
+    ensures same { IfOk result
+        (λ ns. (n : ℕ) → Contains ns.items n ↔ Contains (map (λ id. id.0) ids.now) n) }
 {
     let mut numbers = numbers_of(alloc, ids)?;
     numbers.sort_unstable();

@@ -13,12 +13,14 @@ get_or-aged [] i d h = absurd (omega arith)
 get_or-aged (w ∷ ws) zero d h = refl
 get_or-aged (w ∷ ws) (suc i) d h = get_or-aged ws i d (omega arith)
 
-set-aged : (ws : List Unacked) (i : ℕ) (d : Unacked) → i < length ws → set (aged i ws) i (older (get_or ws i d)) ≡ aged (suc i) ws
+set-aged : (ws : List Unacked) (i : ℕ) (d : Unacked) → i < length ws →
+    set (aged i ws) i (older (get_or ws i d)) ≡ aged (suc i) ws
 set-aged [] i d h = absurd (omega arith)
 set-aged (w ∷ ws) zero d h = refl
 set-aged (w ∷ ws) (suc i) d h = ap (λ zs. older w ∷ zs) (set-aged ws i d (omega arith))
 
-pub aged_more : (ws now : List Unacked) (i age : ℕ) (w : Unacked) → i < length ws → now ≡ aged i ws → age ≡ older_age (get_or now i w).age →
+pub aged_more : (ws now : List Unacked) (i age : ℕ) (w : Unacked) → i < length ws → now ≡ aged i ws →
+    age ≡ older_age (get_or now i w).age →
     set now i (record { number = (get_or now i w).number; age = age; msg = (get_or now i w).msg }) ≡ aged (i + 1) ws
 aged_more ws now i age w h same older_is =
     rw (older_is, same, get_or-aged ws i w h, add-one i) (set-aged ws i w h)

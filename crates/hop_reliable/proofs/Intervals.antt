@@ -15,7 +15,13 @@ aging-older ticks age f =
     let most : age ≤ 67 = f.most in
     elim (nat_lt age 67) as (λ b. nat_lt age 67 ≡ b → Aging (suc ticks) (cond b (age + 1) 8)) [
       | true ↦ λ below. let less : age < 67 = grind arith in
-          record { rounds = f.rounds; ticks_are = omega arith; most = omega arith; late = λ more. let old : 8 ≤ age = f.late more in omega arith }
+          record {
+            rounds = f.rounds;
+            ticks_are = omega arith;
+            most = omega arith;
+            late = λ more. let old : 8 ≤ age =
+                f.late more in omega arith;
+          }
       | false ↦ λ above. let last : age ≡ 67 = grind arith in
           record { rounds = f.rounds + 1; ticks_are = omega arith; most = omega arith; late = λ more. omega arith }
     ] refl
@@ -44,8 +50,11 @@ at_age n age is_due_then is_n = subst (λ a. is_due a ≡ true) (sym is_n) is_du
 
 due_early : (ticks age : ℕ) → Aging ticks age → (age ≡ 1) ⊎ (age ≡ 3) → IsDueTick ticks
 unfolding IsDueTick
-due_early ticks age f (inl one) = let none : f.rounds ≡ 0 = no_round age f.rounds f.late (omega arith) in inl (omega (arith, f.ticks_are))
-due_early ticks age f (inr three) = let none : f.rounds ≡ 0 = no_round age f.rounds f.late (omega arith) in inr (inl (omega (arith, f.ticks_are)))
+due_early ticks age f (inl one) = let none : f.rounds ≡ 0 =
+    no_round age f.rounds f.late (omega arith) in inl (omega (arith, f.ticks_are))
+due_early ticks age f (inr three) = let none : f.rounds ≡ 0 =
+    no_round age f.rounds f.late (omega arith) in inr
+    (inl (omega (arith, f.ticks_are)))
 
 due_at : (ticks age : ℕ) → Aging ticks age → is_due age ≡ true → IsDueTick ticks
 unfolding IsDueTick

@@ -2,20 +2,24 @@
 use Rattle.std.proofs.Common.{◌≡◌, ℕ, ◌<◌, ◌≤◌, ◌⊎◌, inl, inr, zero, suc, Some, List, [], ◌∷◌, ◌++◌, length, take, refl, ap, subst, arith}
 use Rattle.std.specs.List.{AllByRecursion, slice_get}
 
-pub each-append : {X : Type 0} (P : X → Type 0) (xs ys : List X) → AllByRecursion P xs → AllByRecursion P ys → AllByRecursion P (xs ++ ys)
+pub each-append : {X : Type 0} (P : X → Type 0) (xs ys : List X) → AllByRecursion P xs → AllByRecursion P ys →
+    AllByRecursion P (xs ++ ys)
 each-append P [] ys p q = q
 each-append P (x ∷ xs) ys p q = (p.0, each-append P xs ys p.1 q)
 
-pub each-more : {X : Type 0} (P Q : X → Type 0) (f : (x : X) → P x → Q x) (xs : List X) → AllByRecursion P xs → AllByRecursion Q xs
+pub each-more : {X : Type 0} (P Q : X → Type 0) (f : (x : X) → P x → Q x) (xs : List X) → AllByRecursion P xs →
+    AllByRecursion Q xs
 each-more P Q f [] p = tt
 each-more P Q f (x ∷ xs) p = (f x p.0, each-more P Q f xs p.1)
 
-pub each-get : {X : Type 0} (P : X → Type 0) (xs : List X) (k : ℕ) (x : X) → AllByRecursion P xs → slice_get xs k ≡ Some x → P x
+pub each-get : {X : Type 0} (P : X → Type 0) (xs : List X) (k : ℕ) (x : X) → AllByRecursion P xs →
+    slice_get xs k ≡ Some x → P x
 each-get P [] k x p e = absurd (cc)
 each-get P (y ∷ xs) zero x p e = let same : y ≡ x = cc in subst P same p.0
 each-get P (y ∷ xs) (suc k) x p e = each-get P xs k x p.1 e
 
-pub get-append_left : {X : Type 0} (xs ys : List X) (k : ℕ) (x : X) → slice_get xs k ≡ Some x → slice_get (xs ++ ys) k ≡ Some x
+pub get-append_left : {X : Type 0} (xs ys : List X) (k : ℕ) (x : X) → slice_get xs k ≡ Some x →
+    slice_get (xs ++ ys) k ≡ Some x
 get-append_left [] ys k x e = absurd (cc)
 get-append_left (y ∷ xs) ys zero x e = e
 get-append_left (y ∷ xs) ys (suc k) x e = get-append_left xs ys k x e
@@ -43,7 +47,8 @@ get_there [] k h = absurd (omega arith)
 get_there (y ∷ xs) zero h = (y, refl)
 get_there (y ∷ xs) (suc k) h = get_there xs k (omega arith)
 
-pub take_next : {X : Type 0} (xs : List X) (k : ℕ) (x : X) → slice_get xs k ≡ Some x → take (suc k) xs ≡ take k xs ++ x ∷ []
+pub take_next : {X : Type 0} (xs : List X) (k : ℕ) (x : X) → slice_get xs k ≡ Some x → take (suc k) xs ≡ take k xs ++
+    x ∷ []
 take_next [] k x e = absurd (cc)
 take_next (y ∷ xs) zero x e = let same : y ≡ x = cc in ap (λ z. z ∷ []) same
 take_next (y ∷ xs) (suc k) x e = ap (λ zs. y ∷ zs) (take_next xs k x e)

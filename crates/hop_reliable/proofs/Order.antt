@@ -17,7 +17,8 @@ record Ordered (e : HopEnd) : Type 0 where
 
 ordered-sends : (m : Msg) (e : HopEnd) → Ordered e → Ordered (sends m e)
 ordered-sends m e f = record {
-  rising = all_pairs_push (λ v w. v.number < w.number) e.hop.unacked (record { number = e.hop.sent + 1; age = 0; msg = m }) f.rising
+  rising = all_pairs_push (λ v w. v.number < w.number) e.hop.unacked
+      (record { number = e.hop.sent + 1; age = 0; msg = m }) f.rising
       (λ k d within. let old : (get_or e.hop.unacked k d).number ≤ e.hop.sent = f.most k d within in omega arith);
   most = All-push (λ w. w.number ≤ e.hop.sent + 1) e.hop.unacked (record { number = e.hop.sent + 1; age = 0; msg = m })
       (λ k d within. let old : (get_or e.hop.unacked k d).number ≤ e.hop.sent = f.most k d within in omega arith)
@@ -54,17 +55,30 @@ ordered-happens s (Sends West m) f = record { west = ordered-sends m s.west f.we
 ordered-happens s (Sends East m) f = record { west = f.west; east = ordered-sends m s.east f.east }
 ordered-happens s (Ticks West) f = record { west = ordered-ticks s.west f.west; east = f.east }
 ordered-happens s (Ticks East) f = record { west = f.west; east = ordered-ticks s.east f.east }
-ordered-happens s (Takes West k) f = record { west = ordered-takes (slice_get s.east.frames k) s.west f.west; east = f.east }
-ordered-happens s (Takes East k) f = record { west = f.west; east = ordered-takes (slice_get s.west.frames k) s.east f.east }
+ordered-happens s (Takes West k) f = record {
+  west = ordered-takes (slice_get s.east.frames k) s.west f.west;
+  east =
+      f.east;
+}
+ordered-happens s (Takes East k) f = record {
+  west = f.west;
+  east =
+      ordered-takes (slice_get s.west.frames k) s.east f.east;
+}
 
 ordered-after : (s : HopPair) (es : List Happening) → BothOrdered s → BothOrdered (after s es)
 ordered-after s [] f = f
 ordered-after s (e ∷ es) f = ordered-after (happens s e) es (ordered-happens s e f)
 
 ordered-idle : Ordered idle
-ordered-idle = record { rising = λ i j d before within. absurd (omega arith); most = λ k d within. absurd (omega arith) }
+ordered-idle = record {
+  rising = λ i j d before within. absurd (omega arith);
+  most =
+      λ k d within. absurd (omega arith);
+}
 
 pub unacked_rise : UnackedRise
 unacked_rise es =
-    let f : BothOrdered (after start es) = ordered-after start es (record { west = ordered-idle; east = ordered-idle }) in
+    let f : BothOrdered (after start es) = ordered-after start es
+    (record { west = ordered-idle; east = ordered-idle }) in
     (f.west.rising, f.east.rising)

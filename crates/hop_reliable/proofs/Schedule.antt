@@ -35,10 +35,26 @@ comes_to x y k None e f = f
 comes_to x y k (Some p) e f = flow-takes_to x y p (each-get (IsOwn x.given) x.frames k p f.own e) f
 
 flows-happens : (s : HopPair) (e : Happening) → Flows s → Flows (happens s e)
-flows-happens s (Sends West m) f = record { eastward = flow-sends_from s.west s.east m f.eastward; westward = flow-sends_to s.east s.west m f.westward }
-flows-happens s (Sends East m) f = record { eastward = flow-sends_to s.west s.east m f.eastward; westward = flow-sends_from s.east s.west m f.westward }
-flows-happens s (Ticks West) f = record { eastward = flow-ticks_from s.west s.east f.eastward; westward = flow-ticks_to s.east s.west f.westward }
-flows-happens s (Ticks East) f = record { eastward = flow-ticks_to s.west s.east f.eastward; westward = flow-ticks_from s.east s.west f.westward }
+flows-happens s (Sends West m) f = record {
+  eastward = flow-sends_from s.west s.east m f.eastward;
+  westward =
+      flow-sends_to s.east s.west m f.westward;
+}
+flows-happens s (Sends East m) f = record {
+  eastward = flow-sends_to s.west s.east m f.eastward;
+  westward =
+      flow-sends_from s.east s.west m f.westward;
+}
+flows-happens s (Ticks West) f = record {
+  eastward = flow-ticks_from s.west s.east f.eastward;
+  westward =
+      flow-ticks_to s.east s.west f.westward;
+}
+flows-happens s (Ticks East) f = record {
+  eastward = flow-ticks_to s.west s.east f.eastward;
+  westward =
+      flow-ticks_from s.east s.west f.westward;
+}
 flows-happens s (Takes West k) f = record {
   eastward = comes_from s.west s.east k (slice_get s.east.frames k) refl f.eastward;
   westward = comes_to s.east s.west k (slice_get s.east.frames k) refl f.westward;
@@ -58,8 +74,11 @@ flows-run es = flows-after start es (record { eastward = flow-idle; westward = f
 -- What follows.
 
 flow-in_order : (x y : HopEnd) → Flow x y → IsInOrder x y
-flow-in_order x y f =
-    (drop y.hop.handed_up x.given, ap (λ (up : List Msg). up ++ drop y.hop.handed_up x.given) f.prefix ∙ take-append-drop y.hop.handed_up x.given)
+flow-in_order x y f = (
+  drop y.hop.handed_up x.given,
+  ap (λ (up : List Msg). up ++ drop y.hop.handed_up x.given) f.prefix ∙
+      take-append-drop y.hop.handed_up x.given,
+)
 
 has-any : (n : ℕ) (m : Msg) (ws : List Unacked) → Has n m ws → Any (λ w. (w.number ≡ n) × (w.msg ≡ m)) ws
 has-any n m [] h = elim h [ ]
@@ -70,13 +89,15 @@ has-any n m (w ∷ ws) (inr there) =
 
 flow-kept : (x y : HopEnd) → Flow x y → IsKept x y
 flow-kept x y f k m there above =
-    let shown : length y.up ≡ y.hop.handed_up = ap length f.prefix ∙ length-take_within x.given y.hop.handed_up f.within in
+    let shown : length y.up ≡ y.hop.handed_up = ap length f.prefix ∙
+    length-take_within x.given y.hop.handed_up f.within in
     has-any (k + 1) m x.hop.unacked (f.kept k m there (omega arith))
 
 flow-settled : (x y : HopEnd) → Flow x y → IsSettled x y
 flow-settled x y f none =
     let not_less : y.hop.handed_up < length x.given → ⊥ =
-    λ less. let next : (m : Msg) × (slice_get x.given y.hop.handed_up ≡ Some m) = get_there x.given y.hop.handed_up less in
+    λ less. let next : (m : Msg) × (slice_get x.given y.hop.handed_up ≡ Some m) =
+    get_there x.given y.hop.handed_up less in
     subst (λ ws. Has (y.hop.handed_up + 1) next.0 ws) none (f.kept y.hop.handed_up next.0 next.1 (omega arith))
     in
     let within : y.hop.handed_up ≤ length x.given = f.within in
@@ -84,10 +105,26 @@ flow-settled x y f none =
     f.prefix ∙ ap (λ n. take n x.given) all ∙ take-length x.given
 
 pub handed_up_in_order : HandedUpInOrder
-handed_up_in_order es = let f : Flows (after start es) = flows-run es in (flow-in_order (after start es).west (after start es).east f.eastward, flow-in_order (after start es).east (after start es).west f.westward)
+handed_up_in_order es = let f : Flows (after start es) =
+    flows-run es in (
+      flow-in_order (after start es).west
+          (after start es).east f.eastward,
+      flow-in_order (after start es).east
+          (after start es).west f.westward,
+    )
 
 pub nothing_is_lost : NothingIsLost
-nothing_is_lost es = let f : Flows (after start es) = flows-run es in (flow-kept (after start es).west (after start es).east f.eastward, flow-kept (after start es).east (after start es).west f.westward)
+nothing_is_lost es = let f : Flows (after start es) =
+    flows-run es in (
+      flow-kept (after start es).west (after start es).east f.eastward,
+      flow-kept (after start es).east (after start es).west f.westward,
+    )
 
 pub settled_is_delivered : SettledIsDelivered
-settled_is_delivered es = let f : Flows (after start es) = flows-run es in (flow-settled (after start es).west (after start es).east f.eastward, flow-settled (after start es).east (after start es).west f.westward)
+settled_is_delivered es = let f : Flows (after start es) =
+    flows-run es in (
+      flow-settled (after start es).west
+          (after start es).east f.eastward,
+      flow-settled (after start es).east
+          (after start es).west f.westward,
+    )

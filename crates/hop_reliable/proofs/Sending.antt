@@ -13,14 +13,23 @@ use Rattle.hop_reliable.proofs.Flow.{IsNumbered, IsOwn, AcksUpTo, Waits, Has, Fl
 
 -- With one more message.
 
-numbered-more : (given : List Msg) (new : Msg) (n : ℕ) (m : Msg) → IsNumbered given n m → IsNumbered (given ++ new ∷ []) n m
-numbered-more given new n m f = record { place = f.place; number = f.number; message = get-append_left given (new ∷ []) f.place m f.message }
+numbered-more : (given : List Msg) (new : Msg) (n : ℕ) (m : Msg) → IsNumbered given n m →
+    IsNumbered (given ++ new ∷ []) n m
+numbered-more given new n m f = record {
+  place = f.place;
+  number = f.number;
+  message =
+      get-append_left given (new ∷ []) f.place m f.message;
+}
 
 numbered-new : (given : List Msg) (new : Msg) (n : ℕ) → n ≡ length given + 1 → IsNumbered (given ++ new ∷ []) n new
 numbered-new given new n e = record { place = length given; number = e; message = get-append_last given new }
 
 own-more : (given : List Msg) (new : Msg) (p : Packet) → IsOwn given p → IsOwn (given ++ new ∷ []) p
-own-more given new p f = record { own = λ id m is_id is_body. numbered-more given new id.number m (f.own id m is_id is_body) }
+own-more given new p f = record {
+  own = λ id m is_id is_body. numbered-more given new id.number m
+      (f.own id m is_id is_body);
+}
 
 waits-more : (given : List Msg) (new : Msg) (w : Unacked) → Waits given w → Waits (given ++ new ∷ []) w
 waits-more given new w f = record { numbered = numbered-more given new w.number w.msg f.numbered }
@@ -42,14 +51,16 @@ has-append_left : (n : ℕ) (m : Msg) (ws vs : List Unacked) → Has n m ws → 
 has-append_left n m [] vs h = elim h [ ]
 has-append_left n m (w ∷ ws) vs h = elim h [ inl here ↦ inl here | inr there ↦ inr (has-append_left n m ws vs there) ]
 
-has-append_last : (n : ℕ) (m : Msg) (ws : List Unacked) (w : Unacked) → w.number ≡ n → w.msg ≡ m → Has n m (ws ++ w ∷ [])
+has-append_last : (n : ℕ) (m : Msg) (ws : List Unacked) (w : Unacked) → w.number ≡ n → w.msg ≡ m →
+    Has n m (ws ++ w ∷ [])
 has-append_last n m [] w number message = inl (number, message)
 has-append_last n m (v ∷ ws) w number message = inr (has-append_last n m ws w number message)
 
 pub flow-sends_from : (x y : HopEnd) (new : Msg) → Flow x y → Flow (sends new x) y
 flow-sends_from x y new f =
     let next : x.hop.sent + 1 ≡ length x.given + 1 = ap (λ n. n + 1) f.count in
-    let is_new : IsNumbered (x.given ++ new ∷ []) (x.hop.sent + 1) new = numbered-new x.given new (x.hop.sent + 1) next in
+    let is_new : IsNumbered (x.given ++ new ∷ []) (x.hop.sent + 1) new =
+    numbered-new x.given new (x.hop.sent + 1) next in
     let within : y.hop.handed_up ≤ length x.given = f.within in
     record {
       count = rw length-append next;
@@ -58,13 +69,16 @@ flow-sends_from x y new f =
       own = each-append (IsOwn (x.given ++ new ∷ [])) x.frames (numbered (x.hop.sent + 1) new ∷ [])
           (each-more (IsOwn x.given) (IsOwn (x.given ++ new ∷ [])) (own-more x.given new) x.frames f.own)
           (own-numbered (x.given ++ new ∷ []) (x.hop.sent + 1) new is_new, tt);
-      waiting = each-append (Waits (x.given ++ new ∷ [])) x.hop.unacked (record { number = x.hop.sent + 1; age = 0; msg = new } ∷ [])
+      waiting = each-append (Waits (x.given ++ new ∷ [])) x.hop.unacked
+          (record { number = x.hop.sent + 1; age = 0; msg = new } ∷ [])
           (each-more (Waits x.given) (Waits (x.given ++ new ∷ [])) (waits-more x.given new) x.hop.unacked f.waiting)
           (record { numbered = is_new }, tt);
       kept = λ k m there above.
           elim (get-append_cases x.given new k m there) [
-            | inl before ↦ has-append_left (k + 1) m x.hop.unacked (record { number = x.hop.sent + 1; age = 0; msg = new } ∷ []) (f.kept k m before above)
-            | inr last ↦ has-append_last (k + 1) m x.hop.unacked (record { number = x.hop.sent + 1; age = 0; msg = new })
+            | inl before ↦ has-append_left (k + 1) m x.hop.unacked
+                (record { number = x.hop.sent + 1; age = 0; msg = new } ∷ []) (f.kept k m before above)
+            | inr last ↦ has-append_last (k + 1) m x.hop.unacked
+                (record { number = x.hop.sent + 1; age = 0; msg = new })
                 (next ∙ ap (λ n. n + 1) (sym last.0)) last.1
           ];
       acks = f.acks;
@@ -84,7 +98,8 @@ flow-sends_to x y new f = record {
 
 -- A tick.
 
-waits-older : (given : List Msg) (ws : List Unacked) → AllByRecursion (Waits given) ws → AllByRecursion (Waits given) (map older ws)
+waits-older : (given : List Msg) (ws : List Unacked) → AllByRecursion (Waits given) ws →
+    AllByRecursion (Waits given) (map older ws)
 waits-older given [] f = tt
 waits-older given (w ∷ ws) f = (record { numbered = f.0.numbered }, waits-older given ws f.1)
 
@@ -93,10 +108,13 @@ has-older n m [] h = elim h [ ]
 has-older n m (w ∷ ws) h = elim h [ inl here ↦ inl here | inr there ↦ inr (has-older n m ws there) ]
 
 -- what goes again is the sender's own
-own-again : (given : List Msg) (ws : List Unacked) → AllByRecursion (Waits given) ws → AllByRecursion (IsOwn given) (again ws)
+own-again : (given : List Msg) (ws : List Unacked) → AllByRecursion (Waits given) ws →
+    AllByRecursion (IsOwn given) (again ws)
 own-again given [] f = tt
 own-again given (w ∷ ws) f =
-    elim (is_due w.age) as (λ due. AllByRecursion (IsOwn given) (map (λ v. numbered v.number v.msg) (cond due (w ∷ filter (λ v. is_due v.age) ws) (filter (λ v. is_due v.age) ws)))) [
+    elim (is_due w.age) as (λ due. AllByRecursion (IsOwn given)
+    (map (λ v. numbered v.number v.msg) (cond due (w ∷ filter (λ v. is_due v.age) ws)
+    (filter (λ v. is_due v.age) ws)))) [
       | true ↦ (own-numbered given w.number w.msg f.0.numbered, own-again given ws f.1)
       | false ↦ own-again given ws f.1
     ]
@@ -104,7 +122,9 @@ own-again given (w ∷ ws) f =
 acks-again : (last : ℕ) (ws : List Unacked) → AllByRecursion (AcksUpTo last) (again ws)
 acks-again last [] = tt
 acks-again last (w ∷ ws) =
-    elim (is_due w.age) as (λ due. AllByRecursion (AcksUpTo last) (map (λ v. numbered v.number v.msg) (cond due (w ∷ filter (λ v. is_due v.age) ws) (filter (λ v. is_due v.age) ws)))) [
+    elim (is_due w.age) as (λ due. AllByRecursion (AcksUpTo last)
+    (map (λ v. numbered v.number v.msg) (cond due (w ∷ filter (λ v. is_due v.age) ws)
+    (filter (λ v. is_due v.age) ws)))) [
       | true ↦ (acks-numbered last w.number w.msg, acks-again last ws)
       | false ↦ acks-again last ws
     ]
@@ -114,7 +134,8 @@ flow-ticks_from x y f = record {
   count = f.count;
   prefix = f.prefix;
   within = f.within;
-  own = each-append (IsOwn x.given) x.frames (resent x.hop) f.own (own-again x.given (map older x.hop.unacked) (waits-older x.given x.hop.unacked f.waiting));
+  own = each-append (IsOwn x.given) x.frames (resent x.hop) f.own
+      (own-again x.given (map older x.hop.unacked) (waits-older x.given x.hop.unacked f.waiting));
   waiting = waits-older x.given x.hop.unacked f.waiting;
   kept = λ k m there above. has-older (k + 1) m x.hop.unacked (f.kept k m there above);
   acks = f.acks;
@@ -128,5 +149,6 @@ flow-ticks_to x y f = record {
   own = f.own;
   waiting = f.waiting;
   kept = f.kept;
-  acks = each-append (AcksUpTo y.hop.handed_up) y.frames (resent y.hop) f.acks (acks-again y.hop.handed_up (map older y.hop.unacked));
+  acks = each-append (AcksUpTo y.hop.handed_up) y.frames (resent y.hop) f.acks
+      (acks-again y.hop.handed_up (map older y.hop.unacked));
 }

@@ -15,19 +15,23 @@ use Rattle.hop_reliable.proofs.Flow.{IsNumbered, IsOwn, AcksUpTo, Waits, Has, Fl
 
 -- The end that takes a frame, as the sender: it takes off what the frame acknowledges.
 
-waits-left : (given : List Msg) (acks : List MsgId) (ws : List Unacked) → AllByRecursion (Waits given) ws → AllByRecursion (Waits given) (still_unacked acks ws)
+waits-left : (given : List Msg) (acks : List MsgId) (ws : List Unacked) → AllByRecursion (Waits given) ws →
+    AllByRecursion (Waits given) (still_unacked acks ws)
 waits-left given acks [] f = tt
 waits-left given acks (w ∷ ws) f =
-    elim (is_acked acks w) as (λ off. AllByRecursion (Waits given) (cond (not off) (w ∷ still_unacked acks ws) (still_unacked acks ws))) [
+    elim (is_acked acks w) as (λ off. AllByRecursion (Waits given)
+    (cond (not off) (w ∷ still_unacked acks ws) (still_unacked acks ws))) [
       | true ↦ waits-left given acks ws f.1
       | false ↦ (f.0, waits-left given acks ws f.1)
     ]
 
 -- a message that the frame doesn't acknowledge stays
-has-left : (n : ℕ) (m : Msg) (acks : List MsgId) (ws : List Unacked) → (list_any (is_ack_of n) acks ≡ true → ⊥) → Has n m ws → Has n m (still_unacked acks ws)
+has-left : (n : ℕ) (m : Msg) (acks : List MsgId) (ws : List Unacked) → (list_any (is_ack_of n) acks ≡ true → ⊥) →
+    Has n m ws → Has n m (still_unacked acks ws)
 has-left n m acks [] not_acked h = elim h [ ]
 has-left n m acks (w ∷ ws) not_acked h =
-    elim (is_acked acks w) as (λ off. is_acked acks w ≡ off → Has n m (cond (not off) (w ∷ still_unacked acks ws) (still_unacked acks ws))) [
+    elim (is_acked acks w) as (λ off. is_acked acks w ≡ off →
+    Has n m (cond (not off) (w ∷ still_unacked acks ws) (still_unacked acks ws))) [
       | true ↦ λ acked. elim h [
         | inl here ↦ absurd (not_acked (subst (λ k. list_any (is_ack_of k) acks ≡ true) here.0 acked))
         | inr there ↦ has-left n m acks ws not_acked there
@@ -47,7 +51,8 @@ flow-takes_from x y p acks f = record {
   count = f.count;
   prefix = f.prefix;
   within = f.within;
-  own = each-append (IsOwn x.given) x.frames (answers_to (heard_as x.hop p) p) f.own (own-answers x.given (heard_as x.hop p) p);
+  own = each-append (IsOwn x.given) x.frames (answers_to (heard_as x.hop p) p) f.own
+      (own-answers x.given (heard_as x.hop p) p);
   waiting = waits-left x.given p.acks x.hop.unacked f.waiting;
   kept = λ k m there above.
       has-left (k + 1) m p.acks x.hop.unacked
@@ -60,7 +65,12 @@ flow-takes_from x y p acks f = record {
 
 taken_as : Heard → Packet → HopEnd → HopEnd
 taken_as v p e = record {
-  hop = record { sent = e.hop.sent; handed_up = handed_up_after e.hop.handed_up v; unacked = still_unacked p.acks e.hop.unacked };
+  hop = record {
+    sent = e.hop.sent;
+    handed_up = handed_up_after e.hop.handed_up v;
+    unacked =
+        still_unacked p.acks e.hop.unacked;
+  };
   given = e.given;
   up = e.up ++ handed_up_of v p;
   frames = e.frames ++ answers_to v p;
@@ -68,7 +78,8 @@ taken_as v p e = record {
 
 -- what the answer says of the frame
 Judged : List Msg → ℕ → Heard → Packet → Type 0
-Judged given last Next p = (m : Msg) × (p.body ≡ Some m) × (slice_get given last ≡ Some m) × AcksUpTo (last + 1) (ack_of p)
+Judged given last Next p = (m : Msg) × (p.body ≡ Some m) × (slice_get given last ≡ Some m) ×
+    AcksUpTo (last + 1) (ack_of p)
 Judged given last Repeat p = AcksUpTo last (ack_of p)
 Judged given last Acked p = Unit {0}
 Judged given last Unnumbered p = Unit {0}
@@ -93,7 +104,8 @@ unchanged x y p f = record {
   acks = rw append-nil f.acks;
 }
 
-flow-taken : (x y : HopEnd) (v : Heard) (p : Packet) → Judged x.given y.hop.handed_up v p → Flow x y → Flow x (taken_as v p y)
+flow-taken : (x y : HopEnd) (v : Heard) (p : Packet) → Judged x.given y.hop.handed_up v p → Flow x y →
+    Flow x (taken_as v p y)
 unfolding Judged taken_as
 flow-taken x y Next p j f =
     let less : y.hop.handed_up < length x.given = get_within x.given y.hop.handed_up j.0 j.2 in
@@ -105,7 +117,8 @@ flow-taken x y Next p j f =
       waiting = f.waiting;
       kept = λ k m there above. f.kept k m there (omega arith);
       acks = each-append (AcksUpTo (y.hop.handed_up + 1)) y.frames (ack_of p ∷ [])
-          (each-more (AcksUpTo y.hop.handed_up) (AcksUpTo (y.hop.handed_up + 1)) (acks-more y.hop.handed_up (y.hop.handed_up + 1) (omega arith)) y.frames f.acks)
+          (each-more (AcksUpTo y.hop.handed_up) (AcksUpTo (y.hop.handed_up + 1))
+          (acks-more y.hop.handed_up (y.hop.handed_up + 1) (omega arith)) y.frames f.acks)
           (j.3, tt);
     }
 flow-taken x y Repeat p j f = record {
@@ -121,32 +134,42 @@ flow-taken x y Acked p j f = unchanged x y p f
 flow-taken x y Unnumbered p j f = unchanged x y p f
 flow-taken x y Ahead p j f = unchanged x y p f
 
-acks-ack : (last : ℕ) (id : MsgId) (acks : List MsgId) (body : Option Msg) → id.number ≤ last → AcksUpTo last (ack_of (record { id = Some id; acks = acks; body = body }))
+acks-ack : (last : ℕ) (id : MsgId) (acks : List MsgId) (body : Option Msg) → id.number ≤ last →
+    AcksUpTo last (ack_of (record { id = Some id; acks = acks; body = body }))
 acks-ack last id acks body low = record { up_to = λ number acked. grind arith }
 
-judged-next : (last epoch number : ℕ) → heard_number last (record { epoch = epoch; number = number }) ≡ Next → number ≡ last + 1
+judged-next : (last epoch number : ℕ) → heard_number last (record { epoch = epoch; number = number }) ≡ Next →
+    number ≡ last + 1
 judged-next last epoch number h = grind arith
 
-judged-repeat : (last epoch number : ℕ) → heard_number last (record { epoch = epoch; number = number }) ≡ Repeat → number ≤ last
+judged-repeat : (last epoch number : ℕ) → heard_number last (record { epoch = epoch; number = number }) ≡ Repeat →
+    number ≤ last
 judged-repeat last epoch number h = grind arith
 
-judged-number : (given : List Msg) (last : ℕ) (id : MsgId) (acks : List MsgId) (m : Msg) (v : Heard) → heard_number last id ≡ v → IsNumbered given id.number m →
+judged-number : (given : List Msg) (last : ℕ) (id : MsgId) (acks : List MsgId) (m : Msg) (v : Heard) →
+    heard_number last id ≡ v → IsNumbered given id.number m →
     Judged given last v (record { id = Some id; acks = acks; body = Some m })
 unfolding Judged
 judged-number given last id acks m Next h f =
     let is_next : id.number ≡ last + 1 = judged-next last id.epoch id.number h in
-    let at_last : f.place ≡ last = let place : id.number ≡ f.place + 1 = f.number in omega arith in
-    (m, refl, subst (λ k. slice_get given k ≡ Some m) at_last f.message, acks-ack (last + 1) id acks (Some m) (omega arith))
+    let at_last : f.place ≡ last = let place : id.number ≡ f.place + 1 = f.number in omega arith in (
+      m,
+      refl,
+      subst (λ k. slice_get given k ≡ Some m) at_last f.message,
+      acks-ack (last + 1) id acks (Some m) (omega arith),
+    )
 judged-number given last id acks m Repeat h f = acks-ack last id acks (Some m) (judged-repeat last id.epoch id.number h)
 judged-number given last id acks m Acked h f = tt
 judged-number given last id acks m Unnumbered h f = tt
 judged-number given last id acks m Ahead h f = tt
 
-by_parts : (x y : HopEnd) (id : Option MsgId) (acks : List MsgId) (body : Option Msg) → IsOwn x.given (record { id = id; acks = acks; body = body }) → Flow x y →
+by_parts : (x y : HopEnd) (id : Option MsgId) (acks : List MsgId) (body : Option Msg) →
+    IsOwn x.given (record { id = id; acks = acks; body = body }) → Flow x y →
     Flow x (takes (Some (record { id = id; acks = acks; body = body })) y)
 unfolding Judged taken_as
 by_parts x y id acks None own f = flow-taken x y Acked (record { id = id; acks = acks; body = None }) tt f
-by_parts x y None acks (Some m) own f = flow-taken x y Unnumbered (record { id = None; acks = acks; body = Some m }) tt f
+by_parts x y None acks (Some m) own f = flow-taken x y Unnumbered
+    (record { id = None; acks = acks; body = Some m }) tt f
 by_parts x y (Some id) acks (Some m) own f =
     flow-taken x y (heard_number y.hop.handed_up id) (record { id = Some id; acks = acks; body = Some m })
     (judged-number x.given y.hop.handed_up id acks m (heard_number y.hop.handed_up id) refl (own.own id m refl refl)) f

@@ -16,4 +16,5 @@ age_after (suc ticks) = older_age (age_after ticks)
 
 -- it goes again 1, 3 and 7 ticks after its first sending, then every 60 ticks, without end
 abbrev pub Rhythm : Type 0
-Rhythm = (ticks : ℕ) → IsTrue (is_due (age_after ticks)) ↔ ((ticks ≡ 1) ⊎ (ticks ≡ 3) ⊎ ((rounds : ℕ) × (ticks ≡ 7 + 60 * rounds)))
+Rhythm = (ticks : ℕ) → IsTrue (is_due (age_after ticks)) ↔
+    ((ticks ≡ 1) ⊎ (ticks ≡ 3) ⊎ ((rounds : ℕ) × (ticks ≡ 7 + 60 * rounds)))

@@ -111,7 +111,12 @@ handed_up_after last Repeat = last
 
 -- after a packet that was heard so, with these acknowledgements
 abbrev pub taken : HopState → Heard → List MsgId → HopState
-taken h v acks = record { sent = h.sent; handed_up = handed_up_after h.handed_up v; unacked = still_unacked acks h.unacked }
+taken h v acks = record {
+  sent = h.sent;
+  handed_up = handed_up_after h.handed_up v;
+  unacked =
+      still_unacked acks h.unacked;
+}
 
 abbrev pub received : HopState → Packet → HopState
 received h p = taken h (heard_as h p) p.acks

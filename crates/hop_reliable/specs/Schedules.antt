@@ -73,7 +73,8 @@ IsInOrder sender receiver = (rest : List Msg) × (receiver.up ++ rest ≡ sender
 -- a message that was sent and isn't handed up is still unacknowledged, so it goes again
 abbrev pub IsKept : HopEnd → HopEnd → Type 0
 IsKept sender receiver =
-    (k : ℕ) (m : Msg) → slice_get sender.given k ≡ Some m → length receiver.up ≤ k → Any (λ w. (w.number ≡ k + 1) × (w.msg ≡ m)) sender.hop.unacked
+    (k : ℕ) (m : Msg) → slice_get sender.given k ≡ Some m → length receiver.up ≤ k →
+    Any (λ w. (w.number ≡ k + 1) × (w.msg ≡ m)) sender.hop.unacked
 
 -- where nothing is unacknowledged, all that was sent was handed up
 abbrev pub IsSettled : HopEnd → HopEnd → Type 0

@@ -115,7 +115,11 @@ impl Hop {
     /// is handed up. `Heard::answer` makes what answers the packet.
     pub fn receive(&mut self, p: &Packet) -> Heard
         ensures heard { result ≡ heard_as self.old.state p.now }
-        ensures state { self.new ≡ record { state = received self.old.state p.now; prepared = self.old.prepared } }
+        ensures state { self.new ≡ record {
+          state = received self.old.state p.now;
+          prepared =
+              self.old.prepared;
+        } }
     {
         let heard = self.hears(p);
         self.take(heard, p.acks.items());
@@ -133,7 +137,11 @@ impl Hop {
     /// Takes a packet that is this, with these acknowledgements: `receive` in two parts.
     pub fn take(&mut self, heard: Heard, acks: &[MsgId])
         requires { heard ≡ Heard.Next → self.old.state.handed_up + 1 < 2 ^ 32 }
-        ensures { self.new ≡ record { state = taken self.old.state heard acks.now; prepared = self.old.prepared } }
+        ensures { self.new ≡ record {
+          state = taken self.old.state heard acks.now;
+          prepared =
+              self.old.prepared;
+        } }
     {
         take_off(&mut self.unacked, acks);
         if heard == Heard::Next {
@@ -144,7 +152,8 @@ impl Hop {
     /// Makes each unacknowledged message a tick older. What comes to the age 1, 3, 7 or 67 goes again, in order of number.
     pub fn tick(&mut self, alloc: Global) -> Result<Vec<Packet>, OutOfMemory>
         ensures due { IfOk result (λ ps. ps.items ≡ resent self.old.state) }
-        ensures ok { OnOk result (self.new ≡ record { state = ticked self.old.state; prepared = self.old.prepared }) }
+        ensures ok { OnOk result
+            (self.new ≡ record { state = ticked self.old.state; prepared = self.old.prepared }) }
         ensures err { OnErr result (self.new ≡ self.old) }
     {
         let due = self.due(alloc)?;
@@ -161,7 +170,11 @@ impl Hop {
 
     /// Makes each unacknowledged message a tick older.
     pub fn age(&mut self)
-        ensures { self.new ≡ record { state = ticked self.old.state; prepared = self.old.prepared } }
+        ensures { self.new ≡ record {
+          state = ticked self.old.state;
+          prepared =
+              self.old.prepared;
+        } }
     {
         age_all(&mut self.unacked);
     }

@@ -1,5 +1,5 @@
 -- The tables of a node at the start, and its owner.
-use Rattle.std.proofs.Common.{◌≡◌, ℕ, Bool, true, false, cond, nat_eq, List, [], ◌∷◌, refl, sym, ap, subst, arith}
+use Rattle.std.proofs.Common.{◌≡◌, ℕ, Bool, true, false, cond, nat_eq, List, [], ◌∷◌, ◌++◌, refl, sym, ap, ◌∙◌, subst, arith, append-nil}
 use Rattle.std.specs.Prelude.{◌||◌, Option, Some, None, drop, filter, find, length, map}
 use Rattle.std.specs.List.{list_any}
 use Rattle.ason_base.specs.declared.ids.Fibre.{Fibre}
@@ -58,6 +58,14 @@ is-local t n = go (find_node t n) refl
         let converts = sym (ap local.converts found) in
         λ i. record { id = record { 0 = number i }; convert = converts i; own = filter (touches n) t.links }
 
+-- as many rows as links
+dropped : {X Y : Type 0} (f : X → Y) (xs : List X) → drop (length xs) (map f xs) ≡ []
+dropped f [] = refl
+dropped f (x ∷ xs) = dropped f xs
+
+none-learnt : {X Y : Type 0} (f : X → Y) (xs : List X) → map f xs ≡ map f xs ++ drop (length xs) (map f xs)
+none-learnt f xs = sym (ap (λ ys. map f xs ++ ys) (dropped f xs) ∙ append-nil (map f xs))
+
 module _ (t : Network) (n : NodeId) (valid : IsTopology t) where
   owner-fits : OwnerFits (local_node t n) (none_claimed t n)
   owner-fits = record {
@@ -78,13 +86,9 @@ module _ (t : Network) (n : NodeId) (valid : IsTopology t) where
     owner = record {
       claims = claims-fit;
       fibres = subst (λ p. OwnerFits p (none_claimed t n)) (sym (is-local t n)) owner-fits;
+      rows = none-learnt row_of (filter (touches n) t.links);
     };
   }
-
--- as many rows as links
-dropped : {X Y : Type 0} (f : X → Y) (xs : List X) → drop (length xs) (map f xs) ≡ []
-dropped f [] = refl
-dropped f (x ∷ xs) = dropped f xs
 
 pub at_start-is : (t : Network) (n : NodeId) (s : LegTable) → s ≡ new_table t n →
     (local_of s ≡ local_node t n) × (state_of s no_call ≡ new_node)

@@ -1,12 +1,12 @@
 -- One change of a leg, and the claims after it.
-use Rattle.std.proofs.Common.{◌≡◌, ◌≤◌, ◌++◌, ℕ, Bool, true, false, not, nat_eq, List, [], ◌∷◌, refl, sym, ap, subst, ◌∙◌}
-use Rattle.std.specs.Prelude.{Option, Some, None, IfSome}
-use Rattle.std.specs.List.{list_any}
+use Rattle.std.proofs.Common.{◌≡◌, ◌≤◌, ◌++◌, ℕ, Bool, true, false, not, List, [], ◌∷◌, refl, sym, ap, subst, ◌∙◌}
+use Rattle.std.specs.Prelude.{◌||◌, Option, Some, None, IfSome}
+use Rattle.std.specs.List.{AllByRecursion, list_any}
 use Rattle.ason_base.specs.declared.ids.Fibre.{Fibre}
 use Rattle.ason_base.specs.declared.ids.Lsp.{Lsp}
 use Rattle.ason_base.specs.declared.tables.Leg.{Leg}
 use Rattle.ason_base.specs.Lsps.{same_lsp}
-use Rattle.link_owner.specs.Claims.{FibreClaims, IsLeast, NoClaim, freed, has, is_of_lsp, working_claim}
+use Rattle.link_owner.specs.Claims.{FibreClaims, IsLeast, NoClaim, freed, has, is_of_lsp}
 use Rattle.link_owner.specs.Owners.{claim_added, claims_of, comes_in, has_label}
 use Rattle.link_owner.specs.declared.claims.Claim.{Claim}
 use Rattle.mesh_rules.specs.Legs.{find_leg, with_leg, without_leg}
@@ -14,10 +14,11 @@ use Rattle.mesh_rules.specs.LocalNodes.{LocalNode}
 use Rattle.mesh_rules.specs.declared.changes.LegChange.{LegChange}
 use Rattle.mesh_rules.specs.declared.changes.LegChange.TheVariants.{Goes, Put}
 use Rattle.mesh_nodes.specs.Order as order
-use Rattle.mesh_nodes.proofs.LegList.{find-with_leg, find-without_leg, same_lsp-refl}
+use Rattle.mesh_nodes.proofs.Cases.{both_right}
+use Rattle.mesh_nodes.proofs.LegList.{find-with_leg, find-without_leg, same_lsp-eq, same_lsp-refl}
 use Rattle.mesh_nodes.proofs.Links.{any-left}
 use Rattle.leg_table.specs.declared.labels.TakenLabel.{TakenLabel}
-use Rattle.leg_table.specs.LegClaims.{ClaimsFit, MayAllEnter, MayBeFirst, MayBeMade, MayClaim, MayEnter, MayTake, OwnerFits, SameFibres, freed_of, kind_here, taken, taken_of}
+use Rattle.leg_table.specs.LegClaims.{ClaimsFit, IsClaimOfLeg, MayAllEnter, MayBeFirst, MayBeMade, MayClaim, MayEnter, MayTake, OwnerFits, SameFibres, first_claim, freed_of, kind_here, taken, taken_of}
 use Rattle.leg_table.proofs.ClaimChanges.{Entered, Left, claimed-fit, freed-fit, left-fit, none-kind}
 use Rattle.leg_table.proofs.OwnerFibres.{comes-kept, labels-kept}
 use Rattle.leg_table.proofs.TakenLabels.{taken-takes}
@@ -78,9 +79,9 @@ claimed-here l legs o fit = go (find_leg l legs) refl
 
 pub entered-fit : (g : Leg) (legs : List Leg) (o : List FibreClaims) (t : TakenLabel) → ClaimsFit legs o →
     taken g ≡ Some t →
-    MayClaim o legs g t → ClaimsFit (with_leg g legs) (claim_added t.fibre (working_claim t.label g.lsp) o)
+    MayClaim o legs g t → ClaimsFit (with_leg g legs) (claim_added t.fibre (first_claim g.role t.label g.lsp) o)
 entered-fit g legs o t fit has may =
-    claimed-fit g legs (with_leg g legs) o t fit (entered-with g legs may.fresh) has may.work may.comes_in
+    claimed-fit g legs (with_leg g legs) o t fit (entered-with g legs may.fresh) has may.first may.comes_in
 
 -- The fibres stay
 
@@ -94,11 +95,10 @@ freed-fibres l (Some t) o = record {
   labels = λ f. labels-kept t.fibre f (freed t.label l (claims_of t.fibre o)) o;
 }
 
-pub claimed-fibres : (l : Lsp) (t : TakenLabel) (o : List FibreClaims) →
-    SameFibres o (claim_added t.fibre (working_claim t.label l) o)
-claimed-fibres l t o = record {
-  fibres = λ f. comes-kept t.fibre f (claims_of t.fibre o ++ working_claim t.label l ∷ []) o;
-  labels = λ f. labels-kept t.fibre f (claims_of t.fibre o ++ working_claim t.label l ∷ []) o;
+pub claimed-fibres : (f : Fibre) (c : Claim) (o : List FibreClaims) → SameFibres o (claim_added f c o)
+claimed-fibres f c o = record {
+  fibres = λ h. comes-kept f h (claims_of f o ++ c ∷ []) o;
+  labels = λ h. labels-kept f h (claims_of f o ++ c ∷ []) o;
 }
 
 pub fibres-then : (a b c : List FibreClaims) → SameFibres a b → SameFibres b c → SameFibres a c
@@ -124,13 +124,13 @@ may-enter p legs o (Put g) rise fit owner may = go (taken g) may
     go (Some t) may =
         let comes : comes_in o t.fibre ≡ true = owner.fibres t.fibre ∙ may.comes_in in
         record {
-          work = may.work;
+          first = may.first;
           fresh = may.fresh;
           comes_in = comes;
           within =
               subst (λ n. t.label ≤ n) (sym (owner.labels t.fibre comes))
-              (usable-within p legs t.fibre t.label may.usable);
-          free = ap not (usable-unclaimed p legs o t.fibre t.label rise fit may.usable);
+              (usable-within p legs g.role g.risks t.fibre t.label may.usable);
+          free = ap not (usable-unclaimed p legs g.role g.risks o t.fibre t.label rise fit may.usable);
         }
 
 no-true : (b : Bool) → not b ≡ true → b ≡ true → ⊥
@@ -141,16 +141,32 @@ is-none : (b : Bool) → (b ≡ true → ⊥) → not b ≡ true
 is-none true f = absurd (f refl)
 is-none false f = refl
 
--- where no claim has the label, no claim of the LSP has it
-pub none-of_lsp : (x : ℕ) (l : Lsp) (claims : List Claim) → NoClaim (has x) claims →
-    not (list_any (is_of_lsp x l) claims) ≡ true
-none-of_lsp x l claims none =
-    is-none (list_any (is_of_lsp x l) claims)
-    (λ h. no-true (list_any (has x) claims) none (any-left (λ c. nat_eq c.label x) (λ c. same_lsp c.lsp l) claims h))
+-- an LSP whose leg takes no label has no claim
+pub none-had : (l : Lsp) (legs : List Leg) (o : List FibreClaims) (f : Fibre) (x : ℕ) → ClaimsFit legs o →
+    taken_of (find_leg l legs) ≡ None → not (has_label o f x l) ≡ true
+none-had l legs o f x fit bare = is-none (has_label o f x l) (none (claims_of f o) (fit.each f))
+  where
+    apart : (c : Claim) → IsClaimOfLeg legs f c → is_of_lsp x l c ≡ true → ⊥
+    apart c of e =
+        let is : c.lsp ≡ l = same_lsp-eq c.lsp l (both_right (has x c) _ e) in
+        let here : kind_here f c.label (find_leg l legs) ≡ Some c.kind =
+        subst (λ k. kind_here f c.label (find_leg k legs) ≡ Some c.kind) is of in
+        let never = kind-none f c.label (find_leg l legs) bare in
+        cc (here, never)
 
-pub none-least : (x : ℕ) (l : Lsp) (claims : List Claim) → NoClaim (has x) claims → IsLeast (has x) claims l → ⊥
-none-least x l claims none least =
-    no-true (list_any (has x) claims) none (any-left (has x) (λ c. same_lsp c.lsp l) claims least.passes)
+    none : (claims : List Claim) → AllByRecursion (IsClaimOfLeg legs f) claims →
+        list_any (is_of_lsp x l) claims ≡ true → ⊥
+    none [] each e = cc e
+    none (c ∷ claims) each e = go (is_of_lsp x l c) refl e (none claims each.1)
+      where
+        go : (b : Bool) → is_of_lsp x l c ≡ b → (b || list_any (is_of_lsp x l) claims) ≡ true →
+            (list_any (is_of_lsp x l) claims ≡ true → ⊥) → ⊥
+        go true h e later = apart c each.0 h
+        go false h e later = later e
+
+pub none-least : (p : Claim → Bool) (l : Lsp) (claims : List Claim) → NoClaim p claims → IsLeast p claims l → ⊥
+none-least p l claims none least =
+    no-true (list_any p claims) none (any-left p (λ c. same_lsp c.lsp l) claims least.passes)
 
 pub may-all-enter : (p : LocalNode) (legs : List Leg) (o : List FibreClaims) (cs : List LegChange) →
     order.LegsRise legs → ClaimsFit legs o →

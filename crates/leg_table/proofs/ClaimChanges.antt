@@ -10,16 +10,16 @@ use Rattle.ason_base.specs.declared.ids.Fibre.{Fibre}
 use Rattle.ason_base.specs.declared.ids.Lsp.{Lsp}
 use Rattle.ason_base.specs.declared.tables.Leg.{Leg}
 use Rattle.ason_base.specs.Lsps.{same_fibre, same_lsp}
-use Rattle.link_owner.specs.Claims.{FibreClaims, freed, is_of_lsp, working_claim}
+use Rattle.link_owner.specs.Claims.{FibreClaims, freed, is_of_lsp}
 use Rattle.link_owner.specs.Owners.{claim_added, claims_of, comes_in, has_label, label_freed}
 use Rattle.link_owner.specs.declared.claims.Claim.{Claim}
 use Rattle.link_owner.specs.declared.claims.ClaimKind.{ClaimKind}
 use Rattle.link_owner.specs.declared.claims.ClaimKind.TheVariants.{Working}
-use Rattle.mesh_rules.specs.Legs.{find_leg, is_work, takes}
+use Rattle.mesh_rules.specs.Legs.{find_leg, takes}
 use Rattle.mesh_nodes.proofs.Cases.{both_right}
 use Rattle.mesh_nodes.proofs.LegList.{same_lsp-eq, same_lsp-refl}
 use Rattle.leg_table.specs.declared.labels.TakenLabel.{TakenLabel}
-use Rattle.leg_table.specs.LegClaims.{ClaimsFit, IsClaimOfLeg, claim_kind, kind_here, taken}
+use Rattle.leg_table.specs.LegClaims.{ClaimsFit, IsClaimOfLeg, claim_kind, first_claim, first_kind, kind_here, taken}
 use Rattle.leg_table.proofs.OwnerFibres.{claimed-comes, claims-elsewhere, claims-there, same_fibre-eq, same_fibre-refl}
 use Rattle.leg_table.proofs.TakenLabels.{none-takes, taken-takes, takes-taken}
 
@@ -90,10 +90,6 @@ kind-of f x g k e = go (takes f x g) refl e
 
 pub none-kind : (f : Fibre) (x : ℕ) (g : Leg) → taken g ≡ None → kind_here f x (Some g) ≡ None
 none-kind f x g e = rw (none-takes g f x e) refl
-
-work-kind : (r : Role) (p : Phase) → is_work r ≡ true → claim_kind r p ≡ Working
-work-kind Work p e = refl
-work-kind Back p e = absurd (cc e)
 
 -- A leg that gives up its label: those of other LSPs stay, and none of this LSP takes one
 
@@ -242,7 +238,7 @@ freed-fit l legs after o k t fit left found has = record {
         put false e =
             subst (λ cs. list_any (is_of_lsp x m) cs ≡ true) (sym (claims-elsewhere t.fibre f rest o e)) was
 
--- A working leg that takes a label: its LSP took none before
+-- A leg that takes a label: its LSP took none before
 
 pub record Entered (g : Leg) (legs after : List Leg) : Type 0 where
   pub others : (m : Lsp) → same_lsp g.lsp m ≡ false → find_leg m after ≡ find_leg m legs
@@ -251,15 +247,15 @@ pub record Entered (g : Leg) (legs after : List Leg) : Type 0 where
 
 pub claimed-fit : (g : Leg) (legs after : List Leg) (o : List FibreClaims) (t : TakenLabel) → ClaimsFit legs o →
     Entered g legs after →
-    taken g ≡ Some t → is_work g.role ≡ true → comes_in o t.fibre ≡ true →
-    ClaimsFit after (claim_added t.fibre (working_claim t.label g.lsp) o)
-claimed-fit g legs after o t fit entered has work comes = record {
+    taken g ≡ Some t → claim_kind g.role g.phase ≡ first_kind g.role → comes_in o t.fibre ≡ true →
+    ClaimsFit after (claim_added t.fibre (first_claim g.role t.label g.lsp) o)
+claimed-fit g legs after o t fit entered has first comes = record {
   each = λ f. go f (same_fibre t.fibre f) refl;
   all = λ f x m h there takes. claimed f x m h (same_lsp g.lsp m) refl there takes;
 }
   where
     c0 : Claim
-    c0 = working_claim t.label g.lsp
+    c0 = first_claim g.role t.label g.lsp
 
     before : List Claim
     before = claims_of t.fibre o
@@ -280,8 +276,8 @@ claimed-fit g legs after o t fit entered has work comes = record {
 
     new : IsClaimOfLeg after t.fibre c0
     new =
-        subst (λ o. kind_here t.fibre t.label o ≡ Some Working) (sym entered.here)
-        (rw (taken-takes g t has) (ap Some (work-kind g.role g.phase work)))
+        subst (λ o. kind_here t.fibre t.label o ≡ Some (first_kind g.role)) (sym entered.here)
+        (rw (taken-takes g t has) (ap Some first))
 
     go : (f : Fibre) (b : Bool) → same_fibre t.fibre f ≡ b →
         AllByRecursion (IsClaimOfLeg after f) (claims_of f o2)

@@ -46,7 +46,8 @@ pub parted : {X : Type 0} (same from : X → Bool) (xs : List X) → InOrder sam
 parted {X} same from xs o i j d le within e = go (same_or_before i j le) (from (get_or xs i d)) refl
   where
     go : (i < j) ⊎ (i ≡ j) → (b : Bool) → from (get_or xs i d) ≡ b → not (from (get_or xs i d)) ≡ true
-    go (inl below) true f = absurd (apart (from (get_or xs j d)) (o.last i j d below within f) (negated (from (get_or xs j d)) e))
+    go (inl below) true f = absurd (apart (from (get_or xs j d)) (o.last i j d below within f)
+        (negated (from (get_or xs j d)) e))
     go (inl below) false f = rw f refl
     go (inr is) b f = subst (λ k. not (from (get_or xs k d)) ≡ true) (sym is) e
 
@@ -83,7 +84,8 @@ found-at same from [] n o place below here = absurd (omega arith)
 found-at same from (x ∷ xs) n o place below here =
     position_at same (x ∷ xs) n
     (position_or_len_is same (x ∷ xs) n x (omega arith)
-    (λ k less. from_fails _ _ (o.reaches (get_or (x ∷ xs) k x)) (fails_before_first from (x ∷ xs) k x (subst (λ m. k < m) place less)))
+    (λ k less. from_fails _ _ (o.reaches (get_or (x ∷ xs) k x))
+    (fails_before_first from (x ∷ xs) k x (subst (λ m. k < m) place less)))
     (λ inside. here x))
     below
 
@@ -93,10 +95,12 @@ pub absent-at : {X : Type 0} (same from : X → Bool) (xs : List X) (n : ℕ) �
     ((d : X) → n < length xs → from (get_or xs n d) ≡ true) → position same xs ≡ None
 absent-at same from [] n o place here passes = refl
 absent-at {X} same from (x ∷ xs) n o place here passes =
-    position_nowhere same (x ∷ xs) (position_or_len_is same (x ∷ xs) (length (x ∷ xs)) x (omega arith) (λ k below. fails k below (cases_lt k n)) (λ inside. absurd (omega arith)))
+    position_nowhere same (x ∷ xs) (position_or_len_is same (x ∷ xs) (length (x ∷ xs)) x (omega arith)
+    (λ k below. fails k below (cases_lt k n)) (λ inside. absurd (omega arith)))
   where
     fails : (k : ℕ) → k < length (x ∷ xs) → (k < n) ⊎ (n ≤ k) → same (get_or (x ∷ xs) k x) ≡ false
-    fails k below (inl less) = from_fails _ _ (o.reaches (get_or (x ∷ xs) k x)) (fails_before_first from (x ∷ xs) k x (subst (λ m. k < m) place less))
+    fails k below (inl less) = from_fails _ _ (o.reaches (get_or (x ∷ xs) k x))
+        (fails_before_first from (x ∷ xs) k x (subst (λ m. k < m) place less))
     fails k below (inr more) = elim (same_or_before n k more) [
       | inl after ↦ o.once n k x after below (passes x (omega (arith, after, below)))
       | inr is ↦ subst (λ m. same (get_or (x ∷ xs) m x) ≡ false) is (here x (omega (arith, is, below)))
@@ -118,7 +122,8 @@ find-place same xs n e = find_at same xs ∙ ap (slice_get xs) (first_place same
 
 past_end : {X : Type 0} (same : X → Bool) (xs : List X) → position same xs ≡ None → length xs ≤ position_or_len same xs
 past_end same xs e =
-    let far : nat_lt (position_or_len same xs) (length xs) ≡ false = none_is (nat_lt (position_or_len same xs) (length xs)) (position_or_len same xs) e in
+    let far : nat_lt (position_or_len same xs) (length xs) ≡ false =
+    none_is (nat_lt (position_or_len same xs) (length xs)) (position_or_len same xs) e in
     grind arith
   where
     none_is : (b : Bool) (n : ℕ) → cond b (Some n) None ≡ None → b ≡ false
@@ -139,20 +144,23 @@ filter-all same (x ∷ xs) none =
 
 pub filter-nowhere : {X : Type 0} (same : X → Bool) (xs : List X) → position same xs ≡ None →
     filter (λ x. not (same x)) xs ≡ xs
-filter-nowhere same xs e = filter-all same xs (λ k d below. fails_before_first same xs k d (omega (arith, past_end same xs e, below)))
+filter-nowhere same xs e = filter-all same xs
+    (λ k d below. fails_before_first same xs k d (omega (arith, past_end same xs e, below)))
 
 pub filter-first : {X : Type 0} (same : X → Bool) (xs : List X) →
     ((i j : ℕ) (d : X) → i < j → j < length xs → same (get_or xs i d) ≡ true → same (get_or xs j d) ≡ false) →
     position_or_len same xs < length xs → filter (λ x. not (same x)) xs ≡ remove xs (position_or_len same xs)
 filter-first same [] once below = absurd (omega arith)
-filter-first {X} same (x ∷ xs) once below = go (same x) refl below (filter-first same xs (λ i j d less within e. once (suc i) (suc j) d (omega arith) (omega arith) e))
+filter-first {X} same (x ∷ xs) once below = go (same x) refl below
+    (filter-first same xs (λ i j d less within e. once (suc i) (suc j) d (omega arith) (omega arith) e))
   where
     n : ℕ
     n = position_or_len same xs
 
     go : (b : Bool) → same x ≡ b → cond (not b) (1 + n) 0 < length (x ∷ xs) →
         (n < length xs → filter (λ y. not (same y)) xs ≡ remove xs n) →
-        cond (not b) (x ∷ filter (λ y. not (same y)) xs) (filter (λ y. not (same y)) xs) ≡ remove (x ∷ xs) (cond (not b) (1 + n) 0)
+        cond (not b) (x ∷ filter (λ y. not (same y)) xs) (filter (λ y. not (same y)) xs) ≡ remove (x ∷ xs)
+        (cond (not b) (1 + n) 0)
     go true e less later = filter-all same xs (λ k d within. once 0 (suc k) d (omega arith) (omega arith) e)
     go false e less later = rw (one_more n) (ap (λ ys. x ∷ ys) (later (omega (arith, less))))
 
@@ -163,7 +171,8 @@ filter-at same xs i d o e =
     let first = first_place same xs i e in
     let within = (position-Some same xs i d e).0 in
     subst (λ n. filter (λ x. not (same x)) xs ≡ remove xs n) first
-    (filter-first same xs (λ a b d less below here. o.once a b d less below (o.reaches (get_or xs a d) here)) (subst (λ n. n < length xs) (sym first) within))
+    (filter-first same xs (λ a b d less below here. o.once a b d less below (o.reaches (get_or xs a d) here))
+    (subst (λ n. n < length xs) (sym first) within))
 
 -- One changed
 
@@ -178,7 +187,8 @@ changed-first {X} same change (x ∷ xs) d below = go (same x) below (changed-fi
 
     go : (b : Bool) → cond (not b) (1 + n) 0 < length (x ∷ xs) →
         (n < length xs → set xs n (change (get_or xs n d)) ≡ first_changed same change xs) →
-        set (x ∷ xs) (cond (not b) (1 + n) 0) (change (get_or (x ∷ xs) (cond (not b) (1 + n) 0) d)) ≡ cond b (change x ∷ xs) (x ∷ first_changed same change xs)
+        set (x ∷ xs) (cond (not b) (1 + n) 0) (change (get_or (x ∷ xs) (cond (not b) (1 + n) 0) d)) ≡ cond b
+        (change x ∷ xs) (x ∷ first_changed same change xs)
     go true less later = refl
     go false less later = rw (one_more n) (ap (λ ys. x ∷ ys) (later (omega (arith, less))))
 
@@ -186,11 +196,13 @@ pub changed-at : {X : Type 0} (same : X → Bool) (change : X → X) (xs : List 
     position same xs ≡ Some i → x ≡ get_or xs i x → set xs i (change x) ≡ first_changed same change xs
 changed-at same change xs i x e is =
     ap (λ y. set xs i (change y)) is
-    ∙ subst (λ n. n < length xs → set xs n (change (get_or xs n x)) ≡ first_changed same change xs) (first_place same xs i e) (changed-first same change xs x) (position-Some same xs i x e).0
+    ∙ subst (λ n. n < length xs → set xs n (change (get_or xs n x)) ≡ first_changed same change xs)
+    (first_place same xs i e) (changed-first same change xs x) (position-Some same xs i x e).0
 
 pub changed-nowhere : {X : Type 0} (same : X → Bool) (change : X → X) (xs : List X) → position same xs ≡ None →
     first_changed same change xs ≡ xs
-changed-nowhere {X} same change xs e = all xs (λ k d below. fails_before_first same xs k d (omega (arith, past_end same xs e, below)))
+changed-nowhere {X} same change xs e = all xs
+    (λ k d below. fails_before_first same xs k d (omega (arith, past_end same xs e, below)))
   where
     all : (ys : List X) → ((k : ℕ) (d : X) → k < length ys → same (get_or ys k d) ≡ false) →
         first_changed same change ys ≡ ys
@@ -228,8 +240,10 @@ rises-set {X} R xs i x y is inside pairs to from a b d less within = go (nat_eq 
     go : (p : Bool) → nat_eq a i ≡ p → (q : Bool) → nat_eq b i ≡ q →
         R (get_or (set xs i y) a d) (get_or (set xs i y) b d)
     go true e true f = absurd (let same : a ≡ b = at a e ∙ sym (at b f) in omega arith)
-    go true e false f = pair y (get_or xs b d) (here a e) (there b f) (from (get_or xs b d) (subst (λ u. R u (get_or xs b d)) (before a e) (pairs a b d less long)))
-    go false e true f = pair (get_or xs a d) y (there a e) (here b f) (to (get_or xs a d) (subst (λ u. R (get_or xs a d) u) (before b f) (pairs a b d less long)))
+    go true e false f = pair y (get_or xs b d) (here a e) (there b f)
+        (from (get_or xs b d) (subst (λ u. R u (get_or xs b d)) (before a e) (pairs a b d less long)))
+    go false e true f = pair (get_or xs a d) y (there a e) (here b f)
+        (to (get_or xs a d) (subst (λ u. R (get_or xs a d) u) (before b f) (pairs a b d less long)))
     go false e false f = pair (get_or xs a d) (get_or xs b d) (there a e) (there b f) (pairs a b d less long)
 
 -- A new one
@@ -249,7 +263,8 @@ rises-insert {X} R xs n y le pairs before after i j d less within = go (cases_lt
     here k is = subst (λ m. get_or (insert xs n y) m d ≡ y) (sym is) (get_or-insert_at xs n y d le)
 
     high : (k : ℕ) → n < k → get_or (insert xs n y) k d ≡ get_or xs (k - 1) d
-    high k above = subst (λ m. get_or (insert xs n y) m d ≡ get_or xs (k - 1) d) {x = k - 1 + 1} (omega arith) (get_or-insert_above xs n y d (k - 1) (omega arith) le)
+    high k above = subst (λ m. get_or (insert xs n y) m d ≡ get_or xs (k - 1) d) {x = k - 1 + 1} (omega arith)
+        (get_or-insert_above xs n y d (k - 1) (omega arith) le)
 
     pair : (x z : X) → get_or (insert xs n y) i d ≡ x → get_or (insert xs n y) j d ≡ z → R x z →
         R (get_or (insert xs n y) i d) (get_or (insert xs n y) j d)
@@ -258,15 +273,20 @@ rises-insert {X} R xs n y le pairs before after i j d less within = go (cases_lt
     go : (i < n) ⊎ (n ≤ i) → (j < n) ⊎ (n ≤ j) → R (get_or (insert xs n y) i d) (get_or (insert xs n y) j d)
     go (inl a) (inl b) = pair (get_or xs i d) (get_or xs j d) (low i a) (low j b) (pairs i j d less (omega arith))
     go (inl a) (inr b) = elim (same_or_before n j b) [
-      | inl above ↦ pair (get_or xs i d) (get_or xs (j - 1) d) (low i a) (high j above) (pairs i (j - 1) d (omega (arith, a, above)) (omega (arith, within, longer, above)))
+      | inl above ↦ pair (get_or xs i d) (get_or xs (j - 1) d) (low i a) (high j above)
+          (pairs i (j - 1) d (omega (arith, a, above)) (omega (arith, within, longer, above)))
       | inr is ↦ pair (get_or xs i d) y (low i a) (here j (sym is)) (before i d a)
     ]
     go (inr a) (inl b) = absurd (omega arith)
     go (inr a) (inr b) = elim (same_or_before n i a) [
-      | inl above ↦ pair (get_or xs (i - 1) d) (get_or xs (j - 1) d) (high i above) (high j (omega (arith, above, less))) (pairs (i - 1) (j - 1) d (omega (arith, above, less)) (omega (arith, within, longer, above, less)))
-      | inr is ↦ pair y (get_or xs (j - 1) d) (here i (sym is)) (high j (omega (arith, is, less))) (after (j - 1) d (omega (arith, is, less)) (omega (arith, within, longer, is, less)))
+      | inl above ↦ pair (get_or xs (i - 1) d) (get_or xs (j - 1) d) (high i above)
+          (high j (omega (arith, above, less))) (pairs (i - 1) (j - 1) d (omega (arith, above, less))
+          (omega (arith, within, longer, above, less)))
+      | inr is ↦ pair y (get_or xs (j - 1) d) (here i (sym is)) (high j (omega (arith, is, less)))
+          (after (j - 1) d (omega (arith, is, less)) (omega (arith, within, longer, is, less)))
     ]
 
 pub passes-first : {X : Type 0} (from : X → Bool) (xs : List X) (n : ℕ) (d : X) → n ≡ position_or_len from xs →
     n < length xs → from (get_or xs n d) ≡ true
-passes-first from xs n d place below = subst (λ m. from (get_or xs m d) ≡ true) (sym place) (passes_at_first from xs d (subst (λ m. m < length xs) place below))
+passes-first from xs n d place below = subst (λ m. from (get_or xs m d) ≡ true) (sym place)
+    (passes_at_first from xs d (subst (λ m. m < length xs) place below))

@@ -9,7 +9,7 @@ use Rattle.mesh_nodes.specs.Order as order
 use Rattle.mesh_nodes.proofs.LegList.{all-then}
 use Rattle.leg_table.specs.Tables.{CallsRise, LegsRise}
 
-tail : {X : Type 0} (R : X → X → Type 0) (x : X) (xs : List X) → AllPairs R (x ∷ xs) → AllPairs R xs
+pub tail : {X : Type 0} (R : X → X → Type 0) (x : X) (xs : List X) → AllPairs R (x ∷ xs) → AllPairs R xs
 tail R x xs pairs i j d less within = pairs (suc i) (suc j) d (omega arith) (omega arith)
 
 of_places : {X : Type 0} (P : X → Type 0) (xs : List X) → ((j : ℕ) (d : X) → j < length xs → P (get_or xs j d)) →
@@ -17,7 +17,7 @@ of_places : {X : Type 0} (P : X → Type 0) (xs : List X) → ((j : ℕ) (d : X)
 of_places P [] f = tt
 of_places P (x ∷ xs) f = (f 0 x (omega arith), of_places P xs (λ j d within. f (suc j) d (omega arith)))
 
-head : {X : Type 0} (R : X → X → Type 0) (x : X) (xs : List X) → AllPairs R (x ∷ xs) → AllByRecursion (R x) xs
+pub head : {X : Type 0} (R : X → X → Type 0) (x : X) (xs : List X) → AllPairs R (x ∷ xs) → AllByRecursion (R x) xs
 head R x xs pairs = of_places (R x) xs (λ j d within. pairs 0 (suc j) d (omega arith) (omega arith))
 
 at_place : {X : Type 0} (P : X → Type 0) (xs : List X) (j : ℕ) (d : X) → AllByRecursion P xs → j < length xs →

@@ -5,6 +5,11 @@ mod Halved
 pub mod InFibres
 pub mod LegOrder
 pub mod MayPut
+mod CallIndexes
+mod CallsByLsp
+mod IndexChanges
+mod LspIndex
+mod LspOrder
 mod NewPlaces
 mod Orders
 pub mod OwnLegs

@@ -5,7 +5,9 @@ use Rattle.ason_base.specs.Labels.{has, least, meet}
 use Rattle.ason_base.proofs.MaskMembers.{has-filter}
 use Rattle.ason_base.specs.declared.calls.Phase.{Phase}
 use Rattle.ason_base.specs.declared.calls.Phase.TheVariants as phase
+use Rattle.ason_base.specs.declared.calls.Role.{Role}
 use Rattle.ason_base.specs.declared.ids.Fibre.{Fibre}
+use Rattle.ason_base.specs.declared.risks.Risk.{Risk}
 use Rattle.ason_base.specs.declared.tables.Leg.{Leg}
 use Rattle.mesh_rules.specs.Legs.{closed, is_asked, is_beyond_asked, usable}
 use Rattle.mesh_rules.specs.LocalNodes.{LocalNode}
@@ -19,10 +21,10 @@ least-has [] x e = absurd (cc e)
 least-has (y ∷ xs) x e = let is : y ≡ x = cc in let test : nat_eq y x ≡ true = grind arith in rw test refl
 
 -- the label of a set that is met by usable ones
-pub met-usable : (p : LocalNode) (legs : List Leg) (f : Fibre) (set : List ℕ) (x : ℕ) →
-    has (meet set (usable p legs f)) x ≡ true → has (usable p legs f) x ≡ true
-met-usable p legs f set x h =
-    both_right (has set x) (has (usable p legs f) x) (sym (has-filter (has (usable p legs f)) set x) ∙ h)
+pub met-usable : (p : LocalNode) (legs : List Leg) (r : Role) (risks : List Risk) (f : Fibre) (set : List ℕ) (x : ℕ) →
+    has (meet set (usable p legs r risks f)) x ≡ true → has (usable p legs r risks f) x ≡ true
+met-usable p legs r risks f set x h =
+    let all = usable p legs r risks f in both_right (has set x) (has all x) (sym (has-filter (has all) set x) ∙ h)
 
 -- Legs
 

@@ -1,21 +1,18 @@
--- A new leg and a new call in their places.
-use Rattle.std.proofs.Common.{◌≡◌, ◌≤◌, ◌<◌, ℕ, zero, suc, Bool, true, false, cond, nat_eq, nat_lt, List, [], ◌∷◌, length, get_or, refl, sym, subst, arith, inl, inr}
-use Rattle.std.specs.Prelude.{◌||◌, nat_le, IsTrue, Some, None, Result, Ok, Err, OnOk, OnErr, find, insert, slice_get}
+-- A new leg in its place.
+use Rattle.std.proofs.Common.{◌≡◌, ◌≤◌, ◌<◌, ℕ, zero, suc, Bool, true, false, cond, List, [], ◌∷◌, length, get_or, refl, sym, subst, arith, inl, inr}
+use Rattle.std.specs.Prelude.{◌||◌, IsTrue, Some, None, Result, Ok, Err, OnOk, OnErr, find, insert, slice_get}
 use Rattle.std.specs.List.{list_any, position_or_len}
 use Rattle.std.proofs.lemmas.Bool.{cases_lt}
 use Rattle.std.proofs.lemmas.List.Sums.{fails_before_first}
-use Rattle.ason_base.specs.declared.tables.CallRec.{CallRec}
 use Rattle.ason_base.specs.declared.tables.Leg.{Leg}
-use Rattle.ason_base.specs.declared.ids.CallNo.{CallNo}
 use Rattle.ason_base.specs.declared.ids.Lsp.{Lsp}
 use Rattle.ason_base.specs.Lsps.{lsp_before, same_lsp}
-use Rattle.mesh_rules.specs.Calls.{find_call, has_number, is_call_at_or_after, with_call}
 use Rattle.mesh_rules.specs.Legs.{find_leg, has_lsp, is_at_or_after, with_leg}
-use Rattle.leg_table.specs.Tables.{CallsRise, LegsRise, is_of_lsp, is_of_number}
+use Rattle.leg_table.specs.Tables.{LegsRise, is_of_lsp}
 use Rattle.leg_table.proofs.Halved.{InOrder, passes-first, rises-insert}
 use Rattle.mesh_nodes.proofs.LegList.{before-total}
-use Rattle.leg_table.proofs.Orders.{calls_in_order, legs_in_order}
-use Rattle.leg_table.proofs.Places.{with_call-place, with_leg-place}
+use Rattle.leg_table.proofs.Orders.{legs_in_order}
+use Rattle.leg_table.proofs.Places.{with_leg-place}
 
 pub either_way : {T E X : Type 0} (P : X → Type 0) (r : Result T E) (a b new : X) → OnOk r (new ≡ a) →
     OnErr r (new ≡ b) → P a → P b → P new
@@ -52,11 +49,12 @@ or_neither : (a b : Bool) → (a || b) ≡ false → (a ≡ false) × (b ≡ fal
 or_neither true b h = absurd (cc h)
 or_neither false b h = (refl, h)
 
-from_place : {X : Type 0} (same from : X → Bool) (xs : List X) (n k : ℕ) (d : X) → InOrder same from xs →
+pub from_place : {X : Type 0} (same from : X → Bool) (xs : List X) (n k : ℕ) (d : X) → InOrder same from xs →
     n ≡ position_or_len from xs → n ≤ k → k < length xs → from (get_or xs k d) ≡ true
 from_place same from xs n k d o place le below = elim (cases_lt n k) [
   | inl less ↦ o.last n k d less below (passes-first from xs n d place (omega (arith, less, below)))
-  | inr more ↦ (let is : n ≡ k = omega (arith, le, more) in subst (λ m. from (get_or xs m d) ≡ true) is (passes-first from xs n d place (omega (arith, is, below))))
+  | inr more ↦ (let is : n ≡ k = omega (arith, le, more) in subst (λ m. from (get_or xs m d) ≡ true) is
+      (passes-first from xs n d place (omega (arith, is, below))))
 ]
 
 -- Legs
@@ -81,45 +79,10 @@ pub leg-rises : (g : Leg) (legs : List Leg) (n : ℕ) → LegsRise legs → n �
 leg-rises g legs n rises place within none =
     rises-insert (λ a b. IsTrue (lsp_before a.lsp b.lsp)) legs n g within rises
     (λ k d less.
-    let fails = or_neither (same_lsp (get_or legs k d).lsp g.lsp) _ (fails_before_first (is_at_or_after g.lsp) legs k d (subst (λ m. k < m) place less)) in
+    let fails = or_neither (same_lsp (get_or legs k d).lsp g.lsp) _
+    (fails_before_first (is_at_or_after g.lsp) legs k d (subst (λ m. k < m) place less)) in
     before-total g.lsp (get_or legs k d).lsp fails.0 fails.1)
     (λ k d le below.
     or_second (same_lsp (get_or legs k d).lsp g.lsp) _
     (from_place (is_of_lsp g.lsp) (is_at_or_after g.lsp) legs n k d (legs_in_order g.lsp legs rises) place le below)
     (unlike (is_of_lsp g.lsp) legs k d none below))
-
--- Calls
-
-unnumbered : (n : CallNo) (calls : List CallRec) (k : ℕ) → find_call n calls ≡ None →
-    has_number (slice_get calls k) n ≡ false
-unnumbered n [] k e = refl
-unnumbered n (c ∷ calls) k e = go (nat_eq c.call.0 n.0) refl e k (λ j f. unnumbered n calls j f)
-  where
-    go : (b : Bool) → nat_eq c.call.0 n.0 ≡ b → cond b (Some c) (find_call n calls) ≡ None → (k : ℕ) →
-        ((j : ℕ) → find_call n calls ≡ None → has_number (slice_get calls j) n ≡ false) →
-        has_number (slice_get (c ∷ calls) k) n ≡ false
-    go true is f k later = absurd (cc f)
-    go false is f zero later = is
-    go false is f (suc k) later = later k f
-
-below_number : (n a : ℕ) → nat_le n a ≡ false → nat_lt a n ≡ true
-below_number n a e = grind arith
-
-above_number : (n a : ℕ) → nat_le n a ≡ true → nat_eq a n ≡ false → nat_lt n a ≡ true
-above_number n a e f = grind arith
-
-pub call-inserted : (c : CallRec) (calls : List CallRec) (n : ℕ) →
-    n ≡ position_or_len (is_call_at_or_after c.call) calls → find_call c.call calls ≡ None →
-    insert calls n c ≡ with_call c calls
-call-inserted c calls n place none = rw (with_call-place c calls, ← place, unnumbered c.call calls n none) refl
-
-pub call-rises : (c : CallRec) (calls : List CallRec) (n : ℕ) → CallsRise calls →
-    n ≡ position_or_len (is_call_at_or_after c.call) calls → n ≤ length calls → find_call c.call calls ≡ None →
-    CallsRise (insert calls n c)
-call-rises c calls n rises place within none =
-    rises-insert (λ a b. IsTrue (nat_lt a.call.0 b.call.0)) calls n c within rises
-    (λ k d less. below_number c.call.0 (get_or calls k d).call.0 (fails_before_first (is_call_at_or_after c.call) calls k d (subst (λ m. k < m) place less)))
-    (λ k d le below.
-    above_number c.call.0 (get_or calls k d).call.0
-    (from_place (is_of_number c.call) (is_call_at_or_after c.call) calls n k d (calls_in_order c.call calls rises) place le below)
-    (unlike (is_of_number c.call) calls k d none below))

@@ -33,8 +33,10 @@ after l a b h less = go (same_lsp a l) refl h
 pub legs_in_order : (l : Lsp) (legs : List Leg) → LegsRise legs → InOrder (is_of_lsp l) (is_at_or_after l) legs
 legs_in_order l legs rises = record {
   reaches = λ g e. or_left (same_lsp g.lsp l) (lsp_before l g.lsp) e;
-  last = λ i j d less within e. or_right (same_lsp (get_or legs j d).lsp l) _ (after l (get_or legs i d).lsp (get_or legs j d).lsp e (rises i j d less within));
-  once = λ i j d less within e. before-apart l (get_or legs j d).lsp (after l (get_or legs i d).lsp (get_or legs j d).lsp e (rises i j d less within));
+  last = λ i j d less within e. or_right (same_lsp (get_or legs j d).lsp l) _
+      (after l (get_or legs i d).lsp (get_or legs j d).lsp e (rises i j d less within));
+  once = λ i j d less within e. before-apart l (get_or legs j d).lsp
+      (after l (get_or legs i d).lsp (get_or legs j d).lsp e (rises i j d less within));
 }
 
 number_after : (n a b : ℕ) → nat_le n a ≡ true → nat_lt a b ≡ true → nat_le n b ≡ true
@@ -50,6 +52,8 @@ pub calls_in_order : (n : CallNo) (calls : List CallRec) → CallsRise calls →
     InOrder (is_of_number n) (is_call_at_or_after n) calls
 calls_in_order n calls rises = record {
   reaches = λ c e. number_reaches n.0 c.call.0 e;
-  last = λ i j d less within e. number_after n.0 (get_or calls i d).call.0 (get_or calls j d).call.0 e (rises i j d less within);
-  once = λ i j d less within e. number_apart n.0 (get_or calls i d).call.0 (get_or calls j d).call.0 e (rises i j d less within);
+  last = λ i j d less within e. number_after n.0 (get_or calls i d).call.0 (get_or calls j d).call.0 e
+      (rises i j d less within);
+  once = λ i j d less within e. number_apart n.0 (get_or calls i d).call.0 (get_or calls j d).call.0 e
+      (rises i j d less within);
 }

@@ -47,7 +47,9 @@ cons-cond false x xs ys = refl
 -- Legs
 
 pub with_leg-place : (g : Leg) (legs : List Leg) →
-    with_leg g legs ≡ cond (has_lsp (slice_get legs (position_or_len (is_at_or_after g.lsp) legs)) g.lsp) (set legs (position_or_len (is_at_or_after g.lsp) legs) g) (insert legs (position_or_len (is_at_or_after g.lsp) legs) g)
+    with_leg g legs ≡ cond (has_lsp (slice_get legs (position_or_len (is_at_or_after g.lsp) legs)) g.lsp)
+    (set legs (position_or_len (is_at_or_after g.lsp) legs) g)
+    (insert legs (position_or_len (is_at_or_after g.lsp) legs) g)
 with_leg-place g [] = refl
 with_leg-place g (h ∷ legs) = go (with_leg-place g legs) (same_lsp h.lsp g.lsp) (lsp_before g.lsp h.lsp) refl
   where
@@ -56,10 +58,13 @@ with_leg-place g (h ∷ legs) = go (with_leg-place g legs) (same_lsp h.lsp g.lsp
 
     go : with_leg g legs ≡ cond (has_lsp (slice_get legs n) g.lsp) (set legs n g) (insert legs n g) → (a b : Bool) →
         same_lsp h.lsp g.lsp ≡ a →
-        cond a (g ∷ legs) (cond b (g ∷ h ∷ legs) (h ∷ with_leg g legs)) ≡ cond (has_lsp (slice_get (h ∷ legs) (cond (not (a || b)) (1 + n) 0)) g.lsp) (set (h ∷ legs) (cond (not (a || b)) (1 + n) 0) g) (insert (h ∷ legs) (cond (not (a || b)) (1 + n) 0) g)
+        cond a (g ∷ legs) (cond b (g ∷ h ∷ legs) (h ∷ with_leg g legs)) ≡ cond
+        (has_lsp (slice_get (h ∷ legs) (cond (not (a || b)) (1 + n) 0)) g.lsp)
+        (set (h ∷ legs) (cond (not (a || b)) (1 + n) 0) g) (insert (h ∷ legs) (cond (not (a || b)) (1 + n) 0) g)
     go rest true b e = rw e refl
     go rest false true e = rw e refl
-    go rest false false e = rw (one_more n, rest) (cons-cond (has_lsp (slice_get legs n) g.lsp) h (set legs n g) (insert legs n g))
+    go rest false false e = rw (one_more n, rest)
+        (cons-cond (has_lsp (slice_get legs n) g.lsp) h (set legs n g) (insert legs n g))
 
 -- Calls
 
@@ -71,19 +76,26 @@ below_or_above : (a b : ℕ) → nat_eq a b ≡ false → nat_le b a ≡ nat_lt 
 below_or_above a b e = grind arith
 
 pub with_call-place : (c : CallRec) (calls : List CallRec) →
-    with_call c calls ≡ cond (has_number (slice_get calls (position_or_len (is_call_at_or_after c.call) calls)) c.call) (set calls (position_or_len (is_call_at_or_after c.call) calls) c) (insert calls (position_or_len (is_call_at_or_after c.call) calls) c)
+    with_call c calls ≡ cond (has_number (slice_get calls (position_or_len (is_call_at_or_after c.call) calls))
+    c.call) (set calls (position_or_len (is_call_at_or_after c.call) calls) c)
+    (insert calls (position_or_len (is_call_at_or_after c.call) calls) c)
 with_call-place c [] = refl
-with_call-place c (d ∷ calls) = go (with_call-place c calls) (nat_eq d.call.0 c.call.0) refl (nat_lt c.call.0 d.call.0) refl
+with_call-place c (d ∷ calls) = go (with_call-place c calls) (nat_eq d.call.0 c.call.0) refl
+    (nat_lt c.call.0 d.call.0) refl
   where
     n : ℕ
     n = position_or_len (is_call_at_or_after c.call) calls
 
     go : with_call c calls ≡ cond (has_number (slice_get calls n) c.call) (set calls n c) (insert calls n c) →
         (a : Bool) → nat_eq d.call.0 c.call.0 ≡ a → (b : Bool) → nat_lt c.call.0 d.call.0 ≡ b →
-        cond a (c ∷ calls) (cond b (c ∷ d ∷ calls) (d ∷ with_call c calls)) ≡ cond (has_number (slice_get (d ∷ calls) (cond (not (nat_le c.call.0 d.call.0)) (1 + n) 0)) c.call) (set (d ∷ calls) (cond (not (nat_le c.call.0 d.call.0)) (1 + n) 0) c) (insert (d ∷ calls) (cond (not (nat_le c.call.0 d.call.0)) (1 + n) 0) c)
+        cond a (c ∷ calls) (cond b (c ∷ d ∷ calls) (d ∷ with_call c calls)) ≡ cond
+        (has_number (slice_get (d ∷ calls) (cond (not (nat_le c.call.0 d.call.0)) (1 + n) 0)) c.call)
+        (set (d ∷ calls) (cond (not (nat_le c.call.0 d.call.0)) (1 + n) 0) c)
+        (insert (d ∷ calls) (cond (not (nat_le c.call.0 d.call.0)) (1 + n) 0) c)
     go rest true e b f = rw (at_or_above d.call.0 c.call.0 e, e) refl
     go rest false e true f = rw (below_or_above d.call.0 c.call.0 e, f, e) refl
-    go rest false e false f = rw (below_or_above d.call.0 c.call.0 e, f, one_more n, rest) (cons-cond (has_number (slice_get calls n) c.call) d (set calls n c) (insert calls n c))
+    go rest false e false f = rw (below_or_above d.call.0 c.call.0 e, f, one_more n, rest)
+        (cons-cond (has_number (slice_get calls n) c.call) d (set calls n c) (insert calls n c))
 
 -- Put at the place
 

@@ -8,7 +8,10 @@ use Rattle.ason_base.specs.declared.codes.ErrCode.{ErrCode}
 use Rattle.ason_base.specs.declared.commands.DeskItem.{DeskItem}
 use Rattle.ason_base.specs.declared.commands.DeskItem.TheVariants.{Order, Alarm, Clear}
 use Rattle.ason_base.specs.declared.commands.Command.TheVariants.{Setup, Release, Protect, Retry, Revert, Fail, Repair}
+use Rattle.ason_base.specs.declared.calls.Role.{Role}
+use Rattle.ason_base.specs.declared.calls.Role.TheVariants.{Work, Back}
 use Rattle.ason_base.specs.declared.ids.Fibre.{Fibre}
+use Rattle.ason_base.specs.declared.risks.Risk.{Risk}
 use Rattle.ason_base.specs.declared.ids.NodeId.{NodeId}
 use Rattle.ason_base.specs.declared.messages.Msg.{Msg}
 use Rattle.ason_base.specs.declared.messages.Msg.TheVariants.{Path, Resv, PathTear, PathErr, Notify}
@@ -25,15 +28,17 @@ use Rattle.ason_base.specs.declared.calls.Cause.TheVariants.{Code}
 use Rattle.mesh_rules.specs.Calls.{blocked, call_of, find_call, is_asking}
 use Rattle.mesh_rules.specs.Calls as calls
 use Rattle.mesh_rules.specs.Changes.{Answer, changes_calls, followed_by, nothing, puts, removes}
-use Rattle.mesh_rules.specs.Legs.{connected, find_leg, following, is_asked, is_closing, is_node, is_over, is_work, leg_of, neighbour_over, previous}
+use Rattle.mesh_rules.specs.Legs.{connected, find_leg, following, is_asked, is_closing, is_node, is_over, leg_of, neighbour_over, previous, reserved}
 use Rattle.mesh_rules.specs.LocalNodes.{LocalNode, fibre_in, leads, own_link}
 use Rattle.mesh_rules.specs.Messages.{arrival, on_message}
 use Rattle.mesh_rules.specs.Orders.{on_item}
 use Rattle.mesh_rules.specs.PathErrs.{PathFailure, call_refused, err_passed, on_path_err, path_err_with}
-use Rattle.mesh_rules.specs.Paths.{PathRequest, admitted, at_egress, checks, first_failure, first_path, in_transit, is_for_work, judged, offered_labels, on_path, path_with}
+use Rattle.mesh_rules.specs.Paths.{PathRequest, admitted, at_egress, checks, egress_leg, first_failure, first_path, in_transit, is_active, judged, offered_labels, on_path, path_with, risks_here, role_of}
 use Rattle.mesh_rules.specs.Releases.{release_with, releases, tears}
 use Rattle.mesh_rules.specs.Resvs.{answered, call_connected, is_expected, label_back, labels_left, on_resv, only, passed_back, resv_with}
-use Rattle.mesh_rules.specs.Setups.{SetupRequest, first_link, is_full, is_order_here, is_spent, new_call, on_setup, over_first, setup_with}
+use Rattle.mesh_rules.specs.KnownRows.{known_rows}
+use Rattle.mesh_rules.specs.LeastRoutes.{Trip, least_trip}
+use Rattle.mesh_rules.specs.Setups.{SetupRequest, first_link, is_full, is_order_here, is_spent, new_call, on_setup, over_first, over_found, setup_with}
 use Rattle.mesh_rules.specs.State.{NodeState}
 use Rattle.mesh_rules.specs.Tears.{on_tear, tear_with, torn}
 use Rattle.mesh_nodes.specs.Kept.{LegFits}
@@ -41,7 +46,7 @@ use Rattle.mesh_nodes.specs.LocalNodes.{is_upstream}
 use Rattle.mesh_nodes.proofs.Cases.{both_left, both_right, if_cases}
 use Rattle.mesh_nodes.proofs.LegList.{found-all, found-lsp}
 use Rattle.mesh_nodes.proofs.Links.{any-found}
-use Rattle.leg_table.specs.LegClaims.{MayBeMade, MayBePut, MayTake, is_fibre_in, taken, taken_of, taken_over}
+use Rattle.leg_table.specs.LegClaims.{MayBeMade, MayBePut, MayTake, claim_kind, first_kind, is_fibre_in, taken, taken_of, taken_over}
 use Rattle.leg_table.proofs.InFibres.{upstream-fibre_in}
 use Rattle.leg_table.proofs.MayPut.{asked-taken, closed-may, closed-taken, least-has, met-usable}
 use Rattle.leg_table.proofs.OwnerFibres.{same_fibre-refl}
@@ -49,10 +54,15 @@ use Rattle.leg_table.proofs.OwnerFibres.{same_fibre-refl}
 abbrev Fine : LocalNode → List Leg → Answer → Type 0
 Fine p legs a = MayBeMade p legs a.legs
 
+-- a leg that gets its label takes it, if it has a fibre in
+reserved-taken : (r : Role) (g : Leg) → g.phase ≡ reserved r → taken g ≡ taken_over g.in_fibre g.in_label
+reserved-taken Work g is = rw is refl
+reserved-taken Back g is = rw is refl
+
 -- Legs that take no label
 
 begun-none : (g : Leg) (x : ℕ) → taken (connected g None x) ≡ None
-begun-none g x = go g.in_fibre
+begun-none g x = reserved-taken g.role (connected g None x) refl ∙ go g.in_fibre
   where
     go : (i : Option Fibre) → taken_over i None ≡ None
     go None = refl
@@ -60,6 +70,11 @@ begun-none g x = go g.in_fibre
 
 bare : (p : LocalNode) (legs : List Leg) (g : Leg) → taken g ≡ None → MayBePut p legs g
 bare p legs g e = subst (λ t. IfSome t (MayTake p legs g)) (sym e) tt
+
+-- a leg that gets its label has the claim that a leg has at first
+reserved-kind : (r : Role) → claim_kind r (reserved r) ≡ first_kind r
+reserved-kind Work = refl
+reserved-kind Back = refl
 
 -- Labels
 
@@ -81,29 +96,40 @@ own-in p m link own =
     (same_fibre-refl (fibre_in link p.id))
 
 module _ (p : LocalNode) (s : NodeState) (m : PathRequest) (absent : find_leg m.arrival.lsp s.legs ≡ None) where
+  -- the leg at the egress takes its label
+  egress-taken : (link : LinkSpec) (offered : List ℕ) (x : ℕ) →
+      MayTake p s.legs (egress_leg p m link (risks_here p s m) offered x)
+      (record { fibre = fibre_in link p.id; label = x }) →
+      MayBePut p s.legs (egress_leg p m link (risks_here p s m) offered x)
+  egress-taken link offered x may =
+      let g = egress_leg p m link (risks_here p s m) offered x in
+      subst (λ o. IfSome o (MayTake p s.legs g)) (sym (reserved-taken (role_of m.role) g refl)) may
+
   egress-may : (link : LinkSpec) (o : Option ℕ) → own_link p m.arrival.link ≡ Some link →
       least (offered_labels p s m link) ≡ o →
-      MayBeMade p s.legs (at_egress p m link (offered_labels p s m link) o).legs
+      MayBeMade p s.legs (at_egress p m link (risks_here p s m) (offered_labels p s m link) o).legs
   egress-may link None own e = tt
   egress-may link (Some x) own e = (
-    record {
-      work = refl;
+    egress-taken link (offered_labels p s m link) x (record {
+      first = reserved-kind (role_of m.role);
       fresh = ap taken_of absent;
       comes_in = own-in p m link own;
-      usable = met-usable p s.legs (fibre_in link p.id) m.set x (least-has (offered_labels p s m link) x e);
-    },
+      usable = met-usable p s.legs (role_of m.role) (risks_here p s m) (fibre_in link p.id) m.set x
+          (least-has (offered_labels p s m link) x e);
+    }),
     tt,
   )
 
-  transit-may : (link : LinkSpec) (route : List Step) (offered : List ℕ) (o : Option LinkSpec) →
-      MayBeMade p s.legs (in_transit p m link route offered o).legs
-  transit-may link route offered None = tt
-  transit-may link route offered (Some out) = (tt, tt)
+  transit-may : (link : LinkSpec) (risks : List Risk) (route : List Step) (offered : List ℕ) (o : Option LinkSpec) →
+      MayBeMade p s.legs (in_transit p m link risks route offered o).legs
+  transit-may link risks route offered None = tt
+  transit-may link risks route offered (Some out) = (tt, tt)
 
   admitted-may : (link : LinkSpec) (route : List Step) → own_link p m.arrival.link ≡ Some link →
-      MayBeMade p s.legs (admitted p m link (offered_labels p s m link) route).legs
+      MayBeMade p s.legs (admitted p m link (risks_here p s m) (offered_labels p s m link) route).legs
   admitted-may link [] own = egress-may link (least (offered_labels p s m link)) own refl
-  admitted-may link (hop ∷ route) own = transit-may link route (offered_labels p s m link) (own_link p hop.link)
+  admitted-may link (hop ∷ route) own =
+      transit-may link (risks_here p s m) route (offered_labels p s m link) (own_link p hop.link)
 
   judged-may : (link : LinkSpec) (o : Option ErrCode) → own_link p m.arrival.link ≡ Some link →
       MayBeMade p s.legs (judged p s m link o).legs
@@ -114,7 +140,8 @@ module _ (p : LocalNode) (s : NodeState) (m : PathRequest) (absent : find_leg m.
   first-may None own = tt
   first-may (Some link) own =
       if_cases (Fine p s.legs)
-      (is_for_work m.role && (leads (Some link) m.arrival.from p.id && not (nat_eq m.arrival.lsp.ingress.0 p.id.0))) _ _
+      (not (is_active m.role) && (leads (Some link) m.arrival.from p.id
+      && not (nat_eq m.arrival.lsp.ingress.0 p.id.0))) _ _
       (λ e. judged-may link (first_failure (checks p s m link)) own) (λ e. tt)
 
 path-with : (p : LocalNode) (s : NodeState) (m : PathRequest) (o : Option Leg) → find_leg m.arrival.lsp s.legs ≡ o →
@@ -163,14 +190,20 @@ beside (Some n) None h e = absurd (cc e)
 beside (Some n) (Some f) h e = let is : record { node = n; fibre = f } ≡ h = cc in ap (λ k. Some k.fibre) is
 
 module _ (p : LocalNode) (s : NodeState) (a : Arrival) (x : ℕ) (g : Leg) (found : find_leg a.lsp s.legs ≡ Some g)
-    (upstream : IfSome (previous g) (λ h. is_upstream p h ≡ true)) (wait : is_asked g.phase ≡ true)
-    (work : is_work g.role ≡ true) where
+    (upstream : IfSome (previous g) (λ h. is_upstream p h ≡ true)) (wait : is_asked g.phase ≡ true) where
+  -- the leg that gets a label takes it
+  passed-taken : (y : ℕ) (h : Neighbour) → g.in_fibre ≡ Some h.fibre →
+      MayTake p s.legs (connected g (Some y) x) (record { fibre = h.fibre; label = y }) →
+      MayBePut p s.legs (connected g (Some y) x)
+  passed-taken y h before may =
+      subst (λ o. IfSome o (MayTake p s.legs (connected g (Some y) x)))
+      (sym (reserved-taken g.role (connected g (Some y) x) refl ∙ ap (λ i. taken_over i (Some y)) before)) may
+
   passed-may : (h : Neighbour) (o : Option ℕ) → previous g ≡ Some h → label_back p (labels_left p s g h) x ≡ o →
       MayBeMade p s.legs (passed_back p a g h x o).legs
   passed-may h None before e = (closed-may p s.legs g, tt)
   passed-may h (Some y) before e = (
-    subst (λ i. IfSome (taken_over i (Some y)) (MayTake p s.legs (connected g (Some y) x)))
-        (sym (beside g.prev g.in_fibre h before)) may,
+    passed-taken y h (beside g.prev g.in_fibre h before) may,
     tt,
   )
     where
@@ -179,10 +212,11 @@ module _ (p : LocalNode) (s : NodeState) (a : Arrival) (x : ℕ) (g : Leg) (foun
 
       may : MayTake p s.legs (connected g (Some y) x) (record { fibre = h.fibre; label = y })
       may = record {
-        work = work;
+        first = reserved-kind g.role;
         fresh = ap taken_of own ∙ asked-taken g wait;
         comes_in = upstream-fibre_in p h (subst (λ o. IfSome o (λ h. is_upstream p h ≡ true)) before upstream);
-        usable = met-usable p s.legs h.fibre g.offered y (label-has p.convert (labels_left p s g h) x y e);
+        usable = met-usable p s.legs g.role g.risks h.fibre g.offered y
+            (label-has p.convert (labels_left p s g h) x y e);
       }
 
   answered-may : (o : Option Neighbour) → previous g ≡ o → MayBeMade p s.legs (answered p s a x g o).legs
@@ -200,9 +234,7 @@ resv-may p s next a x each = go (find_leg a.lsp s.legs) refl
     go (Some g) found =
         if_cases (Fine p s.legs) (is_expected a x g) _ _
         (λ e. answered-may p s a x g found (found-all (LegFits p next) a.lsp s.legs g found each).upstream
-        (both_left (is_asked g.phase) (is_work g.role && (is_over (following g) a.from a.link && has g.sent x)) e)
-        (both_left (is_work g.role) (is_over (following g) a.from a.link && has g.sent x)
-        (both_right (is_asked g.phase) (is_work g.role && (is_over (following g) a.from a.link && has g.sent x)) e))
+        (both_left (is_asked g.phase) (is_over (following g) a.from a.link && has g.sent x) e)
         (previous g) refl)
         (λ e. tt)
 
@@ -241,8 +273,12 @@ setup-may p s w = go (find_call w.call s.calls)
         if_cases (Fine p s.legs) (is_spent s) _ _ (λ e. tt)
         (λ e. if_cases (Fine p s.legs) (is_full s) _ _ (λ e. tt) (λ e. (tt, tt)))
 
+    found : (o : Option Trip) → MayBeMade p s.legs (over_found p s w o).legs
+    found None = tt
+    found (Some r) = over r.steps (first_link p r.steps)
+
     new : (via : Option (List Step)) → MayBeMade p s.legs (new_call p s w via).legs
-    new None = tt
+    new None = found (least_trip (known_rows p s) p.id w.egress)
     new (Some route) = over route (first_link p route)
 
     go : (o : Option CallRec) → MayBeMade p s.legs (setup_with p s w o).legs

@@ -1,27 +1,29 @@
 -- Which labels the legs of a node take, and the claims of its owner that they have (RFC 4872, section 8).
-use Rattle.std.specs.Prelude.{◌≡◌, ◌≤◌, ℕ, Bool, List, [], ◌∷◌, Option, Some, None, IfSome, IsTrue, if◌then◌else◌}
+use Rattle.std.specs.Prelude.{◌≡◌, ◌≤◌, ◌&&◌, ◌++◌, ℕ, Bool, false, not, List, [], ◌∷◌, filter, map, Option, Some, None, IfSome, IsTrue, if◌then◌else◌}
 use Rattle.std.specs.List.{AllByRecursion, list_any}
 use Rattle.ason_base.specs.Labels.{has}
 use Rattle.ason_base.specs.Lsps.{same_fibre}
+use Rattle.ason_base.specs.Network.{row_of}
 use Rattle.ason_base.specs.declared.calls.Phase.{Phase}
 use Rattle.ason_base.specs.declared.calls.Phase.TheVariants as phase
 use Rattle.ason_base.specs.declared.calls.Role.{Role}
 use Rattle.ason_base.specs.declared.calls.Role.TheVariants.{Work, Back}
 use Rattle.ason_base.specs.declared.ids.Fibre.{Fibre}
 use Rattle.ason_base.specs.declared.ids.Lsp.{Lsp}
+use Rattle.ason_base.specs.declared.risks.Risk.{Risk}
 use Rattle.ason_base.specs.declared.tables.Leg.{Leg}
-use Rattle.link_owner.specs.Claims.{FibreClaims, NoClaim}
+use Rattle.link_owner.specs.Claims.{FibreClaims, NoClaim, works_on}
 use Rattle.link_owner.specs.Claims as claims
 use Rattle.link_owner.specs.Owners.{claims_of, comes_in, has_label, label_freed, labels_of}
 use Rattle.link_owner.specs.declared.claims.Claim.{Claim}
 use Rattle.link_owner.specs.declared.claims.ClaimKind.{ClaimKind}
 use Rattle.link_owner.specs.declared.claims.ClaimKind.TheVariants.{Working, Backup, Armed}
-use Rattle.mesh_rules.specs.Legs.{find_leg, is_beyond_asked, is_work, takes, usable}
+use Rattle.mesh_rules.specs.Legs.{find_leg, is_apart, is_beyond_asked, takes, usable}
 use Rattle.mesh_rules.specs.LocalNodes.{LocalNode, fibre_in, own_link}
 use Rattle.mesh_rules.specs.LocalNodes as local
 use Rattle.mesh_rules.specs.declared.changes.LegChange.{LegChange}
 use Rattle.mesh_rules.specs.declared.changes.LegChange.TheVariants.{Goes, Put}
-use Rattle.leg_table.specs.States.{local_of}
+use Rattle.leg_table.specs.States.{learnt_rows, local_of}
 use Rattle.leg_table.specs.Tables.{LegTable}
 use Rattle.leg_table.specs.declared.labels.TakenLabel.{TakenLabel}
 
@@ -40,6 +42,21 @@ abbrev pub taken_of : Option Leg → Option TakenLabel
 taken_of None = None
 taken_of (Some g) = taken g
 
+-- Labels that a backup may share
+
+-- the leg isn't a backup whose primary has none of these risks
+abbrev pub is_met : List Risk → Option Leg → Bool
+is_met risks None = false
+is_met risks (Some g) = not (is_apart risks g)
+
+-- the claim's leg keeps a backup from its label whose primary has these risks
+abbrev pub is_barred : List Leg → List Risk → ℕ → Claim → Bool
+is_barred legs risks x c = claims.has x c && is_met risks (find_leg c.lsp legs)
+
+-- those of the labels from which no claim keeps such a backup
+abbrev pub left_by : List Leg → List Risk → List Claim → List ℕ → List ℕ
+left_by legs risks claims labels = filter (λ x. not (list_any (is_barred legs risks x) claims)) labels
+
 -- Claims of legs
 
 -- a working leg has its label alone; a backup shares it, and is armed exactly where it is Armed or Live
@@ -48,6 +65,19 @@ claim_kind Work p = Working
 claim_kind Back phase.Armed = Armed
 claim_kind Back phase.Live = Armed
 claim_kind Back p = Backup
+
+-- how a leg has a label at first
+abbrev pub first_kind : Role → ClaimKind
+first_kind Work = Working
+first_kind Back = Backup
+
+abbrev pub first_claim : Role → ℕ → Lsp → Claim
+first_claim r x l = record { label = x; lsp = l; kind = first_kind r }
+
+-- a claim that keeps a leg of this role from the label
+abbrev pub bars : Role → ℕ → Claim → Bool
+bars Work x c = claims.has x c
+bars Back x c = works_on x c
 
 -- how the leg has the label, if it takes it
 abbrev pub kind_here : Fibre → ℕ → Option Leg → Option ClaimKind
@@ -77,10 +107,11 @@ pub record OwnerFits (p : LocalNode) (o : List FibreClaims) : Type 0 where
   pub fibres : (f : Fibre) → comes_in o f ≡ is_fibre_in p f
   pub labels : (f : Fibre) → IsTrue (comes_in o f) → labels_of f o ≡ local.labels_of (own_link p f.link)
 
--- these are the tables and the owner of one node
+-- these are the tables and the owner of one node, and the rows that it knows begin with those of its own links
 pub record IsOwnerOf (t : LegTable) (o : List FibreClaims) : Type 0 where
   pub claims : ClaimsFit t.legs o
   pub fibres : OwnerFits (local_of t) o
+  pub rows : t.rows ≡ map row_of t.own ++ learnt_rows t
 
 -- the same fibres come in, with as many labels
 pub record SameFibres (o after : List FibreClaims) : Type 0 where
@@ -94,12 +125,12 @@ freed_of l (Some t) o = label_freed t.fibre t.label l o
 
 -- Changes of legs
 
--- a working leg, whose LSP took no label, takes one that is usable
+-- a leg, whose LSP took no label, takes one that is usable for it; a backup isn't Armed or Live yet
 pub record MayTake (p : LocalNode) (legs : List Leg) (g : Leg) (t : TakenLabel) : Type 0 where
-  pub work : IsTrue (is_work g.role)
+  pub first : claim_kind g.role g.phase ≡ first_kind g.role
   pub fresh : taken_of (find_leg g.lsp legs) ≡ None
   pub comes_in : IsTrue (is_fibre_in p t.fibre)
-  pub usable : IsTrue (has (usable p legs t.fibre) t.label)
+  pub usable : IsTrue (has (usable p legs g.role g.risks t.fibre) t.label)
 
 abbrev pub MayBePut : LocalNode → List Leg → Leg → Type 0
 MayBePut p legs g = IfSome (taken g) (MayTake p legs g)
@@ -112,13 +143,13 @@ abbrev pub TakesNone : LegChange → Type 0
 TakesNone (Goes l) = Unit {0}
 TakesNone (Put g) = taken g ≡ None
 
--- the same, by the owner: no claim has the label
+-- the same, by the owner: no claim keeps the leg from the label
 pub record MayClaim (o : List FibreClaims) (legs : List Leg) (g : Leg) (t : TakenLabel) : Type 0 where
-  pub work : IsTrue (is_work g.role)
+  pub first : claim_kind g.role g.phase ≡ first_kind g.role
   pub fresh : taken_of (find_leg g.lsp legs) ≡ None
   pub comes_in : IsTrue (comes_in o t.fibre)
   pub within : t.label ≤ labels_of t.fibre o
-  pub free : NoClaim (claims.has t.label) (claims_of t.fibre o)
+  pub free : NoClaim (bars g.role t.label) (claims_of t.fibre o)
 
 abbrev pub MayEnter : List FibreClaims → List Leg → LegChange → Type 0
 MayEnter o legs (Goes l) = Unit {0}

@@ -1,4 +1,7 @@
+pub mod CallLists
+pub mod Edits
 pub mod Fits
 pub mod LegClaims
+pub mod LspIndexes
 pub mod States
 pub mod Tables

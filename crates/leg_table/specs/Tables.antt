@@ -53,6 +53,10 @@ is_of_lsp l g = same_lsp g.lsp l
 abbrev pub leg_changed : Lsp → (Leg → Leg) → List Leg → List Leg
 leg_changed l change legs = first_changed (is_of_lsp l) change legs
 
+-- the table with this leg changed
+abbrev pub with_leg_changed : Lsp → (Leg → Leg) → LegTable → LegTable
+with_leg_changed l change t = record t { legs = leg_changed l change t.legs }
+
 abbrev pub in_phase : Phase → Leg → Leg
 in_phase p g = record g { phase = p }
 
@@ -113,6 +117,10 @@ is_of_number n c = c.call.0 == n.0
 -- the call of this number changed, all others as they were
 abbrev pub call_changed : CallNo → (CallRec → CallRec) → List CallRec → List CallRec
 call_changed n change calls = first_changed (is_of_number n) change calls
+
+-- the table with this call changed
+abbrev pub with_call_changed : CallNo → (CallRec → CallRec) → CallTable → CallTable
+with_call_changed n change t = record t { calls = call_changed n change t.calls }
 
 -- one of the call's two LSPs
 abbrev pub serves : Lsp → CallRec → Bool

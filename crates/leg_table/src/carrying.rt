@@ -1,35 +1,66 @@
 //! Carrying out what a rule changes: the legs with the claims that they have, the calls and the numbers.
 
-ghost use Rattle.std.specs.Prelude.{◌≡◌, ◌≤◌, ◌<◌, ◌+◌, IfOk, IfSome, IsTrue, None, OnErr, OnOk, Some, length, vec_capacity, vec_len};
+ghost use Rattle.std.specs.Prelude.{◌≡◌, ◌≤◌, ◌<◌, ◌+◌, IfErr, IfOk, IfSome, IsTrue, None, OnErr, OnOk, Some, length, not, vec_capacity, vec_len};
 ghost use Rattle.std.specs.List.{AllByRecursion};
-ghost use Rattle.link_owner.specs.Claims.{NoClaim, has, working_claim};
+ghost use Rattle.link_owner.specs.Claims.{NoClaim, RefusedFor};
 ghost use Rattle.link_owner.specs.Owners.{claim_added, claims_of, comes_in, has_label, labels_of};
 ghost use Rattle.mesh_rules.specs.Changes.{changed};
 ghost use Rattle.mesh_rules.specs.Legs.{find_leg, leg_changed, legs_changed, with_leg, without_leg};
-ghost use Rattle.leg_table.specs.LegClaims.{ClaimsFit, IsOwnerOf, MayAllEnter, MayBeMade, MayClaim, MayEnter, SameFibres, TakesNone, freed_of, taken, taken_of};
+ghost use Rattle.leg_table.specs.LegClaims.{ClaimsFit, IsOwnerOf, MayAllEnter, MayBeMade, MayClaim, MayEnter, SameFibres, TakesNone, bars, first_claim, freed_of, taken, taken_of};
 ghost use Rattle.leg_table.specs.States.{local_of, state_of};
 ghost use Rattle.leg_table.specs.Tables.{LegsRise};
 
-use crate::calls::{Calls, change_calls};
+use crate::boxes::{BoxedChange, BoxedLeg, LegEdit};
+use crate::call_table::Calls;
 use crate::changes::Change;
 use crate::labels::{TakenLabel, taken, taken_of};
 use crate::legs::{find_leg, set_leg, take_leg};
 use crate::tables::NodeTables;
-use ason_base::{Leg, Lsp, OutOfMemory, Outs};
+use ason_base::{Lsp, OutOfMemory, Outs, Role};
 use link_owner::{ClaimFault, Owner};
-use mesh_rules::LegChange;
 use std::alloc::Global;
 
 // Claims
 
-fn claim(owner: &mut Owner, alloc: Global, lsp: Lsp, taken: TakenLabel) -> Result<(), OutOfMemory>
+// The label is given to a leg of this role.
+fn give(
+    owner: &mut Owner,
+    alloc: Global,
+    role: Role,
+    lsp: Lsp,
+    taken: TakenLabel,
+) -> Result<(), ClaimFault>
     requires comes_in { IsTrue (comes_in owner.old taken.fibre) }
     requires within { taken.label ≤ labels_of taken.fibre owner.old }
-    requires free { NoClaim (has taken.label) (claims_of taken.fibre owner.old) }
-    ensures ok { OnOk result (owner.new ≡ claim_added taken.fibre (working_claim taken.label lsp) owner.old) }
+    requires new { IsTrue (not (has_label owner.old taken.fibre taken.label lsp)) }
+    ensures ok { OnOk result
+        (owner.new ≡ claim_added taken.fibre (first_claim role taken.label lsp) owner.old) }
+    ensures err { OnErr result (owner.new ≡ owner.old) }
+    ensures fault { IfErr result
+        (RefusedFor (bars role taken.label) (claims_of taken.fibre owner.old)) }
+{
+    match role {
+        Role::Work => owner.claim(alloc, taken.fibre, taken.label, lsp),
+        Role::Back => owner.hold(alloc, taken.fibre, taken.label, lsp),
+    }
+}
+
+fn claim(
+    owner: &mut Owner,
+    alloc: Global,
+    role: Role,
+    lsp: Lsp,
+    taken: TakenLabel,
+) -> Result<(), OutOfMemory>
+    requires comes_in { IsTrue (comes_in owner.old taken.fibre) }
+    requires within { taken.label ≤ labels_of taken.fibre owner.old }
+    requires new { IsTrue (not (has_label owner.old taken.fibre taken.label lsp)) }
+    requires free { NoClaim (bars role taken.label) (claims_of taken.fibre owner.old) }
+    ensures ok { OnOk result
+        (owner.new ≡ claim_added taken.fibre (first_claim role taken.label lsp) owner.old) }
     ensures err { OnErr result (owner.new ≡ owner.old) }
 {
-    match owner.claim(alloc, taken.fibre, taken.label, lsp) {
+    match give(owner, alloc, role, lsp, taken) {
         Ok(()) => Ok(()),
         Err(ClaimFault::OutOfMemory) => Err(OutOfMemory),
         Err(ClaimFault::Held(_)) => unreachable!(),
@@ -46,7 +77,7 @@ fn free(owner: &mut Owner, lsp: Lsp, taken: Option<TakenLabel>)
 }
 
 // The label that the LSP's leg took is free again.
-fn free_label(legs: &[Leg], owner: &mut Owner, lsp: Lsp)
+fn free_label(legs: &[BoxedLeg], owner: &mut Owner, lsp: Lsp)
     requires rising { LegsRise legs.now }
     requires fit { ClaimsFit legs.now owner.old }
     ensures { owner.new ≡ freed_of lsp (taken_of (find_leg lsp legs.now)) owner.old }
@@ -56,7 +87,7 @@ fn free_label(legs: &[Leg], owner: &mut Owner, lsp: Lsp)
 
 // Legs
 
-fn remove_leg(legs: &mut Vec<Leg>, owner: &mut Owner, lsp: Lsp)
+fn remove_leg(legs: &mut Vec<BoxedLeg>, owner: &mut Owner, lsp: Lsp)
     requires rising { LegsRise legs.old.items }
     requires fit { ClaimsFit legs.old.items owner.old }
     ensures items { legs.new.items ≡ without_leg lsp legs.old.items }
@@ -71,7 +102,7 @@ fn remove_leg(legs: &mut Vec<Leg>, owner: &mut Owner, lsp: Lsp)
 }
 
 // Puts a leg that takes no label. There is room for it.
-fn put_leg(legs: &mut Vec<Leg>, owner: &mut Owner, leg: Leg)
+fn put_leg(legs: &mut Vec<BoxedLeg>, owner: &mut Owner, leg: BoxedLeg)
     requires rising { LegsRise legs.old.items }
     requires room { vec_len legs.old < vec_capacity legs.old }
     requires fit { ClaimsFit legs.old.items owner.old }
@@ -83,12 +114,12 @@ fn put_leg(legs: &mut Vec<Leg>, owner: &mut Owner, leg: Leg)
     ensures fit { ClaimsFit legs.new.items owner.new }
     ensures fibres { SameFibres owner.old owner.new }
 {
-    free_label(legs, owner, leg.lsp);
+    free_label(legs, owner, leg.leg().lsp);
     set_leg(legs, leg);
 }
 
 // Makes the changes, one after the other. None takes a label, and there is room for them.
-fn change_later(legs: &mut Vec<Leg>, owner: &mut Owner, changes: Vec<LegChange>)
+fn change_later(legs: &mut Vec<BoxedLeg>, owner: &mut Owner, changes: Vec<LegEdit>)
     requires rising { LegsRise legs.old.items }
     requires room { vec_len legs.old + vec_len changes ≤ vec_capacity legs.old }
     requires fit { ClaimsFit legs.old.items owner.old }
@@ -99,19 +130,19 @@ fn change_later(legs: &mut Vec<Leg>, owner: &mut Owner, changes: Vec<LegChange>)
     ensures fibres { SameFibres owner.old owner.new }
 {
     for change in changes {
-        match change {
-            LegChange::Goes(lsp) => remove_leg(legs, owner, lsp),
-            LegChange::Put(leg) => put_leg(legs, owner, leg),
+        match change.into_change() {
+            BoxedChange::Goes(lsp) => remove_leg(legs, owner, lsp),
+            BoxedChange::Put(leg) => put_leg(legs, owner, leg),
         }
     }
 }
 
 // Puts a leg that takes this label, where its LSP took none. There is room for it. After want of memory nothing has changed.
 fn enter_leg(
-    legs: &mut Vec<Leg>,
+    legs: &mut Vec<BoxedLeg>,
     owner: &mut Owner,
     alloc: Global,
-    leg: Leg,
+    leg: BoxedLeg,
     label: TakenLabel,
 ) -> Result<(), OutOfMemory>
     requires rising { LegsRise legs.old.items }
@@ -128,17 +159,18 @@ fn enter_leg(
     ensures fit { ClaimsFit legs.new.items owner.new }
     ensures fibres { SameFibres owner.old owner.new }
 {
-    claim(owner, alloc, leg.lsp, label)?;
+    let entered = leg.leg();
+    claim(owner, alloc, entered.role, entered.lsp, label)?;
     set_leg(legs, leg);
     Ok(())
 }
 
 // Makes the first change, which may take a label. There is room for it. After want of memory nothing has changed.
 fn change_first(
-    legs: &mut Vec<Leg>,
+    legs: &mut Vec<BoxedLeg>,
     owner: &mut Owner,
     alloc: Global,
-    change: LegChange,
+    change: LegEdit,
 ) -> Result<(), OutOfMemory>
     requires rising { LegsRise legs.old.items }
     requires room { vec_len legs.old < vec_capacity legs.old }
@@ -153,12 +185,12 @@ fn change_first(
     ensures fit { ClaimsFit legs.new.items owner.new }
     ensures fibres { SameFibres owner.old owner.new }
 {
-    match change {
-        LegChange::Goes(lsp) => {
+    match change.into_change() {
+        BoxedChange::Goes(lsp) => {
             remove_leg(legs, owner, lsp);
             Ok(())
         }
-        LegChange::Put(leg) => match taken(&leg) {
+        BoxedChange::Put(leg) => match taken(leg.leg()) {
             None => {
                 put_leg(legs, owner, leg);
                 Ok(())
@@ -170,10 +202,10 @@ fn change_first(
 
 // Makes the changes, one after the other. There is room for them. After want of memory nothing has changed.
 fn change_legs(
-    legs: &mut Vec<Leg>,
+    legs: &mut Vec<BoxedLeg>,
     owner: &mut Owner,
     alloc: Global,
-    changes: Vec<LegChange>,
+    changes: Vec<LegEdit>,
 ) -> Result<(), OutOfMemory>
     requires rising { LegsRise legs.old.items }
     requires room { vec_len legs.old + vec_len changes ≤ vec_capacity legs.old }
@@ -198,16 +230,17 @@ fn change_legs(
 
 /// Carries out changes of legs, one after the other. The owner's claims follow the legs. After want of memory nothing has
 /// changed.
-pub fn carry_out_legs(
+pub(crate) fn carry_out_legs(
     alloc: Global,
     tables: &mut NodeTables,
     owner: &mut Owner,
-    changes: Vec<LegChange>,
+    changes: Vec<LegEdit>,
 ) -> Result<(), OutOfMemory>
     requires owner { IsOwnerOf tables.old owner.old }
     requires may { MayBeMade (local_of tables.old) tables.old.legs changes.items }
     requires few { length (legs_changed changes.items tables.old.legs) ≤ 4096 }
-    ensures ok { OnOk result (tables.new ≡ record tables.old { legs = legs_changed changes.items tables.old.legs }) }
+    ensures ok { OnOk result
+        (tables.new ≡ record tables.old { legs = legs_changed changes.items tables.old.legs }) }
     ensures err { OnErr result (tables.new ≡ tables.old) }
     ensures err_owner { OnErr result (owner.new ≡ owner.old) }
     ensures owner { IsOwnerOf tables.new owner.new }
@@ -227,7 +260,8 @@ pub fn carry_out(
     requires owner { IsOwnerOf tables.old owner.old }
     requires may { MayBeMade (local_of tables.old) tables.old.legs change.legs }
     requires few { length (legs_changed change.legs tables.old.legs) ≤ 4096 }
-    ensures ok { OnOk result (state_of tables.new calls.new ≡ changed (state_of tables.old calls.old) change) }
+    ensures ok { OnOk result
+        (state_of tables.new calls.new ≡ changed (state_of tables.old calls.old) change) }
     ensures sent { IfOk result (λ outs. outs ≡ change.sent) }
     ensures err { OnErr result (tables.new ≡ tables.old) }
     ensures err_owner { OnErr result (owner.new ≡ owner.old) }
@@ -240,10 +274,11 @@ pub fn carry_out(
         calls: changes,
         numbers,
         sent,
+        ..
     } = change;
-    calls.calls.reserve(changes.len())?;
+    calls.list.reserve(changes.len())?;
     carry_out_legs(calls.alloc, tables, owner, legs)?;
-    change_calls(&mut calls.calls, changes);
+    calls.list.change(changes);
     if let Some(numbers) = numbers {
         calls.tunnel = numbers.tunnel;
         calls.lsp = numbers.lsp;

@@ -4,15 +4,17 @@ ghost use Rattle.std.specs.Prelude.{◌≡◌, [], ◌∷◌, IfOk, OnOk, Some};
 ghost use Rattle.mesh_rules.specs.declared.changes.CallChange.TheVariants as calls;
 ghost use Rattle.mesh_rules.specs.Changes.{changes_calls, followed_by, nothing, puts, removes, sends, to_node};
 
+use crate::boxes::LegEdit;
 use ason_base::{CallNo, CallRec, Leg, Lsp, Msg, NodeId, Out, OutOfMemory, Outs};
-use mesh_rules::{CallChange, LegChange, NextNumbers};
+use mesh_rules::{CallChange, NextNumbers};
 use std::alloc::Global;
 use std::marker::Model;
 
 /// What a rule changes at its node, and what it sends, in order. All else stays.
 #[derive(Debug, Drop)]
 pub struct Change {
-    pub(crate) legs: Vec<LegChange>,
+    alloc: Global,
+    pub(crate) legs: Vec<LegEdit>,
     pub(crate) calls: Vec<CallChange>,
     pub(crate) numbers: Option<NextNumbers>,
     pub(crate) sent: Outs,
@@ -33,6 +35,7 @@ impl Change {
         ensures { result ≡ nothing }
     {
         Change {
+            alloc,
             legs: Vec::new(alloc),
             calls: Vec::new(alloc),
             numbers: None,
@@ -78,7 +81,8 @@ impl Change {
     pub fn put(&mut self, leg: Leg) -> Result<(), OutOfMemory>
         ensures { OnOk result (self.new ≡ followed_by self.old (puts leg [])) }
     {
-        self.legs.push(LegChange::Put(leg))?;
+        let edit = LegEdit::puts(self.alloc, leg)?;
+        self.legs.push(edit)?;
         Ok(())
     }
 
@@ -86,13 +90,14 @@ impl Change {
     pub fn remove(&mut self, lsp: Lsp) -> Result<(), OutOfMemory>
         ensures { OnOk result (self.new ≡ followed_by self.old (removes lsp [])) }
     {
-        self.legs.push(LegChange::Goes(lsp))?;
+        self.legs.push(LegEdit::goes(lsp))?;
         Ok(())
     }
 
     /// Then the call is put in its place.
     pub fn put_call(&mut self, call: CallRec) -> Result<(), OutOfMemory>
-        ensures { OnOk result (self.new ≡ followed_by self.old (changes_calls (calls.Put call ∷ []))) }
+        ensures { OnOk result
+            (self.new ≡ followed_by self.old (changes_calls (calls.Put call ∷ []))) }
     {
         self.calls.push(CallChange::Put(call))?;
         Ok(())
@@ -100,7 +105,8 @@ impl Change {
 
     /// Then the call of this number goes.
     pub fn remove_call(&mut self, number: CallNo) -> Result<(), OutOfMemory>
-        ensures { OnOk result (self.new ≡ followed_by self.old (changes_calls (calls.Goes number ∷ []))) }
+        ensures { OnOk result
+            (self.new ≡ followed_by self.old (changes_calls (calls.Goes number ∷ []))) }
     {
         self.calls.push(CallChange::Goes(number))?;
         Ok(())

@@ -6,28 +6,30 @@ ghost use Rattle.std.specs.Option.{option_copied};
 ghost use Rattle.mesh_rules.specs.Legs.{find_leg, has_lsp, is_at_or_after, with_leg, without_leg};
 ghost use Rattle.leg_table.specs.Tables.{LegsRise, in_phase, is_of_lsp, leg_changed, with_back_labels, with_labels};
 
+use crate::boxes::BoxedLeg;
 use crate::edits::{insert_here, replace_here};
 use ason_base::{Label, Leg, Lsp, OutOfMemory, Phase};
 use std::alloc::Global;
 
-fn is_at_or_after(leg: &Leg, lsp: Lsp) -> bool
-    ensures { result ≡ is_at_or_after lsp leg.now }
+fn is_at_or_after(boxed: &BoxedLeg, lsp: Lsp) -> bool
+    ensures { result ≡ is_at_or_after lsp boxed.now }
 {
+    let leg = boxed.leg();
     leg.lsp == lsp || lsp < leg.lsp
 }
 
-fn is_leg_at(legs: &[Leg], place: usize, lsp: Lsp) -> bool
+fn is_leg_at(legs: &[BoxedLeg], place: usize, lsp: Lsp) -> bool
     ensures there { result ≡ has_lsp (slice_get legs.now place) lsp }
     ensures within { result ≡ true → place < length legs.now }
 {
     match legs.get(place) {
         None => false,
-        Some(leg) => leg.lsp == lsp,
+        Some(boxed) => boxed.leg().lsp == lsp,
     }
 }
 
 /// The place of the first leg of this LSP or a later one.
-pub(crate) fn place_of(legs: &[Leg], lsp: Lsp) -> usize
+pub(crate) fn place_of(legs: &[BoxedLeg], lsp: Lsp) -> usize
     requires { LegsRise legs.now }
     ensures place { result ≡ position_or_len (is_at_or_after lsp) legs.now }
     ensures within { result ≤ length legs.now }
@@ -36,7 +38,7 @@ pub(crate) fn place_of(legs: &[Leg], lsp: Lsp) -> usize
 }
 
 /// The place of the leg of this LSP.
-pub(crate) fn find_place(legs: &[Leg], lsp: Lsp) -> Option<usize>
+pub(crate) fn find_place(legs: &[BoxedLeg], lsp: Lsp) -> Option<usize>
     requires { LegsRise legs.now }
     ensures { result ≡ position (is_of_lsp lsp) legs.now }
 {
@@ -48,14 +50,18 @@ pub(crate) fn find_place(legs: &[Leg], lsp: Lsp) -> Option<usize>
     }
 }
 
-fn leg_at(legs: &[Leg], place: usize) -> Option<&Leg>
+/// The leg at this place.
+pub(crate) fn leg_at(legs: &[BoxedLeg], place: usize) -> Option<&Leg>
     ensures { option_copied result ≡ slice_get legs.now place }
 {
-    legs.get(place)
+    match legs.get(place) {
+        None => None,
+        Some(boxed) => Some(boxed.leg()),
+    }
 }
 
 /// The leg of this LSP.
-pub(crate) fn find_leg(legs: &[Leg], lsp: Lsp) -> Option<&Leg>
+pub(crate) fn find_leg(legs: &[BoxedLeg], lsp: Lsp) -> Option<&Leg>
     requires { LegsRise legs.now }
     ensures { option_copied result ≡ find_leg lsp legs.now }
 {
@@ -65,17 +71,23 @@ pub(crate) fn find_leg(legs: &[Leg], lsp: Lsp) -> Option<&Leg>
     }
 }
 
-fn insert_leg(legs: &mut Vec<Leg>, place: usize, leg: Leg) -> Result<(), OutOfMemory>
+fn insert_leg(
+    legs: &mut Vec<BoxedLeg>,
+    alloc: Global,
+    place: usize,
+    leg: Leg,
+) -> Result<(), OutOfMemory>
     requires { place ≤ length legs.old.items }
     ensures ok { OnOk result (legs.new.items ≡ insert legs.old.items place leg) }
     ensures err { OnErr result (legs.new.items ≡ legs.old.items) }
 {
-    legs.insert(place, leg)?;
+    let boxed = BoxedLeg::new(alloc, leg)?;
+    legs.insert(place, boxed)?;
     Ok(())
 }
 
 /// Puts a new leg in its place.
-pub(crate) fn put_leg(legs: &mut Vec<Leg>, leg: Leg) -> Result<(), OutOfMemory>
+pub(crate) fn put_leg(legs: &mut Vec<BoxedLeg>, alloc: Global, leg: Leg) -> Result<(), OutOfMemory>
     requires rising { LegsRise legs.old.items }
     requires new { find_leg leg.lsp legs.old.items ≡ None }
     ensures ok { OnOk result (legs.new.items ≡ with_leg leg legs.old.items) }
@@ -84,11 +96,11 @@ pub(crate) fn put_leg(legs: &mut Vec<Leg>, leg: Leg) -> Result<(), OutOfMemory>
     ensures len { length legs.new.items ≤ length legs.old.items + 1 }
 {
     let place = place_of(legs, leg.lsp);
-    insert_leg(legs, place, leg)
+    insert_leg(legs, alloc, place, leg)
 }
 
 /// Puts the leg in the place of the one of its LSP, or before the later ones. There is room for it.
-pub(crate) fn set_leg(legs: &mut Vec<Leg>, leg: Leg)
+pub(crate) fn set_leg(legs: &mut Vec<BoxedLeg>, leg: BoxedLeg)
     requires rising { LegsRise legs.old.items }
     requires room { vec_len legs.old < vec_capacity legs.old }
     ensures items { legs.new.items ≡ with_leg leg legs.old.items }
@@ -96,8 +108,9 @@ pub(crate) fn set_leg(legs: &mut Vec<Leg>, leg: Leg)
     ensures len { vec_len legs.new ≤ vec_len legs.old + 1 }
     ensures capacity { vec_capacity legs.new ≡ vec_capacity legs.old }
 {
-    let place = place_of(legs, leg.lsp);
-    if is_leg_at(legs, place, leg.lsp) {
+    let lsp = leg.leg().lsp;
+    let place = place_of(legs, lsp);
+    if is_leg_at(legs, place, lsp) {
         replace_here(legs, place, leg);
     } else {
         insert_here(legs, place, leg);
@@ -105,7 +118,7 @@ pub(crate) fn set_leg(legs: &mut Vec<Leg>, leg: Leg)
 }
 
 /// Takes the leg of this LSP off.
-pub(crate) fn take_leg(legs: &mut Vec<Leg>, lsp: Lsp) -> Option<Leg>
+pub(crate) fn take_leg(legs: &mut Vec<BoxedLeg>, lsp: Lsp) -> Option<Leg>
     requires { LegsRise legs.old.items }
     ensures leg { result ≡ find_leg lsp legs.old.items }
     ensures left { legs.new.items ≡ without_leg lsp legs.old.items }
@@ -115,60 +128,57 @@ pub(crate) fn take_leg(legs: &mut Vec<Leg>, lsp: Lsp) -> Option<Leg>
 {
     match find_place(legs, lsp) {
         None => None,
-        Some(place) => Some(legs.remove(place)),
+        Some(place) => Some(legs.remove(place).into_leg()),
     }
 }
 
-pub(crate) fn set_phase(legs: &mut Vec<Leg>, lsp: Lsp, phase: Phase)
+pub(crate) fn set_phase(legs: &mut Vec<BoxedLeg>, lsp: Lsp, phase: Phase)
     requires { LegsRise legs.old.items }
     ensures changed { legs.new.items ≡ leg_changed lsp (in_phase phase) legs.old.items }
     ensures rising { LegsRise legs.new.items }
     ensures len { length legs.new.items ≡ length legs.old.items }
 {
     if let Some(place) = find_place(legs, lsp) {
-        let leg = &mut legs[place];
-        leg.phase = phase;
+        legs[place].set_phase(phase);
     }
 }
 
 pub(crate) fn set_labels(
-    legs: &mut Vec<Leg>,
+    legs: &mut Vec<BoxedLeg>,
     lsp: Lsp,
     in_label: Option<Label>,
     out_label: Option<Label>,
 )
     requires { LegsRise legs.old.items }
-    ensures changed { legs.new.items ≡ leg_changed lsp (with_labels in_label out_label) legs.old.items }
+    ensures changed { legs.new.items ≡ leg_changed lsp
+        (with_labels in_label out_label) legs.old.items }
     ensures rising { LegsRise legs.new.items }
     ensures len { length legs.new.items ≡ length legs.old.items }
 {
     if let Some(place) = find_place(legs, lsp) {
-        let leg = &mut legs[place];
-        leg.in_label = in_label;
-        leg.out_label = out_label;
+        legs[place].set_labels(in_label, out_label);
     }
 }
 
 pub(crate) fn set_back(
-    legs: &mut Vec<Leg>,
+    legs: &mut Vec<BoxedLeg>,
     lsp: Lsp,
     back_in: Option<Label>,
     back_out: Option<Label>,
 )
     requires { LegsRise legs.old.items }
-    ensures changed { legs.new.items ≡ leg_changed lsp (with_back_labels back_in back_out) legs.old.items }
+    ensures changed { legs.new.items ≡ leg_changed lsp
+        (with_back_labels back_in back_out) legs.old.items }
     ensures rising { LegsRise legs.new.items }
     ensures len { length legs.new.items ≡ length legs.old.items }
 {
     if let Some(place) = find_place(legs, lsp) {
-        let leg = &mut legs[place];
-        leg.back_in = back_in;
-        leg.back_out = back_out;
+        legs[place].set_back(back_in, back_out);
     }
 }
 
 /// The same legs again.
-pub(crate) fn copy_legs(alloc: Global, legs: &[Leg]) -> Result<Vec<Leg>, OutOfMemory>
+pub(crate) fn copy_legs(alloc: Global, legs: &[BoxedLeg]) -> Result<Vec<BoxedLeg>, OutOfMemory>
     ensures { IfOk result (λ v. v.items ≡ legs.now) }
 {
     let mut copies = Vec::with_capacity(alloc, legs.len())?;

@@ -1,7 +1,7 @@
 //! One leg: its phase, its neighbours, and what it becomes.
 
 ghost use Rattle.std.specs.Prelude.{◌≡◌, IfOk};
-ghost use Rattle.mesh_rules.specs.Legs.{closed, closing_phase, connected, following, is_asked, is_beyond_asked, is_closing, is_node, is_over, is_work, neighbour_over, previous};
+ghost use Rattle.mesh_rules.specs.Legs.{closed, closing_phase, connected, following, is_asked, is_beyond_asked, is_closing, is_node, is_over, is_work, neighbour_over, previous, reserved};
 
 use ason_base::{Fibre, Label, Leg, LinkId, NodeId, OutOfMemory, Phase, Role};
 use mesh_rules::Neighbour;
@@ -96,7 +96,17 @@ pub fn closed(alloc: Global, leg: &Leg) -> Result<Leg, OutOfMemory>
     Ok(torn)
 }
 
-/// The leg, cross-connected between these labels.
+/// The phase of a leg that gets its label: a working leg is cross-connected, a backup's label is reserved alone.
+pub fn reserved(role: Role) -> Phase
+    ensures { result ≡ reserved role }
+{
+    match role {
+        Role::Work => Phase::Live,
+        Role::Back => Phase::Held,
+    }
+}
+
+/// The leg with these labels: a working leg is cross-connected between them, a backup has them reserved.
 pub fn connected(
     alloc: Global,
     leg: &Leg,
@@ -105,9 +115,9 @@ pub fn connected(
 ) -> Result<Leg, OutOfMemory>
     ensures { IfOk result (λ g. g ≡ connected leg.now in_label out_label) }
 {
-    let mut live = leg.copy(alloc)?;
-    live.phase = Phase::Live;
-    live.in_label = in_label;
-    live.out_label = Some(out_label);
-    Ok(live)
+    let mut labelled = leg.copy(alloc)?;
+    labelled.phase = reserved(leg.role);
+    labelled.in_label = in_label;
+    labelled.out_label = Some(out_label);
+    Ok(labelled)
 }

@@ -5,8 +5,9 @@ ghost use Rattle.std.specs.Option.{option_copied};
 ghost use Rattle.ason_base.specs.Lsps.{has_fibre, without_fibre};
 ghost use Rattle.ason_base.specs.Network.{find_node, row_of, touches};
 ghost use Rattle.mesh_rules.specs.Legs.{find_leg, with_leg, without_leg};
-ghost use Rattle.leg_table.specs.Tables.{LegsRise, PutRefused, find_own, in_phase, knows, learnt, new_table, node_or_none, leg_changed, with_back_labels, with_fibre, with_labels};
+ghost use Rattle.leg_table.specs.Tables.{LegsRise, PutRefused, find_own, in_phase, knows, learnt, new_table, node_or_none, with_back_labels, with_fibre, with_labels, with_leg_changed};
 
+use crate::boxes::BoxedLeg;
 use crate::legs;
 use ason_base::routes::touches;
 use ason_base::{
@@ -35,7 +36,7 @@ pub struct NodeTables {
     own: Vec<LinkSpec>,
     rows: Vec<TeRow>,
     down: Fibres,
-    pub(crate) legs: Vec<Leg>,
+    pub(crate) legs: Vec<BoxedLeg>,
 }
 
 impl Model for NodeTables {
@@ -87,9 +88,10 @@ impl NodeTables {
     }
 
     /// Puts a leg in its place. `Full` exactly at 4,096 legs. After an error nothing has changed.
-    pub fn put(&mut self, _: Global, leg: Leg) -> Result<(), PutFault>
+    pub fn put(&mut self, alloc: Global, leg: Leg) -> Result<(), PutFault>
         requires { find_leg leg.lsp self.old.legs ≡ None }
-        ensures ok { OnOk result (self.new ≡ record self.old { legs = with_leg leg self.old.legs }) }
+        ensures ok { OnOk result
+            (self.new ≡ record self.old { legs = with_leg leg self.old.legs }) }
         ensures err { OnErr result (self.new ≡ self.old) }
         ensures room { IfOk result (λ _. length self.old.legs < 4096) }
         ensures fault { IfErr result (PutRefused self.old.legs) }
@@ -97,7 +99,7 @@ impl NodeTables {
         if self.legs.len() >= MOST_LEGS {
             return Err(PutFault::Full);
         }
-        match legs::put_leg(&mut self.legs, leg) {
+        match legs::put_leg(&mut self.legs, alloc, leg) {
             Ok(()) => Ok(()),
             Err(_) => Err(PutFault::OutOfMemory),
         }
@@ -121,7 +123,7 @@ impl NodeTables {
     /// Sets the phase of the leg of this LSP.
     pub fn set_phase(&mut self, lsp: &Lsp, p: Phase)
         requires { IsSome (find_leg lsp.now self.old.legs) }
-        ensures { self.new ≡ record self.old { legs = leg_changed lsp.now (in_phase p) self.old.legs } }
+        ensures { self.new ≡ with_leg_changed lsp.now (in_phase p) self.old }
     {
         legs::set_phase(&mut self.legs, *lsp, p);
     }
@@ -129,7 +131,7 @@ impl NodeTables {
     /// Sets the labels of the leg of this LSP.
     pub fn set_labels(&mut self, lsp: &Lsp, in_label: Option<Label>, out_label: Option<Label>)
         requires { IsSome (find_leg lsp.now self.old.legs) }
-        ensures { self.new ≡ record self.old { legs = leg_changed lsp.now (with_labels in_label out_label) self.old.legs } }
+        ensures { self.new ≡ with_leg_changed lsp.now (with_labels in_label out_label) self.old }
     {
         legs::set_labels(&mut self.legs, *lsp, in_label, out_label);
     }
@@ -137,25 +139,24 @@ impl NodeTables {
     /// Sets the labels of the backward direction of the leg of this LSP.
     pub fn set_back(&mut self, lsp: &Lsp, back_in: Option<Label>, back_out: Option<Label>)
         requires { IsSome (find_leg lsp.now self.old.legs) }
-        ensures { self.new ≡ record self.old { legs = leg_changed lsp.now (with_back_labels back_in back_out) self.old.legs } }
+        ensures { self.new ≡ with_leg_changed lsp.now (with_back_labels back_in back_out) self.old }
     {
         legs::set_back(&mut self.legs, *lsp, back_in, back_out);
     }
 
-    /// The legs, in order of LSP.
-    pub fn legs(&self) -> &[Leg]
-        ensures value { result.now ≡ self.now.legs }
+    /// Law: the legs rise by LSP, and there are at most 4,096.
+    pub fn rises(&self)
         ensures rising { LegsRise self.now.legs }
         ensures few { length self.now.legs ≤ 4096 }
     {
-        &self.legs
+        let _legs = &self.legs;
     }
 
     /// The leg at this place, from 0, in order of LSP: none exactly from the number of legs on.
     pub fn leg_at(&self, place: usize) -> Option<&Leg>
         ensures { option_copied result ≡ slice_get self.now.legs place }
     {
-        self.legs.get(place)
+        legs::leg_at(&self.legs, place)
     }
 
     /// The number of legs.
@@ -213,7 +214,8 @@ impl NodeTables {
 
     /// Takes the fibre to be down. After want of memory nothing has changed.
     pub fn set_down(&mut self, _: Global, f: Fibre) -> Result<(), OutOfMemory>
-        ensures ok { OnOk result (self.new ≡ record self.old { down = with_fibre f self.old.down }) }
+        ensures ok { OnOk result
+            (self.new ≡ record self.old { down = with_fibre f self.old.down }) }
         ensures err { OnErr result (self.new ≡ self.old) }
     {
         add_fibre(&mut self.down, f)

@@ -23,7 +23,8 @@ within : {X : Type 0} (p : X → Bool) (xs : List X) → list_any p xs ≡ true 
 within p [] h = absurd (cc h)
 within {X} p (x ∷ xs) h = go (p x) h (within p xs)
   where
-    go : (b : Bool) → (b || list_any p xs) ≡ true → (list_any p xs ≡ true → position_or_len p xs < length xs) → cond (not b) (1 + position_or_len p xs) 0 < suc (length xs)
+    go : (b : Bool) → (b || list_any p xs) ≡ true → (list_any p xs ≡ true → position_or_len p xs < length xs) →
+        cond (not b) (1 + position_or_len p xs) 0 < suc (length xs)
     go true h later = omega arith
     go false h later = omega (arith, later h)
 
@@ -34,39 +35,50 @@ place-found f o h e =
     let test : nat_lt (position_or_len (is_fibre f) o) (length o) ≡ false = far in
     grind arith
 
-place_is : (f : Fibre) (o : List FibreClaims) (i : ℕ) → position (is_fibre f) o ≡ Some i → position_or_len (is_fibre f) o ≡ i
+place_is : (f : Fibre) (o : List FibreClaims) (i : ℕ) → position (is_fibre f) o ≡ Some i →
+    position_or_len (is_fibre f) o ≡ i
 place_is f o i e = some_is (nat_lt (position_or_len (is_fibre f) o) (length o)) (position_or_len (is_fibre f) o) i e
 
-set-first : (f : Fibre) (claims : List Claim) (o : List FibreClaims) (d : FibreClaims) → set o (position_or_len (is_fibre f) o) (record (get_or o (position_or_len (is_fibre f) o) d) { claims = claims }) ≡ with_claims f claims o
+set-first : (f : Fibre) (claims : List Claim) (o : List FibreClaims) (d : FibreClaims) →
+    set o (position_or_len (is_fibre f) o) (record (get_or o (position_or_len (is_fibre f) o) d) { claims = claims })
+    ≡ with_claims f claims o
 set-first f claims [] d = refl
 set-first f claims (r ∷ o) d = go (is_fibre f r) (set-first f claims o d)
   where
     n : ℕ
     n = position_or_len (is_fibre f) o
 
-    go : (b : Bool) → set o n (record (get_or o n d) { claims = claims }) ≡ with_claims f claims o → set (r ∷ o) (cond (not b) (1 + n) 0) (record (get_or (r ∷ o) (cond (not b) (1 + n) 0) d) { claims = claims }) ≡ cond b (record r { claims = claims } ∷ o) (r ∷ with_claims f claims o)
+    go : (b : Bool) → set o n (record (get_or o n d) { claims = claims }) ≡ with_claims f claims o →
+        set (r ∷ o) (cond (not b) (1 + n) 0) (record (get_or (r ∷ o) (cond (not b) (1 + n) 0) d) { claims = claims })
+        ≡ cond b (record r { claims = claims } ∷ o) (r ∷ with_claims f claims o)
     go true rest = refl
     go false rest = rw (one_more n) (ap (λ xs. r ∷ xs) rest)
 
-claims-first : (f : Fibre) (o : List FibreClaims) (d : FibreClaims) → comes_in o f ≡ true → (get_or o (position_or_len (is_fibre f) o) d).claims ≡ claims_of f o
+claims-first : (f : Fibre) (o : List FibreClaims) (d : FibreClaims) → comes_in o f ≡ true →
+    (get_or o (position_or_len (is_fibre f) o) d).claims ≡ claims_of f o
 claims-first f [] d h = absurd (cc h)
 claims-first f (r ∷ o) d h = go (is_fibre f r) h (claims-first f o d)
   where
     n : ℕ
     n = position_or_len (is_fibre f) o
 
-    go : (b : Bool) → (b || list_any (is_fibre f) o) ≡ true → (comes_in o f ≡ true → (get_or o n d).claims ≡ claims_of f o) → (get_or (r ∷ o) (cond (not b) (1 + n) 0) d).claims ≡ cond b r.claims (claims_of f o)
+    go : (b : Bool) → (b || list_any (is_fibre f) o) ≡ true →
+        (comes_in o f ≡ true → (get_or o n d).claims ≡ claims_of f o) →
+        (get_or (r ∷ o) (cond (not b) (1 + n) 0) d).claims ≡ cond b r.claims (claims_of f o)
     go true h later = refl
     go false h later = rw (one_more n) (later h)
 
-labels-first : (f : Fibre) (o : List FibreClaims) (d : FibreClaims) → comes_in o f ≡ true → (get_or o (position_or_len (is_fibre f) o) d).labels ≡ labels_of f o
+labels-first : (f : Fibre) (o : List FibreClaims) (d : FibreClaims) → comes_in o f ≡ true →
+    (get_or o (position_or_len (is_fibre f) o) d).labels ≡ labels_of f o
 labels-first f [] d h = absurd (cc h)
 labels-first f (r ∷ o) d h = go (is_fibre f r) h (labels-first f o d)
   where
     n : ℕ
     n = position_or_len (is_fibre f) o
 
-    go : (b : Bool) → (b || list_any (is_fibre f) o) ≡ true → (comes_in o f ≡ true → (get_or o n d).labels ≡ labels_of f o) → (get_or (r ∷ o) (cond (not b) (1 + n) 0) d).labels ≡ cond b r.labels (labels_of f o)
+    go : (b : Bool) → (b || list_any (is_fibre f) o) ≡ true →
+        (comes_in o f ≡ true → (get_or o n d).labels ≡ labels_of f o) →
+        (get_or (r ∷ o) (cond (not b) (1 + n) 0) d).labels ≡ cond b r.labels (labels_of f o)
     go true h later = refl
     go false h later = rw (one_more n) (later h)
 
@@ -80,21 +92,27 @@ pub record IsRead (f : Fibre) (o items : List FibreClaims) (i : ℕ) (r : FibreC
 read-here : (f : Fibre) (o items : List FibreClaims) (i : ℕ) (r : FibreClaims) → IsRead f o items i r → r ≡ get_or o i r
 read-here f o items i r h = h.read ∙ ap (λ xs. get_or xs i r) h.same
 
-pub read-claims : (f : Fibre) (o items : List FibreClaims) (i : ℕ) (r : FibreClaims) → IsRead f o items i r → r.claims ≡ claims_of f o
+pub read-claims : (f : Fibre) (o items : List FibreClaims) (i : ℕ) (r : FibreClaims) → IsRead f o items i r →
+    r.claims ≡ claims_of f o
 read-claims f o items i r h =
     ap (λ s. s.claims) (read-here f o items i r h)
     ∙ subst (λ j. (get_or o j r).claims ≡ claims_of f o) (place_is f o i h.first) (claims-first f o r h.there)
 
-pub read-labels : (f : Fibre) (o items : List FibreClaims) (i : ℕ) (r : FibreClaims) → IsRead f o items i r → r.labels ≡ labels_of f o
+pub read-labels : (f : Fibre) (o items : List FibreClaims) (i : ℕ) (r : FibreClaims) → IsRead f o items i r →
+    r.labels ≡ labels_of f o
 read-labels f o items i r h =
     ap (λ s. s.labels) (read-here f o items i r h)
     ∙ subst (λ j. (get_or o j r).labels ≡ labels_of f o) (place_is f o i h.first) (labels-first f o r h.there)
 
 -- its claims changed, and put back
-pub put-back : (f : Fibre) (o items : List FibreClaims) (i : ℕ) (r s : FibreClaims) (change : List Claim → List Claim) → IsRead f o items i r → s ≡ record r { claims = change r.claims } → set items i s ≡ with_claims f (change (claims_of f o)) o
+pub put-back : (f : Fibre) (o items : List FibreClaims) (i : ℕ) (r s : FibreClaims)
+    (change : List Claim → List Claim) → IsRead f o items i r → s ≡ record r { claims = change r.claims } →
+    set items i s ≡ with_claims f (change (claims_of f o)) o
 put-back f o items i r s change h e =
     let new : FibreClaims → FibreClaims = λ q. record q { claims = change r.claims } in
     let put : set o i s ≡ set o i (new (get_or o i r)) = ap (set o i) (e ∙ ap new (read-here f o items i r h)) in
     let here : set o i (new (get_or o i r)) ≡ with_claims f (change r.claims) o =
-    subst (λ j. set o j (new (get_or o j r)) ≡ with_claims f (change r.claims) o) (place_is f o i h.first) (set-first f (change r.claims) o r) in
-    ap (λ xs. set xs i s) h.same ∙ put ∙ here ∙ ap (λ claims. with_claims f (change claims) o) (read-claims f o items i r h)
+    subst (λ j. set o j (new (get_or o j r)) ≡ with_claims f (change r.claims) o) (place_is f o i h.first)
+    (set-first f (change r.claims) o r) in
+    ap (λ xs. set xs i s) h.same ∙ put ∙ here ∙ ap (λ claims. with_claims f (change claims) o)
+    (read-claims f o items i r h)

@@ -42,7 +42,8 @@ pub narrow-link : (t : Network) → IsTopology t → (k : ℕ) (l : LinkSpec) �
     l.labels ≤ 80
 narrow-link t valid k l below is =
     let found : slice_get t.links k ≡ Some (get_or t.links k l) = slice_get-get_or t.links k l below in
-    let here : is_link_here t.nodes (slice_get t.links k) ≡ true = both_right (is_after t.links k) _ (valid.links k below) in
+    let here : is_link_here t.nodes (slice_get t.links k) ≡ true =
+    both_right (is_after t.links k) _ (valid.links k below) in
     let test : nat_le (get_or t.links k l).labels 80 ≡ true = narrow t.nodes (get_or t.links k l) (rw found at here) in
     at_most l.labels 80 (ap (λ m. nat_le m.labels 80) is ∙ test)
 
@@ -53,7 +54,8 @@ number_before b links (suc k) = link_number (slice_get links k)
 
 -- the link at place k has a greater number than the one before, and leads from its low end to its high one
 is_in_place : List NodeSpec → ℕ → List LinkSpec → ℕ → Bool
-is_in_place nodes b links k = nat_lt (number_before b links k) (link_number (slice_get links k)) && is_link_here nodes (slice_get links k)
+is_in_place nodes b links k = nat_lt (number_before b links k)
+    (link_number (slice_get links k)) && is_link_here nodes (slice_get links k)
 
 in_place : (t : Network) → IsTopology t → (k : ℕ) → k < length t.links → is_in_place t.nodes 0 t.links k ≡ true
 unfolding is_in_place number_before
@@ -100,7 +102,8 @@ nowhere b (l ∷ links) rises f n low = go (touches n l) (nowhere l.id.0 links r
     other = (let h : b < l.id.0 = above in grind arith)
 
     go : (t : Bool) → list_any (is_fibre f) (coming n links) ≡ false →
-        list_any (is_fibre f) (map (fibre_unclaimed n) (cond t (l ∷ filter (touches n) links) (filter (touches n) links))) ≡ false
+        list_any (is_fibre f) (map (fibre_unclaimed n)
+        (cond t (l ∷ filter (touches n) links) (filter (touches n) links))) ≡ false
     go true rest = rw (other, rest) refl
     go false rest = rest
 
@@ -134,7 +137,8 @@ fibres_into : (b : ℕ) (links : List LinkSpec) → RiseFrom b links → (f : Fi
     list_any (is_fibre f) (coming n links) ≡ is_node (far_end (find (λ l. nat_eq l.id.0 f.link.0) links) f.forward) n
 unfolding coming
 fibres_into b [] rises f n = refl
-fibres_into b (l ∷ links) rises f n = go (touches n l) refl (nat_eq l.id.0 f.link.0) refl (fibres_into l.id.0 links rises.2 f n)
+fibres_into b (l ∷ links) rises f n = go (touches n l) refl (nat_eq l.id.0 f.link.0) refl
+    (fibres_into l.id.0 links rises.2 f n)
   where
     Found : Option LinkSpec
     Found = find (λ l. nat_eq l.id.0 f.link.0) links
@@ -147,11 +151,15 @@ fibres_into b (l ∷ links) rises f n = go (touches n l) refl (nat_eq l.id.0 f.l
 
     go : (t : Bool) → touches n l ≡ t → (e : Bool) → nat_eq l.id.0 f.link.0 ≡ e →
         list_any (is_fibre f) (coming n links) ≡ is_node (far_end Found f.forward) n →
-        list_any (is_fibre f) (map (fibre_unclaimed n) (cond t (l ∷ filter (touches n) links) (filter (touches n) links))) ≡ is_node (far_end (cond e (Some l) Found) f.forward) n
+        list_any (is_fibre f) (map (fibre_unclaimed n)
+        (cond t (l ∷ filter (touches n) links) (filter (touches n) links))) ≡ is_node
+        (far_end (cond e (Some l) Found) f.forward) n
     go true t true e rest =
-        rw (e, none e) (or_none (same_bool (nat_eq l.high.0 n.0) f.forward) ∙ leads (nat_eq l.high.0 n.0) (nat_eq l.low.0 n.0) f.forward t apart ∙ sym (end_is l n f.forward))
+        rw (e, none e) (or_none (same_bool (nat_eq l.high.0 n.0) f.forward) ∙
+        leads (nat_eq l.high.0 n.0) (nat_eq l.low.0 n.0) f.forward t apart ∙ sym (end_is l n f.forward))
     go true t false e rest = rw e rest
-    go false t true e rest = none e ∙ sym (end_is l n f.forward ∙ no_end (nat_eq l.high.0 n.0) (nat_eq l.low.0 n.0) f.forward t)
+    go false t true e rest = none e ∙ sym (end_is l n f.forward ∙
+        no_end (nat_eq l.high.0 n.0) (nat_eq l.low.0 n.0) f.forward t)
     go false t false e rest = rest
 
 pub has_fibres_into : (t : Network) → IsTopology t → (n : NodeId) → HasFibresInto t n (none_claimed t n)
@@ -169,7 +177,8 @@ labels_into : (labels : Option LinkSpec → ℕ) → ((l : LinkSpec) → labels 
     labels_of f (coming n links) ≡ labels (link_of n f links)
 unfolding coming link_of
 labels_into labels of b [] rises f n comes = absurd (cc comes)
-labels_into labels of b (l ∷ links) rises f n comes = go (touches n l) comes (labels_into labels of l.id.0 links rises.2 f n)
+labels_into labels of b (l ∷ links) rises f n comes =
+    go (touches n l) comes (labels_into labels of l.id.0 links rises.2 f n)
   where
     Later : Type 0
     Later = list_any (is_fibre f) (coming n links) ≡ true → labels_of f (coming n links) ≡ labels (link_of n f links)
@@ -182,8 +191,11 @@ labels_into labels of b (l ∷ links) rises f n comes = go (touches n l) comes (
     first false e d comes later = later comes
 
     go : (t : Bool) →
-        list_any (is_fibre f) (map (fibre_unclaimed n) (cond t (l ∷ filter (touches n) links) (filter (touches n) links))) ≡ true → Later →
-        labels_of f (map (fibre_unclaimed n) (cond t (l ∷ filter (touches n) links) (filter (touches n) links))) ≡ labels (find (λ m. nat_eq m.id.0 f.link.0) (cond t (l ∷ filter (touches n) links) (filter (touches n) links)))
+        list_any (is_fibre f) (map (fibre_unclaimed n)
+        (cond t (l ∷ filter (touches n) links) (filter (touches n) links))) ≡ true → Later →
+        labels_of f (map (fibre_unclaimed n) (cond t (l ∷ filter (touches n) links) (filter (touches n) links))) ≡
+        labels (find (λ m. nat_eq m.id.0 f.link.0)
+        (cond t (l ∷ filter (touches n) links) (filter (touches n) links)))
     go true comes later = first (nat_eq l.id.0 f.link.0) refl (same_bool (nat_eq l.high.0 n.0) f.forward) comes later
     go false comes later = later comes
 
@@ -192,4 +204,5 @@ pub has_labels_into : (labels : Option LinkSpec → ℕ) → ((l : LinkSpec) →
     (f : Fibre) → comes_in (none_claimed t n) f ≡ true →
     labels_of f (none_claimed t n) ≡ labels (find (λ l. nat_eq l.id.0 f.link.0) (filter (touches n) t.links))
 unfolding coming link_of
-has_labels_into labels of t valid n f comes = labels_into labels of 0 t.links (rise t.nodes 0 t.links (in_place t valid)) f n comes
+has_labels_into labels of t valid n f comes =
+    labels_into labels of 0 t.links (rise t.nodes 0 t.links (in_place t valid)) f n comes

@@ -24,9 +24,12 @@ swapped : (a b : ℕ) → nat_eq a b ≡ nat_eq b a
 swapped a b = grind arith
 
 -- one claim more, of the label x
-pub left-taken : (t : ℕ → Claim → Bool) (claims : List Claim) (c : Claim) (x : ℕ) (xs : List ℕ) → ((y : ℕ) → t y c ≡ nat_eq x y) → filter (λ y. not (list_any (t y) (claims ++ c ∷ []))) xs ≡ without (filter (λ y. not (list_any (t y) claims)) xs) x
+pub left-taken : (t : ℕ → Claim → Bool) (claims : List Claim) (c : Claim) (x : ℕ) (xs : List ℕ) →
+    ((y : ℕ) → t y c ≡ nat_eq x y) → filter (λ y. not (list_any (t y) (claims ++ c ∷ []))) xs ≡ without
+    (filter (λ y. not (list_any (t y) claims)) xs) x
 left-taken t claims c x xs takes =
-    filter-same (λ y. not (list_any (t y) (claims ++ c ∷ []))) (λ y. not (list_any (t y) claims) && not (nat_eq y x)) xs here
+    filter-same (λ y. not (list_any (t y) (claims ++ c ∷ [])))
+    (λ y. not (list_any (t y) claims) && not (nat_eq y x)) xs here
     ∙ sym (filter-filter (λ y. not (list_any (t y) claims)) (λ y. not (nat_eq y x)) xs)
   where
     here : (y : ℕ) → not (list_any (t y) (claims ++ c ∷ [])) ≡ (not (list_any (t y) claims) && not (nat_eq y x))
@@ -36,11 +39,14 @@ left-taken t claims c x xs takes =
         ∙ ap (λ b. not (list_any (t y) claims) && not b) (takes y ∙ swapped x y)
 
 -- one claim more, of no label that is asked for
-pub left-kept : (t : ℕ → Claim → Bool) (claims : List Claim) (c : Claim) (xs : List ℕ) → ((y : ℕ) → t y c ≡ false) → filter (λ y. not (list_any (t y) (claims ++ c ∷ []))) xs ≡ filter (λ y. not (list_any (t y) claims)) xs
+pub left-kept : (t : ℕ → Claim → Bool) (claims : List Claim) (c : Claim) (xs : List ℕ) → ((y : ℕ) → t y c ≡ false) →
+    filter (λ y. not (list_any (t y) (claims ++ c ∷ []))) xs ≡ filter (λ y. not (list_any (t y) claims)) xs
 left-kept t claims c xs keeps =
     filter-same (λ y. not (list_any (t y) (claims ++ c ∷ []))) (λ y. not (list_any (t y) claims)) xs
-    (λ y. ap not (any-more (t y) claims c ∙ ap (λ b. list_any (t y) claims || b) (keeps y) ∙ or_none (list_any (t y) claims)))
+    (λ y. ap not (any-more (t y) claims c ∙ ap (λ b. list_any (t y) claims || b) (keeps y) ∙
+    or_none (list_any (t y) claims)))
 
 -- one item more of a list
-pub take_item : {X : Type 0} (xs : List X) (i : ℕ) (x : X) → i < length xs → x ≡ get_or xs i x → take (i + 1) xs ≡ take i xs ++ x ∷ []
+pub take_item : {X : Type 0} (xs : List X) (i : ℕ) (x : X) → i < length xs → x ≡ get_or xs i x →
+    take (i + 1) xs ≡ take i xs ++ x ∷ []
 take_item xs i x below is = take_more xs i x below ∙ ap (λ y. take i xs ++ y ∷ []) (sym is)

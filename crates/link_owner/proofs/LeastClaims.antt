@@ -38,15 +38,18 @@ any-here q xs c e = any-more q xs c ∙ rw e (or_last (list_any q xs))
 any-before : (q : Claim → Bool) (xs : List Claim) (c : Claim) → list_any q xs ≡ true → list_any q (xs ++ c ∷ []) ≡ true
 any-before q xs c e = any-more q xs c ∙ rw e refl
 
-any-nowhere : (q : Claim → Bool) (xs : List Claim) (c : Claim) → list_any q xs ≡ false → q c ≡ false → list_any q (xs ++ c ∷ []) ≡ false
+any-nowhere : (q : Claim → Bool) (xs : List Claim) (c : Claim) → list_any q xs ≡ false → q c ≡ false →
+    list_any q (xs ++ c ∷ []) ≡ false
 any-nowhere q xs c e f = any-more q xs c ∙ rw (e, f) refl
 
 -- where each that passes q passes r, and none passes r, none passes q
-any-none : (q r : Claim → Bool) (xs : List Claim) → ((c : Claim) → q c ≡ true → r c ≡ true) → list_any r xs ≡ false → list_any q xs ≡ false
+any-none : (q r : Claim → Bool) (xs : List Claim) → ((c : Claim) → q c ≡ true → r c ≡ true) → list_any r xs ≡ false →
+    list_any q xs ≡ false
 any-none q r [] f h = refl
 any-none q r (c ∷ xs) f h = go (q c) refl (r c) refl h (any-none q r xs f)
   where
-    go : (a : Bool) → q c ≡ a → (b : Bool) → r c ≡ b → (b || list_any r xs) ≡ false → (list_any r xs ≡ false → list_any q xs ≡ false) → (a || list_any q xs) ≡ false
+    go : (a : Bool) → q c ≡ a → (b : Bool) → r c ≡ b → (b || list_any r xs) ≡ false →
+        (list_any r xs ≡ false → list_any q xs ≡ false) → (a || list_any q xs) ≡ false
     go a e true k h later = absurd (cc h)
     go true e false k h later = absurd (cc (f c e, k))
     go false e false k h later = later h
@@ -63,21 +66,27 @@ and_false true = refl
 and_false false = refl
 
 -- the claim passes, and its LSP is before the least so far
-pub least-more : (p : Claim → Bool) (xs : List Claim) (c : Claim) (least : Option Lsp) → LeastOf p xs least → (p c && is_lesser c.lsp least) ≡ true → IsLeast p (xs ++ c ∷ []) c.lsp
+pub least-more : (p : Claim → Bool) (xs : List Claim) (c : Claim) (least : Option Lsp) → LeastOf p xs least →
+    (p c && is_lesser c.lsp least) ≡ true → IsLeast p (xs ++ c ∷ []) c.lsp
 least-more p xs c least before h = record {
   passes = any-here (λ d. p d && same_lsp d.lsp c.lsp) xs c (and_true (p c) _ (both (p c) _ h).0 (same_lsp-refl c.lsp));
-  least = rw (any-nowhere (λ d. p d && lsp_before d.lsp c.lsp) xs c (others least before (both (p c) (is_lesser c.lsp least) h).1) (ap (λ b. p c && b) (before-self c.lsp) ∙ and_false (p c))) refl;
+  least = rw (any-nowhere (λ d. p d && lsp_before d.lsp c.lsp) xs c
+      (others least before (both (p c) (is_lesser c.lsp least) h).1)
+      (ap (λ b. p c && b) (before-self c.lsp) ∙ and_false (p c))) refl;
 }
   where
-    others : (least : Option Lsp) → LeastOf p xs least → is_lesser c.lsp least ≡ true → list_any (λ d. p d && lsp_before d.lsp c.lsp) xs ≡ false
-    others None none e = any-none (λ d. p d && lsp_before d.lsp c.lsp) p xs (λ d t. (both (p d) _ t).0) (not_true (list_any p xs) none)
+    others : (least : Option Lsp) → LeastOf p xs least → is_lesser c.lsp least ≡ true →
+        list_any (λ d. p d && lsp_before d.lsp c.lsp) xs ≡ false
+    others None none e = any-none (λ d. p d && lsp_before d.lsp c.lsp) p xs (λ d t. (both (p d) _ t).0)
+        (not_true (list_any p xs) none)
     others (Some k) found e =
         any-none (λ d. p d && lsp_before d.lsp c.lsp) (λ d. p d && lsp_before d.lsp k) xs
         (λ d t. and_true (p d) _ (both (p d) _ t).0 (before-before d.lsp c.lsp k (both (p d) _ t).1 e))
         (not_true (list_any (λ d. p d && lsp_before d.lsp k) xs) found.least)
 
 -- the claim doesn't pass, or its LSP isn't before the least so far
-pub least-kept : (p : Claim → Bool) (xs : List Claim) (c : Claim) (least : Option Lsp) → LeastOf p xs least → (p c && is_lesser c.lsp least) ≡ false → LeastOf p (xs ++ c ∷ []) least
+pub least-kept : (p : Claim → Bool) (xs : List Claim) (c : Claim) (least : Option Lsp) → LeastOf p xs least →
+    (p c && is_lesser c.lsp least) ≡ false → LeastOf p (xs ++ c ∷ []) least
 least-kept p xs c None none h = rw (any-nowhere p xs c (not_true (list_any p xs) none) (sym (and_last (p c)) ∙ h)) refl
   where
     and_last : (b : Bool) → (b && true) ≡ b
@@ -85,10 +94,12 @@ least-kept p xs c None none h = rw (any-nowhere p xs c (not_true (list_any p xs)
     and_last false = refl
 least-kept p xs c (Some k) found h = record {
   passes = any-before (λ d. p d && same_lsp d.lsp k) xs c found.passes;
-  least = rw (any-nowhere (λ d. p d && lsp_before d.lsp k) xs c (not_true (list_any (λ d. p d && lsp_before d.lsp k) xs) found.least) h) refl;
+  least = rw (any-nowhere (λ d. p d && lsp_before d.lsp k) xs c
+      (not_true (list_any (λ d. p d && lsp_before d.lsp k) xs) found.least) h) refl;
 }
 
 -- where no claim passes, want of memory is the one refusal
-pub refused-memory : {T : Type 0} (p : Claim → Bool) (claims : List Claim) (r : Result T ClaimFault) → NoClaim p claims → IfErr r (λ e. e ≡ OutOfMemory) → IfErr r (RefusedFor p claims)
+pub refused-memory : {T : Type 0} (p : Claim → Bool) (claims : List Claim) (r : Result T ClaimFault) →
+    NoClaim p claims → IfErr r (λ e. e ≡ OutOfMemory) → IfErr r (RefusedFor p claims)
 refused-memory p claims (Ok x) none is = tt
 refused-memory p claims (Err e) none is = subst (RefusedFor p claims) (sym is) none

@@ -1,5 +1,5 @@
 mod FibrePlaces
 pub mod FibresInto
-mod LabelTests
+pub mod LabelTests
 mod LeastClaims
 mod LspOrder

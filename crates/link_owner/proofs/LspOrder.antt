@@ -28,7 +28,8 @@ by_rest a b l h k =
     let f : nat_eq a b ≡ true = grind arith in
     rw (e, f) k
 
-joined : (a b c : ℕ) (l r q : Bool) → (l ≡ true → r ≡ true → q ≡ true) → (nat_lt a b || (nat_eq a b && l)) ≡ true → (nat_lt b c || (nat_eq b c && r)) ≡ true → (nat_lt a c || (nat_eq a c && q)) ≡ true
+joined : (a b c : ℕ) (l r q : Bool) → (l ≡ true → r ≡ true → q ≡ true) → (nat_lt a b || (nat_eq a b && l)) ≡ true →
+    (nat_lt b c || (nat_eq b c && r)) ≡ true → (nat_lt a c || (nat_eq a c && q)) ≡ true
 joined a b c l r q below e f = go (decided a b l e) (decided b c r f)
   where
     go : (a < b) ⊎ ((a ≡ b) × (l ≡ true)) → (b < c) ⊎ ((b ≡ c) × (r ≡ true)) → (nat_lt a c || (nat_eq a c && q)) ≡ true

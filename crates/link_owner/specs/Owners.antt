@@ -53,7 +53,12 @@ label_freed f x l o = with_claims f (freed x l (claims_of f o)) o
 
 -- the fibre of a link that comes in at n, with no claim
 abbrev pub fibre_unclaimed : NodeId → LinkSpec → FibreClaims
-fibre_unclaimed n l = record { fibre = record { link = l.id; forward = l.high.0 == n.0 }; labels = l.labels; claims = [] }
+fibre_unclaimed n l = record {
+  fibre = record { link = l.id; forward = l.high.0 == n.0 };
+  labels = l.labels;
+  claims =
+      [];
+}
 
 -- the fibres of the node's own links, in order of number
 abbrev pub none_claimed : Network → NodeId → List FibreClaims

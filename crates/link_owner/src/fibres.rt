@@ -60,7 +60,8 @@ impl FibreOwner {
     }
 
     fn add(&mut self, claim: Claim) -> Result<(), ClaimFault>
-        ensures ok { OnOk result (self.new ≡ record self.old { claims = self.old.claims ++ claim ∷ [] }) }
+        ensures ok { OnOk result
+            (self.new ≡ record self.old { claims = self.old.claims ++ claim ∷ [] }) }
         ensures err { OnErr result (self.new ≡ self.old) }
         ensures fault { IfErr result (λ e. e ≡ ClaimFault.OutOfMemory) }
     {
@@ -72,7 +73,11 @@ impl FibreOwner {
 
     /// Gives the label to a working leg, where no leg has it.
     pub(crate) fn claim(&mut self, label: Label, lsp: Lsp) -> Result<(), ClaimFault>
-        ensures ok { OnOk result (self.new ≡ record self.old { claims = self.old.claims ++ working_claim label lsp ∷ [] }) }
+        ensures ok { OnOk result
+            (self.new ≡ record self.old {
+              claims = self.old.claims ++
+                  working_claim label lsp ∷ [];
+            }) }
         ensures err { OnErr result (self.new ≡ self.old) }
         ensures fitting { IfOk result (λ _. NoClaim (has label) self.old.claims) }
         ensures fault { IfErr result (RefusedFor (has label) self.old.claims) }
@@ -89,7 +94,11 @@ impl FibreOwner {
 
     /// Gives the label to a backup leg, where no working leg has it.
     pub(crate) fn hold(&mut self, label: Label, lsp: Lsp) -> Result<(), ClaimFault>
-        ensures ok { OnOk result (self.new ≡ record self.old { claims = self.old.claims ++ backup_claim label lsp ∷ [] }) }
+        ensures ok { OnOk result
+            (self.new ≡ record self.old {
+              claims = self.old.claims ++
+                  backup_claim label lsp ∷ [];
+            }) }
         ensures err { OnErr result (self.new ≡ self.old) }
         ensures fitting { IfOk result (λ _. NoClaim (works_on label) self.old.claims) }
         ensures fault { IfErr result (RefusedFor (works_on label) self.old.claims) }
@@ -106,7 +115,8 @@ impl FibreOwner {
 
     /// Arms the LSP's claim, where no other is in use.
     pub(crate) fn arm(&mut self, label: Label, lsp: Lsp) -> Result<(), Busy>
-        ensures ok { OnOk result (self.new ≡ record self.old { claims = map (armed label lsp) self.old.claims }) }
+        ensures ok { OnOk result
+            (self.new ≡ record self.old { claims = map (armed label lsp) self.old.claims }) }
         ensures err { OnErr result (self.new ≡ self.old) }
         ensures fitting { IfOk result (λ _. NoClaim (is_busy label lsp) self.old.claims) }
         ensures busy { IfErr result (λ b. IsLeast (is_busy label lsp) self.old.claims b.0) }
@@ -134,6 +144,13 @@ impl FibreOwner {
         ensures { self.new ≡ record self.old { claims = freed label lsp self.old.claims } }
     {
         self.claims.retain(|claim| !is_of_lsp(claim, label, lsp));
+    }
+
+    /// The claims, in the order in which they were made.
+    pub(crate) fn claims(&self) -> &[Claim]
+        ensures { result.now ≡ self.now.claims }
+    {
+        &self.claims
     }
 
     /// The labels that no leg has.

@@ -5,5 +5,5 @@ mod claims;
 mod fibres;
 mod owner;
 
-pub use claims::{Busy, ClaimFault};
+pub use claims::{Busy, Claim, ClaimFault, ClaimKind};
 pub use owner::Owner;

@@ -5,7 +5,7 @@ ghost use Rattle.ason_base.specs.Network.{touches};
 ghost use Rattle.link_owner.specs.Claims.{IsLeast, NoClaim, RefusedFor, backup_claim, has, is_busy, shareable, unclaimed, working_claim, works_on};
 ghost use Rattle.link_owner.specs.Owners.{HasFibresInto, claim_added, claims_of, comes_in, fibre_unclaimed, has_label, is_fibre, label_armed, label_disarmed, label_freed, labels_of, none_claimed};
 
-use crate::claims::{Busy, ClaimFault};
+use crate::claims::{Busy, Claim, ClaimFault};
 use crate::fibres::FibreOwner;
 use ason_base::routes::touches;
 use ason_base::{Fibre, Label, LabelSet, LinkSpec, Lsp, NodeId, OutOfMemory, Topology};
@@ -128,6 +128,15 @@ impl Owner {
     {
         let place = self.place(f);
         self.fibres[place].free(l, lsp);
+    }
+
+    /// The claims of the fibre's labels, in the order in which they were made.
+    pub fn claims(&self, f: Fibre) -> &[Claim]
+        requires { IsTrue (comes_in self.now f) }
+        ensures { result.now ≡ claims_of f self.now }
+    {
+        let place = self.place(f);
+        self.fibres[place].claims()
     }
 
     /// The fibre's labels that no leg has: those that a working leg may take.

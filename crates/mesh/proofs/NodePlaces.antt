@@ -24,62 +24,87 @@ on_both_ok (Err e) P Q R f p q = p
 
 -- Where the node has had no input
 
-no_state : (n : ℕ) (nodes : List NodeView) → position_or_len (is_node n) nodes ≡ length nodes → state_at n nodes ≡ new_node
+no_state : (n : ℕ) (nodes : List NodeView) → position_or_len (is_node n) nodes ≡ length nodes →
+    state_at n nodes ≡ new_node
 no_state n [] e = refl
 no_state n (s ∷ nodes) e = go (is_node n s) refl e (no_state n nodes)
   where
-    go : (b : Bool) → is_node n s ≡ b → cond (not b) (1 + position_or_len (is_node n) nodes) 0 ≡ suc (length nodes) → (position_or_len (is_node n) nodes ≡ length nodes → state_at n nodes ≡ new_node) → state_at n (s ∷ nodes) ≡ new_node
+    go : (b : Bool) → is_node n s ≡ b → cond (not b) (1 + position_or_len (is_node n) nodes) 0 ≡ suc (length nodes) →
+        (position_or_len (is_node n) nodes ≡ length nodes → state_at n nodes ≡ new_node) →
+        state_at n (s ∷ nodes) ≡ new_node
     go true t far h = absurd (omega arith)
     go false t far h = rw t (h (omega arith))
 
 pub state_at-nowhere : (n : ℕ) (nodes : List NodeView) → position (is_node n) nodes ≡ None → state_at n nodes ≡ new_node
 state_at-nowhere n nodes none = no_state n nodes (position-nowhere (is_node n) nodes none)
 
-new_state : (t : Network) (n : NodeId) (state : NodeState) (nodes : List NodeView) → position_or_len (is_node n.0) nodes ≡ length nodes → put_state t n state nodes ≡ nodes ++ record { place = local_node t n; state = state } ∷ []
+new_state : (t : Network) (n : NodeId) (state : NodeState) (nodes : List NodeView) →
+    position_or_len (is_node n.0) nodes ≡ length nodes → put_state t n state nodes ≡ nodes ++
+    record { place = local_node t n; state = state } ∷ []
 new_state t n state [] e = refl
 new_state t n state (s ∷ nodes) e =
-    elim (is_node n.0 s) as (λ b. cond (not b) (1 + position_or_len (is_node n.0) nodes) 0 ≡ suc (length nodes) → cond b (record { place = s.place; state = state } ∷ nodes) (s ∷ put_state t n state nodes) ≡ s ∷ (nodes ++ record { place = local_node t n; state = state } ∷ [])) [
+    elim (is_node n.0 s) as (λ b. cond (not b) (1 + position_or_len (is_node n.0) nodes) 0 ≡ suc (length nodes) →
+    cond b (record { place = s.place; state = state } ∷ nodes) (s ∷ put_state t n state nodes) ≡ s ∷
+    (nodes ++ record { place = local_node t n; state = state } ∷ [])) [
       | true ↦ λ far. absurd (omega arith)
       | false ↦ λ far. ap (λ xs. s ∷ xs) (new_state t n state nodes (omega arith))
     ] e
 
-pub put_state-nowhere : (t : Network) (n : NodeId) (state : NodeState) (nodes : List NodeView) → position (is_node n.0) nodes ≡ None → put_state t n state nodes ≡ nodes ++ record { place = local_node t n; state = state } ∷ []
+pub put_state-nowhere : (t : Network) (n : NodeId) (state : NodeState) (nodes : List NodeView) →
+    position (is_node n.0) nodes ≡ None → put_state t n state nodes ≡ nodes ++
+    record { place = local_node t n; state = state } ∷ []
 put_state-nowhere t n state nodes none = new_state t n state nodes (position-nowhere (is_node n.0) nodes none)
 
 -- Where it stands at a place
 
-found_state : (n : ℕ) (nodes : List NodeView) (i : ℕ) (d : NodeView) → i < length nodes → is_node n (get_or nodes i d) ≡ true → ((k : ℕ) → k < i → is_node n (get_or nodes k d) ≡ false) → state_at n nodes ≡ (get_or nodes i d).state
+found_state : (n : ℕ) (nodes : List NodeView) (i : ℕ) (d : NodeView) → i < length nodes →
+    is_node n (get_or nodes i d) ≡ true → ((k : ℕ) → k < i → is_node n (get_or nodes k d) ≡ false) →
+    state_at n nodes ≡ (get_or nodes i d).state
 found_state n [] i d below here before = absurd (omega arith)
 found_state n (s ∷ nodes) zero d below here before = rw here refl
 found_state n (s ∷ nodes) (suc i) d below here before =
     let first : is_node n s ≡ false = before 0 (omega arith) in
     rw first (found_state n nodes i d (omega arith) here (λ k h. before (suc k) (omega arith)))
 
-pub state_at-place : (n : ℕ) (nodes : List NodeView) (i : ℕ) (s : NodeView) → position (is_node n) nodes ≡ Some i → s ≡ get_or nodes i s → state_at n nodes ≡ s.state
+pub state_at-place : (n : ℕ) (nodes : List NodeView) (i : ℕ) (s : NodeView) → position (is_node n) nodes ≡ Some i →
+    s ≡ get_or nodes i s → state_at n nodes ≡ s.state
 state_at-place n nodes i s at is =
     let facts = position-Some (is_node n) nodes i s at in
     found_state n nodes i s facts.0 facts.1 facts.2 ∙ ap (λ x. x.state) (sym is)
 
-found_place : (t : Network) (n : NodeId) (state : NodeState) (nodes : List NodeView) (i : ℕ) (d : NodeView) → i < length nodes → is_node n.0 (get_or nodes i d) ≡ true → ((k : ℕ) → k < i → is_node n.0 (get_or nodes k d) ≡ false) → put_state t n state nodes ≡ set nodes i (record { place = (get_or nodes i d).place; state = state })
+found_place : (t : Network) (n : NodeId) (state : NodeState) (nodes : List NodeView) (i : ℕ) (d : NodeView) →
+    i < length nodes → is_node n.0 (get_or nodes i d) ≡ true →
+    ((k : ℕ) → k < i → is_node n.0 (get_or nodes k d) ≡ false) →
+    put_state t n state nodes ≡ set nodes i (record { place = (get_or nodes i d).place; state = state })
 found_place t n state [] i d below here before = absurd (omega arith)
 found_place t n state (s ∷ nodes) zero d below here before = rw here refl
 found_place t n state (s ∷ nodes) (suc i) d below here before =
     let first : is_node n.0 s ≡ false = before 0 (omega arith) in
-    rw first (ap (λ xs. s ∷ xs) (found_place t n state nodes i d (omega arith) here (λ k h. before (suc k) (omega arith))))
+    rw first (ap (λ xs. s ∷ xs) (found_place t n state nodes i d (omega arith) here
+    (λ k h. before (suc k) (omega arith))))
 
-pub put_state-place : (t : Network) (n : NodeId) (state : NodeState) (nodes : List NodeView) (i : ℕ) (s : NodeView) → position (is_node n.0) nodes ≡ Some i → s ≡ get_or nodes i s → put_state t n state nodes ≡ set nodes i (record { place = s.place; state = state })
+pub put_state-place : (t : Network) (n : NodeId) (state : NodeState) (nodes : List NodeView) (i : ℕ) (s : NodeView) →
+    position (is_node n.0) nodes ≡ Some i → s ≡ get_or nodes i s →
+    put_state t n state nodes ≡ set nodes i (record { place = s.place; state = state })
 put_state-place t n state nodes i s at is =
     let facts = position-Some (is_node n.0) nodes i s at in
-    found_place t n state nodes i s facts.0 facts.1 facts.2 ∙ ap (λ x. set nodes i (record { place = x.place; state = state })) (sym is)
+    found_place t n state nodes i s facts.0 facts.1 facts.2 ∙
+    ap (λ x. set nodes i (record { place = x.place; state = state })) (sym is)
 
 -- a rule's answer, carried out at the place
-pub state_changed : (t : Network) (n : NodeId) (a : Answer) (nodes : List NodeView) (i : ℕ) (s : NodeView) (state : NodeState) → position (is_node n.0) nodes ≡ Some i → s ≡ get_or nodes i s → state ≡ changed s.state a → set nodes i (record { place = s.place; state = state }) ≡ put_state t n (changed (state_at n.0 nodes) a) nodes
+pub state_changed : (t : Network) (n : NodeId) (a : Answer) (nodes : List NodeView) (i : ℕ) (s : NodeView)
+    (state : NodeState) → position (is_node n.0) nodes ≡ Some i → s ≡ get_or nodes i s → state ≡ changed s.state a →
+    set nodes i (record { place = s.place; state = state }) ≡ put_state t n (changed (state_at n.0 nodes) a) nodes
 state_changed t n a nodes i s state at is does =
-    ap (λ x. set nodes i (record { place = s.place; state = x })) (does ∙ ap (λ x. changed x a) (sym (state_at-place n.0 nodes i s at is)))
+    ap (λ x. set nodes i (record { place = s.place; state = x }))
+    (does ∙ ap (λ x. changed x a) (sym (state_at-place n.0 nodes i s at is)))
     ∙ sym (put_state-place t n (changed (state_at n.0 nodes) a) nodes i s at is)
 
 -- and at a node that has had no input
-pub carried-nowhere : (t : Network) (n : NodeId) (nodes all : List NodeView) (a : Answer) (first after : NodeView) → position (is_node n.0) nodes ≡ None → first ≡ record { place = local_node t n; state = new_node } → after.place ≡ first.place → after.state ≡ changed first.state a → all ≡ nodes ++ after ∷ [] → all ≡ put_state t n (changed (state_at n.0 nodes) a) nodes
+pub carried-nowhere : (t : Network) (n : NodeId) (nodes all : List NodeView) (a : Answer) (first after : NodeView) →
+    position (is_node n.0) nodes ≡ None → first ≡ record { place = local_node t n; state = new_node } →
+    after.place ≡ first.place → after.state ≡ changed first.state a → all ≡ nodes ++ after ∷ [] →
+    all ≡ put_state t n (changed (state_at n.0 nodes) a) nodes
 carried-nowhere t n nodes all a first after none is place does pushed =
     let made : after ≡ record { place = local_node t n; state = changed (state_at n.0 nodes) a } = λ j. record {
       place = (place ∙ ap (λ x. x.place) is) j;
@@ -87,9 +112,12 @@ carried-nowhere t n nodes all a first after none is place does pushed =
     } in
     pushed ∙ ap (λ x. nodes ++ x ∷ []) made ∙ sym (put_state-nowhere t n (changed (state_at n.0 nodes) a) nodes none)
 
-pub carried-place : (t : Network) (n : NodeId) (nodes : List NodeView) (i : ℕ) (a : Answer) (s after : NodeView) → position (is_node n.0) nodes ≡ Some i → s ≡ get_or nodes i s → after.place ≡ s.place → after.state ≡ changed s.state a → set nodes i after ≡ put_state t n (changed (state_at n.0 nodes) a) nodes
+pub carried-place : (t : Network) (n : NodeId) (nodes : List NodeView) (i : ℕ) (a : Answer) (s after : NodeView) →
+    position (is_node n.0) nodes ≡ Some i → s ≡ get_or nodes i s → after.place ≡ s.place →
+    after.state ≡ changed s.state a → set nodes i after ≡ put_state t n (changed (state_at n.0 nodes) a) nodes
 carried-place t n nodes i a s after at is place does =
-    let made : after ≡ record { place = s.place; state = after.state } = λ j. record { place = place j; state = after.state } in
+    let made : after ≡ record { place = s.place; state = after.state } =
+    λ j. record { place = place j; state = after.state } in
     ap (set nodes i) made ∙ state_changed t n a nodes i s after.state at is does
 
 -- Each node's state after a change at one
@@ -97,24 +125,33 @@ carried-place t n nodes i a s after at is place does =
 itself : (n : ℕ) → nat_eq n n ≡ true
 itself n = grind arith
 
-state_at-here : (t : Network) (n : NodeId) (state : NodeState) (nodes : List NodeView) → state_at n.0 (put_state t n state nodes) ≡ state
+state_at-here : (t : Network) (n : NodeId) (state : NodeState) (nodes : List NodeView) →
+    state_at n.0 (put_state t n state nodes) ≡ state
 state_at-here t n state [] = rw (itself n.0) refl
 state_at-here t n state (s ∷ nodes) = go (is_node n.0 s) refl (state_at-here t n state nodes)
   where
-    go : (b : Bool) → is_node n.0 s ≡ b → state_at n.0 (put_state t n state nodes) ≡ state → state_at n.0 (cond b (record { place = s.place; state = state } ∷ nodes) (s ∷ put_state t n state nodes)) ≡ state
+    go : (b : Bool) → is_node n.0 s ≡ b → state_at n.0 (put_state t n state nodes) ≡ state →
+        state_at n.0 (cond b (record { place = s.place; state = state } ∷ nodes) (s ∷ put_state t n state nodes)) ≡
+        state
     go true e h = rw e refl
     go false e h = rw e h
 
-state_at-elsewhere : (t : Network) (n : NodeId) (m : ℕ) (state : NodeState) (nodes : List NodeView) → nat_eq m n.0 ≡ false → state_at m (put_state t n state nodes) ≡ state_at m nodes
+state_at-elsewhere : (t : Network) (n : NodeId) (m : ℕ) (state : NodeState) (nodes : List NodeView) →
+    nat_eq m n.0 ≡ false → state_at m (put_state t n state nodes) ≡ state_at m nodes
 state_at-elsewhere t n m state [] other = let e : nat_eq n.0 m ≡ false = grind arith in rw e refl
-state_at-elsewhere t n m state (s ∷ nodes) other = go (is_node n.0 s) refl (is_node m s) refl (state_at-elsewhere t n m state nodes other)
+state_at-elsewhere t n m state (s ∷ nodes) other =
+    go (is_node n.0 s) refl (is_node m s) refl (state_at-elsewhere t n m state nodes other)
   where
-    go : (a : Bool) → is_node n.0 s ≡ a → (b : Bool) → is_node m s ≡ b → state_at m (put_state t n state nodes) ≡ state_at m nodes → state_at m (cond a (record { place = s.place; state = state } ∷ nodes) (s ∷ put_state t n state nodes)) ≡ state_at m (s ∷ nodes)
+    go : (a : Bool) → is_node n.0 s ≡ a → (b : Bool) → is_node m s ≡ b →
+        state_at m (put_state t n state nodes) ≡ state_at m nodes →
+        state_at m (cond a (record { place = s.place; state = state } ∷ nodes) (s ∷ put_state t n state nodes)) ≡
+        state_at m (s ∷ nodes)
     go true e b f h = let apart : nat_eq s.place.id.0 m ≡ false = grind arith in rw apart refl
     go false e true f h = rw f refl
     go false e false f h = rw f h
 
-pub state_at-put : (t : Network) (n : NodeId) (m : ℕ) (state : NodeState) (nodes : List NodeView) → state_at m (put_state t n state nodes) ≡ cond (nat_eq m n.0) state (state_at m nodes)
+pub state_at-put : (t : Network) (n : NodeId) (m : ℕ) (state : NodeState) (nodes : List NodeView) →
+    state_at m (put_state t n state nodes) ≡ cond (nat_eq m n.0) state (state_at m nodes)
 state_at-put t n m state nodes = go (nat_eq m n.0) refl
   where
     go : (b : Bool) → nat_eq m n.0 ≡ b → state_at m (put_state t n state nodes) ≡ cond b state (state_at m nodes)
@@ -123,17 +160,21 @@ state_at-put t n m state nodes = go (nat_eq m n.0) refl
 
 -- What each node knows of itself
 
-of_network : (t : Network) (nodes : List NodeView) (i : ℕ) (d : NodeView) → AllByRecursion (IsOfNetwork t) nodes → i < length nodes → IsOfNetwork t (get_or nodes i d)
+of_network : (t : Network) (nodes : List NodeView) (i : ℕ) (d : NodeView) → AllByRecursion (IsOfNetwork t) nodes →
+    i < length nodes → IsOfNetwork t (get_or nodes i d)
 of_network t [] i d all below = absurd (omega arith)
 of_network t (s ∷ nodes) zero d all below = all.0
 of_network t (s ∷ nodes) (suc i) d all below = of_network t nodes i d all.1 (omega arith)
 
 -- the node at its place is the one that the network tells
-pub node_at-place : (t : Network) (n : NodeId) (nodes : List NodeView) (i : ℕ) (s : NodeView) → AllByRecursion (IsOfNetwork t) nodes → position (is_node n.0) nodes ≡ Some i → s ≡ get_or nodes i s → s ≡ node_at (record { network = t; nodes = nodes }) n
+pub node_at-place : (t : Network) (n : NodeId) (nodes : List NodeView) (i : ℕ) (s : NodeView) →
+    AllByRecursion (IsOfNetwork t) nodes → position (is_node n.0) nodes ≡ Some i → s ≡ get_or nodes i s →
+    s ≡ node_at (record { network = t; nodes = nodes }) n
 node_at-place t n nodes i s all at is =
     let facts = position-Some (is_node n.0) nodes i s at in
     let same : s.place.id ≡ n = number s.place.id n (ap (λ x. nat_eq x.place.id.0 n.0) is ∙ facts.1) in
-    let told : s.place ≡ local_node t s.place.id = ap (λ x. x.place) is ∙ of_network t nodes i s all facts.0 ∙ ap (λ x. local_node t x.place.id) (sym is) in
+    let told : s.place ≡ local_node t s.place.id = ap (λ x. x.place) is ∙ of_network t nodes i s all facts.0 ∙
+    ap (λ x. local_node t x.place.id) (sym is) in
     λ j. record {
       place = (told ∙ ap (local_node t) same) j;
       state = sym (state_at-place n.0 nodes i s at is) j;
@@ -142,13 +183,17 @@ node_at-place t n nodes i s all at is =
     number : (a b : NodeId) → nat_eq a.0 b.0 ≡ true → a ≡ b
     number a b e = let same : a.0 ≡ b.0 = grind arith in λ i. record { 0 = same i }
 
-pub node_at-nowhere : (t : Network) (n : NodeId) (nodes : List NodeView) → position (is_node n.0) nodes ≡ None → record { place = local_node t n; state = new_node } ≡ node_at (record { network = t; nodes = nodes }) n
+pub node_at-nowhere : (t : Network) (n : NodeId) (nodes : List NodeView) → position (is_node n.0) nodes ≡ None →
+    record { place = local_node t n; state = new_node } ≡ node_at (record { network = t; nodes = nodes }) n
 node_at-nowhere t n nodes none = λ j. record { place = local_node t n; state = sym (state_at-nowhere n.0 nodes none) j }
 
-pub all-put : (t : Network) (n : NodeId) (state : NodeState) (nodes : List NodeView) → AllByRecursion (IsOfNetwork t) nodes → AllByRecursion (IsOfNetwork t) (put_state t n state nodes)
+pub all-put : (t : Network) (n : NodeId) (state : NodeState) (nodes : List NodeView) →
+    AllByRecursion (IsOfNetwork t) nodes → AllByRecursion (IsOfNetwork t) (put_state t n state nodes)
 all-put t n state [] all = (refl, tt)
 all-put t n state (s ∷ nodes) all = go (is_node n.0 s) (all-put t n state nodes all.1)
   where
-    go : (b : Bool) → AllByRecursion (IsOfNetwork t) (put_state t n state nodes) → AllByRecursion (IsOfNetwork t) (cond b (record { place = s.place; state = state } ∷ nodes) (s ∷ put_state t n state nodes))
+    go : (b : Bool) → AllByRecursion (IsOfNetwork t) (put_state t n state nodes) →
+        AllByRecursion (IsOfNetwork t) (cond b (record { place = s.place; state = state } ∷ nodes)
+        (s ∷ put_state t n state nodes))
     go true rest = (all.0, all.1)
     go false rest = (all.0, rest)

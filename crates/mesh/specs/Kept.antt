@@ -25,7 +25,8 @@ pub record Seats : Type 0 where
   pub network : Network
   pub nodes : List NodeView
 
--- and the items of all desks and all messages under way, each in order, and the call numbers of the setups that were posted
+-- and the items of all desks and all messages under way, each in order, and the call numbers of the setups that were
+-- posted
 pub record Kept : Type 0 where
   pub seats : Seats
   pub desks : List Waiting

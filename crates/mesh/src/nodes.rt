@@ -85,7 +85,8 @@ impl Nodes {
         change: Change,
     ) -> Result<Outs, OutOfMemory>
         requires { IsAnswerOf (node_at self.old node) change }
-        ensures ok { OnOk result (self.new ≡ with_state self.old node (changed (state_at node.0 self.old.nodes) change)) }
+        ensures ok { OnOk result
+            (self.new ≡ with_state self.old node (changed (state_at node.0 self.old.nodes) change)) }
         ensures sent { IfOk result (λ outs. outs ≡ change.sent) }
         ensures err { OnErr result (self.new ≡ self.old) }
     {
@@ -102,8 +103,10 @@ impl Nodes {
 
     // What a table shows of the node.
     fn rows_at(&self, alloc: Global, node: NodeId) -> Result<TableRows, OutOfMemory>
-        ensures calls { IfOk result (λ rows. rows.calls ≡ call_rows node (state_at node.0 self.now.nodes)) }
-        ensures legs { IfOk result (λ rows. rows.legs ≡ leg_rows node (state_at node.0 self.now.nodes)) }
+        ensures calls { IfOk result
+            (λ rows. rows.calls ≡ call_rows node (state_at node.0 self.now.nodes)) }
+        ensures legs { IfOk result
+            (λ rows. rows.legs ≡ leg_rows node (state_at node.0 self.now.nodes)) }
     {
         match self.place_of(node) {
             None => Ok(TableRows {
@@ -116,8 +119,12 @@ impl Nodes {
 
     // What a table shows of these nodes, one after the other.
     fn rows_of(&self, alloc: Global, nodes: &[NodeSpec]) -> Result<TableRows, OutOfMemory>
-        ensures calls { IfOk result (λ rows. rows.calls ≡ flat_map (λ n. call_rows n.id (state_at n.id.0 self.now.nodes)) nodes.now) }
-        ensures legs { IfOk result (λ rows. rows.legs ≡ flat_map (λ n. leg_rows n.id (state_at n.id.0 self.now.nodes)) nodes.now) }
+        ensures calls { IfOk result
+            (λ rows. rows.calls ≡ flat_map
+            (λ n. call_rows n.id (state_at n.id.0 self.now.nodes)) nodes.now) }
+        ensures legs { IfOk result
+            (λ rows. rows.legs ≡ flat_map
+            (λ n. leg_rows n.id (state_at n.id.0 self.now.nodes)) nodes.now) }
     {
         let mut calls = Vec::new(alloc);
         let mut legs = Vec::new(alloc);
@@ -133,8 +140,12 @@ impl Nodes {
 
     /// What a table shows of each node, nodes in order of number.
     pub(crate) fn rows(&self, alloc: Global) -> Result<TableRows, OutOfMemory>
-        ensures calls { IfOk result (λ rows. rows.calls ≡ flat_map (λ n. call_rows n.id (state_at n.id.0 self.now.nodes)) self.now.network.nodes) }
-        ensures legs { IfOk result (λ rows. rows.legs ≡ flat_map (λ n. leg_rows n.id (state_at n.id.0 self.now.nodes)) self.now.network.nodes) }
+        ensures calls { IfOk result
+            (λ rows. rows.calls ≡ flat_map
+            (λ n. call_rows n.id (state_at n.id.0 self.now.nodes)) self.now.network.nodes) }
+        ensures legs { IfOk result
+            (λ rows. rows.legs ≡ flat_map
+            (λ n. leg_rows n.id (state_at n.id.0 self.now.nodes)) self.now.network.nodes) }
     {
         self.rows_of(alloc, self.network.nodes())
     }

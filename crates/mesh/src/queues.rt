@@ -58,7 +58,9 @@ pub(crate) fn order(
     node: NodeId,
     command: &Command,
 ) -> Result<(), OutOfMemory>
-    ensures ok { OnOk result (desks.new.items ≡ desks.old.items ++ record { node = node; item = Order command.now } ∷ []) }
+    ensures ok { OnOk result
+        (desks.new.items ≡ desks.old.items ++
+        record { node = node; item = Order command.now } ∷ []) }
     ensures err { OnErr result (desks.new.items ≡ desks.old.items) }
 {
     let item = DeskItem::Order(command.copy(alloc)?);

@@ -30,7 +30,8 @@ fn act(
     input: &Input,
 ) -> Result<(), OutOfMemory>
     ensures nodes { OnOk result (nodes.new ≡ acted nodes.old node input.now) }
-    ensures mail { OnOk result (mail.new.items ≡ mail.old.items ++ sent_at nodes.old node input.now) }
+    ensures mail { OnOk result
+        (mail.new.items ≡ mail.old.items ++ sent_at nodes.old node input.now) }
     ensures same_nodes { OnErr result (nodes.new ≡ nodes.old) }
     ensures same_mail { OnErr result (mail.new.items ≡ mail.old.items) }
 {
@@ -67,7 +68,8 @@ fn knows(t: &Topology, node: NodeId, link: LinkId) -> bool
 
 // Whether a neighbour of the node knows the link.
 fn may_learn(t: &Topology, node: NodeId, link: LinkId) -> bool
-    ensures { result ≡ list_any (λ l. touches node l && knows t.now (other_end l node) link) t.now.links }
+    ensures { result ≡ list_any
+        (λ l. touches node l && knows t.now (other_end l node) link) t.now.links }
 {
     t.links()
         .iter()
@@ -115,8 +117,10 @@ impl MeshState {
 
     /// What a table shows of the mesh: the calls and the legs of each node, nodes in order of number.
     pub fn rows(&self, alloc: Global) -> Result<TableRows, OutOfMemory>
-        ensures calls { IfOk result (λ rows. rows.calls ≡ all_call_rows self.now.seats.network (mesh_of self.now)) }
-        ensures legs { IfOk result (λ rows. rows.legs ≡ all_leg_rows self.now.seats.network (mesh_of self.now)) }
+        ensures calls { IfOk result
+            (λ rows. rows.calls ≡ all_call_rows self.now.seats.network (mesh_of self.now)) }
+        ensures legs { IfOk result
+            (λ rows. rows.legs ≡ all_leg_rows self.now.seats.network (mesh_of self.now)) }
     {
         self.nodes.rows(alloc)
     }
@@ -144,7 +148,8 @@ impl MeshState {
         ensures ok { OnOk result (IsStep self.old (MeshEvent.Take to from) self.new) }
         ensures enabled { OnOk result (IsTrue (has_first (mail_of from.0 to.0 self.old.mail))) }
         ensures err { OnErr result (self.new ≡ self.old) }
-        ensures fault { IfErr result (λ f. f ≡ fault_if (has_first (mail_of from.0 to.0 self.old.mail))) }
+        ensures fault { IfErr result
+            (λ f. f ≡ fault_if (has_first (mail_of from.0 to.0 self.old.mail))) }
     {
         match first_message(&self.mail, from, to) {
             None => Err(StepFault::NotEnabled),
@@ -171,7 +176,8 @@ impl MeshState {
         ensures ok { OnOk result (IsStep self.old (MeshEvent.Desk node) self.new) }
         ensures enabled { OnOk result (IsTrue (has_first (desk_of node.0 self.old.desks))) }
         ensures err { OnErr result (self.new ≡ self.old) }
-        ensures fault { IfErr result (λ f. f ≡ fault_if (has_first (desk_of node.0 self.old.desks))) }
+        ensures fault { IfErr result
+            (λ f. f ≡ fault_if (has_first (desk_of node.0 self.old.desks))) }
     {
         match first_item(&self.desks, node) {
             None => Err(StepFault::NotEnabled),
@@ -193,7 +199,8 @@ impl MeshState {
         ensures ok { OnOk result (IsStep self.old (MeshEvent.Tick node) self.new) }
         ensures enabled { OnOk result (IsTrue (is_node_id self.old.seats.network.nodes node)) }
         ensures err { OnErr result (self.new ≡ self.old) }
-        ensures fault { IfErr result (λ f. f ≡ fault_if (is_node_id self.old.seats.network.nodes node)) }
+        ensures fault { IfErr result
+            (λ f. f ≡ fault_if (is_node_id self.old.seats.network.nodes node)) }
     {
         if !has_node(self.nodes.network(), node) {
             return Err(StepFault::NotEnabled);
@@ -205,8 +212,12 @@ impl MeshState {
     }
 
     fn learn(&self, node: NodeId, link: LinkId) -> Result<(), StepFault>
-        ensures enabled { OnOk result (IsTrue (is_enabled self.now.seats.network (mesh_of self.now) (MeshEvent.Learn node link))) }
-        ensures fault { IfErr result (λ f. f ≡ fault_if (is_enabled self.now.seats.network (mesh_of self.now) (MeshEvent.Learn node link))) }
+        ensures enabled { OnOk result
+            (IsTrue (is_enabled self.now.seats.network (mesh_of self.now)
+            (MeshEvent.Learn node link))) }
+        ensures fault { IfErr result
+            (λ f. f ≡ fault_if (is_enabled self.now.seats.network (mesh_of self.now)
+            (MeshEvent.Learn node link))) }
     {
         if may_learn(self.nodes.network(), node, link) {
             Ok(())
@@ -239,9 +250,13 @@ impl MeshState {
 
     fn post(&mut self, alloc: Global, command: &Command) -> Result<(), StepFault>
         ensures ok { OnOk result (IsStep self.old (MeshEvent.Post command.now) self.new) }
-        ensures enabled { OnOk result (IsTrue (is_valid self.old.seats.network command.now && not (is_again self.old.posted command.now))) }
+        ensures enabled { OnOk result
+            (IsTrue (is_valid self.old.seats.network command.now && not
+            (is_again self.old.posted command.now))) }
         ensures err { OnErr result (self.new ≡ self.old) }
-        ensures fault { IfErr result (λ f. f ≡ fault_if (is_valid self.old.seats.network command.now && not (is_again self.old.posted command.now))) }
+        ensures fault { IfErr result
+            (λ f. f ≡ fault_if (is_valid self.old.seats.network command.now && not
+            (is_again self.old.posted command.now))) }
     {
         if !is_valid(self.nodes.network(), command) || is_again(&self.posted, command) {
             return Err(StepFault::NotEnabled);
@@ -255,11 +270,14 @@ impl MeshState {
     /// The step of the mesh machine. An event that isn't enabled is refused as NotEnabled, and after any error nothing has
     /// changed.
     pub fn step(&mut self, alloc: Global, e: &MeshEvent) -> Result<(), StepFault>
-        ensures ok { OnOk result (mesh_of self.new ≡ step self.old.seats.network (mesh_of self.old) e.now) }
-        ensures enabled { OnOk result (IsTrue (is_enabled self.old.seats.network (mesh_of self.old) e.now)) }
+        ensures ok { OnOk result
+            (mesh_of self.new ≡ step self.old.seats.network (mesh_of self.old) e.now) }
+        ensures enabled { OnOk result
+            (IsTrue (is_enabled self.old.seats.network (mesh_of self.old) e.now)) }
         ensures network { self.new.seats.network ≡ self.old.seats.network }
         ensures err { OnErr result (self.new ≡ self.old) }
-        ensures fault { IfErr result (λ f. f ≡ fault_if (is_enabled self.old.seats.network (mesh_of self.old) e.now)) }
+        ensures fault { IfErr result
+            (λ f. f ≡ fault_if (is_enabled self.old.seats.network (mesh_of self.old) e.now)) }
     {
         match e {
             MeshEvent::Take { to, from } => self.take(alloc, *to, *from),

@@ -28,5 +28,6 @@ run_so_far t s [] later run = tt
 run_so_far t s (e ∷ events) later run = (run.0, run_so_far t (step t s e) events later run.1)
 
 -- and after each first part of one
-pub laws_hold_so_far : (t : Network) (events later : List MeshEvent) → IsRun t start (events ++ later) → LawsHold t events
+pub laws_hold_so_far : (t : Network) (events later : List MeshEvent) → IsRun t start (events ++ later) →
+    LawsHold t events
 laws_hold_so_far t events later run = laws_hold t events (run_so_far t start events later run)

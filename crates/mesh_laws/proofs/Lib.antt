@@ -1,3 +1,4 @@
 pub mod EveryRun
+mod Examples
 pub mod hops
 pub mod nodes

@@ -10,3 +10,4 @@ pub mod OrderKeeps
 pub mod Parts
 pub mod PathKeeps
 pub mod Runs
+pub mod Sharing

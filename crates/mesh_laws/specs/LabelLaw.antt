@@ -1,29 +1,48 @@
--- In every state of every run at most one leg of a node takes a label of a fibre, and a Live leg has a label for each
--- fibre.
-use Rattle.std.specs.Prelude.{◌≡◌, ℕ, List, IsTrue, All, is_some}
+-- In every state of every run a label of a fibre is one LSP's at the node into which the fibre leads, or backups share
+-- it
+-- whose primaries have no risk in common (RFC 4872, section 8); and a Live leg has a label for each fibre.
+use Rattle.std.specs.Prelude.{◌≡◌, ◌&&◌, ℕ, Bool, true, false, List, IsTrue, All, is_some}
 use Rattle.std.specs.List.{AllPairs}
+use Rattle.ason_base.specs.declared.calls.Phase.{Phase}
+use Rattle.ason_base.specs.declared.calls.Phase.TheVariants.{Asked, Held, Armed, Live, Closing, Falling}
+use Rattle.ason_base.specs.declared.calls.Role.TheVariants.{Back}
 use Rattle.ason_base.specs.declared.ids.Fibre.{Fibre}
-use Rattle.ason_base.specs.declared.calls.Phase.TheVariants.{Live}
 use Rattle.ason_base.specs.declared.tables.Leg.{Leg}
 use Rattle.ason_base.specs.Network.{Network}
+use Rattle.ason_base.specs.Risks.{AreDisjoint}
 use Rattle.mesh_rules.specs.declared.events.MeshEvent.{MeshEvent}
 use Rattle.mesh_rules.specs.Legs.{takes}
 use Rattle.mesh_rules.specs.Machine.{start}
 use Rattle.mesh_rules.specs.Events.{IsRun, after}
 
--- there is no label of a fibre that both legs take
-abbrev pub TakeNoLabelTwice : Leg → Leg → Type 0
-TakeNoLabelTwice g h = (f : Fibre) (x : ℕ) → IsTrue (takes f x g) → IsTrue (takes f x h) → ⊥
+-- an activation has passed the leg
+abbrev pub is_in_use : Phase → Bool
+is_in_use Asked = false
+is_in_use Held = false
+is_in_use Armed = true
+is_in_use Live = true
+is_in_use Closing = false
+is_in_use Falling = false
 
--- each label of each fibre is taken by at most one leg of the list: no two of them take the same
-abbrev pub LabelsHaveOneLeg : List Leg → Type 0
-LabelsHaveOneLeg legs = AllPairs TakeNoLabelTwice legs
+-- Two legs that may take one label: backups whose primaries have no risk in common, at most one of them Armed or Live.
+pub record MayShare (g h : Leg) : Type 0 where
+  pub backups : (g.role ≡ Back) × (h.role ≡ Back)
+  pub apart : AreDisjoint g.risks h.risks
+  pub one_in_use : (is_in_use g.phase && is_in_use h.phase) ≡ false
+
+-- where both legs take the same label of a fibre, they may share it
+abbrev pub ShareLawfully : Leg → Leg → Type 0
+ShareLawfully g h = (f : Fibre) (x : ℕ) → IsTrue (takes f x g) → IsTrue (takes f x h) → MayShare g h
+
+-- each label of each fibre is taken by one leg of the list alone, or by legs that may share it
+abbrev pub LabelsAreShared : List Leg → Type 0
+LabelsAreShared legs = AllPairs ShareLawfully legs
 
 -- over every network and every run, at each node
-abbrev pub EveryLabelHasOneLeg : Type 0
-EveryLabelHasOneLeg =
+abbrev pub EveryLabelIsShared : Type 0
+EveryLabelIsShared =
     (t : Network) (events : List MeshEvent) → IsRun t start events → (n : ℕ) →
-    LabelsHaveOneLeg ((after t start events).nodes n).legs
+    LabelsAreShared ((after t start events).nodes n).legs
 
 -- the leg has a label in exactly where it has a fibre in, and a label out exactly where it has a fibre out
 pub record IsLabelled (g : Leg) : Type 0 where

@@ -8,13 +8,15 @@ use Rattle.mesh_rules.specs.Events.{IsRun, after, route_of}
 use Rattle.mesh_laws.specs.CallLaw.{CallsFit}
 use Rattle.mesh_laws.specs.HopLaw.{HasOneLegEach, LspFits}
 use Rattle.mesh_laws.specs.JoinedLaw.{CallsAreJoined}
-use Rattle.mesh_laws.specs.LabelLaw.{LabelsHaveOneLeg, LiveLegsAreLabelled}
+use Rattle.mesh_laws.specs.LabelLaw.{LabelsAreShared, LiveLegsAreLabelled}
 use Rattle.mesh_laws.specs.SafeLaw.{IsSafe}
 
 -- what holds of the state to which these events lead from the start
 pub record LawsHold (t : Network) (events : List MeshEvent) : Type 0 where
-  -- at each node: no label of a fibre is taken by two legs, a Live leg has its labels, and each call fits its legs
-  pub labels : (n : ℕ) → LabelsHaveOneLeg ((after t start events).nodes n).legs
+  -- at each node: a label of a fibre is one LSP's, or backups share it whose primaries have no risk in common; a Live
+  -- leg
+  -- has its labels; and each call fits its legs
+  pub labels : (n : ℕ) → LabelsAreShared ((after t start events).nodes n).legs
   pub labelled : (n : ℕ) → LiveLegsAreLabelled ((after t start events).nodes n).legs
   pub calls : (n : ℕ) → CallsFit n ((after t start events).nodes n)
   -- each hop of each LSP has a shape of the table

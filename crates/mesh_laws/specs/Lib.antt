@@ -4,4 +4,5 @@ pub mod HopShapes
 pub mod JoinedLaw
 pub mod LabelLaw
 pub mod Laws
+pub mod NodeLaw
 pub mod SafeLaw

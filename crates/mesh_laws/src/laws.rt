@@ -3,22 +3,31 @@
 ghost use Rattle.mesh_laws.specs.CallLaw.{EveryCallFitsItsLegs};
 ghost use Rattle.mesh_laws.specs.HopLaw.{EveryHopHasAShape};
 ghost use Rattle.mesh_laws.specs.JoinedLaw.{EveryCallIsJoined};
-ghost use Rattle.mesh_laws.specs.LabelLaw.{EveryLabelHasOneLeg, EveryLiveLegIsLabelled};
+ghost use Rattle.mesh_laws.specs.LabelLaw.{EveryLabelIsShared, EveryLiveLegIsLabelled};
 ghost use Rattle.mesh_laws.specs.Laws.{EveryRunKeepsTheLaws};
+ghost use Rattle.mesh_laws.specs.NodeLaw.{EveryNodeSharesLawfully};
 ghost use Rattle.mesh_laws.specs.SafeLaw.{EveryRunIsSafe};
 
-/// In each state of each run, at each node: at most one leg takes a label of a fibre; a Live leg has a label in exactly where
-/// it has a fibre in, and a label out exactly where it has a fibre out; and the state of each call that begins there fits its
-/// legs, each of which is of one call. Each hop of each LSP, its legs at both ends with the messages between them, has a shape
-/// of the table, and each leg names the end of its LSP's route as its egress. No label of a fibre is cross-connected for two
-/// LSPs. Each call that is neither asking nor blocked is joined: its working LSP is Live at each node of its route, each label
-/// out being the next node's label in. The last clause says all of it of one state, in one word.
+/// In each state of each run, at each node: a label of a fibre is taken by one leg alone, or by backups whose primaries have
+/// no risk in common, at most one of them Armed or Live; a Live leg has a label in exactly where it has a fibre in, and a label
+/// out exactly where it has a fibre out; and the state of each call that begins there fits its legs, each of which is of one
+/// call. Each hop of each LSP, its legs at both ends with the messages between them, has a shape of the table, and each leg
+/// names the end of its LSP's route as its egress. No label of a fibre is cross-connected for two LSPs. Each call that is
+/// neither asking nor blocked is joined: its working LSP is Live at each node of its route, each label out being the next
+/// node's label in. The last clause says all of it of one state, in one word.
 pub fn every_run()
-    ensures labels { EveryLabelHasOneLeg }
+    ensures labels { EveryLabelIsShared }
     ensures labelled { EveryLiveLegIsLabelled }
     ensures calls { EveryCallFitsItsLegs }
     ensures hops { EveryHopHasAShape }
     ensures safe { EveryRunIsSafe }
     ensures joined { EveryCallIsJoined }
     ensures together { EveryRunKeepsTheLaws }
+{}
+
+/// At each node, whatever messages come to it, of whatever senders, in whatever order with the orders of its own calls: a
+/// label of a fibre is taken by one leg alone, or by backups whose primaries have no risk in common, at most one of them Armed
+/// or Live.
+pub fn every_node()
+    ensures { EveryNodeSharesLawfully }
 {}

@@ -27,7 +27,8 @@ number-by a b m e = let p : a ≡ b = grind arith in ap (λ x. nat_eq x m) p
 pub found-number : (k : CallNo) (calls : List CallRec) (c : CallRec) → find_call k calls ≡ Some c → c.call ≡ k
 found-number k [] c found = cc
 found-number k (d ∷ calls) c found =
-    elim (nat_eq d.call.0 k.0) as (λ b. nat_eq d.call.0 k.0 ≡ b → cond b (Some d) (find_call k calls) ≡ Some c → c.call ≡ k) [
+    elim (nat_eq d.call.0 k.0) as (λ b. nat_eq d.call.0 k.0 ≡ b → cond b (Some d) (find_call k calls) ≡ Some c →
+    c.call ≡ k) [
       | true ↦ λ e f. let is : d ≡ c = cc in sym (ap (λ x. x.call) is) ∙ number-eq d.call k e
       | false ↦ λ e f. found-number k calls c f
     ] refl found
@@ -59,7 +60,8 @@ find-with_call c (d ∷ calls) m =
 
     go : find_call m (with_call c calls) ≡ cond (nat_eq c.call.0 m.0) (Some c) (find_call m calls) → (a b : Bool) →
         nat_eq d.call.0 c.call.0 ≡ a →
-        find_call m (cond a (c ∷ calls) (cond b (c ∷ d ∷ calls) (d ∷ with_call c calls))) ≡ cond (nat_eq c.call.0 m.0) (Some c) (cond (nat_eq d.call.0 m.0) (Some d) (find_call m calls))
+        find_call m (cond a (c ∷ calls) (cond b (c ∷ d ∷ calls) (d ∷ with_call c calls))) ≡ cond
+        (nat_eq c.call.0 m.0) (Some c) (cond (nat_eq d.call.0 m.0) (Some d) (find_call m calls))
     go below true b e = rw (number-by d.call.0 c.call.0 m.0 e) (twice (nat_eq c.call.0 m.0))
     go below false true e = refl
     go below false false e = rw below (swap (nat_eq d.call.0 m.0) (nat_eq c.call.0 m.0) refl refl e)
@@ -72,7 +74,8 @@ find-without_call k (d ∷ calls) m = go (find-without_call k calls m) (nat_eq d
   where
     go : find_call m (without_call k calls) ≡ cond (nat_eq k.0 m.0) None (find_call m calls) → (a b : Bool) →
         nat_eq d.call.0 k.0 ≡ a → nat_eq k.0 m.0 ≡ b →
-        find_call m (cond (not a) (d ∷ without_call k calls) (without_call k calls)) ≡ cond b None (cond (nat_eq d.call.0 m.0) (Some d) (find_call m calls))
+        find_call m (cond (not a) (d ∷ without_call k calls) (without_call k calls)) ≡ cond b None
+        (cond (nat_eq d.call.0 m.0) (Some d) (find_call m calls))
     go below true true e f = rw (below, f) refl
     go below true false e f = rw (below, number-by d.call.0 k.0 m.0 e, f) refl
     go below false true e f = let apart : nat_eq d.call.0 m.0 ≡ false = grind arith in rw (below, f, apart) refl
@@ -84,12 +87,14 @@ pub all-with_call : (P : CallRec → Type 0) (c : CallRec) (calls : List CallRec
     AllByRecursion P (with_call c calls)
 all-with_call P c [] here all = (here, tt)
 all-with_call P c (d ∷ calls) here all =
-    elim (nat_eq d.call.0 c.call.0) as (λ a. AllByRecursion P (cond a (c ∷ calls) (cond (nat_lt c.call.0 d.call.0) (c ∷ d ∷ calls) (d ∷ with_call c calls)))) [
+    elim (nat_eq d.call.0 c.call.0) as (λ a. AllByRecursion P
+    (cond a (c ∷ calls) (cond (nat_lt c.call.0 d.call.0) (c ∷ d ∷ calls) (d ∷ with_call c calls)))) [
       | true ↦ (here, all.1)
-      | false ↦ elim (nat_lt c.call.0 d.call.0) as (λ b. AllByRecursion P (cond b (c ∷ d ∷ calls) (d ∷ with_call c calls))) [
-        | true ↦ (here, all)
-        | false ↦ (all.0, all-with_call P c calls here all.1)
-      ]
+      | false ↦ elim (nat_lt c.call.0 d.call.0) as
+          (λ b. AllByRecursion P (cond b (c ∷ d ∷ calls) (d ∷ with_call c calls))) [
+            | true ↦ (here, all)
+            | false ↦ (all.0, all-with_call P c calls here all.1)
+          ]
     ]
 
 pub rise-with_call : (c : CallRec) (calls : List CallRec) → CallsRise calls → CallsRise (with_call c calls)
@@ -104,13 +109,17 @@ rise-with_call c (d ∷ calls) rise =
     go below false true e f =
         let less : c.call.0 < d.call.0 = grind arith in ((less, all-then _ _ calls (λ x h. omega arith) rise.0), rise)
     go below false false e f =
-        let less : d.call.0 < c.call.0 = grind arith in (all-with_call (λ x. d.call.0 < x.call.0) c calls less rise.0, below)
+        let less : d.call.0 < c.call.0 = grind arith in
+        (all-with_call (λ x. d.call.0 < x.call.0) c calls less rise.0, below)
 
 pub rise-without_call : (k : CallNo) (calls : List CallRec) → CallsRise calls → CallsRise (without_call k calls)
 rise-without_call k [] rise = tt
 rise-without_call k (d ∷ calls) rise =
     elim (not (nat_eq d.call.0 k.0)) as (λ b. CallsRise (cond b (d ∷ without_call k calls) (without_call k calls))) [
-      | true ↦ (all-filter (λ x. d.call.0 < x.call.0) (λ x. not (nat_eq x.call.0 k.0)) calls rise.0, rise-without_call k calls rise.1)
+      | true ↦ (
+        all-filter (λ x. d.call.0 < x.call.0) (λ x. not (nat_eq x.call.0 k.0)) calls rise.0,
+        rise-without_call k calls rise.1,
+      )
       | false ↦ rise-without_call k calls rise.1
     ]
 
@@ -139,15 +148,18 @@ pub called-found : (l : Lsp) (calls : List CallRec) (c : CallRec) → CallsRise 
     find_call c.call calls ≡ Some c
 called-found l [] c rise called = cc
 called-found l (d ∷ calls) c rise called =
-    elim (is_lsp d.work l) as (λ b. cond b (Some d) (call_of l calls) ≡ Some c → find_call c.call (d ∷ calls) ≡ Some c) [
-      | true ↦ λ e. let is : d ≡ c = cc in subst (λ x. find_call x.call (d ∷ calls) ≡ Some x) is (rw (same d.call.0) refl)
+    elim (is_lsp d.work l) as (λ b. cond b (Some d) (call_of l calls) ≡ Some c →
+    find_call c.call (d ∷ calls) ≡ Some c) [
+      | true ↦ λ e. let is : d ≡ c = cc in subst (λ x. find_call x.call (d ∷ calls) ≡ Some x) is
+          (rw (same d.call.0) refl)
       | false ↦ λ e. found-below d calls c.call c rise.0 (called-found l calls c rise.1 e)
     ] called
 
 pub called-work : (l : Lsp) (calls : List CallRec) (c : CallRec) → call_of l calls ≡ Some c → is_lsp c.work l ≡ true
 called-work l [] c called = cc
 called-work l (d ∷ calls) c called =
-    elim (is_lsp d.work l) as (λ b. is_lsp d.work l ≡ b → cond b (Some d) (call_of l calls) ≡ Some c → is_lsp c.work l ≡ true) [
+    elim (is_lsp d.work l) as (λ b. is_lsp d.work l ≡ b → cond b (Some d) (call_of l calls) ≡ Some c →
+    is_lsp c.work l ≡ true) [
       | true ↦ λ e f. let is : d ≡ c = cc in subst (λ x. is_lsp x.work l ≡ true) is e
       | false ↦ λ e f. called-work l calls c f
     ] refl called
@@ -162,7 +174,8 @@ not_called l (d ∷ calls) k c called found work =
         cond a (Some d) (call_of l calls) ≡ None → cond b (Some d) (find_call k calls) ≡ Some c → ⊥
     go later true b e f g = cc f
     go later false true e f g =
-        let is : d ≡ c = cc g in let work' : is_lsp d.work l ≡ true = subst (λ x. is_lsp x.work l ≡ true) (sym is) work in cc (e, work')
+        let is : d ≡ c = cc g in let work' : is_lsp d.work l ≡ true =
+        subst (λ x. is_lsp x.work l ≡ true) (sym is) work in cc (e, work')
     go later false false e f g = later f g
 
 -- How many calls have the LSP
@@ -178,13 +191,15 @@ one-filtered : (p : CallRec → Bool) (calls : List CallRec) (k : CallNo) (c : C
     ((m : CallNo) (d : CallRec) → find_call m calls ≡ Some d → p d ≡ true → m ≡ k) → length (filter p calls) ≡ 1
 one-filtered p [] k c rise found passes one = cc
 one-filtered p (d ∷ calls) k c rise found passes one =
-    go (λ below. one-filtered p calls k c rise.1 below passes (λ m x f. one m x (found-below d calls m x rise.0 f))) (p d) refl
+    go (λ below. one-filtered p calls k c rise.1 below passes (λ m x f. one m x (found-below d calls m x rise.0 f)))
+    (p d) refl
   where
     go : (find_call k calls ≡ Some c → length (filter p calls) ≡ 1) → (b : Bool) → p d ≡ b →
         length (filter p (d ∷ calls)) ≡ 1
     go later true e =
         let first : d.call ≡ k = one d.call d (rw (same d.call.0) refl) e in
-        let others : AllByRecursion (λ x. p x ≡ false) calls = all-calls_found (λ x. p x ≡ false) calls rise.1 (λ m x f. other first m x f (p x) refl) in
+        let others : AllByRecursion (λ x. p x ≡ false) calls =
+        all-calls_found (λ x. p x ≡ false) calls rise.1 (λ m x f. other first m x f (p x) refl) in
         rw (e, none-filtered p calls others) refl
       where
         other : d.call ≡ k → (m : CallNo) (x : CallRec) → find_call m calls ≡ Some x → (b : Bool) → p x ≡ b → b ≡ false
@@ -198,10 +213,12 @@ one-filtered p (d ∷ calls) k c rise found passes one =
     go later false e = rw e (later below)
       where
         below : find_call k calls ≡ Some c
-        below = elim (nat_eq d.call.0 k.0) as (λ b. cond b (Some d) (find_call k calls) ≡ Some c → find_call k calls ≡ Some c) [
-          | true ↦ λ f. let is : d ≡ c = cc in let no : p d ≡ true = subst (λ x. p x ≡ true) (sym is) passes in absurd (cc (e, no))
-          | false ↦ λ f. f
-        ] found
+        below = elim (nat_eq d.call.0 k.0) as (λ b. cond b (Some d) (find_call k calls) ≡ Some c →
+            find_call k calls ≡ Some c) [
+              | true ↦ λ f. let is : d ≡ c = cc in let no : p d ≡ true =
+                  subst (λ x. p x ≡ true) (sym is) passes in absurd (cc (e, no))
+              | false ↦ λ f. f
+            ] found
 
 pub one-count : (p : CallRec → Bool) (calls : List CallRec) (k : CallNo) (c : CallRec) → CallsRise calls →
     find_call k calls ≡ Some c → p c ≡ true →

@@ -3,7 +3,7 @@ use Rattle.std.proofs.Common.{◌≡◌, ◌≤◌, ◌<◌, ◌+◌, ℕ, Bool,
 use Rattle.std.specs.Prelude.{◌&&◌, Option, Some, None}
 use Rattle.std.specs.List.{AllByRecursion}
 use Rattle.ason_base.specs.declared.calls.Cause.{Cause}
-use Rattle.ason_base.specs.declared.calls.Cause.TheVariants.{Spent, Full}
+use Rattle.ason_base.specs.declared.calls.Cause.TheVariants.{NoRoute, Spent, Full}
 use Rattle.ason_base.specs.declared.commands.Command.TheVariants.{Setup, Release, Protect, Retry, Revert, Fail, Repair}
 use Rattle.ason_base.specs.declared.commands.DeskItem.TheVariants.{Order, Alarm, Clear}
 use Rattle.ason_base.specs.declared.ids.CallNo.{CallNo}
@@ -20,9 +20,11 @@ use Rattle.mesh_rules.specs.declared.limits.TheConstants.{MOST_LEGS, MOST_LINKS_
 use Rattle.mesh_rules.specs.declared.neighbours.Neighbour.{Neighbour}
 use Rattle.mesh_rules.specs.Calls.{find_call, without_call}
 use Rattle.mesh_rules.specs.Changes.{changes_calls, followed_by, nothing}
+use Rattle.mesh_rules.specs.KnownRows.{known_rows}
+use Rattle.mesh_rules.specs.LeastRoutes.{Trip, least_trip}
 use Rattle.mesh_rules.specs.Legs.{closed, find_leg, following, leg_of, with_leg}
 use Rattle.mesh_rules.specs.Releases.{release_with, releases, tear_to, tears}
-use Rattle.mesh_rules.specs.Setups.{SetupRequest, admitted_setup, begins, first_leg, first_link, is_followable, is_full, is_order_here, is_spent, new_call, next_lsp, over_first, refused_setup, setup_with}
+use Rattle.mesh_rules.specs.Setups.{SetupRequest, admitted_setup, begins, first_leg, first_link, is_followable, is_full, is_order_here, is_spent, new_call, next_lsp, over_first, over_found, refused_setup, setup_with}
 use Rattle.mesh_rules.specs.LocalNodes.{LocalNode, own_link}
 use Rattle.mesh_rules.specs.State.{NodeState}
 use Rattle.mesh_nodes.specs.Kept.{LegFits, LegsFit, NodeFits}
@@ -74,7 +76,8 @@ module _ (p : LocalNode) (s : NodeState) (w : SetupRequest) (W : Type 0) (place 
   begins-fits hop out route found short room = record {
     kept = record {
       legs =
-          legs-more p s.lsp (s.lsp + 1) (first_leg p (next_lsp p s) w.egress out route) s.legs (omega arith) fits.legs room (first-leg-fits hop out route found);
+          legs-more p s.lsp (s.lsp + 1) (first_leg p (next_lsp p s) w.egress out route) s.legs
+          (omega arith) fits.legs room (first-leg-fits hop out route found);
       calls = calls-put p _ s.calls fits.calls followable;
       first = (let first = fits.first in omega arith);
       numbers = (let numbers = fits.numbers in omega arith);
@@ -84,11 +87,13 @@ module _ (p : LocalNode) (s : NodeState) (w : SetupRequest) (W : Type 0) (place 
     few = omega arith;
   }
 
-  admitted-fits : (hop : Step) (out : LinkSpec) (route : List Step) → own_link p hop.link ≡ Some out → length route ≤ 64 →
+  admitted-fits : (hop : Step) (out : LinkSpec) (route : List Step) → own_link p hop.link ≡ Some out →
+      length route ≤ 64 →
       AnswerFits p s W (admitted_setup p s w out route)
   admitted-fits hop out route found short =
       if_cases (AnswerFits p s W) (is_spent s) _ _ (λ e. refused-fits Spent)
-      (λ e. if_cases (AnswerFits p s W) (is_full s) _ _ (λ f. refused-fits Full) (λ f. begins-fits hop out route found short (below (length s.legs) f)))
+      (λ e. if_cases (AnswerFits p s W) (is_full s) _ _ (λ f. refused-fits Full)
+      (λ f. begins-fits hop out route found short (below (length s.legs) f)))
 
   few-steps : (n : ℕ) → nat_lt n MOST_LINKS_OF_ROUTE ≡ true → n ≤ 64
   few-steps n e = grind arith
@@ -96,19 +101,28 @@ module _ (p : LocalNode) (s : NodeState) (w : SetupRequest) (W : Type 0) (place 
   over-fits : (hop : Step) (route : List Step) (o : Option LinkSpec) → first_link p (hop ∷ route) ≡ o →
       AnswerFits p s W (over_first p s w (hop ∷ route) o)
   over-fits hop route None found = nothing-fits p s W fits
-  over-fits hop route (Some out) found = go (nat_eq hop.node.0 p.id.0 && nat_lt (length route) MOST_LINKS_OF_ROUTE) refl found
+  over-fits hop route (Some out) found = go (nat_eq hop.node.0 p.id.0
+      && nat_lt (length route) MOST_LINKS_OF_ROUTE) refl found
     where
       go : (b : Bool) → (nat_eq hop.node.0 p.id.0 && nat_lt (length route) MOST_LINKS_OF_ROUTE) ≡ b →
           cond b (own_link p hop.link) None ≡ Some out → AnswerFits p s W (admitted_setup p s w out route)
       go true e f = admitted-fits hop out route f (few-steps (length route) (both_right (nat_eq hop.node.0 p.id.0) _ e))
       go false e f = absurd (cc f)
 
-  new_call-fits : (via : Option (List Step)) → AnswerFits p s W (new_call p s w via)
-  new_call-fits None = nothing-fits p s W fits
-  new_call-fits (Some []) = nothing-fits p s W fits
-  new_call-fits (Some (hop ∷ route)) = over-fits hop route (first_link p (hop ∷ route)) refl
+  route-fits : (route : List Step) → AnswerFits p s W (over_first p s w route (first_link p route))
+  route-fits [] = nothing-fits p s W fits
+  route-fits (hop ∷ route) = over-fits hop route (first_link p (hop ∷ route)) refl
 
-setup-fits : (p : LocalNode) (s : NodeState) (w : SetupRequest) (W : Type 0) (o : Option CallRec) → LocalNodeFits p → NodeFits p s →
+  found-fits : (o : Option Trip) → AnswerFits p s W (over_found p s w o)
+  found-fits None = refused-fits NoRoute
+  found-fits (Some r) = route-fits r.steps
+
+  new_call-fits : (via : Option (List Step)) → AnswerFits p s W (new_call p s w via)
+  new_call-fits None = found-fits (least_trip (known_rows p s) p.id w.egress)
+  new_call-fits (Some route) = route-fits route
+
+setup-fits : (p : LocalNode) (s : NodeState) (w : SetupRequest) (W : Type 0) (o : Option CallRec) → LocalNodeFits p →
+    NodeFits p s →
     AnswerFits p s W (setup_with p s w o)
 setup-fits p s w W (Some c) place fits = nothing-fits p s W fits
 setup-fits p s w W None place fits =
@@ -148,38 +162,56 @@ few-append [] b h k = omega arith
 few-append (x ∷ []) b h k = omega arith
 few-append (x ∷ y ∷ a) b h k = absurd (omega arith)
 
-closed-legs : (p : LocalNode) (s : NodeState) (g : Leg) → NodeFits p s → Stands p s g → LegsFit p s.lsp (with_leg (closed g) s.legs)
-closed-legs p s g fits stands = legs-changed p s.lsp (closed g) g s.legs fits.legs stands.found (closed-fits p s.lsp g stands.fits)
+closed-legs : (p : LocalNode) (s : NodeState) (g : Leg) → NodeFits p s → Stands p s g →
+    LegsFit p s.lsp (with_leg (closed g) s.legs)
+closed-legs p s g fits stands = legs-changed p s.lsp (closed g) g s.legs fits.legs stands.found
+    (closed-fits p s.lsp g stands.fits)
 
 -- a leg that stands closes after another one, or that one itself
 closed-both : (p : LocalNode) (s : NodeState) (g h : Leg) → NodeFits p s → Stands p s g → Stands p s h →
     LegsFit p s.lsp (with_leg (closed h) (with_leg (closed g) s.legs))
 closed-both p s g h fits this that = go (same_lsp g.lsp h.lsp) refl
   where
-    found : find_leg h.lsp (with_leg (closed g) s.legs) ≡ cond (same_lsp g.lsp h.lsp) (Some (closed g)) (find_leg h.lsp s.legs)
+    found : find_leg h.lsp (with_leg (closed g) s.legs) ≡ cond (same_lsp g.lsp h.lsp) (Some (closed g))
+        (find_leg h.lsp s.legs)
     found = find-with_leg (closed g) s.legs h.lsp
 
     by : (k : Leg) → find_leg h.lsp (with_leg (closed g) s.legs) ≡ Some k →
         LegsFit p s.lsp (with_leg (closed h) (with_leg (closed g) s.legs))
     by k e =
-        legs-changed p s.lsp (closed h) k (with_leg (closed g) s.legs) (closed-legs p s g fits this) e (closed-fits p s.lsp h that.fits)
+        legs-changed p s.lsp (closed h) k (with_leg (closed g) s.legs) (closed-legs p s g fits this) e
+        (closed-fits p s.lsp h that.fits)
 
     go : (b : Bool) → same_lsp g.lsp h.lsp ≡ b → LegsFit p s.lsp (with_leg (closed h) (with_leg (closed g) s.legs))
     go true e = by (closed g) (found ∙ ap (λ b. cond b (Some (closed g)) (find_leg h.lsp s.legs)) e)
     go false e = by h (found ∙ ap (λ b. cond b (Some (closed g)) (find_leg h.lsp s.legs)) e ∙ that.found)
 
-leg_of-stands : (p : LocalNode) (s : NodeState) (o : Option Lsp) (g : Leg) → NodeFits p s → leg_of o s.legs ≡ Some g → Stands p s g
+leg_of-stands : (p : LocalNode) (s : NodeState) (o : Option Lsp) (g : Leg) → NodeFits p s →
+    leg_of o s.legs ≡ Some g → Stands p s g
 leg_of-stands p s None g fits e = absurd (cc e)
 leg_of-stands p s (Some l) g fits e = leg-stands p s l g fits e
 
 module _ (p : LocalNode) (s : NodeState) (n : CallNo) (W : Type 0) (fits : NodeFits p s) where
   -- the call goes
-  kept : (legs : List Leg) → LegsFit p s.lsp legs → NodeFits p (record s { legs = legs; calls = without_call n s.calls })
-  kept legs here = record { legs = here; calls = calls-less p n s.calls fits.calls; first = fits.first; numbers = fits.numbers }
+  kept : (legs : List Leg) → LegsFit p s.lsp legs →
+      NodeFits p (record s { legs = legs; calls = without_call n s.calls })
+  kept legs here = record {
+    legs = here;
+    calls = calls-less p n s.calls fits.calls;
+    first = fits.first;
+    numbers =
+        fits.numbers;
+  }
 
   tears-fit : (a b : Option Leg) → ((g : Leg) → a ≡ Some g → Stands p s g) → ((g : Leg) → b ≡ Some g → Stands p s g) →
       AnswerFits p s W (followed_by (tears a) (followed_by (tears b) (changes_calls (call.Goes n ∷ []))))
-  tears-fit None None this that = record { kept = kept s.legs fits.legs; near = tt; written = λ w. tt; few = omega arith }
+  tears-fit None None this that = record {
+    kept = kept s.legs fits.legs;
+    near = tt;
+    written = λ w. tt;
+    few =
+        omega arith;
+  }
   tears-fit None (Some h) this that =
       let t = tear_to-fits p s.lsp h (following h) (that h refl).fits refl in
       record {
@@ -200,10 +232,13 @@ module _ (p : LocalNode) (s : NodeState) (n : CallNo) (W : Type 0) (fits : NodeF
       let t = tear_to-fits p s.lsp g (following g) (this g refl).fits refl in
       let u = tear_to-fits p s.lsp h (following h) (that h refl).fits refl in
       record {
-        kept = kept (with_leg (closed h) (with_leg (closed g) s.legs)) (closed-both p s g h fits (this g refl) (that h refl));
+        kept = kept (with_leg (closed h) (with_leg (closed g) s.legs))
+            (closed-both p s g h fits (this g refl) (that h refl));
         near = all-append _ (tear_to g (following g)) _ t.near (all-append _ (tear_to h (following h)) [] u.near tt);
-        written = λ w. all-append _ (tear_to g (following g)) _ t.written (all-append _ (tear_to h (following h)) [] u.written tt);
-        few = few-append (tear_to g (following g)) (tear_to h (following h) ++ []) t.few (few-end (tear_to h (following h)) u.few);
+        written = λ w. all-append _ (tear_to g (following g)) _ t.written
+            (all-append _ (tear_to h (following h)) [] u.written tt);
+        few = few-append (tear_to g (following g)) (tear_to h (following h) ++ []) t.few
+            (few-end (tear_to h (following h)) u.few);
       }
     where
       few-end : (outs : List Out) → length outs ≤ 1 → length (outs ++ []) ≤ 1
@@ -216,7 +251,8 @@ release-fits : (p : LocalNode) (s : NodeState) (from : NodeId) (W : Type 0) (o :
 release-fits p s from W None fits = nothing-fits p s W fits
 release-fits p s from W (Some c) fits =
     if_cases (AnswerFits p s W) (nat_eq from.0 p.id.0) (releases s c) nothing
-    (λ e. tears-fit p s c.call W fits (leg_of c.work s.legs) (leg_of c.back s.legs) (λ g. leg_of-stands p s c.work g fits) (λ g. leg_of-stands p s c.back g fits))
+    (λ e. tears-fit p s c.call W fits (leg_of c.work s.legs) (leg_of c.back s.legs)
+    (λ g. leg_of-stands p s c.work g fits) (λ g. leg_of-stands p s c.back g fits))
     (λ e. nothing-fits p s W fits)
 
 -- Every item

@@ -47,8 +47,10 @@ length-replaced g k (h ∷ legs) rise found =
         length (cond a (g ∷ legs) (cond b (g ∷ h ∷ legs) (h ∷ with_leg g legs))) ≡ length (h ∷ legs)
     go true b e f later = refl
     go false true e f later =
-        let above : lsp_before h.lsp k.lsp ≡ true = found-all (λ x. IsTrue (lsp_before h.lsp x.lsp)) g.lsp legs k f rise.0 in
-        let above' : lsp_before h.lsp g.lsp ≡ true = subst (λ x. lsp_before h.lsp x ≡ true) (found-lsp g.lsp legs k f) above in
+        let above : lsp_before h.lsp k.lsp ≡ true = found-all
+        (λ x. IsTrue (lsp_before h.lsp x.lsp)) g.lsp legs k f rise.0 in
+        let above' : lsp_before h.lsp g.lsp ≡ true =
+        subst (λ x. lsp_before h.lsp x ≡ true) (found-lsp g.lsp legs k f) above in
         let apart = before-apart h.lsp h.lsp (before-before h.lsp g.lsp h.lsp above' e) in
         absurd (cc (apart, same_lsp-refl h.lsp))
     go false false e f later = ap suc (later f)
@@ -57,7 +59,8 @@ length-filter_less : {X : Type 0} (p : X → Bool) (xs : List X) → length (fil
 length-filter_less p [] = omega arith
 length-filter_less p (x ∷ xs) = go (p x) (length-filter_less p xs)
   where
-    go : (b : Bool) → length (filter p xs) ≤ length xs → length (cond b (x ∷ filter p xs) (filter p xs)) ≤ length (x ∷ xs)
+    go : (b : Bool) → length (filter p xs) ≤ length xs →
+        length (cond b (x ∷ filter p xs) (filter p xs)) ≤ length (x ∷ xs)
     go true below = omega arith
     go false below = omega arith
 
@@ -79,17 +82,20 @@ later-fits p a b g le fits = record {
 }
 
 -- a leg more, where there is room
-pub legs-more : (p : LocalNode) (a b : ℕ) (g : Leg) (legs : List Leg) → a ≤ b → LegsFit p a legs → length legs < MOST_LEGS →
+pub legs-more : (p : LocalNode) (a b : ℕ) (g : Leg) (legs : List Leg) → a ≤ b → LegsFit p a legs →
+    length legs < MOST_LEGS →
     LegFits p b g → LegsFit p b (with_leg g legs)
 legs-more p a b g legs le fits room here = record {
   rise = rise-with_leg g legs fits.rise;
   each =
-      all-with_leg (LegFits p b) g legs here (all-then (LegFits p a) (LegFits p b) legs (λ h f. later-fits p a b h le f) fits.each);
+      all-with_leg (LegFits p b) g legs here (all-then (LegFits p a) (LegFits p b) legs
+      (λ h f. later-fits p a b h le f) fits.each);
   few = (let less = length-with_leg g legs in omega arith);
 }
 
 -- a leg in the place of one that stands
-pub legs-changed : (p : LocalNode) (next : ℕ) (g k : Leg) (legs : List Leg) → LegsFit p next legs → find_leg g.lsp legs ≡ Some k →
+pub legs-changed : (p : LocalNode) (next : ℕ) (g k : Leg) (legs : List Leg) → LegsFit p next legs →
+    find_leg g.lsp legs ≡ Some k →
     LegFits p next g → LegsFit p next (with_leg g legs)
 legs-changed p next g k legs fits found here = record {
   rise = rise-with_leg g legs fits.rise;
@@ -97,7 +103,8 @@ legs-changed p next g k legs fits found here = record {
   few = (let few = fits.few in subst (λ n. n ≤ MOST_LEGS) (sym (length-replaced g k legs fits.rise found)) few);
 }
 
-pub legs-less : (p : LocalNode) (next : ℕ) (l : Lsp) (legs : List Leg) → LegsFit p next legs → LegsFit p next (without_leg l legs)
+pub legs-less : (p : LocalNode) (next : ℕ) (l : Lsp) (legs : List Leg) → LegsFit p next legs →
+    LegsFit p next (without_leg l legs)
 legs-less p next l legs fits = record {
   rise = rise-without_leg l legs fits.rise;
   each = all-filter (LegFits p next) (λ g. not (same_lsp g.lsp l)) legs fits.each;
@@ -152,32 +159,37 @@ connected-fits p next g label x fits labelled out = record {
 
 -- Fibres of a leg
 
-pub over-fibre : (o : Option NodeId) (f : Option Fibre) (n : NodeId) (k : LinkId) → is_over (neighbour_over o f) n k ≡ true →
+pub over-fibre : (o : Option NodeId) (f : Option Fibre) (n : NodeId) (k : LinkId) →
+    is_over (neighbour_over o f) n k ≡ true →
     is_some f ≡ true
 over-fibre None f n k e = absurd (cc e)
 over-fibre (Some m) None n k e = absurd (cc e)
 over-fibre (Some m) (Some f) n k e = refl
 
-pub beside-fibre : (o : Option NodeId) (f : Option Fibre) (h : Neighbour) → neighbour_over o f ≡ Some h → is_some f ≡ true
+pub beside-fibre : (o : Option NodeId) (f : Option Fibre) (h : Neighbour) → neighbour_over o f ≡ Some h →
+    is_some f ≡ true
 beside-fibre None f h e = absurd (cc e)
 beside-fibre (Some m) None h e = absurd (cc e)
 beside-fibre (Some m) (Some f) h e = refl
 
-pub alone-fibre : (o : Option NodeId) (f : Option Fibre) → is_some f ≡ is_some o → neighbour_over o f ≡ None → is_some f ≡ false
+pub alone-fibre : (o : Option NodeId) (f : Option Fibre) → is_some f ≡ is_some o → neighbour_over o f ≡ None →
+    is_some f ≡ false
 alone-fibre None f both e = both
 alone-fibre (Some n) None both e = refl
 alone-fibre (Some n) (Some f) both e = absurd (cc e)
 
 -- Calls
 
-pub calls-put : (p : LocalNode) (c : CallRec) (calls : List CallRec) → CallsFit p calls → CallFits p c → CallsFit p (with_call c calls)
+pub calls-put : (p : LocalNode) (c : CallRec) (calls : List CallRec) → CallsFit p calls → CallFits p c →
+    CallsFit p (with_call c calls)
 calls-put p c calls fits here = record {
   rise =
       rise-with_call c calls fits.rise;
   each = all-with_call (CallFits p) c calls here fits.each;
 }
 
-pub calls-less : (p : LocalNode) (n : CallNo) (calls : List CallRec) → CallsFit p calls → CallsFit p (without_call n calls)
+pub calls-less : (p : LocalNode) (n : CallNo) (calls : List CallRec) → CallsFit p calls →
+    CallsFit p (without_call n calls)
 calls-less p n calls fits = record {
   rise = rise-without_call n calls fits.rise;
   each = all-filter (CallFits p) (λ c. not (nat_eq c.call.0 n.0)) calls fits.each;

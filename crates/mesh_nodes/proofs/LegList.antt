@@ -129,7 +129,8 @@ find-with_leg g (h ∷ legs) m = go (find-with_leg g legs m) (same_lsp h.lsp g.l
 
     go : find_leg m (with_leg g legs) ≡ cond (same_lsp g.lsp m) (Some g) (find_leg m legs) → (a b : Bool) →
         same_lsp h.lsp g.lsp ≡ a →
-        find_leg m (cond a (g ∷ legs) (cond b (g ∷ h ∷ legs) (h ∷ with_leg g legs))) ≡ cond (same_lsp g.lsp m) (Some g) (cond (same_lsp h.lsp m) (Some h) (find_leg m legs))
+        find_leg m (cond a (g ∷ legs) (cond b (g ∷ h ∷ legs) (h ∷ with_leg g legs))) ≡ cond (same_lsp g.lsp m)
+        (Some g) (cond (same_lsp h.lsp m) (Some h) (find_leg m legs))
     go below true b e = rw (same_lsp-by h.lsp g.lsp m e) (twice (same_lsp g.lsp m))
     go below false true e = refl
     go below false false e = rw below (swap (same_lsp h.lsp m) (same_lsp g.lsp m) refl refl e)
@@ -142,7 +143,8 @@ find-without_leg l (h ∷ legs) m = go (find-without_leg l legs m) (same_lsp h.l
   where
     go : find_leg m (without_leg l legs) ≡ cond (same_lsp l m) None (find_leg m legs) → (a b : Bool) →
         same_lsp h.lsp l ≡ a → same_lsp l m ≡ b →
-        find_leg m (cond (not a) (h ∷ without_leg l legs) (without_leg l legs)) ≡ cond b None (cond (same_lsp h.lsp m) (Some h) (find_leg m legs))
+        find_leg m (cond (not a) (h ∷ without_leg l legs) (without_leg l legs)) ≡ cond b None
+        (cond (same_lsp h.lsp m) (Some h) (find_leg m legs))
     go below true true e f = rw (below, f) refl
     go below true false e f = rw (below, same_lsp-by h.lsp l m e, f) refl
     go below false true e f =
@@ -157,7 +159,8 @@ pub all-with_leg : (P : Leg → Type 0) (g : Leg) (legs : List Leg) → P g → 
     AllByRecursion P (with_leg g legs)
 all-with_leg P g [] here all = (here, tt)
 all-with_leg P g (h ∷ legs) here all =
-    elim (same_lsp h.lsp g.lsp) as (λ a. AllByRecursion P (cond a (g ∷ legs) (cond (lsp_before g.lsp h.lsp) (g ∷ h ∷ legs) (h ∷ with_leg g legs)))) [
+    elim (same_lsp h.lsp g.lsp) as (λ a. AllByRecursion P
+    (cond a (g ∷ legs) (cond (lsp_before g.lsp h.lsp) (g ∷ h ∷ legs) (h ∷ with_leg g legs)))) [
       | true ↦ (here, all.1)
       | false ↦ elim (lsp_before g.lsp h.lsp) as (λ b. AllByRecursion P (cond b (g ∷ h ∷ legs) (h ∷ with_leg g legs))) [
         | true ↦ (here, all)
@@ -181,7 +184,10 @@ pub rise-without_leg : (l : Lsp) (legs : List Leg) → LegsRise legs → LegsRis
 rise-without_leg l [] rise = tt
 rise-without_leg l (h ∷ legs) rise =
     elim (not (same_lsp h.lsp l)) as (λ b. LegsRise (cond b (h ∷ without_leg l legs) (without_leg l legs))) [
-      | true ↦ (all-filter (λ x. IsTrue (lsp_before h.lsp x.lsp)) (λ g. not (same_lsp g.lsp l)) legs rise.0, rise-without_leg l legs rise.1)
+      | true ↦ (
+        all-filter (λ x. IsTrue (lsp_before h.lsp x.lsp)) (λ g. not (same_lsp g.lsp l)) legs rise.0,
+        rise-without_leg l legs rise.1,
+      )
       | false ↦ rise-without_leg l legs rise.1
     ]
 
@@ -193,7 +199,8 @@ all-found P (h ∷ legs) rise each = (
   each h.lsp h (rw (same_lsp-refl h.lsp) refl),
   all-found P legs rise.1 (λ l g found.
       let is = found-lsp l legs g found in
-      let before : lsp_before h.lsp g.lsp ≡ true = found-all (λ x. IsTrue (lsp_before h.lsp x.lsp)) l legs g found rise.0 in
+      let before : lsp_before h.lsp g.lsp ≡ true =
+      found-all (λ x. IsTrue (lsp_before h.lsp x.lsp)) l legs g found rise.0 in
       let apart : same_lsp h.lsp l ≡ false = rw (← is) (before-apart h.lsp g.lsp before) in
       each l g (rw apart found)),
 )

@@ -7,3 +7,4 @@ pub mod Links
 pub mod Messages
 pub mod NewNodes
 pub mod Paths
+pub mod routes

@@ -16,7 +16,7 @@ use Rattle.mesh_rules.specs.declared.changes.CallChange.TheVariants as call
 use Rattle.mesh_rules.specs.declared.neighbours.Neighbour.{Neighbour}
 use Rattle.mesh_rules.specs.Calls.{bare, blocked, call_of, is_asking}
 use Rattle.mesh_rules.specs.Changes.{changes_calls, followed_by, nothing, puts, removes, to_node}
-use Rattle.mesh_rules.specs.Legs.{closed, connected, find_leg, following, is_asked, is_closing, is_node, is_over, is_work, previous, with_leg}
+use Rattle.mesh_rules.specs.Legs.{closed, connected, find_leg, following, is_asked, is_closing, is_node, is_over, previous, with_leg}
 use Rattle.mesh_rules.specs.Messages.{arrival}
 use Rattle.mesh_rules.specs.PathErrs.{PathFailure, call_refused, err_passed, path_err_with, refused_here, removed}
 use Rattle.mesh_rules.specs.Resvs.{answered, call_connected, connected_here, is_expected, label_back, labels_left, passed_back, resv_with}
@@ -39,7 +39,8 @@ pub record Stands (p : LocalNode) (s : NodeState) (g : Leg) : Type 0 where
   pub found : find_leg g.lsp s.legs ≡ Some g
   pub fits : LegFits p s.lsp g
 
-pub leg-stands : (p : LocalNode) (s : NodeState) (l : Lsp) (g : Leg) → NodeFits p s → find_leg l s.legs ≡ Some g → Stands p s g
+pub leg-stands : (p : LocalNode) (s : NodeState) (l : Lsp) (g : Leg) → NodeFits p s → find_leg l s.legs ≡ Some g →
+    Stands p s g
 leg-stands p s l g fits found = record {
   found = subst (λ k. find_leg k s.legs ≡ Some g) (sym (found-lsp l s.legs g found)) found;
   fits = found-all (LegFits p s.lsp) l s.legs g found fits.legs.each;
@@ -49,28 +50,35 @@ if-some : {X : Type 0} (P Q : X → Type 0) (o : Option X) → ((x : X) → P x 
 if-some P Q None f here = tt
 if-some P Q (Some x) f here = f x here
 
-previous-near : (p : LocalNode) (next : ℕ) (g : Leg) → LegFits p next g → IfSome (previous g) (λ h. is_neighbour p h.node ≡ true)
+previous-near : (p : LocalNode) (next : ℕ) (g : Leg) → LegFits p next g →
+    IfSome (previous g) (λ h. is_neighbour p h.node ≡ true)
 previous-near p next g fits =
-    if-some (λ h. is_upstream p h ≡ true) (λ h. is_neighbour p h.node ≡ true) (previous g) (λ h. upstream-near p h) fits.upstream
+    if-some (λ h. is_upstream p h ≡ true) (λ h. is_neighbour p h.node ≡ true) (previous g)
+    (λ h. upstream-near p h) fits.upstream
 
-following-near : (p : LocalNode) (next : ℕ) (g : Leg) → LegFits p next g → IfSome (following g) (λ h. is_neighbour p h.node ≡ true)
+following-near : (p : LocalNode) (next : ℕ) (g : Leg) → LegFits p next g →
+    IfSome (following g) (λ h. is_neighbour p h.node ≡ true)
 following-near p next g fits =
-    if-some (λ h. is_downstream p h ≡ true) (λ h. is_neighbour p h.node ≡ true) (following g) (λ h. downstream-near p h) fits.downstream
+    if-some (λ h. is_downstream p h ≡ true) (λ h. is_neighbour p h.node ≡ true) (following g)
+    (λ h. downstream-near p h) fits.downstream
 
 some-of : {X : Type 0} (P : X → Type 0) (o : Option X) (x : X) → o ≡ Some x → IfSome o P → P x
 some-of P o x e here = subst (λ y. IfSome y P) e here
 
 pub previous-is_near : (p : LocalNode) (next : ℕ) (g : Leg) (h : Neighbour) → LegFits p next g → previous g ≡ Some h →
     is_neighbour p h.node ≡ true
-previous-is_near p next g h fits e = some-of (λ k. is_neighbour p k.node ≡ true) (previous g) h e (previous-near p next g fits)
+previous-is_near p next g h fits e = some-of (λ k. is_neighbour p k.node ≡ true) (previous g) h e
+    (previous-near p next g fits)
 
 pub following-is_near : (p : LocalNode) (next : ℕ) (g : Leg) (h : Neighbour) → LegFits p next g → following g ≡ Some h →
     is_neighbour p h.node ≡ true
-following-is_near p next g h fits e = some-of (λ k. is_neighbour p k.node ≡ true) (following g) h e (following-near p next g fits)
+following-is_near p next g h fits e = some-of (λ k. is_neighbour p k.node ≡ true) (following g) h e
+    (following-near p next g fits)
 
 -- Resv
 
-module _ (p : LocalNode) (s : NodeState) (a : Arrival) (x : ℕ) (g : Leg) (W : Type 0) (fits : NodeFits p s) (stands : Stands p s g)
+module _ (p : LocalNode) (s : NodeState) (a : Arrival) (x : ℕ) (g : Leg) (W : Type 0) (fits : NodeFits p s)
+    (stands : Stands p s g)
     (over : is_over (following g) a.from a.link ≡ true) where
   out : is_some g.out_fibre ≡ true
   out = over-fibre g.next g.out_fibre a.from a.link over
@@ -79,9 +87,11 @@ module _ (p : LocalNode) (s : NodeState) (a : Arrival) (x : ℕ) (g : Leg) (W : 
   from-near = over-near p (following g) a.from a.link (following-near p s.lsp g stands.fits) over
 
   -- the leg with the label that came, and the label that goes back where there is a fibre in
-  connected-legs : (label : Option ℕ) → is_some label ≡ is_some g.in_fibre → LegsFit p s.lsp (with_leg (connected g label x) s.legs)
+  connected-legs : (label : Option ℕ) → is_some label ≡ is_some g.in_fibre →
+      LegsFit p s.lsp (with_leg (connected g label x) s.legs)
   connected-legs label labelled =
-      legs-changed p s.lsp (connected g label x) g s.legs fits.legs stands.found (connected-fits p s.lsp g label x stands.fits labelled out)
+      legs-changed p s.lsp (connected g label x) g s.legs fits.legs stands.found
+      (connected-fits p s.lsp g label x stands.fits labelled out)
 
   passed_back-fits : (h : Neighbour) (o : Option ℕ) → previous g ≡ Some h → AnswerFits p s W (passed_back p a g h x o)
   passed_back-fits h None is = record {
@@ -128,7 +138,8 @@ module _ (p : LocalNode) (s : NodeState) (a : Arrival) (x : ℕ) (g : Leg) (W : 
         few = omega arith;
       }
       go (Some c) called =
-          if_cases (λ b. AnswerFits p s W (followed_by (puts (connected g None x) []) b)) (is_asking c.state && not c.protected) (changes_calls (call.Put (bare c) ∷ [])) nothing
+          if_cases (λ b. AnswerFits p s W (followed_by (puts (connected g None x) []) b))
+          (is_asking c.state && not c.protected) (changes_calls (call.Put (bare c) ∷ [])) nothing
           (λ e. record {
             kept = record {
               legs =
@@ -141,7 +152,18 @@ module _ (p : LocalNode) (s : NodeState) (a : Arrival) (x : ℕ) (g : Leg) (W : 
             written = λ w. tt;
             few = omega arith;
           })
-          (λ e. record { kept = record { legs = legs; calls = fits.calls; first = fits.first; numbers = fits.numbers }; near = tt; written = λ w. tt; few = omega arith })
+          (λ e. record {
+            kept = record {
+              legs = legs;
+              calls = fits.calls;
+              first = fits.first;
+              numbers =
+                  fits.numbers;
+            };
+            near = tt;
+            written = λ w. tt;
+            few = omega arith;
+          })
         where
           call-fits : (d : CallRec) → call_of g.lsp s.calls ≡ Some d → CallFits p d
           call-fits d e = found-one (CallFits p) (λ b. is_lsp b.work g.lsp) s.calls d e fits.calls.each
@@ -156,14 +178,15 @@ resv-fits p s a x W None fits found = nothing-fits p s W fits
 resv-fits p s a x W (Some g) fits found =
     if_cases (AnswerFits p s W) (is_expected a x g) _ _
     (λ e.
-    let rest : (is_work g.role && (is_over (following g) a.from a.link && has g.sent x)) ≡ true = both_right (is_asked g.phase) _ e in
-    let rest' : (is_over (following g) a.from a.link && has g.sent x) ≡ true = both_right (is_work g.role) _ rest in
-    answered-fits p s a x g W fits (leg-stands p s a.lsp g fits found) (both_left (is_over (following g) a.from a.link) _ rest') (previous g) refl)
+    let rest : (is_over (following g) a.from a.link && has g.sent x) ≡ true = both_right (is_asked g.phase) _ e in
+    answered-fits p s a x g W fits (leg-stands p s a.lsp g fits found)
+    (both_left (is_over (following g) a.from a.link) _ rest) (previous g) refl)
     (λ e. nothing-fits p s W fits)
 
 -- PathErr
 
-module _ (p : LocalNode) (s : NodeState) (g : Leg) (e : PathFailure) (W : Type 0) (fits : NodeFits p s) (stands : Stands p s g) (writable : W → IsWritableMsg e.msg) where
+module _ (p : LocalNode) (s : NodeState) (g : Leg) (e : PathFailure) (W : Type 0) (fits : NodeFits p s)
+    (stands : Stands p s g) (writable : W → IsWritableMsg e.msg) where
   gone-fits : AnswerFits p s W (removes g.lsp [])
   gone-fits = record {
     kept = record {
@@ -185,12 +208,14 @@ module _ (p : LocalNode) (s : NodeState) (g : Leg) (e : PathFailure) (W : Type 0
           AnswerFits p s W (followed_by (removes g.lsp []) (call_refused e.code o))
       go None called = gone-fits
       go (Some c) called =
-          if_cases (λ b. AnswerFits p s W (followed_by (removes g.lsp []) b)) (is_asking c.state) (changes_calls (call.Put (blocked c (Code e.code)) ∷ [])) nothing
+          if_cases (λ b. AnswerFits p s W (followed_by (removes g.lsp []) b)) (is_asking c.state)
+          (changes_calls (call.Put (blocked c (Code e.code)) ∷ [])) nothing
           (λ t. record {
             kept = record {
               legs = legs-less p s.lsp g.lsp s.legs fits.legs;
               calls =
-                  calls-put p (blocked c (Code e.code)) s.calls fits.calls (found-one (CallFits p) (λ b. is_lsp b.work g.lsp) s.calls c called fits.calls.each);
+                  calls-put p (blocked c (Code e.code)) s.calls fits.calls
+                  (found-one (CallFits p) (λ b. is_lsp b.work g.lsp) s.calls c called fits.calls.each);
               first = fits.first;
               numbers = fits.numbers;
             };
@@ -229,11 +254,18 @@ err-fits p s u e W (Some g) fits found writable =
 
 -- PathTear
 
-torn-fits : (p : LocalNode) (s : NodeState) (a : Arrival) (g : Leg) (W : Type 0) (o : Option Neighbour) → NodeFits p s → Stands p s g →
+torn-fits : (p : LocalNode) (s : NodeState) (a : Arrival) (g : Leg) (W : Type 0) (o : Option Neighbour) →
+    NodeFits p s → Stands p s g →
     is_over (previous g) a.from a.link ≡ true → following g ≡ o →
     AnswerFits p s W (torn g (to_node a.from (PathErr g.lsp g.egress p.id true torn_code)) o)
 torn-fits p s a g W None fits stands over is = record {
-  kept = record { legs = legs-less p s.lsp g.lsp s.legs fits.legs; calls = fits.calls; first = fits.first; numbers = fits.numbers };
+  kept = record {
+    legs = legs-less p s.lsp g.lsp s.legs fits.legs;
+    calls = fits.calls;
+    first = fits.first;
+    numbers =
+        fits.numbers;
+  };
   near = (over-near p (previous g) a.from a.link (previous-near p s.lsp g stands.fits) over, tt);
   written = λ w. (tt, tt);
   few = omega arith;
@@ -245,18 +277,22 @@ torn-fits p s a g W (Some h) fits stands over is = record {
     first = fits.first;
     numbers = fits.numbers;
   };
-  near =
-      (over-near p (previous g) a.from a.link (previous-near p s.lsp g stands.fits) over, (following-is_near p s.lsp g h stands.fits is, tt));
+  near = (
+    over-near p (previous g) a.from a.link (previous-near p s.lsp g stands.fits) over,
+    (following-is_near p s.lsp g h stands.fits is, tt),
+  );
   written = λ w. (tt, (tt, tt));
   few = omega arith;
 }
 
-tear-fits : (p : LocalNode) (s : NodeState) (a : Arrival) (W : Type 0) (o : Option Leg) → NodeFits p s → find_leg a.lsp s.legs ≡ o →
+tear-fits : (p : LocalNode) (s : NodeState) (a : Arrival) (W : Type 0) (o : Option Leg) → NodeFits p s →
+    find_leg a.lsp s.legs ≡ o →
     AnswerFits p s W (tear_with p a o)
 tear-fits p s a W None fits found = nothing-fits p s W fits
 tear-fits p s a W (Some g) fits found =
     if_cases (AnswerFits p s W) (not (is_closing g.phase) && is_over (previous g) a.from a.link) _ _
-    (λ e. torn-fits p s a g W (following g) fits (leg-stands p s a.lsp g fits found) (both_right (not (is_closing g.phase)) _ e) refl)
+    (λ e. torn-fits p s a g W (following g) fits (leg-stands p s a.lsp g fits found)
+    (both_right (not (is_closing g.phase)) _ e) refl)
     (λ e. nothing-fits p s W fits)
 
 -- Every message
@@ -270,8 +306,10 @@ messages-fit p s u (Path l e k route set up r) place fits =
       set = set;
       role = r;
     }) (CanBePassedOn (Path l e k route set up r)) (λ w. w) place fits
-messages-fit p s u (Resv l e k x) place fits = resv-fits p s (arrival l e u k) x (Unit {0}) (find_leg l s.legs) fits refl
-messages-fit p s u (PathTear l e k) place fits = tear-fits p s (arrival l e u k) (Unit {0}) (find_leg l s.legs) fits refl
+messages-fit p s u (Resv l e k x) place fits =
+    resv-fits p s (arrival l e u k) x (Unit {0}) (find_leg l s.legs) fits refl
+messages-fit p s u (PathTear l e k) place fits =
+    tear-fits p s (arrival l e u k) (Unit {0}) (find_leg l s.legs) fits refl
 messages-fit p s u (PathErr l e at gone code) place fits =
     err-fits p s u (record {
       lsp =

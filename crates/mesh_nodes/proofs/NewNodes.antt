@@ -21,7 +21,8 @@ at_most : (a b : ℕ) → nat_le a b ≡ true → a ≤ b
 at_most a b e = grind arith
 
 -- a link of a topology that touches the node
-own-link : (nodes : List NodeSpec) (n : NodeId) (l : LinkSpec) → is_link nodes l ≡ true → touches n l ≡ true → IsOwnLink n l
+own-link : (nodes : List NodeSpec) (n : NodeId) (l : LinkSpec) → is_link nodes l ≡ true → touches n l ≡ true →
+    IsOwnLink n l
 own-link nodes n l link here =
     let ends_and_labels = both_left _ _ (both_left _ _ link) in
     let labels = both_right _ _ ends_and_labels in
@@ -32,7 +33,8 @@ own-link nodes n l link here =
       narrow = at_most l.labels 80 (both_right (nat_le 1 l.labels) _ labels);
     }
 
-own-links : (nodes : List NodeSpec) (n : NodeId) (links : List LinkSpec) → AllByRecursion (λ l. is_link nodes l ≡ true) links →
+own-links : (nodes : List NodeSpec) (n : NodeId) (links : List LinkSpec) →
+    AllByRecursion (λ l. is_link nodes l ≡ true) links →
     AllByRecursion (IsOwnLink n) (filter (touches n) links)
 own-links nodes n [] all = tt
 own-links nodes n (l ∷ links) all = go (touches n l) refl (own-links nodes n links all.1)
@@ -50,7 +52,8 @@ every-link t valid k d below =
     rw found at link
 
 pub new-place : (t : Network) (n : NodeId) → IsTopology t → LocalNodeFits (local_node t n)
-new-place t n valid = own-links t.nodes n t.links (recursion_from_All (λ l. is_link t.nodes l ≡ true) t.links (every-link t valid))
+new-place t n valid = own-links t.nodes n t.links
+    (recursion_from_All (λ l. is_link t.nodes l ≡ true) t.links (every-link t valid))
 
 pub new-fits : (p : LocalNode) → NodeFits p new_node
 new-fits p = record {

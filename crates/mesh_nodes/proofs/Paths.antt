@@ -5,15 +5,19 @@ use Rattle.ason_base.specs.Labels.{least, numbers_from, up_to}
 use Rattle.ason_base.specs.Writable.{IsWritableRole}
 use Rattle.ason_base.specs.declared.codes.ErrCode.{ErrCode}
 use Rattle.ason_base.specs.declared.ids.LinkId.{LinkId}
+use Rattle.ason_base.specs.declared.messages.PathRole.{PathRole}
+use Rattle.ason_base.specs.declared.messages.PathRole.TheVariants.{Work, Back}
 use Rattle.ason_base.specs.declared.network.LinkSpec.{LinkSpec}
+use Rattle.ason_base.specs.declared.risks.Risk.{Risk}
 use Rattle.ason_base.specs.declared.steps.Step.{Step}
 use Rattle.ason_base.specs.declared.tables.Leg.{Leg}
 use Rattle.mesh_rules.specs.declared.limits.TheConstants.{MOST_LEGS}
 use Rattle.mesh_rules.specs.Changes.{nothing}
-use Rattle.mesh_rules.specs.Legs.{find_leg}
-use Rattle.mesh_rules.specs.Paths.{PathRequest, admitted, at_egress, checks, egress_leg, first_failure, first_path, in_transit, is_for_work, is_none, judged, leads_on, offered_labels, on_path, path_with, set_on, transit_leg}
+use Rattle.mesh_rules.specs.Legs.{find_leg, is_work}
+use Rattle.mesh_rules.specs.Paths.{PathRequest, admitted, at_egress, checks, egress_leg, first_failure, first_path, in_transit, is_active, is_for_work, is_none, is_primary_unknown, judged, leads_on, offered_labels, on_path, path_with, risks_here, role_of, set_on, transit_leg}
 use Rattle.mesh_rules.specs.LocalNodes.{LocalNode, is_link_there, leads, own_link}
 use Rattle.mesh_rules.specs.State.{NodeState}
+use Rattle.mesh_rules.specs.KnownRows.{known_rows}
 use Rattle.mesh_nodes.specs.Kept.{LegFits, NodeFits}
 use Rattle.mesh_nodes.specs.LocalNodes.{LocalNodeFits}
 use Rattle.mesh_nodes.specs.Sent.{AnswerFits}
@@ -44,10 +48,16 @@ flip a b false e = grind arith
 pub below : (n : ℕ) → nat_le MOST_LEGS n ≡ false → n < MOST_LEGS
 below n e = grind arith
 
--- A Path of a working LSP over this link, from its other end, whose ingress is elsewhere. W: the Path can be written.
-module _ (p : LocalNode) (s : NodeState) (m : PathRequest) (link : LinkSpec) (W : Type 0) (place : LocalNodeFits p) (fits : NodeFits p s)
+-- the leg's role is the Path's
+role-fits : (r : PathRole) → is_work (role_of r) ≡ is_for_work r
+role-fits (Work guard) = refl
+role-fits (Back active work primary) = refl
+
+-- A Path over this link, from its other end, whose ingress is elsewhere. W: the Path can be written.
+module _ (p : LocalNode) (s : NodeState) (m : PathRequest) (link : LinkSpec) (W : Type 0) (place : LocalNodeFits p)
+    (fits : NodeFits p s)
     (own : own_link p m.arrival.link ≡ Some link) (led : leads (Some link) m.arrival.from p.id ≡ true)
-    (far : nat_eq m.arrival.lsp.ingress.0 p.id.0 ≡ false) (work : is_for_work m.role ≡ true) where
+    (far : nat_eq m.arrival.lsp.ingress.0 p.id.0 ≡ false) where
   refused-fits : (code : ErrCode) → AnswerFits p s W (judged p s m link (Some code))
   refused-fits code = record {
     kept = fits;
@@ -56,43 +66,45 @@ module _ (p : LocalNode) (s : NodeState) (m : PathRequest) (link : LinkSpec) (W 
     few = omega arith;
   }
 
-  egress-leg-fits : (offered : List ℕ) (x : ℕ) → nat_eq m.arrival.egress.0 p.id.0 ≡ true →
-      LegFits p s.lsp (egress_leg p m link offered x)
-  egress-leg-fits offered x here = record {
+  egress-leg-fits : (risks : List Risk) (offered : List ℕ) (x : ℕ) → nat_eq m.arrival.egress.0 p.id.0 ≡ true →
+      LegFits p s.lsp (egress_leg p m link risks offered x)
+  egress-leg-fits risks offered x here = record {
     prev = rw far refl;
     in_fibre = refl;
     next_node = rw here refl;
     out_fibre = refl;
     upstream = sender-upstream p m.arrival.link link m.arrival.from place own led;
     downstream = tt;
-    role = sym work;
+    role = role-fits m.role;
     in_label = λ beyond. refl;
     out_label = λ beyond. refl;
     number = away m.arrival.lsp.ingress.0 p.id.0 (m.arrival.lsp.lsp < s.lsp) far;
   }
 
-  transit-leg-fits : (k : LinkId) (out : LinkSpec) (route : List Step) (offered : List ℕ) → own_link p k ≡ Some out →
-      nat_eq m.arrival.egress.0 p.id.0 ≡ false → LegFits p s.lsp (transit_leg p m link out route offered)
-  transit-leg-fits k out route offered found on = record {
+  transit-leg-fits : (risks : List Risk) (k : LinkId) (out : LinkSpec) (route : List Step) (offered : List ℕ) →
+      own_link p k ≡ Some out →
+      nat_eq m.arrival.egress.0 p.id.0 ≡ false → LegFits p s.lsp (transit_leg p m link risks out route offered)
+  transit-leg-fits risks k out route offered found on = record {
     prev = rw far refl;
     in_fibre = refl;
     next_node = rw on refl;
     out_fibre = refl;
     upstream = sender-upstream p m.arrival.link link m.arrival.from place own led;
     downstream = end-downstream p k out found;
-    role = sym work;
+    role = role-fits m.role;
     in_label = λ beyond. absurd (cc beyond);
     out_label = λ beyond. absurd (cc beyond);
     number = away m.arrival.lsp.ingress.0 p.id.0 (m.arrival.lsp.lsp < s.lsp) far;
   }
 
-  at_egress-fits : (offered : List ℕ) (o : Option ℕ) → length s.legs < MOST_LEGS → nat_eq m.arrival.egress.0 p.id.0 ≡ true →
-      AnswerFits p s W (at_egress p m link offered o)
-  at_egress-fits offered None room here = nothing-fits p s W fits
-  at_egress-fits offered (Some x) room here = record {
+  at_egress-fits : (risks : List Risk) (offered : List ℕ) (o : Option ℕ) → length s.legs < MOST_LEGS →
+      nat_eq m.arrival.egress.0 p.id.0 ≡ true → AnswerFits p s W (at_egress p m link risks offered o)
+  at_egress-fits risks offered None room here = nothing-fits p s W fits
+  at_egress-fits risks offered (Some x) room here = record {
     kept = record {
       legs =
-          legs-more p s.lsp s.lsp (egress_leg p m link offered x) s.legs (omega arith) fits.legs room (egress-leg-fits offered x here);
+          legs-more p s.lsp s.lsp (egress_leg p m link risks offered x) s.legs (omega arith) fits.legs room
+          (egress-leg-fits risks offered x here);
       calls = fits.calls;
       first = fits.first;
       numbers = fits.numbers;
@@ -111,14 +123,16 @@ module _ (p : LocalNode) (s : NodeState) (m : PathRequest) (link : LinkSpec) (W 
       go true = some_labels out.labels labelled
       go false = some_offered offered some
 
-  in_transit-fits : (k : LinkId) (route : List Step) (offered : List ℕ) (o : Option LinkSpec) → own_link p k ≡ o →
-      length s.legs < MOST_LEGS → nat_eq m.arrival.egress.0 p.id.0 ≡ false → is_none (least offered) ≡ false →
-      (W → (length route ≤ 64) × IsWritableRole m.role) → AnswerFits p s W (in_transit p m link route offered o)
-  in_transit-fits k route offered None found room on some short = nothing-fits p s W fits
-  in_transit-fits k route offered (Some out) found room on some short = record {
+  in_transit-fits : (risks : List Risk) (k : LinkId) (route : List Step) (offered : List ℕ) (o : Option LinkSpec) →
+      own_link p k ≡ o → length s.legs < MOST_LEGS → nat_eq m.arrival.egress.0 p.id.0 ≡ false →
+      is_none (least offered) ≡ false →
+      (W → (length route ≤ 64) × IsWritableRole m.role) → AnswerFits p s W (in_transit p m link risks route offered o)
+  in_transit-fits risks k route offered None found room on some short = nothing-fits p s W fits
+  in_transit-fits risks k route offered (Some out) found room on some short = record {
     kept = record {
       legs =
-          legs-more p s.lsp s.lsp (transit_leg p m link out route offered) s.legs (omega arith) fits.legs room (transit-leg-fits k out route offered found on);
+          legs-more p s.lsp s.lsp (transit_leg p m link risks out route offered) s.legs (omega arith) fits.legs room
+          (transit-leg-fits risks k out route offered found on);
       calls = fits.calls;
       first = fits.first;
       numbers = fits.numbers;
@@ -128,47 +142,62 @@ module _ (p : LocalNode) (s : NodeState) (m : PathRequest) (link : LinkSpec) (W 
     few = omega arith;
   }
 
-  admitted-fits : (offered : List ℕ) (route : List Step) → leads_on p m.arrival route ≡ true → length s.legs < MOST_LEGS →
+  admitted-fits : (risks : List Risk) (offered : List ℕ) (route : List Step) → leads_on p m.arrival route ≡ true →
+      length s.legs < MOST_LEGS →
       is_none (least offered) ≡ false →
-      (W → (length route ≤ 64) × IsWritableRole m.role) → AnswerFits p s W (admitted p m link offered route)
-  admitted-fits offered [] on room some short = at_egress-fits offered (least offered) room (flip p.id.0 m.arrival.egress.0 true on)
-  admitted-fits offered (hop ∷ route) on room some short =
-      in_transit-fits hop.link route offered (own_link p hop.link) refl room
-      (flip p.id.0 m.arrival.egress.0 false (not-true (nat_eq p.id.0 m.arrival.egress.0) (both_left _ (nat_eq hop.node.0 p.id.0 && (not (nat_eq hop.link.0 m.arrival.link.0) && is_link_there (own_link p hop.link))) on)))
+      (W → (length route ≤ 64) × IsWritableRole m.role) → AnswerFits p s W (admitted p m link risks offered route)
+  admitted-fits risks offered [] on room some short =
+      at_egress-fits risks offered (least offered) room (flip p.id.0 m.arrival.egress.0 true on)
+  admitted-fits risks offered (hop ∷ route) on room some short =
+      in_transit-fits risks hop.link route offered (own_link p hop.link) refl room
+      (flip p.id.0 m.arrival.egress.0 false (not-true (nat_eq p.id.0 m.arrival.egress.0)
+      (both_left _ (nat_eq hop.node.0 p.id.0 && (not (nat_eq hop.link.0 m.arrival.link.0)
+      && is_link_there (own_link p hop.link))) on)))
       some (λ w. (let few = (short w).0 in omega arith, (short w).1))
 
   judged-fits : (W → (length m.route ≤ 64) × IsWritableRole m.role) →
       AnswerFits p s W (judged p s m link (first_failure (checks p s m link)))
   judged-fits short =
-      go (nat_le MOST_LEGS (length s.legs)) (leads_on p m.arrival m.route) (is_none (least (offered_labels p s m link))) refl refl refl
+      go (nat_le MOST_LEGS (length s.legs)) (leads_on p m.arrival m.route) (is_primary_unknown (known_rows p s) m.role)
+      (is_none (least (offered_labels p s m link))) refl refl refl refl
     where
-      go : (a b c : Bool) → nat_le MOST_LEGS (length s.legs) ≡ a → leads_on p m.arrival m.route ≡ b →
+      go : (a b d c : Bool) → nat_le MOST_LEGS (length s.legs) ≡ a → leads_on p m.arrival m.route ≡ b →
+          is_primary_unknown (known_rows p s) m.role ≡ d →
           is_none (least (offered_labels p s m link)) ≡ c →
           AnswerFits p s W (judged p s m link (first_failure (checks p s m link)))
-      go true b c e f g = rw e (refused-fits _)
-      go false false c e f g = rw (e, f) (refused-fits _)
-      go false true true e f g = rw (e, f, g) (refused-fits _)
-      go false true false e f g =
-          rw (e, f, g) (admitted-fits (offered_labels p s m link) m.route f (below (length s.legs) e) g short)
+      go true b d c e f h g = rw e (refused-fits _)
+      go false false d c e f h g = rw (e, f) (refused-fits _)
+      go false true true c e f h g = rw (e, f, h) (refused-fits _)
+      go false true false true e f h g = rw (e, f, h, g) (refused-fits _)
+      go false true false false e f h g =
+          rw (e, f, h, g)
+          (admitted-fits (risks_here p s m) (offered_labels p s m link) m.route f (below (length s.legs) e) g short)
 
-first-fits : (p : LocalNode) (s : NodeState) (m : PathRequest) (W : Type 0) (o : Option LinkSpec) → own_link p m.arrival.link ≡ o →
-    (W → (length m.route ≤ 64) × IsWritableRole m.role) → LocalNodeFits p → NodeFits p s → AnswerFits p s W (first_path p s m o)
+first-fits : (p : LocalNode) (s : NodeState) (m : PathRequest) (W : Type 0) (o : Option LinkSpec) →
+    own_link p m.arrival.link ≡ o →
+    (W → (length m.route ≤ 64) × IsWritableRole m.role) → LocalNodeFits p → NodeFits p s →
+    AnswerFits p s W (first_path p s m o)
 first-fits p s m W None own short place fits = nothing-fits p s W fits
 first-fits p s m W (Some link) own short place fits =
-    if_cases (AnswerFits p s W) (is_for_work m.role && (leads (Some link) m.arrival.from p.id && not (nat_eq m.arrival.lsp.ingress.0 p.id.0))) _ _
+    if_cases (AnswerFits p s W)
+    (not (is_active m.role) && (leads (Some link) m.arrival.from p.id
+    && not (nat_eq m.arrival.lsp.ingress.0 p.id.0))) _ _
     (λ e.
-    let work : is_for_work m.role ≡ true = both_left (is_for_work m.role) _ e in
-    let rest : (leads (Some link) m.arrival.from p.id && not (nat_eq m.arrival.lsp.ingress.0 p.id.0)) ≡ true = both_right (is_for_work m.role) _ e in
+    let rest : (leads (Some link) m.arrival.from p.id && not (nat_eq m.arrival.lsp.ingress.0 p.id.0)) ≡ true =
+    both_right (not (is_active m.role)) _ e in
     let led : leads (Some link) m.arrival.from p.id ≡ true = both_left (leads (Some link) m.arrival.from p.id) _ rest in
-    let far : nat_eq m.arrival.lsp.ingress.0 p.id.0 ≡ false = not-true _ (both_right (leads (Some link) m.arrival.from p.id) _ rest) in
-    judged-fits p s m link W place fits own led far work short)
+    let far : nat_eq m.arrival.lsp.ingress.0 p.id.0 ≡ false =
+    not-true _ (both_right (leads (Some link) m.arrival.from p.id) _ rest) in
+    judged-fits p s m link W place fits own led far short)
     (λ e. nothing-fits p s W fits)
 
 path-fits : (p : LocalNode) (s : NodeState) (m : PathRequest) (W : Type 0) (o : Option Leg) →
-    (W → (length m.route ≤ 64) × IsWritableRole m.role) → LocalNodeFits p → NodeFits p s → AnswerFits p s W (path_with p s m o)
+    (W → (length m.route ≤ 64) × IsWritableRole m.role) → LocalNodeFits p → NodeFits p s →
+    AnswerFits p s W (path_with p s m o)
 path-fits p s m W None short place fits = first-fits p s m W (own_link p m.arrival.link) refl short place fits
 path-fits p s m W (Some g) short place fits = nothing-fits p s W fits
 
 pub on_path-fits : (p : LocalNode) (s : NodeState) (m : PathRequest) (W : Type 0) →
-    (W → (length m.route ≤ 64) × IsWritableRole m.role) → LocalNodeFits p → NodeFits p s → AnswerFits p s W (on_path p s m)
+    (W → (length m.route ≤ 64) × IsWritableRole m.role) → LocalNodeFits p → NodeFits p s →
+    AnswerFits p s W (on_path p s m)
 on_path-fits p s m W short place fits = path-fits p s m W (find_leg m.arrival.lsp s.legs) short place fits

@@ -15,15 +15,18 @@ use Rattle.mesh_nodes.specs.Sent.{AnswerFits, CanBePassedOn}
 
 -- a node of a topology, with no leg and no call
 abbrev pub NewNodesFit : Type 0
-NewNodesFit = (t : Network) (n : NodeId) → IsTopology t → LocalNodeFits (local_node t n) × NodeFits (local_node t n) new_node
+NewNodesFit = (t : Network) (n : NodeId) → IsTopology t → LocalNodeFits (local_node t n) ×
+    NodeFits (local_node t n) new_node
 
 -- a message of whatever sender
 abbrev pub MessagesFit : Type 0
-MessagesFit = (p : LocalNode) (s : NodeState) (u : NodeId) (m : Msg) → LocalNodeFits p → NodeFits p s → AnswerFits p s (CanBePassedOn m) (on_message p s u m)
+MessagesFit = (p : LocalNode) (s : NodeState) (u : NodeId) (m : Msg) → LocalNodeFits p → NodeFits p s →
+    AnswerFits p s (CanBePassedOn m) (on_message p s u m)
 
 -- an item of a desk, whatever it orders
 abbrev pub ItemsFit : Type 0
-ItemsFit = (p : LocalNode) (s : NodeState) (i : DeskItem) → LocalNodeFits p → NodeFits p s → AnswerFits p s (Unit {0}) (on_item p s i)
+ItemsFit = (p : LocalNode) (s : NodeState) (i : DeskItem) → LocalNodeFits p → NodeFits p s →
+    AnswerFits p s (Unit {0}) (on_item p s i)
 
 -- a tick, or a row that a neighbour tells: nothing is answered
 abbrev pub NothingFits : Type 0

@@ -2,4 +2,5 @@ pub mod Kept
 pub mod Laws
 pub mod LocalNodes
 pub mod Order
+pub mod Routes
 pub mod Sent

@@ -15,7 +15,8 @@ use Rattle.mesh_nodes.specs.LocalNodes.{is_neighbour}
 abbrev pub AllToNeighbours : LocalNode → List Out → Type 0
 AllToNeighbours p outs = AllByRecursion (λ o. IsTrue (is_neighbour p o.to)) outs
 
--- What is needed of a message for what it makes a node send to have a written form. The set of a Path may be empty: such a Path is
+-- What is needed of a message for what it makes a node send to have a written form. The set of a Path may be empty:
+-- such a Path is
 -- refused, and its set isn't sent.
 abbrev pub CanBePassedOn : Msg → Type 0
 CanBePassedOn (Path lsp egress link route set upstream role) = (length route ≤ 64) × IsWritableRole role
@@ -28,7 +29,8 @@ CanBePassedOn (Notify lsp egress at link code) = Unit {0}
 abbrev pub AllWritable : List Out → Type 0
 AllWritable outs = AllByRecursion (λ o. IsWritableMsg o.msg) outs
 
--- An answer of p, which keeps s: what p keeps after it fits; what is sent goes to neighbours, can be written where the input is
+-- An answer of p, which keeps s: what p keeps after it fits; what is sent goes to neighbours, can be written where the
+-- input is
 -- such that it can, and is of 65,536 messages at most.
 pub record AnswerFits (p : LocalNode) (s : NodeState) (CanBeWritten : Type 0) (a : Answer) : Type 0 where
   pub kept : NodeFits p (changed s a)

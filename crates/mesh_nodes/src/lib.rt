@@ -4,4 +4,4 @@
 
 pub mod laws;
 
-pub use laws::every_answer;
+pub use laws::{every_answer, least_routes};

@@ -1,2 +1,3 @@
 pub mod Conjunctions
 pub mod KnownLinks
+pub mod Topologies

@@ -33,7 +33,8 @@ has_number (Some c) n = c.call.0 == n.0
 abbrev pub with_call : CallRec → List CallRec → List CallRec
 with_call c [] = c ∷ []
 with_call c (d ∷ calls) =
-    if d.call.0 == c.call.0 then c ∷ calls else (if nat_lt c.call.0 d.call.0 then c ∷ d ∷ calls else d ∷ with_call c calls)
+    if d.call.0 == c.call.0 then c ∷ calls else (if nat_lt c.call.0 d.call.0 then c ∷ d ∷ calls
+    else d ∷ with_call c calls)
 
 abbrev pub call_changed : CallChange → List CallRec → List CallRec
 call_changed (Goes n) calls = without_call n calls

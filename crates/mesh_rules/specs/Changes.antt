@@ -16,7 +16,8 @@ use Rattle.mesh_rules.specs.Calls.{calls_changed}
 
 -- Answers
 
--- the legs and calls that change, the numbers where some were given out, the fibres known to be down where these change, and the
+-- the legs and calls that change, the numbers where some were given out, the fibres known to be down where these
+-- change, and the
 -- messages that are sent, in order
 pub record Answer : Type 0 where
   pub legs : List LegChange

@@ -1,6 +1,6 @@
 -- Which commands are valid for a topology.
-use Rattle.std.specs.Prelude.{◌==◌, ◌&&◌, Bool, true, false, not, List, Option, Some, None}
-use Rattle.std.specs.List.{list_any}
+use Rattle.std.specs.Prelude.{◌==◌, ◌&&◌, nat_le, Bool, true, false, not, List, map, Option, Some, None}
+use Rattle.std.specs.List.{list_all, list_any}
 use Rattle.ason_base.specs.declared.ids.NodeId.{NodeId}
 use Rattle.ason_base.specs.declared.ids.CallNo.{CallNo}
 use Rattle.ason_base.specs.declared.steps.Step.{Step}
@@ -8,8 +8,23 @@ use Rattle.ason_base.specs.declared.commands.Group.{Group}
 use Rattle.ason_base.specs.declared.commands.Group.TheVariants.{Srlg, Link}
 use Rattle.ason_base.specs.declared.commands.Command.{Command}
 use Rattle.ason_base.specs.declared.commands.Command.TheVariants.{Setup, Release, Protect, Retry, Revert, Fail, Repair}
-use Rattle.ason_base.specs.Network.{Network, is_node_id}
-use Rattle.ason_base.specs.Routes.{is_beside, is_given_route}
+use Rattle.ason_base.specs.declared.network.LinkSpec.{LinkSpec}
+use Rattle.ason_base.specs.Network.{Network, is_distinct, is_node_id}
+use Rattle.ason_base.specs.Routes.{is_beside, makes_route}
+
+-- Routes
+
+abbrev pub has_metric : LinkSpec → Bool
+has_metric l = nat_le 1 l.metric && nat_le l.metric 65535
+
+-- each link has a number of its own and a metric of 1 to 65,535, as in every topology: routes can be searched for
+abbrev pub is_searchable : Network → Bool
+is_searchable t = is_distinct (map (λ l. l.id.0) t.links) && list_all has_metric t.links
+
+-- a route that is given leads there; else the ingress searches for one
+abbrev pub has_way : Network → NodeId → NodeId → Option (List Step) → Bool
+has_way t from to None = is_searchable t
+has_way t from to (Some route) = makes_route t from to route
 
 abbrev pub is_given_backup : Network → NodeId → NodeId → Bool → Option (List Step) → Option (List Step) → Bool
 is_given_backup t from to protected via None = true
@@ -24,7 +39,7 @@ is_group t (Srlg s) = list_any (λ l. list_any (λ r. r == s) l.srlgs) t.links
 abbrev pub is_valid : Network → Command → Bool
 is_valid t (Setup n from to protected both via backup) =
     is_node_id t.nodes from && is_node_id t.nodes to && not (from.0 == to.0)
-    && is_given_route t from to via && is_given_backup t from to protected via backup
+    && has_way t from to via && is_given_backup t from to protected via backup
 is_valid t (Release n from) = is_node_id t.nodes from
 is_valid t (Protect n from) = is_node_id t.nodes from
 is_valid t (Retry n from) = is_node_id t.nodes from

@@ -55,7 +55,8 @@ on_first_item p s (i ∷ items) = on_item p s i
 
 -- a call's command goes to the desk of its ingress; failures and repairs of groups change nothing
 abbrev pub posted : Mesh → Command → Mesh
-posted s (Setup n from to protected both via backup) = with_posted (with_item s from.0 (Order (Setup n from to protected both via backup))) n
+posted s (Setup n from to protected both via backup) =
+    with_posted (with_item s from.0 (Order (Setup n from to protected both via backup))) n
 posted s (Release n from) = with_item s from.0 (Order (Release n from))
 posted s (Protect n from) = with_item s from.0 (Order (Protect n from))
 posted s (Retry n from) = with_item s from.0 (Order (Retry n from))
@@ -86,7 +87,8 @@ after t s (e ∷ es) = after t (step t s e) es
 -- The whole route of an LSP
 
 abbrev pub whole_route : Lsp → Msg → Option (List Step)
-whole_route l (Path k e link route set up r) = if same_lsp k l then Some (record { node = k.ingress; link = link } ∷ route) else None
+whole_route l (Path k e link route set up r) =
+    if same_lsp k l then Some (record { node = k.ingress; link = link } ∷ route) else None
 whole_route l (Resv k e link x) = None
 whole_route l (PathTear k e link) = None
 whole_route l (PathErr k e at gone code) = None
@@ -102,8 +104,10 @@ first_route l (o ∷ os) = or_route (whole_route l o.msg) (first_route l os)
 
 -- what the LSP's ingress sends in a step
 abbrev pub sent_at_ingress : Network → Mesh → MeshEvent → Lsp → List Out
-sent_at_ingress t s (Take d u) l = if d.0 == l.ingress.0 then (on_first (local_node t d) (s.nodes d.0) u (s.mail u.0 d.0)).sent else []
-sent_at_ingress t s (Desk n) l = if n.0 == l.ingress.0 then (on_first_item (local_node t n) (s.nodes n.0) (s.desks n.0)).sent else []
+sent_at_ingress t s (Take d u) l = if d.0 == l.ingress.0
+    then (on_first (local_node t d) (s.nodes d.0) u (s.mail u.0 d.0)).sent else []
+sent_at_ingress t s (Desk n) l = if n.0 == l.ingress.0
+    then (on_first_item (local_node t n) (s.nodes n.0) (s.desks n.0)).sent else []
 sent_at_ingress t s (Tick n) l = if n.0 == l.ingress.0 then (on_tick (local_node t n) (s.nodes n.0)).sent else []
 sent_at_ingress t s (Learn n k) l = []
 sent_at_ingress t s (Post c) l = []

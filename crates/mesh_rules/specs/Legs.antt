@@ -9,9 +9,11 @@ use Rattle.ason_base.specs.declared.calls.Phase.{Phase}
 use Rattle.ason_base.specs.declared.calls.Phase.TheVariants.{Asked, Held, Armed, Live, Closing, Falling}
 use Rattle.ason_base.specs.declared.calls.Role.{Role}
 use Rattle.ason_base.specs.declared.calls.Role.TheVariants.{Work, Back}
+use Rattle.ason_base.specs.declared.risks.Risk.{Risk}
 use Rattle.ason_base.specs.declared.tables.Leg.{Leg}
 use Rattle.ason_base.specs.Labels.{up_to}
 use Rattle.ason_base.specs.Lsps.{same_lsp, lsp_before, same_fibre}
+use Rattle.ason_base.specs.Risks.{have_common}
 use Rattle.mesh_rules.specs.declared.changes.LegChange.{LegChange}
 use Rattle.mesh_rules.specs.declared.changes.LegChange.TheVariants.{Goes, Put}
 use Rattle.mesh_rules.specs.declared.neighbours.Neighbour.{Neighbour}
@@ -73,6 +75,11 @@ is_beyond_asked Armed = true
 is_beyond_asked Live = true
 is_beyond_asked _ = false
 
+-- the phase of a leg that gets its label: a working leg is cross-connected, a backup's label is reserved alone
+abbrev pub reserved : Role → Phase
+reserved Work = Live
+reserved Back = Held
+
 -- a torn leg's phase: a backup that was Armed or Live falls
 abbrev pub closing_phase : Phase → Role → Phase
 closing_phase Armed Back = Falling
@@ -89,7 +96,7 @@ closed g = record g { phase = closing_phase g.phase g.role; in_label = None }
 
 -- The leg of a Resv: the label out is the one that came, the label in the one that goes back.
 abbrev pub connected : Leg → Option ℕ → ℕ → Leg
-connected g label x = record g { phase = Live; in_label = label; out_label = Some x }
+connected g label x = record g { phase = reserved g.role; in_label = label; out_label = Some x }
 
 -- Neighbours of a leg
 
@@ -135,6 +142,19 @@ takes f x g = is_label (label_on f g) x
 abbrev pub is_free : List Leg → Fibre → ℕ → Bool
 is_free legs f x = not (list_any (takes f x) legs)
 
--- the labels of a fibre that a working leg may take: those that are free
-abbrev pub usable : LocalNode → List Leg → Fibre → List ℕ
-usable p legs f = filter (is_free legs f) (up_to (labels_of (own_link p f.link)))
+-- a backup whose primary has none of these risks
+abbrev pub is_apart : List Risk → Leg → Bool
+is_apart risks g = not (is_work g.role) && not (have_common risks g.risks)
+
+-- each leg that takes the label is a backup whose primary has none of these risks
+abbrev pub is_shareable : List Risk → List Leg → Fibre → ℕ → Bool
+is_shareable risks legs f x = not (list_any (λ g. takes f x g && not (is_apart risks g)) legs)
+
+-- A working leg may take a label that is free. A backup may share it with backups; these are the risks of its primary.
+abbrev pub is_usable : Role → List Risk → List Leg → Fibre → ℕ → Bool
+is_usable Work risks legs f x = is_free legs f x
+is_usable Back risks legs f x = is_shareable risks legs f x
+
+-- the labels of a fibre that a leg of this role, whose primary has these risks, may take
+abbrev pub usable : LocalNode → List Leg → Role → List Risk → Fibre → List ℕ
+usable p legs role risks f = filter (is_usable role risks legs f) (up_to (labels_of (own_link p f.link)))

@@ -2,6 +2,8 @@ pub mod Calls
 pub mod Changes
 pub mod Commands
 pub mod Events
+pub mod KnownRows
+pub mod LeastRoutes
 pub mod Legs
 pub mod LocalNodes
 pub mod Machine

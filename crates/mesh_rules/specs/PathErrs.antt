@@ -24,7 +24,8 @@ pub record PathFailure : Type 0 where
 -- a call that was asked for is refused; no other call is touched
 abbrev pub call_refused : ErrCode → Option CallRec → Answer
 call_refused code None = nothing
-call_refused code (Some c) = if is_asking c.state then changes_calls (call.Put (blocked c (Code code)) ∷ []) else nothing
+call_refused code (Some c) = if is_asking c.state then changes_calls (call.Put (blocked c (Code code)) ∷ [])
+    else nothing
 
 -- at the ingress the call follows, elsewhere it is passed back unchanged
 abbrev pub refused_here : NodeState → Leg → ErrCode → Answer
@@ -37,7 +38,8 @@ err_passed s g e (Some h) = removes g.lsp (to_node h.node e.msg ∷ [])
 -- an Asked leg goes and the PathErr is passed back; a torn leg goes, since the next node has let go
 abbrev pub removed : NodeState → Leg → PathFailure → Answer
 removed s g e =
-    if is_asked g.phase then err_passed s g e (previous g) else (if is_closing g.phase then removes g.lsp [] else nothing)
+    if is_asked g.phase then err_passed s g e (previous g)
+    else (if is_closing g.phase then removes g.lsp [] else nothing)
 
 abbrev pub path_err_with : NodeState → NodeId → PathFailure → Option Leg → Answer
 path_err_with s u e None = nothing

@@ -1,14 +1,18 @@
 -- A Path where no leg of its LSP stands (RFC 2205, section 3.1.3; RFC 3473, section 2).
-use Rattle.std.specs.Prelude.{ℕ, ◌==◌, ◌&&◌, nat_le, Bool, true, false, not, List, [], ◌∷◌, length, Option, Some, None, if◌then◌else◌}
-use Rattle.ason_base.specs.Codes.{full_code, route_code, set_code}
+use Rattle.std.specs.Prelude.{ℕ, ◌==◌, ◌&&◌, nat_le, Bool, true, false, not, List, [], ◌∷◌, length, Option, Some, None, is_some, if◌then◌else◌}
+use Rattle.ason_base.specs.Codes.{full_code, route_code, primary_code, set_code}
 use Rattle.ason_base.specs.Labels.{up_to, meet, least}
+use Rattle.ason_base.specs.Risks.{route_risks, unknown_link}
 use Rattle.ason_base.specs.declared.codes.ErrCode.{ErrCode}
 use Rattle.ason_base.specs.declared.steps.Step.{Step}
 use Rattle.ason_base.specs.declared.network.LinkSpec.{LinkSpec}
+use Rattle.ason_base.specs.declared.network.TeRow.{TeRow}
+use Rattle.ason_base.specs.declared.risks.Risk.{Risk}
 use Rattle.ason_base.specs.declared.messages.PathRole.{PathRole}
 use Rattle.ason_base.specs.declared.messages.PathRole.TheVariants.{Work, Back}
 use Rattle.ason_base.specs.declared.messages.Msg.TheVariants.{Path, Resv, PathErr}
-use Rattle.ason_base.specs.declared.calls.Phase.TheVariants.{Asked, Live}
+use Rattle.ason_base.specs.declared.calls.Phase.TheVariants.{Asked}
+use Rattle.ason_base.specs.declared.calls.Role.{Role}
 use Rattle.ason_base.specs.declared.calls.Role.TheVariants as role
 use Rattle.ason_base.specs.declared.ids.NodeId.{NodeId}
 use Rattle.ason_base.specs.declared.tables.Leg.{Leg}
@@ -16,17 +20,48 @@ use Rattle.ason_base.specs.declared.tables.Out.{Out}
 use Rattle.mesh_rules.specs.declared.limits.TheConstants.{MOST_LEGS}
 use Rattle.mesh_rules.specs.declared.arrivals.Arrival.{Arrival}
 use Rattle.mesh_rules.specs.State.{NodeState}
+use Rattle.mesh_rules.specs.KnownRows.{known_rows}
 use Rattle.mesh_rules.specs.Changes.{Answer, nothing, sends, puts, to_node}
 use Rattle.ason_base.specs.Network.{other_end}
 use Rattle.mesh_rules.specs.LocalNodes.{LocalNode, own_link, is_link_there, leads, fibre_in, fibre_out}
-use Rattle.mesh_rules.specs.Legs.{find_leg, usable}
+use Rattle.mesh_rules.specs.Legs.{find_leg, reserved, usable}
 
--- what a Path asks for: of which LSP and from where it came, over which steps from here, with which labels, and for what
+-- what a Path asks for: of which LSP and from where it came, over which steps from here, with which labels, and for
+-- what
 pub record PathRequest : Type 0 where
   pub arrival : Arrival
   pub route : List Step
   pub set : List ℕ
   pub role : PathRole
+
+-- The role of a Path
+
+abbrev pub is_for_work : PathRole → Bool
+is_for_work (Work guard) = true
+is_for_work (Back active work primary) = false
+
+-- a Path that activates a backup
+abbrev pub is_active : PathRole → Bool
+is_active (Work guard) = false
+is_active (Back active work primary) = active
+
+abbrev pub role_of : PathRole → Role
+role_of (Work guard) = role.Work
+role_of (Back active work primary) = role.Back
+
+-- the risks that a backup's leg records: those of its primary's route, over the rows of the links that are known
+abbrev pub recorded : List TeRow → PathRole → List Risk
+recorded rows (Work guard) = []
+recorded rows (Back active work primary) = route_risks rows primary
+
+-- a link of the primary's route isn't known, so neither are its risks
+abbrev pub is_primary_unknown : List TeRow → PathRole → Bool
+is_primary_unknown rows (Work guard) = false
+is_primary_unknown rows (Back active work primary) = is_some (unknown_link rows primary)
+
+-- the risks of a Path's primary, as the node knows them
+abbrev pub risks_here : LocalNode → NodeState → PathRequest → List Risk
+risks_here p s m = recorded (known_rows p s) m.role
 
 -- Refusals
 
@@ -34,11 +69,12 @@ pub record PathRequest : Type 0 where
 abbrev pub leads_on : LocalNode → Arrival → List Step → Bool
 leads_on p a [] = p.id.0 == a.egress.0
 leads_on p a (hop ∷ route) =
-    not (p.id.0 == a.egress.0) && (hop.node.0 == p.id.0 && (not (hop.link.0 == a.link.0) && is_link_there (own_link p hop.link)))
+    not (p.id.0 == a.egress.0) && (hop.node.0 == p.id.0
+    && (not (hop.link.0 == a.link.0) && is_link_there (own_link p hop.link)))
 
 -- the labels of the set that are usable on the fibre that the Path came by
 abbrev pub offered_labels : LocalNode → NodeState → PathRequest → LinkSpec → List ℕ
-offered_labels p s m link = meet m.set (usable p s.legs (fibre_in link p.id))
+offered_labels p s m link = meet m.set (usable p s.legs (role_of m.role) (risks_here p s m) (fibre_in link p.id))
 
 abbrev pub is_none : Option ℕ → Bool
 is_none None = true
@@ -54,11 +90,14 @@ abbrev pub first_failure : List Check → Option ErrCode
 first_failure [] = None
 first_failure (c ∷ checks) = if c.fails then Some c.code else first_failure checks
 
--- in this order: the node keeps all the legs that it can; the route doesn't lead on from here; no label that was offered is usable
+-- in this order: the node keeps all the legs that it can; the route doesn't lead on from here; a link of the primary's
+-- route
+-- isn't known; no label that was offered is usable
 abbrev pub checks : LocalNode → NodeState → PathRequest → LinkSpec → List Check
 checks p s m link =
     record { fails = nat_le MOST_LEGS (length s.legs); code = full_code }
     ∷ record { fails = not (leads_on p m.arrival m.route); code = route_code }
+    ∷ record { fails = is_primary_unknown (known_rows p s) m.role; code = primary_code }
     ∷ record { fails = is_none (least (offered_labels p s m link)); code = set_code }
     ∷ []
 
@@ -69,11 +108,11 @@ error_to n p a code = to_node n (PathErr a.lsp a.egress p.id true code)
 -- Legs
 
 -- the leg that a Path makes, as far as it is the same at each node
-abbrev pub asked_leg : LocalNode → PathRequest → LinkSpec → List ℕ → Leg
-asked_leg p m link offered = record {
+abbrev pub asked_leg : LocalNode → PathRequest → LinkSpec → List Risk → List ℕ → Leg
+asked_leg p m link risks offered = record {
   lsp = m.arrival.lsp;
   egress = m.arrival.egress;
-  role = role.Work;
+  role = role_of m.role;
   prev = Some m.arrival.from;
   next = None;
   in_fibre = Some (fibre_in link p.id);
@@ -82,7 +121,7 @@ asked_leg p m link offered = record {
   sent = [];
   route = [];
   path_role = m.role;
-  risks = [];
+  risks = risks;
   phase = Asked;
   in_label = None;
   out_label = None;
@@ -90,15 +129,16 @@ asked_leg p m link offered = record {
   back_out = None;
 }
 
-abbrev pub egress_leg : LocalNode → PathRequest → LinkSpec → List ℕ → ℕ → Leg
-egress_leg p m link offered x = record (asked_leg p m link offered) { phase = Live; in_label = Some x }
+abbrev pub egress_leg : LocalNode → PathRequest → LinkSpec → List Risk → List ℕ → ℕ → Leg
+egress_leg p m link risks offered x =
+    record (asked_leg p m link risks offered) { phase = reserved (role_of m.role); in_label = Some x }
 
 -- a node that converts lets every label of the link through, another one those that it was offered
 abbrev pub set_on : LocalNode → LinkSpec → List ℕ → List ℕ
 set_on p out offered = if p.convert then up_to out.labels else offered
 
-abbrev pub transit_leg : LocalNode → PathRequest → LinkSpec → LinkSpec → List Step → List ℕ → Leg
-transit_leg p m link out route offered = record (asked_leg p m link offered) {
+abbrev pub transit_leg : LocalNode → PathRequest → LinkSpec → List Risk → LinkSpec → List Step → List ℕ → Leg
+transit_leg p m link risks out route offered = record (asked_leg p m link risks offered) {
   next = Some (other_end out p.id);
   out_fibre = Some (fibre_out out p.id);
   sent = set_on p out offered;
@@ -108,37 +148,35 @@ transit_leg p m link out route offered = record (asked_leg p m link offered) {
 -- What is answered
 
 -- at the egress the least offered label is taken
-abbrev pub at_egress : LocalNode → PathRequest → LinkSpec → List ℕ → Option ℕ → Answer
-at_egress p m link offered None = nothing
-at_egress p m link offered (Some x) =
-    puts (egress_leg p m link offered x) (to_node m.arrival.from (Resv m.arrival.lsp m.arrival.egress link.id x) ∷ [])
+abbrev pub at_egress : LocalNode → PathRequest → LinkSpec → List Risk → List ℕ → Option ℕ → Answer
+at_egress p m link risks offered None = nothing
+at_egress p m link risks offered (Some x) =
+    puts (egress_leg p m link risks offered x)
+    (to_node m.arrival.from (Resv m.arrival.lsp m.arrival.egress link.id x) ∷ [])
 
 -- the Path goes on over the first step's link, without that step
-abbrev pub in_transit : LocalNode → PathRequest → LinkSpec → List Step → List ℕ → Option LinkSpec → Answer
-in_transit p m link route offered None = nothing
-in_transit p m link route offered (Some out) =
-    puts (transit_leg p m link out route offered)
-    (to_node (other_end out p.id) (Path m.arrival.lsp m.arrival.egress out.id route (set_on p out offered) None m.role) ∷ [])
+abbrev pub in_transit : LocalNode → PathRequest → LinkSpec → List Risk → List Step → List ℕ → Option LinkSpec → Answer
+in_transit p m link risks route offered None = nothing
+in_transit p m link risks route offered (Some out) =
+    puts (transit_leg p m link risks out route offered)
+    (to_node (other_end out p.id) (Path m.arrival.lsp m.arrival.egress out.id route
+    (set_on p out offered) None m.role) ∷ [])
 
-abbrev pub admitted : LocalNode → PathRequest → LinkSpec → List ℕ → List Step → Answer
-admitted p m link offered [] = at_egress p m link offered (least offered)
-admitted p m link offered (hop ∷ route) = in_transit p m link route offered (own_link p hop.link)
+abbrev pub admitted : LocalNode → PathRequest → LinkSpec → List Risk → List ℕ → List Step → Answer
+admitted p m link risks offered [] = at_egress p m link risks offered (least offered)
+admitted p m link risks offered (hop ∷ route) = in_transit p m link risks route offered (own_link p hop.link)
 
 -- it is refused, no leg is made and the sender is told why; or it is admitted
 abbrev pub judged : LocalNode → NodeState → PathRequest → LinkSpec → Option ErrCode → Answer
 judged p s m link (Some code) = sends (error_to m.arrival.from p m.arrival code ∷ [])
-judged p s m link None = admitted p m link (offered_labels p s m link) m.route
+judged p s m link None = admitted p m link (risks_here p s m) (offered_labels p s m link) m.route
 
--- Backups aren't reserved: a Path of a backup changes nothing.
-abbrev pub is_for_work : PathRole → Bool
-is_for_work (Work guard) = true
-is_for_work (Back active work primary) = false
-
--- the link leads from the sender to this node, and the ingress is another node
+-- the link leads from the sender to this node, the ingress is another node, and no backup is activated that has no leg
+-- here
 abbrev pub first_path : LocalNode → NodeState → PathRequest → Option LinkSpec → Answer
 first_path p s m None = nothing
 first_path p s m (Some link) =
-    if is_for_work m.role && (leads (Some link) m.arrival.from p.id && not (m.arrival.lsp.ingress.0 == p.id.0))
+    if not (is_active m.role) && (leads (Some link) m.arrival.from p.id && not (m.arrival.lsp.ingress.0 == p.id.0))
     then judged p s m link (first_failure (checks p s m link))
     else nothing
 

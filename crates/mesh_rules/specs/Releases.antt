@@ -26,7 +26,8 @@ tears (Some g) = puts (closed g) (tear_to g (following g))
 -- the working LSP is torn, then the backup, and the call goes
 abbrev pub releases : NodeState → CallRec → Answer
 releases s c =
-    followed_by (tears (leg_of c.work s.legs)) (followed_by (tears (leg_of c.back s.legs)) (changes_calls (call.Goes c.call ∷ [])))
+    followed_by (tears (leg_of c.work s.legs)) (followed_by (tears (leg_of c.back s.legs))
+    (changes_calls (call.Goes c.call ∷ [])))
 
 abbrev pub release_with : LocalNode → NodeState → NodeId → Option CallRec → Answer
 release_with p s from None = nothing

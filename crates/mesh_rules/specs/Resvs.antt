@@ -11,24 +11,26 @@ use Rattle.mesh_rules.specs.declared.neighbours.Neighbour.{Neighbour}
 use Rattle.mesh_rules.specs.State.{NodeState}
 use Rattle.mesh_rules.specs.Changes.{Answer, nothing, puts, changes_calls, followed_by, to_node}
 use Rattle.mesh_rules.specs.LocalNodes.{LocalNode}
-use Rattle.mesh_rules.specs.Legs.{find_leg, is_asked, is_work, closed, connected, previous, following, is_over, usable}
+use Rattle.mesh_rules.specs.Legs.{find_leg, is_asked, closed, connected, previous, following, is_over, usable}
 use Rattle.mesh_rules.specs.Calls.{call_of, is_asking, bare}
 
 -- a Resv is taken by an Asked leg, from its next node, over its outgoing link, with a label of the set that was sent on
 abbrev pub is_expected : Arrival → ℕ → Leg → Bool
-is_expected a x g = is_asked g.phase && (is_work g.role && (is_over (following g) a.from a.link && has g.sent x))
+is_expected a x g = is_asked g.phase && (is_over (following g) a.from a.link && has g.sent x)
 
 -- a call without protection that was asked for stands; no other call is touched
 abbrev pub call_connected : Option CallRec → Answer
 call_connected None = nothing
-call_connected (Some c) = if is_asking c.state && not c.protected then changes_calls (call.Put (bare c) ∷ []) else nothing
+call_connected (Some c) = if is_asking c.state && not c.protected then changes_calls (call.Put (bare c) ∷ [])
+    else nothing
 
 -- this label, if it is one of them
 abbrev pub only : ℕ → Bool → Option ℕ
 only x true = Some x
 only x false = None
 
--- the label that goes back: the least that was offered and is usable now, at a node that doesn't convert the one that came
+-- the label that goes back: the least that was offered and is usable now, at a node that doesn't convert the one that
+-- came
 abbrev pub label_back : LocalNode → List ℕ → ℕ → Option ℕ
 label_back p labels x = if p.convert then least labels else only x (has labels x)
 
@@ -36,7 +38,8 @@ label_back p labels x = if p.convert then least labels else only x (has labels x
 abbrev pub torn_both_ways : LocalNode → Arrival → Leg → Neighbour → Answer
 torn_both_ways p a g h =
     puts (closed g)
-    (to_node a.from (PathTear g.lsp g.egress a.link) ∷ to_node h.node (PathErr g.lsp g.egress p.id true label_code) ∷ [])
+    (to_node a.from (PathTear g.lsp g.egress a.link) ∷ to_node h.node
+    (PathErr g.lsp g.egress p.id true label_code) ∷ [])
 
 -- the label x came, and y goes back
 abbrev pub label_passed : Leg → Neighbour → ℕ → ℕ → Answer
@@ -52,7 +55,7 @@ connected_here s x g = followed_by (puts (connected g None x) []) (call_connecte
 
 -- the labels that may go back: those that were offered and are usable now
 abbrev pub labels_left : LocalNode → NodeState → Leg → Neighbour → List ℕ
-labels_left p s g h = meet g.offered (usable p s.legs h.fibre)
+labels_left p s g h = meet g.offered (usable p s.legs g.role g.risks h.fibre)
 
 abbrev pub answered : LocalNode → NodeState → Arrival → ℕ → Leg → Option Neighbour → Answer
 answered p s a x g None = connected_here s x g

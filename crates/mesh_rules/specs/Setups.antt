@@ -11,7 +11,7 @@ use Rattle.ason_base.specs.declared.messages.Msg.TheVariants.{Path}
 use Rattle.ason_base.specs.declared.calls.CallState.{CallState}
 use Rattle.ason_base.specs.declared.calls.CallState.TheVariants.{Asking, Blocked}
 use Rattle.ason_base.specs.declared.calls.Cause.{Cause}
-use Rattle.ason_base.specs.declared.calls.Cause.TheVariants.{Unset, Spent, Full}
+use Rattle.ason_base.specs.declared.calls.Cause.TheVariants.{Unset, NoRoute, Spent, Full}
 use Rattle.ason_base.specs.declared.calls.Phase.TheVariants.{Asked}
 use Rattle.ason_base.specs.declared.calls.Role.TheVariants as role
 use Rattle.ason_base.specs.declared.tables.CallRec.{CallRec}
@@ -22,6 +22,8 @@ use Rattle.mesh_rules.specs.declared.changes.LegChange.TheVariants as leg
 use Rattle.mesh_rules.specs.State.{NodeState}
 use Rattle.mesh_rules.specs.Changes.{Answer, nothing, changes_calls, to_node}
 use Rattle.mesh_rules.specs.Calls.{find_call}
+use Rattle.mesh_rules.specs.KnownRows.{known_rows}
+use Rattle.mesh_rules.specs.LeastRoutes.{Trip, least_trip}
 use Rattle.ason_base.specs.Network.{other_end}
 use Rattle.mesh_rules.specs.LocalNodes.{LocalNode, own_link, is_link_there, fibre_out}
 
@@ -84,7 +86,8 @@ begins p s w out route = record nothing {
   legs = leg.Put (first_leg p (next_lsp p s) w.egress out route) ∷ [];
   calls = call.Put (call_record w Asking (Some (next_lsp p s)) Unset) ∷ [];
   numbers = Some (record { tunnel = s.tunnel + 1; lsp = s.lsp + 1 });
-  sent = to_node (other_end out p.id) (Path (next_lsp p s) w.egress out.id route (up_to out.labels) None (path_role.Work false)) ∷ [];
+  sent = to_node (other_end out p.id) (Path (next_lsp p s) w.egress out.id route (up_to out.labels) None
+      (path_role.Work false)) ∷ [];
 }
 
 -- no number is left: a tunnel's number is never above the LSP's
@@ -113,12 +116,17 @@ abbrev pub over_first : LocalNode → NodeState → SetupRequest → List Step �
 over_first p s w route None = nothing
 over_first p s w route (Some out) = admitted_setup p s w out (drop 1 route)
 
--- without a given route nothing is set up
+abbrev pub over_found : LocalNode → NodeState → SetupRequest → Option Trip → Answer
+over_found p s w None = refused_setup w NoRoute
+over_found p s w (Some r) = over_first p s w r.steps (first_link p r.steps)
+
+-- without a given route it goes over the least one that the node finds over the links that it knows
 abbrev pub new_call : LocalNode → NodeState → SetupRequest → Option (List Step) → Answer
-new_call p s w None = nothing
+new_call p s w None = over_found p s w (least_trip (known_rows p s) p.id w.egress)
 new_call p s w (Some route) = over_first p s w route (first_link p route)
 
--- it comes from this ingress to another node, is neither protected nor two-way, and its backup route can be followed from here
+-- it comes from this ingress to another node, is neither protected nor two-way, and its backup route can be followed
+-- from here
 abbrev pub is_order_here : LocalNode → SetupRequest → Bool
 is_order_here p w =
     w.from.0 == p.id.0 && (not (w.egress.0 == p.id.0) && (not w.protected && (not w.both && is_followable p w.backup)))

@@ -5,7 +5,8 @@ use Rattle.ason_base.specs.declared.network.TeRow.{TeRow}
 use Rattle.ason_base.specs.declared.tables.CallRec.{CallRec}
 use Rattle.ason_base.specs.declared.tables.Leg.{Leg}
 
--- its legs in order of LSP, its calls in order of number, the numbers that it gives out next, the rows of other nodes' links that
+-- its legs in order of LSP, its calls in order of number, the numbers that it gives out next, the rows of other nodes'
+-- links that
 -- it learnt, and the fibres in that it knows to be down
 pub record NodeState : Type 0 where
   pub legs : List Leg

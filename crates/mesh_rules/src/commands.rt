@@ -4,13 +4,25 @@ ghost use Rattle.std.specs.Prelude.{◌≡◌, ◌==◌};
 ghost use Rattle.std.specs.List.{list_any};
 ghost use Rattle.std.specs.Option.{option_copied};
 ghost use Rattle.ason_base.specs.Network.{is_node_id};
-ghost use Rattle.ason_base.specs.Routes.{is_beside, is_given_route};
-ghost use Rattle.mesh_rules.specs.Commands.{is_again, is_given_backup, is_group, is_valid};
+ghost use Rattle.ason_base.specs.Routes.{is_beside, makes_route};
+ghost use Rattle.mesh_rules.specs.Commands.{has_way, is_again, is_given_backup, is_group, is_searchable, is_valid};
 
-use ason_base::routes::{is_beside, is_given_route};
+use ason_base::routes::{is_beside, makes_route};
 use ason_base::{CallNo, Command, Group, LinkId, LinkSpec, NodeId, Steps, Topology};
 
 // Setups
+
+// A route that is given leads there. Where none is given the ingress searches for one, as it can in every topology.
+#[tactic(auto, using(crate::proofs::Topologies::topology_searchable))]
+fn has_way(t: &Topology, from: NodeId, to: NodeId, via: Option<&Steps>) -> bool
+    ensures { result ≡ has_way t.now from to (option_copied via.entry) }
+{
+    let _links = t.links();
+    match via {
+        None => true,
+        Some(route) => makes_route(t, from, to, route.items()),
+    }
+}
 
 fn is_given_backup(
     t: &Topology,
@@ -81,7 +93,7 @@ pub fn is_valid(t: &Topology, command: &Command) -> bool
             has_node(t, *from)
                 && has_node(t, *to)
                 && from != to
-                && is_given_route(t, *from, *to, via.as_ref())
+                && has_way(t, *from, *to, via.as_ref())
                 && is_given_backup(t, *from, *to, *protected, via.as_ref(), backup.as_ref())
         }
         Command::Release { from, .. } => has_node(t, *from),

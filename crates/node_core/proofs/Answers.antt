@@ -20,7 +20,9 @@ use Rattle.leg_table.proofs.RuleChanges.{item-may, message-may}
 use Rattle.mesh_rules.specs.Changes.{Answer, changed}
 use Rattle.mesh_rules.specs.State.{new_node}
 use Rattle.mesh_nodes.specs.Kept.{NodeFits}
+use Rattle.mesh_nodes.specs.Routes.{RowsFit}
 use Rattle.mesh_nodes.specs.Sent.{AnswerFits}
+use Rattle.mesh_nodes.proofs.routes.Topologies.{new-rows}
 use Rattle.mesh_nodes.proofs.Items.{items-fit}
 use Rattle.mesh_nodes.proofs.Messages.{messages-fit}
 use Rattle.mesh_nodes.proofs.Paths.{nothing-fits}
@@ -40,6 +42,7 @@ pub answered-fits : (n : NodeView) (a : Answer) → IsNode n → IsAnswerOf n a 
 answered-fits n a fits (i, is) = record {
   place = fits.place;
   state = subst (λ b. NodeFits n.place (changed n.state b)) (sym is) (answer-fits n i fits).kept;
+  rows = record { searchable = fits.rows.searchable; others = fits.rows.others };
 }
 
 -- the legs that it changes may be changed so
@@ -82,7 +85,10 @@ new-fit t n s o c valid is owner calls =
     let fits = at_start-fits t n s valid is in
     let state : state_of s c ≡ new_node = ap (state_of s) calls ∙ (at_start-is t n s is).1 in
     let kept = subst (NodeFits (local_of s)) (sym state) (new-fits (local_of s)) in
-    (record { place = fits.links; state = kept }, subst (IsOwnerOf s) (sym owner) fits.owner)
+    let rows : RowsFit (local_of s) (state_of s c) =
+    subst (RowsFit (local_of s)) (sym state) (subst (λ p. RowsFit p new_node) (sym (at_start-is t n s is).0)
+    (new-rows t n valid)) in
+    (record { place = fits.links; state = kept; rows = rows }, subst (IsOwnerOf s) (sym owner) fits.owner)
 
 pub new-is : (t : Network) (n : NodeId) (s : LegTable) (c : CallTable) → s ≡ new_table t n → c ≡ no_call →
     node_of s c ≡ record { place = local_node t n; state = new_node }

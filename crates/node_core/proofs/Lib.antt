@@ -1,3 +1,5 @@
 pub mod Answers
 pub mod Followed
+mod LegRows
+pub mod LeastRoute
 pub mod RowOrder

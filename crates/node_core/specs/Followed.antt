@@ -20,4 +20,5 @@ resv_followed t c u m l = followed_if (connects t u m) (resv_answer t u m) (call
 
 -- where the PathErr takes the leg of an LSP that begins here away, its call is refused
 abbrev pub err_followed : LegTable → CallTable → NodeId → Msg → Lsp → ErrCode → Answer
-err_followed t c u m l code = followed_if (refuses t u m) (path_err_answer t u m) (call_refused code (call_of l c.calls))
+err_followed t c u m l code = followed_if (refuses t u m) (path_err_answer t u m)
+    (call_refused code (call_of l c.calls))

@@ -9,6 +9,7 @@ use Rattle.mesh_rules.specs.State.{NodeState}
 use Rattle.mesh_rules.specs.Orders.{on_item, on_tick}
 use Rattle.mesh_nodes.specs.Kept.{NodeFits}
 use Rattle.mesh_nodes.specs.LocalNodes.{LocalNodeFits}
+use Rattle.mesh_nodes.specs.Routes.{RowsFit}
 use Rattle.leg_table.specs.States.{local_of, state_of}
 use Rattle.leg_table.specs.Tables.{CallTable, LegTable}
 use Rattle.mesh_nodes.specs.Sent.{CanBePassedOn}
@@ -17,10 +18,11 @@ pub record NodeView : Type 0 where
   pub place : LocalNode
   pub state : NodeState
 
--- it knows its own links, and what it keeps fits them
+-- it knows its own links, what it keeps fits them, and routes can be asked of the rows that it knows
 pub record IsNode (n : NodeView) : Type 0 where
   pub place : LocalNodeFits n.place
   pub state : NodeFits n.place n.state
+  pub rows : RowsFit n.place n.state
 
 -- the node of these tables
 abbrev pub node_of : LegTable → CallTable → NodeView

@@ -13,8 +13,9 @@ ghost use Rattle.mesh_rules.specs.Setups.{call_record, first_leg, first_link, is
 ghost use Rattle.mesh_rules.specs.Releases.{tears};
 ghost use Rattle.mesh_nodes.specs.LocalNodes.{LocalNodeFits};
 ghost use Rattle.leg_table.specs.States.{local_of};
-ghost use Rattle.node_core.specs.Rules.{admitted_here, begins_here, call_here, release_here, setup_here};
+ghost use Rattle.node_core.specs.Rules.{CanSearch, admitted_here, begins_here, call_here, found_here, over_here, release_here, searched_here, setup_here};
 
+use crate::routes::least_route;
 use ason_base::routes::other_end;
 use ason_base::{
     CallNo, CallRec, CallState, Cause, ErrCode, Fibres, LabelSet, Leg, LinkId, LinkSpec, Lsp, Msg,
@@ -66,7 +67,8 @@ pub(crate) fn call_connected(
     change: &mut Change,
     call: Option<&CallRec>,
 ) -> Result<(), OutOfMemory>
-    ensures { OnOk result (change.new ≡ followed_by change.old (resvs.call_connected (option_copied call.entry))) }
+    ensures { OnOk result
+        (change.new ≡ followed_by change.old (resvs.call_connected (option_copied call.entry))) }
 {
     match call {
         Some(call) if is_asking(call.state) && !call.protected => {
@@ -83,7 +85,9 @@ pub(crate) fn call_refused(
     code: ErrCode,
     call: Option<&CallRec>,
 ) -> Result<(), OutOfMemory>
-    ensures { OnOk result (change.new ≡ followed_by change.old (path_errs.call_refused code (option_copied call.entry))) }
+    ensures { OnOk result
+        (change.new ≡ followed_by change.old
+        (path_errs.call_refused code (option_copied call.entry))) }
 {
     match call {
         Some(call) if is_asking(call.state) => {
@@ -330,24 +334,70 @@ fn is_order_here(tables: &NodeTables, request: &SetupRequest<'_>) -> bool
         && is_followable(tables, request.backup)
 }
 
-fn new_call(
+// The call over this route, if it may be followed from here.
+fn call_over(
     alloc: Global,
     tables: &NodeTables,
     calls: &Calls,
     request: &SetupRequest<'_>,
+    route: &Steps,
 ) -> Result<Change, OutOfMemory>
     requires { LocalNodeFits (local_of tables.now) }
-    ensures { IfOk result (λ c. c ≡ call_here tables.now calls.now request.now request.now.via) }
+    ensures { IfOk result (λ c. c ≡ over_here tables.now calls.now request.now route.now) }
 {
-    let Some(route) = request.via else {
-        return Ok(Change::nothing(alloc));
-    };
     match first_link(tables, route) {
         None => Ok(Change::nothing(alloc)),
         Some(out) => {
             let rest = route.copy_from(alloc, 1)?;
             admit(alloc, tables, calls, request, out, rest)
         }
+    }
+}
+
+// The least route from here over the links that the node knows.
+fn search(
+    alloc: Global,
+    tables: &NodeTables,
+    calls: &Calls,
+    to: NodeId,
+) -> Result<Option<Steps>, OutOfMemory>
+    requires { CanSearch tables.now calls.now }
+    ensures { IfOk result (λ route. route ≡ found_here tables.now calls.now to) }
+{
+    let _calls = calls;
+    least_route(alloc, tables.rows(), id_of(tables), to)
+}
+
+// The call over the least route, or refused where there is none.
+fn call_searched(
+    alloc: Global,
+    tables: &NodeTables,
+    calls: &Calls,
+    request: &SetupRequest<'_>,
+) -> Result<Change, OutOfMemory>
+    requires links { LocalNodeFits (local_of tables.now) }
+    requires rows { CanSearch tables.now calls.now }
+    ensures { IfOk result (λ c. c ≡ searched_here tables.now calls.now request.now) }
+{
+    match search(alloc, tables, calls, request.egress)? {
+        None => refuse_setup(alloc, request, Cause::NoRoute),
+        Some(route) => call_over(alloc, tables, calls, request, &route),
+    }
+}
+
+fn new_call(
+    alloc: Global,
+    tables: &NodeTables,
+    calls: &Calls,
+    request: &SetupRequest<'_>,
+) -> Result<Change, OutOfMemory>
+    requires links { LocalNodeFits (local_of tables.now) }
+    requires rows { CanSearch tables.now calls.now }
+    ensures { IfOk result (λ c. c ≡ call_here tables.now calls.now request.now request.now.via) }
+{
+    match request.via {
+        None => call_searched(alloc, tables, calls, request),
+        Some(route) => call_over(alloc, tables, calls, request, route),
     }
 }
 
@@ -358,7 +408,8 @@ pub(crate) fn set_up(
     calls: &Calls,
     request: &SetupRequest<'_>,
 ) -> Result<Change, OutOfMemory>
-    requires { LocalNodeFits (local_of tables.now) }
+    requires links { LocalNodeFits (local_of tables.now) }
+    requires rows { CanSearch tables.now calls.now }
     ensures { IfOk result (λ c. c ≡ setup_here tables.now calls.now request.now) }
 {
     if calls.get(request.call).is_none() && is_order_here(tables, request) {

@@ -4,6 +4,7 @@
 mod call_control;
 pub mod inputs;
 pub mod node;
+mod routes;
 mod rows;
 mod rules;
 #[cfg(test)]

@@ -8,6 +8,7 @@ ghost use Rattle.mesh_rules.specs.State.{new_node};
 ghost use Rattle.mesh_nodes.specs.Kept.{NodeFits};
 ghost use Rattle.mesh_nodes.specs.LocalNodes.{LocalNodeFits};
 ghost use Rattle.mesh_nodes.specs.Order.{CallRowsRise, LegRowsRise};
+ghost use Rattle.mesh_nodes.specs.Routes.{RowsFit};
 ghost use Rattle.mesh_nodes.specs.Sent.{AllToNeighbours, AllWritable};
 ghost use Rattle.node_core.specs.Nodes.{IsAnswerOf, IsWritableInput, answer_to, stepped};
 
@@ -76,10 +77,11 @@ impl Node {
         self.tables.node().id
     }
 
-    /// Law: the node knows its own links, and what it keeps fits them.
+    /// Law: the node knows its own links, what it keeps fits them, and routes can be asked of the rows that it knows.
     pub fn fits(&self)
         ensures place { LocalNodeFits self.now.place }
         ensures state { NodeFits self.now.place self.now.state }
+        ensures rows { RowsFit self.now.place self.now.state }
     {
         let _tables = &self.tables;
     }
@@ -124,14 +126,15 @@ impl Node {
 
     /// What a table shows of the node: its calls in order of number, its legs in order of LSP.
     pub fn rows(&self, alloc: Global) -> Result<TableRows, OutOfMemory>
-        ensures calls { IfOk result (λ rows. rows.calls ≡ call_rows self.now.place.id self.now.state) }
+        ensures calls { IfOk result
+            (λ rows. rows.calls ≡ call_rows self.now.place.id self.now.state) }
         ensures legs { IfOk result (λ rows. rows.legs ≡ leg_rows self.now.place.id self.now.state) }
         ensures calls_rise { IfOk result (λ rows. CallRowsRise rows.calls) }
         ensures legs_rise { IfOk result (λ rows. LegRowsRise rows.legs) }
     {
         let id = self.tables.node().id;
         let calls = call_rows(alloc, id, &self.tables, self.calls.calls())?;
-        let legs = leg_rows(alloc, id, self.tables.legs())?;
+        let legs = leg_rows(alloc, id, &self.tables)?;
         Ok(TableRows { calls, legs })
     }
 }

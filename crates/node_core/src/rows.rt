@@ -1,6 +1,6 @@
 //! What a table shows of a node.
 
-ghost use Rattle.std.specs.Prelude.{◌≡◌, IfOk, map};
+ghost use Rattle.std.specs.Prelude.{◌≡◌, ◌<◌, ◌+◌, IfOk, OnOk, length, map, take};
 ghost use Rattle.mesh_rules.specs.Rows.{call_row, leg_row, link_of, standing};
 
 use ason_base::{
@@ -74,12 +74,33 @@ fn leg_row(n: NodeId, leg: &Leg) -> LegRow
     }
 }
 
-pub(crate) fn leg_rows(alloc: Global, n: NodeId, legs: &[Leg]) -> Result<LegRows, OutOfMemory>
-    ensures { IfOk result (λ rows. rows ≡ map (leg_row n) legs.now) }
+// The row of the leg at this place comes after those before it.
+fn push_leg_row(
+    rows: &mut LegRows,
+    n: NodeId,
+    tables: &NodeTables,
+    place: usize,
+) -> Result<(), OutOfMemory>
+    requires before { rows.old ≡ map (leg_row n) (take place tables.now.legs) }
+    requires within { place < length tables.now.legs }
+    ensures { OnOk result (rows.new ≡ map (leg_row n) (take (place + 1) tables.now.legs)) }
+{
+    match tables.leg_at(place) {
+        None => unreachable!(),
+        Some(leg) => rows.push(leg_row(n, leg)),
+    }
+}
+
+pub(crate) fn leg_rows(
+    alloc: Global,
+    n: NodeId,
+    tables: &NodeTables,
+) -> Result<LegRows, OutOfMemory>
+    ensures { IfOk result (λ rows. rows ≡ map (leg_row n) tables.now.legs) }
 {
     let mut rows = LegRows::new(alloc);
-    for leg in legs {
-        rows.push(leg_row(n, leg))?;
+    for place in 0..tables.count() {
+        push_leg_row(&mut rows, n, tables, place)?;
     }
     Ok(rows)
 }

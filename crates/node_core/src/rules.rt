@@ -7,7 +7,7 @@ ghost use Rattle.leg_table.specs.Fits.{TablesFit};
 ghost use Rattle.leg_table.specs.States.{local_of, state_of};
 ghost use Rattle.node_core.specs.Followed.{err_followed, resv_followed};
 ghost use Rattle.node_core.specs.Nodes.{answer_to, node_of};
-ghost use Rattle.node_core.specs.Rules.{item_here, message_here, order_here};
+ghost use Rattle.node_core.specs.Rules.{CanSearch, item_here, message_here, order_here};
 
 use crate::call_control::{SetupRequest, call_connected, call_refused, release, set_up};
 use crate::inputs::Input;
@@ -88,7 +88,8 @@ fn on_order(
     calls: &Calls,
     command: &Command,
 ) -> Result<Change, OutOfMemory>
-    requires { LocalNodeFits (local_of tables.now) }
+    requires links { LocalNodeFits (local_of tables.now) }
+    requires rows { CanSearch tables.now calls.now }
     ensures { IfOk result (λ c. c ≡ order_here tables.now calls.now command.now) }
 {
     match command {
@@ -128,7 +129,8 @@ fn on_item(
     calls: &Calls,
     item: &DeskItem,
 ) -> Result<Change, OutOfMemory>
-    requires { LocalNodeFits (local_of tables.now) }
+    requires links { LocalNodeFits (local_of tables.now) }
+    requires rows { CanSearch tables.now calls.now }
     ensures { IfOk result (λ c. c ≡ item_here tables.now calls.now item.now) }
 {
     match item {
@@ -152,7 +154,8 @@ pub(crate) fn on_input(
     calls: &Calls,
     input: &Input,
 ) -> Result<Change, OutOfMemory>
-    requires { TablesFit tables.now owner.now }
+    requires tables { TablesFit tables.now owner.now }
+    requires rows { CanSearch tables.now calls.now }
     ensures { IfOk result (λ c. c ≡ answer_to (node_of tables.now calls.now) input.now) }
 {
     match input {

@@ -1,17 +1,25 @@
 -- What a Path and a PathTear do at a node of these tables.
-use Rattle.std.specs.Prelude.{ℕ, Bool, List, [], ◌∷◌, Option, None, drop}
+use Rattle.std.specs.Prelude.{◌≡◌, ℕ, Bool, List, [], ◌∷◌, None, IsTrue, drop, if◌then◌else◌}
+use Rattle.ason_base.specs.Codes.{set_code}
 use Rattle.ason_base.specs.Labels.{least}
 use Rattle.ason_base.specs.declared.codes.ErrCode.{ErrCode}
 use Rattle.ason_base.specs.declared.ids.LinkId.{LinkId}
 use Rattle.ason_base.specs.declared.ids.NodeId.{NodeId}
+use Rattle.ason_base.specs.declared.messages.PathRole.{PathRole}
 use Rattle.ason_base.specs.declared.messages.Msg.{Msg}
 use Rattle.ason_base.specs.declared.messages.Msg.TheVariants.{Path, Resv, PathTear, PathErr, Notify}
 use Rattle.ason_base.specs.declared.network.LinkSpec.{LinkSpec}
+use Rattle.ason_base.specs.declared.network.TeRow.{TeRow}
+use Rattle.ason_base.specs.declared.risks.Risk.{Risk}
+use Rattle.ason_base.specs.declared.risks.RiskFault.{RiskFault}
+use Rattle.ason_base.specs.declared.risks.RiskFault.TheVariants.{Unknown}
 use Rattle.ason_base.specs.declared.steps.Step.{Step}
+use Rattle.ason_base.specs.declared.tables.Leg.{Leg}
 use Rattle.mesh_rules.specs.declared.arrivals.Arrival.{Arrival}
 use Rattle.mesh_rules.specs.Changes.{Answer, nothing, sends}
 use Rattle.mesh_rules.specs.Messages.{arrival}
-use Rattle.mesh_rules.specs.Paths.{PathRequest, admitted, at_egress, checks, error_to, first_failure, first_path, in_transit, judged, offered_labels, on_path}
+use Rattle.mesh_rules.specs.Paths.{PathRequest, admitted, asked_leg, at_egress, checks, error_to, first_failure, first_path, in_transit, is_none, is_primary_unknown, judged, offered_labels, on_path, risks_here}
+use Rattle.mesh_rules.specs.KnownRows.{known_rows}
 use Rattle.mesh_rules.specs.LocalNodes.{fibre_in, own_link}
 use Rattle.mesh_rules.specs.Tears.{on_tear}
 use Rattle.leg_table.specs.Fits.{legs_after}
@@ -23,12 +31,29 @@ use Rattle.leg_table.specs.Tables.{LegTable}
 abbrev pub offered_here : LegTable → PathRequest → LinkSpec → List ℕ
 offered_here t m link = offered_labels (local_of t) (legs_state t) m link
 
--- why the Path is refused that came over this link
-abbrev pub refused_for : LegTable → PathRequest → LinkSpec → Option ErrCode
-refused_for t m link = first_failure (checks (local_of t) (legs_state t) m link)
+-- the risks of the Path's primary, as the node knows them
+abbrev pub recorded_here : LegTable → PathRequest → List Risk
+recorded_here t m = risks_here (local_of t) (legs_state t) m
+
+-- the rows of the links that the node knows
+abbrev pub known_here : LegTable → List TeRow
+known_here t = known_rows (local_of t) (legs_state t)
+
+-- a link of the primary's route isn't known here
+abbrev pub is_unknown_here : LegTable → PathRole → Bool
+is_unknown_here t r = is_primary_unknown (known_here t) r
+
+-- a fault that names a link comes where one isn't known
+abbrev pub IsUnknownFor : LegTable → PathRole → RiskFault → Type 0
+IsUnknownFor t r f = (l : LinkId) → f ≡ Unknown l → IsTrue (is_unknown_here t r)
+
+-- the leg that the Path makes, as far as it is the same at each node
+abbrev pub asked_here : LegTable → PathRequest → LinkSpec → List Risk → List ℕ → Leg
+asked_here t m link risks offered = asked_leg (local_of t) m link risks offered
 
 abbrev pub judged_here : LegTable → PathRequest → LinkSpec → Answer
-judged_here t m link = judged (local_of t) (legs_state t) m link (refused_for t m link)
+judged_here t m link =
+    judged (local_of t) (legs_state t) m link (first_failure (checks (local_of t) (legs_state t) m link))
 
 abbrev pub first_here : LegTable → PathRequest → Answer
 first_here t m = first_path (local_of t) (legs_state t) m (own_link (local_of t) m.arrival.link)
@@ -40,19 +65,25 @@ comes_over t link = is_fibre_in (local_of t) (fibre_in link t.node.id)
 abbrev pub refused_here : LegTable → Arrival → ErrCode → Answer
 refused_here t a code = sends (error_to a.from (local_of t) a code ∷ [])
 
-abbrev pub ended_here : LegTable → PathRequest → LinkSpec → List ℕ → Answer
-ended_here t m link offered = at_egress (local_of t) m link offered (least offered)
+abbrev pub ended_here : LegTable → PathRequest → LinkSpec → List Risk → List ℕ → Answer
+ended_here t m link risks offered = at_egress (local_of t) m link risks offered (least offered)
 
 -- the Path that goes on over this link
 abbrev pub path_on : PathRequest → LinkSpec → List Step → List ℕ → Msg
 path_on m out route set = Path m.arrival.lsp m.arrival.egress out.id route set None m.role
 
 -- it goes on over the node's link of this number, without its first step
-abbrev pub passed_here : LegTable → PathRequest → LinkSpec → List ℕ → LinkId → Answer
-passed_here t m link offered k = in_transit (local_of t) m link (drop 1 m.route) offered (own_link (local_of t) k)
+abbrev pub passed_here : LegTable → PathRequest → LinkSpec → List Risk → List ℕ → LinkId → Answer
+passed_here t m link risks offered k =
+    in_transit (local_of t) m link risks (drop 1 m.route) offered (own_link (local_of t) k)
 
-abbrev pub admitted_here : LegTable → PathRequest → LinkSpec → List ℕ → Answer
-admitted_here t m link offered = admitted (local_of t) m link offered m.route
+abbrev pub admitted_here : LegTable → PathRequest → LinkSpec → List Risk → List ℕ → Answer
+admitted_here t m link risks offered = admitted (local_of t) m link risks offered m.route
+
+-- it is refused where no label is left, and else admitted
+abbrev pub labelled_here : LegTable → PathRequest → LinkSpec → List Risk → List ℕ → Answer
+labelled_here t m link risks offered =
+    if is_none (least offered) then refused_here t m.arrival set_code else admitted_here t m link risks offered
 
 abbrev pub path_here : LegTable → PathRequest → Answer
 path_here t m = on_path (local_of t) (legs_state t) m

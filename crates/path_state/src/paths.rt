@@ -1,19 +1,20 @@
 //! A Path where no leg of its LSP stands (RFC 2205, section 3.1.3; RFC 3473, section 2).
 
-ghost use Rattle.std.specs.Prelude.{◌≡◌, ◌≤◌, IfOk, IsTrue};
-ghost use Rattle.mesh_rules.specs.Paths.{asked_leg, is_for_work, leads_on, set_on};
+ghost use Rattle.std.specs.Prelude.{◌≡◌, ◌≤◌, false, IfErr, IfOk, IsTrue, OnOk};
+ghost use Rattle.mesh_rules.specs.Paths.{is_active, leads_on, recorded, role_of, set_on};
 ghost use Rattle.mesh_nodes.specs.LocalNodes.{LocalNodeFits};
 ghost use Rattle.leg_table.specs.Fits.{TablesFit};
 ghost use Rattle.leg_table.specs.States.{local_of};
-ghost use Rattle.path_state.specs.Answers.{admitted_here, comes_over, ended_here, first_here, judged_here, offered_here, passed_here, path_answer, path_here, path_on, refused_for, refused_here};
+ghost use Rattle.path_state.specs.Answers.{IsUnknownFor, admitted_here, asked_here, comes_over, ended_here, first_here, is_unknown_here, judged_here, known_here, labelled_here, offered_here, passed_here, path_answer, path_here, path_on, recorded_here, refused_here};
 
-use ason_base::codes::{FULL, ROUTE, SET};
+use ason_base::codes::{FULL, PRIMARY, ROUTE, SET};
 use ason_base::routes::other_end;
 use ason_base::{
-    ErrCode, LabelSet, Leg, LinkSpec, Lsp, Msg, NodeId, OutOfMemory, PathRole, Phase, RiskSet,
-    Role, Step, Steps,
+    ErrCode, LabelSet, Leg, LinkSpec, Lsp, Msg, NodeId, OutOfMemory, PathRole, Phase, RiskFault,
+    RiskSet, Role, Step, Steps,
 };
 use leg_table::labels::usable;
+use leg_table::one_leg::reserved;
 use leg_table::{Change, NodeTables};
 use link_owner::Owner;
 use mesh_rules::Arrival;
@@ -57,40 +58,44 @@ fn leads_on(tables: &NodeTables, arrival: Arrival, route: &Steps) -> bool
     }
 }
 
-// The owner looks the free labels up; no leg is looked at.
+// The risks of the primary of a backup, as the node knows them; a working LSP has no primary.
+fn recorded(alloc: Global, tables: &NodeTables, role: &PathRole) -> Result<RiskSet, RiskFault>
+    requires { tables.now.rows ≡ known_here tables.now }
+    ensures ok { IfOk result (λ r. r ≡ recorded (known_here tables.now) role.now) }
+    ensures known { OnOk result (is_unknown_here tables.now role.now ≡ false) }
+    ensures unknown { IfErr result (IsUnknownFor tables.now role.now) }
+{
+    match role {
+        PathRole::Work { .. } => Ok(RiskSet::new(alloc)),
+        PathRole::Back { primary, .. } => RiskSet::of(alloc, tables.rows(), primary),
+    }
+}
+
+fn role_of(role: &PathRole) -> Role
+    ensures { result ≡ role_of role.now }
+{
+    match role {
+        PathRole::Work { .. } => Role::Work,
+        PathRole::Back { .. } => Role::Back,
+    }
+}
+
+// The owner looks the labels up that are usable for such a leg.
 fn offered_labels(
     tables: &NodeTables,
     owner: &Owner,
     request: &PathRequest<'_>,
     link: &LinkSpec,
+    risks: &RiskSet,
 ) -> LabelSet
     requires fits { TablesFit tables.now owner.now }
     requires link { IsTrue (comes_over tables.now link.now) }
+    requires risks { risks.now ≡ recorded_here tables.now request.now }
     ensures { result ≡ offered_here tables.now request.now link.now }
 {
     let fibre = fibre_in(link, tables.node().id);
-    request.set.meet(&usable(tables, owner, fibre))
-}
-
-// Why the Path is refused that came over this link and for which these labels are left: the first check that fails.
-fn refusal(
-    tables: &NodeTables,
-    request: &PathRequest<'_>,
-    link: &LinkSpec,
-    offered: &LabelSet,
-) -> Option<ErrCode>
-    requires { offered.now ≡ offered_here tables.now request.now link.now }
-    ensures { result ≡ refused_for tables.now request.now link.now }
-{
-    if tables.count() >= MOST_LEGS {
-        Some(FULL)
-    } else if !leads_on(tables, request.arrival, request.route) {
-        Some(ROUTE)
-    } else if offered.least().is_none() {
-        Some(SET)
-    } else {
-        None
-    }
+    let role = role_of(request.role);
+    request.set.meet(&usable(tables, owner, role, risks, fibre))
 }
 
 fn refuse(
@@ -113,30 +118,39 @@ fn refuse(
 
 // Legs
 
+// What a leg that a Path makes may have: the labels of the fibre in from which one is taken, and the risks that it records.
+#[derive(Drop)]
+struct Offer {
+    risks: RiskSet,
+    labels: LabelSet,
+}
+
 // The leg that a Path makes, as far as it is the same at each node.
 fn asked_leg(
     alloc: Global,
     tables: &NodeTables,
     request: &PathRequest<'_>,
     link: &LinkSpec,
-    offered: LabelSet,
+    offer: Offer,
 ) -> Result<Leg, OutOfMemory>
-    ensures { IfOk result (λ g. g ≡ asked_leg (local_of tables.now) request.now link.now offered) }
+    ensures { IfOk result
+        (λ g. g ≡ asked_here tables.now request.now link.now offer.risks offer.labels) }
 {
+    let Offer { risks, labels } = offer;
     let path_role = request.role.copy(alloc)?;
     Ok(Leg {
         lsp: request.arrival.lsp,
         egress: request.arrival.egress,
-        role: Role::Work,
+        role: role_of(request.role),
         prev: Some(request.arrival.from),
         next: None,
         in_fibre: Some(fibre_in(link, tables.node().id)),
         out_fibre: None,
-        offered,
+        offered: labels,
         sent: LabelSet::empty(),
         route: Steps::new(alloc),
         path_role,
-        risks: RiskSet::new(alloc),
+        risks,
         phase: Phase::Asked,
         in_label: None,
         out_label: None,
@@ -145,21 +159,22 @@ fn asked_leg(
     })
 }
 
-// At the egress the leg is cross-connected at once.
+// At the egress the leg has its label at once.
 fn end_here(
     alloc: Global,
     tables: &NodeTables,
     request: &PathRequest<'_>,
     link: &LinkSpec,
-    offered: LabelSet,
+    offer: Offer,
 ) -> Result<Change, OutOfMemory>
-    ensures { IfOk result (λ c. c ≡ ended_here tables.now request.now link.now offered) }
+    ensures { IfOk result
+        (λ c. c ≡ ended_here tables.now request.now link.now offer.risks offer.labels) }
 {
-    let Some(label) = offered.least() else {
+    let Some(label) = offer.labels.least() else {
         return Ok(Change::nothing(alloc));
     };
-    let mut leg = asked_leg(alloc, tables, request, link, offered)?;
-    leg.phase = Phase::Live;
+    let mut leg = asked_leg(alloc, tables, request, link, offer)?;
+    leg.phase = reserved(leg.role);
     leg.in_label = Some(label);
     let msg = Msg::Resv {
         lsp: request.arrival.lsp,
@@ -202,25 +217,27 @@ fn path_on(
     })
 }
 
+// The Path goes on over this step.
 fn pass_on(
     alloc: Global,
     tables: &NodeTables,
     request: &PathRequest<'_>,
     link: &LinkSpec,
     hop: Step,
-    offered: LabelSet,
+    offer: Offer,
 ) -> Result<Change, OutOfMemory>
     requires { LocalNodeFits (local_of tables.now) }
-    ensures { IfOk result (λ c. c ≡ passed_here tables.now request.now link.now offered hop.link) }
+    ensures { IfOk result
+        (λ c. c ≡ passed_here tables.now request.now link.now offer.risks offer.labels hop.link) }
 {
     let here = tables.node().id;
     let Some(out) = tables.own(hop.link) else {
         return Ok(Change::nothing(alloc));
     };
     let route = request.route.copy_from(alloc, 1)?;
-    let sent = set_on(tables, out, &offered);
+    let sent = set_on(tables, out, &offer.labels);
     let msg = path_on(alloc, request, out, &route, &sent)?;
-    let mut leg = asked_leg(alloc, tables, request, link, offered)?;
+    let mut leg = asked_leg(alloc, tables, request, link, offer)?;
     leg.next = Some(other_end(out, here));
     leg.out_fibre = Some(fibre_out(out, here));
     leg.sent = sent;
@@ -233,17 +250,38 @@ fn admit(
     tables: &NodeTables,
     request: &PathRequest<'_>,
     link: &LinkSpec,
-    offered: LabelSet,
+    offer: Offer,
 ) -> Result<Change, OutOfMemory>
     requires { LocalNodeFits (local_of tables.now) }
-    ensures { IfOk result (λ c. c ≡ admitted_here tables.now request.now link.now offered) }
+    ensures { IfOk result
+        (λ c. c ≡ admitted_here tables.now request.now link.now offer.risks offer.labels) }
 {
     match request.route.items().first() {
-        None => end_here(alloc, tables, request, link, offered),
-        Some(&hop) => pass_on(alloc, tables, request, link, hop, offered),
+        None => end_here(alloc, tables, request, link, offer),
+        Some(&hop) => pass_on(alloc, tables, request, link, hop, offer),
     }
 }
 
+// Where no label is left the Path is refused.
+fn admit_labelled(
+    alloc: Global,
+    tables: &NodeTables,
+    request: &PathRequest<'_>,
+    link: &LinkSpec,
+    offer: Offer,
+) -> Result<Change, OutOfMemory>
+    requires { LocalNodeFits (local_of tables.now) }
+    ensures { IfOk result
+        (λ c. c ≡ labelled_here tables.now request.now link.now offer.risks offer.labels) }
+{
+    if offer.labels.least().is_none() {
+        refuse(alloc, tables, request.arrival, SET)
+    } else {
+        admit(alloc, tables, request, link, offer)
+    }
+}
+
+// The first check that fails refuses the Path.
 fn judge(
     alloc: Global,
     tables: &NodeTables,
@@ -255,17 +293,29 @@ fn judge(
     requires link { IsTrue (comes_over tables.now link.now) }
     ensures { IfOk result (λ c. c ≡ judged_here tables.now request.now link.now) }
 {
-    let offered = offered_labels(tables, owner, request, link);
-    match refusal(tables, request, link, &offered) {
-        Some(code) => refuse(alloc, tables, request.arrival, code),
-        None => admit(alloc, tables, request, link, offered),
+    if tables.count() >= MOST_LEGS {
+        return refuse(alloc, tables, request.arrival, FULL);
+    }
+    if !leads_on(tables, request.arrival, request.route) {
+        return refuse(alloc, tables, request.arrival, ROUTE);
+    }
+    match recorded(alloc, tables, request.role) {
+        Ok(risks) => {
+            let labels = offered_labels(tables, owner, request, link, &risks);
+            admit_labelled(alloc, tables, request, link, Offer { risks, labels })
+        }
+        Err(RiskFault::Unknown(_)) => refuse(alloc, tables, request.arrival, PRIMARY),
+        Err(RiskFault::OutOfMemory) => Err(OutOfMemory),
     }
 }
 
-fn is_for_work(role: &PathRole) -> bool
-    ensures { result ≡ is_for_work role.now }
+fn is_active(role: &PathRole) -> bool
+    ensures { result ≡ is_active role.now }
 {
-    matches!(role, PathRole::Work { .. })
+    match role {
+        PathRole::Work { .. } => false,
+        PathRole::Back { active, .. } => *active,
+    }
 }
 
 fn first_path(
@@ -282,7 +332,7 @@ fn first_path(
     let Some(link) = tables.own(arrival.link) else {
         return Ok(Change::nothing(alloc));
     };
-    if is_for_work(request.role) && leads(link, arrival.from, here) && arrival.lsp.ingress != here {
+    if !is_active(request.role) && leads(link, arrival.from, here) && arrival.lsp.ingress != here {
         judge(alloc, tables, owner, request, link)
     } else {
         Ok(Change::nothing(alloc))

@@ -4,7 +4,7 @@ ghost use Rattle.std.specs.Prelude.{IfOk};
 ghost use Rattle.leg_table.specs.Fits.{TablesFit};
 
 use crate::{path, tear};
-use ason_base::codes::{ROUTE, SET, TORN};
+use ason_base::codes::{PRIMARY, ROUTE, SET, TORN};
 use ason_base::{
     ErrCode, Label, LabelSet, LinkId, LinkSpec, Lsp, Msg, NodeId, NodeSpec, Numbers, Outs,
     PathRole, Step, Steps, Topology,
@@ -27,6 +27,8 @@ const C: NodeId = NodeId(3);
 enum Said {
     /// A Path: its steps from here, and how many labels it has.
     Path(u16, &'static [(u32, u32)], u8),
+    /// The same of a backup: the last number is the link that its primary goes over.
+    Backup(u16, &'static [(u32, u32)], u8, u32),
     Tear(u16),
 }
 
@@ -52,7 +54,7 @@ type Case = (NodeId, &'static [Said], &'static [Sent], usize);
 /// The way on from b.
 const ON: &[(u32, u32)] = &[(2, 2)];
 
-/// Of nodes that convert. Link 1 has two labels, and link 2 three.
+/// Of nodes that convert. Link 1 has two labels, and links 2 and 3 have three.
 const CONVERTING: &[Case] = &[
     // every label of the next link goes on
     (
@@ -82,6 +84,58 @@ const CONVERTING: &[Case] = &[
         ],
         &[(B, Told::Error(SET))],
         2,
+    ),
+    // backups share a label where their primaries go over different links
+    (C, &[Said::Backup(1, &[], 2, 2)], &[(B, Told::Resv(1))], 1),
+    (
+        C,
+        &[Said::Backup(1, &[], 2, 2), Said::Backup(2, &[], 2, 3)],
+        &[(B, Told::Resv(1))],
+        2,
+    ),
+    (
+        C,
+        &[Said::Backup(1, &[], 2, 2), Said::Backup(2, &[], 2, 2)],
+        &[(B, Told::Resv(2))],
+        2,
+    ),
+    // a working LSP shares none, neither before a backup nor after it
+    (
+        C,
+        &[Said::Path(1, &[], 2), Said::Backup(2, &[], 2, 3)],
+        &[(B, Told::Resv(2))],
+        2,
+    ),
+    (
+        C,
+        &[Said::Backup(1, &[], 2, 2), Said::Path(2, &[], 2)],
+        &[(B, Told::Resv(2))],
+        2,
+    ),
+    // the last of its sharers gives the label up
+    (
+        C,
+        &[
+            Said::Backup(1, &[], 1, 2),
+            Said::Backup(2, &[], 1, 3),
+            Said::Tear(1),
+            Said::Path(3, &[], 1),
+        ],
+        &[(B, Told::Error(SET))],
+        1,
+    ),
+    // a primary over a link that isn't known, and one over a link that is
+    (
+        C,
+        &[Said::Backup(1, &[], 2, 1)],
+        &[(B, Told::Error(PRIMARY))],
+        0,
+    ),
+    (
+        B,
+        &[Said::Backup(1, ON, 1, 1)],
+        &[(C, Told::Path([true, true, true]))],
+        1,
     ),
     // a torn LSP gives its label up
     (
@@ -138,7 +192,7 @@ fn line(alloc: Global, convert: bool) -> Result<Topology, Fail> {
         srlgs: Numbers::new(alloc),
     };
     let nodes = [node(A), node(B), node(C)];
-    let links = [link(1, A, B, 2), link(2, B, C, 3)];
+    let links = [link(1, A, B, 2), link(2, B, C, 3), link(3, B, C, 3)];
     Ok(Topology::new(alloc, 0, &nodes, &links)?)
 }
 
@@ -175,6 +229,7 @@ fn path_of(
     number: u16,
     hops: &[(u32, u32)],
     count: u8,
+    role: PathRole,
 ) -> Result<Msg, Fail> {
     let route = steps(alloc, hops)?;
     Ok(Msg::Path {
@@ -184,7 +239,17 @@ fn path_of(
         route,
         set: labels(count),
         upstream: None,
-        role: PathRole::Work { guard: false },
+        role,
+    })
+}
+
+// A backup of LSP 9, which goes over this link.
+fn backup(alloc: Global, over: u32) -> Result<PathRole, Fail> {
+    let primary = steps(alloc, &[(1, over)])?;
+    Ok(PathRole::Back {
+        active: false,
+        work: 9,
+        primary,
     })
 }
 
@@ -236,7 +301,13 @@ fn give(alloc: Global, tables: &mut NodeTables, owner: &mut Owner, said: Said) -
     };
     match said {
         Said::Path(number, hops, count) => {
-            let msg = path_of(alloc, link, number, hops, count)?;
+            let role = PathRole::Work { guard: false };
+            let msg = path_of(alloc, link, number, hops, count, role)?;
+            Ok(path(alloc, tables, owner, from, &msg)?)
+        }
+        Said::Backup(number, hops, count, over) => {
+            let role = backup(alloc, over)?;
+            let msg = path_of(alloc, link, number, hops, count, role)?;
             Ok(path(alloc, tables, owner, from, &msg)?)
         }
         Said::Tear(number) => {

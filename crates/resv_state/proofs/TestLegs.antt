@@ -84,5 +84,6 @@ put-fits t o g fits new room none here =
       owner = record {
         claims = subst (λ k. ClaimsFit (with_leg g t.legs) (freed_of g.lsp (taken_of k) o)) new freed;
         fibres = fits.owner.fibres;
+        rows = fits.owner.rows;
       };
     }

@@ -12,7 +12,7 @@ ghost use Rattle.resv_state.specs.Answers.{answered_here, begins_here, connects,
 use ason_base::codes::LABEL;
 use ason_base::{Label, LabelSet, Leg, LinkId, Lsp, Msg, NodeId, OutOfMemory};
 use leg_table::labels::usable;
-use leg_table::one_leg::{closed, connected, following, is_asked, is_over, is_work, previous};
+use leg_table::one_leg::{closed, connected, following, is_asked, is_over, previous};
 use leg_table::{Change, NodeTables};
 use link_owner::Owner;
 use mesh_rules::{Arrival, Neighbour};
@@ -33,7 +33,6 @@ fn expects(arrival: Arrival, label: Label, leg: &Leg) -> bool
     ensures { result ≡ is_expected arrival label leg.now }
 {
     is_asked(leg.phase)
-        && is_work(leg.role)
         && is_over(following(leg), arrival.from, arrival.link)
         && leg.sent.has(label)
 }
@@ -84,14 +83,14 @@ fn pass_label(
 ) -> Result<Change, OutOfMemory>
     ensures { IfOk result (λ c. c ≡ label_passed leg.now back label chosen) }
 {
-    let live = connected(alloc, leg, Some(chosen), label)?;
+    let labelled = connected(alloc, leg, Some(chosen), label)?;
     let msg = Msg::Resv {
         lsp: leg.lsp,
         egress: leg.egress,
         link: back.fibre.link,
         label: chosen,
     };
-    Change::puts(alloc, live, back.node, msg)
+    Change::puts(alloc, labelled, back.node, msg)
 }
 
 // The labels that may go back: those that were offered and are usable now. The owner looks them up.
@@ -100,10 +99,11 @@ fn labels_left(tables: &NodeTables, owner: &Owner, leg: &Leg, back: Neighbour) -
     requires comes_in { IsTrue (is_fibre_in (local_of tables.now) back.fibre) }
     ensures { result ≡ left_here tables.now leg.now back }
 {
-    leg.offered.meet(&usable(tables, owner, back.fibre))
+    let labels = usable(tables, owner, leg.role, &leg.risks, back.fibre);
+    leg.offered.meet(&labels)
 }
 
-// At the ingress the leg is connected, and nothing is sent.
+// At the ingress the leg has its label, and nothing is sent.
 fn connect_here(alloc: Global, leg: &Leg, label: Label) -> Result<Change, OutOfMemory>
     ensures { IfOk result (λ c. c ≡ puts (connected leg.now None label) []) }
 {
@@ -168,7 +168,7 @@ fn connects_leg(tables: &NodeTables, arrival: Arrival, label: Label) -> bool
     }
 }
 
-/// Whether the message is a Resv that connects a leg of an LSP that begins here: its call follows.
+/// Whether the message is a Resv by which the leg of an LSP that begins here gets its label: its call follows.
 pub fn connects(tables: &NodeTables, from: NodeId, msg: &Msg) -> bool
     ensures { result ≡ connects tables.now from msg.now }
 {
@@ -183,8 +183,8 @@ pub fn connects(tables: &NodeTables, from: NodeId, msg: &Msg) -> bool
     }
 }
 
-/// What a Resv would change and send: the leg that waits for it is cross-connected and the Resv goes back, or the LSP is
-/// torn. A message of another kind does nothing.
+/// What a Resv would change and send: the leg that waits for it gets its labels, is cross-connected where it is a working leg,
+/// and the Resv goes back; or the LSP is torn. A message of another kind does nothing.
 pub fn resv_change(
     alloc: Global,
     tables: &NodeTables,

@@ -17,7 +17,8 @@ pub record IsFor (of : TeRow) (index to : ℕ) (arc : Arc) : Type 0 where
   pub link : arc.link ≡ of.link
   pub metric : arc.metric ≡ of.metric
 
-is_arc : (places : List Place) (row : TeRow) (index p q : ℕ) (a b : NodeId) (arc : Arc) → IsFor row index q arc → HasNode places p a → HasNode places q b → IsArc places row index p a b arc
+is_arc : (places : List Place) (row : TeRow) (index p q : ℕ) (a b : NodeId) (arc : Arc) → IsFor row index q arc →
+    HasNode places p a → HasNode places q b → IsArc places row index p a b arc
 is_arc places row index p q a b arc is tail head = record {
   tail = tail;
   head = subst (λ k. HasNode places k b) (sym is.head) head;
@@ -27,7 +28,10 @@ is_arc places row index p q a b arc is tail head = record {
 }
 
 -- both ends have their places, and then the row its two arcs
-module _ (old one two three new : List Place) (row : TeRow) (index low high : ℕ) (up down : Arc) (first : HasSeated old one row.low low) (second : HasSeated one two row.high high) (is_up : IsFor row index high up) (is_down : IsFor row index low down) (third : HasGained two three low up) (last : HasGained three new high down) where
+module _ (old one two three new : List Place) (row : TeRow) (index low high : ℕ) (up down : Arc)
+    (first : HasSeated old one row.low low) (second : HasSeated one two row.high high)
+    (is_up : IsFor row index high up) (is_down : IsFor row index low down) (third : HasGained two three low up)
+    (last : HasGained three new high down) where
   low_there : HasNode new low row.low
   low_there = last.nodes low row.low (third.nodes low row.low (second.kept low row.low first.there))
 
@@ -59,14 +63,16 @@ module _ (old one two three new : List Place) (row : TeRow) (index low high : �
           row.low,
           row.high,
           inl (refl, refl),
-          subst (λ k. IsArc new row index k row.low row.high a) (sym e.0) (subst (λ x. IsArc new row index low row.low row.high x) (sym e.1) goes_up),
+          subst (λ k. IsArc new row index k row.low row.high a) (sym e.0)
+              (subst (λ x. IsArc new row index low row.low row.high x) (sym e.1) goes_up),
         )
       ]
       | inr e ↦ inr (
         row.high,
         row.low,
         inr (refl, refl),
-        subst (λ k. IsArc new row index k row.high row.low a) (sym e.0) (subst (λ x. IsArc new row index high row.high row.low x) (sym e.1) goes_down),
+        subst (λ k. IsArc new row index k row.high row.low a) (sym e.0)
+            (subst (λ x. IsArc new row index high row.high row.low x) (sym e.1) goes_down),
       )
     ];
     complete = λ x y joins. elim joins [
@@ -74,20 +80,23 @@ module _ (old one two three new : List Place) (row : TeRow) (index low high : �
         place = low;
         arc = up;
         there = last.kept low up third.gained;
-        is = subst (λ v. IsArc new row index low v y up) e.0 (subst (λ w. IsArc new row index low row.low w up) e.1 goes_up);
+        is = subst (λ v. IsArc new row index low v y up) e.0
+            (subst (λ w. IsArc new row index low row.low w up) e.1 goes_up);
       }
       | inr e ↦ record {
         place = high;
         arc = down;
         there = last.gained;
-        is = subst (λ v. IsArc new row index high v y down) e.0 (subst (λ w. IsArc new row index high row.high w down) e.1 goes_down);
+        is = subst (λ v. IsArc new row index high v y down) e.0
+            (subst (λ w. IsArc new row index high row.high w down) e.1 goes_down);
       }
     ];
   }
 
 -- The places of all rows
 
-kept_arc : (old new : List Place) (row other : TeRow) (index at p : ℕ) (a b : NodeId) (arc : Arc) → HasAdded old new row index → IsArc old other at p a b arc → IsArc new other at p a b arc
+kept_arc : (old new : List Place) (row other : TeRow) (index at p : ℕ) (a b : NodeId) (arc : Arc) →
+    HasAdded old new row index → IsArc old other at p a b arc → IsArc new other at p a b arc
 kept_arc old new row other index at p a b arc has is = record {
   tail = has.nodes p a is.tail;
   head = has.nodes arc.head b is.head;
@@ -99,7 +108,8 @@ kept_arc old new row other index at p a b arc has is = record {
 before_or_last : (place k : ℕ) → place < k + 1 → (place < k) ⊎ (place ≡ k)
 before_or_last place k h = grind arith
 
-pub no_places : (rows : List TeRow) (places : List Place) → ((p : ℕ) (n : NodeId) → ¬ HasNode places p n) → ((p : ℕ) (arc : Arc) → ¬ HasArc places p arc) → ArePlaces rows 0 places
+pub no_places : (rows : List TeRow) (places : List Place) → ((p : ℕ) (n : NodeId) → ¬ HasNode places p n) →
+    ((p : ℕ) (arc : Arc) → ¬ HasArc places p arc) → ArePlaces rows 0 places
 no_places rows places nodes arcs = record {
   once = λ i j n x y. absurd (nodes i n x);
   ends = λ p n h. absurd (nodes p n h);
@@ -112,7 +122,8 @@ none_yet rows places none = no_places rows places
     (λ p n h. none_some (subst (λ ps. slice_get ps p ≡ Some h.0) none h.1))
     (λ p arc h. none_some (subst (λ ps. slice_get ps p ≡ Some h.0) none h.1))
 
-pub places_more : (rows : List TeRow) (k : ℕ) (d : TeRow) (old new : List Place) → k < length rows → ArePlaces rows k old → HasAdded old new (get_or rows k d) k → ArePlaces rows (k + 1) new
+pub places_more : (rows : List TeRow) (k : ℕ) (d : TeRow) (old new : List Place) → k < length rows →
+    ArePlaces rows k old → HasAdded old new (get_or rows k d) k → ArePlaces rows (k + 1) new
 places_more rows k d old new within are has =
     let row = get_or rows k d in
     let stands : slice_get rows k ≡ Some row = slice_get-get_or rows k d within in

@@ -23,12 +23,15 @@ module _ (closed : List Bool) (costs : List (Option ℕ)) (marks : List Bool) (c
 
   -- the best of the arcs that were seen, if one of them leads on
   abbrev pub IsBestOf : List Arc → Option Arc → Type 0
-  IsBestOf seen best = MatchOption best ((arc : Arc) → Contains seen arc → ¬ IsLeading closed costs marks cost arc) (λ arc. IsBestSeen seen arc)
+  IsBestOf seen best = MatchOption best ((arc : Arc) → Contains seen arc → ¬ IsLeading closed costs marks cost arc)
+      (λ arc. IsBestSeen seen arc)
 
   pub none_best : IsBestOf [] None
   none_best = λ arc known. absurd (nothing [] arc refl known)
 
-  better : (seen : List Arc) (arc : Arc) (best : Option Arc) → IsBestOf seen best → IsLeading closed costs marks cost arc → MatchOption best (Unit {0}) (λ o. arc.link.0 < o.link.0) → IsBestOf (seen ++ arc ∷ []) (Some arc)
+  better : (seen : List Arc) (arc : Arc) (best : Option Arc) → IsBestOf seen best →
+      IsLeading closed costs marks cost arc → MatchOption best (Unit {0}) (λ o. arc.link.0 < o.link.0) →
+      IsBestOf (seen ++ arc ∷ []) (Some arc)
   better seen arc None none leads less = record {
     known = Contains-push seen arc;
     leads = leads;
@@ -41,12 +44,15 @@ module _ (closed : List Bool) (costs : List (Option ℕ)) (marks : List Bool) (c
     known = Contains-push seen arc;
     leads = leads;
     best = λ other known also. elim (Contains-push_cases seen arc other known) [
-      | inl before ↦ (let h : o.link.0 ≤ other.link.0 = best.best other before also in let k : arc.link.0 < o.link.0 = less in omega arith)
+      | inl before ↦ (let h : o.link.0 ≤ other.link.0 =
+          best.best other before also in let k : arc.link.0 < o.link.0 = less in omega arith)
       | inr same ↦ subst (λ x. arc.link.0 ≤ x.link.0) same (omega arith)
     ];
   }
 
-  no_better : (seen : List Arc) (arc : Arc) (best : Option Arc) → IsBestOf seen best → (IsLeading closed costs marks cost arc → MatchOption best (Unit {0}) (λ o. arc.link.0 < o.link.0) → ⊥) → IsBestOf (seen ++ arc ∷ []) best
+  no_better : (seen : List Arc) (arc : Arc) (best : Option Arc) → IsBestOf seen best →
+      (IsLeading closed costs marks cost arc → MatchOption best (Unit {0}) (λ o. arc.link.0 < o.link.0) → ⊥) →
+      IsBestOf (seen ++ arc ∷ []) best
   no_better seen arc None none not = λ other known leads. elim (Contains-push_cases seen arc other known) [
     | inl before ↦ none other before leads
     | inr same ↦ not (subst (IsLeading closed costs marks cost) (sym same) leads) tt
@@ -56,27 +62,39 @@ module _ (closed : List Bool) (costs : List (Option ℕ)) (marks : List Bool) (c
     leads = best.leads;
     best = λ other known also. elim (Contains-push_cases seen arc other known) [
       | inl before ↦ best.best other before also
-      | inr same ↦ (let h : o.link.0 ≤ arc.link.0 = at_least arc o (not (subst (IsLeading closed costs marks cost) (sym same) also)) in subst (λ x. o.link.0 ≤ x.link.0) same h)
+      | inr same ↦ (let h : o.link.0 ≤ arc.link.0 =
+          at_least arc o (not (subst (IsLeading closed costs marks cost) (sym same) also)) in subst
+          (λ x. o.link.0 ≤ x.link.0) same h)
     ];
   }
 
-  pub better_at : (arcs : List Arc) (i : ℕ) (d : Arc) (best : Option Arc) → i < length arcs → IsBestOf (take i arcs) best → IsLeading closed costs marks cost (get_or arcs i d) → MatchOption best (Unit {0}) (λ o. (get_or arcs i d).link.0 < o.link.0) → IsBestOf (take (i + 1) arcs) (Some (get_or arcs i d))
+  pub better_at : (arcs : List Arc) (i : ℕ) (d : Arc) (best : Option Arc) → i < length arcs →
+      IsBestOf (take i arcs) best → IsLeading closed costs marks cost (get_or arcs i d) →
+      MatchOption best (Unit {0}) (λ o. (get_or arcs i d).link.0 < o.link.0) →
+      IsBestOf (take (i + 1) arcs) (Some (get_or arcs i d))
   better_at arcs i d best within so_far leads less =
-      subst (λ seen. IsBestOf seen (Some (get_or arcs i d))) (sym (take_more arcs i d within)) (better (take i arcs) (get_or arcs i d) best so_far leads less)
+      subst (λ seen. IsBestOf seen (Some (get_or arcs i d))) (sym (take_more arcs i d within))
+      (better (take i arcs) (get_or arcs i d) best so_far leads less)
 
-  pub no_better_at : (arcs : List Arc) (i : ℕ) (d : Arc) (best : Option Arc) → i < length arcs → IsBestOf (take i arcs) best → (IsLeading closed costs marks cost (get_or arcs i d) → MatchOption best (Unit {0}) (λ o. (get_or arcs i d).link.0 < o.link.0) → ⊥) → IsBestOf (take (i + 1) arcs) best
+  pub no_better_at : (arcs : List Arc) (i : ℕ) (d : Arc) (best : Option Arc) → i < length arcs →
+      IsBestOf (take i arcs) best → (IsLeading closed costs marks cost (get_or arcs i d) →
+      MatchOption best (Unit {0}) (λ o. (get_or arcs i d).link.0 < o.link.0) → ⊥) → IsBestOf (take (i + 1) arcs) best
   no_better_at arcs i d best within so_far not =
-      subst (λ seen. IsBestOf seen best) (sym (take_more arcs i d within)) (no_better (take i arcs) (get_or arcs i d) best so_far not)
+      subst (λ seen. IsBestOf seen best) (sym (take_more arcs i d within))
+      (no_better (take i arcs) (get_or arcs i d) best so_far not)
 
-module _ (places : List Place) (closed : List Bool) (costs : List (Option ℕ)) (marks : List Bool) (place cost : ℕ) (d : Place) (within : place < length places) (has : cost_at costs place ≡ Some cost) where
-  leading_leads : (arc : Arc) → Contains (get_or places place d).arcs.items arc → IsLeading closed costs marks cost arc → LeadsOn (Crosses places closed) costs marks place arc
+module _ (places : List Place) (closed : List Bool) (costs : List (Option ℕ)) (marks : List Bool) (place cost : ℕ)
+    (d : Place) (within : place < length places) (has : cost_at costs place ≡ Some cost) where
+  leading_leads : (arc : Arc) → Contains (get_or places place d).arcs.items arc →
+      IsLeading closed costs marks cost arc → LeadsOn (Crosses places closed) costs marks place arc
   leading_leads arc known leads = record {
     goes = (arc_at places place d arc within known, leads.row);
     tight = record { cost = cost; tail = has; head = leads.head };
     marked = leads.marked;
   }
 
-  leads_leading : (arc : Arc) → LeadsOn (Crosses places closed) costs marks place arc → IsLeading closed costs marks cost arc
+  leads_leading : (arc : Arc) → LeadsOn (Crosses places closed) costs marks place arc →
+      IsLeading closed costs marks cost arc
   leads_leading arc leads =
       let same : leads.tight.cost ≡ cost = some_same (sym leads.tight.tail ∙ has) in
       record {
@@ -86,7 +104,9 @@ module _ (places : List Place) (closed : List Bool) (costs : List (Option ℕ)) 
       }
 
   -- the best arc of the place
-  pub best_of_all : (best : Option Arc) → IsBestOf closed costs marks cost (get_or places place d).arcs.items best → MatchOption best ((arc : Arc) → ¬ LeadsOn (Crosses places closed) costs marks place arc) (λ arc. IsBest (Crosses places closed) costs marks place arc)
+  pub best_of_all : (best : Option Arc) → IsBestOf closed costs marks cost (get_or places place d).arcs.items best →
+      MatchOption best ((arc : Arc) → ¬ LeadsOn (Crosses places closed) costs marks place arc)
+      (λ arc. IsBest (Crosses places closed) costs marks place arc)
   best_of_all None none = λ arc leads. none arc (arc_is places place d arc leads.goes.0) (leads_leading arc leads)
   best_of_all (Some arc) best = record {
     leads = leading_leads arc best.known best.leads;
@@ -95,19 +115,28 @@ module _ (places : List Place) (closed : List Bool) (costs : List (Option ℕ)) 
 
 -- Traces
 
-pub trace_push : (MayGo : ℕ → Arc → Type 0) (costs : List (Option ℕ)) (marks : List Bool) (places : List Place) (from place : ℕ) (steps : List Step) (step : Step) (arc : Arc) → IsTrace MayGo costs marks places from place steps → Follows MayGo costs marks places place step arc → IsTrace MayGo costs marks places from arc.head (steps ++ step ∷ [])
-trace_push MayGo costs marks places from place [] step arc same follows = (arc, subst (λ p. Follows MayGo costs marks places p step arc) (sym same) follows, refl)
-trace_push MayGo costs marks places from place (s ∷ steps) step arc trace follows = (trace.0, trace.1, trace_push MayGo costs marks places trace.0.head place steps step arc trace.2 follows)
+pub trace_push : (MayGo : ℕ → Arc → Type 0) (costs : List (Option ℕ)) (marks : List Bool) (places : List Place)
+    (from place : ℕ) (steps : List Step) (step : Step) (arc : Arc) →
+    IsTrace MayGo costs marks places from place steps → Follows MayGo costs marks places place step arc →
+    IsTrace MayGo costs marks places from arc.head (steps ++ step ∷ [])
+trace_push MayGo costs marks places from place [] step arc same follows =
+    (arc, subst (λ p. Follows MayGo costs marks places p step arc) (sym same) follows, refl)
+trace_push MayGo costs marks places from place (s ∷ steps) step arc trace follows =
+    (trace.0, trace.1, trace_push MayGo costs marks places trace.0.head place steps step arc trace.2 follows)
 
 -- how far costs can still rise
 abbrev pub rise : Option ℕ → ℕ
 rise None = 0
 rise (Some cost) = 16777216 - cost
 
-pub rise_falls : (costs : List (Option ℕ)) (place : ℕ) (arc : Arc) → AreSmall costs → IsTight costs place arc → 1 ≤ arc.metric → rise (cost_at costs arc.head) < rise (cost_at costs place)
+pub rise_falls : (costs : List (Option ℕ)) (place : ℕ) (arc : Arc) → AreSmall costs → IsTight costs place arc →
+    1 ≤ arc.metric → rise (cost_at costs arc.head) < rise (cost_at costs place)
 rise_falls costs place arc small tight positive =
     let h : tight.cost < 16777216 = small place tight.cost tight.tail in
     rw (tight.head, tight.tail) (omega arith)
 
-pub leads_there : (MayGo : ℕ → Arc → Type 0) (costs : List (Option ℕ)) (marks : List Bool) (place to : ℕ) → AreMarked MayGo costs to marks → is_marked marks place ≡ true → (place ≡ to → ⊥) → (arc : Arc) × LeadsOn MayGo costs marks place arc
-leads_there MayGo costs marks place to are on other = elim (are.onward place on) [ inl e ↦ absurd (other e) | inr leads ↦ leads ]
+pub leads_there : (MayGo : ℕ → Arc → Type 0) (costs : List (Option ℕ)) (marks : List Bool) (place to : ℕ) →
+    AreMarked MayGo costs to marks → is_marked marks place ≡ true → (place ≡ to → ⊥) → (arc : Arc) ×
+    LeadsOn MayGo costs marks place arc
+leads_there MayGo costs marks place to are on other =
+    elim (are.onward place on) [ inl e ↦ absurd (other e) | inr leads ↦ leads ]

@@ -30,24 +30,32 @@ no_marked marks waiting = record {
   fewer = omega arith;
 }
 
-kept_mark : (marks : List Bool) (q p : ℕ) → q < length marks → is_marked marks p ≡ true → is_marked (set marks q true) p ≡ true
+kept_mark : (marks : List Bool) (q p : ℕ) → q < length marks → is_marked marks p ≡ true →
+    is_marked (set marks q true) p ≡ true
 kept_mark marks q p within on = elim (cases_eq p q) [
   | inl e ↦ subst (λ k. is_marked (set marks q true) k ≡ true) (sym e) (marked_same marks q true within)
   | inr other ↦ marked_other marks q p true other ∙ on
 ]
 
-fresh_mark : (marks : List Bool) (q p : ℕ) → is_marked (set marks q true) p ≡ true → (is_marked marks p ≡ true) ⊎ (p ≡ q)
+fresh_mark : (marks : List Bool) (q p : ℕ) → is_marked (set marks q true) p ≡ true →
+    (is_marked marks p ≡ true) ⊎ (p ≡ q)
 fresh_mark marks q p on = elim (cases_eq p q) [
   | inl e ↦ inr e
   | inr other ↦ inl (sym (marked_other marks q p true other) ∙ on)
 ]
 
 -- one place is marked, and waits
-pub mark_one : (old marks : List Bool) (before waiting : List ℕ) (q : ℕ) → length marks ≡ length old → q < length marks → is_marked marks q ≡ false → HasMarked old marks before waiting → HasMarked old (set marks q true) before (waiting ++ q ∷ [])
+pub mark_one : (old marks : List Bool) (before waiting : List ℕ) (q : ℕ) → length marks ≡ length old →
+    q < length marks → is_marked marks q ≡ false → HasMarked old marks before waiting →
+    HasMarked old (set marks q true) before (waiting ++ q ∷ [])
 mark_one old marks before waiting q len within off has = record {
   kept = λ p h. kept_mark marks q p within (has.kept p h);
   fresh = λ p h. elim (fresh_mark marks q p h) [
-    | inl on ↦ elim (has.fresh p on) [ inl older ↦ inl older | inr waits ↦ inr (Contains-append_left waiting (q ∷ []) p waits) ]
+    | inl on ↦ elim (has.fresh p on) [
+      | inl older ↦ inl older
+      | inr waits ↦ inr
+          (Contains-append_left waiting (q ∷ []) p waits)
+    ]
     | inr e ↦ inr (subst (Contains (waiting ++ q ∷ [])) (sym e) (Contains-push waiting q))
   ];
   waiting = λ p h. Contains-append_left waiting (q ∷ []) p (has.waiting p h);
@@ -57,26 +65,34 @@ mark_one old marks before waiting q len within off has = record {
   ];
   within = λ h. All-push (λ p. p < length old) waiting q (has.within h) (subst (λ n. q < n) len within);
   fewer =
-      (let sum : sum_by unmarked (set marks q true) + unmarked (is_marked marks q) ≡ sum_by unmarked marks + 0 = sum_by-set unmarked marks q true false within in
+      (let sum : sum_by unmarked (set marks q true) + unmarked (is_marked marks q) ≡ sum_by unmarked marks + 0 =
+      sum_by-set unmarked marks q true false within in
       let one : unmarked (is_marked marks q) ≡ 1 = ap unmarked off in
       let long : length (waiting ++ q ∷ []) ≡ length waiting + 1 = length-append waiting (q ∷ []) in
       let h : sum_by unmarked marks + length waiting ≤ sum_by unmarked old + length before = has.fewer in
       omega arith);
 }
 
-still_leads : (MayGo : ℕ → Arc → Type 0) (costs : List (Option ℕ)) (marks : List Bool) (q : ℕ) (p : ℕ) (arc : Arc) → q < length marks → LeadsOn MayGo costs marks p arc → LeadsOn MayGo costs (set marks q true) p arc
-still_leads MayGo costs marks q p arc within leads = record { goes = leads.goes; tight = leads.tight; marked = kept_mark marks q arc.head within leads.marked }
+still_leads : (MayGo : ℕ → Arc → Type 0) (costs : List (Option ℕ)) (marks : List Bool) (q : ℕ) (p : ℕ) (arc : Arc) →
+    q < length marks → LeadsOn MayGo costs marks p arc → LeadsOn MayGo costs (set marks q true) p arc
+still_leads MayGo costs marks q p arc within leads =
+    record { goes = leads.goes; tight = leads.tight; marked = kept_mark marks q arc.head within leads.marked }
 
 -- after some of the arcs of a place
-pub record IsMarkingBefore (places : List Place) (closed : List Bool) (costs : List (Option ℕ)) (old : List Bool) (before : List ℕ) (place cost : ℕ) (done : List Arc) (marks : List Bool) (waiting : List ℕ) : Type 0 where
+pub record IsMarkingBefore (places : List Place) (closed : List Bool) (costs : List (Option ℕ)) (old : List Bool)
+    (before : List ℕ) (place cost : ℕ) (done : List Arc) (marks : List Bool) (waiting : List ℕ) : Type 0 where
   pub has : HasMarked old marks before waiting
   pub on : is_marked marks place ≡ true
-  pub onward : (end : ℕ) → AreOnward (Crosses places closed) costs end old → AreOnward (Crosses places closed) costs end marks
+  pub onward : (end : ℕ) → AreOnward (Crosses places closed) costs end old →
+      AreOnward (Crosses places closed) costs end marks
   pub seen : (arc : Arc) → Contains done arc → ComesBy closed costs cost arc → is_marked marks arc.head ≡ true
 
-module _ (places : List Place) (closed : List Bool) (costs : List (Option ℕ)) (sound : AreSound (length closed) places) where
+module _ (places : List Place) (closed : List Bool) (costs : List (Option ℕ))
+    (sound : AreSound (length closed) places) where
   -- the arc back from where an arc comes by
-  pub leads_back : (place cost : ℕ) (arc : Arc) (marks : List Bool) → HasArc places place arc → cost_at costs place ≡ Some cost → ComesBy closed costs cost arc → is_marked marks place ≡ true → (back : Arc) × LeadsOn (Crosses places closed) costs marks arc.head back
+  pub leads_back : (place cost : ℕ) (arc : Arc) (marks : List Bool) → HasArc places place arc →
+      cost_at costs place ≡ Some cost → ComesBy closed costs cost arc → is_marked marks place ≡ true → (back : Arc) ×
+      LeadsOn (Crosses places closed) costs marks arc.head back
   leads_back place cost arc marks there has by on =
       let back = sound.back place arc there in (
         back.0,
@@ -92,7 +108,10 @@ module _ (places : List Place) (closed : List Bool) (costs : List (Option ℕ)) 
         },
       )
 
-  pub onward_more : (end place cost q : ℕ) (arc : Arc) (marks : List Bool) → HasArc places place arc → cost_at costs place ≡ Some cost → ComesBy closed costs cost arc → is_marked marks place ≡ true → arc.head ≡ q → q < length marks → AreOnward (Crosses places closed) costs end marks → AreOnward (Crosses places closed) costs end (set marks q true)
+  pub onward_more : (end place cost q : ℕ) (arc : Arc) (marks : List Bool) → HasArc places place arc →
+      cost_at costs place ≡ Some cost → ComesBy closed costs cost arc → is_marked marks place ≡ true → arc.head ≡ q →
+      q < length marks → AreOnward (Crosses places closed) costs end marks →
+      AreOnward (Crosses places closed) costs end (set marks q true)
   onward_more end place cost q arc marks there has by on head within onward p h = elim (fresh_mark marks q p h) [
     | inl older ↦ elim (onward p older) [
       | inl e ↦ inl e
@@ -100,14 +119,21 @@ module _ (places : List Place) (closed : List Bool) (costs : List (Option ℕ)) 
     ]
     | inr e ↦
         (let back = leads_back place cost arc (set marks q true) there has by (kept_mark marks q place within on) in
-        inr (back.0, subst (λ k. LeadsOn (Crosses places closed) costs (set marks q true) k back.0) (head ∙ sym e) back.1))
+        inr (
+          back.0,
+          subst (λ k. LeadsOn (Crosses places closed) costs (set marks q true) k back.0)
+              (head ∙ sym e) back.1,
+        ))
   ]
 
   -- a tight arc to the place comes back as one along which costs rise to that of the place
-  pub comes_back : (place cost p : ℕ) (d : Place) (arc : Arc) → cost_at costs place ≡ Some cost → Crosses places closed p arc → IsTight costs p arc → arc.head ≡ place → (back : Arc) × Contains (get_or places place d).arcs.items back × ComesBy closed costs cost back × (back.head ≡ p)
+  pub comes_back : (place cost p : ℕ) (d : Place) (arc : Arc) → cost_at costs place ≡ Some cost →
+      Crosses places closed p arc → IsTight costs p arc → arc.head ≡ place → (back : Arc) ×
+      Contains (get_or places place d).arcs.items back × ComesBy closed costs cost back × (back.head ≡ p)
   comes_back place cost p d arc has goes tight head =
       let back = sound.back p arc goes.0 in
-      let over : cost ≡ tight.cost + arc.metric = some_same (sym has ∙ subst (λ k. cost_at costs k ≡ Some (tight.cost + arc.metric)) head tight.head) in (
+      let over : cost ≡ tight.cost + arc.metric = some_same
+      (sym has ∙ subst (λ k. cost_at costs k ≡ Some (tight.cost + arc.metric)) head tight.head) in (
         back.0,
         arc_is places place d back.0 (subst (λ k. HasArc places k back.0) head back.1),
         record {
@@ -119,7 +145,8 @@ module _ (places : List Place) (closed : List Bool) (costs : List (Option ℕ)) 
         back.2.head,
       )
 
-  pub marking_none : (old : List Bool) (before : List ℕ) (place cost : ℕ) → is_marked old place ≡ true → IsMarkingBefore places closed costs old before place cost [] old before
+  pub marking_none : (old : List Bool) (before : List ℕ) (place cost : ℕ) → is_marked old place ≡ true →
+      IsMarkingBefore places closed costs old before place cost [] old before
   marking_none old before place cost on = record {
     has = no_marked old before;
     on = on;
@@ -127,42 +154,61 @@ module _ (places : List Place) (closed : List Bool) (costs : List (Option ℕ)) 
     seen = λ arc there by. absurd (nothing [] arc refl there);
   }
 
-  module _ (old : List Bool) (before : List ℕ) (place cost : ℕ) (arcs : List Arc) (i : ℕ) (d : Arc) (marks : List Bool) (waiting : List ℕ) (within : i < length arcs) (m : IsMarkingBefore places closed costs old before place cost (take i arcs) marks waiting) where
-    pub marked_more : HasArc places place (get_or arcs i d) → cost_at costs place ≡ Some cost → ComesBy closed costs cost (get_or arcs i d) → length marks ≡ length old → (get_or arcs i d).head < length marks → is_marked marks (get_or arcs i d).head ≡ false → IsMarkingBefore places closed costs old before place cost (take (i + 1) arcs) (set marks (get_or arcs i d).head true) (waiting ++ (get_or arcs i d).head ∷ [])
+  module _ (old : List Bool) (before : List ℕ) (place cost : ℕ) (arcs : List Arc) (i : ℕ) (d : Arc)
+      (marks : List Bool) (waiting : List ℕ) (within : i < length arcs)
+      (m : IsMarkingBefore places closed costs old before place cost (take i arcs) marks waiting) where
+    pub marked_more : HasArc places place (get_or arcs i d) → cost_at costs place ≡ Some cost →
+        ComesBy closed costs cost (get_or arcs i d) → length marks ≡ length old →
+        (get_or arcs i d).head < length marks → is_marked marks (get_or arcs i d).head ≡ false →
+        IsMarkingBefore places closed costs old before place cost (take (i + 1) arcs)
+        (set marks (get_or arcs i d).head true) (waiting ++ (get_or arcs i d).head ∷ [])
     marked_more there has by len inside off =
         let arc = get_or arcs i d in
         record {
           has = mark_one old marks before waiting arc.head len inside off m.has;
           on = kept_mark marks arc.head place inside m.on;
-          onward = λ end h. onward_more end place cost arc.head arc marks there has by m.on refl inside (m.onward end h);
+          onward = λ end h. onward_more end place cost arc.head arc marks there has by m.on refl inside
+              (m.onward end h);
           seen = λ other known comes.
-              elim (Contains-push_cases (take i arcs) arc other (subst (λ xs. Contains xs other) (take_more arcs i d within) known)) [
+              elim (Contains-push_cases (take i arcs) arc other
+              (subst (λ xs. Contains xs other) (take_more arcs i d within) known)) [
                 | inl earlier ↦ kept_mark marks arc.head other.head inside (m.seen other earlier comes)
-                | inr e ↦ subst (λ a. is_marked (set marks arc.head true) a.head ≡ true) e (marked_same marks arc.head true inside)
+                | inr e ↦ subst (λ a. is_marked (set marks arc.head true) a.head ≡ true) e
+                    (marked_same marks arc.head true inside)
               ];
         }
 
-    pub marked_same_more : (ComesBy closed costs cost (get_or arcs i d) → is_marked marks (get_or arcs i d).head ≡ true) → IsMarkingBefore places closed costs old before place cost (take (i + 1) arcs) marks waiting
+    pub marked_same_more : (ComesBy closed costs cost (get_or arcs i d) →
+        is_marked marks (get_or arcs i d).head ≡ true) →
+        IsMarkingBefore places closed costs old before place cost (take (i + 1) arcs) marks waiting
     marked_same_more seen = record {
       has = m.has;
       on = m.on;
       onward = m.onward;
       seen = λ other known comes.
-          elim (Contains-push_cases (take i arcs) (get_or arcs i d) other (subst (λ xs. Contains xs other) (take_more arcs i d within) known)) [
+          elim (Contains-push_cases (take i arcs) (get_or arcs i d) other
+          (subst (λ xs. Contains xs other) (take_more arcs i d within) known)) [
             | inl earlier ↦ m.seen other earlier comes
-            | inr e ↦ subst (λ a. is_marked marks a.head ≡ true) e (seen (subst (ComesBy closed costs cost) (sym e) comes))
+            | inr e ↦ subst (λ a. is_marked marks a.head ≡ true) e
+                (seen (subst (ComesBy closed costs cost) (sym e) comes))
           ];
     }
 
   -- after all of them
-  pub all_before : (old : List Bool) (before : List ℕ) (place cost : ℕ) (d : Place) (marks : List Bool) (waiting : List ℕ) → cost_at costs place ≡ Some cost → IsMarkingBefore places closed costs old before place cost (get_or places place d).arcs.items marks waiting → (p : ℕ) (arc : Arc) → Crosses places closed p arc → IsTight costs p arc → arc.head ≡ place → is_marked marks p ≡ true
+  pub all_before : (old : List Bool) (before : List ℕ) (place cost : ℕ) (d : Place) (marks : List Bool)
+      (waiting : List ℕ) → cost_at costs place ≡ Some cost →
+      IsMarkingBefore places closed costs old before place cost (get_or places place d).arcs.items marks waiting →
+      (p : ℕ) (arc : Arc) → Crosses places closed p arc → IsTight costs p arc → arc.head ≡ place →
+      is_marked marks p ≡ true
   all_before old before place cost d marks waiting has m p arc goes tight head =
       let back = comes_back place cost p d arc has goes tight head in
       subst (λ k. is_marked marks k ≡ true) back.3 (m.seen back.0 back.1 back.2)
 
 -- no tight arc leads to a place without a cost
-pub none_before : (costs : List (Option ℕ)) (place p : ℕ) (arc : Arc) → ((cost : ℕ) → cost_at costs place ≡ Some cost → ⊥) → IsTight costs p arc → arc.head ≡ place → ⊥
-none_before costs place p arc none tight head = none (tight.cost + arc.metric) (subst (λ k. cost_at costs k ≡ Some (tight.cost + arc.metric)) head tight.head)
+pub none_before : (costs : List (Option ℕ)) (place p : ℕ) (arc : Arc) →
+    ((cost : ℕ) → cost_at costs place ≡ Some cost → ⊥) → IsTight costs p arc → arc.head ≡ place → ⊥
+none_before costs place p arc none tight head =
+    none (tight.cost + arc.metric) (subst (λ k. cost_at costs k ≡ Some (tight.cost + arc.metric)) head tight.head)
 
 -- All places
 
@@ -177,14 +223,17 @@ only_end n end p on = elim (fresh_mark (replicate n false) end p on) [
   | inr e ↦ e
 ]
 
-pub first_marking : (MayGo : ℕ → Arc → Type 0) (costs : List (Option ℕ)) (n end : ℕ) (none : List ℕ) → none ≡ [] → end < n → AreMarking MayGo costs end (set (replicate n false) end true) (none ++ end ∷ [])
+pub first_marking : (MayGo : ℕ → Arc → Type 0) (costs : List (Option ℕ)) (n end : ℕ) (none : List ℕ) → none ≡ [] →
+    end < n → AreMarking MayGo costs end (set (replicate n false) end true) (none ++ end ∷ [])
 first_marking MayGo costs n end none is inside = record {
   end = marked_same (replicate n false) end true room;
   onward = λ p on. inl (only_end n end p on);
-  closed = λ p arc leads. inr (subst (Contains (none ++ end ∷ [])) (sym (only_end n end arc.head leads.marked)) (Contains-push none end));
+  closed = λ p arc leads. inr (subst (Contains (none ++ end ∷ [])) (sym (only_end n end arc.head leads.marked))
+      (Contains-push none end));
   marked = λ p waits. elim (Contains-push_cases none end p waits) [
     | inl old ↦ absurd (nothing none p is old)
-    | inr e ↦ subst (λ k. is_marked (set (replicate n false) end true) k ≡ true) e (marked_same (replicate n false) end true room)
+    | inr e ↦ subst (λ k. is_marked (set (replicate n false) end true) k ≡ true) e
+        (marked_same (replicate n false) end true room)
   ];
   within = subst (λ xs. All (λ p. p < length (set (replicate n false) end true)) (xs ++ end ∷ [])) (sym is)
       (All-push (λ p. p < length (set (replicate n false) end true)) [] end (λ k d h. absurd (omega arith)) long);
@@ -202,7 +251,12 @@ first_part P xs x all k d within =
     subst P (get_or-append xs (x ∷ []) d k within) (all k d (omega arith))
 
 -- a waiting place is taken, and those before it are marked
-pub next_marking : (MayGo : ℕ → Arc → Type 0) (costs : List (Option ℕ)) (end place : ℕ) (old new : List Bool) (all rest after : List ℕ) → all ≡ rest ++ place ∷ [] → length new ≡ length old → AreMarking MayGo costs end old all → HasMarked old new rest after → (AreOnward MayGo costs end old → AreOnward MayGo costs end new) → ((p : ℕ) (arc : Arc) → MayGo p arc → IsTight costs p arc → arc.head ≡ place → is_marked new p ≡ true) → AreMarking MayGo costs end new after
+pub next_marking : (MayGo : ℕ → Arc → Type 0) (costs : List (Option ℕ)) (end place : ℕ) (old new : List Bool)
+    (all rest after : List ℕ) → all ≡ rest ++ place ∷ [] → length new ≡ length old →
+    AreMarking MayGo costs end old all → HasMarked old new rest after →
+    (AreOnward MayGo costs end old → AreOnward MayGo costs end new) →
+    ((p : ℕ) (arc : Arc) → MayGo p arc → IsTight costs p arc → arc.head ≡ place → is_marked new p ≡ true) →
+    AreMarking MayGo costs end new after
 next_marking MayGo costs end place old new all rest after is len m has onward seen = record {
   end = has.kept end m.end;
   onward = onward m.onward;
@@ -216,35 +270,50 @@ next_marking MayGo costs end place old new all rest after is len m has onward se
     ]
     | inr waits ↦ inr waits
   ];
-  marked = has.marked (λ p there. m.marked p (subst (λ xs. Contains xs p) (sym is) (Contains-append_left rest (place ∷ []) p there)));
-  within = subst (λ n. All (λ p. p < n) after) (sym len) (has.within (first_part (λ p. p < length old) rest place (subst (All (λ p. p < length old)) is m.within)));
+  marked = has.marked (λ p there. m.marked p (subst (λ xs. Contains xs p) (sym is)
+      (Contains-append_left rest (place ∷ []) p there)));
+  within = subst (λ n. All (λ p. p < n) after) (sym len)
+      (has.within (first_part (λ p. p < length old) rest place (subst (All (λ p. p < length old)) is m.within)));
 }
 
-pub all_marked : (MayGo : ℕ → Arc → Type 0) (costs : List (Option ℕ)) (end : ℕ) (marks : List Bool) (waiting : List ℕ) → waiting ≡ [] → AreMarking MayGo costs end marks waiting → AreMarked MayGo costs end marks
+pub all_marked : (MayGo : ℕ → Arc → Type 0) (costs : List (Option ℕ)) (end : ℕ) (marks : List Bool)
+    (waiting : List ℕ) → waiting ≡ [] → AreMarking MayGo costs end marks waiting → AreMarked MayGo costs end marks
 all_marked MayGo costs end marks waiting none m = record {
   end = m.end;
-  closed = λ p arc leads. elim (m.closed p arc leads) [ inl on ↦ on | inr waits ↦ absurd (nothing waiting arc.head none waits) ];
+  closed = λ p arc leads. elim (m.closed p arc leads) [
+    | inl on ↦ on
+    | inr waits ↦ absurd
+        (nothing waiting arc.head none waits)
+  ];
   onward = m.onward;
 }
 
 -- Rounds that work on all of a vector
 
-module _ (n place : ℕ) (items seen new : List Bool) (all rest after : List ℕ) (is : all ≡ rest ++ place ∷ []) (same : seen ≡ items) (long : length seen ≡ n) (len : length new ≡ length seen) (has : HasMarked seen new rest after) where
+module _ (n place : ℕ) (items seen new : List Bool) (all rest after : List ℕ) (is : all ≡ rest ++ place ∷ [])
+    (same : seen ≡ items) (long : length seen ≡ n) (len : length new ≡ length seen)
+    (has : HasMarked seen new rest after) where
   back : take n (new ++ drop (length new) items) ≡ new
   back = written_back n new items (len ∙ long)
 
-  pub marked_round : (MayGo : ℕ → Arc → Type 0) (costs : List (Option ℕ)) (end : ℕ) → AreMarking MayGo costs end items all → (AreOnward MayGo costs end seen → AreOnward MayGo costs end new) → ((p : ℕ) (arc : Arc) → MayGo p arc → IsTight costs p arc → arc.head ≡ place → is_marked new p ≡ true) → AreMarking MayGo costs end (take n (new ++ drop (length new) items)) after
+  pub marked_round : (MayGo : ℕ → Arc → Type 0) (costs : List (Option ℕ)) (end : ℕ) →
+      AreMarking MayGo costs end items all → (AreOnward MayGo costs end seen → AreOnward MayGo costs end new) →
+      ((p : ℕ) (arc : Arc) → MayGo p arc → IsTight costs p arc → arc.head ≡ place → is_marked new p ≡ true) →
+      AreMarking MayGo costs end (take n (new ++ drop (length new) items)) after
   marked_round MayGo costs end m onward before =
       subst (λ marks. AreMarking MayGo costs end marks after) (sym back)
-      (next_marking MayGo costs end place seen new all rest after is len (subst (λ marks. AreMarking MayGo costs end marks all) (sym same) m) has onward before)
+      (next_marking MayGo costs end place seen new all rest after is len
+      (subst (λ marks. AreMarking MayGo costs end marks all) (sym same) m) has onward before)
 
   pub round_len : length (take n (new ++ drop (length new) items)) ≡ length items
   round_len = ap length back ∙ len ∙ ap length same
 
-  pub round_fewer : sum_by unmarked (take n (new ++ drop (length new) items)) + length after < sum_by unmarked items + length all
+  pub round_fewer : sum_by unmarked (take n (new ++ drop (length new) items)) + length after < sum_by unmarked items
+      + length all
   round_fewer =
       let h : sum_by unmarked new + length after ≤ sum_by unmarked seen + length rest = has.fewer in
-      let a : sum_by unmarked (take n (new ++ drop (length new) items)) ≡ sum_by unmarked new = ap (sum_by unmarked) back in
+      let a : sum_by unmarked (take n (new ++ drop (length new) items)) ≡ sum_by unmarked new =
+      ap (sum_by unmarked) back in
       let b : sum_by unmarked seen ≡ sum_by unmarked items = ap (sum_by unmarked) same in
       let c : length all ≡ length rest + 1 = ap length is ∙ length-append rest (place ∷ []) in
       omega arith

@@ -34,11 +34,14 @@ none_numbered places entries none = record {
   are = λ k e h. absurd (none_some (subst (λ es. slice_get es k ≡ Some e) none h));
 }
 
-pub numbered_more : (places : List Place) (k : ℕ) (d : Place) (entries : List NodePlace) → k < length places → AreNumbered places k entries → AreNumbered places (k + 1) (entries ++ (record { node = (get_or places k d).node; place = k }) ∷ [])
+pub numbered_more : (places : List Place) (k : ℕ) (d : Place) (entries : List NodePlace) → k < length places →
+    AreNumbered places k entries → AreNumbered places (k + 1)
+    (entries ++ (record { node = (get_or places k d).node; place = k }) ∷ [])
 numbered_more places k d entries within are =
     let new : NodePlace = record { node = (get_or places k d).node; place = k } in
     record {
-      len = (let l : length (entries ++ new ∷ []) ≡ length entries + 1 = length-append entries (new ∷ []) in let m : length entries ≡ k = are.len in omega arith);
+      len = (let l : length (entries ++ new ∷ []) ≡ length entries + 1 =
+          length-append entries (new ∷ []) in let m : length entries ≡ k = are.len in omega arith);
       are = λ i e h. elim (get_pushed entries new i e h) [
         | inl before ↦ are.are i e before
         | inr last ↦
@@ -65,10 +68,13 @@ cmp-less a b h = grind arith
 less_or_same : (a b : ℕ) → a ≤ b → (a < b) ⊎ (a ≡ b)
 less_or_same a b le = grind arith
 
-pub in_order : (places : List Place) (entries order : List NodePlace) (set : BTreeSet NodePlace) → AreOnce places → AreNumbered places (length places) entries → IsFromIterResult ghosts.cmp entries set → order ≡ set.keys → AreInOrder places order
+pub in_order : (places : List Place) (entries order : List NodePlace) (set : BTreeSet NodePlace) → AreOnce places →
+    AreNumbered places (length places) entries → IsFromIterResult ghosts.cmp entries set → order ≡ set.keys →
+    AreInOrder places order
 in_order places entries order set once are from listed =
     let there : (e : NodePlace) → Contains order e → Contains entries e =
-    λ e h. (btree_set_contains_from_list total-law cmp-equal entries set from e).0 ((btree_set_contains_iff total-law cmp-equal set e).1 (subst (λ xs. Contains xs e) listed h))
+    λ e h. (btree_set_contains_from_list total-law cmp-equal entries set from e).0
+    ((btree_set_contains_iff total-law cmp-equal set e).1 (subst (λ xs. Contains xs e) listed h))
     in
     let sound : (e : NodePlace) → Contains order e → HasNode places e.place e.node =
     λ e h. (let known = there e h in
@@ -83,21 +89,26 @@ in_order places entries order set once are from listed =
           let e : NodePlace = get_or entries p (record { node = n; place = p }) in
           let at : slice_get entries p ≡ Some e = slice_get-get_or entries p (record { node = n; place = p }) within in
           let is = are.are p e at in
-          let same : e ≡ record { node = n; place = p } = (λ i. record { node = one_node places p e.node n is.1 h i; place = is.0 i }) in
+          let same : e ≡ record { node = n; place = p } =
+          (λ i. record { node = one_node places p e.node n is.1 h i; place = is.0 i }) in
           subst (λ xs. Contains xs (record { node = n; place = p })) (sym listed)
           ((btree_set_contains_iff total-law cmp-equal set (record { node = n; place = p })).0
-          ((btree_set_contains_from_list total-law cmp-equal entries set from (record { node = n; place = p })).1 (p, within, same))));
+          ((btree_set_contains_from_list total-law cmp-equal entries set from (record { node = n; place = p })).1
+          (p, within, same))));
       rising = λ i j d lt within.
           (let x = get_or order i d in
           let y = get_or order j d in
-          let less : ghosts.cmp x y ≡ Less = Less-from_sorted ghosts.cmp order i j d (subst (IsStrictlySortedBy ghosts.cmp) (sym listed) from.1) lt within in
+          let less : ghosts.cmp x y ≡ Less = Less-from_sorted ghosts.cmp order i j d
+          (subst (IsStrictlySortedBy ghosts.cmp) (sym listed) from.1) lt within in
           elim (less_or_same x.node.0 y.node.0 (cmp-less x y less)) [
             | inl below ↦ below
             | inr same ↦ absurd
                 (let inside : i < length order = omega arith in
                 let node : x.node ≡ y.node = same_node x.node y.node same in
-                let first : HasNode places x.place y.node = subst (HasNode places x.place) node (sound x (Contains-get_or order i d inside)) in
-                let place : x.place ≡ y.place = once x.place y.place y.node first (sound y (Contains-get_or order j d within)) in
+                let first : HasNode places x.place y.node = subst (HasNode places x.place) node
+                (sound x (Contains-get_or order i d inside)) in
+                let place : x.place ≡ y.place = once x.place y.place y.node first
+                (sound y (Contains-get_or order j d within)) in
                 let is : x ≡ y = (λ k. record { node = node k; place = place k }) in
                 let equal : ghosts.cmp x y ≡ Equal = subst (λ z. ghosts.cmp x z ≡ Equal) is (cmp-itself x) in
                 cc (less, equal))
@@ -113,23 +124,31 @@ decides : (x y : NodeId) → Decides (eq_by_cmp node.cmp x y) (x ≡ y)
 decides x y = (exact x y, λ e. subst (λ z. eq_by_cmp node.cmp x z ≡ true) e ((eq_by_cmp_equiv node-law).refl x))
 
 -- distinct nodes that are all in another list are no more than that list has
-at_most : (nodes others : List NodeId) → AllPairs (λ x y. x ≢ y) nodes → ((n : NodeId) → Contains nodes n → Contains others n) → length nodes ≤ length others
+at_most : (nodes others : List NodeId) → AllPairs (λ x y. x ≢ y) nodes →
+    ((n : NodeId) → Contains nodes n → Contains others n) → length nodes ≤ length others
 at_most nodes others apart among =
     length-le_from_is_member (eq_by_cmp_equiv node-law) nodes others (IsDistinct-from_AllPairs decides nodes apart)
     (λ q h. list_any-from_Contains (eq_by_cmp_equiv node-law) q others (among q (Contains-from_any exact q nodes h)))
 
 -- places whose nodes are all in a list are no more than that list has
-pub few_places : (places : List Place) (others : List NodeId) → AreOnce places → ((p : ℕ) (n : NodeId) → HasNode places p n → Contains others n) → length places ≤ length others
+pub few_places : (places : List Place) (others : List NodeId) → AreOnce places →
+    ((p : ℕ) (n : NodeId) → HasNode places p n → Contains others n) → length places ≤ length others
 few_places places others once among =
     let nodes : List NodeId = map (λ q. q.node) places in
     let len : length nodes ≡ length places = length-map places (λ q. q.node) in
     let at : (k : ℕ) (d : NodeId) → k < length nodes → HasNode places k (get_or nodes k d) =
     λ k d within. elim ((slice_get_cases places k).1) [
-      | inl there ↦ (there.0, there.2, sym (get_or-map (λ q. q.node) places k there.0 d there.1 ∙ ap (λ q. q.node) there.3))
+      | inl there ↦ (
+        there.0,
+        there.2,
+        sym (get_or-map (λ q. q.node) places k there.0 d there.1 ∙
+            ap (λ q. q.node) there.3),
+      )
       | inr past ↦ absurd (let h : length places ≤ k = past.0 in omega arith)
     ]
     in
     subst (λ n. n ≤ length others) len
     (at_most nodes others
-    (λ i j d lt within same. (let a : i ≡ j = once i j (get_or nodes i d) (at i d (omega arith)) (subst (HasNode places j) (sym same) (at j d within)) in omega arith))
+    (λ i j d lt within same. (let a : i ≡ j = once i j (get_or nodes i d) (at i d (omega arith))
+    (subst (HasNode places j) (sym same) (at j d within)) in omega arith))
     (λ n known. among known.0 n (subst (HasNode places known.0) known.2 (at known.0 n known.1))))

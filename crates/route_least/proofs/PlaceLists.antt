@@ -17,7 +17,8 @@ none_some e = cc
 
 -- Elements by place
 
-pub get_kept : {X : Type 0} (xs : List X) (y : X) (i : ℕ) (x : X) → slice_get xs i ≡ Some x → slice_get (xs ++ y ∷ []) i ≡ Some x
+pub get_kept : {X : Type 0} (xs : List X) (y : X) (i : ℕ) (x : X) → slice_get xs i ≡ Some x →
+    slice_get (xs ++ y ∷ []) i ≡ Some x
 get_kept [] y i x e = absurd (none_some e)
 get_kept (z ∷ xs) y zero x e = e
 get_kept (z ∷ xs) y (suc i) x e = get_kept xs y i x e
@@ -29,7 +30,8 @@ get_last (z ∷ xs) y = get_last xs y
 one_more : {n m : ℕ} → n ≡ m → suc n ≡ suc m
 one_more e = ap suc e
 
-pub get_pushed : {X : Type 0} (xs : List X) (y : X) (i : ℕ) (x : X) → slice_get (xs ++ y ∷ []) i ≡ Some x → (slice_get xs i ≡ Some x) ⊎ ((i ≡ length xs) × (y ≡ x))
+pub get_pushed : {X : Type 0} (xs : List X) (y : X) (i : ℕ) (x : X) → slice_get (xs ++ y ∷ []) i ≡ Some x →
+    (slice_get xs i ≡ Some x) ⊎ ((i ≡ length xs) × (y ≡ x))
 get_pushed [] y zero x e = inr (refl, some_same e)
 get_pushed [] y (suc i) x e = absurd (none_some e)
 get_pushed (z ∷ xs) y zero x e = inl e
@@ -65,10 +67,12 @@ node_at places p d within = (get_or places p d, slice_get-get_or places p d with
 pub node_is : (places : List Place) (p : ℕ) (d : Place) (n : NodeId) → HasNode places p n → (get_or places p d).node ≡ n
 node_is places p d n h = ap (λ q. q.node) (get_or_from_slice_get places p h.0 d h.1) ∙ h.2
 
-pub arc_at : (places : List Place) (p : ℕ) (d : Place) (arc : Arc) → p < length places → Contains (get_or places p d).arcs.items arc → HasArc places p arc
+pub arc_at : (places : List Place) (p : ℕ) (d : Place) (arc : Arc) → p < length places →
+    Contains (get_or places p d).arcs.items arc → HasArc places p arc
 arc_at places p d arc within there = (get_or places p d, slice_get-get_or places p d within, there)
 
-pub arc_is : (places : List Place) (p : ℕ) (d : Place) (arc : Arc) → HasArc places p arc → Contains (get_or places p d).arcs.items arc
+pub arc_is : (places : List Place) (p : ℕ) (d : Place) (arc : Arc) → HasArc places p arc →
+    Contains (get_or places p d).arcs.items arc
 arc_is places p d arc h = subst (λ q. Contains q.arcs.items arc) (sym (get_or_from_slice_get places p h.0 d h.1)) h.2
 
 -- One place more, without arcs
@@ -76,7 +80,8 @@ arc_is places p d arc h = subst (λ q. Contains q.arcs.items arc) (sym (get_or_f
 pub nothing : {X : Type 0} (xs : List X) (x : X) → xs ≡ [] → ¬ Contains xs x
 nothing xs x none there = absurd (let h : there.0 < 0 = subst (λ ys. there.0 < length ys) none there.1 in omega arith)
 
-seated_once : (places : List Place) (new : Place) → AreOnce places → ((p : ℕ) → ¬ HasNode places p new.node) → AreOnce (places ++ new ∷ [])
+seated_once : (places : List Place) (new : Place) → AreOnce places → ((p : ℕ) → ¬ HasNode places p new.node) →
+    AreOnce (places ++ new ∷ [])
 seated_once places new once absent i j n x y = elim (get_pushed places new i x.0 x.1) [
   | inl a ↦ elim (get_pushed places new j y.0 y.1) [
     | inl b ↦ once i j n (x.0, a, x.2) (y.0, b, y.2)
@@ -88,7 +93,9 @@ seated_once places new once absent i j n x y = elim (get_pushed places new i x.0
   ]
 ]
 
-pub seated_new : (places : List Place) (new : Place) (n : NodeId) → AreOnce places → ((p : ℕ) → ¬ HasNode places p n) → new.node ≡ n → new.arcs.items ≡ [] → HasSeated places (places ++ new ∷ []) n (length places)
+pub seated_new : (places : List Place) (new : Place) (n : NodeId) → AreOnce places →
+    ((p : ℕ) → ¬ HasNode places p n) → new.node ≡ n → new.arcs.items ≡ [] →
+    HasSeated places (places ++ new ∷ []) n (length places)
 seated_new places new n once absent is none = record {
   there = (new, get_last places new, is);
   once = seated_once places new once (λ p h. absent p (h.0, h.1, h.2 ∙ is));
@@ -104,7 +111,8 @@ seated_new places new n once absent is none = record {
   ];
 }
 
-pub seated_old : (places : List Place) (n : NodeId) (p : ℕ) → AreOnce places → HasNode places p n → HasSeated places places n p
+pub seated_old : (places : List Place) (n : NodeId) (p : ℕ) → AreOnce places → HasNode places p n →
+    HasSeated places places n p
 seated_old places n p once there = record {
   there = there;
   once = once;
@@ -116,9 +124,12 @@ seated_old places n p once there = record {
 
 -- One arc more at a place
 
-gained_at : (places : List Place) (p : ℕ) (before after : Place) (arc : Arc) → slice_get places p ≡ Some before → after.node ≡ before.node → after.arcs.items ≡ before.arcs.items ++ arc ∷ [] → HasGained places (set places p after) p arc
+gained_at : (places : List Place) (p : ℕ) (before after : Place) (arc : Arc) → slice_get places p ≡ Some before →
+    after.node ≡ before.node → after.arcs.items ≡ before.arcs.items ++ arc ∷ [] →
+    HasGained places (set places p after) p arc
 gained_at places p before after arc stands node arcs =
-    let here : slice_get (set places p after) p ≡ Some after = get_set places p after (slice_get_within places p before stands) in
+    let here : slice_get (set places p after) p ≡ Some after =
+    get_set places p after (slice_get_within places p before stands) in
     record {
       nodes = λ i m h. elim (cases_eq i p) [
         | inl e ↦ (
@@ -132,7 +143,8 @@ gained_at places p before after arc stands node arcs =
         | inl e ↦ (
           before,
           subst (λ k. slice_get places k ≡ Some before) (sym e) stands,
-          sym node ∙ ap (λ q. q.node) (some_same (sym here ∙ subst (λ k. slice_get (set places p after) k ≡ Some h.0) e h.1)) ∙ h.2,
+          sym node ∙ ap (λ q. q.node) (some_same (sym here ∙
+              subst (λ k. slice_get (set places p after) k ≡ Some h.0) e h.1)) ∙ h.2,
         )
         | inr other ↦ (h.0, sym (get_other places p i after other) ∙ h.1, h.2)
       ];
@@ -142,14 +154,17 @@ gained_at places p before after arc stands node arcs =
             (let is : before ≡ h.0 = some_same (sym stands ∙ subst (λ k. slice_get places k ≡ Some h.0) e h.1) in (
               after,
               subst (λ k. slice_get (set places p after) k ≡ Some after) (sym e) here,
-              subst (λ xs. Contains xs a) (sym arcs) (Contains-append_left before.arcs.items (arc ∷ []) a (subst (λ q. Contains q.arcs.items a) (sym is) h.2)),
+              subst (λ xs. Contains xs a) (sym arcs) (Contains-append_left before.arcs.items (arc ∷ []) a
+                  (subst (λ q. Contains q.arcs.items a) (sym is) h.2)),
             ))
         | inr other ↦ (h.0, get_other places p i after other ∙ h.1, h.2)
       ];
       only = λ i a h. elim (cases_eq i p) [
         | inl e ↦
-            (let is : after ≡ h.0 = some_same (sym here ∙ subst (λ k. slice_get (set places p after) k ≡ Some h.0) e h.1) in
-            elim (Contains-push_cases before.arcs.items arc a (subst (λ xs. Contains xs a) arcs (subst (λ q. Contains q.arcs.items a) (sym is) h.2))) [
+            (let is : after ≡ h.0 = some_same (sym here ∙
+            subst (λ k. slice_get (set places p after) k ≡ Some h.0) e h.1) in
+            elim (Contains-push_cases before.arcs.items arc a
+            (subst (λ xs. Contains xs a) arcs (subst (λ q. Contains q.arcs.items a) (sym is) h.2))) [
               | inl old ↦ inl (before, subst (λ k. slice_get places k ≡ Some before) (sym e) stands, old)
               | inr new ↦ inr (e, sym new)
             ])
@@ -157,12 +172,18 @@ gained_at places p before after arc stands node arcs =
       ];
     }
 
-pub gained : (places : List Place) (p : ℕ) (d after : Place) (arc : Arc) → p < length places → after.node ≡ (get_or places p d).node → after.arcs.items ≡ (get_or places p d).arcs.items ++ arc ∷ [] → HasGained places (set places p after) p arc
-gained places p d after arc within node arcs = gained_at places p (get_or places p d) after arc (slice_get-get_or places p d within) node arcs
+pub gained : (places : List Place) (p : ℕ) (d after : Place) (arc : Arc) → p < length places →
+    after.node ≡ (get_or places p d).node → after.arcs.items ≡ (get_or places p d).arcs.items ++ arc ∷ [] →
+    HasGained places (set places p after) p arc
+gained places p d after arc within node arcs =
+    gained_at places p (get_or places p d) after arc (slice_get-get_or places p d within) node arcs
 
 -- the arcs of a place, as a loop reads them
-pub read_arc : (places : List Place) (p : ℕ) (d : Place) (arcs : List Arc) (i : ℕ) (e : Arc) → arcs ≡ (get_or places p d).arcs.items → p < length places → i < length arcs → HasArc places p (get_or arcs i e)
-read_arc places p d arcs i e same within below = arc_at places p d (get_or arcs i e) within (subst (λ xs. Contains xs (get_or arcs i e)) same (Contains-get_or arcs i e below))
+pub read_arc : (places : List Place) (p : ℕ) (d : Place) (arcs : List Arc) (i : ℕ) (e : Arc) →
+    arcs ≡ (get_or places p d).arcs.items → p < length places → i < length arcs → HasArc places p (get_or arcs i e)
+read_arc places p d arcs i e same within below =
+    arc_at places p d (get_or arcs i e) within
+    (subst (λ xs. Contains xs (get_or arcs i e)) same (Contains-get_or arcs i e below))
 
 -- what a loop over arcs reads past their end
 abbrev pub no_arc : Arc

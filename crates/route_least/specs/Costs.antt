@@ -5,7 +5,8 @@ use Rattle.route_least.specs.declared.places.Arc.{Arc}
 -- arcs along which one may go lead from the start to the place, at the cost
 pub data Reach (MayGo : ℕ → Arc → Type 0) (start : ℕ) : ℕ → ℕ → Type 0 where
   Start : Reach MayGo start start 0
-  Onward : (place : ℕ) (arc : Arc) (cost : ℕ) → MayGo place arc → Reach MayGo start place cost → Reach MayGo start arc.head (cost + arc.metric)
+  Onward : (place : ℕ) (arc : Arc) (cost : ℕ) → MayGo place arc → Reach MayGo start place cost →
+      Reach MayGo start arc.head (cost + arc.metric)
 
 -- the table's cost of a place, where it has one
 abbrev pub cost_at : List (Option ℕ) → ℕ → Option ℕ
@@ -55,7 +56,8 @@ pub record AreLeast (MayGo : ℕ → Arc → Type 0) (start : ℕ) (costs : List
   pub zero : cost_at costs start ≡ Some 0
   pub attained : AreAttained MayGo start costs
   pub settled : (place : ℕ) (arc : Arc) → MayGo place arc → IsSettled costs place arc
-  pub least : (place cost : ℕ) → Reach MayGo start place cost → (least : ℕ) × (cost_at costs place ≡ Some least) × (least ≤ cost)
+  pub least : (place cost : ℕ) → Reach MayGo start place cost → (least : ℕ) × (cost_at costs place ≡ Some least) ×
+      (least ≤ cost)
 
 -- each cost is below 2^24
 abbrev pub AreSmall : List (Option ℕ) → Type 0

@@ -20,7 +20,8 @@ pub record ComesBy (closed : List Bool) (costs : List (Option ℕ)) (cost : ℕ)
 
 -- from each marked place but the end a tight arc leads to a marked one
 abbrev pub AreOnward : (ℕ → Arc → Type 0) → List (Option ℕ) → ℕ → List Bool → Type 0
-AreOnward MayGo costs end marks = (p : ℕ) → is_marked marks p ≡ true → (p ≡ end) ⊎ ((arc : Arc) × LeadsOn MayGo costs marks p arc)
+AreOnward MayGo costs end marks = (p : ℕ) → is_marked marks p ≡ true →
+    (p ≡ end) ⊎ ((arc : Arc) × LeadsOn MayGo costs marks p arc)
 
 -- 1 for a place that isn't marked
 abbrev pub unmarked : Bool → ℕ
@@ -32,14 +33,17 @@ pub record HasMarked (old new : List Bool) (before after : List ℕ) : Type 0 wh
   pub kept : (p : ℕ) → is_marked old p ≡ true → is_marked new p ≡ true
   pub fresh : (p : ℕ) → is_marked new p ≡ true → (is_marked old p ≡ true) ⊎ Contains after p
   pub waiting : (p : ℕ) → Contains before p → Contains after p
-  pub marked : ((p : ℕ) → Contains before p → is_marked old p ≡ true) → (p : ℕ) → Contains after p → is_marked new p ≡ true
+  pub marked : ((p : ℕ) → Contains before p → is_marked old p ≡ true) → (p : ℕ) → Contains after p →
+      is_marked new p ≡ true
   pub within : All (λ p. p < length old) before → All (λ p. p < length old) after
   pub fewer : sum_by unmarked new + length after ≤ sum_by unmarked old + length before
 
 -- the marks so far: where tight arcs lead to a marked place, that place waits or they come from a marked one
-pub record AreMarking (MayGo : ℕ → Arc → Type 0) (costs : List (Option ℕ)) (to : ℕ) (marks : List Bool) (waiting : List ℕ) : Type 0 where
+pub record AreMarking (MayGo : ℕ → Arc → Type 0) (costs : List (Option ℕ)) (to : ℕ) (marks : List Bool)
+    (waiting : List ℕ) : Type 0 where
   pub end : is_marked marks to ≡ true
   pub onward : AreOnward MayGo costs to marks
-  pub closed : (p : ℕ) (arc : Arc) → LeadsOn MayGo costs marks p arc → (is_marked marks p ≡ true) ⊎ Contains waiting arc.head
+  pub closed : (p : ℕ) (arc : Arc) → LeadsOn MayGo costs marks p arc →
+      (is_marked marks p ≡ true) ⊎ Contains waiting arc.head
   pub marked : (p : ℕ) → Contains waiting p → is_marked marks p ≡ true
   pub within : All (λ p. p < length marks) waiting

@@ -56,7 +56,8 @@ pub record ArePlaces (rows : List TeRow) (count : ℕ) (places : List Place) : T
   pub once : AreOnce places
   pub ends : (p : ℕ) (n : NodeId) → HasNode places p n → IsEnd rows n
   pub sound : (p : ℕ) (arc : Arc) → HasArc places p arc → IsOfRow rows count places p arc
-  pub complete : (index : ℕ) (row : TeRow) (a b : NodeId) → index < count → slice_get rows index ≡ Some row → Joins row a b → HasRow places row index a b
+  pub complete : (index : ℕ) (row : TeRow) (a b : NodeId) → index < count → slice_get rows index ≡ Some row →
+      Joins row a b → HasRow places row index a b
 
 -- the node of each place with the place, in order of node
 pub record AreInOrder (places : List Place) (order : List NodePlace) : Type 0 where
@@ -106,14 +107,16 @@ pub record HasAdded (old new : List Place) (row : TeRow) (index : ℕ) : Type 0 
   pub nodes : (i : ℕ) (m : NodeId) → HasNode old i m → HasNode new i m
   pub only : (i : ℕ) (m : NodeId) → HasNode new i m → HasNode old i m ⊎ ((row.low ≡ m) ⊎ (row.high ≡ m))
   pub kept : (i : ℕ) (a : Arc) → HasArc old i a → HasArc new i a
-  pub sound : (i : ℕ) (a : Arc) → HasArc new i a → HasArc old i a ⊎ ((x : NodeId) × (y : NodeId) × Joins row x y × IsArc new row index i x y a)
+  pub sound : (i : ℕ) (a : Arc) → HasArc new i a →
+      HasArc old i a ⊎ ((x : NodeId) × (y : NodeId) × Joins row x y × IsArc new row index i x y a)
   pub complete : (x y : NodeId) → Joins row x y → HasRow new row index x y
 
 -- Bans
 
 -- one of the rows of the link is closed
 abbrev pub IsClosed : List TeRow → List Bool → LinkId → Type 0
-IsClosed rows closed l = (index : ℕ) × (row : TeRow) × (slice_get rows index ≡ Some row) × (row.link ≡ l) × (slice_index_or closed index false ≡ true)
+IsClosed rows closed l = (index : ℕ) × (row : TeRow) × (slice_get rows index ≡ Some row) × (row.link ≡ l) ×
+    (slice_index_or closed index false ≡ true)
 
 -- the arc's row isn't closed, and it leads to no banned node
 pub record IsFree (places : List Place) (closed : List Bool) (banned : List NodeId) (arc : Arc) : Type 0 where
@@ -141,4 +144,5 @@ pub record IsBack (p : ℕ) (arc back : Arc) : Type 0 where
 pub record AreSound (rows : ℕ) (places : List Place) : Type 0 where
   pub few : length places ≤ 64
   pub within : (p : ℕ) (arc : Arc) → HasArc places p arc → IsWithin (length places) rows arc
-  pub back : (p : ℕ) (arc : Arc) → HasArc places p arc → (other : Arc) × HasArc places arc.head other × IsBack p arc other
+  pub back : (p : ℕ) (arc : Arc) → HasArc places p arc → (other : Arc) × HasArc places arc.head other ×
+      IsBack p arc other

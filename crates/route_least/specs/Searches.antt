@@ -22,7 +22,8 @@ pub record IsSearchable (rows : ℕ) (network : RouteNetwork) : Type 0 where
 
 -- however places are marked from which tight arcs lead to the end, the start is marked
 abbrev pub IsReached : List Place → List Bool → List (Option ℕ) → ℕ → ℕ → Type 0
-IsReached places closed costs from to = (marks : List Bool) → AreMarked (Crosses places closed) costs to marks → is_marked marks from ≡ true
+IsReached places closed costs from to = (marks : List Bool) → AreMarked (Crosses places closed) costs to marks →
+    is_marked marks from ≡ true
 
 -- from a node without a row
 pub record IsFoundAlone (from to : NodeId) (found : Found) : Type 0 where
@@ -36,12 +37,14 @@ IsMissedAlone from to (NoRoute potential) = (from ≢ to) × (potential ≡ (fro
 IsMissedAlone from to OutOfMemory = Unit {0}
 
 -- the table of least costs from the start, and the potentials that are read off it
-pub record AreCostsFrom (network : RouteNetwork) (closed : List Bool) (banned : List NodeId) (start : ℕ) (potential : List (NodeId × ℕ)) (costs : List (Option ℕ)) : Type 0 where
+pub record AreCostsFrom (network : RouteNetwork) (closed : List Bool) (banned : List NodeId) (start : ℕ)
+    (potential : List (NodeId × ℕ)) (costs : List (Option ℕ)) : Type 0 where
   pub least : AreLeast (Goes network.places.items closed banned) start costs
   pub listed : AreListed network.order.items costs potential
 
 -- from the start of this place
-pub record IsFoundFrom (network : RouteNetwork) (closed : List Bool) (banned : List NodeId) (start : ℕ) (to : NodeId) (found : Found) : Type 0 where
+pub record IsFoundFrom (network : RouteNetwork) (closed : List Bool) (banned : List NodeId) (start : ℕ) (to : NodeId)
+    (found : Found) : Type 0 where
   pub costs : List (Option ℕ)
   pub are : AreCostsFrom network closed banned start found.potential costs
   pub end : ℕ
@@ -49,7 +52,8 @@ pub record IsFoundFrom (network : RouteNetwork) (closed : List Bool) (banned : L
   pub has : cost_at costs end ≡ Some found.cost
   pub traced : IsTraced (Crosses network.places.items closed) costs network.places.items start end found.route
 
-pub record IsMissed (network : RouteNetwork) (closed : List Bool) (banned : List NodeId) (start : ℕ) (to : NodeId) (potential : List (NodeId × ℕ)) : Type 0 where
+pub record IsMissed (network : RouteNetwork) (closed : List Bool) (banned : List NodeId) (start : ℕ) (to : NodeId)
+    (potential : List (NodeId × ℕ)) : Type 0 where
   pub costs : List (Option ℕ)
   pub are : AreCostsFrom network closed banned start potential costs
   pub none : (p cost : ℕ) → HasNode network.places.items p to → cost_at costs p ≡ Some cost → ⊥

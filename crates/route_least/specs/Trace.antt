@@ -15,7 +15,8 @@ pub record IsTight (costs : List (Option ℕ)) (place : ℕ) (arc : Arc) : Type 
   pub head : cost_at costs arc.head ≡ Some (cost + arc.metric)
 
 -- an arc that is tight leads on to a marked place
-pub record LeadsOn (MayGo : ℕ → Arc → Type 0) (costs : List (Option ℕ)) (marks : List Bool) (place : ℕ) (arc : Arc) : Type 0 where
+pub record LeadsOn (MayGo : ℕ → Arc → Type 0) (costs : List (Option ℕ)) (marks : List Bool) (place : ℕ)
+    (arc : Arc) : Type 0 where
   pub goes : MayGo place arc
   pub tight : IsTight costs place arc
   pub marked : is_marked marks arc.head ≡ true
@@ -24,14 +25,17 @@ pub record LeadsOn (MayGo : ℕ → Arc → Type 0) (costs : List (Option ℕ)) 
 pub record AreMarked (MayGo : ℕ → Arc → Type 0) (costs : List (Option ℕ)) (to : ℕ) (marks : List Bool) : Type 0 where
   pub end : is_marked marks to ≡ true
   pub closed : (place : ℕ) (arc : Arc) → LeadsOn MayGo costs marks place arc → is_marked marks place ≡ true
-  pub onward : (place : ℕ) → is_marked marks place ≡ true → (place ≡ to) ⊎ ((arc : Arc) × LeadsOn MayGo costs marks place arc)
+  pub onward : (place : ℕ) → is_marked marks place ≡ true →
+      (place ≡ to) ⊎ ((arc : Arc) × LeadsOn MayGo costs marks place arc)
 
 -- of those that lead on from the place this arc has the least link
-pub record IsBest (MayGo : ℕ → Arc → Type 0) (costs : List (Option ℕ)) (marks : List Bool) (place : ℕ) (arc : Arc) : Type 0 where
+pub record IsBest (MayGo : ℕ → Arc → Type 0) (costs : List (Option ℕ)) (marks : List Bool) (place : ℕ)
+    (arc : Arc) : Type 0 where
   pub leads : LeadsOn MayGo costs marks place arc
   pub best : (other : Arc) → LeadsOn MayGo costs marks place other → arc.link.0 ≤ other.link.0
 
-pub record Follows (MayGo : ℕ → Arc → Type 0) (costs : List (Option ℕ)) (marks : List Bool) (places : List Place) (place : ℕ) (step : Step) (arc : Arc) : Type 0 where
+pub record Follows (MayGo : ℕ → Arc → Type 0) (costs : List (Option ℕ)) (marks : List Bool) (places : List Place)
+    (place : ℕ) (step : Step) (arc : Arc) : Type 0 where
   pub best : IsBest MayGo costs marks place arc
   pub node : HasNode places place step.node
   pub link : step.link ≡ arc.link
@@ -39,10 +43,12 @@ pub record Follows (MayGo : ℕ → Arc → Type 0) (costs : List (Option ℕ)) 
 -- the steps lead from the one place to the other over best arcs
 abbrev pub IsTrace : (ℕ → Arc → Type 0) → List (Option ℕ) → List Bool → List Place → ℕ → ℕ → List Step → Type 0
 IsTrace MayGo costs marks places from to [] = from ≡ to
-IsTrace MayGo costs marks places from to (step ∷ steps) = (arc : Arc) × Follows MayGo costs marks places from step arc × IsTrace MayGo costs marks places arc.head to steps
+IsTrace MayGo costs marks places from to (step ∷ steps) = (arc : Arc) ×
+    Follows MayGo costs marks places from step arc × IsTrace MayGo costs marks places arc.head to steps
 
 -- the steps are a trace inside the marked places
-pub record IsTraced (MayGo : ℕ → Arc → Type 0) (costs : List (Option ℕ)) (places : List Place) (from to : ℕ) (steps : List Step) : Type 0 where
+pub record IsTraced (MayGo : ℕ → Arc → Type 0) (costs : List (Option ℕ)) (places : List Place) (from to : ℕ)
+    (steps : List Step) : Type 0 where
   pub marks : List Bool
   pub marked : AreMarked MayGo costs to marks
   pub trace : IsTrace MayGo costs marks places from to steps
@@ -50,11 +56,14 @@ pub record IsTraced (MayGo : ℕ → Arc → Type 0) (costs : List (Option ℕ))
 -- the entries are the nodes of the places that have a cost, with that cost
 pub record AreEntries (places : List Place) (costs : List (Option ℕ)) (entries : List (NodeId × ℕ)) : Type 0 where
   pub rising : AllPairs (λ x y. x.0.0 < y.0.0) entries
-  pub sound : (n : NodeId) (cost : ℕ) → Contains entries (n, cost) → (place : ℕ) × HasNode places place n × (cost_at costs place ≡ Some cost)
-  pub complete : (place : ℕ) (n : NodeId) (cost : ℕ) → HasNode places place n → cost_at costs place ≡ Some cost → Contains entries (n, cost)
+  pub sound : (n : NodeId) (cost : ℕ) → Contains entries (n, cost) → (place : ℕ) × HasNode places place n ×
+      (cost_at costs place ≡ Some cost)
+  pub complete : (place : ℕ) (n : NodeId) (cost : ℕ) → HasNode places place n → cost_at costs place ≡ Some cost →
+      Contains entries (n, cost)
 
 -- the arc's row isn't closed, and the arc is tight from a place of this cost and leads to a marked place
-pub record IsLeading (closed : List Bool) (costs : List (Option ℕ)) (marks : List Bool) (cost : ℕ) (arc : Arc) : Type 0 where
+pub record IsLeading (closed : List Bool) (costs : List (Option ℕ)) (marks : List Bool) (cost : ℕ)
+    (arc : Arc) : Type 0 where
   pub row : is_marked closed arc.row ≡ false
   pub marked : is_marked marks arc.head ≡ true
   pub head : cost_at costs arc.head ≡ Some (cost + arc.metric)

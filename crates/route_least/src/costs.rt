@@ -35,7 +35,8 @@ pub(crate) fn least_costs(
     requires sound { AreSound (length closed.now) places.now }
     requires start { start < length places.now }
     ensures len { IfOk result (λ costs. length costs.items ≡ length places.now) }
-    ensures least { IfOk result (λ costs. AreLeast (Goes places.now closed.now banned.now) start costs.items) }
+    ensures least { IfOk result
+        (λ costs. AreLeast (Goes places.now closed.now banned.now) start costs.items) }
     ensures small { IfOk result (λ costs. AreSmall costs.items) }
 {
     let mut costs = no_costs(alloc, places.len())?;
@@ -74,7 +75,10 @@ fn pass(
     requires lowered { length lowered.old ≡ length places.now }
     requires bounded { AreBounded costs.old }
     ensures step { IsStep (Goes places.now closed.now banned.now) costs.old costs.new }
-    ensures settled { AreSettled (Goes places.now closed.now banned.now) (λ p. is_marked lowered.old p ≡ false) costs.old → AreSettled (Goes places.now closed.now banned.now) (λ p. is_marked lowered.new p ≡ false) costs.new }
+    ensures settled { AreSettled (Goes places.now closed.now banned.now)
+        (λ p. is_marked lowered.old p ≡ false) costs.old →
+        AreSettled (Goes places.now closed.now banned.now)
+        (λ p. is_marked lowered.new p ≡ false) costs.new }
     ensures none { result ≡ false → (p : ℕ) → is_marked lowered.new p ≡ false }
     ensures falls { result ≡ true → sum_by height costs.new < sum_by height costs.old }
 {
@@ -102,10 +106,14 @@ fn visit(
     requires lowered { length lowered.old ≡ length places.now }
     requires bounded { AreBounded costs.old }
     ensures step { IsStep (Goes places.now closed.now banned.now) costs.old costs.new }
-    ensures settled { AreSettled (Goes places.now closed.now banned.now) (λ p. is_marked lowered.old p ≡ false) costs.old → AreSettled (Goes places.now closed.now banned.now) (λ p. is_marked lowered.new p ≡ false) costs.new }
+    ensures settled { AreSettled (Goes places.now closed.now banned.now)
+        (λ p. is_marked lowered.old p ≡ false) costs.old →
+        AreSettled (Goes places.now closed.now banned.now)
+        (λ p. is_marked lowered.new p ≡ false) costs.new }
     ensures kept { result ≡ false → costs.new ≡ costs.old }
     ensures off { result ≡ false → is_marked lowered.new place ≡ false }
-    ensures none { result ≡ false → (p : ℕ) → is_marked lowered.old p ≡ false → is_marked lowered.new p ≡ false }
+    ensures none { result ≡ false → (p : ℕ) → is_marked lowered.old p ≡ false →
+        is_marked lowered.new p ≡ false }
     ensures falls { result ≡ true → sum_by height costs.new < sum_by height costs.old }
 {
     if !lowered[place] {
@@ -130,7 +138,10 @@ fn relax(
     requires lowered { length lowered.old ≡ length places.now }
     requires bounded { AreBounded costs.old }
     ensures step { IsStep (Goes places.now closed.now banned.now) costs.old costs.new }
-    ensures settled { AreSettled (Goes places.now closed.now banned.now) (λ p. (p ≢ place) × (is_marked lowered.old p ≡ false)) costs.old → AreSettled (Goes places.now closed.now banned.now) (λ p. is_marked lowered.new p ≡ false) costs.new }
+    ensures settled { AreSettled (Goes places.now closed.now banned.now)
+        (λ p. (p ≢ place) × (is_marked lowered.old p ≡ false)) costs.old →
+        AreSettled (Goes places.now closed.now banned.now)
+        (λ p. is_marked lowered.new p ≡ false) costs.new }
     ensures kept { result ≡ false → (costs.new ≡ costs.old) × (lowered.new ≡ lowered.old) }
     ensures falls { result ≡ true → sum_by height costs.new < sum_by height costs.old }
 {
@@ -160,7 +171,8 @@ fn lower(
     requires costs { length costs.old ≡ length places.now }
     requires small { cost < 16777216 }
     ensures kept { result ≡ false → costs.new ≡ costs.old }
-    ensures settled { result ≡ false → IsFree places.now closed.now banned.now arc.now → IsAtMostOver costs.old cost arc.now }
+    ensures settled { result ≡ false → IsFree places.now closed.now banned.now arc.now →
+        IsAtMostOver costs.old cost arc.now }
     ensures free { result ≡ true → IsFree places.now closed.now banned.now arc.now }
     ensures lowered { result ≡ true → IsLowered arc.now cost costs.old costs.new }
 {

@@ -25,7 +25,8 @@ pub(crate) fn leading(
     requires small { AreSmall costs.now }
     requires end { end < length places.now }
     ensures len { IfOk result (λ marks. length marks.items ≡ length places.now) }
-    ensures marked { IfOk result (λ marks. AreMarked (Crosses places.now closed.now) costs.now end marks.items) }
+    ensures marked { IfOk result
+        (λ marks. AreMarked (Crosses places.now closed.now) costs.now end marks.items) }
 {
     let mut marks = no_marks(alloc, places.len())?;
     let mut waiting = Vec::new(alloc);
@@ -52,9 +53,13 @@ fn mark_before(
     requires place { place < length places.now }
     requires marks { length marks.old ≡ length places.now }
     requires marked { is_marked marks.old place ≡ true }
-    ensures marked { OnOk result (HasMarked marks.old marks.new waiting.old.items waiting.new.items) }
-    ensures onward { OnOk result ((end : ℕ) → AreOnward (Crosses places.now closed.now) costs.now end marks.old → AreOnward (Crosses places.now closed.now) costs.now end marks.new) }
-    ensures before { OnOk result ((p : ℕ) (arc : Arc) → Crosses places.now closed.now p arc → IsTight costs.now p arc → arc.head ≡ place → is_marked marks.new p ≡ true) }
+    ensures marked { OnOk result
+        (HasMarked marks.old marks.new waiting.old.items waiting.new.items) }
+    ensures onward { OnOk result
+        ((end : ℕ) → AreOnward (Crosses places.now closed.now) costs.now end marks.old →
+        AreOnward (Crosses places.now closed.now) costs.now end marks.new) }
+    ensures before { OnOk result ((p : ℕ) (arc : Arc) → Crosses places.now closed.now p arc →
+        IsTight costs.now p arc → arc.head ≡ place → is_marked marks.new p ≡ true) }
 {
     let Some(cost) = costs[place] else {
         return Ok(());

@@ -38,10 +38,20 @@ pub fn least(
     requires ends { HaveFewEnds rows.now }
     requires metrics { HaveMetrics rows.now }
     requires links { HaveDistinctLinks rows.now }
-    ensures route { IfOk result (λ found. IsLeast (IsWalk rows.now (Contains banned.now.links) (Contains banned.now.nodes) from to) found.route found.cost) }
-    ensures potential { IfOk result (λ found. ArePotentials (IsWalk rows.now (Contains banned.now.links) (Contains banned.now.nodes) from) found.potential) }
-    ensures certificate { IfOk result (λ found. Certify rows.now (Contains banned.now.links) (Contains banned.now.nodes) from found.potential × Contains found.potential (to, found.cost)) }
-    ensures none { IfErr result (λ fault. IsRefusal rows.now (Contains banned.now.links) (Contains banned.now.nodes) from to fault) }
+    ensures route { IfOk result
+        (λ found. IsLeast (IsWalk rows.now (Contains banned.now.links)
+        (Contains banned.now.nodes) from to) found.route found.cost) }
+    ensures potential { IfOk result
+        (λ found. ArePotentials
+        (IsWalk rows.now (Contains banned.now.links)
+        (Contains banned.now.nodes) from) found.potential) }
+    ensures certificate { IfOk result
+        (λ found. Certify rows.now (Contains banned.now.links)
+        (Contains banned.now.nodes) from found.potential ×
+        Contains found.potential (to, found.cost)) }
+    ensures none { IfErr result
+        (λ fault. IsRefusal rows.now (Contains banned.now.links)
+        (Contains banned.now.nodes) from to fault) }
 {
     let network = RouteNetwork::new(alloc, rows)?;
     let closed = rows_of(alloc, rows, banned.links.items())?;

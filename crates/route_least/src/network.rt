@@ -56,8 +56,10 @@ impl RouteNetwork {
         banned: &[NodeId],
     ) -> Result<Found, RouteFault>
         requires { IsPrepared (length closed.now) self.now }
-        ensures found { (rows : List TeRow) → IsNetworkOf rows self.now → IfOk result (IsLeastFound rows closed.now banned.now from to) }
-        ensures none { (rows : List TeRow) → IsNetworkOf rows self.now → IfErr result (IsRefusal rows (IsClosed rows closed.now) (Contains banned.now) from to) }
+        ensures found { (rows : List TeRow) → IsNetworkOf rows self.now →
+            IfOk result (IsLeastFound rows closed.now banned.now from to) }
+        ensures none { (rows : List TeRow) → IsNetworkOf rows self.now →
+            IfErr result (IsRefusal rows (IsClosed rows closed.now) (Contains banned.now) from to) }
     {
         match place_of(&self.places, from) {
             None => alone(alloc, from, to),
@@ -127,7 +129,9 @@ fn least_from(
 fn cost_to(places: &[Place], costs: &[Option<u32>], to: NodeId) -> Option<(usize, u32)>
     requires costs { length costs.now ≡ length places.now }
     requires once { AreOnce places.now }
-    ensures { MatchOption result ((p cost : ℕ) → HasNode places.now p to → cost_at costs.now p ≡ Some cost → ⊥) (λ end. HasNode places.now end.0 to × (cost_at costs.now end.0 ≡ Some end.1)) }
+    ensures { MatchOption result
+        ((p cost : ℕ) → HasNode places.now p to → cost_at costs.now p ≡ Some cost → ⊥)
+        (λ end. HasNode places.now end.0 to × (cost_at costs.now end.0 ≡ Some end.1)) }
 {
     match place_of(places, to) {
         None => None,
@@ -152,7 +156,8 @@ fn least_route(
     requires from { ends.0 < length places.now }
     requires to { ends.1 < length places.now }
     requires leads { IsReached places.now closed.now costs.now ends.0 ends.1 }
-    ensures { IfOk result (IsTraced (Crosses places.now closed.now) costs.now places.now ends.0 ends.1) }
+    ensures { IfOk result
+        (IsTraced (Crosses places.now closed.now) costs.now places.now ends.0 ends.1) }
 {
     let marks = leading(alloc, places, closed, costs, ends.1)?;
     follow(alloc, places, closed, costs, &marks, ends)

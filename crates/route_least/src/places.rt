@@ -32,7 +32,8 @@ const ARCS: usize = 16;
 
 /// The place of a node.
 pub(crate) fn place_of(places: &[Place], node: NodeId) -> Option<usize>
-    ensures { MatchOption result ((p : ℕ) → ¬ HasNode places.now p node) (λ p. HasNode places.now p node) }
+    ensures { MatchOption result ((p : ℕ) → ¬ HasNode places.now p node)
+        (λ p. HasNode places.now p node) }
 {
     for index in 0..places.len() {
         if places[index].node == node {

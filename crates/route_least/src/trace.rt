@@ -28,7 +28,9 @@ pub(crate) fn follow(
     requires marked { AreMarked (Crosses places.now closed.now) costs.now ends.1 marks.now }
     requires from { ends.0 < length places.now }
     requires leads { is_marked marks.now ends.0 ≡ true }
-    ensures { IfOk result (λ route. IsTrace (Crosses places.now closed.now) costs.now marks.now places.now ends.0 ends.1 route) }
+    ensures { IfOk result
+        (λ route. IsTrace (Crosses places.now closed.now) costs.now marks.now places.now ends.0
+        ends.1 route) }
 {
     let mut route = Steps::new(alloc);
     let mut place = ends.0;
@@ -59,7 +61,9 @@ fn best_arc(
     requires marks { length marks.now ≡ length places.now }
     requires small { AreSmall costs.now }
     requires place { place < length places.now }
-    ensures { MatchOption result ((arc : Arc) → ¬ LeadsOn (Crosses places.now closed.now) costs.now marks.now place arc) (λ arc. IsBest (Crosses places.now closed.now) costs.now marks.now place arc) }
+    ensures { MatchOption result
+        ((arc : Arc) → ¬ LeadsOn (Crosses places.now closed.now) costs.now marks.now place arc)
+        (λ arc. IsBest (Crosses places.now closed.now) costs.now marks.now place arc) }
 {
     let Some(cost) = costs[place] else {
         return None;

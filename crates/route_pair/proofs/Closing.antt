@@ -22,7 +22,8 @@ before_or_last place k h = grind arith
 
 -- SRLGs
 
-module _ (rows : List TeRow) (used : List Bool) (k : ℕ) (d : TeRow) (srlgs : List ℕ) (within : k < length rows) (are : AreSrlgsOf rows used k srlgs) where
+module _ (rows : List TeRow) (used : List Bool) (k : ℕ) (d : TeRow) (srlgs : List ℕ) (within : k < length rows)
+    (are : AreSrlgsOf rows used k srlgs) where
   here : slice_get rows k ≡ Some (get_or rows k d)
   here = slice_get-get_or rows k d within
 
@@ -39,8 +40,10 @@ module _ (rows : List TeRow) (used : List Bool) (k : ℕ) (d : TeRow) (srlgs : L
       | inr new ↦ (k, get_or rows k d, (omega arith), here, on, new)
     ]),
     (λ has. elim (before_or_last has.0 k has.2) [
-      | inl before ↦ Contains-append_left srlgs (get_or rows k d).srlgs x ((are x).1 (has.0, has.1, before, has.3, has.4, has.5))
-      | inr e ↦ Contains-append_right srlgs (get_or rows k d).srlgs x (subst (λ r. Contains r.srlgs x) (sym (is_here has.0 has.1 e has.3)) has.5)
+      | inl before ↦ Contains-append_left srlgs (get_or rows k d).srlgs x
+          ((are x).1 (has.0, has.1, before, has.3, has.4, has.5))
+      | inr e ↦ Contains-append_right srlgs (get_or rows k d).srlgs x
+          (subst (λ r. Contains r.srlgs x) (sym (is_here has.0 has.1 e has.3)) has.5)
     ]),
   )
 
@@ -54,25 +57,32 @@ module _ (rows : List TeRow) (used : List Bool) (k : ℕ) (d : TeRow) (srlgs : L
   )
 
 pub no_srlgs : (rows : List TeRow) (used : List Bool) (srlgs : List ℕ) → srlgs ≡ [] → AreSrlgsOf rows used 0 srlgs
-no_srlgs rows used srlgs none x = ((λ h. absurd (nothing srlgs x none h)), (λ has. absurd (let h : has.0 < 0 = has.2 in omega arith)))
+no_srlgs rows used srlgs none x = (
+  (λ h. absurd (nothing srlgs x none h)),
+  (λ has. absurd (let h : has.0 < 0 = has.2 in omega arith)),
+)
 
 -- Closed rows
 
 pub none_closed : (rows : List TeRow) (srlgs : List ℕ) (old : List Bool) → AreClosedToo rows srlgs 0 old old
 none_closed rows srlgs old = record { len = refl; are = λ k row below at. absurd (omega arith); rest = λ k from. refl }
 
-module _ (rows : List TeRow) (srlgs : List ℕ) (k : ℕ) (d : TeRow) (old new : List Bool) (within : k < length rows) (are : AreClosedToo rows srlgs k old new) where
+module _ (rows : List TeRow) (srlgs : List ℕ) (k : ℕ) (d : TeRow) (old new : List Bool) (within : k < length rows)
+    (are : AreClosedToo rows srlgs k old new) where
   at_here : (i : ℕ) (row : TeRow) → i ≡ k → slice_get rows i ≡ Some row → get_or rows k d ≡ row
-  at_here i row e at = some_same (sym (slice_get-get_or rows k d within) ∙ subst (λ j. slice_get rows j ≡ Some row) e at)
+  at_here i row e at = some_same (sym (slice_get-get_or rows k d within) ∙
+      subst (λ j. slice_get rows j ≡ Some row) e at)
 
   below_apart : (i : ℕ) → i < k → (i ≡ k → ⊥)
   below_apart i less e = absurd (omega arith)
 
-  pub closed_more : k < length new → HasOne (get_or rows k d) srlgs → AreClosedToo rows srlgs (k + 1) old (set new k true)
+  pub closed_more : k < length new → HasOne (get_or rows k d) srlgs →
+      AreClosedToo rows srlgs (k + 1) old (set new k true)
   closed_more inside has = record {
     len = length-set new k true ∙ are.len;
     are = λ i row below at. elim (before_or_last i k below) [
-      | inl before ↦ subst (λ b. (b ≡ true) ↔ ((is_marked old i ≡ true) ⊎ HasOne row srlgs)) (sym (marked_other new k i true (below_apart i before))) (are.are i row before at)
+      | inl before ↦ subst (λ b. (b ≡ true) ↔ ((is_marked old i ≡ true) ⊎ HasOne row srlgs))
+          (sym (marked_other new k i true (below_apart i before))) (are.are i row before at)
       | inr e ↦ (
         (λ on. inr (subst (λ r. HasOne r srlgs) (at_here i row e at) has)),
         (λ h. subst (λ j. is_marked (set new k true) j ≡ true) (sym e) (marked_same new k true inside)),
@@ -89,7 +99,11 @@ module _ (rows : List TeRow) (srlgs : List ℕ) (k : ℕ) (d : TeRow) (old new :
       | inr e ↦
           (let same : is_marked new i ≡ is_marked old i = are.rest i (omega arith) in (
             (λ on. inl (sym same ∙ on)),
-            (λ h. elim h [ inl on ↦ same ∙ on | inr one ↦ absurd (none (subst (λ r. HasOne r srlgs) (sym (at_here i row e at)) one)) ]),
+            (λ h. elim h [
+              | inl on ↦ same ∙ on
+              | inr one ↦ absurd
+                  (none (subst (λ r. HasOne r srlgs) (sym (at_here i row e at)) one))
+            ]),
           ))
     ];
     rest = λ i from. are.rest i (omega arith);
@@ -102,15 +116,23 @@ link_risk row = Contains-push (map Srlg row.srlgs) (Link row.link)
 
 srlg_risk : (row : TeRow) (x : ℕ) → Contains row.srlgs x → Contains (risks_of row) (Srlg x)
 srlg_risk row x there =
-    Contains-append_left (map Srlg row.srlgs) (Link row.link ∷ []) (Srlg x)
-    (there.0, subst (λ n. there.0 < n) (sym (length-map row.srlgs Srlg)) there.1, get_or-map Srlg row.srlgs there.0 x (Srlg x) there.1 ∙ ap Srlg there.2)
+    Contains-append_left (map Srlg row.srlgs) (Link row.link ∷ []) (Srlg x) (
+      there.0,
+      subst (λ n. there.0 < n) (sym (length-map row.srlgs Srlg)) there.1,
+      get_or-map Srlg row.srlgs there.0 x (Srlg x) there.1 ∙ ap Srlg there.2,
+    )
 
-srlg_or_link : (row : TeRow) (r : Risk) → Contains (risks_of row) r → ((x : ℕ) × Contains row.srlgs x × (Srlg x ≡ r)) ⊎ (Link row.link ≡ r)
+srlg_or_link : (row : TeRow) (r : Risk) → Contains (risks_of row) r →
+    ((x : ℕ) × Contains row.srlgs x × (Srlg x ≡ r)) ⊎ (Link row.link ≡ r)
 srlg_or_link row r has = elim (Contains-push_cases (map Srlg row.srlgs) (Link row.link) r has) [
   | inl srlg ↦
       (let within : srlg.0 < length row.srlgs = subst (λ n. srlg.0 < n) (length-map row.srlgs Srlg) srlg.1 in
       let x : ℕ = get_or row.srlgs srlg.0 0 in
-      inl (x, (srlg.0, within, get_default row.srlgs srlg.0 x within), sym (get_or-map Srlg row.srlgs srlg.0 0 r within) ∙ srlg.2))
+      inl (
+        x,
+        (srlg.0, within, get_default row.srlgs srlg.0 x within),
+        sym (get_or-map Srlg row.srlgs srlg.0 0 r within) ∙ srlg.2,
+      ))
   | inr same ↦ inr same
 ]
   where
@@ -134,7 +156,9 @@ known_row rows k row at = (k, slice_get_within rows k row at, get_or_from_slice_
 
 -- The rows with a risk of the route
 
-module _ (rows : List TeRow) (route : List Step) (used closed : List Bool) (srlgs : List ℕ) (on_route : AreUsed rows route (length rows) used) (are : AreSrlgsOf rows used (length rows) srlgs) (too : AreClosedToo rows srlgs (length rows) used closed) where
+module _ (rows : List TeRow) (route : List Step) (used closed : List Bool) (srlgs : List ℕ)
+    (on_route : AreUsed rows route (length rows) used) (are : AreSrlgsOf rows used (length rows) srlgs)
+    (too : AreClosedToo rows srlgs (length rows) used closed) where
   shares : (l : LinkId) → IsClosed rows closed l → SharesRisk rows route l
   shares l shut =
       let row = shut.1 in
@@ -146,25 +170,37 @@ module _ (rows : List TeRow) (route : List Step) (used closed : List Bool) (srlg
             (row, Link row.link, known, shut.3, link_risk row, (row, step.0, known, step.1, step.2, link_risk row)))
         | inr one ↦
             (let of = (are one.0).0 one.2 in
-            let step = (on_route.are of.0 of.1 of.2 of.3).0 of.4 in
-            (row, Srlg one.0, known, shut.3, srlg_risk row one.0 one.1, (of.1, step.0, known_row rows of.0 of.1 of.3, step.1, step.2, srlg_risk of.1 one.0 of.5)))
+            let step = (on_route.are of.0 of.1 of.2 of.3).0 of.4 in (
+              row,
+              Srlg one.0,
+              known,
+              shut.3,
+              srlg_risk row one.0 one.1,
+              (of.1, step.0, known_row rows of.0 of.1 of.3, step.1, step.2, srlg_risk of.1 one.0 of.5),
+            ))
       ]
 
-  shut_link : (row other : TeRow) (s : Step) (known : Contains rows row) → Contains route s → other.link ≡ s.link → row.link ≡ other.link → is_marked closed known.0 ≡ true
+  shut_link : (row other : TeRow) (s : Step) (known : Contains rows row) → Contains route s → other.link ≡ s.link →
+      row.link ≡ other.link → is_marked closed known.0 ≡ true
   shut_link row other s known there same link =
       (too.are known.0 row known.1 (known_at rows row known)).1
       (inl ((on_route.are known.0 row known.1 (known_at rows row known)).1 (s, there, link ∙ same)))
 
-  shut_srlg : (row other : TeRow) (s : Step) (x : ℕ) (known : Contains rows row) → Contains rows other → Contains route s → other.link ≡ s.link → Contains row.srlgs x → Contains other.srlgs x → is_marked closed known.0 ≡ true
+  shut_srlg : (row other : TeRow) (s : Step) (x : ℕ) (known : Contains rows row) → Contains rows other →
+      Contains route s → other.link ≡ s.link → Contains row.srlgs x → Contains other.srlgs x →
+      is_marked closed known.0 ≡ true
   shut_srlg row other s x known also there same mine theirs =
       let on = (on_route.are also.0 other also.1 (known_at rows other also)).1 (s, there, same) in
       (too.are known.0 row known.1 (known_at rows row known)).1
       (inr (x, mine, (are x).1 (also.0, other, also.1, known_at rows other also, on, theirs)))
 
-  shut_row : (row other : TeRow) (s : Step) (r : Risk) (known : Contains rows row) → Contains rows other → Contains route s → other.link ≡ s.link → Contains (risks_of row) r → Contains (risks_of other) r → is_marked closed known.0 ≡ true
+  shut_row : (row other : TeRow) (s : Step) (r : Risk) (known : Contains rows row) → Contains rows other →
+      Contains route s → other.link ≡ s.link → Contains (risks_of row) r → Contains (risks_of other) r →
+      is_marked closed known.0 ≡ true
   shut_row row other s r known also there same mine theirs = elim (srlg_or_link row r mine) [
     | inl x ↦ elim (srlg_or_link other r theirs) [
-      | inl y ↦ shut_srlg row other s x.0 known also there same x.1 (subst (Contains other.srlgs) (same_srlg y.0 x.0 (y.2 ∙ sym x.2)) y.1)
+      | inl y ↦ shut_srlg row other s x.0 known also there same x.1
+          (subst (Contains other.srlgs) (same_srlg y.0 x.0 (y.2 ∙ sym x.2)) y.1)
       | inr link ↦ absurd (apart x.0 other.link (x.2 ∙ sym link))
     ]
     | inr link ↦ elim (srlg_or_link other r theirs) [
@@ -180,7 +216,8 @@ module _ (rows : List TeRow) (route : List Step) (used closed : List Bool) (srlg
   )
 
 -- none of the row's SRLGs is in the list, if none was before the end
-pub no_one : (row : TeRow) (srlgs own : List ℕ) (n : ℕ) → own ≡ row.srlgs → length own ≤ n → ((k : ℕ) → k < n → ¬ Contains srlgs (get_or own k 0)) → ¬ HasOne row srlgs
+pub no_one : (row : TeRow) (srlgs own : List ℕ) (n : ℕ) → own ≡ row.srlgs → length own ≤ n →
+    ((k : ℕ) → k < n → ¬ Contains srlgs (get_or own k 0)) → ¬ HasOne row srlgs
 no_one row srlgs own n same past none one =
     let mine : Contains own one.0 = subst (λ xs. Contains xs one.0) (sym same) one.1 in
     let is : get_or own mine.0 0 ≡ one.0 = get_or_default own mine.0 0 one.0 mine.1 ∙ mine.2 in

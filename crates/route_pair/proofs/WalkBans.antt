@@ -22,27 +22,39 @@ in_tail x y xs there = Contains-append_right (x ∷ []) xs y there
 head_or_tail : {X : Type 0} (x y : X) (xs : List X) → Contains (x ∷ xs) y → (x ≡ y) ⊎ Contains xs y
 head_or_tail x y xs there =
     elim (Contains-append_cases (x ∷ []) xs y there) [
-      | inl head ↦ elim (Contains-push_cases [] x y head) [ inl none ↦ inr (absurd (let h : none.0 < 0 = none.1 in omega arith)) | inr same ↦ inl same ]
+      | inl head ↦ elim (Contains-push_cases [] x y head) [
+        | inl none ↦ inr
+            (absurd (let h : none.0 < 0 = none.1 in omega arith))
+        | inr same ↦ inl same
+      ]
       | inr tail ↦ inr tail
     ]
 
 known_row : (rows : List TeRow) (row : TeRow) (l : LinkId) → Contains rows row → l ≡ row.link → has_row rows l ≡ true
-known_row rows row l known same = list_any_at (λ r. r.link.0 == l.0) rows known.0 row known.1 (eq-eqb (get_or rows known.0 row).link.0 l.0 (ap (λ r. r.link.0) known.2 ∙ sym (ap (λ x. x.0) same)))
+known_row rows row l known same = list_any_at (λ r. r.link.0 == l.0) rows known.0 row known.1
+    (eq-eqb (get_or rows known.0 row).link.0 l.0 (ap (λ r. r.link.0) known.2 ∙ sym (ap (λ x. x.0) same)))
 
 pub none_in : {X : Type 0} (xs : List X) → xs ≡ [] → (x : X) → Contains xs x ↔ ⊥
-none_in xs none x = ((λ there. (let h : there.0 < 0 = subst (λ ys. there.0 < length ys) none there.1 in absurd (omega arith))), (λ h. absurd h))
+none_in xs none x = (
+  (λ there. (let h : there.0 < 0 =
+      subst (λ ys. there.0 < length ys) none there.1 in absurd (omega arith))),
+  (λ h. absurd h),
+)
 
 module _ (rows : List TeRow) (BannedLink : LinkId → Type 0) (BannedNode : NodeId → Type 0) where
   -- a walk uses no banned link, and visits no banned node after its start
-  pub step_link : (a b : NodeId) (steps : List Step) (cost : ℕ) → IsWalk rows BannedLink BannedNode a b steps cost → (s : Step) → Contains steps s → ¬ BannedLink s.link
+  pub step_link : (a b : NodeId) (steps : List Step) (cost : ℕ) → IsWalk rows BannedLink BannedNode a b steps cost →
+      (s : Step) → Contains steps s → ¬ BannedLink s.link
   step_link a b [] cost walk s there = absurd (let h : there.0 < 0 = there.1 in omega arith)
   step_link a b (t ∷ steps) cost walk s there =
       elim (head_or_tail t s steps there) [
-        | inl same ↦ (λ banned. walk.3.link_allowed (subst BannedLink (ap (λ x. x.link) (sym same) ∙ walk.3.link) banned))
+        | inl same ↦ (λ banned. walk.3.link_allowed (subst BannedLink
+            (ap (λ x. x.link) (sym same) ∙ walk.3.link) banned))
         | inr later ↦ step_link walk.1 b steps walk.2 walk.4 s later
       ]
 
-  pub step_node : (a b : NodeId) (steps : List Step) (cost : ℕ) → IsWalk rows BannedLink BannedNode a b steps cost → (s : Step) → Contains steps s → (s.node ≡ a) ⊎ (¬ BannedNode s.node)
+  pub step_node : (a b : NodeId) (steps : List Step) (cost : ℕ) → IsWalk rows BannedLink BannedNode a b steps cost →
+      (s : Step) → Contains steps s → (s.node ≡ a) ⊎ (¬ BannedNode s.node)
   step_node a b [] cost walk s there = absurd (let h : there.0 < 0 = there.1 in omega arith)
   step_node a b (t ∷ steps) cost walk s there =
       elim (head_or_tail t s steps there) [
@@ -54,17 +66,22 @@ module _ (rows : List TeRow) (BannedLink : LinkId → Type 0) (BannedNode : Node
       ]
 
   -- each link of a walk has a row
-  pub known_links : (a b : NodeId) (steps : List Step) (cost : ℕ) → IsWalk rows BannedLink BannedNode a b steps cost → unknown_link rows steps ≡ None
+  pub known_links : (a b : NodeId) (steps : List Step) (cost : ℕ) →
+      IsWalk rows BannedLink BannedNode a b steps cost → unknown_link rows steps ≡ None
   known_links a b [] cost walk = refl
   known_links a b (t ∷ steps) cost walk =
       let there : has_row rows t.link ≡ true = known_row rows walk.0 t.link walk.3.known walk.3.link in
       rw there (known_links walk.1 b steps walk.2 walk.4)
 
-module _ (rows : List TeRow) (primary : List Step) (from to : NodeId) (Link : LinkId → Type 0) (Node : NodeId → Type 0) (links : (l : LinkId) → Link l ↔ SharesRisk rows primary l) (nodes : (n : NodeId) → Node n ↔ IsInner from to primary n) where
+module _ (rows : List TeRow) (primary : List Step) (from to : NodeId) (Link : LinkId → Type 0)
+    (Node : NodeId → Type 0) (links : (l : LinkId) → Link l ↔ SharesRisk rows primary l)
+    (nodes : (n : NodeId) → Node n ↔ IsInner from to primary n) where
   -- a walk that keeps off the primary route's risks and inner nodes is a backup
-  pub backup_of : (route : List Step) (cost : ℕ) → IsWalk rows Link Node from to route cost → IsBackup rows primary from to route cost
+  pub backup_of : (route : List Step) (cost : ℕ) → IsWalk rows Link Node from to route cost →
+      IsBackup rows primary from to route cost
   backup_of route cost walk = record {
-    walk = fewer_walk rows Link NoLink Node NoNode (λ row known none. absurd none) (λ n none. absurd none) from to route cost walk;
+    walk = fewer_walk rows Link NoLink Node NoNode (λ row known none. absurd none)
+        (λ n none. absurd none) from to route cost walk;
     risks = λ r mine theirs.
         step_link rows Link Node from to route cost walk mine.1 mine.3
         (subst Link mine.4 ((links mine.0.link).1 (mine.0, r, mine.2, refl, mine.5, theirs)));
@@ -78,11 +95,14 @@ module _ (rows : List TeRow) (primary : List Step) (from to : NodeId) (Link : Li
   not_end : Node to → ⊥
   not_end banned = ((nodes to).0 banned).4 refl
 
-  next_allowed : (n : NodeId) (steps : List Step) (cost : ℕ) → IsWalk rows NoLink NoNode n to steps cost → ((s : Step) → Contains steps s → ¬ Node s.node) → ¬ Node n
+  next_allowed : (n : NodeId) (steps : List Step) (cost : ℕ) → IsWalk rows NoLink NoNode n to steps cost →
+      ((s : Step) → Contains steps s → ¬ Node s.node) → ¬ Node n
   next_allowed n [] cost walk off = λ banned. not_end (subst Node walk.0 banned)
   next_allowed n (s ∷ steps) cost walk off = λ banned. off s (in_head s steps) (subst Node (sym walk.3.sender) banned)
 
-  kept_off : (a : NodeId) (steps : List Step) (cost : ℕ) → IsWalk rows NoLink NoNode a to steps cost → ((s : Step) → Contains steps s → ¬ Link s.link) → ((s : Step) → Contains steps s → ¬ Node s.node) → IsWalk rows Link Node a to steps cost
+  kept_off : (a : NodeId) (steps : List Step) (cost : ℕ) → IsWalk rows NoLink NoNode a to steps cost →
+      ((s : Step) → Contains steps s → ¬ Link s.link) → ((s : Step) → Contains steps s → ¬ Node s.node) →
+      IsWalk rows Link Node a to steps cost
   kept_off a [] cost walk off_links off_nodes = walk
   kept_off a (s ∷ steps) cost walk off_links off_nodes = (
     walk.0,
@@ -96,13 +116,17 @@ module _ (rows : List TeRow) (primary : List Step) (from to : NodeId) (Link : Li
       link_allowed = λ banned. off_links s (in_head s steps) (subst Link (sym walk.3.link) banned);
       node_allowed = next_allowed walk.1 steps walk.2 walk.4 (λ t there. off_nodes t (in_tail s t steps there));
     },
-    kept_off walk.1 steps walk.2 walk.4 (λ t there. off_links t (in_tail s t steps there)) (λ t there. off_nodes t (in_tail s t steps there)),
+    kept_off walk.1 steps walk.2 walk.4 (λ t there. off_links t (in_tail s t steps there))
+        (λ t there. off_nodes t (in_tail s t steps there)),
     walk.5,
   )
 
   -- and a backup keeps off them
-  pub walk_of : (route : List Step) (cost : ℕ) → IsBackup rows primary from to route cost → IsWalk rows Link Node from to route cost
+  pub walk_of : (route : List Step) (cost : ℕ) → IsBackup rows primary from to route cost →
+      IsWalk rows Link Node from to route cost
   walk_of route cost backup =
       kept_off from route cost backup.walk
-      (λ s there banned. (let shares = (links s.link).0 banned in backup.risks shares.1 (shares.0, s, shares.2, there, shares.3, shares.4) shares.5))
-      (λ s there banned. (let inner = (nodes s.node).0 banned in backup.nodes s.node (s, there, refl, inner.3, inner.4) inner))
+      (λ s there banned. (let shares = (links s.link).0 banned in backup.risks shares.1
+      (shares.0, s, shares.2, there, shares.3, shares.4) shares.5))
+      (λ s there banned. (let inner = (nodes s.node).0 banned in backup.nodes s.node
+      (s, there, refl, inner.3, inner.4) inner))

@@ -16,7 +16,8 @@ AreUsed rows route count used = AreRowsWith (IsOnRoute route) rows count used
 
 -- an SRLG of one of the first rows, so many, that is marked
 abbrev pub IsSrlgOf : List TeRow → List Bool → ℕ → ℕ → Type 0
-IsSrlgOf rows used count x = (k : ℕ) × (row : TeRow) × (k < count) × (slice_get rows k ≡ Some row) × (is_marked used k ≡ true) × Contains row.srlgs x
+IsSrlgOf rows used count x = (k : ℕ) × (row : TeRow) × (k < count) × (slice_get rows k ≡ Some row) ×
+    (is_marked used k ≡ true) × Contains row.srlgs x
 
 abbrev pub AreSrlgsOf : List TeRow → List Bool → ℕ → List ℕ → Type 0
 AreSrlgsOf rows used count srlgs = (x : ℕ) → Contains srlgs x ↔ IsSrlgOf rows used count x
@@ -28,5 +29,6 @@ HasOne row srlgs = (x : ℕ) × Contains row.srlgs x × Contains srlgs x
 -- of the first rows, so many, those that have one of the SRLGs are marked too
 pub record AreClosedToo (rows : List TeRow) (srlgs : List ℕ) (count : ℕ) (old new : List Bool) : Type 0 where
   pub len : length new ≡ length old
-  pub are : (k : ℕ) (row : TeRow) → k < count → slice_get rows k ≡ Some row → (is_marked new k ≡ true) ↔ ((is_marked old k ≡ true) ⊎ HasOne row srlgs)
+  pub are : (k : ℕ) (row : TeRow) → k < count → slice_get rows k ≡ Some row →
+      (is_marked new k ≡ true) ↔ ((is_marked old k ≡ true) ⊎ HasOne row srlgs)
   pub rest : (k : ℕ) → count ≤ k → is_marked new k ≡ is_marked old k

@@ -25,7 +25,8 @@ pub record IsPrimary (rows : List TeRow) (from to : NodeId) (found : Found) : Ty
   pub certificate : Certify rows NoLink NoNode from found.potential
   pub end : Contains found.potential (to, found.cost)
 
--- the least route that is risk-disjoint from the primary one and shares no inner node with it; its potentials are of walks that use no
+-- the least route that is risk-disjoint from the primary one and shares no inner node with it; its potentials are of
+-- walks that use no
 -- link with a risk of the primary route and visit no inner node of it
 pub record IsBackupFound (rows : List TeRow) (primary : List Step) (from to : NodeId) (found : Found) : Type 0 where
   pub route : IsLeast (IsBackup rows primary from to) found.route found.cost

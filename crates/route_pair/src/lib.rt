@@ -31,7 +31,8 @@ pub fn pair(alloc: Global, rows: &[TeRow], from: NodeId, to: NodeId) -> Result<P
     requires metrics { HaveMetrics rows.now }
     requires links { HaveDistinctLinks rows.now }
     ensures primary { IfOk result (λ pair. IsPrimary rows.now from to pair.primary) }
-    ensures backup { IfOk result (λ pair. IsBackupFound rows.now pair.primary.route from to pair.backup) }
+    ensures backup { IfOk result
+        (λ pair. IsBackupFound rows.now pair.primary.route from to pair.backup) }
     ensures fault { IfErr result (λ fault. IsPairFault rows.now from to fault) }
 {
     match RouteNetwork::new(alloc, rows) {
@@ -50,7 +51,8 @@ pub fn pair_in(
 ) -> Result<Pair, PairFault>
     requires { IsNetworkOf rows.now network.now }
     ensures primary { IfOk result (λ pair. IsPrimary rows.now from to pair.primary) }
-    ensures backup { IfOk result (λ pair. IsBackupFound rows.now pair.primary.route from to pair.backup) }
+    ensures backup { IfOk result
+        (λ pair. IsBackupFound rows.now pair.primary.route from to pair.backup) }
     ensures fault { IfErr result (λ fault. IsPairFault rows.now from to fault) }
 {
     let primary = match primary_of(alloc, network, rows, from, to) {

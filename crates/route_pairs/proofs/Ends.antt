@@ -17,7 +17,8 @@ unfolding nodes_from
 counted first zero = refl
 counted first (suc n) = ap suc (counted (suc first) n)
 
-later : (n first k : ℕ) → Contains (nodes_from (suc first) n) (record { 0 = k }) → Contains (nodes_from first (suc n)) (record { 0 = k })
+later : (n first k : ℕ) → Contains (nodes_from (suc first) n) (record { 0 = k }) →
+    Contains (nodes_from first (suc n)) (record { 0 = k })
 unfolding nodes_from
 later n first k (place, within, same) = (suc place, grind arith, same)
 
@@ -35,7 +36,9 @@ few_ends rows all = (
   nodes_from 1 64,
   subst (λ n. n ≤ 64) (sym (counted 1 64)) (omega arith),
   λ k d within. (
-    among 64 1 (get_or rows k d).low.0 (all k d within).0.0 (let h : (get_or rows k d).low.0 ≤ 64 = (all k d within).0.1 in omega arith),
-    among 64 1 (get_or rows k d).high.0 (all k d within).1.0 (let h : (get_or rows k d).high.0 ≤ 64 = (all k d within).1.1 in omega arith),
+    among 64 1 (get_or rows k d).low.0 (all k d within).0.0
+        (let h : (get_or rows k d).low.0 ≤ 64 = (all k d within).0.1 in omega arith),
+    among 64 1 (get_or rows k d).high.0 (all k d within).1.0
+        (let h : (get_or rows k d).high.0 ≤ 64 = (all k d within).1.1 in omega arith),
   ),
 )

@@ -186,7 +186,7 @@ item-done t h n there c d i desk before after reacted stands =
 
 -- A frame
 
-desk_kept : (t : Network) (w : World) (d u : NodeId) (o : Option Content) (n : ℕ) →
+pub desk_kept : (t : Network) (w : World) (d u : NodeId) (o : Option Content) (n : ℕ) →
     (delivered t w d u o).desks n ≡ w.desks n
 desk_kept t w d u None n = refl
 desk_kept t w d u (Some (Message p)) n = go (handed_up w d u p)

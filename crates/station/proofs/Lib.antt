@@ -3,7 +3,6 @@ pub mod Linking
 pub mod Making
 pub mod NewStations
 pub mod Reacting
-pub mod Results
 pub mod Sending
 pub mod Stopping
 pub mod Taking

@@ -15,13 +15,13 @@ at_first p f (x ∷ xs) = cond (p x) (f x ∷ xs) (x ∷ at_first p f xs)
 one_more : (n : ℕ) → 1 + n ≡ suc n
 one_more n = omega arith
 
-record IsPlaced {X : Type 0} (p : X → Bool) (f : X → X) (xs : List X) (i : ℕ) : Type 0 where
-  item : X
-  there : slice_get xs i ≡ Some item
-  passes : p item ≡ true
-  changed : set xs i (f item) ≡ at_first p f xs
+pub record IsPlaced {X : Type 0} (p : X → Bool) (f : X → X) (xs : List X) (i : ℕ) : Type 0 where
+  pub item : X
+  pub there : slice_get xs i ≡ Some item
+  pub passes : p item ≡ true
+  pub changed : set xs i (f item) ≡ at_first p f xs
 
-placed : {X : Type 0} (p : X → Bool) (f : X → X) (xs : List X) → nat_lt (position_or_len p xs) (length xs) ≡ true →
+pub placed : {X : Type 0} (p : X → Bool) (f : X → X) (xs : List X) → nat_lt (position_or_len p xs) (length xs) ≡ true →
     IsPlaced p f xs (position_or_len p xs)
 placed p f [] within = absurd (cc (within))
 placed {X} p f (x ∷ xs) within = go (placed p f xs) (p x) refl within

@@ -21,7 +21,7 @@ use Rattle.station.specs.Turns.{neighbours}
 
 -- The nodes of a topology rise
 
-abbrev Rises : ℕ → List NodeSpec → Type 0
+abbrev pub Rises : ℕ → List NodeSpec → Type 0
 Rises n [] = Unit {0}
 Rises n (m ∷ ms) = (n < m.id.0) × Rises m.id.0 ms
 
@@ -49,7 +49,7 @@ at_start nodes (suc k) =
     let past : nat_eq (suc k) 0 ≡ false = grind arith in
     ap (λ b. cond b 0 (node_number (slice_get nodes (suc k - 1)))) past ∙ ap (λ j. node_number (slice_get nodes j)) less
 
-rises : (t : Network) → IsTopology t → Rises 0 t.nodes
+pub rises : (t : Network) → IsTopology t → Rises 0 t.nodes
 rises t is = rises-from 0 t.nodes (λ k below. subst (λ j. j < node_number (slice_get t.nodes k)) (at_start t.nodes k)
     (less _ _ (is.nodes k below)))
   where
@@ -58,14 +58,14 @@ rises t is = rises-from 0 t.nodes (λ k below. subst (λ j. j < node_number (sli
 
 -- and so do those that pass a test
 
-abbrev AreAbove : ℕ → List NodeId → Type 0
+abbrev pub AreAbove : ℕ → List NodeId → Type 0
 AreAbove n us = AllByRecursion (λ (u : NodeId). n < u.0) us
 
 more_above : (n k : ℕ) (us : List NodeId) → n < k → AreAbove k us → AreAbove n us
 more_above n k [] less all = tt
 more_above n k (u ∷ us) less all = ((let h : k < u.0 = all.0 in omega arith), more_above n k us less all.1)
 
-above-if : (p : NodeSpec → Bool) (n : ℕ) (nodes : List NodeSpec) → Rises n nodes →
+pub above-if : (p : NodeSpec → Bool) (n : ℕ) (nodes : List NodeSpec) → Rises n nodes →
     AreAbove n (map (λ (m : NodeSpec). m.id) (filter p nodes))
 above-if p n [] rising = tt
 above-if p n (m ∷ ms) rising = go (p m) (more_above n m.id.0 others rising.0 (above-if p m.id.0 ms rising.1))
@@ -122,7 +122,7 @@ all_map : (P : NodeId → Type 0) (Q : LinkState → Type 0) → ((u : NodeId) �
 all_map P Q f [] all = tt
 all_map P Q f (u ∷ us) all = (f u all.0, all_map P Q f us all.1)
 
-channels : (t : Network) (n : NodeId) → AllByRecursion (λ (u : NodeId). is_channel t u n ≡ true) (neighbours t n)
+pub channels : (t : Network) (n : NodeId) → AllByRecursion (λ (u : NodeId). is_channel t u n ≡ true) (neighbours t n)
 channels t n = all-near (λ m. is_channel t m.id n) (λ u. is_channel t u n) (λ m. refl) t.nodes
 
 pub new-links-fit : (t : Network) → IsTopology t → (n : NodeId) →

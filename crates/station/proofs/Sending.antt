@@ -172,7 +172,7 @@ numbered-append : (cs ds : List Content) (k : ℕ) (c : Content) → numbered_at
 numbered-append cs ds zero c e = absurd (cc (e))
 numbered-append cs ds (suc k) c e = slice_get-append cs ds k c e
 
-still-parcels : (cs ds : List Content) (ps : List Parcel) → AreParcelsOf cs ps → AreParcelsOf (cs ++ ds) ps
+pub still-parcels : (cs ds : List Content) (ps : List Parcel) → AreParcelsOf cs ps → AreParcelsOf (cs ++ ds) ps
 still-parcels cs ds [] all = tt
 still-parcels cs ds (p ∷ ps) all = (
   record {

@@ -24,6 +24,10 @@ turn-is (Ok x) old new tick before after is now grows turned stopped = go (nat_e
 
     go : (b : Bool) → nat_eq before after ≡ b → IsTurn old new tick (cond b Idle (Worked (after - before)))
     go true e = (sym now ∙ sym (same before after e) ∙ is, turned)
-    go false e = (more before after e grows, sum before after old.controller.steps new.controller.steps is now grows, turned)
+    go false e = (
+      more before after e grows,
+      sum before after old.controller.steps new.controller.steps is now grows,
+      turned,
+    )
 turn-is (Err halt.AtLimit) old new tick before after is now grows turned stopped = stopped refl
 turn-is (Err halt.OutOfMemory) old new tick before after is now grows turned stopped = tt

@@ -78,7 +78,8 @@ with_event t h e = with_event_over t h h.waiting e
 abbrev pub stopped_at : History → NodeId → History
 stopped_at h n = record { events = h.events; waiting = h.waiting; stopped = Some n }
 
--- An input is at hand at the node: its event is made. Where the node has made 50,000 events, the run is stopped there and
+-- An input is at hand at the node: its event is made. Where the node has made 50,000 events, the run is stopped there
+-- and
 -- the input stays. Nothing is made after that.
 abbrev pub if_able : Network → NodeId → History → History → History
 if_able t n h next = if is_some h.stopped then h else (if nat_lt (made_by t h n) 50000 then next else stopped_at h n)

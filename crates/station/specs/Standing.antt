@@ -41,7 +41,8 @@ AreParcelsOf contents parcels = AllByRecursion (IsParcelOf contents) parcels
 
 -- Links
 
--- The link of node n in a world whose rings are these. At the neighbours, the other ends of the rings from n have the frames of
+-- The link of node n in a world whose rings are these. At the neighbours, the other ends of the rings from n have the
+-- frames of
 -- these numbers.
 pub record LinkStands (w : World) (rings : ℕ → ℕ → List ℕ) (n : NodeId) (there : ℕ → List ℕ)
     (l : LinkState) : Type 0 where

@@ -43,7 +43,8 @@ impl Desk {
 
     /// Takes the first item.
     pub(crate) fn pop(&mut self) -> Option<DeskItem>
-        ensures { MatchOption result ((self.old ≡ []) × (self.new ≡ [])) (λ i. self.old ≡ i ∷ self.new) }
+        ensures { MatchOption result ((self.old ≡ []) × (self.new ≡ []))
+            (λ i. self.old ≡ i ∷ self.new) }
     {
         self.items.pop_front()
     }

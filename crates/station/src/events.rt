@@ -19,7 +19,8 @@ pub(crate) fn react(
     requires below { controller.old.steps < 50000 }
     requires from { IsFromNeighbour controller.old.node.place input.now }
     requires fit { LinksFit controller.old.node.place controller.old.steps links.old.items }
-    ensures step { OnOk result (HasReacted controller.old controller.new links.old.items links.new.items input.now) }
+    ensures step { OnOk result
+        (HasReacted controller.old controller.new links.old.items links.new.items input.now) }
     ensures fit { LinksFit controller.new.node.place controller.new.steps links.new.items }
     ensures peers { peers_of links.new.items ≡ peers_of links.old.items }
     ensures grows { controller.old.steps ≤ controller.new.steps }

@@ -91,7 +91,8 @@ impl Link {
     }
 }
 
-fn place_of(links: &[Link], n: NodeId) -> Option<usize>
+/// The place of the link to this neighbour.
+pub(crate) fn place_of(links: &[Link], n: NodeId) -> Option<usize>
     ensures { result ≡ position (is_to n) links.now }
 {
     links.iter().position(|link| link.peer() == n)
@@ -133,7 +134,8 @@ pub(crate) fn send_frames(links: &mut Vec<Link>, frames: Frames)
 /// Takes the first frame that came over the link at this place.
 pub(crate) fn pop_at(links: &mut Vec<Link>, place: usize) -> Option<Parcel>
     requires { place < length links.old.items }
-    ensures first { (l : LinkState) → slice_get links.old.items place ≡ Some l → result ≡ slice_get l.early 0 }
+    ensures first { (l : LinkState) → slice_get links.old.items place ≡ Some l →
+        result ≡ slice_get l.early 0 }
     ensures rest { IsChangedAt links.old.items place with_popped links.new.items }
 {
     let link = &mut links[place];
@@ -143,7 +145,8 @@ pub(crate) fn pop_at(links: &mut Vec<Link>, place: usize) -> Option<Parcel>
 // Moves what one end has sent to the end of what came to the other.
 fn hand_over(from: &mut Link, to: &mut Link)
     requires { length to.old.early + length from.old.backlog ≤ 256 }
-    ensures from { from.new ≡ record from.old { standing = length to.old.early + length from.old.backlog; backlog = [] } }
+    ensures from { from.new ≡
+        record from.old { standing = length to.old.early + length from.old.backlog; backlog = [] } }
     ensures to { to.new ≡ record to.old { early = to.old.early ++ from.old.backlog } }
 {
     to.early.append(&mut from.backlog);
@@ -164,9 +167,14 @@ fn look(a: &mut Link, b: &mut Link)
 pub(crate) fn look_at(here: &mut Vec<Link>, place: usize, there: &mut Vec<Link>, back: usize)
     requires place { place < length here.old.items }
     requires back { back < length there.old.items }
-    requires few { (l m : LinkState) → slice_get here.old.items place ≡ Some l → slice_get there.old.items back ≡ Some m → AreFew l m }
-    ensures here { (l m : LinkState) → slice_get here.old.items place ≡ Some l → slice_get there.old.items back ≡ Some m → here.new.items ≡ slice_set here.old.items place (looked l m) }
-    ensures there { (l m : LinkState) → slice_get here.old.items place ≡ Some l → slice_get there.old.items back ≡ Some m → there.new.items ≡ slice_set there.old.items back (looked m l) }
+    requires few { (l m : LinkState) → slice_get here.old.items place ≡ Some l →
+        slice_get there.old.items back ≡ Some m → AreFew l m }
+    ensures here { (l m : LinkState) → slice_get here.old.items place ≡ Some l →
+        slice_get there.old.items back ≡ Some m →
+        here.new.items ≡ slice_set here.old.items place (looked l m) }
+    ensures there { (l m : LinkState) → slice_get here.old.items place ≡ Some l →
+        slice_get there.old.items back ≡ Some m →
+        there.new.items ≡ slice_set there.old.items back (looked m l) }
 {
     let here = &mut here[place];
     let there = &mut there[back];

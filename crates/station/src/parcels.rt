@@ -53,7 +53,8 @@ impl Parcels {
 
     /// Takes the first parcel.
     pub(crate) fn pop(&mut self) -> Option<Parcel>
-        ensures { MatchOption result ((self.old ≡ []) × (self.new ≡ [])) (λ p. self.old ≡ p ∷ self.new) }
+        ensures { MatchOption result ((self.old ≡ []) × (self.new ≡ []))
+            (λ p. self.old ≡ p ∷ self.new) }
     {
         self.parcels.pop_front()
     }

@@ -1,6 +1,6 @@
 //! The station of one node.
 
-ghost use Rattle.std.specs.Prelude.{◌≡◌, ◌+◌, ◌<◌, ◌≤◌, ◌++◌, ◌∷◌, ℕ, List, [], MatchOption, IfErr, IfOk, IsSome, IsTrue, OnErr, OnOk, Some, length, map, nat_lt, not, slice_get, slice_set};
+ghost use Rattle.std.specs.Prelude.{◌≡◌, ◌+◌, ◌<◌, ◌≤◌, ◌++◌, ◌∷◌, ℕ, List, [], MatchOption, IfErr, IfOk, IsSome, IsTrue, OnErr, OnOk, Some, length, map, nat_lt, not, position, slice_get, slice_set};
 ghost use Rattle.ason_base.specs.declared.ids.NodeId.{NodeId};
 ghost use Rattle.ason_base.specs.Network.{Network, find_node};
 ghost use Rattle.controller.specs.Kept.{IsFromNeighbour};
@@ -10,17 +10,17 @@ ghost use Rattle.controller.specs.declared.inputs.CoreInput.{CoreInput};
 ghost use Rattle.mesh_nodes.specs.LocalNodes.{is_neighbour};
 ghost use Rattle.station.specs.declared.halts.Halt.{Halt};
 ghost use Rattle.station.specs.Histories.{History, handled, made, new_history, took};
-ghost use Rattle.station.specs.Links.{AreFew, LinkState, looked, peers_of, popped_from};
+ghost use Rattle.station.specs.Links.{AreFew, LinkState, is_to, looked, new_link, peers_of, popped_from};
 ghost use Rattle.station.specs.Standing.{Stands, StationState};
 ghost use Rattle.station.specs.Steps.{HasReacted, LinksFit};
 ghost use Rattle.station.specs.Turning.{HasDone, HasTurned, IsCutBy, IsStopped, IsTurn, answer_of, worked};
 ghost use Rattle.station.specs.declared.turns.Turn.{Turn};
-ghost use Rattle.station.specs.Turns.{desk_done, ring_done, rings_done, tick_done, turn};
+ghost use Rattle.station.specs.Turns.{desk_done, neighbours, ring_done, rings_done, tick_done, turn};
 
 use crate::desks::Desk;
 use crate::events::react;
 use crate::halts::Halt;
-use crate::links::{Link, look_at, pop_at};
+use crate::links::{Link, look_at, place_of, pop_at};
 use crate::parcels::Parcel;
 use crate::turns::Turn;
 use crate::wiring::new_links;
@@ -55,7 +55,8 @@ impl Station {
     /// The station of node `id`, which has nothing on its desk and sent nothing.
     pub fn new(alloc: Global, t: &Topology, id: NodeId) -> Result<Station, OutOfMemory>
         requires { IsSome (find_node t.now id) }
-        ensures { IfOk result (Stands t.now new_history id (λ d. [])) }
+        ensures stands { IfOk result (Stands t.now new_history id (λ d. [])) }
+        ensures links { IfOk result (λ s. s.links ≡ map new_link (neighbours t.now id)) }
     {
         let _nodes = t.nodes();
         let controller = Controller::new(alloc, t, id)?;
@@ -78,7 +79,9 @@ impl Station {
     fn take_input(&mut self, input: &CoreInput) -> Result<(), OutOfMemory>
         requires below { self.old.controller.steps < 50000 }
         requires from { IsFromNeighbour self.old.controller.node.place input.now }
-        ensures step { OnOk result (HasReacted self.old.controller self.new.controller self.old.links self.new.links input.now) }
+        ensures step { OnOk result
+            (HasReacted self.old.controller self.new.controller self.old.links self.new.links
+            input.now) }
         ensures peers { peers_of self.new.links ≡ peers_of self.old.links }
         ensures desk { self.new.desk ≡ self.old.desk }
         ensures grows { self.old.controller.steps ≤ self.new.controller.steps }
@@ -102,7 +105,9 @@ impl Station {
     // The controller handles an item.
     fn handle(&mut self, item: DeskItem) -> Result<(), OutOfMemory>
         requires { self.old.controller.steps < 50000 }
-        ensures step { OnOk result (HasReacted self.old.controller self.new.controller self.old.links self.new.links (CoreInput.Desk item)) }
+        ensures step { OnOk result
+            (HasReacted self.old.controller self.new.controller self.old.links self.new.links
+            (CoreInput.Desk item)) }
         ensures desk { self.new.desk ≡ self.old.desk }
         ensures grows { self.old.controller.steps ≤ self.new.controller.steps }
     {
@@ -114,7 +119,9 @@ impl Station {
     fn deliver(&mut self, from: NodeId, frame: Bytes) -> Result<(), OutOfMemory>
         requires below { self.old.controller.steps < 50000 }
         requires near { IsTrue (is_neighbour self.old.controller.node.place from) }
-        ensures step { OnOk result (HasReacted self.old.controller self.new.controller self.old.links self.new.links (CoreInput.Frame from frame)) }
+        ensures step { OnOk result
+            (HasReacted self.old.controller self.new.controller self.old.links self.new.links
+            (CoreInput.Frame from frame)) }
         ensures peers { peers_of self.new.links ≡ peers_of self.old.links }
         ensures desk { self.new.desk ≡ self.old.desk }
         ensures grows { self.old.controller.steps ≤ self.new.controller.steps }
@@ -125,7 +132,8 @@ impl Station {
 
     // Takes the first item of the desk.
     fn pop_item(&mut self) -> Option<DeskItem>
-        ensures item { MatchOption result ((self.old.desk ≡ []) × (self.new ≡ self.old)) (λ i. self.old.desk ≡ i ∷ self.new.desk) }
+        ensures item { MatchOption result ((self.old.desk ≡ []) × (self.new ≡ self.old))
+            (λ i. self.old.desk ≡ i ∷ self.new.desk) }
         ensures controller { self.new.controller ≡ self.old.controller }
         ensures links { self.new.links ≡ self.old.links }
     {
@@ -156,7 +164,8 @@ impl Station {
     // How many frames came from the neighbour at this place.
     fn early_len(&self, place: usize) -> usize
         requires { place < length self.now.links }
-        ensures { (l : LinkState) → slice_get self.now.links place ≡ Some l → result ≡ length l.early }
+        ensures { (l : LinkState) → slice_get self.now.links place ≡ Some l →
+            result ≡ length l.early }
     {
         self.links[place].early_len()
     }
@@ -164,7 +173,8 @@ impl Station {
     // Takes the first frame that came from the neighbour at this place.
     fn pop(&mut self, place: usize, from: NodeId) -> Option<Parcel>
         requires { slice_get (peers_of self.old.links) place ≡ Some from }
-        ensures first { (l : LinkState) → slice_get self.old.links place ≡ Some l → result ≡ slice_get l.early 0 }
+        ensures first { (l : LinkState) → slice_get self.old.links place ≡ Some l →
+            result ≡ slice_get l.early 0 }
         ensures links { self.new.links ≡ map (popped_from from) self.old.links }
         ensures controller { self.new.controller ≡ self.old.controller }
         ensures desk { self.new.desk ≡ self.old.desk }
@@ -226,25 +236,34 @@ impl Station {
         Ok(())
     }
 
-    // The neighbour at this place.
-    fn peer(&self, place: usize) -> NodeId
+    /// The neighbour at this place.
+    pub fn peer(&self, place: usize) -> NodeId
         requires { place < length self.now.links }
         ensures { slice_get (peers_of self.now.links) place ≡ Some result }
     {
         self.links[place].peer()
     }
 
-    // How many links there are.
-    fn link_count(&self) -> usize
+    /// How many links there are.
+    pub fn link_count(&self) -> usize
         ensures { result ≡ length self.now.links }
     {
         self.links.len()
     }
 
+    /// The place of the link to this neighbour.
+    pub fn link_to(&self, n: NodeId) -> Option<usize>
+        ensures { result ≡ position (is_to n) self.now.links }
+    {
+        place_of(&self.links, n)
+    }
+
     // All frames that came are taken, by neighbour.
     fn take_rings(&mut self) -> Result<(), Halt>
-        ensures on { OnOk result (HasDone (λ t n h. rings_done t n (peers_of self.old.links) h) self.old self.new) }
-        ensures stops { IsCutBy result (λ t n h. rings_done t n (peers_of self.old.links) h) self.old }
+        ensures on { OnOk result
+            (HasDone (λ t n h. rings_done t n (peers_of self.old.links) h) self.old self.new) }
+        ensures stops { IsCutBy result
+            (λ t n h. rings_done t n (peers_of self.old.links) h) self.old }
         ensures grows { self.old.controller.steps ≤ self.new.controller.steps }
     {
         let count = self.link_count();
@@ -279,7 +298,8 @@ impl Station {
 
     /// Puts an item on the desk.
     pub fn order(&mut self, item: DeskItem) -> Result<(), OutOfMemory>
-        ensures ok { OnOk result (self.new ≡ record self.old { desk = self.old.desk ++ item ∷ [] }) }
+        ensures ok { OnOk result
+            (self.new ≡ record self.old { desk = self.old.desk ++ item ∷ [] }) }
         ensures err { OnErr result (self.new ≡ self.old) }
     {
         self.desk.push(item)
@@ -290,10 +310,16 @@ impl Station {
     pub fn look(&mut self, place: usize, other: &mut Station, back: usize)
         requires place { place < length self.old.links }
         requires back { back < length other.old.links }
-        requires few { (l m : LinkState) → slice_get self.old.links place ≡ Some l → slice_get other.old.links back ≡ Some m → AreFew l m }
-        ensures here { (l m : LinkState) → slice_get self.old.links place ≡ Some l → slice_get other.old.links back ≡ Some m → self.new.links ≡ slice_set self.old.links place (looked l m) }
-        ensures there { (l m : LinkState) → slice_get self.old.links place ≡ Some l → slice_get other.old.links back ≡ Some m → other.new.links ≡ slice_set other.old.links back (looked m l) }
-        ensures controllers { (self.new.controller ≡ self.old.controller) × (other.new.controller ≡ other.old.controller) }
+        requires few { (l m : LinkState) → slice_get self.old.links place ≡ Some l →
+            slice_get other.old.links back ≡ Some m → AreFew l m }
+        ensures here { (l m : LinkState) → slice_get self.old.links place ≡ Some l →
+            slice_get other.old.links back ≡ Some m →
+            self.new.links ≡ slice_set self.old.links place (looked l m) }
+        ensures there { (l m : LinkState) → slice_get self.old.links place ≡ Some l →
+            slice_get other.old.links back ≡ Some m →
+            other.new.links ≡ slice_set other.old.links back (looked m l) }
+        ensures controllers { (self.new.controller ≡ self.old.controller) ×
+            (other.new.controller ≡ other.old.controller) }
         ensures desks { (self.new.desk ≡ self.old.desk) × (other.new.desk ≡ other.old.desk) }
     {
         look_at(&mut self.links, place, &mut other.links, back);

@@ -1,5 +1,5 @@
 -- What goes again to one neighbour, of all that goes again in a tick.
-use Rattle.std.proofs.Common.{◌≡◌, ◌<◌, ◌+◌, ◌≤◌, ℕ, zero, suc, Bool, true, false, cond, nat_eq, List, [], ◌∷◌, ◌++◌, map, filter, length, get_or, refl, sym, ap, ◌∙◌, subst, arith, append-nil}
+use Rattle.std.proofs.Common.{◌≡◌, ◌<◌, ℕ, suc, Bool, true, false, cond, nat_eq, List, [], ◌∷◌, ◌++◌, map, filter, length, get_or, refl, sym, ap, ◌∙◌, subst, arith, append-nil}
 use Rattle.std.specs.Prelude.{◌||◌, Some, None, find, nat_lt}
 use Rattle.std.specs.List.{flat_map, list_any}
 use Rattle.std.proofs.lemmas.List.{map-append}
@@ -33,7 +33,8 @@ packets_elsewhere e n (p ∷ ps) h = rw h (packets_elsewhere e n ps h)
 pub packets-append : (e : ℕ) (xs ys : List Sending) → packets_to e (xs ++ ys) ≡ packets_to e xs ++ packets_to e ys
 packets-append e xs ys =
     ap (map (λ (s : Sending). s.packet)) (filter-append (λ (s : Sending). nat_eq s.to.0 e) xs ys)
-    ∙ map-append (λ (s : Sending). s.packet) (filter (λ (s : Sending). nat_eq s.to.0 e) xs) (filter (λ (s : Sending). nat_eq s.to.0 e) ys)
+    ∙ map-append (λ (s : Sending). s.packet) (filter (λ (s : Sending). nat_eq s.to.0 e) xs)
+    (filter (λ (s : Sending). nat_eq s.to.0 e) ys)
 
 both_false : (b c : Bool) → (b || c) ≡ false → (b ≡ false) × (c ≡ false)
 both_false true c h = absurd (cc (h))
@@ -57,10 +58,12 @@ again-packets e (x ∷ xs) apart =
     packets-append e (again_to x) (flat_map again_to xs) ∙ by_peer (nat_eq x.peer.0 e) refl (again-packets e xs apart.1)
   where
     by_peer : (b : Bool) → nat_eq x.peer.0 e ≡ b → packets_to e (flat_map again_to xs) ≡ resent (hop_at xs e) →
-        packets_to e (again_to x) ++ packets_to e (flat_map again_to xs) ≡ resent (hop_of (cond b (Some x) (find (is_to e) xs))).state
+        packets_to e (again_to x) ++ packets_to e (flat_map again_to xs) ≡ resent
+        (hop_of (cond b (Some x) (find (is_to e) xs))).state
     by_peer true h rest =
         ap (λ ps. ps ++ packets_to e (flat_map again_to xs)) (packets_here e x.peer (resent x.hop.state) h)
-        ∙ ap (λ ps. resent x.hop.state ++ ps) (rest ∙ ap (λ o. resent (hop_of o).state) (no_adjacency xs x.peer.0 e h apart.0))
+        ∙ ap (λ ps. resent x.hop.state ++ ps) (rest ∙
+        ap (λ o. resent (hop_of o).state) (no_adjacency xs x.peer.0 e h apart.0))
         ∙ append-nil (resent x.hop.state)
     by_peer false h rest =
         ap (λ ps. ps ++ packets_to e (flat_map again_to xs)) (packets_elsewhere e x.peer (resent x.hop.state) h) ∙ rest
@@ -78,7 +81,8 @@ none_at k (x ∷ xs) above =
     other a b h = grind arith
 
 rising_apart : (xs : List Adjacency) →
-    ((i j d : ℕ) → i < j → j < length (peer_numbers xs) → nat_lt (get_or (peer_numbers xs) i d) (get_or (peer_numbers xs) j d) ≡ true) → AreApart xs
+    ((i j d : ℕ) → i < j → j < length (peer_numbers xs) →
+    nat_lt (get_or (peer_numbers xs) i d) (get_or (peer_numbers xs) j d) ≡ true) → AreApart xs
 unfolding AreApart
 rising_apart [] rises = tt
 rising_apart (x ∷ xs) rises = (
@@ -87,4 +91,5 @@ rising_apart (x ∷ xs) rises = (
 )
 
 pub are-apart : (p : LocalNode) (xs : List Adjacency) → peer_numbers xs ≡ neighbours p → AreApart xs
-are-apart p xs is = rising_apart xs (subst (Rises nat_lt) (sym is) (in_order-rises nat_lt nat_order (map (λ l. (other_end l p.id).0) p.own))).pairs
+are-apart p xs is = rising_apart xs (subst (Rises nat_lt) (sym is)
+    (in_order-rises nat_lt nat_order (map (λ l. (other_end l p.id).0) p.own))).pairs

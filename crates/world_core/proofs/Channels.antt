@@ -20,7 +20,8 @@ packets-added (Message q ∷ cs) ps = ap (λ qs. q ∷ qs) (packets-added cs ps)
 pub frames-sends : (ms : List Msg) (x : HopEnd) → (sends_all ms x).frames ≡ x.frames ++ numbered_after x.hop.sent ms
 frames-sends [] x = sym (append-nil x.frames)
 frames-sends (m ∷ ms) x =
-    frames-sends ms (sends m x) ∙ append_assoc x.frames (numbered (x.hop.sent + 1) m ∷ []) (numbered_after (x.hop.sent + 1) ms)
+    frames-sends ms (sends m x) ∙ append_assoc x.frames (numbered (x.hop.sent + 1) m ∷ [])
+    (numbered_after (x.hop.sent + 1) ms)
 
 -- the channel has just the packets that were made at this end
 abbrev pub HasPackets : List Content → HopEnd → Type 0
@@ -29,7 +30,8 @@ HasPackets cs x = packets_of cs ≡ x.frames
 pub has-sent : (b : Bool) (ms : List Msg) (cs : List Content) (x : HopEnd) → HasPackets cs x →
     HasPackets (cond b (with_packets cs (numbered_after x.hop.sent ms)) cs) (cond b (sends_all ms x) x)
 has-sent true ms cs x h =
-    packets-added cs (numbered_after x.hop.sent ms) ∙ ap (λ ps. ps ++ numbered_after x.hop.sent ms) h ∙ sym (frames-sends ms x)
+    packets-added cs (numbered_after x.hop.sent ms) ∙ ap (λ ps. ps ++ numbered_after x.hop.sent ms) h ∙
+    sym (frames-sends ms x)
 has-sent false ms cs x h = h
 
 pub has-ticked : (b : Bool) (cs : List Content) (x : HopEnd) → HasPackets cs x →

@@ -23,7 +23,7 @@ made_delivered : (t : Network) (w : World) (d u : NodeId) (o : Option Content) �
 made_delivered t w d u None = refl
 made_delivered t w d u (Some (Message p)) = made_handled t (taken w d u p) d u (handed_up w d u p)
 
-made_posted : (w : World) (c : Command) → (posted w c).made ≡ w.made
+pub made_posted : (w : World) (c : Command) → (posted w c).made ≡ w.made
 made_posted w (Setup n from to protected both via backup) = refl
 made_posted w (Release n from) = refl
 made_posted w (Protect n from) = refl
@@ -74,7 +74,8 @@ first_of a b h = grind arith
 below : (t : Network) (w : World) (e : Event) (n : ℕ) → IsEnabled t w e → is_event_of n e ≡ true → w.made n < 50000
 below t w (Deliver d u k) n on of =
     below_at t w d n
-    (first_of (may_act t w d) (is_channel t u d) (first_of (may_act t w d && is_channel t u d) (is_some (frame_at w u d k)) on)) of
+    (first_of (may_act t w d) (is_channel t u d)
+    (first_of (may_act t w d && is_channel t u d) (is_some (frame_at w u d k)) on)) of
 below t w (Noise d u bytes) n on of = below_at t w d n (first_of (may_act t w d) (is_channel t u d) on.0) of
 below t w (Tick m) n on of = below_at t w m n on of
 below t w (Desk m) n on of = below_at t w m n (first_of (may_act t w m) (has_first (w.desks m.0)) on) of

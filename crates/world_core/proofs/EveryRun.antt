@@ -21,14 +21,16 @@ shows_both : (t : Network) (es fs : List MeshEvent) (s s' s'' : Mesh) → Shows 
     Shows t s (es ++ fs) s''
 shows_both t [] fs s s' s'' first second = subst (λ z. Shows t z fs s'') (sym first.leads) second
 shows_both t (e ∷ es) fs s s' s'' first second =
-    let rest = shows_both t es fs (mesh_runs.step t s e) s' s'' (record { run = first.run.1; leads = first.leads }) second in
+    let rest = shows_both t es fs (mesh_runs.step t s e) s' s''
+    (record { run = first.run.1; leads = first.leads }) second in
     record { run = (first.run.0, rest.run); leads = rest.leads }
 
 shows_run : HandedUpInOrder → (t : Network) (events : List Event) (w : World) → IsRun t w events → AreReached w →
     Shows t (image w) (mesh_events t w events) (image (after t w events))
 shows_run law t [] w run r = record { run = tt; leads = refl }
 shows_run law t (e ∷ es) w run r =
-    shows_both t (given_by w e) (mesh_events t (step t w e) es) (image w) (image (step t w e)) (image (after t w (e ∷ es)))
+    shows_both t (given_by w e) (mesh_events t (step t w e) es) (image w) (image (step t w e))
+    (image (after t w (e ∷ es)))
     (shows-step law t w e run.0 r) (shows_run law t es (step t w e) run.1 (are-reached-step t w e run.0 r))
 
 pub every-run-is-shown : HandedUpInOrder → EveryRunIsShown
@@ -59,7 +61,8 @@ quiet_way law w r quiet u d = by_test (nat_eq u d) refl
         let is : u ≡ d = grind arith in
         let f = r.alone u in
         let none : under_way (w.ends u u) idle ≡ [] =
-        settled_way (w.ends u u) idle (subst (BothWays IsSettled) f.reached.leads (law f.reached.schedule)).0 (quiet.hops u u)
+        settled_way (w.ends u u) idle (subst (BothWays IsSettled) f.reached.leads (law f.reached.schedule)).0
+        (quiet.hops u u)
         in
         subst (λ n. under_way (w.ends u n) (w.ends n u) ≡ []) is
         (ap (λ (ms : List Msg). drop (length ms) (w.ends u u).given) f.up ∙ none)

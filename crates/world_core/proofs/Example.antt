@@ -95,7 +95,8 @@ before_the_acks = after network start (world.Post setup ∷ world.Desk a ∷ [])
 numbers_of : Content → List (Option MsgId)
 numbers_of (Message p) = p.id ∷ []
 
-again : map numbers_of ((step network before_the_acks (world.Tick a)).channels 1 2) ≡ (Some first ∷ []) ∷ (Some first ∷ []) ∷ []
+again : map numbers_of ((step network before_the_acks (world.Tick a)).channels 1 2) ≡ (Some first ∷ []) ∷
+    (Some first ∷ []) ∷ []
 unfolding network setup a b link numbers_from before_the_acks numbers_of first
 again = refl
 

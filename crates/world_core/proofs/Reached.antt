@@ -49,12 +49,17 @@ reached-event w n r = record { apart = r.apart; alone = r.alone; channels = r.ch
 -- A rule's answer
 
 alone_sends : (b : Bool) (ms : List Msg) (x : HopEnd) → IsAlone x → IsAlone (cond b (sends_all ms x) x)
-alone_sends true ms x f = record { up = up-sends ms x ∙ f.up; reached = reached-sends true false ms [] x idle f.reached }
+alone_sends true ms x f = record {
+  up = up-sends ms x ∙ f.up;
+  reached =
+      reached-sends true false ms [] x idle f.reached;
+}
 alone_sends false ms x f = f
 
 pub reached-commit : (w : World) (n : ℕ) (a : Answer) → AreReached w → AreReached (commit w n a)
 reached-commit w n a r = record {
-  apart = λ u d e. reached-sends (nat_eq u n) (nat_eq d n) (sent_to d a.sent) (sent_to u a.sent) (w.ends u d) (w.ends d u) (r.apart u d e);
+  apart = λ u d e. reached-sends (nat_eq u n) (nat_eq d n) (sent_to d a.sent) (sent_to u a.sent) (w.ends u d)
+      (w.ends d u) (r.apart u d e);
   alone = λ u. alone_sends (nat_eq u n) (sent_to u a.sent) (w.ends u u) (r.alone u);
   channels = λ u d. has-sent (nat_eq u n) (sent_to d a.sent) (w.channels u d) (w.ends u d) (r.channels u d);
 }
@@ -88,23 +93,27 @@ pub reached-taken : (w : World) (d u : NodeId) (p : Packet) → nat_eq u.0 d.0 �
     AreReached (taken w d u p)
 reached-taken w d u p other made r = record {
   apart = λ a b e. both a b e (nat_eq a d.0 && nat_eq b u.0) refl (nat_eq b d.0 && nat_eq a u.0) refl;
-  alone = λ a. subst (λ c. IsAlone (cond c (takes (Some p) (w.ends a a)) (w.ends a a))) (sym (not_alone a u.0 d.0 other)) (r.alone a);
+  alone = λ a. subst (λ c. IsAlone (cond c (takes (Some p) (w.ends a a)) (w.ends a a)))
+      (sym (not_alone a u.0 d.0 other)) (r.alone a);
   channels = λ a b. has-taken (nat_eq a d.0 && nat_eq b u.0) p (w.channels a b) (w.ends a b) (r.channels a b);
 }
   where
     both : (a b : ℕ) → nat_eq a b ≡ false → (c : Bool) → (nat_eq a d.0 && nat_eq b u.0) ≡ c → (f : Bool) →
         (nat_eq b d.0 && nat_eq a u.0) ≡ f →
-        IsReached (pair (cond c (takes (Some p) (w.ends a b)) (w.ends a b)) (cond f (takes (Some p) (w.ends b a)) (w.ends b a)))
+        IsReached (pair (cond c (takes (Some p) (w.ends a b)) (w.ends a b))
+        (cond f (takes (Some p) (w.ends b a)) (w.ends b a)))
     both a b e true h true k = absurd (cc (not_both a b u.0 d.0 other h, k))
     both a b e true h false k =
         let is = both_are a b u.0 d.0 h in
         reached-west (w.ends a b) (w.ends b a) made.place p
-        (ap (λ n. slice_get (w.ends n a).frames made.place) is.1 ∙ ap (λ n. slice_get (w.ends u.0 n).frames made.place) is.0 ∙ made.there)
+        (ap (λ n. slice_get (w.ends n a).frames made.place) is.1 ∙
+        ap (λ n. slice_get (w.ends u.0 n).frames made.place) is.0 ∙ made.there)
         (r.apart a b e)
     both a b e false h true k =
         let is = both_are b a u.0 d.0 k in
         reached-east (w.ends a b) (w.ends b a) made.place p
-        (ap (λ n. slice_get (w.ends n b).frames made.place) is.1 ∙ ap (λ n. slice_get (w.ends u.0 n).frames made.place) is.0 ∙ made.there)
+        (ap (λ n. slice_get (w.ends n b).frames made.place) is.1 ∙
+        ap (λ n. slice_get (w.ends u.0 n).frames made.place) is.0 ∙ made.there)
         (r.apart a b e)
     both a b e false h false k = r.apart a b e
 
@@ -130,7 +139,8 @@ reached_delivered t w d u k (Some (Message p)) other e r =
     reached_handled t (taken w d u p) d u (handed_up w d u p) (reached-frame w d u k p other e r)
 
 reached_posted : (w : World) (c : Command) → AreReached w → AreReached (posted w c)
-reached_posted w (Setup n from to protected both via backup) r = record { apart = r.apart; alone = r.alone; channels = r.channels }
+reached_posted w (Setup n from to protected both via backup) r =
+    record { apart = r.apart; alone = r.alone; channels = r.channels }
 reached_posted w (Release n from) r = record { apart = r.apart; alone = r.alone; channels = r.channels }
 reached_posted w (Protect n from) r = record { apart = r.apart; alone = r.alone; channels = r.channels }
 reached_posted w (Retry n from) r = record { apart = r.apart; alone = r.alone; channels = r.channels }
@@ -154,7 +164,8 @@ are-reached-step t w (Tick n) on r =
     reached-commit (hops_ticked (with_event w n.0) n.0) n.0 (on_tick (local_node t n) (w.nodes n.0))
     (reached-hops (with_event w n.0) n.0 (reached-event w n.0 r))
 are-reached-step t w (Desk n) on r =
-    reached-commit (without_item (with_event w n.0) n.0) n.0 (on_first_item (local_node t n) (w.nodes n.0) (w.desks n.0))
+    reached-commit (without_item (with_event w n.0) n.0) n.0
+    (on_first_item (local_node t n) (w.nodes n.0) (w.desks n.0))
     (reached-item (with_event w n.0) n.0 (reached-event w n.0 r))
 are-reached-step t w (Post c) on r = reached_posted w c r
 

@@ -1,6 +1,5 @@
 -- What a controller sends is what the ends of a world send.
-use Rattle.std.proofs.Common.{◌≡◌, ℕ, ◌+◌, Bool, true, false, cond, nat_eq, List, [], ◌∷◌, ◌++◌, map, filter, refl, sym, ap, ◌∙◌, arith}
-use Rattle.ason_base.specs.declared.messages.Msg.{Msg}
+use Rattle.std.proofs.Common.{◌≡◌, ℕ, ◌+◌, Bool, true, false, cond, nat_eq, List, [], ◌∷◌, refl, sym, ap, ◌∙◌, arith}
 use Rattle.ason_base.specs.declared.tables.Out.{Out}
 use Rattle.hop_reliable.specs.Hop.{HopState, numbered, sent_message}
 use Rattle.hop_reliable.specs.Schedules.{HopEnd, sends}
@@ -33,7 +32,8 @@ is-sent e (o ∷ outs) hops x same = by_test (nat_eq o.to.0 e) refl (is-sent e o
 
     packets : (b : Bool) → nat_eq o.to.0 e ≡ b →
         packets_to e (packets_on hops (o ∷ outs))
-        ≡ cond b (numbered ((hops o.to.0).sent + 1) o.msg ∷ packets_to e (packets_on (sent_one hops o) outs)) (packets_to e (packets_on (sent_one hops o) outs))
+        ≡ cond b (numbered ((hops o.to.0).sent + 1) o.msg ∷ packets_to e (packets_on (sent_one hops o) outs))
+        (packets_to e (packets_on (sent_one hops o) outs))
     packets true h = rw h refl
     packets false h = rw h refl
 
@@ -42,9 +42,11 @@ is-sent e (o ∷ outs) hops x same = by_test (nat_eq o.to.0 e) refl (is-sent e o
     by_test true h later =
         let here : nat_eq e o.to.0 ≡ true = turned o.to.0 e true h in
         let to : o.to.0 ≡ e = grind arith in
-        let step : sent_one hops o e ≡ sent_message x.hop o.msg = rw here (ap (λ (s : HopState). sent_message s o.msg) same) in
+        let step : sent_one hops o e ≡ sent_message x.hop o.msg =
+        rw here (ap (λ (s : HopState). sent_message s o.msg) same) in
         let rest : IsSent e (sent_one hops o) outs (sends o.msg x) = later (sends o.msg x) step in
-        let number : (hops o.to.0).sent ≡ x.hop.sent = ap (λ n. (hops n).sent) to ∙ ap (λ (s : HopState). s.sent) same in
+        let number : (hops o.to.0).sent ≡ x.hop.sent = ap (λ n. (hops n).sent) to ∙
+        ap (λ (s : HopState). s.sent) same in
         record {
           hop = rest.hop ∙ sym (ap (λ ms. (sends_all ms x).hop) (messages true h));
           packets = ap (numbered_after x.hop.sent) (messages true h)

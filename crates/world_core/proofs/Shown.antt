@@ -38,7 +38,8 @@ pub image-commit : HandedUpInOrder → (w : World) → AreReached w → (n : ℕ
 image-commit law w r n a = λ i. record {
   nodes = (image (commit w n a)).nodes;
   desks = w.desks;
-  mail = λ u d. way-sends (nat_eq u n) (nat_eq d n) (sent_to d a.sent) (sent_to u a.sent) (w.ends u d) (w.ends d u) (in-order law w r u d) i;
+  mail = λ u d. way-sends (nat_eq u n) (nat_eq d n) (sent_to d a.sent) (sent_to u a.sent) (w.ends u d) (w.ends d u)
+      (in-order law w r u d) i;
   posted = w.posted;
 }
 
@@ -48,7 +49,8 @@ image-hops : (w : World) (n : ℕ) → image (hops_ticked w n) ≡ image w
 image-hops w n = λ i. record {
   nodes = w.nodes;
   desks = w.desks;
-  mail = λ u d. way-same (w.ends u d) (w.ends d u) (end u d) (end d u) (given (nat_eq u n) (w.ends u d)) (up (nat_eq d n) (w.ends d u)) i;
+  mail = λ u d. way-same (w.ends u d) (w.ends d u) (end u d) (end d u) (given (nat_eq u n) (w.ends u d))
+      (up (nat_eq d n) (w.ends d u)) i;
   posted = w.posted;
 }
   where
@@ -116,9 +118,12 @@ is_first : HandedUpInOrder → (w : World) (d u : NodeId) (p : Packet) (m : Msg)
 is_first law w d u p m other r one =
     let taker = w.ends d.0 u.0 in
     let sender = w.ends u.0 d.0 in
-    let up : ((taken w d u p).ends d.0 u.0).up ≡ taker.up ++ m ∷ [] = ap (λ (e : HopEnd). e.up) (here w d u p) ∙ ap (λ (h : List Msg). taker.up ++ h) one in
-    let given : ((taken w d u p).ends u.0 d.0).given ≡ sender.given = ap (λ (e : HopEnd). e.given) (there w d u p other) in
-    let f : IsInOrder ((taken w d u p).ends u.0 d.0) ((taken w d u p).ends d.0 u.0) = in-order law (taken w d u p) r u.0 d.0 in
+    let up : ((taken w d u p).ends d.0 u.0).up ≡ taker.up ++ m ∷ [] = ap (λ (e : HopEnd). e.up) (here w d u p) ∙
+    ap (λ (h : List Msg). taker.up ++ h) one in
+    let given : ((taken w d u p).ends u.0 d.0).given ≡ sender.given =
+    ap (λ (e : HopEnd). e.given) (there w d u p other) in
+    let f : IsInOrder ((taken w d u p).ends u.0 d.0) ((taken w d u p).ends d.0 u.0) =
+    in-order law (taken w d u p) r u.0 d.0 in
     let split : (taker.up ++ m ∷ []) ++ f.0 ≡ sender.given = ap (λ (ms : List Msg). ms ++ f.0) (sym up) ∙ f.1 ∙ given in
     record {
       rest = f.0;

@@ -1,10 +1,9 @@
 -- A controller's step is what the world does at its node.
-use Rattle.std.proofs.Common.{◌≡◌, ℕ, Bool, true, false, cond, nat_eq, List, [], ◌∷◌, ◌++◌, map, filter, refl, sym, ap, ◌∙◌, subst, arith, append-nil, append_assoc}
-use Rattle.std.specs.Prelude.{◌&&◌, Option, Some, None}
+use Rattle.std.proofs.Common.{◌≡◌, ℕ, Bool, true, false, cond, nat_eq, List, [], ◌∷◌, ◌++◌, map, refl, sym, ap, ◌∙◌, subst, arith, append-nil, append_assoc}
+use Rattle.std.specs.Prelude.{◌&&◌, Some}
 use Rattle.std.specs.List.{flat_map}
 use Rattle.std.proofs.lemmas.List.{map-append}
 use Rattle.ason_base.specs.declared.ids.NodeId.{NodeId}
-use Rattle.ason_base.specs.declared.commands.DeskItem.{DeskItem}
 use Rattle.ason_base.specs.declared.messages.Msg.{Msg}
 use Rattle.ason_base.specs.declared.messages.Packet.{Packet}
 use Rattle.ason_base.specs.Network.{Network}
@@ -18,10 +17,8 @@ use Rattle.mesh_rules.specs.LocalNodes.{local_node}
 use Rattle.mesh_rules.specs.Machine.{sent_to}
 use Rattle.mesh_rules.specs.Messages.{on_message}
 use Rattle.mesh_rules.specs.Orders.{on_item, on_tick}
-use Rattle.mesh_rules.specs.State.{NodeState}
-use Rattle.controller.specs.declared.adjacencies.Adjacency.{Adjacency}
 use Rattle.controller.specs.Adjacencies.{again_to, hop_at, packets_on}
-use Rattle.controller.specs.Controllers.{Meaning, Stepped, acks_to, after_tick, carried, handled, heard_hops, took, unmoved}
+use Rattle.controller.specs.Controllers.{Meaning, acks_to, after_tick, carried, handled, heard_hops, took}
 use Rattle.controller.specs.Frames.{Sending}
 use Rattle.world_core.specs.Frames.{Content, Message}
 use Rattle.world_core.specs.Worlds.{World, commit, delivered, frame_at, handed_up, heard_at, hops_ticked, taken, with_event, with_packets}
@@ -55,14 +52,17 @@ committed : (old w : World) (n : ℕ) (a : Answer) (first : List Sending) →
 committed old w n a first before = record {
   stands = record {
     state = rw (self_test n) refl;
-    hops = λ e. (sent e).hop ∙ sym (ap (λ b. (cond b (world.sends_all (sent_to e a.sent) (w.ends n e)) (w.ends n e)).hop) (self_test n));
+    hops = λ e. (sent e).hop ∙ sym (ap (λ b. (cond b (world.sends_all (sent_to e a.sent) (w.ends n e))
+        (w.ends n e)).hop) (self_test n));
   };
   channels = λ e.
-      ap (λ b. cond b (with_packets (w.channels n e) (world.numbered_after (w.ends n e).hop.sent (sent_to e a.sent))) (w.channels n e)) (self_test n)
+      ap (λ b. cond b (with_packets (w.channels n e) (world.numbered_after (w.ends n e).hop.sent (sent_to e a.sent)))
+      (w.channels n e)) (self_test n)
       ∙ ap (λ ps. with_packets (w.channels n e) ps) (sent e).packets
       ∙ ap (λ cs. with_packets cs (packets_to e (packets_on (at_node w n).hops a.sent))) (before e)
       ∙ added (old.channels n e) (packets_to e first) (packets_to e (packets_on (at_node w n).hops a.sent))
-      ∙ ap (λ ps. with_packets (old.channels n e) ps) (sym (packets-append e first (packets_on (at_node w n).hops a.sent)));
+      ∙ ap (λ ps. with_packets (old.channels n e) ps)
+      (sym (packets-append e first (packets_on (at_node w n).hops a.sent)));
 }
   where
     sent : (e : ℕ) → IsSent e (at_node w n).hops a.sent (w.ends n e)
@@ -121,20 +121,24 @@ acknowledged w d u p e =
         ∙ sym (ap (λ ps. with_packets (w.channels d.0 e) ps) (acks_here e u (heard_at w d u p) p (turned e u.0 true h)))
     by_test false h =
         nothing_added (w.channels d.0 e)
-        ∙ sym (ap (λ ps. with_packets (w.channels d.0 e) ps) (acks_elsewhere e u (heard_at w d u p) p (turned e u.0 false h)))
+        ∙ sym (ap (λ ps. with_packets (w.channels d.0 e) ps)
+        (acks_elsewhere e u (heard_at w d u p) p (turned e u.0 false h)))
 
 -- what is handed up is handled
 carries : (t : Network) (w : World) (d u : NodeId) (p : Packet) (h : List Msg) →
     IsStepOf w (world.handled t (taken w d u p) d u h) d.0
-    (carried (heard_hops (at_node w d.0).hops u p) (w.nodes d.0) (on_first (local_node t d) (w.nodes d.0) u h) (acks_to u (heard_at w d u p) p))
+    (carried (heard_hops (at_node w d.0).hops u p) (w.nodes d.0) (on_first (local_node t d) (w.nodes d.0) u h)
+    (acks_to u (heard_at w d u p) p))
 carries t w d u p [] = record {
   stands = record { state = refl; hops = λ e. ap (λ (f : ℕ → HopState). f e) (hop_taken w d u p) };
   channels = λ e.
       acknowledged w d u p e
-      ∙ ap (λ ss. with_packets (w.channels d.0 e) (packets_to e ss)) (sym (append-nil (acks_to u (heard_at w d u p) p)));
+      ∙ ap (λ ss. with_packets (w.channels d.0 e) (packets_to e ss))
+      (sym (append-nil (acks_to u (heard_at w d u p) p)));
 }
 carries t w d u p (m ∷ ms) =
-    subst (λ hops. IsStepOf w (commit (taken w d u p) d.0 a) d.0 (carried hops (w.nodes d.0) a (acks_to u (heard_at w d u p) p))) (sym (hop_taken w d u p))
+    subst (λ hops. IsStepOf w (commit (taken w d u p) d.0 a) d.0
+    (carried hops (w.nodes d.0) a (acks_to u (heard_at w d u p) p))) (sym (hop_taken w d u p))
     (committed w (taken w d u p) d.0 a (acks_to u (heard_at w d u p) p) (acknowledged w d u p))
   where
     a : Answer
@@ -142,7 +146,8 @@ carries t w d u p (m ∷ ms) =
 
 pub deliveries-are-taken : DeliveriesAreTaken
 deliveries-are-taken t w d u k p c is there =
-    subst (λ m. IsStepOf w (delivered t before d u (frame_at w u d k)) d.0 (took (local_node t d) m u p)) (sym (same_meaning w d.0 c is))
+    subst (λ m. IsStepOf w (delivered t before d u (frame_at w u d k)) d.0 (took (local_node t d) m u p))
+    (sym (same_meaning w d.0 c is))
     (subst (λ o. IsStepOf w (delivered t before d u o) d.0 (took (local_node t d) (at_node w d.0) u p)) (sym there)
     (record { stands = record { state = f.stands.state; hops = f.stands.hops }; channels = f.channels }))
   where
@@ -164,8 +169,10 @@ noise-moves-nothing t w d u bytes c is = record {
 
 pub items-are-handled : ItemsAreHandled
 items-are-handled t w n i items c is desk =
-    subst (λ m. IsStepOf w (commit before n.0 (on_first_item (local_node t n) (w.nodes n.0) (w.desks n.0))) n.0 (handled (local_node t n) m i)) (sym (same_meaning w n.0 c is))
-    (subst (λ a. IsStepOf w (commit before n.0 a) n.0 (handled (local_node t n) (at_node w n.0) i)) (sym (ap (on_first_item (local_node t n) (w.nodes n.0)) desk))
+    subst (λ m. IsStepOf w (commit before n.0 (on_first_item (local_node t n) (w.nodes n.0) (w.desks n.0))) n.0
+    (handled (local_node t n) m i)) (sym (same_meaning w n.0 c is))
+    (subst (λ a. IsStepOf w (commit before n.0 a) n.0 (handled (local_node t n) (at_node w n.0) i))
+    (sym (ap (on_first_item (local_node t n) (w.nodes n.0)) desk))
     (committed w before n.0 (on_item (local_node t n) (w.nodes n.0) i) [] (λ e. nothing_added (w.channels n.0 e))))
   where
     before : World
@@ -179,7 +186,8 @@ end_ticked w n e = ap (λ b. cond b (ticks (w.ends n e)) (w.ends n e)) (self_tes
 pub ticks-are-ticked : TicksAreTicked
 ticks-are-ticked t w n s adjacencies is peers =
     subst (λ z. IsStepOf w (commit before n.0 a) n.0 (after_tick (local_node t n) z adjacencies)) (sym is.state)
-    (subst (λ h. IsStepOf w (commit before n.0 a) n.0 (carried h (w.nodes n.0) a (flat_map again_to adjacencies))) (sym hops)
+    (subst (λ h. IsStepOf w (commit before n.0 a) n.0 (carried h (w.nodes n.0) a (flat_map again_to adjacencies)))
+    (sym hops)
     (committed w before n.0 a (flat_map again_to adjacencies) resends))
   where
     before : World
@@ -194,6 +202,8 @@ ticks-are-ticked t w n s adjacencies is peers =
     resends : (e : ℕ) →
         before.channels n.0 e ≡ with_packets (w.channels n.0 e) (packets_to e (flat_map again_to adjacencies))
     resends e =
-        ap (λ b. cond b (with_packets (w.channels n.0 e) (resent (w.ends n.0 e).hop)) (w.channels n.0 e)) (self_test n.0)
+        ap (λ b. cond b (with_packets (w.channels n.0 e) (resent (w.ends n.0 e).hop)) (w.channels n.0 e))
+        (self_test n.0)
         ∙ ap (λ (h : HopState). with_packets (w.channels n.0 e) (resent h)) (sym (is.hops e))
-        ∙ sym (ap (λ ps. with_packets (w.channels n.0 e) ps) (again-packets e adjacencies (are-apart (local_node t n) adjacencies peers)))
+        ∙ sym (ap (λ ps. with_packets (w.channels n.0 e) ps)
+        (again-packets e adjacencies (are-apart (local_node t n) adjacencies peers)))

@@ -1,16 +1,14 @@
 -- What an event isn't of stays, and a channel leads to a node from its neighbour.
-use Rattle.std.proofs.Common.{◌≡◌, ℕ, Bool, true, false, cond, nat_eq, List, [], ◌∷◌, filter, refl, sym, ap, ◌∙◌, arith}
-use Rattle.std.specs.Prelude.{◌&&◌, ◌||◌, not, Option, Some, None, if◌then◌else◌}
+use Rattle.std.proofs.Common.{◌≡◌, ℕ, Bool, true, false, cond, nat_eq, List, [], ◌∷◌, filter, refl, ap, ◌∙◌, arith}
+use Rattle.std.specs.Prelude.{◌&&◌, ◌||◌, not, Option, Some, None}
 use Rattle.std.specs.List.{list_any}
 use Rattle.ason_base.specs.declared.ids.NodeId.{NodeId}
 use Rattle.ason_base.specs.declared.network.LinkSpec.{LinkSpec}
 use Rattle.ason_base.specs.declared.commands.Command.{Command}
 use Rattle.ason_base.specs.declared.commands.Command.TheVariants.{Setup, Release, Protect, Retry, Revert, Fail, Repair}
-use Rattle.ason_base.specs.declared.commands.Event.{Event}
 use Rattle.ason_base.specs.declared.commands.Event.TheVariants.{Deliver, Noise, Tick, Desk, Post}
 use Rattle.ason_base.specs.declared.messages.Msg.{Msg}
 use Rattle.ason_base.specs.Network.{Network, are_ends, end_beside, is_node_id, other_end, touches}
-use Rattle.mesh_nodes.specs.LocalNodes.{is_neighbour}
 use Rattle.mesh_rules.specs.Changes.{Answer}
 use Rattle.mesh_rules.specs.Events.{on_first_item}
 use Rattle.mesh_rules.specs.LocalNodes.{local_node}
@@ -18,7 +16,7 @@ use Rattle.mesh_rules.specs.Messages.{on_message}
 use Rattle.mesh_rules.specs.Orders.{on_tick}
 use Rattle.world_core.specs.Frames.{Content, Message}
 use Rattle.world_core.specs.Worlds.{World, commit, delivered, frame_at, handed_up, handled, hops_ticked, taken, with_event}
-use Rattle.world_core.specs.Runs.{is_channel, is_event_of, posted, step, without_item}
+use Rattle.world_core.specs.Runs.{posted, step, without_item}
 use Rattle.world_core.specs.Standing.{ChannelsJoinNeighbours, IsUntouched, OthersAreUntouched}
 use Rattle.world_core.proofs.Sent.{turned}
 
@@ -52,7 +50,7 @@ delivered_elsewhere t w d u (Some (Message p)) m e =
     (record { nodes = refl; ends = λ b. rw e refl; channels = λ b. rw e refl })
     (handled_elsewhere t (taken w d u p) d u (handed_up w d u p) m e)
 
-posted_elsewhere : (w : World) (c : Command) (m : ℕ) → IsUntouched w (posted w c) m
+pub posted_elsewhere : (w : World) (c : Command) (m : ℕ) → IsUntouched w (posted w c) m
 posted_elsewhere w (Setup n from to protected both via backup) m =
     same_nodes w (posted w (Setup n from to protected both via backup)) m refl refl refl
 posted_elsewhere w (Release n from) m = same_nodes w (posted w (Release n from)) m refl refl refl
@@ -67,14 +65,16 @@ event_elsewhere w n m = same_nodes w (with_event w n) m refl refl refl
 
 pub others-are-untouched : OthersAreUntouched
 others-are-untouched t w (Deliver d u k) m e =
-    then_untouched w (with_event w d.0) (delivered t (with_event w d.0) d u (frame_at w u d k)) m (event_elsewhere w d.0 m)
+    then_untouched w (with_event w d.0) (delivered t (with_event w d.0) d u (frame_at w u d k)) m
+    (event_elsewhere w d.0 m)
     (delivered_elsewhere t (with_event w d.0) d u (frame_at w u d k) m (turned d.0 m false e))
 others-are-untouched t w (Noise d u bytes) m e = event_elsewhere w d.0 m
 others-are-untouched t w (Tick n) m e =
     let before : World = hops_ticked (with_event w n.0) n.0 in
     let other : nat_eq m n.0 ≡ false = turned n.0 m false e in
     then_untouched w before (step t w (Tick n)) m
-    (then_untouched w (with_event w n.0) before m (event_elsewhere w n.0 m) (hops_elsewhere (with_event w n.0) n.0 m other))
+    (then_untouched w (with_event w n.0) before m (event_elsewhere w n.0 m)
+    (hops_elsewhere (with_event w n.0) n.0 m other))
     (commit_elsewhere before n.0 (on_tick (local_node t n) (w.nodes n.0)) m other)
 others-are-untouched t w (Desk n) m e =
     let before : World = without_item (with_event w n.0) n.0 in
@@ -109,12 +109,14 @@ among_own u d (l ∷ ls) other h =
   where
     later : (b : Bool) → list_any (λ k. nat_eq (other_end k d).0 u.0) (filter (touches d) ls) ≡ true →
         list_any (λ k. nat_eq (other_end k d).0 u.0) (cond b (l ∷ filter (touches d) ls) (filter (touches d) ls)) ≡ true
-    later true r = right_holds (nat_eq (other_end l d).0 u.0) (list_any (λ k. nat_eq (other_end k d).0 u.0) (filter (touches d) ls)) r
+    later true r = right_holds (nat_eq (other_end l d).0 u.0)
+        (list_any (λ k. nat_eq (other_end k d).0 u.0) (filter (touches d) ls)) r
     later false r = r
 
     by_test : (a : Bool) → are_ends l.low l.high u d ≡ a → (b : Bool) → touches d l ≡ b →
         (a || list_any (λ k. are_ends k.low k.high u d) ls) ≡ true →
-        (list_any (λ k. are_ends k.low k.high u d) ls ≡ true → list_any (λ k. nat_eq (other_end k d).0 u.0) (filter (touches d) ls) ≡ true) →
+        (list_any (λ k. are_ends k.low k.high u d) ls ≡ true →
+        list_any (λ k. nat_eq (other_end k d).0 u.0) (filter (touches d) ls) ≡ true) →
         list_any (λ k. nat_eq (other_end k d).0 u.0) (cond b (l ∷ filter (touches d) ls) (filter (touches d) ls)) ≡ true
     by_test true joins true own f g = rw (other_is l.low l.high u d other joins) refl
     by_test true joins false own f g = absurd (cc (own, an_end l.low l.high u d other joins))
@@ -125,5 +127,6 @@ parts a b c f h = (grind arith, grind arith)
 
 pub channels-join-neighbours : ChannelsJoinNeighbours
 channels-join-neighbours t u d h =
-    let both = parts (is_node_id t.nodes u) (is_node_id t.nodes d) (nat_eq u.0 d.0) (list_any (λ l. are_ends l.low l.high u d) t.links) h in
+    let both = parts (is_node_id t.nodes u) (is_node_id t.nodes d) (nat_eq u.0 d.0)
+    (list_any (λ l. are_ends l.low l.high u d) t.links) h in
     among_own u d t.links both.0 both.1

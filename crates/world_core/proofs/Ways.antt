@@ -36,7 +36,8 @@ way-sends b c ms ns x y r =
 
     sent : (b : Bool) → under_way (cond b (sends_all ms x) x) y ≡ cond b (under_way x y ++ ms) (under_way x y)
     sent true =
-        way-is (sends_all ms x) y (r.0 ++ ms) (sym (append_assoc y.up r.0 ms) ∙ ap (λ g. g ++ ms) r.1 ∙ sym (given-sends ms x))
+        way-is (sends_all ms x) y (r.0 ++ ms) (sym (append_assoc y.up r.0 ms) ∙ ap (λ g. g ++ ms) r.1 ∙
+        sym (given-sends ms x))
         ∙ ap (λ w. w ++ ms) (sym (way-is x y r.0 r.1))
     sent false = refl
 

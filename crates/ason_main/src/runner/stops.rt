@@ -2,13 +2,17 @@
 
 ghost use Rattle.std.specs.Prelude.{◌≡◌};
 ghost use Rattle.ason_main.specs.declared.runner.stops.Stop.{Stop};
+ghost use Rattle.ason_main.specs.Running.{stop_of};
 
 use ason_base::{NodeId, OutOfMemory};
+use fleet::RoundFault;
 
 #[derive(Clone, Copy, Debug, PartialEq, Eq, Drop)]
 pub enum Stop {
     /// The node has made as many events as it may, and an input is at hand.
     AtLimit(NodeId),
+    /// The sink failed.
+    Failed,
     OutOfMemory,
 }
 
@@ -17,5 +21,16 @@ impl From<OutOfMemory> for Stop {
 
     fn from(_: OutOfMemory) -> Stop {
         Stop::OutOfMemory
+    }
+}
+
+impl From<RoundFault> for Stop {
+    ghost from_gives = { λ fault error. error ≡ stop_of fault };
+
+    fn from(fault: RoundFault) -> Stop {
+        match fault {
+            RoundFault::AtLimit(node) => Stop::AtLimit(node),
+            RoundFault::Starved => Stop::OutOfMemory,
+        }
     }
 }

@@ -11,7 +11,7 @@ use Rattle.ason_base.specs.declared.steps.Step.{Step}
 use Rattle.ason_base.specs.declared.network.LinkSpec.{LinkSpec}
 use Rattle.ason_base.specs.declared.calls.Phase.TheVariants.{Asked}
 use Rattle.ason_base.specs.declared.calls.Cause.{Cause}
-use Rattle.ason_base.specs.declared.calls.Cause.TheVariants.{Spent, Full}
+use Rattle.ason_base.specs.declared.calls.Cause.TheVariants.{NoRoute, Spent, Full}
 use Rattle.ason_base.specs.declared.messages.PathRole.TheVariants.{Work}
 use Rattle.ason_base.specs.declared.messages.Msg.{Msg}
 use Rattle.ason_base.specs.declared.messages.Msg.TheVariants.{Path}
@@ -23,12 +23,17 @@ use Rattle.mesh_rules.specs.Changes.{Answer, nothing, changed}
 use Rattle.mesh_rules.specs.LocalNodes.{LocalNode, local_node, own_link, fibre_out}
 use Rattle.mesh_rules.proofs.Conjunctions.{and_first}
 use Rattle.mesh_rules.specs.State.{NodeState}
-use Rattle.mesh_rules.specs.Setups.{SetupRequest, refused_setup, is_full, is_order_here, admitted_setup, first_leg, next_lsp, begins, is_spent, over_first, new_call, setup_with}
+use Rattle.mesh_rules.specs.Commands.{is_searchable}
+use Rattle.mesh_rules.specs.KnownRows.{known_rows}
+use Rattle.mesh_rules.specs.LeastRoutes.{Trip, least_trip}
+use Rattle.mesh_rules.specs.Setups.{SetupRequest, refused_setup, is_full, is_order_here, admitted_setup, first_leg, next_lsp, begins, is_spent, first_link, over_first, over_found, new_call, setup_with}
 use Rattle.mesh_rules.specs.Machine.{Mesh, commit}
 use Rattle.mesh_rules.specs.Events.{first_route, or_route}
 use Rattle.mesh_laws.specs.HopLaw.{leg_at, mail_between}
 use Rattle.mesh_laws.proofs.hops.Plans.{Plan, hops, plan, node_at, fibre_at, IsRoute, Leads, route_made, distinct, same, same_node, lt_true, own_near, fibre_out_is}
+use Rattle.mesh_nodes.specs.Routes.{AreRowsOf}
 use Rattle.mesh_nodes.proofs.Cases.{if_cases}
+use Rattle.mesh_nodes.proofs.routes.Nodes.{found-leads}
 use Rattle.mesh_nodes.proofs.LegList.{same_lsp-eq, same_lsp-refl}
 use Rattle.mesh_laws.proofs.hops.Views.{leg-here, leg-there, mail-from, mail-else}
 use Rattle.mesh_laws.proofs.hops.Rest.{Carries, DownFits}
@@ -214,7 +219,8 @@ module _ (t : Network) (s : Mesh) (n : NodeId) (w : SetupRequest) (out : LinkSpe
         (plan (h ∷ further) e)) hop_is (w.egress, new_planned blank));
   }
 
-  other_same : (l : Lsp) → same_lsp (next_lsp (local_node t n) (s.nodes n.0)) l ≡ false → SameOf s (commit s n.0 answer) l
+  other_same : (l : Lsp) → same_lsp (next_lsp (local_node t n) (s.nodes n.0)) l ≡ false →
+      SameOf s (commit s n.0 answer) l
   other_same l apart =
       let of : IsOf (next_lsp (local_node t n) (s.nodes n.0)) answer =
       record { legs = (refl, tt); sent = (refl, refl, tt) } in
@@ -269,30 +275,42 @@ module _ (t : Network) (s : Mesh) (n : NodeId) (l : Lsp) (o : Option (List Step)
         l o f
         (same_lsp (next_lsp (local_node t n) (s.nodes n.0)) l) refl))
 
-    via_stepped : (via : Option (List Step)) →
-        ((route : List Step) → via ≡ Some route → makes_route t n w.egress route ≡ true) →
-        Stepped t s n l o (new_call place state w via)
-    via_stepped None made = stepped_nothing
-    via_stepped (Some []) made = stepped_nothing
-    via_stepped (Some (hop ∷ further)) made = go (nat_eq hop.node.0 n.0 && nat_lt (length further) 63)
+    route_stepped : (route : List Step) → makes_route t n w.egress route ≡ true →
+        Stepped t s n l o (over_first place state w route (first_link place route))
+    route_stepped [] made = stepped_nothing
+    route_stepped (hop ∷ further) made = go (nat_eq hop.node.0 n.0 && nat_lt (length further) 63)
       where
         over : (link : Option LinkSpec) → own_link (local_node t n) hop.link ≡ link →
             Stepped t s n l o (over_first place state w (hop ∷ further) link)
         over None e = stepped_nothing
-        over (Some out) e = admitted_stepped out hop further (made (hop ∷ further) refl) e
+        over (Some out) e = admitted_stepped out hop further made e
 
         go : (b : Bool) →
-            Stepped t s n l o (over_first place state w (hop ∷ further) (cond b (own_link (local_node t n) hop.link) None))
+            Stepped t s n l o (over_first place state w (hop ∷ further)
+            (cond b (own_link (local_node t n) hop.link) None))
         go true = over (own_link (local_node t n) hop.link) refl
         go false = stepped_nothing
 
+    -- a route that is found is one of the network
+    found_stepped : is_searchable t ≡ true → AreRowsOf t state.learnt → (found : Option Trip) →
+        least_trip (known_rows place state) n w.egress ≡ found → Stepped t s n l o (over_found place state w found)
+    found_stepped searchable are None e = refused_stepped w NoRoute
+    found_stepped searchable are (Some r) e = route_stepped r.steps (found-leads t n w.egress state r searchable are e)
+
+    via_stepped : AreRowsOf t state.learnt → (via : Option (List Step)) → (via ≡ None → is_searchable t ≡ true) →
+        ((route : List Step) → via ≡ Some route → makes_route t n w.egress route ≡ true) →
+        Stepped t s n l o (new_call place state w via)
+    via_stepped are None searchable made =
+        found_stepped (searchable refl) are (least_trip (known_rows place state) n w.egress) refl
+    via_stepped are (Some route) searchable made = route_stepped route (made route refl)
+
     pub setup_stepped : ((route : List Step) → w.via ≡ Some route → makes_route t w.from w.egress route ≡ true) →
-        (known : Option CallRec) →
+        (w.via ≡ None → is_searchable t ≡ true) → AreRowsOf t state.learnt → (known : Option CallRec) →
         Stepped t s n l o (setup_with (local_node t n) (s.nodes n.0) w known)
-    setup_stepped made (Some c) = stepped_nothing
-    setup_stepped made None =
+    setup_stepped made searchable are (Some c) = stepped_nothing
+    setup_stepped made searchable are None =
         if_cases (Stepped t s n l o) (is_order_here place w) _ _
-        (λ h. via_stepped w.via
+        (λ h. via_stepped are w.via searchable
         (λ route e. subst (λ m. makes_route t m w.egress route ≡ true) (here (and_first _ _ h)) (made route e)))
         (λ h. stepped_nothing)
       where

@@ -22,7 +22,8 @@ use Rattle.mesh_rules.specs.Machine.{Mesh, start}
 use Rattle.mesh_rules.specs.Events.{IsRun, after, route_of}
 use Rattle.mesh_laws.specs.CallLaw.{fits, phase_of, IsNamed}
 use Rattle.mesh_laws.specs.HopLaw.{HasOneLegEach, EveryHopHasAShape}
-use Rattle.mesh_laws.proofs.nodes.Facts.{CallFacts, DeskFits, FitsDesk, MeshFacts}
+use Rattle.mesh_laws.specs.NodeLaw.{DeskFits, FitsDesk}
+use Rattle.mesh_laws.proofs.nodes.Facts.{CallFacts, MeshFacts}
 use Rattle.mesh_nodes.specs.Order.{LegsRise}
 use Rattle.mesh_nodes.proofs.LegList.{all-found, found-lsp}
 use Rattle.mesh_laws.proofs.nodes.Runs.{facts-start, facts-step, facts-hold}
@@ -83,6 +84,7 @@ step_facts : (t : Network) (s : Mesh) → MeshFacts t s → StepFacts t s
 step_facts t s facts = record {
   call = λ n k c found. call_stands n (s.nodes n) c ((facts.node n).call k c found);
   desk = λ n i items is. item_fits t n i (let fits : DeskFits t n (i ∷ items) = rw is at (facts.desk n) in fits.0);
+  learnt = facts.learnt;
 }
 
 -- each LSP with its route, in every state of every run

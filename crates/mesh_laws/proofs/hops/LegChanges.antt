@@ -191,7 +191,7 @@ connected_fits t l p i g label x fits enters = record {
   next = fits.next;
   out_fibre = fits.out_fibre;
   route = fits.route;
-  phase = (enters, λ small. (x, refl));
+  phase = rw fits.role (enters, λ small. (x, refl));
 }
 
 -- the place before, if there is one

@@ -22,7 +22,9 @@ use Rattle.mesh_rules.specs.Changes.{Answer, nothing}
 use Rattle.mesh_rules.specs.LocalNodes.{LocalNode, local_node}
 use Rattle.mesh_rules.specs.Legs.{following, leg_of}
 use Rattle.mesh_rules.specs.Calls.{find_call}
-use Rattle.mesh_rules.specs.Setups.{SetupRequest, is_spent, is_full, first_link, is_order_here, over_first, new_call, setup_with}
+use Rattle.mesh_rules.specs.KnownRows.{known_rows}
+use Rattle.mesh_rules.specs.LeastRoutes.{Trip, least_trip}
+use Rattle.mesh_rules.specs.Setups.{SetupRequest, is_spent, is_full, first_link, is_order_here, over_first, over_found, new_call, setup_with}
 use Rattle.mesh_rules.specs.Releases.{tear_to, tears, release_with}
 use Rattle.mesh_rules.specs.Orders.{on_order}
 use Rattle.mesh_rules.specs.Machine.{Mesh, start, sent_to}
@@ -64,8 +66,12 @@ over-plain p s w route (Some out) =
     if_cases IsPlain (is_spent s) _ _ (λ h. record { sent = tt }) (λ h.
     if_cases IsPlain (is_full s) _ _ (λ f. record { sent = tt }) (λ f. record { sent = (refl, tt) }))
 
+found-plain : (p : LocalNode) (s : NodeState) (w : SetupRequest) (o : Option Trip) → IsPlain (over_found p s w o)
+found-plain p s w None = record { sent = tt }
+found-plain p s w (Some r) = over-plain p s w r.steps (first_link p r.steps)
+
 via-plain : (p : LocalNode) (s : NodeState) (w : SetupRequest) (via : Option (List Step)) → IsPlain (new_call p s w via)
-via-plain p s w None = record { sent = tt }
+via-plain p s w None = found-plain p s w (least_trip (known_rows p s) p.id w.egress)
 via-plain p s w (Some route) = over-plain p s w route (first_link p route)
 
 setup-plain : (p : LocalNode) (s : NodeState) (w : SetupRequest) (c : Option CallRec) → IsPlain (setup_with p s w c)

@@ -10,6 +10,7 @@ use Rattle.ason_base.specs.declared.ids.Lsp.{Lsp}
 use Rattle.ason_base.specs.declared.ids.NodeId.{NodeId}
 use Rattle.ason_base.specs.declared.steps.Step.{Step}
 use Rattle.ason_base.specs.declared.network.LinkSpec.{LinkSpec}
+use Rattle.ason_base.specs.declared.risks.Risk.{Risk}
 use Rattle.ason_base.specs.declared.messages.Msg.{Msg}
 use Rattle.ason_base.specs.declared.messages.Msg.TheVariants.{Path, Resv, PathTear, PathErr, Notify}
 use Rattle.ason_base.specs.declared.tables.CallRec.{CallRec}
@@ -24,7 +25,7 @@ use Rattle.mesh_rules.specs.Changes.{Answer, nothing, puts, removes, followed_by
 use Rattle.mesh_rules.specs.LocalNodes.{LocalNode, own_link, leads}
 use Rattle.mesh_rules.specs.Legs.{find_leg, is_asked, is_closing, connected, previous, following, is_node, is_over, usable}
 use Rattle.mesh_rules.specs.Calls.{call_of, is_asking}
-use Rattle.mesh_rules.specs.Paths.{PathRequest, is_for_work, first_failure, checks, offered_labels, at_egress, in_transit, admitted, judged, first_path, path_with}
+use Rattle.mesh_rules.specs.Paths.{PathRequest, is_active, risks_here, first_failure, checks, offered_labels, at_egress, in_transit, admitted, judged, first_path, path_with}
 use Rattle.mesh_rules.specs.Resvs.{is_expected, call_connected, label_back, passed_back, answered, resv_with}
 use Rattle.mesh_rules.specs.PathErrs.{PathFailure, call_refused, err_passed, removed, path_err_with}
 use Rattle.mesh_rules.specs.Tears.{torn, tear_with}
@@ -109,46 +110,50 @@ own-then n l a b own quiet = record {
 
 -- Path
 
-own-at_egress : (n : ℕ) (p : LocalNode) (m : PathRequest) (link : LinkSpec) (offered : List ℕ) (x : Option ℕ) →
-    Own n m.arrival.lsp (at_egress p m link offered x)
-own-at_egress n p m link offered None = own-nothing n m.arrival.lsp
-own-at_egress n p m link offered (Some x) =
+own-at_egress : (n : ℕ) (p : LocalNode) (m : PathRequest) (link : LinkSpec) (risks : List Risk) (offered : List ℕ)
+    (x : Option ℕ) →
+    Own n m.arrival.lsp (at_egress p m link risks offered x)
+own-at_egress n p m link risks offered None = own-nothing n m.arrival.lsp
+own-at_egress n p m link risks offered (Some x) =
     record { legs = (refl, tt); sent = (refl, refl, tt); numbers = refl; none_begins = λ k e. refl }
 
 other_ingress : (l k : Lsp) (n : ℕ) → nat_eq l.ingress.0 n ≡ false → nat_eq k.ingress.0 n ≡ true → same_lsp l k ≡ false
 other_ingress l k n e f = grind arith
 
 -- the Path that goes on is of another node's LSP
-own-in_transit : (p : LocalNode) (m : PathRequest) (link : LinkSpec) (route : List Step) (offered : List ℕ)
-    (o : Option LinkSpec) →
-    nat_eq m.arrival.lsp.ingress.0 p.id.0 ≡ false → Own p.id.0 m.arrival.lsp (in_transit p m link route offered o)
-own-in_transit p m link route offered None away = own-nothing p.id.0 m.arrival.lsp
-own-in_transit p m link route offered (Some out) away = record {
+own-in_transit : (p : LocalNode) (m : PathRequest) (link : LinkSpec) (risks : List Risk) (route : List Step)
+    (offered : List ℕ) (o : Option LinkSpec) →
+    nat_eq m.arrival.lsp.ingress.0 p.id.0 ≡ false → Own p.id.0 m.arrival.lsp (in_transit p m link risks route offered o)
+own-in_transit p m link risks route offered None away = own-nothing p.id.0 m.arrival.lsp
+own-in_transit p m link risks route offered (Some out) away = record {
   legs = (refl, tt);
   sent = (refl, refl, tt);
   numbers = refl;
   none_begins = λ k e. rw (other_ingress m.arrival.lsp k p.id.0 away e) refl;
 }
 
-own-admitted : (p : LocalNode) (m : PathRequest) (link : LinkSpec) (offered : List ℕ) (route : List Step) →
-    nat_eq m.arrival.lsp.ingress.0 p.id.0 ≡ false → Own p.id.0 m.arrival.lsp (admitted p m link offered route)
-own-admitted p m link offered [] away = own-at_egress p.id.0 p m link offered (least offered)
-own-admitted p m link offered (hop ∷ route) away = own-in_transit p m link route offered (own_link p hop.link) away
+own-admitted : (p : LocalNode) (m : PathRequest) (link : LinkSpec) (risks : List Risk) (offered : List ℕ)
+    (route : List Step) →
+    nat_eq m.arrival.lsp.ingress.0 p.id.0 ≡ false → Own p.id.0 m.arrival.lsp (admitted p m link risks offered route)
+own-admitted p m link risks offered [] away = own-at_egress p.id.0 p m link risks offered (least offered)
+own-admitted p m link risks offered (hop ∷ route) away =
+    own-in_transit p m link risks route offered (own_link p hop.link) away
 
 own-judged : (p : LocalNode) (s : NodeState) (m : PathRequest) (link : LinkSpec) (o : Option ErrCode) →
     nat_eq m.arrival.lsp.ingress.0 p.id.0 ≡ false → Own p.id.0 m.arrival.lsp (judged p s m link o)
 own-judged p s m link (Some code) away =
     record { legs = tt; sent = (refl, refl, tt); numbers = refl; none_begins = λ k e. refl }
-own-judged p s m link None away = own-admitted p m link (offered_labels p s m link) m.route away
+own-judged p s m link None away = own-admitted p m link (risks_here p s m) (offered_labels p s m link) m.route away
 
 own-first_path : (p : LocalNode) (s : NodeState) (m : PathRequest) (o : Option LinkSpec) →
     Own p.id.0 m.arrival.lsp (first_path p s m o)
 own-first_path p s m None = own-nothing p.id.0 m.arrival.lsp
 own-first_path p s m (Some link) =
     if_cases (Own p.id.0 m.arrival.lsp)
-    (is_for_work m.role && (leads (Some link) m.arrival.from p.id && not (nat_eq m.arrival.lsp.ingress.0 p.id.0))) _ _
+    (not (is_active m.role) && (leads (Some link) m.arrival.from p.id
+    && not (nat_eq m.arrival.lsp.ingress.0 p.id.0))) _ _
     (λ h.
-    let away = both_right (leads (Some link) m.arrival.from p.id) _ (both_right (is_for_work m.role) _ h) in
+    let away = both_right (leads (Some link) m.arrival.from p.id) _ (both_right (not (is_active m.role)) _ h) in
     own-judged p s m link (first_failure (checks p s m link)) (not-true (nat_eq m.arrival.lsp.ingress.0 p.id.0) away))
     (λ h. own-nothing p.id.0 m.arrival.lsp)
 
@@ -167,7 +172,8 @@ own-passed_back n l p a g h x None is =
 own-passed_back n l p a g h x (Some y) is =
     record { legs = (is, tt); sent = (is, refl, tt); numbers = refl; none_begins = λ k e. refl }
 
-own-answered : (n : ℕ) (l : Lsp) (p : LocalNode) (s : NodeState) (a : Arrival) (x : ℕ) (g : Leg) (o : Option Neighbour) →
+own-answered : (n : ℕ) (l : Lsp) (p : LocalNode) (s : NodeState) (a : Arrival) (x : ℕ) (g : Leg)
+    (o : Option Neighbour) →
     g.lsp ≡ l →
     Own n l (answered p s a x g o)
 own-answered n l p s a x g None is =
@@ -180,7 +186,7 @@ own-answered n l p s a x g None is =
       none_begins = λ k e. refl;
     }) (quiet-connected (call_of g.lsp s.calls))
 own-answered n l p s a x g (Some h) is =
-    own-passed_back n l p a g h x (label_back p (meet g.offered (usable p s.legs h.fibre)) x) is
+    own-passed_back n l p a g h x (label_back p (meet g.offered (usable p s.legs g.role g.risks h.fibre)) x) is
 
 own-on_resv : (n : ℕ) (l : Lsp) (p : LocalNode) (s : NodeState) (a : Arrival) (x : ℕ) (o : Option Leg) → IsLegOf l o →
     Own n l (resv_with p s a x o)

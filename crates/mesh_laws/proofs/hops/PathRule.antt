@@ -73,7 +73,7 @@ drop-some (suc j) (x ∷ xs) h r e =
 some_label : (p : LocalNode) (s : NodeState) (m : PathRequest) (link : LinkSpec) →
     first_failure (checks p s m link) ≡ None →
     is_none (least (offered_labels p s m link)) ≡ false
-some_label p s m link none = (none_fails (checks p s m link) none).1.1.0
+some_label p s m link none = (none_fails (checks p s m link) none).1.1.1.0
 
 module _ (t : Network) (s : Mesh) (l : Lsp) (p : Plan) (i : ℕ) (route : IsRoute t l.ingress p)
     (chain : Chain t Carries l p (leg_at s l) (mail_between s l)) (below : i < hops p)
@@ -170,15 +170,15 @@ module _ (t : Network) (s : Mesh) (l : Lsp) (p : Plan) (i : ℕ) (route : IsRout
 
     -- at the egress
     ends : r ≡ [] → (x : Option ℕ) → least offered ≡ x → is_none x ≡ false →
-        Keeps (at_egress place asks over.link offered x)
+        Keeps (at_egress place asks over.link [] offered x)
     ends end None is some = absurd cc
     ends end (Some y) is some =
         let done : drop (suc i) p.route ≡ [] = sym what.2 ∙ end in
         let long : length p.route ≤ suc i = drop-none (suc i) p.route done in
         let stop : nat_lt (suc i) (hops p) ≡ false = lt_false long in
         down_taken t Carries s l p i route chain below message rest was own
-        (at_egress place asks over.link offered (Some y))
-        (Some (egress_leg place asks over.link offered y)) (Resv l e over.link.id y ∷ []) []
+        (at_egress place asks over.link [] offered (Some y))
+        (Some (egress_leg place asks over.link [] offered y)) (Resv l e over.link.id y ∷ []) []
         (rw (same_lsp-refl l) refl) (sends_back t l l.ingress p route i (Resv l e over.link.id y) below own)
         (record {
           own = refl;
@@ -193,7 +193,7 @@ module _ (t : Network) (s : Mesh) (l : Lsp) (p : Plan) (i : ℕ) (route : IsRout
           phase = ((y, refl), λ small. absurd (omega arith));
         })
         (path_answered Carries p i (leg_at s l u) l e k r set label (Work guard) (messages_of l rest) _ refl hop_here
-        (egress_leg place asks over.link offered y) e over.link.id y refl refl
+        (egress_leg place asks over.link [] offered y) e over.link.id y refl refl
         (within y (has_least offered y is)) (over.id ∙ what.1))
         (λ small. absurd (omega arith))
         (λ gone path. cc (last, path))
@@ -202,13 +202,13 @@ module _ (t : Network) (s : Mesh) (l : Lsp) (p : Plan) (i : ℕ) (route : IsRout
     -- elsewhere
     goes_on : (n : Leads t (link_at p (suc i)) (node_at p (suc i)) (node_at p (suc (suc i)))) (further : List Step) →
         suc i < hops p →
-        further ≡ drop (suc (suc i)) p.route → Keeps (in_transit place asks over.link further offered (Some n.link))
+        further ≡ drop (suc (suc i)) p.route → Keeps (in_transit place asks over.link [] further offered (Some n.link))
     goes_on n further small is =
         let more : nat_lt (suc i) (hops p) ≡ true = lt_true small in
-        let g : Leg = transit_leg place asks over.link n.link further offered in
+        let g : Leg = transit_leg place asks over.link [] n.link further offered in
         let m : Msg = Path l e n.link.id further (set_on place n.link offered) None (Work guard) in
         down_taken t Carries s l p i route chain below message rest was own
-        (in_transit place asks over.link further offered (Some n.link)) (Some g) [] (m ∷ [])
+        (in_transit place asks over.link [] further offered (Some n.link)) (Some g) [] (m ∷ [])
         (rw (same_lsp-refl l) refl)
         (rw n.far (sends_on t l l.ingress p route (suc i) m small own))
         (record {
@@ -237,7 +237,7 @@ module _ (t : Network) (s : Mesh) (l : Lsp) (p : Plan) (i : ℕ) (route : IsRout
         (λ _ gone path j after small'. beyond j (omega arith) small')
 
     admits : (r' : List Step) → r ≡ r' → is_none (least offered) ≡ false →
-        Keeps (admitted place asks over.link offered r')
+        Keeps (admitted place asks over.link [] offered r')
     admits [] end some = ends end (least offered) refl some
     admits (hop ∷ further) is some =
         let st = drop-some (suc i) p.route hop further (sym what.2 ∙ is) in

@@ -99,11 +99,21 @@ ends_join link u d touches far apart = go (nat_eq link.low.0 u.0) (nat_eq link.h
     go true b e f h far =
         let high : nat_eq link.high.0 d.0 ≡ true = rw far (same d.0) in
         let low : nat_eq link.low.0 d.0 ≡ false = grind arith in
-        record { touches_far = rw (low, high) refl; leads = rw (e, high) refl; fibre = λ i. record { link = link.id; forward = (e ∙ sym high) i } }
+        record {
+          touches_far = rw (low, high) refl;
+          leads = rw (e, high) refl;
+          fibre =
+              λ i. record { link = link.id; forward = (e ∙ sym high) i };
+        }
     go false true e f h far =
         let low : nat_eq link.low.0 d.0 ≡ true = rw far (same d.0) in
         let high : nat_eq link.high.0 d.0 ≡ false = grind arith in
-        record { touches_far = rw low refl; leads = rw (e, low, f) refl; fibre = λ i. record { link = link.id; forward = (e ∙ sym high) i } }
+        record {
+          touches_far = rw low refl;
+          leads = rw (e, low, f) refl;
+          fibre =
+              λ i. record { link = link.id; forward = (e ∙ sym high) i };
+        }
     go false false e f h far = absurd cc
 
 pub joined : (t : Network) (k : LinkId) (u d : NodeId) → u.0 ≢ d.0 → (over : Leads t k u d) → Joins over.link u d
@@ -112,7 +122,8 @@ joined t k u d apart over = ends_join over.link u d over.touches over.far apart
 pub own_far : (t : Network) (k : LinkId) (u d : NodeId) → u.0 ≢ d.0 → (over : Leads t k u d) →
     own_link (local_node t d) k ≡ Some over.link
 own_far t k u d apart over =
-    find-filter (λ l. nat_eq l.id.0 k.0) (touches d) t.links over.link over.found (joined t k u d apart over).touches_far
+    find-filter (λ l. nat_eq l.id.0 k.0) (touches d) t.links over.link over.found
+    (joined t k u d apart over).touches_far
 
 found_id : (k : LinkId) (links : List LinkSpec) (l : LinkSpec) → find (λ m. nat_eq m.id.0 k.0) links ≡ Some l → l.id ≡ k
 found_id k [] l e = cc
@@ -189,13 +200,19 @@ linked t from to (h ∷ route) e = go (nat_eq h.node.0 from.0) refl e (λ n. lin
 
     touch : (l : LinkSpec) (b : Bool) → find_link t h.link ≡ Some l → touches from l ≡ b →
         nat_eq h.node.0 from.0 ≡ true →
-        is_end (fold (one_step t) (cond b (Some (other_end l from)) None) route) to ≡ true → ((n : NodeId) → is_end (route_end t n route) to ≡ true → Linked t n (plan route to)) → Linked t from (plan (h ∷ route) to)
+        is_end (fold (one_step t) (cond b (Some (other_end l from)) None) route) to ≡ true →
+        ((n : NodeId) → is_end (route_end t n route) to ≡ true → Linked t n (plan route to)) →
+        Linked t from (plan (h ∷ route) to)
     touch l false found touches test e again = absurd (none e)
     touch l true found touches test e again =
-        linked_more t from (other_end l from) h (plan route to) test (record { link = l; found = found; id = found_id h.link t.links l found; touches = touches; far = refl }) (again (other_end l from) e)
+        linked_more t from (other_end l from) h (plan route to) test
+        (record { link = l; found = found; id = found_id h.link t.links l found; touches = touches; far = refl })
+        (again (other_end l from) e)
 
     over : (o : Option LinkSpec) → find_link t h.link ≡ o → nat_eq h.node.0 from.0 ≡ true →
-        is_end (fold (one_step t) (across o from) route) to ≡ true → ((n : NodeId) → is_end (route_end t n route) to ≡ true → Linked t n (plan route to)) → Linked t from (plan (h ∷ route) to)
+        is_end (fold (one_step t) (across o from) route) to ≡ true →
+        ((n : NodeId) → is_end (route_end t n route) to ≡ true → Linked t n (plan route to)) →
+        Linked t from (plan (h ∷ route) to)
     over None found test e again = absurd (none e)
     over (Some l) found test e again = touch l (touches from l) found refl test e again
 
@@ -210,7 +227,8 @@ no_node : (route : List Step) (to : NodeId) (x : ℕ) →
     list_any (λ y. nat_eq y x) (nodes_of route ++ to.0 ∷ []) ≡ false → (j : ℕ) → j ≤ length route →
     (node_at (plan route to) j).0 ≡ x → ⊥
 no_node [] to x none zero small is =
-    (let e : nat_eq to.0 x ≡ true = rw is (same x) in let f : (nat_eq to.0 x || false) ≡ false = none in let g = rw e at f in cc)
+    (let e : nat_eq to.0 x ≡ true = rw is (same x) in let f : (nat_eq to.0 x || false) ≡ false = none in let g =
+    rw e at f in cc)
 no_node [] to x none (suc j) small is = omega arith
 no_node (h ∷ route) to x none zero small is =
     (let e : nat_eq h.node.0 x ≡ true = rw is (same x) in let g = rw e at none in cc)

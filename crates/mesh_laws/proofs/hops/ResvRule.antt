@@ -1,5 +1,5 @@
 -- A Resv is taken at a node of the route of a working LSP.
-use Rattle.std.proofs.Common.{◌≡◌, ◌<◌, ℕ, suc, true, List, [], ◌∷◌, refl, subst, arith, inl, inr, append-nil}
+use Rattle.std.proofs.Common.{◌≡◌, ◌<◌, ℕ, suc, true, List, [], ◌∷◌, refl, ap, subst, arith, inl, inr, append-nil}
 use Rattle.std.specs.Prelude.{Option, Some, None}
 use Rattle.ason_base.specs.Codes.{label_code}
 use Rattle.ason_base.specs.Labels.{has, meet}
@@ -17,12 +17,12 @@ use Rattle.mesh_rules.specs.declared.arrivals.Arrival.{Arrival}
 use Rattle.mesh_rules.specs.State.{NodeState}
 use Rattle.mesh_rules.specs.Changes.{Answer, nothing, puts, followed_by, to_node}
 use Rattle.mesh_rules.specs.LocalNodes.{LocalNode, local_node}
-use Rattle.mesh_rules.specs.Legs.{closed, connected, previous, usable}
+use Rattle.mesh_rules.specs.Legs.{closed, connected, previous, reserved, usable}
 use Rattle.mesh_rules.specs.Calls.{call_of}
 use Rattle.mesh_rules.specs.Resvs.{is_expected, call_connected, label_back, passed_back, answered, resv_with}
 use Rattle.mesh_rules.specs.Messages.{arrival}
 use Rattle.mesh_rules.specs.Machine.{Mesh, without_first}
-use Rattle.mesh_laws.specs.HopShapes.{LegKind, NoLeg, IsTorn, StillWaits, leg_kind}
+use Rattle.mesh_laws.specs.HopShapes.{LegKind, LiveLeg, NoLeg, IsTorn, StillWaits, leg_kind, phase_kind}
 use Rattle.mesh_laws.specs.HopLaw.{is_message_of, messages_of, leg_at, mail_between}
 use Rattle.mesh_laws.proofs.hops.Plans.{Plan, hops, node_at, link_at, fibre_at, IsRoute, same}
 use Rattle.mesh_laws.proofs.hops.Labels.{has_label_back, has_meet}
@@ -75,6 +75,10 @@ module _ (t : Network) (s : Mesh) (l : Lsp) (p : Plan) (i : ℕ) (route : IsRout
     mine : same_lsp g.lsp l ≡ true
     mine = same_of g.lsp l fits.own
 
+    -- a working leg that gets its label is Live
+    connected_live : (label : Option ℕ) → leg_kind (Some (connected g label x)) ≡ LiveLeg
+    connected_live label = ap (λ r. phase_kind (reserved r)) fits.role
+
     hop_of : Hop Carries p i (Some g) (leg_at s l far) (mail_between s l n far) (Resv l e k x ∷ messages_of l rest)
     hop_of = rw here at hop
 
@@ -103,7 +107,8 @@ module _ (t : Network) (s : Mesh) (l : Lsp) (p : Plan) (i : ℕ) (route : IsRout
           (puts (connected g None x) []) (Some (connected g None x)) [] []
           (rw mine refl) (sends_none l p i) (connected_fits t l p i g None x fits (rw first refl))
           (λ j q. absurd (omega arith))
-          (resv_connects Carries p i _ _ _ g l e k x asked hop_of (connected g None x) refl refl refl)
+          (resv_connects Carries p i _ _ _ g l e k x asked hop_of (connected g None x)
+          (connected_live None) refl refl)
           (λ j q gone. absurd cc) refl
 
       at_ingress : (b : Answer) → IsQuiet b → i ≡ 0 → Keeps (followed_by (puts (connected g None x) []) b)
@@ -144,8 +149,9 @@ module _ (t : Network) (s : Mesh) (l : Lsp) (p : Plan) (i : ℕ) (route : IsRout
           (connected_fits t l p i g (Some y) x fits (rw (← before) (y, refl)))
           (λ m q. let at_j : m ≡ j = omega arith in
           asked_reserved Carries p m _ _ _ g (hop_before m q) (connected g (Some y) x) g.lsp g.egress (link_at p j) y
-          asked refl refl offered (rw at_j refl))
-          (resv_connects Carries p i _ _ _ g l e k x asked hop_of (connected g (Some y) x) refl refl refl)
+          asked (connected_live (Some y)) refl offered (rw at_j refl))
+          (resv_connects Carries p i _ _ _ g l e k x asked hop_of (connected g (Some y) x)
+          (connected_live (Some y)) refl refl)
           (λ m q gone. absurd cc) refl
 
       goes_back : (j : ℕ) → suc j ≡ i → (o : Option ℕ) → ((y : ℕ) → o ≡ Some y → has g.offered y ≡ true) →
@@ -160,10 +166,11 @@ module _ (t : Network) (s : Mesh) (l : Lsp) (p : Plan) (i : ℕ) (route : IsRout
           (at_ingress (call_connected (call_of g.lsp state.calls)) (quiet-connected (call_of g.lsp state.calls)) first)
       answers (inr (j, before)) =
           let fits' : LegFits t Carries l p (suc j) g = rw before fits in
-          let labels : List ℕ = meet g.offered (usable place state.legs (fibre_at t p j)) in
+          let labels : List ℕ = meet g.offered (usable place state.legs g.role g.risks (fibre_at t p j)) in
           rw (previous_is t Carries l p j g fits')
           (goes_back j before (label_back place labels x)
-          (λ y q. has_meet g.offered (usable place state.legs (fibre_at t p j)) y (has_label_back place labels x y q)))
+          (λ y q. has_meet g.offered (usable place state.legs g.role g.risks (fibre_at t p j)) y
+          (has_label_back place labels x y q)))
 
       taken : Keeps (resv_with place state came x (Some g))
       taken =
@@ -171,7 +178,6 @@ module _ (t : Network) (s : Mesh) (l : Lsp) (p : Plan) (i : ℕ) (route : IsRout
           let test : is_expected came x g ≡ true =
           rw (
             asked,
-            fits.role,
             following_is t Carries l p i g fits below,
             same (node_at p (suc i)).0,
             over,

@@ -11,7 +11,7 @@ use Rattle.ason_base.specs.declared.commands.Command.TheVariants.{Setup, Release
 use Rattle.ason_base.specs.declared.commands.DeskItem.{DeskItem}
 use Rattle.ason_base.specs.declared.commands.DeskItem.TheVariants.{Order, Alarm, Clear}
 use Rattle.ason_base.specs.declared.tables.CallRec.{CallRec}
-use Rattle.ason_base.specs.Routes.{makes_route, is_given_route}
+use Rattle.ason_base.specs.Routes.{makes_route}
 use Rattle.mesh_rules.specs.declared.events.MeshEvent.{MeshEvent}
 use Rattle.mesh_rules.specs.declared.events.MeshEvent.TheVariants.{Take, Desk, Tick, Learn, Post}
 use Rattle.mesh_rules.specs.Changes.{Answer}
@@ -19,16 +19,17 @@ use Rattle.mesh_rules.specs.LocalNodes.{local_node}
 use Rattle.mesh_rules.specs.Calls.{find_call}
 use Rattle.mesh_rules.specs.Orders.{on_order, on_item}
 use Rattle.mesh_rules.specs.Releases.{release_with}
-use Rattle.mesh_rules.specs.Commands.{is_valid}
+use Rattle.mesh_rules.specs.Commands.{has_way, is_searchable, is_valid}
 use Rattle.mesh_rules.specs.Machine.{Mesh, commit, without_item}
 use Rattle.mesh_rules.specs.Events.{is_enabled, on_first_item, posted, step, IsRun, after, first_route, or_route, sent_at_ingress, route_of}
 use Rattle.mesh_rules.proofs.Conjunctions.{and_first, and_second}
+use Rattle.mesh_nodes.specs.Routes.{AreRowsOf}
 use Rattle.mesh_laws.proofs.hops.Planned.{Follows, SameOf, follows_same, or_none}
 use Rattle.mesh_laws.proofs.hops.Traced.{traced_take}
 use Rattle.mesh_laws.proofs.hops.Begun.{Stepped, stepped_none, stepped_nothing, setup_stepped}
 use Rattle.mesh_laws.proofs.hops.Released.{CallStands, release_leaves}
 
--- What a step needs to know: of the calls of each node, and of the items on each desk
+-- What a step needs to know: of the calls of each node, of the items on each desk, and of the rows that a node learnt
 
 abbrev pub ItemFits : Network → DeskItem → Type 0
 ItemFits t (Order c) = is_valid t c ≡ true
@@ -38,27 +39,37 @@ ItemFits t (Clear f) = Unit {0}
 pub record StepFacts (t : Network) (s : Mesh) : Type 0 where
   pub call : (n : ℕ) (k : CallNo) (c : CallRec) → find_call k (s.nodes n).calls ≡ Some c → CallStands n (s.nodes n) c
   pub desk : (n : ℕ) (i : DeskItem) (items : List DeskItem) → s.desks n ≡ i ∷ items → ItemFits t i
+  pub learnt : (n : ℕ) → AreRowsOf t (s.nodes n).learnt
 
 -- One item of a desk
 
-given : (t : Network) (from to : NodeId) (via : Option (List Step)) → is_given_route t from to via ≡ true →
+given : (t : Network) (from to : NodeId) (via : Option (List Step)) → has_way t from to via ≡ true →
     (route : List Step) → via ≡ Some route → makes_route t from to route ≡ true
 given t from to None e route q = cc
 given t from to (Some r) e route q = let is : r ≡ route = cc in rw (← is) e
 
+searched : (t : Network) (from to : NodeId) (via : Option (List Step)) → has_way t from to via ≡ true → via ≡ None →
+    is_searchable t ≡ true
+searched t from to None e q = e
+searched t from to (Some r) e q = absurd (cc q)
+
 release_stepped : (t : Network) (s : Mesh) (n from : NodeId) (l : Lsp) (k : CallNo) (o : Option (List Step)) →
     Follows t s l o →
-    StepFacts t s → Stepped t s n l o (release_with (local_node t n) (s.nodes n.0) from (find_call k (s.nodes n.0).calls))
+    StepFacts t s → Stepped t s n l o (release_with (local_node t n) (s.nodes n.0) from
+    (find_call k (s.nodes n.0).calls))
 release_stepped t s n from l k o f facts =
     let r = release_leaves t s n from l o f (find_call k (s.nodes n.0).calls) (λ d e. facts.call n.0 k d e) in
     stepped_none t s n l o _ r.follows r.none
 
 order_stepped : (t : Network) (s : Mesh) (n : NodeId) (l : Lsp) (o : Option (List Step)) (c : Command) →
-    Follows t s l o → StepFacts t s → is_valid t c ≡ true → Stepped t s n l o (on_order (local_node t n) (s.nodes n.0) c)
+    Follows t s l o → StepFacts t s → is_valid t c ≡ true →
+    Stepped t s n l o (on_order (local_node t n) (s.nodes n.0) c)
 order_stepped t s n l o (Setup k from to protected both via backup) f facts valid =
     setup_stepped t s n l o f
     (record { call = k; from = from; egress = to; protected = protected; both = both; via = via; backup = backup })
-    (given t from to via (and_second _ _ (and_first _ _ valid))) (find_call k (s.nodes n.0).calls)
+    (given t from to via (and_second _ (has_way t from to via) (and_first _ _ valid)))
+    (searched t from to via (and_second _ (has_way t from to via) (and_first _ _ valid))) (facts.learnt n.0)
+    (find_call k (s.nodes n.0).calls)
 order_stepped t s n l o (Release k from) f facts valid = release_stepped t s n from l k o f facts
 order_stepped t s n l o (Protect k from) f facts valid = stepped_nothing t s n l o f
 order_stepped t s n l o (Retry k from) f facts valid = stepped_nothing t s n l o f

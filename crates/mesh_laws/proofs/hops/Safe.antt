@@ -16,6 +16,7 @@ use Rattle.mesh_rules.specs.Legs.{takes}
 use Rattle.mesh_rules.specs.Machine.{Mesh, start}
 use Rattle.mesh_rules.specs.Events.{after, route_of}
 use Rattle.mesh_laws.specs.HopLaw.{leg_at, mail_between, HasOneLegEach}
+use Rattle.mesh_laws.specs.LabelLaw.{MayShare, is_in_use}
 use Rattle.mesh_laws.specs.SafeLaw.{StandsAt, EveryRunIsSafe}
 use Rattle.mesh_laws.proofs.nodes.Facts.{MeshFacts}
 use Rattle.mesh_laws.proofs.nodes.Runs.{facts-hold}
@@ -48,13 +49,24 @@ takes_label : (f : Fibre) (x : ℕ) (g : Leg) → g.phase ≡ Live → g.in_fibr
     takes f x g ≡ true
 takes_label f x g live fibre label = rw (live, fibre, same_fibre-refl f, label) (same x)
 
+-- of two legs that share a label not both are Live
+both_live : (g h : Leg) → MayShare g h → g.phase ≡ Live → h.phase ≡ Live → ⊥
+both_live g h shares this that =
+    let both : (is_in_use g.phase && is_in_use h.phase) ≡ true = rw (this, that) refl in
+    let one = shares.one_in_use in
+    cc (both, one)
+
 -- two owners of one label are one LSP's
 owners : (t : Network) (s : Mesh) (f : Fibre) (x : ℕ) (l m : Lsp) → MeshFacts t s → Owner t s f x l →
     Owner t s f x m → l ≡ m
 owners t s f x l m facts a b =
     let at_one : a.node ≡ b.node = (let p = a.receiver in let q = b.receiver in cc (p, q)) in
     let found : leg_at s l b.node ≡ Some a.leg = rw (← at_one) a.found in
-    (facts.node b.node.0).one_leg f x l m a.leg b.leg found b.found (takes_label f x a.leg a.live a.fibre a.label) (takes_label f x b.leg b.live b.fibre b.label)
+    elim ((facts.node b.node.0).labels f x l m a.leg b.leg found b.found
+    (takes_label f x a.leg a.live a.fibre a.label) (takes_label f x b.leg b.live b.fibre b.label)) [
+      | inl same ↦ same
+      | inr shares ↦ absurd (both_live a.leg b.leg shares a.live b.live)
+    ]
 
 -- The node into which the fibre of a hop leads
 
@@ -67,7 +79,8 @@ far_is link u d joins = go (nat_eq link.high.0 d.0) refl joins
         far_end (Some link) b ≡ Some d
     go true e h = let is : link.high.0 ≡ d.0 = grind arith in ap Some (same_node link.high d is)
     go false e h =
-        let is : link.low.0 ≡ d.0 = low (nat_eq link.low.0 u.0) (nat_eq link.low.0 d.0) (nat_eq link.high.0 u.0) refl h in ap Some (same_node link.low d is)
+        let is : link.low.0 ≡ d.0 = low (nat_eq link.low.0 u.0) (nat_eq link.low.0 d.0)
+        (nat_eq link.high.0 u.0) refl h in ap Some (same_node link.low d is)
       where
         low : (a b c : Bool) → nat_eq link.low.0 d.0 ≡ b → ((a && false) || (b && c)) ≡ true → link.low.0 ≡ d.0
         low true true c e h = grind arith
@@ -78,7 +91,8 @@ far_is link u d joins = go (nat_eq link.high.0 d.0) refl joins
 receiver_is : (t : Network) (p : Plan) (i : ℕ) → (node_at p i).0 ≢ (node_at p (suc i)).0 →
     Leads t (link_at p i) (node_at p i) (node_at p (suc i)) → receiver_of t (fibre_at t p i) ≡ Some (node_at p (suc i))
 receiver_is t p i apart over =
-    rw over.found (far_is over.link (node_at p i) (node_at p (suc i)) (joined t (link_at p i) (node_at p i) (node_at p (suc i)) apart over).leads)
+    rw over.found (far_is over.link (node_at p i) (node_at p (suc i))
+    (joined t (link_at p i) (node_at p i) (node_at p (suc i)) apart over).leads)
 
 -- A Live leg with a label out: the next node has it in
 
@@ -90,13 +104,17 @@ out_below t p i f e = go (below_or_not i (hops p)) e
     go (inl small) e = let is : Some (fibre_at t p i) ≡ Some f = rw (lt_true small) at e in (small, cc is)
     go (inr end) e = let is : ◌≡◌ {A = Option Fibre} None (Some f) = rw (lt_false end) at e in absurd (cc is)
 
-module _ (t : Network) (s : Mesh) (l : Lsp) (p : Plan) (route : IsRoute t l.ingress p) (chain : Chain t Carries l p (leg_at s l) (mail_between s l)) (f : Fibre) (x : ℕ) (g : Leg) (live : g.phase ≡ Live) (leaves : g.out_fibre ≡ Some f) (label : g.out_label ≡ Some x) where
+module _ (t : Network) (s : Mesh) (l : Lsp) (p : Plan) (route : IsRoute t l.ingress p)
+    (chain : Chain t Carries l p (leg_at s l) (mail_between s l)) (f : Fibre) (x : ℕ) (g : Leg)
+    (live : g.phase ≡ Live) (leaves : g.out_fibre ≡ Some f) (label : g.out_label ≡ Some x) where
   -- at place i of its route
   owner_at : (i : ℕ) → leg_at s l (node_at p i) ≡ Some g → i ≤ hops p → Owner t s f x l
   owner_at i here small =
       let fits : LegFits t Carries l p i g = rw here at (chain.fits i small) in
       let out = out_below t p i f (sym fits.out_fibre ∙ leaves) in
-      let hop : Hop Carries p i (Some g) (leg_at s l (node_at p (suc i))) (mail_between s l (node_at p i) (node_at p (suc i))) (mail_between s l (node_at p (suc i)) (node_at p i)) = rw here at (chain.each i out.0) in
+      let hop : Hop Carries p i (Some g) (leg_at s l (node_at p (suc i)))
+      (mail_between s l (node_at p i) (node_at p (suc i)))
+      (mail_between s l (node_at p (suc i)) (node_at p i)) = rw here at (chain.each i out.0) in
       let next =
       live_leg (leg_at s l (node_at p (suc i))) (live_upstream role.Work _ _ _ (rw live at hop.shape)).live in
       owned i here out.0 out.1 next.0 next.1 next.2 hop
@@ -106,10 +124,13 @@ module _ (t : Network) (s : Mesh) (l : Lsp) (p : Plan) (route : IsRoute t l.ingr
 
       owned : (i : ℕ) → leg_at s l (node_at p i) ≡ Some g → i < hops p → fibre_at t p i ≡ f → (h : Leg) →
           leg_at s l (node_at p (suc i)) ≡ Some h → h.phase ≡ Live →
-          Hop Carries p i (Some g) (leg_at s l (node_at p (suc i))) (mail_between s l (node_at p i) (node_at p (suc i))) (mail_between s l (node_at p (suc i)) (node_at p i)) → Owner t s f x l
+          Hop Carries p i (Some g) (leg_at s l (node_at p (suc i)))
+          (mail_between s l (node_at p i) (node_at p (suc i)))
+          (mail_between s l (node_at p (suc i)) (node_at p i)) → Owner t s f x l
       owned i here small is h there there_live hop =
           let fits : LegFits t Carries l p (suc i) h = rw there at (chain.fits (suc i) small) in
-          let phase : ((y : ℕ) × (h.in_label ≡ Some y)) × HasOut (suc i) (hops p) h.out_label = rw there_live at fits.phase in
+          let phase : ((y : ℕ) × (h.in_label ≡ Some y)) × HasOut (suc i) (hops p) h.out_label =
+          rw there_live at fits.phase in
           let enters : (y : ℕ) × (h.in_label ≡ Some y) = phase.0 in
           let meets : LabelsMeet g.out_label h.in_label = rw there at hop.rest.labels in
           let far = distinct t l.ingress p route i (suc i) (omega arith) (omega arith) (omega arith) in
@@ -130,12 +151,16 @@ sender_owner t s l None blank n f x g here live leaves label = absurd (let none 
 sender_owner t s l (Some steps) (e, pl) n f x g here live leaves label =
     elim (pl.chain.legs n) [
       | inl none ↦ absurd (cc (none, here))
-      | inr (i, small, at_n) ↦ (let is : n ≡ node_at (plan steps e) i = same_node n (node_at (plan steps e) i) at_n in owner_at t s l (plan steps e) pl.route pl.chain f x g live leaves label i (rw (← is) here) small)
+      | inr (i, small, at_n) ↦ (let is : n ≡ node_at (plan steps e) i =
+          same_node n (node_at (plan steps e) i) at_n in owner_at t s l
+          (plan steps e) pl.route pl.chain f x g live leaves label i
+          (rw (← is) here) small)
     ]
 
 owner : (t : Network) (s : Mesh) → HasOneLegEach s → ((l : Lsp) → (o : Option (List Step)) × Follows t s l o) →
     (f : Fibre) (x : ℕ) (g : Leg) → g.phase ≡ Live → (a b : Option NodeId) → receiver_of t f ≡ a → sender_of t f ≡ b →
-    (StandsAt s a g × (g.in_fibre ≡ Some f) × (g.in_label ≡ Some x)) ⊎ (StandsAt s b g × (g.out_fibre ≡ Some f) × (g.out_label ≡ Some x)) → Owner t s f x g.lsp
+    (StandsAt s a g × (g.in_fibre ≡ Some f) × (g.in_label ≡ Some x)) ⊎
+    (StandsAt s b g × (g.out_fibre ≡ Some f) × (g.out_label ≡ Some x)) → Owner t s f x g.lsp
 owner t s one all f x g live None b at_a at_b (inl h) = absurd h.0
 owner t s one all f x g live (Some n) b at_a at_b (inl h) =
     record { node = n; receiver = at_a; leg = g; found = one n g h.0; live = live; fibre = h.1; label = h.2 }
@@ -146,7 +171,10 @@ owner t s one all f x g live a (Some n) at_a at_b (inr h) =
 pub every_run_safe : EveryRunIsSafe
 every_run_safe t events run f x g h this that =
     let facts = facts-hold t events run in
-    let all : (l : Lsp) → (o : Option (List Step)) × Follows t (after t start events) l o = λ l. (route_of t start events l, follows t events run l) in
+    let all : (l : Lsp) → (o : Option (List Step)) × Follows t (after t start events) l o =
+    λ l. (route_of t start events l, follows t events run l) in
     owners t (after t start events) f x g.lsp h.lsp facts
-    (owner t (after t start events) (one_leg_each t (after t start events) facts) all f x g this.live (receiver_of t f) (sender_of t f) refl refl this.at_an_end)
-    (owner t (after t start events) (one_leg_each t (after t start events) facts) all f x h that.live (receiver_of t f) (sender_of t f) refl refl that.at_an_end)
+    (owner t (after t start events) (one_leg_each t (after t start events) facts) all f x g this.live
+    (receiver_of t f) (sender_of t f) refl refl this.at_an_end)
+    (owner t (after t start events) (one_leg_each t (after t start events) facts) all f x h that.live
+    (receiver_of t f) (sender_of t f) refl refl that.at_an_end)

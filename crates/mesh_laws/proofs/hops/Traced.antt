@@ -117,7 +117,8 @@ own_take t s d u m = own-on_message (local_node t d) (s.nodes d.0) u m
 take_next : (t : Network) (s : Mesh) (d u : NodeId) (m : Msg) (n : ℕ) →
     ((after_take t s d u m).nodes n).lsp ≡ (s.nodes n).lsp
 take_next t s d u m n =
-    next_same (without_first s u.0 d.0) d.0 n (on_message (local_node t d) (s.nodes d.0) u m) (own_take t s d u m).numbers
+    next_same (without_first s u.0 d.0) d.0 n (on_message (local_node t d) (s.nodes d.0) u m)
+    (own_take t s d u m).numbers
 
 -- a message of another LSP, or a Notify
 take_other : (t : Network) (s : Mesh) (d u : NodeId) (m : Msg) (rest : List Msg) (l : Lsp) → s.mail u.0 d.0 ≡ m ∷ rest →

@@ -15,7 +15,7 @@ use Rattle.ason_base.specs.declared.tables.Out.{Out}
 use Rattle.mesh_rules.specs.declared.arrivals.Arrival.{Arrival}
 use Rattle.mesh_rules.specs.declared.neighbours.Neighbour.{Neighbour}
 use Rattle.mesh_rules.specs.LocalNodes.{LocalNode}
-use Rattle.mesh_rules.specs.Legs.{find_leg, is_asked, is_closing, is_work, closed, connected, previous, following, neighbour_over, is_node, is_over, usable}
+use Rattle.mesh_rules.specs.Legs.{find_leg, is_asked, is_closing, closed, connected, previous, following, neighbour_over, is_node, is_over, usable}
 use Rattle.mesh_rules.specs.Calls.{call_of, is_asking}
 use Rattle.mesh_rules.specs.State.{NodeState}
 use Rattle.mesh_rules.specs.Resvs.{is_expected, call_connected, label_back, passed_back, answered, resv_with}
@@ -70,12 +70,14 @@ phase_answered f e = ap is_closing (asked-is f e)
 
 keeps-passed_back : (p : LocalNode) (s : NodeState) (a : Arrival) (g : Leg) (h : Neighbour) (x : ℕ) (o : Option ℕ) →
     NodeFacts p.id.0 s → LegFacts p.id.0 s.lsp g → previous g ≡ Some h → is_some g.next ≡ true → has g.sent x ≡ true →
-    label_back p (meet g.offered (usable p s.legs h.fibre)) x ≡ o → Keeps p s (passed_back p a g h x o)
+    label_back p (meet g.offered (usable p s.legs g.role g.risks h.fibre)) x ≡ o → Keeps p s (passed_back p a g h x o)
 keeps-passed_back p s a g h x None facts leg is goes_on sent looked =
-    keeps-leg p.id.0 s (closed g) (has_previous-away p.id.0 s.lsp g h leg is) (closed-stands p.id.0 s.lsp s.legs g goes_on leg) facts
+    keeps-leg p.id.0 s (closed g) (has_previous-away p.id.0 s.lsp g h leg is)
+    (closed-stands p.id.0 s.lsp s.legs g goes_on leg) facts
 keeps-passed_back p s a g h x (Some y) facts leg is goes_on sent looked =
     keeps-leg p.id.0 s (connected g (Some y) x) (has_previous-away p.id.0 s.lsp g h leg is)
-    (connected-stands p s.lsp s.legs g h x y leg (beside g.prev g.in_fibre h is).fibre goes_on sent (back-has p (meet g.offered (usable p s.legs h.fibre)) x y looked)) facts
+    (connected-stands p s.lsp s.legs g h x y leg (beside g.prev g.in_fibre h is).fibre goes_on sent
+    (back-has p (meet g.offered (usable p s.legs g.role g.risks h.fibre)) x y looked)) facts
 
 keeps-answered : (p : LocalNode) (s : NodeState) (a : Arrival) (x : ℕ) (g : Leg) (o : Option Neighbour) →
     NodeFacts p.id.0 s → find_leg g.lsp s.legs ≡ Some g → g.phase ≡ Asked → is_some g.next ≡ true →
@@ -93,9 +95,11 @@ keeps-answered p s a x g None facts here asked goes_on sent is = go (call_of g.l
         let asking = asking_call p.id.0 s g c facts here asked called in
         let old = facts.call c.call c asking.found in
         let test : (is_asking c.state && not c.protected) ≡ true = rw (asking.state, old.protected) refl in
-        rw test (keeps-bare p.id.0 s g c x facts here asking (ingress-stands p.id.0 s.lsp s.legs g x mine (alone_fibre g.prev g.in_fibre mine.in_fibre is) goes_on sent))
+        rw test (keeps-bare p.id.0 s g c x facts here asking
+        (ingress-stands p.id.0 s.lsp s.legs g x mine (alone_fibre g.prev g.in_fibre mine.in_fibre is) goes_on sent))
 keeps-answered p s a x g (Some h) facts here asked goes_on sent is =
-    keeps-passed_back p s a g h x (label_back p (meet g.offered (usable p s.legs h.fibre)) x) facts (facts.leg g.lsp g here) is goes_on sent refl
+    keeps-passed_back p s a g h x (label_back p (meet g.offered (usable p s.legs g.role g.risks h.fibre)) x)
+    facts (facts.leg g.lsp g here) is goes_on sent refl
 
 pub keeps-on_resv : (p : LocalNode) (s : NodeState) (a : Arrival) (x : ℕ) (o : Option Leg) → NodeFacts p.id.0 s →
     find_leg a.lsp s.legs ≡ o → Keeps p s (resv_with p s a x o)
@@ -105,16 +109,16 @@ keeps-on_resv p s a x (Some g) facts is =
     (λ e.
     let here : find_leg g.lsp s.legs ≡ Some g =
     subst (λ l. find_leg l s.legs ≡ Some g) (sym (found-lsp a.lsp s.legs g is)) is in
-    let test : (is_work g.role && (is_over (following g) a.from a.link && has g.sent x)) ≡ true =
-    both_right (is_asked g.phase) _ e in
-    let test' : (is_over (following g) a.from a.link && has g.sent x) ≡ true = both_right (is_work g.role) _ test in
+    let test : (is_over (following g) a.from a.link && has g.sent x) ≡ true = both_right (is_asked g.phase) _ e in
     keeps-answered p s a x g (previous g) facts here (asked-is g.phase (both_left (is_asked g.phase) _ e))
-    (over-some g.next g.out_fibre a.from a.link (both_left _ _ test')) (both_right (is_over (following g) a.from a.link) _ test') refl)
+    (over-some g.next g.out_fibre a.from a.link (both_left _ _ test))
+    (both_right (is_over (following g) a.from a.link) _ test) refl)
     (λ e. facts)
 
 -- PathErr
 
-keeps-err_passed : (p : LocalNode) (s : NodeState) (g : Leg) (e : PathFailure) (o : Option Neighbour) → NodeFacts p.id.0 s →
+keeps-err_passed : (p : LocalNode) (s : NodeState) (g : Leg) (e : PathFailure) (o : Option Neighbour) →
+    NodeFacts p.id.0 s →
     find_leg g.lsp s.legs ≡ Some g → g.phase ≡ Asked → previous g ≡ o → Keeps p s (err_passed s g e o)
 keeps-err_passed p s g e None facts here asked is = go (call_of g.lsp s.calls) refl
   where
@@ -141,7 +145,8 @@ keeps-removed p s g e facts here =
     (λ h. keeps-err_passed p s g e (previous g) facts here (asked-is g.phase h) refl) (λ h.
     if_cases (Keeps p s) (is_closing g.phase) _ _
     (λ f.
-    keeps-gone p.id.0 s g.lsp (unnamed-torn p.id.0 s.lsp s.legs s.calls g.lsp g here f (call_part p.id.0 s facts)) facts)
+    keeps-gone p.id.0 s g.lsp (unnamed-torn p.id.0 s.lsp s.legs s.calls g.lsp g here f (call_part p.id.0 s facts))
+    facts)
     (λ f. facts))
 
 pub keeps-on_path_err : (p : LocalNode) (s : NodeState) (u : NodeId) (l : Lsp) (e : PathFailure) (o : Option Leg) →
@@ -164,7 +169,8 @@ keeps-torn : (p : LocalNode) (s : NodeState) (g : Leg) (answer : Out) (o : Optio
 keeps-torn p s g answer None facts here away is =
     keeps-gone p.id.0 s g.lsp (unnamed-away p.id.0 s.lsp s.legs s.calls g.lsp away (call_part p.id.0 s facts)) facts
 keeps-torn p s g answer (Some h) facts here away is =
-    keeps-leg p.id.0 s (closed g) away (closed-stands p.id.0 s.lsp s.legs g (following-some g.next g.out_fibre h is) (facts.leg g.lsp g here)) facts
+    keeps-leg p.id.0 s (closed g) away (closed-stands p.id.0 s.lsp s.legs g (following-some g.next g.out_fibre h is)
+    (facts.leg g.lsp g here)) facts
 
 -- a leg to which a message comes from its previous node is away from its ingress
 previous-away : (n next : ℕ) (g : Leg) (u : NodeId) (k : LinkId) → LegFacts n next g →
@@ -179,5 +185,7 @@ keeps-on_tear p s a (Some g) facts is =
     let here : find_leg g.lsp s.legs ≡ Some g =
     subst (λ l. find_leg l s.legs ≡ Some g) (sym (found-lsp a.lsp s.legs g is)) is in
     if_cases (Keeps p s) (not (is_closing g.phase) && is_over (previous g) a.from a.link) _ _
-    (λ e. keeps-torn p s g _ (following g) facts here (previous-away p.id.0 s.lsp g a.from a.link (facts.leg g.lsp g here) (both_right (not (is_closing g.phase)) _ e)) refl)
+    (λ e. keeps-torn p s g _ (following g) facts here
+    (previous-away p.id.0 s.lsp g a.from a.link (facts.leg g.lsp g here)
+    (both_right (not (is_closing g.phase)) _ e)) refl)
     (λ e. facts)

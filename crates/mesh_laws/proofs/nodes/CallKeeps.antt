@@ -12,7 +12,7 @@ use Rattle.ason_base.specs.declared.tables.CallRec.{CallRec}
 use Rattle.ason_base.specs.declared.tables.Leg.{Leg}
 use Rattle.ason_base.specs.Lsps.{same_lsp}
 use Rattle.mesh_rules.specs.declared.changes.CallChange.TheVariants as call
-use Rattle.mesh_rules.specs.Legs.{find_leg, is_closing, connected, with_leg, without_leg, leg_of}
+use Rattle.mesh_rules.specs.Legs.{find_leg, is_closing, connected, reserved, with_leg, without_leg, leg_of}
 use Rattle.ason_base.specs.declared.ids.CallNo.{CallNo}
 use Rattle.mesh_rules.specs.Calls.{find_call, call_of, bare, blocked, with_call}
 use Rattle.mesh_rules.specs.State.{NodeState}
@@ -114,7 +114,8 @@ pub call-fits : (n next : ℕ) (legs : List Leg) (d : CallRec) → d.protected �
     IfSome d.work (IsNamed n next legs Work d.egress) → CallFacts n next legs d
 call-fits n next legs d protected backup back work_reports back_reports state work = record {
   fits = record {
-    state = subst (λ o. fits d.state (phase_of (leg_of d.work legs)) (phase_of (leg_of o legs)) ≡ true) (sym back) state;
+    state = subst (λ o. fits d.state (phase_of (leg_of d.work legs)) (phase_of (leg_of o legs)) ≡ true)
+        (sym back) state;
     work = work;
     back = subst (λ o. IfSome o (IsNamed n next legs role.Back d.egress)) (sym back) tt;
     work_reports = work_reports;
@@ -148,6 +149,15 @@ named-egress n next legs c l g facts work found =
     let one : leg.0 ≡ g = cc (there, found) in
     subst (λ x. x.egress ≡ c.egress) one leg.3
 
+-- the leg of a working LSP is a working leg
+named-role : (n next : ℕ) (legs : List Leg) (c : CallRec) (l : Lsp) (g : Leg) → CallFacts n next legs c →
+    c.work ≡ Some l → find_leg l legs ≡ Some g → g.role ≡ Work
+named-role n next legs c l g facts work found =
+    let leg = (named n next legs c l facts work).leg in
+    let there = leg.1 in
+    let one : leg.0 ≡ g = cc (there, found) in
+    subst (λ x. x.role ≡ Work) one leg.2
+
 pub keeps-bare : (n : ℕ) (s : NodeState) (g : Leg) (c : CallRec) (x : ℕ) → NodeFacts n s →
     find_leg g.lsp s.legs ≡ Some g → AskingCall n s g.lsp c → MayStand n s.lsp s.legs (connected g None x) →
     NodeFacts n (changed s (followed_by (puts (connected g None x) []) (changes_calls (call.Put (bare c) ∷ []))))
@@ -155,6 +165,7 @@ keeps-bare n s g c x facts here asking may =
     let legs' = with_leg (connected g None x) s.legs in
     let old = facts.call c.call c asking.found in
     let work = asking.work in
+    let role_is : g.role ≡ Work = named-role n s.lsp s.legs c g.lsp g old work here in
     let found : find_leg g.lsp legs' ≡ Some (connected g None x) =
     rw (find-with_leg (connected g None x) s.legs g.lsp, same_lsp-refl g.lsp) refl in
     node_facts n (changed s (followed_by (puts (connected g None x) []) (changes_calls (call.Put (bare c) ∷ []))))
@@ -164,7 +175,7 @@ keeps-bare n s g c x facts here asking may =
     (omega arith) (rise-with_call (bare c) s.calls facts.calls_rise) (find-with_call (bare c) s.calls)
     (together n s g.lsp c (bare c) (Some (connected g None x)) legs' facts (find-with_leg (connected g None x) s.legs)
     asking.found work refl
-    (live-fits n s.lsp s.legs legs' c g.lsp (connected g None x) old work found refl (facts.leg g.lsp g here).role
+    (live-fits n s.lsp s.legs legs' c g.lsp (connected g None x) old work found (ap reserved role_is) role_is
     (named-egress n s.lsp s.legs c g.lsp g old work here))
     (λ m named. names-only (bare c) g.lsp m work old.back named)
     (λ h is at_ingress standing. names-work (bare c) g.lsp work))

@@ -1,15 +1,10 @@
 -- What holds at one node in every state of every run.
-use Rattle.std.specs.Prelude.{◌≡◌, ◌<◌, ◌==◌, ◌||◌, ℕ, false, not, List, Some, None, IsTrue, IfSome, is_some}
-use Rattle.std.specs.List.{AllByRecursion}
+use Rattle.std.specs.Prelude.{◌≡◌, ◌<◌, ◌==◌, ◌||◌, ◌⊎◌, ℕ, false, not, List, Some, None, IsTrue, IfSome, is_some}
 use Rattle.ason_base.specs.declared.ids.CallNo.{CallNo}
 use Rattle.ason_base.specs.declared.ids.Fibre.{Fibre}
 use Rattle.ason_base.specs.declared.ids.Lsp.{Lsp}
 use Rattle.ason_base.specs.declared.calls.Phase.{Phase}
 use Rattle.ason_base.specs.declared.calls.Phase.TheVariants.{Asked, Held, Armed, Live, Closing, Falling}
-use Rattle.ason_base.specs.declared.calls.Role.TheVariants.{Work}
-use Rattle.ason_base.specs.declared.commands.Command.TheVariants.{Setup, Release, Protect, Retry, Revert, Fail, Repair}
-use Rattle.ason_base.specs.declared.commands.DeskItem.{DeskItem}
-use Rattle.ason_base.specs.declared.commands.DeskItem.TheVariants.{Order, Alarm, Clear}
 use Rattle.ason_base.specs.declared.tables.CallRec.{CallRec}
 use Rattle.ason_base.specs.declared.tables.Leg.{Leg}
 use Rattle.ason_base.specs.Labels.{has}
@@ -17,27 +12,36 @@ use Rattle.ason_base.specs.Network.{Network}
 use Rattle.mesh_rules.specs.Legs.{find_leg, is_closing, takes}
 use Rattle.mesh_rules.specs.Calls.{find_call}
 use Rattle.mesh_rules.specs.State.{NodeState}
-use Rattle.mesh_rules.specs.Commands.{is_valid}
 use Rattle.mesh_rules.specs.Machine.{Mesh}
 use Rattle.mesh_nodes.specs.Order.{CallsRise, LegsRise}
+use Rattle.mesh_nodes.specs.Routes.{AreRowsOf}
 use Rattle.mesh_laws.specs.CallLaw.{FitsLegs, names}
+use Rattle.mesh_laws.specs.LabelLaw.{MayShare}
+use Rattle.mesh_laws.specs.NodeLaw.{DeskFits}
 
 -- A leg
 
--- Only working LSPs stand, so a leg is Asked, Live or Closing. Asked: no label; Live: a label in exactly where there is a fibre
--- in, and a label out exactly where there is a fibre out; Closing: no label in. An Asked or a Closing leg has a next node.
+-- a label in exactly where there is a fibre in, and a label out exactly where there is a fibre out
+abbrev pub HasItsLabels : Leg → Type 0
+HasItsLabels g = (is_some g.in_label ≡ is_some g.in_fibre) × (is_some g.out_label ≡ is_some g.out_fibre)
+
+-- no label in; another node has still to let go
+abbrev pub IsTornLeg : Leg → Type 0
+IsTornLeg g = (g.in_label ≡ None) × IsTrue (is_some g.next)
+
+-- Asked: no label; beyond Asked: the labels of its fibres. An Asked or a torn leg has a next node.
 abbrev pub FitsPhase : Phase → Leg → Type 0
 FitsPhase Asked g = (g.in_label ≡ None) × (g.out_label ≡ None) × IsTrue (is_some g.next)
-FitsPhase Held g = ⊥
-FitsPhase Armed g = ⊥
-FitsPhase Live g = (is_some g.in_label ≡ is_some g.in_fibre) × (is_some g.out_label ≡ is_some g.out_fibre)
-FitsPhase Closing g = (g.in_label ≡ None) × IsTrue (is_some g.next)
-FitsPhase Falling g = ⊥
+FitsPhase Held g = HasItsLabels g
+FitsPhase Armed g = HasItsLabels g
+FitsPhase Live g = HasItsLabels g
+FitsPhase Closing g = IsTornLeg g
+FitsPhase Falling g = IsTornLeg g
 
--- A leg at node n, whose next LSP number is this one. The ingress has no previous node and no fibre in, every other node has
+-- A leg at node n, whose next LSP number is this one. The ingress has no previous node and no fibre in, every other
+-- node has
 -- both; the egress has no next node and no fibre out, every other node has both; no node is both ends.
 pub record LegFacts (n : ℕ) (next : ℕ) (g : Leg) : Type 0 where
-  pub role : g.role ≡ Work
   pub prev : is_some g.prev ≡ not (g.lsp.ingress.0 == n)
   pub in_fibre : is_some g.in_fibre ≡ is_some g.prev
   pub next_node : is_some g.next ≡ not (g.egress.0 == n)
@@ -50,6 +54,12 @@ pub record LegFacts (n : ℕ) (next : ℕ) (g : Leg) : Type 0 where
   pub sent : IfSome g.out_label (λ x. IsTrue (has g.sent x))
   pub back_in : g.back_in ≡ None
   pub back_out : g.back_out ≡ None
+
+-- legs that take the same label of the same fibre are one LSP's, or may share it
+abbrev pub LabelsFit : List Leg → Type 0
+LabelsFit legs =
+    (f : Fibre) (x : ℕ) (l m : Lsp) (g h : Leg) → find_leg l legs ≡ Some g → find_leg m legs ≡ Some h →
+    IsTrue (takes f x g) → IsTrue (takes f x h) → (l ≡ m) ⊎ MayShare g h
 
 -- A call
 
@@ -70,9 +80,7 @@ pub record HasCall (calls : List CallRec) (l : Lsp) : Type 0 where
 pub record NodeFacts (n : ℕ) (s : NodeState) : Type 0 where
   pub legs_rise : LegsRise s.legs
   pub leg : (l : Lsp) (g : Leg) → find_leg l s.legs ≡ Some g → LegFacts n s.lsp g
-  -- legs that take the same label of the same fibre are one LSP's
-  pub one_leg : (f : Fibre) (x : ℕ) (l m : Lsp) (g h : Leg) → find_leg l s.legs ≡ Some g → find_leg m s.legs ≡ Some h →
-      IsTrue (takes f x g) → IsTrue (takes f x h) → l ≡ m
+  pub labels : LabelsFit s.legs
   pub calls_rise : CallsRise s.calls
   pub call : (k : CallNo) (c : CallRec) → find_call k s.calls ≡ Some c → CallFacts n s.lsp s.legs c
   -- calls that name one LSP are one
@@ -83,25 +91,10 @@ pub record NodeFacts (n : ℕ) (s : NodeState) : Type 0 where
   pub has_call : (l : Lsp) (g : Leg) → find_leg l s.legs ≡ Some g → l.ingress.0 ≡ n → is_closing g.phase ≡ false →
       HasCall s.calls l
 
--- A desk
-
--- a valid command of a call that begins at node n
-abbrev pub FitsDesk : Network → ℕ → DeskItem → Type 0
-FitsDesk t n (Order (Setup call from to protected both via backup)) = IsTrue (is_valid t (Setup call from to protected both via backup)) × (from.0 ≡ n)
-FitsDesk t n (Order (Release call from)) = IsTrue (is_valid t (Release call from)) × (from.0 ≡ n)
-FitsDesk t n (Order (Protect call from)) = IsTrue (is_valid t (Protect call from)) × (from.0 ≡ n)
-FitsDesk t n (Order (Retry call from)) = IsTrue (is_valid t (Retry call from)) × (from.0 ≡ n)
-FitsDesk t n (Order (Revert call from)) = IsTrue (is_valid t (Revert call from)) × (from.0 ≡ n)
-FitsDesk t n (Order (Fail g)) = ⊥
-FitsDesk t n (Order (Repair g)) = ⊥
-FitsDesk t n (Alarm f) = ⊥
-FitsDesk t n (Clear f) = ⊥
-
-abbrev pub DeskFits : Network → ℕ → List DeskItem → Type 0
-DeskFits t n items = AllByRecursion (FitsDesk t n) items
-
 -- Every node
 
 pub record MeshFacts (t : Network) (s : Mesh) : Type 0 where
   pub node : (n : ℕ) → NodeFacts n (s.nodes n)
   pub desk : (n : ℕ) → DeskFits t n (s.desks n)
+  -- what a node learnt are rows of the network
+  pub learnt : (n : ℕ) → AreRowsOf t (s.nodes n).learnt

@@ -1,6 +1,7 @@
--- What the facts of a node say of the places in its lists: each label has one leg, a Live leg has its labels, and the
+-- What the facts of a node say of the places in its lists: each label is shared lawfully, a Live leg has its labels,
+-- and the
 -- state of each call fits its legs.
-use Rattle.std.proofs.Common.{◌≡◌, ◌<◌, ℕ, true, false, not, nat_eq, List, [], ◌∷◌, refl, sym, subst, ◌∙◌, arith}
+use Rattle.std.proofs.Common.{◌≡◌, ◌<◌, ℕ, true, false, not, nat_eq, List, [], ◌∷◌, refl, sym, subst, ◌∙◌, arith, inl, inr}
 use Rattle.std.specs.Prelude.{Some, IsTrue}
 use Rattle.std.specs.List.{AllByRecursion, AllPairs}
 use Rattle.std.proofs.lemmas.List.Elements.{All-from_recursion}
@@ -13,15 +14,21 @@ use Rattle.ason_base.specs.declared.tables.CallRec.{CallRec}
 use Rattle.ason_base.specs.declared.tables.Leg.{Leg}
 use Rattle.ason_base.specs.Lsps.{lsp_before, same_lsp}
 use Rattle.mesh_rules.specs.Legs.{find_leg, is_closing, takes}
-use Rattle.mesh_rules.specs.State.{NodeState}
-use Rattle.mesh_laws.specs.LabelLaw.{EveryLabelHasOneLeg, EveryLiveLegIsLabelled, IsLabelled, LabelsHaveOneLeg, TakeNoLabelTwice}
+use Rattle.ason_base.specs.Network.{Network}
+use Rattle.mesh_rules.specs.Changes.{changed}
+use Rattle.mesh_rules.specs.LocalNodes.{LocalNode, local_node}
+use Rattle.mesh_rules.specs.State.{NodeState, new_node}
+use Rattle.mesh_laws.specs.LabelLaw.{EveryLabelIsShared, EveryLiveLegIsLabelled, IsLabelled, LabelsAreShared, ShareLawfully}
+use Rattle.mesh_laws.specs.NodeLaw.{EveryNodeSharesLawfully, MayCome, NodeInput, Item, Message, after_inputs, answer}
 use Rattle.mesh_laws.specs.CallLaw.{CallsFit, EveryCallFitsItsLegs, FitsLegs, IsOfOneCall, names, wants_call}
 use Rattle.mesh_nodes.proofs.Cases.{both_left, both_right, not-true}
-use Rattle.mesh_laws.proofs.nodes.Facts.{FitsPhase, NodeFacts}
+use Rattle.mesh_laws.proofs.nodes.Facts.{FitsPhase, LabelsFit, NodeFacts}
 use Rattle.mesh_nodes.specs.Order.{CallsRise, LegsRise}
 use Rattle.mesh_nodes.proofs.LegList.{all-found, before-apart, found-all, found-lsp, same_lsp-refl}
 use Rattle.mesh_nodes.proofs.CallList.{all-calls_found, one-count}
-use Rattle.mesh_laws.proofs.nodes.Runs.{facts-hold}
+use Rattle.mesh_laws.proofs.nodes.MessageKeeps.{keeps-on_message}
+use Rattle.mesh_laws.proofs.nodes.OrderKeeps.{keeps-on_item}
+use Rattle.mesh_laws.proofs.nodes.Runs.{facts-hold, new-facts}
 
 -- Labels
 
@@ -36,39 +43,56 @@ found-later g legs l h above found =
     subst (λ x. same_lsp g.lsp x ≡ false) (found-lsp l legs h found) (before-apart g.lsp h.lsp before) in
     rw apart found
 
-one_leg-pairs : (legs : List Leg) → LegsRise legs →
-    ((f : Fibre) (x : ℕ) (l m : Lsp) (g h : Leg) → find_leg l legs ≡ Some g → find_leg m legs ≡ Some h →
-    IsTrue (takes f x g) → IsTrue (takes f x h) → l ≡ m) → LabelsHaveOneLeg legs
-one_leg-pairs [] rise one = λ i j d less below. absurd (omega arith)
-one_leg-pairs (g ∷ legs) rise one =
-    AllPairs-cons TakeNoLabelTwice g legs
-    (All-from_recursion (TakeNoLabelTwice g) legs (all-found (TakeNoLabelTwice g) legs rise.1
+pairs-share : (legs : List Leg) → LegsRise legs → LabelsFit legs → LabelsAreShared legs
+pairs-share [] rise fit = λ i j d less below. absurd (omega arith)
+pairs-share (g ∷ legs) rise fit =
+    AllPairs-cons ShareLawfully g legs
+    (All-from_recursion (ShareLawfully g) legs (all-found (ShareLawfully g) legs rise.1
     (λ m h found f x this that.
-    let same : g.lsp ≡ m =
-    one f x g.lsp m g h (rw (same_lsp-refl g.lsp) refl) (found-later g legs m h rise.0 found) this that in
-    let is = found-lsp m legs h found in
-    let before : lsp_before g.lsp h.lsp ≡ true =
-    found-all (λ x. IsTrue (lsp_before g.lsp x.lsp)) m legs h found rise.0 in
-    let apart : same_lsp g.lsp h.lsp ≡ false = before-apart g.lsp h.lsp before in
-    let test : same_lsp g.lsp h.lsp ≡ true =
-    subst (λ x. same_lsp g.lsp x ≡ true) (same ∙ sym is) (same_lsp-refl g.lsp) in
-    cc (apart, test))))
-    (one_leg-pairs legs rise.1 (λ f x l m a b at_l at_m.
-    one f x l m a b (found-later g legs l a rise.0 at_l) (found-later g legs m b rise.0 at_m)))
+    elim (fit f x g.lsp m g h (rw (same_lsp-refl g.lsp) refl) (found-later g legs m h rise.0 found) this that) [
+      | inr shares ↦ shares
+      | inl same ↦ (
+          let is = found-lsp m legs h found in
+          let before : lsp_before g.lsp h.lsp ≡ true =
+          found-all (λ x. IsTrue (lsp_before g.lsp x.lsp)) m legs h found rise.0 in
+          let apart : same_lsp g.lsp h.lsp ≡ false = before-apart g.lsp h.lsp before in
+          let test : same_lsp g.lsp h.lsp ≡ true =
+          subst (λ x. same_lsp g.lsp x ≡ true) (same ∙ sym is) (same_lsp-refl g.lsp) in
+          absurd (cc (apart, test)))
+    ])))
+    (pairs-share legs rise.1 (λ f x l m a b at_l at_m.
+    fit f x l m a b (found-later g legs l a rise.0 at_l) (found-later g legs m b rise.0 at_m)))
 
-pub every_label : EveryLabelHasOneLeg
+pub every_label : EveryLabelIsShared
 every_label t events run n =
     let facts = (facts-hold t events run).node n in
-    one_leg-pairs _ facts.legs_rise facts.one_leg
+    pairs-share _ facts.legs_rise facts.labels
+
+-- The same whatever comes to a node
+
+facts-after : (t : Network) (p : LocalNode) (s : NodeState) (inputs : List NodeInput) → NodeFacts p.id.0 s →
+    AllByRecursion (MayCome t p.id.0) inputs → NodeFacts p.id.0 (after_inputs p s inputs)
+facts-after t p s [] facts may = facts
+facts-after t p s (i ∷ inputs) facts may =
+    facts-after t p (changed s (answer p s i)) inputs (one i facts may.0) may.1
+  where
+    one : (i : NodeInput) → NodeFacts p.id.0 s → MayCome t p.id.0 i → NodeFacts p.id.0 (changed s (answer p s i))
+    one (Message u m) facts may = keeps-on_message p s u m facts
+    one (Item i) facts may = keeps-on_item t p s i may facts
+
+pub every_node : EveryNodeSharesLawfully
+every_node t n inputs may =
+    let facts = facts-after t (local_node t n) new_node inputs (new-facts n.0) may in
+    pairs-share _ facts.legs_rise facts.labels
 
 -- a Live leg's labels are those of its fibres
 live-labelled : (f : Phase) (g : Leg) → FitsPhase f g → f ≡ Live → IsLabelled g
 live-labelled Asked g fits e = absurd cc
-live-labelled Held g fits e = absurd fits
-live-labelled Armed g fits e = absurd fits
+live-labelled Held g fits e = absurd cc
+live-labelled Armed g fits e = absurd cc
 live-labelled Live g fits e = record { enters = fits.0; leaves = fits.1 }
 live-labelled Closing g fits e = absurd cc
-live-labelled Falling g fits e = absurd fits
+live-labelled Falling g fits e = absurd cc
 
 pub every_live : EveryLiveLegIsLabelled
 every_live t events run n =

@@ -1,21 +1,22 @@
 -- The legs of a node after one of them comes, changes or goes.
-use Rattle.std.proofs.Common.{◌≡◌, ◌≤◌, ◌<◌, ℕ, Bool, true, false, cond, not, nat_eq, List, [], ◌∷◌, refl, sym, ap, subst, ◌∙◌, arith}
-use Rattle.std.specs.Prelude.{◌||◌, ◌&&◌, Option, Some, None, IsTrue}
-use Rattle.std.specs.List.{list_any}
+use Rattle.std.proofs.Common.{◌≡◌, ◌≤◌, ◌<◌, ℕ, Bool, true, false, cond, nat_eq, List, refl, sym, ap, subst, ◌∙◌, arith, inl, inr}
+use Rattle.std.specs.Prelude.{◌⊎◌, ◌&&◌, Option, Some, None}
+use Rattle.ason_base.specs.declared.calls.Role.TheVariants.{Back}
 use Rattle.ason_base.specs.declared.ids.Fibre.{Fibre}
 use Rattle.ason_base.specs.declared.ids.Lsp.{Lsp}
 use Rattle.ason_base.specs.declared.tables.Leg.{Leg}
 use Rattle.ason_base.specs.Lsps.{same_lsp, same_fibre, same_bool}
-use Rattle.mesh_rules.specs.Legs.{find_leg, with_leg, without_leg, takes, is_free, is_on, is_label, is_beyond_asked}
-use Rattle.mesh_laws.proofs.nodes.Facts.{LegFacts}
+use Rattle.mesh_rules.specs.Legs.{find_leg, with_leg, without_leg, takes, is_usable, is_on, is_label, is_beyond_asked}
+use Rattle.mesh_laws.specs.LabelLaw.{MayShare, is_in_use}
+use Rattle.mesh_laws.proofs.nodes.Facts.{LabelsFit, LegFacts}
+use Rattle.mesh_laws.proofs.nodes.Sharing.{may_share-flip, usable-shares}
 use Rattle.mesh_nodes.specs.Order.{LegsRise}
 use Rattle.mesh_nodes.proofs.LegList.{same_lsp-eq, find-with_leg, find-without_leg, rise-with_leg, rise-without_leg}
 
 pub record LegPart (n : ℕ) (next : ℕ) (legs : List Leg) : Type 0 where
   pub rise : LegsRise legs
   pub leg : (l : Lsp) (g : Leg) → find_leg l legs ≡ Some g → LegFacts n next g
-  pub one_leg : (f : Fibre) (x : ℕ) (l m : Lsp) (g h : Leg) → find_leg l legs ≡ Some g → find_leg m legs ≡ Some h →
-      IsTrue (takes f x g) → IsTrue (takes f x h) → l ≡ m
+  pub labels : LabelsFit legs
 
 -- What a leg takes
 
@@ -25,9 +26,11 @@ same_fibre-eq a b e = go a.forward b.forward refl refl (nat_eq a.link.0 b.link.0
     go : (p q : Bool) → a.forward ≡ p → b.forward ≡ q → (c : Bool) → nat_eq a.link.0 b.link.0 ≡ c → a ≡ b
     go p q f g false h = let no : (false && same_bool a.forward b.forward) ≡ true = rw h at e in cc no
     go true true f g true h =
-        let link : a.link.0 ≡ b.link.0 = grind arith in λ i. record { link = record { 0 = link i }; forward = (f ∙ sym g) i }
+        let link : a.link.0 ≡ b.link.0 = grind arith in λ i.
+        record { link = record { 0 = link i }; forward = (f ∙ sym g) i }
     go false false f g true h =
-        let link : a.link.0 ≡ b.link.0 = grind arith in λ i. record { link = record { 0 = link i }; forward = (f ∙ sym g) i }
+        let link : a.link.0 ≡ b.link.0 = grind arith in λ i.
+        record { link = record { 0 = link i }; forward = (f ∙ sym g) i }
     go true false f g true h = let no : false ≡ true = rw (h, f, g) at e in cc no
     go false true f g true h = let no : false ≡ true = rw (h, f, g) at e in cc no
 
@@ -53,32 +56,27 @@ taken f x g e = go (is_beyond_asked g.phase) (is_on g.in_fibre f) refl refl e
     go true false p q h = cc h
     go false b p q h = cc h
 
--- a free label is taken by no leg
-pub free-not_taken : (f : Fibre) (x : ℕ) (legs : List Leg) (m : Lsp) (h : Leg) → is_free legs f x ≡ true →
-    find_leg m legs ≡ Some h → takes f x h ≡ true → ⊥
-free-not_taken f x [] m h free found this = cc
-free-not_taken f x (g ∷ legs) m h free found this =
-    go (free-not_taken f x legs m h) (takes f x g) (same_lsp g.lsp m) refl free found this
-  where
-    go : (is_free legs f x ≡ true → find_leg m legs ≡ Some h → takes f x h ≡ true → ⊥) → (b c : Bool) →
-        takes f x g ≡ b → not (b || list_any (takes f x) legs) ≡ true → cond c (Some g) (find_leg m legs) ≡ Some h →
-        takes f x h ≡ true → ⊥
-    go later true c e free found this = cc free
-    go later false true e free found this =
-        let is : g ≡ h = cc found in let no : takes f x h ≡ false = subst (λ y. takes f x y ≡ false) is e in cc (no, this)
-    go later false false e free found this = later free found this
-
 -- A leg that may stand
 
--- a leg with the facts of one, whose label in is free
+-- a leg with the facts of one, which may share its label with each leg of another LSP that takes it
 pub record MayStand (n : ℕ) (next : ℕ) (legs : List Leg) (g : Leg) : Type 0 where
   pub facts : LegFacts n next g
-  pub free : (f : Fibre) (x : ℕ) → Taken f x g → is_free legs f x ≡ true
+  pub shares : (f : Fibre) (x : ℕ) (m : Lsp) (h : Leg) → same_lsp g.lsp m ≡ false → find_leg m legs ≡ Some h →
+      takes f x g ≡ true → takes f x h ≡ true → MayShare g h
+
+-- the label that it takes is usable for it, and it isn't in use
+pub with_usable : (n next : ℕ) (legs : List Leg) (g : Leg) → LegFacts n next g →
+    ((f : Fibre) (x : ℕ) → Taken f x g → is_usable g.role g.risks legs f x ≡ true) →
+    (g.role ≡ Back → is_in_use g.phase ≡ false) → MayStand n next legs g
+with_usable n next legs g facts usable idle = record {
+  facts = facts;
+  shares = λ f x m h apart found this that.
+      usable-shares g g.role legs f x m h refl (usable f x (taken f x g this)) idle found that;
+}
 
 -- a number more may be given out
 later-facts : (n a b : ℕ) (g : Leg) → a ≤ b → LegFacts n a g → LegFacts n b g
 later-facts n a b g le facts = record {
-  role = facts.role;
   prev = facts.prev;
   in_fibre = facts.in_fibre;
   next_node = facts.next_node;
@@ -105,18 +103,19 @@ pub part-with_leg : (n a b : ℕ) (g : Leg) (legs : List Leg) → a ≤ b → Le
     LegPart n b (with_leg g legs)
 part-with_leg n a b g legs le part may = record {
   rise = rise-with_leg g legs part.rise;
-  leg = λ l h found. found-after (LegFacts n b h) g h legs l found (λ e is. subst (LegFacts n b) is may.facts) (λ e f. later-facts n a b h le (part.leg l h f));
-  one_leg = λ f x l m i j at_l at_m takes_i takes_j.
-      found-after (l ≡ m) g i legs l at_l
-      (λ e is. found-after (l ≡ m) g j legs m at_m (λ e' is'. sym e ∙ e') (λ e' there. absurd (clash f x m j (subst (λ y. takes f x y ≡ true) (sym is) takes_i) there takes_j)))
-      (λ e there. found-after (l ≡ m) g j legs m at_m
-      (λ e' is'. absurd (clash f x l i (subst (λ y. takes f x y ≡ true) (sym is') takes_j) there takes_i))
-      (λ e' there'. part.one_leg f x l m i j there there' takes_i takes_j));
+  leg = λ l h found. found-after (LegFacts n b h) g h legs l found (λ e is. subst (LegFacts n b) is may.facts)
+      (λ e f. later-facts n a b h le (part.leg l h f));
+  labels = λ f x l m i j at_l at_m takes_i takes_j.
+      found-after ((l ≡ m) ⊎ MayShare i j) g i legs l at_l
+      (λ e is. found-after ((l ≡ m) ⊎ MayShare i j) g j legs m at_m
+      (λ e' is'. inl (sym e ∙ e'))
+      (λ e' there. inr (subst (λ y. MayShare y j) is
+      (may.shares f x m j e' there (subst (λ y. takes f x y ≡ true) (sym is) takes_i) takes_j))))
+      (λ e there. found-after ((l ≡ m) ⊎ MayShare i j) g j legs m at_m
+      (λ e' is'. inr (subst (λ y. MayShare i y) is' (may_share-flip g i
+      (may.shares f x l i e there (subst (λ y. takes f x y ≡ true) (sym is') takes_j) takes_i))))
+      (λ e' there'. part.labels f x l m i j there there' takes_i takes_j));
 }
-  where
-    clash : (f : Fibre) (x : ℕ) (m : Lsp) (h : Leg) → takes f x g ≡ true → find_leg m legs ≡ Some h →
-        takes f x h ≡ true → ⊥
-    clash f x m h this there that = free-not_taken f x legs m h (may.free f x (taken f x g this)) there that
 
 left : (h : Leg) (l m : Lsp) (legs : List Leg) → find_leg m (without_leg l legs) ≡ Some h → find_leg m legs ≡ Some h
 left h l m legs found = go (same_lsp l m) (sym (find-without_leg l legs m) ∙ found)
@@ -130,5 +129,5 @@ pub part-without_leg : (n next : ℕ) (l : Lsp) (legs : List Leg) → LegPart n 
 part-without_leg n next l legs part = record {
   rise = rise-without_leg l legs part.rise;
   leg = λ m h found. part.leg m h (left h l m legs found);
-  one_leg = λ f x k m g h at_k at_m. part.one_leg f x k m g h (left g l k legs at_k) (left h l m legs at_m);
+  labels = λ f x k m g h at_k at_m. part.labels f x k m g h (left g l k legs at_k) (left h l m legs at_m);
 }

@@ -1,4 +1,4 @@
--- The legs that rules make may stand: they have the facts of a leg, and their label in is free.
+-- The legs that rules make may stand: they have the facts of a leg, and their label in is usable for them.
 use Rattle.std.proofs.Common.{◌≡◌, ◌<◌, ℕ, Bool, true, false, cond, nat_eq, List, [], ◌∷◌, refl, sym, ap, subst, ◌∙◌, arith}
 use Rattle.std.specs.Prelude.{Option, Some, None, IsTrue, IfSome, is_some}
 use Rattle.ason_base.specs.Labels.{has, meet, least, up_to}
@@ -10,18 +10,21 @@ use Rattle.ason_base.specs.declared.steps.Step.{Step}
 use Rattle.ason_base.specs.declared.network.LinkSpec.{LinkSpec}
 use Rattle.ason_base.specs.declared.calls.Phase.{Phase}
 use Rattle.ason_base.specs.declared.calls.Phase.TheVariants.{Asked, Held, Armed, Live, Closing, Falling}
-use Rattle.ason_base.specs.declared.calls.Role.TheVariants.{Work}
+use Rattle.ason_base.specs.declared.calls.Role.{Role}
+use Rattle.ason_base.specs.declared.calls.Role.TheVariants.{Work, Back}
+use Rattle.ason_base.specs.declared.risks.Risk.{Risk}
 use Rattle.ason_base.specs.declared.tables.Leg.{Leg}
 use Rattle.mesh_rules.specs.declared.neighbours.Neighbour.{Neighbour}
 use Rattle.mesh_rules.specs.LocalNodes.{LocalNode, own_link, labels_of, fibre_in}
-use Rattle.mesh_rules.specs.Legs.{is_free, usable, closed, closing_phase, connected, neighbour_over}
+use Rattle.mesh_rules.specs.Legs.{is_usable, usable, closed, closing_phase, connected, neighbour_over, reserved}
 use Rattle.mesh_rules.specs.Setups.{first_leg}
 use Rattle.mesh_rules.specs.State.{NodeState}
-use Rattle.mesh_rules.specs.Paths.{PathRequest, egress_leg, transit_leg, offered_labels}
+use Rattle.mesh_rules.specs.Paths.{PathRequest, egress_leg, transit_leg, offered_labels, risks_here, role_of}
 use Rattle.mesh_rules.specs.Resvs.{label_back, only}
 use Rattle.mesh_nodes.proofs.Cases.{both_left, both_right}
-use Rattle.mesh_laws.proofs.nodes.Facts.{FitsPhase, LegFacts}
-use Rattle.mesh_laws.proofs.nodes.LegParts.{MayStand}
+use Rattle.mesh_laws.specs.LabelLaw.{is_in_use}
+use Rattle.mesh_laws.proofs.nodes.Facts.{FitsPhase, HasItsLabels, LegFacts}
+use Rattle.mesh_laws.proofs.nodes.LegParts.{MayStand, taken, with_usable}
 
 -- Labels
 
@@ -35,12 +38,12 @@ has-left a b x h = both_left (has a x) (has b x) (sym (has-filter (has b) a x) �
 pub has-right : (a b : List ℕ) (x : ℕ) → has (meet a b) x ≡ true → has b x ≡ true
 has-right a b x h = both_right (has a x) (has b x) (sym (has-filter (has b) a x) ∙ h)
 
--- a usable label is free
-pub usable-free : (p : LocalNode) (legs : List Leg) (f : Fibre) (x : ℕ) → has (usable p legs f) x ≡ true →
-    is_free legs f x ≡ true
-usable-free p legs f x h =
+-- a label that is listed is usable
+pub usable-is : (p : LocalNode) (legs : List Leg) (r : Role) (risks : List Risk) (f : Fibre) (x : ℕ) →
+    has (usable p legs r risks f) x ≡ true → is_usable r risks legs f x ≡ true
+usable-is p legs r risks f x h =
     let all = up_to (labels_of (own_link p f.link)) in
-    both_right (has all x) (is_free legs f x) (sym (has-filter (is_free legs f) all x) ∙ h)
+    both_right (has all x) (is_usable r risks legs f x) (sym (has-filter (is_usable r risks legs f) all x) ∙ h)
 
 -- the label that goes back is one of those that were looked at
 pub back-has : (p : LocalNode) (labels : List ℕ) (x y : ℕ) → label_back p labels x ≡ Some y → has labels y ≡ true
@@ -58,15 +61,19 @@ back-has p labels x y e = go p.convert e
 
 pub no_label : (n next : ℕ) (legs : List Leg) (g : Leg) → g.in_label ≡ None → LegFacts n next g → MayStand n next legs g
 no_label n next legs g none facts =
-    record { facts = facts; free = λ f x taken. let label = taken.label in absurd (cc (none, label)) }
+    record {
+      facts = facts;
+      shares = λ f x m h apart found this that.
+          let label = (taken f x g this).label in absurd (cc (none, label));
+    }
 
 -- At the ingress
 
-pub first-stands : (p : LocalNode) (l : Lsp) (e : NodeId) (out : LinkSpec) (route : List Step) (next : ℕ) (legs : List Leg) → nat_eq l.ingress.0 p.id.0 ≡ true → nat_eq e.0 p.id.0 ≡ false → l.lsp < next →
+pub first-stands : (p : LocalNode) (l : Lsp) (e : NodeId) (out : LinkSpec) (route : List Step) (next : ℕ)
+    (legs : List Leg) → nat_eq l.ingress.0 p.id.0 ≡ true → nat_eq e.0 p.id.0 ≡ false → l.lsp < next →
     MayStand p.id.0 next legs (first_leg p l e out route)
 first-stands p l e out route next legs here away small =
     no_label p.id.0 next legs (first_leg p l e out route) refl (record {
-      role = refl;
       prev = rw here refl;
       in_fibre = refl;
       next_node = rw away refl;
@@ -88,39 +95,52 @@ away a n P e f = let same : nat_eq a n ≡ true = grind arith in absurd (cc (e, 
 some : {X : Type 0} (x y : X) → Some x ≡ Some y → x ≡ y
 some x y e = cc e
 
+-- a leg that has its label fits its phase, and a backup isn't in use yet
+phase_reserved : (r : Role) (g : Leg) → HasItsLabels g → FitsPhase (reserved r) g
+phase_reserved Work g labels = labels
+phase_reserved Back g labels = labels
+
+reserved-idle : (r : Role) → r ≡ Back → is_in_use (reserved r) ≡ false
+reserved-idle Work e = absurd (cc e)
+reserved-idle Back e = refl
+
 module _ (p : LocalNode) (s : NodeState) (m : PathRequest) (link : LinkSpec) (next : ℕ)
     (far : nat_eq m.arrival.lsp.ingress.0 p.id.0 ≡ false) where
+  abbrev risks : List Risk
+  risks = risks_here p s m
+
   pub egress-stands : (x : ℕ) → nat_eq m.arrival.egress.0 p.id.0 ≡ true → has (offered_labels p s m link) x ≡ true →
-      MayStand p.id.0 next s.legs (egress_leg p m link (offered_labels p s m link) x)
-  egress-stands x here offered = record {
-    facts = record {
-      role = refl;
-      prev = rw far refl;
-      in_fibre = refl;
-      next_node = rw here refl;
-      out_fibre = refl;
-      one_end = refl;
-      number = away m.arrival.lsp.ingress.0 p.id.0 (m.arrival.lsp.lsp < next) far;
-      phase = (refl, refl);
-      offered = offered;
-      sent = tt;
-      back_in = refl;
-      back_out = refl;
-    };
-    free = λ f y taken.
-        let fibre : fibre_in link p.id ≡ f = some (fibre_in link p.id) f taken.fibre in
-        let label : x ≡ y = some x y taken.label in
-        let usable_here : List ℕ = usable p s.legs (fibre_in link p.id) in
-        subst (λ z. is_free s.legs f z ≡ true) label (subst (λ z. is_free s.legs z x ≡ true) fibre
-        (usable-free p s.legs (fibre_in link p.id) x (has-right m.set usable_here x offered)));
-  }
+      MayStand p.id.0 next s.legs (egress_leg p m link risks (offered_labels p s m link) x)
+  egress-stands x here offered =
+      with_usable p.id.0 next s.legs (egress_leg p m link risks (offered_labels p s m link) x)
+      (record {
+        prev = rw far refl;
+        in_fibre = refl;
+        next_node = rw here refl;
+        out_fibre = refl;
+        one_end = refl;
+        number = away m.arrival.lsp.ingress.0 p.id.0 (m.arrival.lsp.lsp < next) far;
+        phase =
+            phase_reserved (role_of m.role) (egress_leg p m link risks (offered_labels p s m link) x) (refl, refl);
+        offered = offered;
+        sent = tt;
+        back_in = refl;
+        back_out = refl;
+      })
+      (λ f y taken.
+      let fibre : fibre_in link p.id ≡ f = some (fibre_in link p.id) f taken.fibre in
+      let label : x ≡ y = some x y taken.label in
+      let usable_here : List ℕ = usable p s.legs (role_of m.role) risks (fibre_in link p.id) in
+      subst (λ z. is_usable (role_of m.role) risks s.legs f z ≡ true) label
+      (subst (λ z. is_usable (role_of m.role) risks s.legs z x ≡ true) fibre
+      (usable-is p s.legs (role_of m.role) risks (fibre_in link p.id) x (has-right m.set usable_here x offered))))
+      (reserved-idle (role_of m.role))
 
   pub transit-stands : (out : LinkSpec) (route : List Step) (offered : List ℕ) →
       nat_eq m.arrival.egress.0 p.id.0 ≡ false →
-      MayStand p.id.0 next s.legs (transit_leg p m link out route offered)
+      MayStand p.id.0 next s.legs (transit_leg p m link risks out route offered)
   transit-stands out route offered on =
-      no_label p.id.0 next s.legs (transit_leg p m link out route offered) refl (record {
-        role = refl;
+      no_label p.id.0 next s.legs (transit_leg p m link risks out route offered) refl (record {
         prev = rw far refl;
         in_fibre = refl;
         next_node = rw on refl;
@@ -136,27 +156,26 @@ module _ (p : LocalNode) (s : NodeState) (m : PathRequest) (link : LinkSpec) (ne
 
 -- A torn leg
 
-phase_closed : (f : Phase) (g : Leg) → FitsPhase f g → IsTrue (is_some g.next) →
-    FitsPhase (closing_phase f Work) (closed g)
-phase_closed Asked g fits next = (refl, next)
-phase_closed Held g fits next = absurd fits
-phase_closed Armed g fits next = absurd fits
-phase_closed Live g fits next = (refl, next)
-phase_closed Closing g fits next = (refl, next)
-phase_closed Falling g fits next = absurd fits
+phase_closed : (f : Phase) (r : Role) (g : Leg) → IsTrue (is_some g.next) → FitsPhase (closing_phase f r) (closed g)
+phase_closed Asked r g next = (refl, next)
+phase_closed Held r g next = (refl, next)
+phase_closed Armed Work g next = (refl, next)
+phase_closed Armed Back g next = (refl, next)
+phase_closed Live Work g next = (refl, next)
+phase_closed Live Back g next = (refl, next)
+phase_closed Closing r g next = (refl, next)
+phase_closed Falling r g next = (refl, next)
 
 pub closed-stands : (n next : ℕ) (legs : List Leg) (g : Leg) → IsTrue (is_some g.next) → LegFacts n next g →
     MayStand n next legs (closed g)
 closed-stands n next legs g goes_on facts = no_label n next legs (closed g) refl (record {
-  role = facts.role;
   prev = facts.prev;
   in_fibre = facts.in_fibre;
   next_node = facts.next_node;
   out_fibre = facts.out_fibre;
   one_end = facts.one_end;
   number = facts.number;
-  phase =
-      subst (λ r. FitsPhase (closing_phase g.phase r) (closed g)) (sym facts.role) (phase_closed g.phase g facts.phase goes_on);
+  phase = phase_closed g.phase g.role g goes_on;
   offered = tt;
   sent = facts.sent;
   back_in = facts.back_in;
@@ -196,14 +215,13 @@ pub connected-facts : (n next : ℕ) (g : Leg) (label : Option ℕ) (x : ℕ) �
     has g.sent x ≡ true →
     LegFacts n next (connected g label x)
 connected-facts n next g label x facts fits goes_on offered sent = record {
-  role = facts.role;
   prev = facts.prev;
   in_fibre = facts.in_fibre;
   next_node = facts.next_node;
   out_fibre = facts.out_fibre;
   one_end = facts.one_end;
   number = facts.number;
-  phase = (fits, sym (facts.out_fibre ∙ goes_on));
+  phase = phase_reserved g.role (connected g label x) (fits, sym (facts.out_fibre ∙ goes_on));
   offered = offered;
   sent = sent;
   back_in = facts.back_in;
@@ -212,17 +230,25 @@ connected-facts n next g label x facts fits goes_on offered sent = record {
 
 pub connected-stands : (p : LocalNode) (next : ℕ) (legs : List Leg) (g : Leg) (h : Neighbour) (x y : ℕ) →
     LegFacts p.id.0 next g → g.in_fibre ≡ Some h.fibre → is_some g.next ≡ true → has g.sent x ≡ true →
-    has (meet g.offered (usable p legs h.fibre)) y ≡ true → MayStand p.id.0 next legs (connected g (Some y) x)
-connected-stands p next legs g h x y facts fibre goes_on sent looked = record {
-  facts =
-      connected-facts p.id.0 next g (Some y) x facts (sym (is_some-of g.in_fibre h.fibre fibre)) goes_on (has-left g.offered (usable p legs h.fibre) y looked) sent;
-  free = λ f z taken.
-      let on : h.fibre ≡ f = some h.fibre f (sym fibre ∙ taken.fibre) in
-      let label : y ≡ z = some y z taken.label in
-      subst (λ w. is_free legs f w ≡ true) label (subst (λ w. is_free legs w y ≡ true) on (usable-free p legs h.fibre y (has-right g.offered (usable p legs h.fibre) y looked)));
-}
+    has (meet g.offered (usable p legs g.role g.risks h.fibre)) y ≡ true →
+    MayStand p.id.0 next legs (connected g (Some y) x)
+connected-stands p next legs g h x y facts fibre goes_on sent looked =
+    with_usable p.id.0 next legs (connected g (Some y) x)
+    (connected-facts p.id.0 next g (Some y) x facts (sym (is_some-of g.in_fibre h.fibre fibre)) goes_on
+    (has-left g.offered usable_here y looked) sent)
+    (λ f z taken.
+    let on : h.fibre ≡ f = some h.fibre f (sym fibre ∙ taken.fibre) in
+    let label : y ≡ z = some y z taken.label in
+    subst (λ w. is_usable g.role g.risks legs f w ≡ true) label
+    (subst (λ w. is_usable g.role g.risks legs w y ≡ true) on
+    (usable-is p legs g.role g.risks h.fibre y (has-right g.offered usable_here y looked))))
+    (reserved-idle g.role)
+  where
+    usable_here : List ℕ
+    usable_here = usable p legs g.role g.risks h.fibre
 
 pub ingress-stands : (n next : ℕ) (legs : List Leg) (g : Leg) (x : ℕ) → LegFacts n next g → g.in_fibre ≡ None →
     is_some g.next ≡ true → has g.sent x ≡ true → MayStand n next legs (connected g None x)
 ingress-stands n next legs g x facts none goes_on sent =
-    no_label n next legs (connected g None x) refl (connected-facts n next g None x facts (sym (ap is_some none)) goes_on tt sent)
+    no_label n next legs (connected g None x) refl
+    (connected-facts n next g None x facts (sym (ap is_some none)) goes_on tt sent)

@@ -8,10 +8,11 @@ use Rattle.ason_base.specs.declared.steps.Step.{Step}
 use Rattle.ason_base.specs.declared.network.LinkSpec.{LinkSpec}
 use Rattle.ason_base.specs.declared.calls.Phase.{Phase}
 use Rattle.ason_base.specs.declared.calls.Phase.TheVariants.{Asked, Held, Armed, Live, Closing, Falling}
-use Rattle.ason_base.specs.declared.calls.Role.TheVariants.{Work}
+use Rattle.ason_base.specs.declared.calls.Role.{Role}
+use Rattle.ason_base.specs.declared.calls.Role.TheVariants.{Work, Back}
 use Rattle.ason_base.specs.declared.calls.CallState.TheVariants.{Asking, Blocked}
 use Rattle.ason_base.specs.declared.calls.Cause.{Cause}
-use Rattle.ason_base.specs.declared.calls.Cause.TheVariants.{Unset, Spent, Full}
+use Rattle.ason_base.specs.declared.calls.Cause.TheVariants.{Unset, NoRoute, Spent, Full}
 use Rattle.ason_base.specs.declared.commands.Command.{Command}
 use Rattle.ason_base.specs.declared.commands.Command.TheVariants.{Setup, Release, Protect, Retry, Revert, Fail, Repair}
 use Rattle.ason_base.specs.declared.commands.DeskItem.{DeskItem}
@@ -25,14 +26,17 @@ use Rattle.mesh_rules.specs.Legs.{find_leg, is_closing, closed, closing_phase, w
 use Rattle.mesh_rules.specs.Calls.{find_call, with_call, without_call}
 use Rattle.mesh_rules.specs.Commands.{is_given_backup}
 use Rattle.mesh_rules.specs.State.{NodeState}
-use Rattle.mesh_rules.specs.Setups.{SetupRequest, is_full, is_order_here, admitted_setup, call_record, refused_setup, first_leg, next_lsp, begins, is_spent, first_link, over_first, new_call, setup_with}
+use Rattle.mesh_rules.specs.KnownRows.{known_rows}
+use Rattle.mesh_rules.specs.LeastRoutes.{Trip, least_trip}
+use Rattle.mesh_rules.specs.Setups.{SetupRequest, is_full, is_order_here, admitted_setup, call_record, refused_setup, first_leg, next_lsp, begins, is_spent, first_link, over_first, over_found, new_call, setup_with}
 use Rattle.mesh_rules.specs.declared.changes.CallChange.TheVariants as call
 use Rattle.mesh_rules.specs.Releases.{tears, releases, release_with}
 use Rattle.mesh_rules.specs.Orders.{on_order, on_item}
 use Rattle.mesh_rules.specs.Changes.{Answer, nothing, changes_calls, followed_by, changed}
 use Rattle.mesh_laws.specs.CallLaw.{fits, names, phase_of}
 use Rattle.mesh_nodes.proofs.Cases.{if_cases, both_left, both_right, not-true}
-use Rattle.mesh_laws.proofs.nodes.Facts.{CallFacts, FitsDesk, LegFacts, NodeFacts}
+use Rattle.mesh_laws.proofs.nodes.Facts.{CallFacts, LegFacts, NodeFacts}
+use Rattle.mesh_laws.specs.NodeLaw.{FitsDesk}
 use Rattle.mesh_nodes.proofs.LegList.{found-lsp, same_lsp-refl, same_lsp-eq, find-with_leg}
 use Rattle.mesh_laws.proofs.nodes.LegParts.{part-with_leg}
 use Rattle.mesh_laws.proofs.nodes.NewLegs.{closed-stands, first-stands}
@@ -132,10 +136,18 @@ keeps-over_first p s w route None unbacked away unknown facts = facts
 keeps-over_first p s w route (Some out) unbacked away unknown facts =
     keeps-admitted p s w out (drop 1 route) unbacked away unknown facts
 
+keeps-over_found : (p : LocalNode) (s : NodeState) (w : SetupRequest) (o : Option Trip) → w.backup ≡ None →
+    nat_eq w.egress.0 p.id.0 ≡ false → find_call w.call s.calls ≡ None → NodeFacts p.id.0 s →
+    Keeps p s (over_found p s w o)
+keeps-over_found p s w None unbacked away unknown facts = keeps-refused p s w NoRoute unbacked unknown facts
+keeps-over_found p s w (Some r) unbacked away unknown facts =
+    keeps-over_first p s w r.steps (first_link p r.steps) unbacked away unknown facts
+
 keeps-new_call : (p : LocalNode) (s : NodeState) (w : SetupRequest) (o : Option (List Step)) → w.backup ≡ None →
     nat_eq w.egress.0 p.id.0 ≡ false → find_call w.call s.calls ≡ None → NodeFacts p.id.0 s →
     Keeps p s (new_call p s w o)
-keeps-new_call p s w None unbacked away unknown facts = facts
+keeps-new_call p s w None unbacked away unknown facts =
+    keeps-over_found p s w (least_trip (known_rows p s) p.id w.egress) unbacked away unknown facts
 keeps-new_call p s w (Some route) unbacked away unknown facts =
     keeps-over_first p s w route (first_link p route) unbacked away unknown facts
 
@@ -163,13 +175,15 @@ keeps-on_setup t p s w None valid is facts =
 
 -- Release
 
-closed-closing : (f : Phase) → is_closing (closing_phase f Work) ≡ true
-closed-closing Asked = refl
-closed-closing Held = refl
-closed-closing Armed = refl
-closed-closing Live = refl
-closed-closing Closing = refl
-closed-closing Falling = refl
+closed-closing : (f : Phase) (r : Role) → is_closing (closing_phase f r) ≡ true
+closed-closing Asked r = refl
+closed-closing Held r = refl
+closed-closing Armed Work = refl
+closed-closing Armed Back = refl
+closed-closing Live Work = refl
+closed-closing Live Back = refl
+closed-closing Closing r = refl
+closed-closing Falling r = refl
 
 -- a leg at its ingress has a next node
 ingress-goes_on : (n next : ℕ) (g : Leg) → LegFacts n next g → g.lsp.ingress.0 ≡ n → is_some g.next ≡ true
@@ -230,12 +244,12 @@ keeps-released p s n c g found work here ingress facts =
           let one : closed g ≡ h = cc became in
           let not_torn : is_closing (closed g).phase ≡ false =
           subst (λ y. is_closing y.phase ≡ false) (sym one) standing in
-          let torn : is_closing (closing_phase g.phase g.role) ≡ true =
-          subst (λ r. is_closing (closing_phase g.phase r) ≡ true) (sym mine.role) (closed-closing g.phase) in
+          let torn : is_closing (closing_phase g.phase g.role) ≡ true = closed-closing g.phase g.role in
           absurd (cc (not_torn, torn)));
     }
 
-keeps-releases : (p : LocalNode) (s : NodeState) (c : CallRec) → find_call c.call s.calls ≡ Some c → NodeFacts p.id.0 s →
+keeps-releases : (p : LocalNode) (s : NodeState) (c : CallRec) → find_call c.call s.calls ≡ Some c →
+    NodeFacts p.id.0 s →
     Keeps p s (releases s c)
 keeps-releases p s c found facts =
     subst (λ o. Keeps p s (followed_by (tears (leg_of c.work s.legs))

@@ -19,7 +19,7 @@ use Rattle.mesh_laws.proofs.nodes.LegParts.{LegPart, MayStand, part-with_leg, pa
 use Rattle.mesh_laws.proofs.nodes.CallParts.{CallPart, Unnamed, named-work, unnamed-part}
 
 pub leg_part : (n : ℕ) (s : NodeState) → NodeFacts n s → LegPart n s.lsp s.legs
-leg_part n s facts = record { rise = facts.legs_rise; leg = facts.leg; one_leg = facts.one_leg }
+leg_part n s facts = record { rise = facts.legs_rise; leg = facts.leg; labels = facts.labels }
 
 pub call_part : (n : ℕ) (s : NodeState) → NodeFacts n s → CallPart n s.lsp s.legs s.calls
 call_part n s facts =
@@ -29,7 +29,7 @@ pub node_facts : (n : ℕ) (s : NodeState) → LegPart n s.lsp s.legs → CallPa
 node_facts n s legs calls = record {
   legs_rise = legs.rise;
   leg = legs.leg;
-  one_leg = legs.one_leg;
+  labels = legs.labels;
   calls_rise = calls.rise;
   call = calls.call;
   one_call = calls.one_call;
@@ -46,8 +46,11 @@ named n next legs c l facts e = subst (λ o. IfSome o (IsNamed n next legs Work 
 pub state-fits : (n next : ℕ) (legs : List Leg) (c : CallRec) (l : Lsp) (g : Leg) → CallFacts n next legs c →
     c.work ≡ Some l → find_leg l legs ≡ Some g → fits c.state (Some g.phase) None ≡ true
 state-fits n next legs c l g facts work found =
-    let by_lsp : fits c.state (phase_of (find_leg l legs)) (phase_of (leg_of c.back legs)) ≡ true = subst (λ o. fits c.state (phase_of (leg_of o legs)) (phase_of (leg_of c.back legs)) ≡ true) work facts.fits.state in
-    let by_leg : fits c.state (Some g.phase) (phase_of (leg_of c.back legs)) ≡ true = subst (λ o. fits c.state (phase_of o) (phase_of (leg_of c.back legs)) ≡ true) found by_lsp in
+    let by_lsp : fits c.state (phase_of (find_leg l legs)) (phase_of (leg_of c.back legs)) ≡ true =
+    subst (λ o. fits c.state (phase_of (leg_of o legs)) (phase_of (leg_of c.back legs)) ≡ true) work
+    facts.fits.state in
+    let by_leg : fits c.state (Some g.phase) (phase_of (leg_of c.back legs)) ≡ true =
+    subst (λ o. fits c.state (phase_of o) (phase_of (leg_of c.back legs)) ≡ true) found by_lsp in
     subst (λ o. fits c.state (Some g.phase) (phase_of (leg_of o legs)) ≡ true) facts.back by_leg
 
 fits-closing : (state : CallState) → fits state (Some Closing) None ≡ true → ⊥
@@ -82,7 +85,8 @@ fits-torn state Falling e torn = fits-falling state e
 pub unnamed-away : (n next : ℕ) (legs : List Leg) (calls : List CallRec) (l : Lsp) → nat_eq l.ingress.0 n ≡ false →
     CallPart n next legs calls → Unnamed calls l
 unnamed-away n next legs calls l away part k c found names =
-    let here : l.ingress.0 ≡ n = (named n next legs c l (part.call k c found) (named-work c l (part.call k c found).back names)).ingress in
+    let here : l.ingress.0 ≡ n = (named n next legs c l (part.call k c found)
+    (named-work c l (part.call k c found).back names)).ingress in
     let same : nat_eq l.ingress.0 n ≡ true = grind arith in
     cc (away, same)
 
@@ -90,7 +94,8 @@ unnamed-away n next legs calls l away part k c found names =
 pub unnamed-torn : (n next : ℕ) (legs : List Leg) (calls : List CallRec) (l : Lsp) (g : Leg) →
     find_leg l legs ≡ Some g → is_closing g.phase ≡ true → CallPart n next legs calls → Unnamed calls l
 unnamed-torn n next legs calls l g here torn part k c found names =
-    fits-torn c.state g.phase (state-fits n next legs c l g (part.call k c found) (named-work c l (part.call k c found).back names) here) torn
+    fits-torn c.state g.phase (state-fits n next legs c l g (part.call k c found)
+    (named-work c l (part.call k c found).back names) here) torn
 
 -- One leg changes, and no call, whatever is sent
 
@@ -100,8 +105,10 @@ pub keeps-leg : (n : ℕ) (s : NodeState) (g : Leg) → nat_eq g.lsp.ingress.0 n
 keeps-leg n s g away may facts =
     node_facts n (changed s (puts g []))
     (part-with_leg n s.lsp s.lsp g s.legs (omega arith) (leg_part n s facts) may)
-    (unnamed-part n s.lsp g.lsp (Some g) s.legs (with_leg g s.legs) s.calls (find-with_leg g s.legs) (unnamed-away n s.lsp s.legs s.calls g.lsp away (call_part n s facts))
-    (λ h is here stands. let same : nat_eq g.lsp.ingress.0 n ≡ true = grind arith in cc (away, same)) (call_part n s facts))
+    (unnamed-part n s.lsp g.lsp (Some g) s.legs (with_leg g s.legs) s.calls (find-with_leg g s.legs)
+    (unnamed-away n s.lsp s.legs s.calls g.lsp away (call_part n s facts))
+    (λ h is here stands. let same : nat_eq g.lsp.ingress.0 n ≡ true = grind arith in cc (away, same))
+    (call_part n s facts))
 
 -- a leg without a call goes
 pub keeps-gone : (n : ℕ) (s : NodeState) (l : Lsp) → Unnamed s.calls l → NodeFacts n s →
@@ -109,4 +116,5 @@ pub keeps-gone : (n : ℕ) (s : NodeState) (l : Lsp) → Unnamed s.calls l → N
 keeps-gone n s l unnamed facts =
     node_facts n (changed s (removes l []))
     (part-without_leg n s.lsp l s.legs (leg_part n s facts))
-    (unnamed-part n s.lsp l None s.legs (without_leg l s.legs) s.calls (find-without_leg l s.legs) unnamed (λ h is here stands. cc is) (call_part n s facts))
+    (unnamed-part n s.lsp l None s.legs (without_leg l s.legs) s.calls (find-without_leg l s.legs) unnamed
+    (λ h is here stands. cc is) (call_part n s facts))

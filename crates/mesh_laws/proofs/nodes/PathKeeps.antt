@@ -9,7 +9,7 @@ use Rattle.ason_base.specs.declared.tables.Leg.{Leg}
 use Rattle.mesh_rules.specs.Changes.{Answer, changed}
 use Rattle.mesh_rules.specs.LocalNodes.{LocalNode, own_link, leads}
 use Rattle.mesh_rules.specs.State.{NodeState}
-use Rattle.mesh_rules.specs.Paths.{PathRequest, Check, is_for_work, leads_on, first_failure, checks, offered_labels, egress_leg, transit_leg}
+use Rattle.mesh_rules.specs.Paths.{PathRequest, Check, is_active, leads_on, first_failure, checks, offered_labels, egress_leg, risks_here, transit_leg}
 use Rattle.mesh_rules.specs.Paths.{at_egress, in_transit, admitted, judged, first_path, path_with}
 use Rattle.mesh_nodes.proofs.Cases.{if_cases, both_left, both_right, not-true}
 use Rattle.mesh_laws.proofs.nodes.Facts.{NodeFacts}
@@ -43,23 +43,23 @@ not-false false e = cc
 module _ (p : LocalNode) (s : NodeState) (m : PathRequest) (facts : NodeFacts p.id.0 s) where
   module _ (link : LinkSpec) (far : nat_eq m.arrival.lsp.ingress.0 p.id.0 ≡ false) where
     keeps-at_egress : (o : Option ℕ) → nat_eq p.id.0 m.arrival.egress.0 ≡ true → least (offered_labels p s m link) ≡ o →
-        Keeps p s (at_egress p m link (offered_labels p s m link) o)
+        Keeps p s (at_egress p m link (risks_here p s m) (offered_labels p s m link) o)
     keeps-at_egress None here is = facts
     keeps-at_egress (Some x) here is =
         let last : nat_eq m.arrival.egress.0 p.id.0 ≡ true = grind arith in
-        keeps-leg p.id.0 s (egress_leg p m link (offered_labels p s m link) x) far
+        keeps-leg p.id.0 s (egress_leg p m link (risks_here p s m) (offered_labels p s m link) x) far
         (egress-stands p s m link s.lsp far x last (least-has (offered_labels p s m link) x is)) facts
 
     keeps-in_transit : (route : List Step) (offered : List ℕ) (o : Option LinkSpec) →
         nat_eq m.arrival.egress.0 p.id.0 ≡ false →
-        Keeps p s (in_transit p m link route offered o)
+        Keeps p s (in_transit p m link (risks_here p s m) route offered o)
     keeps-in_transit route offered None on = facts
     keeps-in_transit route offered (Some out) on =
-        keeps-leg p.id.0 s (transit_leg p m link out route offered) far
+        keeps-leg p.id.0 s (transit_leg p m link (risks_here p s m) out route offered) far
         (transit-stands p s m link s.lsp far out route offered on) facts
 
     keeps-admitted : (route : List Step) → leads_on p m.arrival route ≡ true →
-        Keeps p s (admitted p m link (offered_labels p s m link) route)
+        Keeps p s (admitted p m link (risks_here p s m) (offered_labels p s m link) route)
     keeps-admitted [] on = keeps-at_egress (least (offered_labels p s m link)) on refl
     keeps-admitted (hop ∷ route) on =
         let apart : nat_eq p.id.0 m.arrival.egress.0 ≡ false =
@@ -75,9 +75,10 @@ module _ (p : LocalNode) (s : NodeState) (m : PathRequest) (facts : NodeFacts p.
   keeps-first_path None = facts
   keeps-first_path (Some link) =
       if_cases (Keeps p s)
-      (is_for_work m.role && (leads (Some link) m.arrival.from p.id && not (nat_eq m.arrival.lsp.ingress.0 p.id.0))) _ _
+      (not (is_active m.role) && (leads (Some link) m.arrival.from p.id
+      && not (nat_eq m.arrival.lsp.ingress.0 p.id.0))) _ _
       (λ h.
-      let away = both_right (leads (Some link) m.arrival.from p.id) _ (both_right (is_for_work m.role) _ h) in
+      let away = both_right (leads (Some link) m.arrival.from p.id) _ (both_right (not (is_active m.role)) _ h) in
       keeps-judged link (not-true (nat_eq m.arrival.lsp.ingress.0 p.id.0) away)
       (first_failure (checks p s m link)) refl)
       (λ h. facts)

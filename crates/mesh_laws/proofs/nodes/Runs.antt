@@ -16,17 +16,20 @@ use Rattle.mesh_rules.specs.Orders.{on_tick}
 use Rattle.mesh_rules.specs.Commands.{is_again, is_valid}
 use Rattle.mesh_rules.specs.Machine.{Mesh, commit, start, without_first, without_item}
 use Rattle.mesh_rules.specs.Events.{IsRun, after, is_enabled, on_first, on_first_item, posted, step}
+use Rattle.ason_base.proofs.Ordered.{contains-none}
+use Rattle.mesh_nodes.specs.Routes.{AreRowsOf}
 use Rattle.mesh_nodes.proofs.Cases.{both_left, if_cases}
-use Rattle.mesh_laws.proofs.nodes.Facts.{DeskFits, FitsDesk, MeshFacts, NodeFacts}
+use Rattle.mesh_laws.specs.NodeLaw.{DeskFits, FitsDesk}
+use Rattle.mesh_laws.proofs.nodes.Facts.{MeshFacts, NodeFacts}
 use Rattle.mesh_laws.proofs.nodes.PathKeeps.{Keeps}
 use Rattle.mesh_laws.proofs.nodes.MessageKeeps.{keeps-on_message}
 use Rattle.mesh_laws.proofs.nodes.OrderKeeps.{keeps-on_item}
 
-new-facts : (n : ℕ) → NodeFacts n new_node
+pub new-facts : (n : ℕ) → NodeFacts n new_node
 new-facts n = record {
   legs_rise = tt;
   leg = λ l g found. absurd (cc found);
-  one_leg = λ f x l m g h found there this that. absurd (cc found);
+  labels = λ f x l m g h found there this that. absurd (cc found);
   calls_rise = tt;
   call = λ k c found. absurd (cc found);
   one_call = λ l k m c d found there this that. absurd (cc found);
@@ -34,14 +37,28 @@ new-facts n = record {
 }
 
 pub facts-start : (t : Network) → MeshFacts t start
-facts-start t = record { node = λ n. new-facts n; desk = λ n. tt }
+facts-start t = record {
+  node = λ n. new-facts n;
+  desk = λ n. tt;
+  learnt =
+      λ n row there. absurd (contains-none row there);
+}
 
 -- A rule is carried out at a node
 
 keeps-commit : (t : Network) (s : Mesh) (n : ℕ) (a : Answer) → NodeFacts n (changed (s.nodes n) a) → MeshFacts t s →
     MeshFacts t (commit s n a)
-keeps-commit t s n a here facts = record { node = λ m. each m (nat_eq m n) refl; desk = facts.desk }
+keeps-commit t s n a here facts = record {
+  node = λ m. each m (nat_eq m n) refl;
+  desk = facts.desk;
+  learnt = λ m. same m (nat_eq m n);
+}
   where
+    -- a rule learns nothing
+    same : (m : ℕ) (b : Bool) → AreRowsOf t (cond b (changed (s.nodes m) a) (s.nodes m)).learnt
+    same m true = facts.learnt m
+    same m false = facts.learnt m
+
     each : (m : ℕ) (b : Bool) → nat_eq m n ≡ b → NodeFacts m (cond b (changed (s.nodes m) a) (s.nodes m))
     each m true e = let is : m ≡ n = grind arith in subst (λ k. NodeFacts k (changed (s.nodes k) a)) (sym is) here
     each m false e = facts.node m
@@ -70,7 +87,9 @@ fits-more t n (j ∷ items) i fits here = (fits.0, fits-more t n items i fits.1 
 without_item-facts : (t : Network) (s : Mesh) (n : ℕ) → MeshFacts t s → MeshFacts t (without_item s n)
 without_item-facts t s n facts = record {
   node = facts.node;
-  desk = λ m. if_cases (DeskFits t m) (nat_eq m n) _ _ (λ e. fits-less t m (s.desks m) (facts.desk m)) (λ e. facts.desk m);
+  desk = λ m. if_cases (DeskFits t m) (nat_eq m n) _ _ (λ e. fits-less t m (s.desks m) (facts.desk m))
+      (λ e. facts.desk m);
+  learnt = facts.learnt;
 }
 
 -- an order more on the desk of its node
@@ -78,20 +97,46 @@ more-facts : (t : Network) (s : Mesh) (n : ℕ) (i : DeskItem) → FitsDesk t n 
     DeskFits t m (cond (nat_eq m n) (s.desks m ++ i ∷ []) (s.desks m))
 more-facts t s n i here facts m =
     if_cases (DeskFits t m) (nat_eq m n) _ _
-    (λ e. let is : m ≡ n = grind arith in fits-more t m (s.desks m) i (facts.desk m) (subst (λ k. FitsDesk t k i) (sym is) here))
+    (λ e. let is : m ≡ n = grind arith in fits-more t m (s.desks m) i (facts.desk m)
+    (subst (λ k. FitsDesk t k i) (sym is) here))
     (λ e. facts.desk m)
 
 keeps-posted : (t : Network) (s : Mesh) (c : Command) → is_valid t c ≡ true → MeshFacts t s → MeshFacts t (posted s c)
 keeps-posted t s (Setup n from to protected both via backup) valid facts =
-    record { node = facts.node; desk = more-facts t s from.0 (Order (Setup n from to protected both via backup)) (valid, refl) facts }
+    record {
+      node = facts.node;
+      desk = more-facts t s from.0 (Order (Setup n from to protected both via backup))
+          (valid, refl) facts;
+      learnt = facts.learnt;
+    }
 keeps-posted t s (Release n from) valid facts =
-    record { node = facts.node; desk = more-facts t s from.0 (Order (Release n from)) (valid, refl) facts }
+    record {
+      node = facts.node;
+      desk = more-facts t s from.0 (Order (Release n from)) (valid, refl) facts;
+      learnt =
+          facts.learnt;
+    }
 keeps-posted t s (Protect n from) valid facts =
-    record { node = facts.node; desk = more-facts t s from.0 (Order (Protect n from)) (valid, refl) facts }
+    record {
+      node = facts.node;
+      desk = more-facts t s from.0 (Order (Protect n from)) (valid, refl) facts;
+      learnt =
+          facts.learnt;
+    }
 keeps-posted t s (Retry n from) valid facts =
-    record { node = facts.node; desk = more-facts t s from.0 (Order (Retry n from)) (valid, refl) facts }
+    record {
+      node = facts.node;
+      desk = more-facts t s from.0 (Order (Retry n from)) (valid, refl) facts;
+      learnt =
+          facts.learnt;
+    }
 keeps-posted t s (Revert n from) valid facts =
-    record { node = facts.node; desk = more-facts t s from.0 (Order (Revert n from)) (valid, refl) facts }
+    record {
+      node = facts.node;
+      desk = more-facts t s from.0 (Order (Revert n from)) (valid, refl) facts;
+      learnt =
+          facts.learnt;
+    }
 keeps-posted t s (Fail g) valid facts = facts
 keeps-posted t s (Repair g) valid facts = facts
 
@@ -100,9 +145,13 @@ keeps-posted t s (Repair g) valid facts = facts
 pub facts-step : (t : Network) (s : Mesh) (e : MeshEvent) → is_enabled t s e ≡ true → MeshFacts t s →
     MeshFacts t (step t s e)
 facts-step t s (Take d u) enabled facts =
-    keeps-commit t (without_first s u.0 d.0) d.0 (on_first (local_node t d) (s.nodes d.0) u (s.mail u.0 d.0)) (keeps-first (local_node t d) (s.nodes d.0) u (s.mail u.0 d.0) (facts.node d.0)) (record { node = facts.node; desk = facts.desk })
+    keeps-commit t (without_first s u.0 d.0) d.0 (on_first (local_node t d) (s.nodes d.0) u (s.mail u.0 d.0))
+    (keeps-first (local_node t d) (s.nodes d.0) u (s.mail u.0 d.0) (facts.node d.0))
+    (record { node = facts.node; desk = facts.desk; learnt = facts.learnt })
 facts-step t s (Desk n) enabled facts =
-    keeps-commit t (without_item s n.0) n.0 (on_first_item (local_node t n) (s.nodes n.0) (s.desks n.0)) (keeps-first_item t (local_node t n) (s.nodes n.0) (s.desks n.0) (facts.desk n.0) (facts.node n.0)) (without_item-facts t s n.0 facts)
+    keeps-commit t (without_item s n.0) n.0 (on_first_item (local_node t n) (s.nodes n.0) (s.desks n.0))
+    (keeps-first_item t (local_node t n) (s.nodes n.0) (s.desks n.0) (facts.desk n.0) (facts.node n.0))
+    (without_item-facts t s n.0 facts)
 facts-step t s (Tick n) enabled facts =
     keeps-commit t s n.0 (on_tick (local_node t n) (s.nodes n.0)) (facts.node n.0) facts
 facts-step t s (Learn n k) enabled facts = facts

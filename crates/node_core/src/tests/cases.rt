@@ -104,6 +104,23 @@ const CONVERTING: &[Case] = &[
             Some((CallState::Blocked, Cause::Full)),
         ),
     ),
+    // no given route: over the ingress's own link to its neighbour, and none to a node that no link leads to that it knows
+    (
+        A,
+        &[(1, 1, &[Said::SetupTo(B)])],
+        &[(B, Told::Path([true, false, false]))],
+        (
+            1,
+            Some(Phase::Asked),
+            Some((CallState::Asking, Cause::Unset)),
+        ),
+    ),
+    (
+        A,
+        &[(1, 1, &[Said::SetupTo(C)])],
+        &[],
+        (0, None, Some((CallState::Blocked, Cause::NoRoute))),
+    ),
     // an ingress that has given out 65,535 numbers
     (
         A,

@@ -19,6 +19,8 @@ pub(super) const C: NodeId = NodeId(3);
 pub(super) enum Said {
     /// A call is set up from a over b to c.
     Setup,
+    /// A call is set up from a to this node, without a given route.
+    SetupTo(NodeId),
     Release,
     /// A Path from a over link 1: its egress, its steps, and how many labels it has.
     Path(NodeId, &'static [(u32, u32)], u8),
@@ -49,17 +51,21 @@ fn lsp(number: u16) -> Lsp {
     }
 }
 
-fn setup(alloc: Global, number: u16) -> Result<Input, Fail> {
-    let via = steps(alloc, &[(1, 1), (2, 2)])?;
-    Ok(Input::Desk(DeskItem::Order(Command::Setup {
+fn setup(number: u16, to: NodeId, via: Option<Steps>) -> Input {
+    Input::Desk(DeskItem::Order(Command::Setup {
         call: CallNo(number),
         from: A,
-        to: C,
+        to,
         protected: false,
         both: false,
-        via: Some(via),
+        via,
         backup: None,
-    })))
+    }))
+}
+
+fn setup_over_b(alloc: Global, number: u16) -> Result<Input, Fail> {
+    let via = steps(alloc, &[(1, 1), (2, 2)])?;
+    Ok(setup(number, C, Some(via)))
 }
 
 fn release(number: u16) -> Input {
@@ -131,7 +137,8 @@ fn tear(number: u16) -> Input {
 /// The input.
 pub(super) fn input(alloc: Global, number: u16, said: Said) -> Result<Input, Fail> {
     match said {
-        Said::Setup => setup(alloc, number),
+        Said::Setup => setup_over_b(alloc, number),
+        Said::SetupTo(to) => Ok(setup(number, to, None)),
         Said::Release => Ok(release(number)),
         Said::Path(egress, hops, count) => path(alloc, number, egress, hops, count),
         Said::Resv(from, link, label) => resv(number, from, link, label),

@@ -19,31 +19,44 @@ least-requires c = (
 pub returns-clause-route : goal.returns-clause-route
 returns-clause-route c =
     let rows = c.args.rows.now in
-    let are : AreRowsOf rows c.args.banned.now.links c.deref.result.now = subst (AreRowsOf rows c.args.banned.now.links) (sym c.deref.ensures.value) (subst (λ ls. AreRowsOf rows ls c.in_ok-closed.closed.items) c.items.ensures c.in_ok-closed.ensures) in
+    let are : AreRowsOf rows c.args.banned.now.links c.deref.result.now =
+    subst (AreRowsOf rows c.args.banned.now.links) (sym c.deref.ensures.value)
+    (subst (λ ls. AreRowsOf rows ls c.in_ok-closed.closed.items) c.items.ensures c.in_ok-closed.ensures) in
     ok_map c.least.result (IsLeastFound rows c.deref.result.now c.items-2.result.now c.args.from c.args.to) _
-    (least_route rows c.args.banned.now.links c.deref.result.now c.items-2.result.now c.args.banned.now.nodes are c.items-2.ensures c.args.from c.args.to)
+    (least_route rows c.args.banned.now.links c.deref.result.now c.items-2.result.now c.args.banned.now.nodes are
+    c.items-2.ensures c.args.from c.args.to)
     (c.least.ensures.found rows c.in_ok-network.ensures)
 
 pub returns-clause-potential : goal.returns-clause-potential
 returns-clause-potential c =
     let rows = c.args.rows.now in
-    let are : AreRowsOf rows c.args.banned.now.links c.deref.result.now = subst (AreRowsOf rows c.args.banned.now.links) (sym c.deref.ensures.value) (subst (λ ls. AreRowsOf rows ls c.in_ok-closed.closed.items) c.items.ensures c.in_ok-closed.ensures) in
+    let are : AreRowsOf rows c.args.banned.now.links c.deref.result.now =
+    subst (AreRowsOf rows c.args.banned.now.links) (sym c.deref.ensures.value)
+    (subst (λ ls. AreRowsOf rows ls c.in_ok-closed.closed.items) c.items.ensures c.in_ok-closed.ensures) in
     ok_map c.least.result (IsLeastFound rows c.deref.result.now c.items-2.result.now c.args.from c.args.to) _
-    (least_potential rows c.args.banned.now.links c.deref.result.now c.items-2.result.now c.args.banned.now.nodes are c.items-2.ensures c.args.from c.args.to)
+    (least_potential rows c.args.banned.now.links c.deref.result.now c.items-2.result.now c.args.banned.now.nodes are
+    c.items-2.ensures c.args.from c.args.to)
     (c.least.ensures.found rows c.in_ok-network.ensures)
 
 pub returns-clause-certificate : goal.returns-clause-certificate
 returns-clause-certificate c =
     let rows = c.args.rows.now in
-    let are : AreRowsOf rows c.args.banned.now.links c.deref.result.now = subst (AreRowsOf rows c.args.banned.now.links) (sym c.deref.ensures.value) (subst (λ ls. AreRowsOf rows ls c.in_ok-closed.closed.items) c.items.ensures c.in_ok-closed.ensures) in
+    let are : AreRowsOf rows c.args.banned.now.links c.deref.result.now =
+    subst (AreRowsOf rows c.args.banned.now.links) (sym c.deref.ensures.value)
+    (subst (λ ls. AreRowsOf rows ls c.in_ok-closed.closed.items) c.items.ensures c.in_ok-closed.ensures) in
     ok_map c.least.result (IsLeastFound rows c.deref.result.now c.items-2.result.now c.args.from c.args.to) _
-    (least_certificate rows c.args.banned.now.links c.deref.result.now c.items-2.result.now c.args.banned.now.nodes are c.items-2.ensures c.args.from c.args.to)
+    (least_certificate rows c.args.banned.now.links c.deref.result.now c.items-2.result.now c.args.banned.now.nodes
+    are c.items-2.ensures c.args.from c.args.to)
     (c.least.ensures.found rows c.in_ok-network.ensures)
 
 pub returns-clause-none : goal.returns-clause-none
 returns-clause-none c =
     let rows = c.args.rows.now in
-    let are : AreRowsOf rows c.args.banned.now.links c.deref.result.now = subst (AreRowsOf rows c.args.banned.now.links) (sym c.deref.ensures.value) (subst (λ ls. AreRowsOf rows ls c.in_ok-closed.closed.items) c.items.ensures c.in_ok-closed.ensures) in
-    err_map c.least.result (IsRefusal rows (IsClosed rows c.deref.result.now) (Contains c.items-2.result.now) c.args.from c.args.to) _
-    (least_refusal rows c.args.banned.now.links c.deref.result.now c.items-2.result.now c.args.banned.now.nodes are c.items-2.ensures c.args.from c.args.to)
+    let are : AreRowsOf rows c.args.banned.now.links c.deref.result.now =
+    subst (AreRowsOf rows c.args.banned.now.links) (sym c.deref.ensures.value)
+    (subst (λ ls. AreRowsOf rows ls c.in_ok-closed.closed.items) c.items.ensures c.in_ok-closed.ensures) in
+    err_map c.least.result (IsRefusal rows (IsClosed rows c.deref.result.now)
+    (Contains c.items-2.result.now) c.args.from c.args.to) _
+    (least_refusal rows c.args.banned.now.links c.deref.result.now c.items-2.result.now c.args.banned.now.nodes are
+    c.items-2.ensures c.args.from c.args.to)
     (c.least.ensures.none rows c.in_ok-network.ensures)

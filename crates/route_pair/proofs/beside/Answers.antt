@@ -16,9 +16,12 @@ returns-clause-found c =
     let primary = c.args.primary.now in
     let closed = c.deref.result.now in
     let nodes = c.items.result.now in
-    let links = subst (λ marks. (l : LinkId) → IsClosed rows marks l ↔ SharesRisk rows primary l) (sym c.deref.ensures.value) c.in_ok-bans.ensures.links in
-    let inner = subst (λ ns. (n : NodeId) → Contains ns n ↔ IsInner c.args.from c.args.to primary n) (sym c.items.ensures) c.in_ok-bans.ensures.nodes in
-    ok_map c.least.result (IsLeastFound rows closed nodes c.args.from c.args.to) (IsBackupFound rows primary c.args.from c.args.to)
+    let links = subst (λ marks. (l : LinkId) → IsClosed rows marks l ↔ SharesRisk rows primary l)
+    (sym c.deref.ensures.value) c.in_ok-bans.ensures.links in
+    let inner = subst (λ ns. (n : NodeId) → Contains ns n ↔ IsInner c.args.from c.args.to primary n)
+    (sym c.items.ensures) c.in_ok-bans.ensures.nodes in
+    ok_map c.least.result (IsLeastFound rows closed nodes c.args.from c.args.to)
+    (IsBackupFound rows primary c.args.from c.args.to)
     (backup_ok rows primary c.args.from c.args.to closed nodes links inner) (c.least.ensures.found rows c.requires)
 
 pub returns-clause-none : goal.returns-clause-none
@@ -27,7 +30,10 @@ returns-clause-none c =
     let primary = c.args.primary.now in
     let closed = c.deref.result.now in
     let nodes = c.items.result.now in
-    let links = subst (λ marks. (l : LinkId) → IsClosed rows marks l ↔ SharesRisk rows primary l) (sym c.deref.ensures.value) c.in_ok-bans.ensures.links in
-    let inner = subst (λ ns. (n : NodeId) → Contains ns n ↔ IsInner c.args.from c.args.to primary n) (sym c.items.ensures) c.in_ok-bans.ensures.nodes in
-    err_map c.least.result (IsRefusal rows (IsClosed rows closed) (Contains nodes) c.args.from c.args.to) (IsUnsharedFault rows primary c.args.from c.args.to)
+    let links = subst (λ marks. (l : LinkId) → IsClosed rows marks l ↔ SharesRisk rows primary l)
+    (sym c.deref.ensures.value) c.in_ok-bans.ensures.links in
+    let inner = subst (λ ns. (n : NodeId) → Contains ns n ↔ IsInner c.args.from c.args.to primary n)
+    (sym c.items.ensures) c.in_ok-bans.ensures.nodes in
+    err_map c.least.result (IsRefusal rows (IsClosed rows closed) (Contains nodes) c.args.from c.args.to)
+    (IsUnsharedFault rows primary c.args.from c.args.to)
     (backup_err rows primary c.args.from c.args.to closed nodes links inner) (c.least.ensures.none rows c.requires)

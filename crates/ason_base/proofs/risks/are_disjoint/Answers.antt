@@ -12,7 +12,9 @@ loop-i-preserved-in-Less c =
     record {
       i_within = omega arith;
       j_within = omega arith;
-      left = apart_more a b c.loop-i.i c.loop-i.j (Srlg 0) c.requires.b c.loop-i-test.true c.if-j-b.true c.loop-i.invariant.left c.loop-i.invariant.right (below-less (get_or a c.loop-i.i (Srlg 0)) (get_or b c.loop-i.j (Srlg 0)) (sym e ∙ c.in-Less.is));
+      left = apart_more a b c.loop-i.i c.loop-i.j (Srlg 0) c.requires.b c.loop-i-test.true c.if-j-b.true
+          c.loop-i.invariant.left c.loop-i.invariant.right
+          (below-less (get_or a c.loop-i.i (Srlg 0)) (get_or b c.loop-i.j (Srlg 0)) (sym e ∙ c.in-Less.is));
       right = c.loop-i.invariant.right;
     }
 
@@ -20,8 +22,11 @@ pub returns-in-Equal : goal.returns-in-Equal
 returns-in-Equal c =
     let a = c.args.a.now in
     let b = c.args.b.now in
-    let e : c.cmp.result ≡ ghosts.cmp (get_or a c.loop-i.i (Srlg 0)) (get_or b c.loop-i.j (Srlg 0)) = c.cmp.ensures in
-    ((λ h. absurd (cc)), λ h. absurd (met a b c.loop-i.i c.loop-i.j (Srlg 0) c.loop-i-test.true c.if-j-b.true (same-equal (get_or a c.loop-i.i (Srlg 0)) (get_or b c.loop-i.j (Srlg 0)) (sym e ∙ c.in-Equal.is)) h))
+    let e : c.cmp.result ≡ ghosts.cmp (get_or a c.loop-i.i (Srlg 0)) (get_or b c.loop-i.j (Srlg 0)) = c.cmp.ensures in (
+      (λ h. absurd (cc)),
+      λ h. absurd (met a b c.loop-i.i c.loop-i.j (Srlg 0) c.loop-i-test.true c.if-j-b.true
+          (same-equal (get_or a c.loop-i.i (Srlg 0)) (get_or b c.loop-i.j (Srlg 0)) (sym e ∙ c.in-Equal.is)) h),
+    )
 
 pub loop-i-preserved : goal.loop-i-preserved
 loop-i-preserved c =
@@ -32,5 +37,7 @@ loop-i-preserved c =
       i_within = omega arith;
       j_within = omega arith;
       left = c.loop-i.invariant.left;
-      right = apart_more b a c.loop-i.j c.loop-i.i (Srlg 0) c.requires.a c.if-j-b.true c.loop-i-test.true c.loop-i.invariant.right c.loop-i.invariant.left (below-greater (get_or a c.loop-i.i (Srlg 0)) (get_or b c.loop-i.j (Srlg 0)) (sym e ∙ c.in-Greater.is));
+      right = apart_more b a c.loop-i.j c.loop-i.i
+          (Srlg 0) c.requires.a c.if-j-b.true c.loop-i-test.true c.loop-i.invariant.right c.loop-i.invariant.left
+          (below-greater (get_or a c.loop-i.i (Srlg 0)) (get_or b c.loop-i.j (Srlg 0)) (sym e ∙ c.in-Greater.is));
     }

@@ -8,6 +8,8 @@ use Rattle.ason_main.proofs.table_rows.sort_legs.Goals as goal
 
 pub returns-clause-sorted : goal.returns-clause-sorted
 returns-clause-sorted c =
-    let by_key = c.in_ok-sort_by_key.ensures.sorted (λ g. (g.lsp, g.node)) (answers_always _ _ _ (λ f a r q k. search rules)) in
-    let sorted : IsSortedBy {X = LegRow} leg_before c.sort_by_key.new.self.items = legs_in_order c.sort_by_key.new.self.items by_key in
+    let by_key = c.in_ok-sort_by_key.ensures.sorted (λ g. (g.lsp, g.node)) (answers_always _ _ _
+    (λ f a r q k. search rules)) in
+    let sorted : IsSortedBy {X = LegRow} leg_before c.sort_by_key.new.self.items =
+    legs_in_order c.sort_by_key.new.self.items by_key in
     search rules

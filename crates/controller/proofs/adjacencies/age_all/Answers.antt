@@ -7,4 +7,6 @@ use Rattle.controller.proofs.adjacencies.age_all.Goals as goal
 pub loop-adjacency-preserved : goal.loop-adjacency-preserved
 loop-adjacency-preserved c =
     let before = get_or c.loop-adjacency.adjacencies c.loop-adjacency.adjacency-index c.adjacency-item.result in
-    mapped-more aged c.args.adjacencies.now c.loop-adjacency.adjacencies c.loop-adjacency.adjacency-index c.adjacency-item.result (with_hop c.age.new.self before) c.loop-adjacency-test.true c.loop-adjacency.invariant (ap (λ (h : PreparedHop). with_hop h before) c.age.ensures)
+    mapped-more aged c.args.adjacencies.now c.loop-adjacency.adjacencies c.loop-adjacency.adjacency-index
+    c.adjacency-item.result (with_hop c.age.new.self before) c.loop-adjacency-test.true
+    c.loop-adjacency.invariant (ap (λ (h : PreparedHop). with_hop h before) c.age.ensures)

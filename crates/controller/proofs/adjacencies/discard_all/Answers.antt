@@ -7,4 +7,6 @@ use Rattle.controller.proofs.adjacencies.discard_all.Goals as goal
 pub loop-adjacency-preserved : goal.loop-adjacency-preserved
 loop-adjacency-preserved c =
     let before = get_or c.loop-adjacency.adjacencies c.loop-adjacency.adjacency-index c.adjacency-item.result in
-    mapped-more rested c.args.adjacencies.now c.loop-adjacency.adjacencies c.loop-adjacency.adjacency-index c.adjacency-item.result (with_hop c.discard.new.self before) c.loop-adjacency-test.true c.loop-adjacency.invariant (ap (λ (h : PreparedHop). with_hop h before) c.discard.ensures)
+    mapped-more rested c.args.adjacencies.now c.loop-adjacency.adjacencies c.loop-adjacency.adjacency-index
+    c.adjacency-item.result (with_hop c.discard.new.self before) c.loop-adjacency-test.true
+    c.loop-adjacency.invariant (ap (λ (h : PreparedHop). with_hop h before) c.discard.ensures)

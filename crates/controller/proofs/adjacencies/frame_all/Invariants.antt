@@ -9,7 +9,8 @@ use Rattle.controller.proofs.adjacencies.frame_all.Given as goal
 abbrev pub invariant-loop-p : goal.invariant-loop-p
 invariant-loop-p l = record {
   writable : AllByRecursion IsWritable (into_iter_items l.p-iterator);
-  frames : l.frames.items ++ frames_to l.me (sendings_to l.to (into_iter_items l.p-iterator)) ≡ l.initial.frames.items ++ frames_to l.me (sendings_to l.to l.fn.packets.items);
+  frames : l.frames.items ++ frames_to l.me (sendings_to l.to (into_iter_items l.p-iterator)) ≡
+      l.initial.frames.items ++ frames_to l.me (sendings_to l.to l.fn.packets.items);
   spelled : AllSpelled l.me (sendings_to l.to (into_iter_items l.p-iterator)) →
       AllSpelled l.me (sendings_to l.to l.fn.packets.items);
 }

@@ -9,7 +9,8 @@ pub take_at-requires-clause-next : goal.take_at-requires-clause-next
 take_at-requires-clause-next c = λ a e is.
     let before = c.args.adjacencies.now in
     let at : position (is_to c.args.from.0) before ≡ Some c.in-Some.place = sym c.in-Some.ensures in
-    subst (λ (h : PreparedHop). h.state.handed_up + 1 < 2 ^ 32) (sym (hop_there c.args.from.0 before c.in-Some.place at a e)) (c.requires.next is)
+    subst (λ (h : PreparedHop). h.state.handed_up + 1 < 2 ^ 32)
+    (sym (hop_there c.args.from.0 before c.in-Some.place at a e)) (c.requires.next is)
 
 pub returns-in-None-clause-hops : goal.returns-in-None-clause-hops
 returns-in-None-clause-hops c =
@@ -21,10 +22,13 @@ pub returns-in-Some-clause-hops : goal.returns-in-Some-clause-hops
 returns-in-Some-clause-hops c = λ d.
     let before = c.args.adjacencies.now in
     let at : position (is_to c.args.from.0) before ≡ Some c.in-Some.place = sym c.in-Some.ensures in
-    prepared_changed c.args.from.0 (taken_by c.args.heard c.args.acks.now) before c.take_at.new.adjacencies c.in-Some.place at c.take_at.ensures c.requires.reached d
+    prepared_changed c.args.from.0 (taken_by c.args.heard c.args.acks.now) before c.take_at.new.adjacencies
+    c.in-Some.place at c.take_at.ensures c.requires.reached d
 
 pub returns-in-Some-clause-peers : goal.returns-in-Some-clause-peers
 returns-in-Some-clause-peers c =
     let before = c.args.adjacencies.now in
     let at : position (is_to c.args.from.0) before ≡ Some c.in-Some.place = sym c.in-Some.ensures in
-    ap peer_numbers (changed_is c.args.from.0 (taken_by c.args.heard c.args.acks.now) before c.take_at.new.adjacencies c.in-Some.place at c.take_at.ensures) ∙ peers-changed c.args.from.0 (taken_by c.args.heard c.args.acks.now) before
+    ap peer_numbers (changed_is c.args.from.0 (taken_by c.args.heard c.args.acks.now) before
+    c.take_at.new.adjacencies c.in-Some.place at c.take_at.ensures) ∙
+    peers-changed c.args.from.0 (taken_by c.args.heard c.args.acks.now) before

@@ -8,26 +8,35 @@ use Rattle.controller.proofs.reactions.handle.Goals as goal
 
 pub returns-clause-made : goal.returns-clause-made
 returns-clause-made c =
-    handled-made c.args.node.now c.give.new.node c.args.adjacencies.now c.give.new.adjacencies c.commit_all.new.adjacencies c.in_ok-item.item c.args.item.now
-    c.new-frames.result.items c.give.new.frames.items c.in_ok-item.ensures c.in_ok-give.ensures.node c.in_ok-give.ensures.hops c.in_ok-give.ensures.rest
+    handled-made c.args.node.now c.give.new.node c.args.adjacencies.now c.give.new.adjacencies
+    c.commit_all.new.adjacencies c.in_ok-item.item c.args.item.now
+    c.new-frames.result.items c.give.new.frames.items c.in_ok-item.ensures c.in_ok-give.ensures.node
+    c.in_ok-give.ensures.hops c.in_ok-give.ensures.rest
     c.commit_all.ensures c.new-frames.ensures.items c.in_ok-give.ensures.frames c.in_ok-give.ensures.spelled
 
 pub returns-clause-kept : goal.returns-clause-kept
 returns-clause-kept c = λ k kept.
-    made-kept c.args.node.now c.give.new.node c.args.adjacencies.now c.commit_all.new.adjacencies k (hop_at c.args.adjacencies.now)
-    (on_item c.args.node.now.place c.args.node.now.state c.args.item.now) [] c.give.new.frames.items kept (λ d. refl) kept.again kept.waiting
+    made-kept c.args.node.now c.give.new.node c.args.adjacencies.now c.commit_all.new.adjacencies k
+    (hop_at c.args.adjacencies.now)
+    (on_item c.args.node.now.place c.args.node.now.state c.args.item.now) [] c.give.new.frames.items kept
+    (λ d. refl) kept.again kept.waiting
     (item-sent c.args.node.now.place c.args.node.now.state c.args.item.now c.fits.ensures.place c.fits.ensures.state)
-    (handled-made c.args.node.now c.give.new.node c.args.adjacencies.now c.give.new.adjacencies c.commit_all.new.adjacencies c.in_ok-item.item c.args.item.now
-    c.new-frames.result.items c.give.new.frames.items c.in_ok-item.ensures c.in_ok-give.ensures.node c.in_ok-give.ensures.hops c.in_ok-give.ensures.rest
+    (handled-made c.args.node.now c.give.new.node c.args.adjacencies.now c.give.new.adjacencies
+    c.commit_all.new.adjacencies c.in_ok-item.item c.args.item.now
+    c.new-frames.result.items c.give.new.frames.items c.in_ok-item.ensures c.in_ok-give.ensures.node
+    c.in_ok-give.ensures.hops c.in_ok-give.ensures.rest
     c.commit_all.ensures c.new-frames.ensures.items c.in_ok-give.ensures.frames c.in_ok-give.ensures.spelled)
 
 pub returns-clause-near : goal.returns-clause-near
 returns-clause-near c =
-    made-to_neighbours c.args.node.now c.give.new.node c.args.adjacencies.now c.commit_all.new.adjacencies (hop_at c.args.adjacencies.now)
+    made-to_neighbours c.args.node.now c.give.new.node c.args.adjacencies.now c.commit_all.new.adjacencies
+    (hop_at c.args.adjacencies.now)
     (on_item c.args.node.now.place c.args.node.now.state c.args.item.now) [] c.give.new.frames.items tt
     (item-sent c.args.node.now.place c.args.node.now.state c.args.item.now c.fits.ensures.place c.fits.ensures.state)
-    (handled-made c.args.node.now c.give.new.node c.args.adjacencies.now c.give.new.adjacencies c.commit_all.new.adjacencies c.in_ok-item.item c.args.item.now
-    c.new-frames.result.items c.give.new.frames.items c.in_ok-item.ensures c.in_ok-give.ensures.node c.in_ok-give.ensures.hops c.in_ok-give.ensures.rest
+    (handled-made c.args.node.now c.give.new.node c.args.adjacencies.now c.give.new.adjacencies
+    c.commit_all.new.adjacencies c.in_ok-item.item c.args.item.now
+    c.new-frames.result.items c.give.new.frames.items c.in_ok-item.ensures c.in_ok-give.ensures.node
+    c.in_ok-give.ensures.hops c.in_ok-give.ensures.rest
     c.commit_all.ensures c.new-frames.ensures.items c.in_ok-give.ensures.frames c.in_ok-give.ensures.spelled)
 
 pub returns-clause-few : goal.returns-clause-few

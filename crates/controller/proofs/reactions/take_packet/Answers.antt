@@ -10,7 +10,8 @@ use Rattle.controller.proofs.reactions.take_packet.Goals as goal
 
 pub take-requires-clause-reached : goal.take-requires-clause-reached
 take-requires-clause-reached c =
-    same-reach c.hand_up.new.adjacencies c.args.adjacencies.now c.in_ok-hand_up.ensures.rest c.args.from.0 ∙ c.requires.reached
+    same-reach c.hand_up.new.adjacencies c.args.adjacencies.now c.in_ok-hand_up.ensures.rest c.args.from.0 ∙
+    c.requires.reached
 
 pub take-requires-clause-next : goal.take-requires-clause-next
 take-requires-clause-next c = λ e.
@@ -21,31 +22,38 @@ take-requires-clause-next c = λ e.
 pub returns-clause-becomes : goal.returns-clause-becomes
 returns-clause-becomes c =
     let mid = c.hand_up.new.adjacencies in
-    took-becomes c.args.node.now c.hand_up.new.node c.args.adjacencies.now mid c.take.new.adjacencies _ c.args.from c.hears-heard.result c.args.packet c.handed_up-body.result
+    took-becomes c.args.node.now c.hand_up.new.node c.args.adjacencies.now mid c.take.new.adjacencies _ c.args.from
+    c.hears-heard.result c.args.packet c.handed_up-body.result
     c.hears-heard.ensures.heard
     c.handed_up-body.ensures.handed c.in_ok-hand_up.ensures.hops c.in_ok-hand_up.ensures.rest
-    (λ d. c.take.ensures.hops d ∙ ap (λ acks. cond (nat_eq d c.args.from.0) (taken_by c.hears-heard.result acks (prepared_at mid d)) (prepared_at mid d)) c.items.ensures)
+    (λ d. c.take.ensures.hops d ∙ ap (λ acks. cond (nat_eq d c.args.from.0)
+    (taken_by c.hears-heard.result acks (prepared_at mid d)) (prepared_at mid d)) c.items.ensures)
     c.take.ensures.peers c.commit_all.ensures c.in_ok-hand_up.ensures.place c.in_ok-hand_up.ensures.node
 
 pub returns-clause-frames : goal.returns-clause-frames
 returns-clause-frames c =
     let mid = c.hand_up.new.adjacencies in
-    took-frames c.args.node.now c.hand_up.new.node c.args.adjacencies.now mid c.take.new.adjacencies _ c.args.from c.hears-heard.result c.args.packet c.handed_up-body.result
+    took-frames c.args.node.now c.hand_up.new.node c.args.adjacencies.now mid c.take.new.adjacencies _ c.args.from
+    c.hears-heard.result c.args.packet c.handed_up-body.result
     c.hears-heard.ensures.heard
     c.handed_up-body.ensures.handed c.in_ok-hand_up.ensures.hops c.in_ok-hand_up.ensures.rest
-    (λ d. c.take.ensures.hops d ∙ ap (λ acks. cond (nat_eq d c.args.from.0) (taken_by c.hears-heard.result acks (prepared_at mid d)) (prepared_at mid d)) c.items.ensures)
+    (λ d. c.take.ensures.hops d ∙ ap (λ acks. cond (nat_eq d c.args.from.0)
+    (taken_by c.hears-heard.result acks (prepared_at mid d)) (prepared_at mid d)) c.items.ensures)
     c.take.ensures.peers c.commit_all.ensures
     c.args.frames.now.items c.acknowledge.new.frames.items c.hand_up.new.frames.items
-    (c.in_ok-acknowledge.ensures.frames ∙ ap (λ (n : NodeId). c.args.frames.now.items ++ frames_to n (acks_to c.args.from c.hears-heard.result c.args.packet)) c.id.ensures)
+    (c.in_ok-acknowledge.ensures.frames ∙ ap (λ (n : NodeId). c.args.frames.now.items ++
+    frames_to n (acks_to c.args.from c.hears-heard.result c.args.packet)) c.id.ensures)
     c.in_ok-hand_up.ensures.frames
 
 pub returns-clause-spelled : goal.returns-clause-spelled
 returns-clause-spelled c =
     let mid = c.hand_up.new.adjacencies in
-    took-spelled c.args.node.now c.hand_up.new.node c.args.adjacencies.now mid c.take.new.adjacencies _ c.args.from c.hears-heard.result c.args.packet c.handed_up-body.result
+    took-spelled c.args.node.now c.hand_up.new.node c.args.adjacencies.now mid c.take.new.adjacencies _ c.args.from
+    c.hears-heard.result c.args.packet c.handed_up-body.result
     c.hears-heard.ensures.heard
     c.handed_up-body.ensures.handed c.in_ok-hand_up.ensures.hops c.in_ok-hand_up.ensures.rest
-    (λ d. c.take.ensures.hops d ∙ ap (λ acks. cond (nat_eq d c.args.from.0) (taken_by c.hears-heard.result acks (prepared_at mid d)) (prepared_at mid d)) c.items.ensures)
+    (λ d. c.take.ensures.hops d ∙ ap (λ acks. cond (nat_eq d c.args.from.0)
+    (taken_by c.hears-heard.result acks (prepared_at mid d)) (prepared_at mid d)) c.items.ensures)
     c.take.ensures.peers c.commit_all.ensures
     (subst (λ (n : NodeId). AllSpelled n (acks_to c.args.from c.hears-heard.result c.args.packet)) c.id.ensures
     c.in_ok-acknowledge.ensures.spelled)

@@ -19,20 +19,26 @@ returns-clause-kept c = λ k kept.
     subst (λ p. IsKept p c.take_packet.new.adjacencies (k + 1)) (sym c.in_ok-take_packet.ensures.becomes.place)
     (kept-next n.place before c.take_packet.new.adjacencies k (heard_hops (hop_at before) c.args.from c.args.packet)
     (on_first n.place n.state c.args.from (handed_up_of heard c.args.packet)) kept
-    (heard-sent (hop_at before) c.args.from c.args.packet) (heard-again (hop_at before) c.args.from c.args.packet kept.again)
+    (heard-sent (hop_at before) c.args.from c.args.packet)
+    (heard-again (hop_at before) c.args.from c.args.packet kept.again)
     (heard-waits (hop_at before) c.args.from c.args.packet kept.waiting)
-    (heard-answered n.place n.state c.args.from heard c.args.packet c.fits.ensures.place c.fits.ensures.state c.requires.body)
-    c.in_ok-take_packet.ensures.becomes.hops c.in_ok-take_packet.ensures.becomes.peers c.in_ok-take_packet.ensures.becomes.rest)
+    (heard-answered n.place n.state c.args.from heard c.args.packet c.fits.ensures.place c.fits.ensures.state
+    c.requires.body)
+    c.in_ok-take_packet.ensures.becomes.hops c.in_ok-take_packet.ensures.becomes.peers
+    c.in_ok-take_packet.ensures.becomes.rest)
 
 pub returns-clause-near : goal.returns-clause-near
 returns-clause-near c =
     let n = c.args.node.now in
     let before = c.args.adjacencies.now in
     let heard = heard_as (hop_at before c.args.from.0) c.args.packet in
-    made-near n.place n.place.id (acks_to c.args.from heard c.args.packet) (heard_hops (hop_at before) c.args.from c.args.packet)
-    (on_first n.place n.state c.args.from (handed_up_of heard c.args.packet)) c.new-frames.result.items c.take_packet.new.frames.items
+    made-near n.place n.place.id (acks_to c.args.from heard c.args.packet)
+    (heard_hops (hop_at before) c.args.from c.args.packet)
+    (on_first n.place n.state c.args.from (handed_up_of heard c.args.packet)) c.new-frames.result.items
+    c.take_packet.new.frames.items
     (acks-near n.place c.args.from heard c.args.packet c.requires.from)
-    (heard-answered n.place n.state c.args.from heard c.args.packet c.fits.ensures.place c.fits.ensures.state c.requires.body)
+    (heard-answered n.place n.state c.args.from heard c.args.packet c.fits.ensures.place c.fits.ensures.state
+    c.requires.body)
     c.new-frames.ensures.items c.in_ok-take_packet.ensures.frames
 
 pub returns-clause-few : goal.returns-clause-few
@@ -40,8 +46,11 @@ returns-clause-few c =
     let n = c.args.node.now in
     let before = c.args.adjacencies.now in
     let heard = heard_as (hop_at before c.args.from.0) c.args.packet in
-    frames-few n.place n.place.id (acks_to c.args.from heard c.args.packet) (heard_hops (hop_at before) c.args.from c.args.packet)
-    (on_first n.place n.state c.args.from (handed_up_of heard c.args.packet)) c.new-frames.result.items c.take_packet.new.frames.items
+    frames-few n.place n.place.id (acks_to c.args.from heard c.args.packet)
+    (heard_hops (hop_at before) c.args.from c.args.packet)
+    (on_first n.place n.state c.args.from (handed_up_of heard c.args.packet)) c.new-frames.result.items
+    c.take_packet.new.frames.items
     (acks-few c.args.from heard c.args.packet)
-    (heard-answered n.place n.state c.args.from heard c.args.packet c.fits.ensures.place c.fits.ensures.state c.requires.body)
+    (heard-answered n.place n.state c.args.from heard c.args.packet c.fits.ensures.place c.fits.ensures.state
+    c.requires.body)
     c.new-frames.ensures.items c.in_ok-take_packet.ensures.frames

@@ -1,6 +1,18 @@
-use Rattle.std.proofs.Common.{rules}
-use Rattle.std.proofs.lemmas.Fn.{filter_same}
+use Rattle.std.proofs.Common.{◌≡◌, ◌<◌, ◌∙◌, length, rules}
+use Rattle.std.specs.List.{remove}
+use Rattle.std.proofs.lemmas.List.Sorted.{answers_always}
+use Rattle.flood.proofs.DueOrder.{found_goes, none_goes}
 use Rattle.flood.proofs.due.take_off.Goals as goal
 
-pub returns : goal.returns
-returns c = filter_same _ _ _ (λ d b f k. search rules) _ _ c.retain.ensures.filtered
+pub returns-in-Ok : goal.returns-in-Ok
+returns-in-Ok c =
+    let within : c.in-Ok.place < length c.args.due.now.items = search rules in
+    let items : c.remove.new.self.items ≡ remove c.args.due.now.items c.in-Ok.place = search rules in
+    items
+    ∙ found_goes c.args.number c.args.due.now.items c.in-Ok.place c.requires within
+    (c.in-Ok.ensures.position (λ d. d.number) (answers_always _ _ _ (λ f a r g called. search rules)))
+
+pub returns-in_default : goal.returns-in_default
+returns-in_default c =
+    none_goes c.args.number c.args.due.now.items c.in_default.field-0 c.requires
+    (c.in_default.ensures.position (λ d. d.number) (answers_always _ _ _ (λ f a r g called. search rules)))

@@ -4,4 +4,11 @@ use Rattle.hop_reliable.proofs.Waiting.{under_way_is_waiting}
 use Rattle.hop_reliable.proofs.laws.every_schedule.Goals as goal
 
 pub returns : goal.returns
-returns c = record { in_order = handed_up_in_order; kept = nothing_is_lost; settled = settled_is_delivered; waiting = under_way_is_waiting; rising = unacked_rise }
+returns c = record {
+  in_order = handed_up_in_order;
+  kept = nothing_is_lost;
+  settled = settled_is_delivered;
+  waiting =
+      under_way_is_waiting;
+  rising = unacked_rise;
+}

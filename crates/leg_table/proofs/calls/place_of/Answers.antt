@@ -13,4 +13,5 @@ returns-clause-place c =
     let split = parted (is_of_number l) (is_call_at_or_after l) calls (calls_in_order l calls c.requires) in
     let found = c.partition_point.ensures in
     point-is (is_call_at_or_after l) calls c.partition_point.result found.bound
-    (IsPartitionPoint-from_clause (λ g. not (is_call_at_or_after l g)) calls c.partition_point.result found.partitioned split (λ a r f k. search rules))
+    (IsPartitionPoint-from_clause (λ g. not (is_call_at_or_after l g)) calls c.partition_point.result
+    found.partitioned split (λ a r f k. search rules))

@@ -15,5 +15,6 @@ returns-in-Some-clause-ok c =
     let place = sym (c.in-Some.ensures ∙ ap (position (is_of_number c.args.number)) c.deref.ensures.value) in
     let items = c.args.calls.now.items in
     on_ok_weaker c.add_report.result
-    (λ e. ap (set items c.in-Some.place) e ∙ changed-at (is_of_number c.args.number) (reported c.args.role c.args.f) items c.in-Some.place c.index_mut.result.now place c.index_mut.ensures.value)
+    (λ e. ap (set items c.in-Some.place) e ∙ changed-at (is_of_number c.args.number)
+    (reported c.args.role c.args.f) items c.in-Some.place c.index_mut.result.now place c.index_mut.ensures.value)
     c.add_report.ensures.ok

@@ -9,7 +9,8 @@ returns-in-Some-clause-changed c =
     let place = sym (c.in-Some.ensures ∙ ap (position (is_of_number c.args.number)) c.deref.ensures.value) in
     let items = c.args.calls.now.items in
     ap (set items c.in-Some.place) c.name_lsps.ensures
-    ∙ changed-at (is_of_number c.args.number) (with_lsps c.args.work c.args.back) items c.in-Some.place c.index_mut.result.now place c.index_mut.ensures.value
+    ∙ changed-at (is_of_number c.args.number) (with_lsps c.args.work c.args.back) items c.in-Some.place
+    c.index_mut.result.now place c.index_mut.ensures.value
 
 pub returns-in_default-clause-changed : goal.returns-in_default-clause-changed
 returns-in_default-clause-changed c =

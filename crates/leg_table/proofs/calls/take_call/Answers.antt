@@ -24,10 +24,12 @@ returns-in-Some-clause-call c =
     let place = sym (c.in-Some.ensures ∙ ap (position (is_of_number c.args.number)) c.deref.ensures.value) in
     let below = (position-Some (is_of_number c.args.number) xs i c.remove.result place).0 in
     let value = c.remove.ensures.value in
-    ap Some value ∙ sym (slice_get-get_or xs i c.remove.result below) ∙ sym (find-place (is_of_number c.args.number) xs i place)
+    ap Some value ∙ sym (slice_get-get_or xs i c.remove.result below) ∙
+    sym (find-place (is_of_number c.args.number) xs i place)
 
 pub returns-in-Some-clause-left : goal.returns-in-Some-clause-left
 returns-in-Some-clause-left c =
     let xs = c.args.calls.now.items in
     let place = sym (c.in-Some.ensures ∙ ap (position (is_of_number c.args.number)) c.deref.ensures.value) in
-    c.remove.ensures.items ∙ sym (filter-at (is_of_number c.args.number) xs c.in-Some.place c.remove.result (calls_in_order c.args.number xs c.requires) place)
+    c.remove.ensures.items ∙ sym (filter-at (is_of_number c.args.number) xs c.in-Some.place c.remove.result
+    (calls_in_order c.args.number xs c.requires) place)

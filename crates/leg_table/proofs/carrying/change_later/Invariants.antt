@@ -8,7 +8,8 @@ use Rattle.leg_table.proofs.carrying.change_later.Given as goal
 
 abbrev pub invariant-loop-change : goal.invariant-loop-change
 invariant-loop-change l = record {
-  items : legs_changed (into_iter_items l.change-iterator) l.legs.items ≡ legs_changed l.fn.changes.items l.initial.legs.items;
+  items : legs_changed (into_iter_items l.change-iterator) l.legs.items ≡
+      legs_changed l.fn.changes.items l.initial.legs.items;
   room : vec_len l.legs + into_iter_len l.change-iterator ≤ vec_capacity l.legs;
   rising : LegsRise l.legs.items;
   fit : ClaimsFit l.legs.items l.owner;

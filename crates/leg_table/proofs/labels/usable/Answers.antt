@@ -1,14 +1,26 @@
-use Rattle.std.proofs.Common.{◌∙◌}
+use Rattle.std.proofs.Common.{◌≡◌, ◌∙◌, sym, subst}
+use Rattle.mesh_rules.specs.Legs.{usable}
 use Rattle.leg_table.specs.States.{local_of}
 use Rattle.leg_table.proofs.LegOrder.{legs-to}
-use Rattle.leg_table.proofs.UsableLabels.{unclaimed-usable}
+use Rattle.leg_table.proofs.UsableLabels.{shared-usable, unclaimed-usable}
 use Rattle.leg_table.proofs.labels.usable.Goals as goal
 
-pub returns : goal.returns
-returns c =
+pub returns-in-Work : goal.returns-in-Work
+returns-in-Work c =
     let t = c.args.tables.now in
     let o = c.args.owner.now in
-    c.unclaimed.ensures
-    ∙ unclaimed-usable (local_of t) t.legs o c.args.f (legs-to t.legs c.legs-rising.ensures.rising)
+    subst (λ r. c.unclaimed.result ≡ usable (local_of t) t.legs r c.args.risks.now c.args.f) (sym c.in-Work.is)
+    (c.unclaimed.ensures
+    ∙ unclaimed-usable (local_of t) t.legs c.args.risks.now o c.args.f (legs-to t.legs c.rises.ensures.rising)
     c.requires.owner.claims c.requires.owner.fibres
-    (c.requires.owner.fibres.fibres c.args.f ∙ c.requires.comes_in)
+    (c.requires.owner.fibres.fibres c.args.f ∙ c.requires.comes_in))
+
+pub returns-in-Back : goal.returns-in-Back
+returns-in-Back c =
+    let t = c.args.tables.now in
+    let o = c.args.owner.now in
+    subst (λ r. c.left_by.result ≡ usable (local_of t) t.legs r c.args.risks.now c.args.f) (sym c.in-Back.is)
+    (rw (c.left_by.ensures, c.claims.ensures, c.shareable.ensures)
+    (shared-usable (local_of t) t.legs c.args.risks.now o c.args.f (legs-to t.legs c.rises.ensures.rising)
+    c.requires.owner.claims c.requires.owner.fibres
+    (c.requires.owner.fibres.fibres c.args.f ∙ c.requires.comes_in)))

@@ -6,4 +6,5 @@ use Rattle.leg_table.proofs.laws.at_start.Goals as goal
 pub returns : goal.returns
 returns c =
     let t = c.args.t.now in
-    subst (λ o. TablesFit c.args.tables.now o) (sym c.requires.owner) (at_start-fits t c.args.id c.args.tables.now c.links-links.ensures.valid c.requires.tables)
+    subst (λ o. TablesFit c.args.tables.now o) (sym c.requires.owner)
+    (at_start-fits t c.args.id c.args.tables.now c.links-links.ensures.valid c.requires.tables)

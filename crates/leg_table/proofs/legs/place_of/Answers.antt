@@ -13,4 +13,5 @@ returns-clause-place c =
     let split = parted (is_of_lsp l) (is_at_or_after l) legs (legs_in_order l legs c.requires) in
     let found = c.partition_point.ensures in
     point-is (is_at_or_after l) legs c.partition_point.result found.bound
-    (IsPartitionPoint-from_clause (λ g. not (is_at_or_after l g)) legs c.partition_point.result found.partitioned split (λ a r f k. search rules))
+    (IsPartitionPoint-from_clause (λ g. not (is_at_or_after l g)) legs c.partition_point.result found.partitioned
+    split (λ a r f k. search rules))

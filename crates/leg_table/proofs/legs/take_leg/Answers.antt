@@ -24,10 +24,12 @@ returns-in-Some-clause-leg c =
     let place = sym (c.in-Some.ensures ∙ ap (position (is_of_lsp c.args.lsp)) c.deref.ensures.value) in
     let below = (position-Some (is_of_lsp c.args.lsp) xs i c.remove.result place).0 in
     let value = c.remove.ensures.value in
-    ap Some value ∙ sym (slice_get-get_or xs i c.remove.result below) ∙ sym (find-place (is_of_lsp c.args.lsp) xs i place)
+    ap Some (c.into_leg.ensures ∙ value) ∙ sym (slice_get-get_or xs i c.remove.result below) ∙
+    sym (find-place (is_of_lsp c.args.lsp) xs i place)
 
 pub returns-in-Some-clause-left : goal.returns-in-Some-clause-left
 returns-in-Some-clause-left c =
     let xs = c.args.legs.now.items in
     let place = sym (c.in-Some.ensures ∙ ap (position (is_of_lsp c.args.lsp)) c.deref.ensures.value) in
-    c.remove.ensures.items ∙ sym (filter-at (is_of_lsp c.args.lsp) xs c.in-Some.place c.remove.result (legs_in_order c.args.lsp xs c.requires) place)
+    c.remove.ensures.items ∙ sym (filter-at (is_of_lsp c.args.lsp) xs c.in-Some.place c.remove.result
+    (legs_in_order c.args.lsp xs c.requires) place)

@@ -14,7 +14,9 @@ loop-claim-preserved c =
     let more = take_item c.args.claims.now i claim c.loop-claim-test.true c.claim-item.is in
     elim c.if-is_found.branch [
       | then-is_found w ↦
-          rw (more, w.least-is) (least-more p before claim c.loop-claim.least c.loop-claim.invariant (sym c.is_found.ensures ∙ w.if-is_found.true))
+          rw (more, w.least-is) (least-more p before claim c.loop-claim.least c.loop-claim.invariant
+          (sym c.is_found.ensures ∙ w.if-is_found.true))
       | else-is_found w ↦
-          rw (more, w.least-is) (least-kept p before claim c.loop-claim.least c.loop-claim.invariant (sym c.is_found.ensures ∙ w.if-is_found.false))
+          rw (more, w.least-is) (least-kept p before claim c.loop-claim.least c.loop-claim.invariant
+          (sym c.is_found.ensures ∙ w.if-is_found.false))
     ]

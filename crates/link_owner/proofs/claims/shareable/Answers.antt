@@ -26,8 +26,19 @@ loop-claim-preserved c =
     let more = take_item c.args.claims.now i claim c.loop-claim-test.true c.claim-item.is in
     elim c.if-is_working.branch [
       | then-is_working w ↦
-          rw (more, left-taken works_on before claim claim.label labels (λ y. and_true _ _ (sym c.is_working.ensures ∙ w.if-is_working.true)), w.labels-is, w.without-labels.ensures)
+          rw (
+            more,
+            left-taken works_on before claim claim.label labels
+                (λ y. and_true _ _ (sym c.is_working.ensures ∙ w.if-is_working.true)),
+            w.labels-is,
+            w.without-labels.ensures,
+          )
           (ap (λ labels. without labels claim.label) c.loop-claim.invariant)
       | else-is_working w ↦
-          rw (more, left-kept works_on before claim labels (λ y. and_false _ _ (sym c.is_working.ensures ∙ w.if-is_working.false)), w.labels-is) c.loop-claim.invariant
+          rw (
+            more,
+            left-kept works_on before claim labels
+                (λ y. and_false _ _ (sym c.is_working.ensures ∙ w.if-is_working.false)),
+            w.labels-is,
+          ) c.loop-claim.invariant
     ]

@@ -12,5 +12,9 @@ loop-claim-preserved c =
     let i = c.loop-claim.claim-index in
     let claim = c.claim-item.result in
     let more = take_item c.args.claims.now i claim c.loop-claim-test.true c.claim-item.is in
-    rw (more, left-taken has (take i c.args.claims.now) claim claim.label (up_to c.args.n) (λ y. refl), c.without-labels.ensures)
+    rw (
+      more,
+      left-taken has (take i c.args.claims.now) claim claim.label (up_to c.args.n) (λ y. refl),
+      c.without-labels.ensures,
+    )
     (ap (λ labels. without labels claim.label) c.loop-claim.invariant)

@@ -6,6 +6,7 @@ use Rattle.mesh.proofs.queues.send.Given as goal
 
 abbrev pub invariant-loop-out : goal.invariant-loop-out
 invariant-loop-out l = record {
-  items : l.mail.items ++ map (sent_by l.from) (into_iter_items l.out-iterator) ≡ l.initial.mail.items ++ map (sent_by l.from) l.fn.outs;
+  items : l.mail.items ++ map (sent_by l.from) (into_iter_items l.out-iterator) ≡ l.initial.mail.items ++
+      map (sent_by l.from) l.fn.outs;
   room : vec_len l.mail + into_iter_len l.out-iterator ≤ vec_capacity l.mail;
 }

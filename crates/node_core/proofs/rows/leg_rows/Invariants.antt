@@ -3,5 +3,5 @@ use Rattle.std.specs.Prelude.{map}
 use Rattle.mesh_rules.specs.Rows.{leg_row}
 use Rattle.node_core.proofs.rows.leg_rows.Given as goal
 
-abbrev pub invariant-loop-leg : goal.invariant-loop-leg
-invariant-loop-leg l = l.rows ≡ map (leg_row l.n) (take l.leg-index l.legs)
+abbrev pub invariant-loop-place : goal.invariant-loop-place
+invariant-loop-place l = l.rows ≡ map (leg_row l.n) (take l.place l.tables.legs)

@@ -11,12 +11,15 @@ pub loop-row-preserved : goal.loop-row-preserved
 loop-row-preserved c =
     let row = c.row-item.result in
     let has = set_has c.args.links.now c.in_ok-set.set c.in_ok-set.ensures row.link in
-    subst (AreRowsWith (λ row. Contains c.args.links.now row.link) c.args.rows.now (c.loop-row.row-index + 1)) (sym c.in_ok-push.ensures.items)
-    (row_more (λ row. Contains c.args.links.now row.link) c.args.rows.now c.loop-row.row-index row c.loop-row.closed.items c.contains.result c.row-item.is
+    subst (AreRowsWith (λ row. Contains c.args.links.now row.link) c.args.rows.now (c.loop-row.row-index + 1))
+    (sym c.in_ok-push.ensures.items)
+    (row_more (λ row. Contains c.args.links.now row.link) c.args.rows.now c.loop-row.row-index row
+    c.loop-row.closed.items c.contains.result c.row-item.is
     (subst (λ b. (b ≡ true) ↔ Contains c.args.links.now row.link) (sym c.contains.ensures) has) c.loop-row.invariant)
 
 pub returns : goal.returns
 returns c =
     let past : length c.args.rows.now ≤ c.loop-row.row-index = c.loop-row-test.false in
     let inside : c.loop-row.row-index ≤ length c.args.rows.now = c.loop-row.auto.row-index-end in
-    all_rows (λ row. Contains c.args.links.now row.link) c.args.rows.now c.loop-row.row-index c.loop-row.closed.items (omega arith) c.loop-row.invariant
+    all_rows (λ row. Contains c.args.links.now row.link) c.args.rows.now c.loop-row.row-index c.loop-row.closed.items
+    (omega arith) c.loop-row.invariant

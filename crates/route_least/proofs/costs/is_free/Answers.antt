@@ -20,5 +20,6 @@ returns-then-not-closed-arc c =
         node = λ n h banned. untrue c.is_banned.result free
             (c.is_banned.ensures.1 (subst (Contains c.args.banned.now) (sym (node_is places head d n h)) banned));
       }),
-      (λ free. denied c.is_banned.result (λ on. free.node (get_or places head d).node (node_at places head d c.requires.head) (c.is_banned.ensures.0 on))),
+      (λ free. denied c.is_banned.result (λ on. free.node (get_or places head d).node
+          (node_at places head d c.requires.head) (c.is_banned.ensures.0 on))),
     )

@@ -9,14 +9,16 @@ use Rattle.route_least.proofs.costs.relax.Goals as goal
 use Rattle.route_least.proofs.costs.relax.Goals.{then-lower, else-lower}
 
 pub loop-arc-init : goal.loop-arc-init
-loop-arc-init c = relaxing c.args.places.now c.args.closed.now c.args.banned.now c.args.place c.in-Some.cost c.args.costs.now c.args.lowered.now c.in-Some.is c.requires.bounded
+loop-arc-init c = relaxing c.args.places.now c.args.closed.now c.args.banned.now c.args.place c.in-Some.cost
+    c.args.costs.now c.args.lowered.now c.in-Some.is c.requires.bounded
 
 pub lower-requires-clause-arc : goal.lower-requires-clause-arc
 lower-requires-clause-arc c =
     let places = c.args.places.now in
     let arcs = c.deref-arc-items.result.now in
     let same : length c.loop-arc.costs ≡ length places = c.loop-arc.auto.costs ∙ c.requires.costs in
-    let there = read_arc places c.args.place c.index-places-place.result arcs c.loop-arc.arc-index no_arc c.deref-arc-items.ensures.value c.requires.place c.loop-arc-test.true in
+    let there = read_arc places c.args.place c.index-places-place.result arcs c.loop-arc.arc-index no_arc
+    c.deref-arc-items.ensures.value c.requires.place c.loop-arc-test.true in
     let arc = get_or arcs c.loop-arc.arc-index no_arc in
     subst (λ n. IsWithin n (length c.args.closed.now) arc) (sym same) (c.requires.sound.within c.args.place arc there)
 
@@ -30,7 +32,8 @@ bounds-lowered-arc c =
     let places = c.args.places.now in
     let arcs = c.deref-arc-items.result.now in
     let same : length c.loop-arc.lowered ≡ length places = c.loop-arc.auto.lowered ∙ c.requires.lowered in
-    let there = read_arc places c.args.place c.index-places-place.result arcs c.loop-arc.arc-index no_arc c.deref-arc-items.ensures.value c.requires.place c.loop-arc-test.true in
+    let there = read_arc places c.args.place c.index-places-place.result arcs c.loop-arc.arc-index no_arc
+    c.deref-arc-items.ensures.value c.requires.place c.loop-arc-test.true in
     let arc = get_or arcs c.loop-arc.arc-index no_arc in
     subst (λ n. arc.head < n) (sym same) (c.requires.sound.within c.args.place arc there).head
 
@@ -43,7 +46,8 @@ loop-arc-preserved c =
     let cost = c.in-Some.cost in
     let arcs = c.deref-arc-items.result.now in
     let i = c.loop-arc.arc-index in
-    let there = read_arc places place c.index-places-place.result arcs i no_arc c.deref-arc-items.ensures.value c.requires.place c.loop-arc-test.true in
+    let there = read_arc places place c.index-places-place.result arcs i no_arc c.deref-arc-items.ensures.value
+    c.requires.place c.loop-arc-test.true in
     let within = c.requires.sound.within place (get_or arcs i no_arc) there in
     let costs : length c.loop-arc.costs ≡ length places = c.loop-arc.auto.costs ∙ c.requires.costs in
     let marks : length c.loop-arc.lowered ≡ length places = c.loop-arc.auto.lowered ∙ c.requires.lowered in
@@ -51,14 +55,24 @@ loop-arc-preserved c =
     let low = small c.args.costs.now c.requires.bounded few place cost c.in-Some.is in
     elim c.if-lower.branch [
       | then-lower w ↦
-          subst (λ b. IsRelaxing places closed banned place cost c.args.costs.now c.args.lowered.now (take (i + 1) arcs) c.lower.new.costs c.if-lower.lowered b) (sym w.changed-is)
-          (subst (λ on. IsRelaxing places closed banned place cost c.args.costs.now c.args.lowered.now (take (i + 1) arcs) c.lower.new.costs on true) (sym w.lowered-is)
-          (relaxed places closed banned place cost c.args.costs.now c.args.lowered.now arcs i no_arc c.loop-arc.costs c.lower.new.costs c.loop-arc.lowered c.loop-arc.changed c.loop-arc-test.true c.loop-arc.invariant
-          (there, c.lower.ensures.free w.if-lower.true) (subst (λ n. (get_or arcs i no_arc).head < n) (sym costs) within.head) (subst (λ n. (get_or arcs i no_arc).head < n) (sym marks) within.head) within.metric low (c.lower.ensures.lowered w.if-lower.true)))
+          subst (λ b. IsRelaxing places closed banned place cost c.args.costs.now c.args.lowered.now
+          (take (i + 1) arcs) c.lower.new.costs c.if-lower.lowered b) (sym w.changed-is)
+          (subst (λ on. IsRelaxing places closed banned place cost c.args.costs.now c.args.lowered.now
+          (take (i + 1) arcs) c.lower.new.costs on true) (sym w.lowered-is)
+          (relaxed places closed banned place cost c.args.costs.now c.args.lowered.now arcs i no_arc c.loop-arc.costs
+          c.lower.new.costs c.loop-arc.lowered c.loop-arc.changed c.loop-arc-test.true c.loop-arc.invariant
+          (there, c.lower.ensures.free w.if-lower.true)
+          (subst (λ n. (get_or arcs i no_arc).head < n) (sym costs) within.head)
+          (subst (λ n. (get_or arcs i no_arc).head < n) (sym marks) within.head) within.metric low
+          (c.lower.ensures.lowered w.if-lower.true)))
       | else-lower w ↦
-          subst (λ b. IsRelaxing places closed banned place cost c.args.costs.now c.args.lowered.now (take (i + 1) arcs) c.lower.new.costs c.if-lower.lowered b) (sym w.changed-is)
-          (subst (λ on. IsRelaxing places closed banned place cost c.args.costs.now c.args.lowered.now (take (i + 1) arcs) c.lower.new.costs on c.loop-arc.changed) (sym w.lowered-is)
-          (relaxed_none places closed banned place cost c.args.costs.now c.args.lowered.now arcs i no_arc c.loop-arc.costs c.lower.new.costs c.loop-arc.lowered c.loop-arc.changed c.loop-arc-test.true c.loop-arc.invariant
+          subst (λ b. IsRelaxing places closed banned place cost c.args.costs.now c.args.lowered.now
+          (take (i + 1) arcs) c.lower.new.costs c.if-lower.lowered b) (sym w.changed-is)
+          (subst (λ on. IsRelaxing places closed banned place cost c.args.costs.now c.args.lowered.now
+          (take (i + 1) arcs) c.lower.new.costs on c.loop-arc.changed) (sym w.lowered-is)
+          (relaxed_none places closed banned place cost c.args.costs.now c.args.lowered.now arcs i no_arc
+          c.loop-arc.costs c.lower.new.costs c.loop-arc.lowered c.loop-arc.changed c.loop-arc-test.true
+          c.loop-arc.invariant
           (c.lower.ensures.kept w.if-lower.false) (c.lower.ensures.settled w.if-lower.false)))
     ]
 
@@ -69,8 +83,10 @@ pub returns-clause-settled : goal.returns-clause-settled
 returns-clause-settled c =
     let arcs = c.deref-arc-items.result.now in
     let done = c.loop-arc.invariant in
-    all_relaxed c.args.places.now c.args.closed.now c.args.banned.now c.args.place c.in-Some.cost c.args.costs.now c.args.lowered.now c.index-places-place.result c.loop-arc.costs c.loop-arc.lowered c.loop-arc.changed
-    (subst (λ xs. IsRelaxing c.args.places.now c.args.closed.now c.args.banned.now c.args.place c.in-Some.cost c.args.costs.now c.args.lowered.now xs c.loop-arc.costs c.loop-arc.lowered c.loop-arc.changed)
+    all_relaxed c.args.places.now c.args.closed.now c.args.banned.now c.args.place c.in-Some.cost c.args.costs.now
+    c.args.lowered.now c.index-places-place.result c.loop-arc.costs c.loop-arc.lowered c.loop-arc.changed
+    (subst (λ xs. IsRelaxing c.args.places.now c.args.closed.now c.args.banned.now c.args.place c.in-Some.cost
+    c.args.costs.now c.args.lowered.now xs c.loop-arc.costs c.loop-arc.lowered c.loop-arc.changed)
     (take_all c.loop-arc.arc-index arcs c.loop-arc-test.false ∙ c.deref-arc-items.ensures.value) done)
 
 pub returns-clause-kept : goal.returns-clause-kept

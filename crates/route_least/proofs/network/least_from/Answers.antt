@@ -16,17 +16,20 @@ returns-in-None-clause-err c =
     let network = c.args.network.now in
     let costs = c.in_ok-costs.costs.items in
     let least : AreLeast (Goes network.places.items c.args.closed.now c.args.banned.now) c.args.start costs =
-    subst (λ ps. AreLeast (Goes ps c.args.closed.now c.args.banned.now) c.args.start costs) c.deref.ensures.value c.in_ok-costs.ensures.least
+    subst (λ ps. AreLeast (Goes ps c.args.closed.now c.args.banned.now) c.args.start costs) c.deref.ensures.value
+    c.in_ok-costs.ensures.least
     in
     let listed : AreListed network.order.items costs c.in_ok-potential.potential =
     subst (λ o. AreListed o costs c.in_ok-potential.potential) c.deref-2.ensures.value
-    (subst (λ t. AreListed c.deref-2.result.now t c.in_ok-potential.potential) c.deref-3.ensures.value c.in_ok-potential.ensures)
+    (subst (λ t. AreListed c.deref-2.result.now t c.in_ok-potential.potential) c.deref-3.ensures.value
+    c.in_ok-potential.ensures)
     in
     record {
       costs = costs;
       are = record { least = least; listed = listed };
       none = λ p cost there has.
-          c.in-None.ensures p cost (subst (λ ps. HasNode ps p c.args.to) (sym c.deref-4.ensures.value) there) (subst (λ t. cost_at t p ≡ Some cost) (sym c.deref-5.ensures.value) has);
+          c.in-None.ensures p cost (subst (λ ps. HasNode ps p c.args.to) (sym c.deref-4.ensures.value) there)
+          (subst (λ t. cost_at t p ≡ Some cost) (sym c.deref-5.ensures.value) has);
     }
 
 pub least_route-requires-clause-leads : goal.least_route-requires-clause-leads
@@ -34,10 +37,13 @@ least_route-requires-clause-leads c =
     let places = c.args.network.now.places.items in
     let costs = c.in_ok-costs.costs.items in
     let least : AreLeast (Goes places c.args.closed.now c.args.banned.now) c.args.start costs =
-    subst (λ ps. AreLeast (Goes ps c.args.closed.now c.args.banned.now) c.args.start costs) c.deref.ensures.value c.in_ok-costs.ensures.least
+    subst (λ ps. AreLeast (Goes ps c.args.closed.now c.args.banned.now) c.args.start costs) c.deref.ensures.value
+    c.in_ok-costs.ensures.least
     in
-    let has : cost_at costs c.in-Some.end ≡ Some c.in-Some.cost = subst (λ t. cost_at t c.in-Some.end ≡ Some c.in-Some.cost) c.deref-5.ensures.value c.in-Some.ensures.1 in
-    subst (λ ps. IsReached ps c.args.closed.now c.deref-in-Some-2.result.now c.args.start c.in-Some.end) (sym c.deref-in-Some.ensures.value)
+    let has : cost_at costs c.in-Some.end ≡ Some c.in-Some.cost =
+    subst (λ t. cost_at t c.in-Some.end ≡ Some c.in-Some.cost) c.deref-5.ensures.value c.in-Some.ensures.1 in
+    subst (λ ps. IsReached ps c.args.closed.now c.deref-in-Some-2.result.now c.args.start c.in-Some.end)
+    (sym c.deref-in-Some.ensures.value)
     (subst (λ t. IsReached places c.args.closed.now t c.args.start c.in-Some.end) (sym c.deref-in-Some-2.ensures.value)
     (reached places c.args.closed.now c.args.banned.now costs c.args.start c.in-Some.end c.in-Some.cost least has))
 
@@ -48,11 +54,13 @@ returns-clause-ok c =
     let costs = c.in_ok-costs.costs.items in
     let route = c.in_ok-route-in-Some.route in
     let least : AreLeast (Goes places c.args.closed.now c.args.banned.now) c.args.start costs =
-    subst (λ ps. AreLeast (Goes ps c.args.closed.now c.args.banned.now) c.args.start costs) c.deref.ensures.value c.in_ok-costs.ensures.least
+    subst (λ ps. AreLeast (Goes ps c.args.closed.now c.args.banned.now) c.args.start costs) c.deref.ensures.value
+    c.in_ok-costs.ensures.least
     in
     let listed : AreListed network.order.items costs c.in_ok-potential.potential =
     subst (λ o. AreListed o costs c.in_ok-potential.potential) c.deref-2.ensures.value
-    (subst (λ t. AreListed c.deref-2.result.now t c.in_ok-potential.potential) c.deref-3.ensures.value c.in_ok-potential.ensures)
+    (subst (λ t. AreListed c.deref-2.result.now t c.in_ok-potential.potential) c.deref-3.ensures.value
+    c.in_ok-potential.ensures)
     in
     record {
       costs = costs;
@@ -61,6 +69,8 @@ returns-clause-ok c =
       there = subst (λ ps. HasNode ps c.in-Some.end c.args.to) c.deref-4.ensures.value c.in-Some.ensures.0;
       has = subst (λ t. cost_at t c.in-Some.end ≡ Some c.in-Some.cost) c.deref-5.ensures.value c.in-Some.ensures.1;
       traced =
-          subst (λ ps. IsTraced (Crosses ps c.args.closed.now) costs ps c.args.start c.in-Some.end route) c.deref-in-Some.ensures.value
-          (subst (λ t. IsTraced (Crosses c.deref-in-Some.result.now c.args.closed.now) t c.deref-in-Some.result.now c.args.start c.in-Some.end route) c.deref-in-Some-2.ensures.value c.in_ok-route-in-Some.ensures);
+          subst (λ ps. IsTraced (Crosses ps c.args.closed.now) costs ps c.args.start c.in-Some.end route)
+          c.deref-in-Some.ensures.value
+          (subst (λ t. IsTraced (Crosses c.deref-in-Some.result.now c.args.closed.now) t c.deref-in-Some.result.now
+          c.args.start c.in-Some.end route) c.deref-in-Some-2.ensures.value c.in_ok-route-in-Some.ensures);
     }

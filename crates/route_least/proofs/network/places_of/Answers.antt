@@ -7,15 +7,19 @@ use Rattle.route_least.proofs.network.places_of.Goals as goal
 pub loop-index-init : goal.loop-index-init
 loop-index-init c = record {
   places = none_yet c.args.rows.now c.new-places.result.items c.new-places.ensures.items;
-  guesses = (let z = c.in_ok-guesses.ensures.len in let e : length c.in_ok-guesses.guesses.items ≡ 256 = omega (arith, z) in e);
+  guesses = (let z = c.in_ok-guesses.ensures.len in let e : length c.in_ok-guesses.guesses.items ≡ 256 =
+      omega (arith, z) in e);
 }
 
 pub loop-index-preserved : goal.loop-index-preserved
 loop-index-preserved c = record {
-  places = places_more c.args.rows.now c.loop-index.index c.index-rows-index.result c.loop-index.places.items c.add_row.new.places.items c.loop-index-test.true c.loop-index.invariant.places
-      (subst (λ row. HasAdded c.loop-index.places.items c.add_row.new.places.items row c.loop-index.index) c.index-rows-index.is c.in_ok-add_row.ensures);
+  places = places_more c.args.rows.now c.loop-index.index c.index-rows-index.result c.loop-index.places.items
+      c.add_row.new.places.items c.loop-index-test.true c.loop-index.invariant.places
+      (subst (λ row. HasAdded c.loop-index.places.items c.add_row.new.places.items row c.loop-index.index)
+      c.index-rows-index.is c.in_ok-add_row.ensures);
   guesses =
-      ap length (written_back c.loop-index.guesses.len c.add_row.new.guesses c.loop-index.guesses.items (c.add_row.auto.guesses ∙ c.deref_mut.ensures.len))
+      ap length (written_back c.loop-index.guesses.len c.add_row.new.guesses c.loop-index.guesses.items
+      (c.add_row.auto.guesses ∙ c.deref_mut.ensures.len))
       ∙ c.add_row.auto.guesses ∙ ap length c.deref_mut.ensures.value ∙ c.loop-index.invariant.guesses;
 }
 

@@ -9,7 +9,8 @@ loop-place-init c = none_numbered c.args.places.now _ c.in_ok-entries.ensures.it
 pub loop-place-preserved : goal.loop-place-preserved
 loop-place-preserved c =
     subst (AreNumbered c.args.places.now (c.loop-place.place + 1)) (sym c.in_ok-push.ensures.items)
-    (numbered_more c.args.places.now c.loop-place.place c.index-places-place.result c.loop-place.entries.items c.loop-place-test.true c.loop-place.invariant)
+    (numbered_more c.args.places.now c.loop-place.place c.index-places-place.result c.loop-place.entries.items
+    c.loop-place-test.true c.loop-place.invariant)
 
 pub returns : goal.returns
 returns c =

@@ -9,5 +9,6 @@ same_node a b e = λ i. record { 0 = e i }
 pub returns-then-place-places : goal.returns-then-place-places
 returns-then-place-places c = λ found.
     let here = node_at c.args.places.now c.args.place c.index-places-place.result c.if-place-places.true in
-    let same : (get_or c.args.places.now c.args.place c.index-places-place.result).node.0 ≡ c.args.node.0 = grind arith in
+    let same : (get_or c.args.places.now c.args.place c.index-places-place.result).node.0 ≡ c.args.node.0 =
+    grind arith in
     (here.0, here.1, here.2 ∙ same_node _ _ same)

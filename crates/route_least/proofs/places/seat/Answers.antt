@@ -14,7 +14,8 @@ returns c =
     let old = c.args.places.now.items in
     let new : Place = record { node = c.args.node; arcs = c.in_ok-arcs.arcs } in
     let len : length old ≡ c.len-place.result = omega arith in
-    let absent : (p : ℕ) → ¬ HasNode old p c.args.node = subst (λ ps. (p : ℕ) → ¬ HasNode ps p c.args.node) c.deref.ensures.value c.in_default.ensures in
+    let absent : (p : ℕ) → ¬ HasNode old p c.args.node =
+    subst (λ ps. (p : ℕ) → ¬ HasNode ps p c.args.node) c.deref.ensures.value c.in_default.ensures in
     subst (λ ps. HasSeated old ps c.args.node c.len-place.result) (sym c.in_ok-push.ensures.items)
     (subst (HasSeated old (old ++ new ∷ []) c.args.node) len
     (seated_new old new c.args.node c.requires absent refl c.in_ok-arcs.ensures.items))

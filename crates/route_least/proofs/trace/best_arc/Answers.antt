@@ -10,19 +10,22 @@ loop-arc-init c = none_best c.args.closed.now c.args.costs.now c.args.marks.now 
 pub leads_on-requires-clause-row : goal.leads_on-requires-clause-row
 leads_on-requires-clause-row c =
     let arc = get_or c.deref-arc-items.result.now c.loop-arc.arc-index no_arc in
-    let there = read_arc c.args.places.now c.args.place c.index-places-place.result c.deref-arc-items.result.now c.loop-arc.arc-index no_arc c.deref-arc-items.ensures.value c.requires.place c.loop-arc-test.true in
+    let there = read_arc c.args.places.now c.args.place c.index-places-place.result c.deref-arc-items.result.now
+    c.loop-arc.arc-index no_arc c.deref-arc-items.ensures.value c.requires.place c.loop-arc-test.true in
     (c.requires.sound.within c.args.place arc there).row
 
 pub leads_on-requires-clause-head : goal.leads_on-requires-clause-head
 leads_on-requires-clause-head c =
     let arc = get_or c.deref-arc-items.result.now c.loop-arc.arc-index no_arc in
-    let there = read_arc c.args.places.now c.args.place c.index-places-place.result c.deref-arc-items.result.now c.loop-arc.arc-index no_arc c.deref-arc-items.ensures.value c.requires.place c.loop-arc-test.true in
+    let there = read_arc c.args.places.now c.args.place c.index-places-place.result c.deref-arc-items.result.now
+    c.loop-arc.arc-index no_arc c.deref-arc-items.ensures.value c.requires.place c.loop-arc-test.true in
     subst (λ n. arc.head < n) (sym c.requires.costs) (c.requires.sound.within c.args.place arc there).head
 
 pub leads_on-requires-clause-metric : goal.leads_on-requires-clause-metric
 leads_on-requires-clause-metric c =
     let arc = get_or c.deref-arc-items.result.now c.loop-arc.arc-index no_arc in
-    let there = read_arc c.args.places.now c.args.place c.index-places-place.result c.deref-arc-items.result.now c.loop-arc.arc-index no_arc c.deref-arc-items.ensures.value c.requires.place c.loop-arc-test.true in
+    let there = read_arc c.args.places.now c.args.place c.index-places-place.result c.deref-arc-items.result.now
+    c.loop-arc.arc-index no_arc c.deref-arc-items.ensures.value c.requires.place c.loop-arc-test.true in
     let h : arc.metric ≤ 65535 = (c.requires.sound.within c.args.place arc there).metric in
     omega arith
 
@@ -37,17 +40,25 @@ loop-arc-preserved c =
     elim c.if-leads_on.branch [
       | then-leads_on+then-is_less w ↦
           subst (IsBestOf closed costs marks cost (take (i + 1) arcs)) (sym w.best-is)
-          (better_at closed costs marks cost arcs i no_arc c.loop-arc.best c.loop-arc-test.true c.loop-arc.invariant (c.leads_on.ensures.0 w.if-leads_on.true) (w.is_less.ensures.0 w.if-is_less.true))
+          (better_at closed costs marks cost arcs i no_arc c.loop-arc.best c.loop-arc-test.true c.loop-arc.invariant
+          (c.leads_on.ensures.0 w.if-leads_on.true) (w.is_less.ensures.0 w.if-is_less.true))
       | else-leads_on w ↦
           subst (IsBestOf closed costs marks cost (take (i + 1) arcs)) (sym w.best-is)
           (elim w.else-leads_on.branch [
-            | else-leads_on-via-then-leads_on+else-is_less v ↦ no_better_at closed costs marks cost arcs i no_arc c.loop-arc.best c.loop-arc-test.true c.loop-arc.invariant (λ t less. absurd (let h = v.is_less.ensures.1 less in let k = v.if-is_less.false in cc (h, k)))
-            | else-leads_on-via-else-leads_on v ↦ no_better_at closed costs marks cost arcs i no_arc c.loop-arc.best c.loop-arc-test.true c.loop-arc.invariant (λ t less. absurd (let h = c.leads_on.ensures.1 t in let k = v.if-leads_on.false in cc (h, k)))
+            | else-leads_on-via-then-leads_on+else-is_less v ↦ no_better_at closed costs marks cost arcs i no_arc
+                c.loop-arc.best c.loop-arc-test.true c.loop-arc.invariant
+                (λ t less. absurd (let h = v.is_less.ensures.1 less in let k = v.if-is_less.false in cc (h, k)))
+            | else-leads_on-via-else-leads_on v ↦ no_better_at closed costs marks cost arcs i no_arc c.loop-arc.best
+                c.loop-arc-test.true c.loop-arc.invariant
+                (λ t less. absurd (let h = c.leads_on.ensures.1 t in let k = v.if-leads_on.false in cc (h, k)))
           ])
     ]
 
 pub returns : goal.returns
 returns c =
     let arcs = c.deref-arc-items.result.now in
-    best_of_all c.args.places.now c.args.closed.now c.args.costs.now c.args.marks.now c.args.place c.in-Some.cost c.index-places-place.result c.requires.place c.in-Some.is c.loop-arc.best
-    (subst (λ seen. IsBestOf c.args.closed.now c.args.costs.now c.args.marks.now c.in-Some.cost seen c.loop-arc.best) (take_all c.loop-arc.arc-index arcs c.loop-arc-test.false ∙ c.deref-arc-items.ensures.value) c.loop-arc.invariant)
+    best_of_all c.args.places.now c.args.closed.now c.args.costs.now c.args.marks.now c.args.place c.in-Some.cost
+    c.index-places-place.result c.requires.place c.in-Some.is c.loop-arc.best
+    (subst (λ seen. IsBestOf c.args.closed.now c.args.costs.now c.args.marks.now c.in-Some.cost seen c.loop-arc.best)
+    (take_all c.loop-arc.arc-index arcs c.loop-arc-test.false ∙
+    c.deref-arc-items.ensures.value) c.loop-arc.invariant)

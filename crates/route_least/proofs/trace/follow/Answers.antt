@@ -7,19 +7,27 @@ use Rattle.route_least.proofs.PlaceLists.{node_at}
 use Rattle.route_least.proofs.trace.follow.Goals as goal
 
 pub loop-place-init : goal.loop-place-init
-loop-place-init c = record { trace = subst (IsTrace (Crosses c.args.places.now c.args.closed.now) c.args.costs.now c.args.marks.now c.args.places.now c.args.ends.0 c.args.ends.0) (sym c.new-route.ensures) refl; within = c.requires.from; leads = c.requires.leads }
+loop-place-init c = record {
+  trace = subst (IsTrace
+      (Crosses c.args.places.now c.args.closed.now) c.args.costs.now c.args.marks.now c.args.places.now c.args.ends.0
+      c.args.ends.0) (sym c.new-route.ensures) refl;
+  within = c.requires.from;
+  leads = c.requires.leads;
+}
 
 pub best_arc-requires-clause-place : goal.best_arc-requires-clause-place
 best_arc-requires-clause-place c = c.loop-place.invariant.within
 
 pub unreachable-requires : goal.unreachable-requires
 unreachable-requires c =
-    let leads = leads_there (Crosses c.args.places.now c.args.closed.now) c.args.costs.now c.args.marks.now c.loop-place.place c.args.ends.1 c.requires.marked c.loop-place.invariant.leads c.loop-place-test.true in
+    let leads = leads_there (Crosses c.args.places.now c.args.closed.now) c.args.costs.now c.args.marks.now
+    c.loop-place.place c.args.ends.1 c.requires.marked c.loop-place.invariant.leads c.loop-place-test.true in
     c.in-None.ensures leads.0 leads.1
 
 pub loop-place-smaller : goal.loop-place-smaller
 loop-place-smaller c =
-    let best : IsBest (Crosses c.args.places.now c.args.closed.now) c.args.costs.now c.args.marks.now c.loop-place.place c.in-Some.arc = c.in-Some.ensures in
+    let best : IsBest (Crosses c.args.places.now c.args.closed.now) c.args.costs.now c.args.marks.now
+    c.loop-place.place c.in-Some.arc = c.in-Some.ensures in
     rise_falls c.args.costs.now c.loop-place.place c.in-Some.arc c.requires.small best.leads.tight
     (c.requires.sound.within c.loop-place.place c.in-Some.arc best.leads.goes.0).positive
 
@@ -33,12 +41,21 @@ loop-place-preserved c =
     let arc = c.in-Some.arc in
     let best : IsBest goes costs marks place arc = c.in-Some.ensures in
     let step : Step = record { node = (get_or places place c.index-places-place.result).node; link = arc.link } in
-    let follows : Follows goes costs marks places place step arc = record { best = best; node = node_at places place c.index-places-place.result c.loop-place.invariant.within; link = refl } in
+    let follows : Follows goes costs marks places place step arc =
     record {
-      trace = subst (IsTrace goes costs marks places c.args.ends.0 arc.head) (sym c.in_ok-push.ensures.ok) (trace_push goes costs marks places c.args.ends.0 place c.loop-place.route step arc c.loop-place.invariant.trace follows);
+      best = best;
+      node = node_at places place c.index-places-place.result
+          c.loop-place.invariant.within;
+      link = refl;
+    } in
+    record {
+      trace = subst (IsTrace goes costs marks places c.args.ends.0 arc.head) (sym c.in_ok-push.ensures.ok)
+          (trace_push goes costs marks places c.args.ends.0 place c.loop-place.route step arc
+          c.loop-place.invariant.trace follows);
       within = (c.requires.sound.within place arc best.leads.goes.0).head;
       leads = best.leads.marked;
     }
 
 pub returns : goal.returns
-returns c = subst (λ p. IsTrace (Crosses c.args.places.now c.args.closed.now) c.args.costs.now c.args.marks.now c.args.places.now c.args.ends.0 p c.loop-place.route) c.loop-place-test.false c.loop-place.invariant.trace
+returns c = subst (λ p. IsTrace (Crosses c.args.places.now c.args.closed.now) c.args.costs.now c.args.marks.now
+    c.args.places.now c.args.ends.0 p c.loop-place.route) c.loop-place-test.false c.loop-place.invariant.trace

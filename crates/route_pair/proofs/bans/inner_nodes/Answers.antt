@@ -10,13 +10,19 @@ loop-step-preserved c =
     elim c.if-is_other.branch [
       | then-is_other+in_ok-push w ↦
           subst (AreInner c.args.from c.args.to (take (i + 1) steps)) (sym (w.nodes-is ∙ w.in_ok-push.ensures.ok))
-          (node_added_at c.args.from c.args.to steps i (record { node = record { 0 = 0 }; link = record { 0 = 0 } }) c.loop-step.nodes c.loop-step-test.true c.loop-step.invariant (c.is_other.ensures.0 w.if-is_other.true))
+          (node_added_at c.args.from c.args.to steps i
+          (record { node = record { 0 = 0 }; link = record { 0 = 0 } }) c.loop-step.nodes c.loop-step-test.true
+          c.loop-step.invariant (c.is_other.ensures.0 w.if-is_other.true))
       | else-is_other w ↦
           subst (AreInner c.args.from c.args.to (take (i + 1) steps)) (sym w.nodes-is)
-          (node_skipped_at c.args.from c.args.to steps i (record { node = record { 0 = 0 }; link = record { 0 = 0 } }) c.loop-step.nodes c.loop-step-test.true c.loop-step.invariant (λ other. absurd (let h = c.is_other.ensures.1 other in let k = w.if-is_other.false in cc (h, k))))
+          (node_skipped_at c.args.from c.args.to steps i
+          (record { node = record { 0 = 0 }; link = record { 0 = 0 } }) c.loop-step.nodes
+          c.loop-step-test.true c.loop-step.invariant
+          (λ other. absurd (let h = c.is_other.ensures.1 other in let k = w.if-is_other.false in cc (h, k))))
     ]
 
 pub returns : goal.returns
 returns c =
     subst (λ steps. AreInner c.args.from c.args.to steps c.loop-step.nodes) c.items-step-items.ensures
-    (subst (λ done. AreInner c.args.from c.args.to done c.loop-step.nodes) (take_all c.loop-step.step-index c.items-step-items.result.now c.loop-step-test.false) c.loop-step.invariant)
+    (subst (λ done. AreInner c.args.from c.args.to done c.loop-step.nodes)
+    (take_all c.loop-step.step-index c.items-step-items.result.now c.loop-step-test.false) c.loop-step.invariant)

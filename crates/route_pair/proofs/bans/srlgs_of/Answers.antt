@@ -18,11 +18,14 @@ loop-place-preserved c =
     let k = c.loop-place.place in
     elim c.if-used-place.branch [
       | then-used-place+in_ok-extend_from_slice w ↦
-          subst (AreSrlgsOf rows used (k + 1)) (sym (ap (λ v. v.items) w.srlgs-is ∙ w.in_ok-extend_from_slice.ensures.items ∙ ap (λ xs. c.loop-place.srlgs.items ++ xs) w.items.ensures))
-          (srlgs_more rows used k w.index-rows-place.result c.loop-place.srlgs.items c.loop-place-test.true c.loop-place.invariant w.if-used-place.true)
+          subst (AreSrlgsOf rows used (k + 1)) (sym (ap (λ v. v.items) w.srlgs-is ∙
+          w.in_ok-extend_from_slice.ensures.items ∙ ap (λ xs. c.loop-place.srlgs.items ++ xs) w.items.ensures))
+          (srlgs_more rows used k w.index-rows-place.result c.loop-place.srlgs.items c.loop-place-test.true
+          c.loop-place.invariant w.if-used-place.true)
       | else-used-place w ↦
           subst (AreSrlgsOf rows used (k + 1)) (sym (ap (λ v. v.items) w.srlgs-is))
-          (srlgs_same rows used k no_row c.loop-place.srlgs.items c.loop-place-test.true c.loop-place.invariant w.if-used-place.false)
+          (srlgs_same rows used k no_row c.loop-place.srlgs.items c.loop-place-test.true c.loop-place.invariant
+          w.if-used-place.false)
     ]
 
 pub returns : goal.returns

@@ -9,7 +9,8 @@ look-requires c =
     let here = c.args.here.now.items in
     let there = c.args.there.now.items in
     c.requires.few c.index_mut-here.result.now c.index_mut-there.result.now
-    (slice_get_read here (length here) c.args.place c.index_mut-here.result.now refl c.requires.place c.index_mut-here.ensures.value)
+    (slice_get_read here (length here) c.args.place c.index_mut-here.result.now refl c.requires.place
+    c.index_mut-here.ensures.value)
     (slice_get_read there
     (length there) c.args.back c.index_mut-there.result.now refl c.requires.back c.index_mut-there.ensures.value)
 

@@ -21,4 +21,5 @@ returns-in-Some c =
     let at : position (is_to c.args.frame.to) links ≡ Some c.in-Some.place = ap (position (is_to c.args.frame.to))
     (sym c.deref.ensures.value) ∙ sym c.in-Some.ensures in
     changed-to c.args.frame.to
-    (with_parcel c.args.frame.bytes) links c.send_at.new.links.items c.in-Some.place c.requires.apart at c.send_at.ensures
+    (with_parcel c.args.frame.bytes) links c.send_at.new.links.items c.in-Some.place c.requires.apart at
+    c.send_at.ensures

@@ -12,9 +12,12 @@ is_a_label (Some x) n low high h = ap Some h.1
 
 pub returns-then-self-n-eq1 : goal.returns-then-self-n-eq1
 returns-then-self-n-eq1 c =
-    let here : is_marked c.self.inside.mask c.loop-n.n ≡ true = rw (sym (shr_and_one c.self.inside.mask c.loop-n.n) ∙ c.if-self-n-eq1.true) refl in
+    let here : is_marked c.self.inside.mask c.loop-n.n ≡ true =
+    rw (sym (shr_and_one c.self.inside.mask c.loop-n.n) ∙ c.if-self-n-eq1.true) refl in
     is_a_label c.new.result c.loop-n.n (omega arith) (omega arith) c.new.ensures
-    ∙ rw (← c.self.view_is) (sym (least-here c.self.inside.mask c.loop-n.n c.loop-n.invariant here (omega arith) (omega arith)))
+    ∙ rw (← c.self.view_is) (sym (least-here c.self.inside.mask c.loop-n.n c.loop-n.invariant here (omega arith)
+    (omega arith)))
 
 pub returns : goal.returns
-returns c = rw (← c.self.view_is) (sym (least-nowhere c.self.inside.mask (λ k low high. c.loop-n.invariant k low (omega arith))))
+returns c = rw (← c.self.view_is) (sym (least-nowhere c.self.inside.mask
+    (λ k low high. c.loop-n.invariant k low (omega arith))))

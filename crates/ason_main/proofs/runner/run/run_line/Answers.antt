@@ -1,28 +1,36 @@
-use Rattle.std.proofs.Common.{sym, subst}
-use Rattle.ason_main.specs.Running.{IsCut, IsDone}
-use Rattle.ason_main.proofs.Results.{if_err, on_ok}
+use Rattle.std.proofs.Common.{◌<◌, ℕ, List, length, refl, subst, sym, take}
+use Rattle.std.specs.Io.KnownBytes.{Appends}
+use Rattle.ason_main.specs.Running.{Stops}
+use Rattle.ason_main.proofs.Results.{passed_on}
+use Rattle.ason_main.proofs.Scripts.{does_line, fails_line, stops_line}
 use Rattle.ason_main.proofs.runner.run.run_line.Goals as goal
 
-pub returns-in-Post-clause-done : goal.returns-in-Post-clause-done
-returns-in-Post-clause-done c =
-    on_ok c.post_line.result _ _ (λ f h stands. subst (λ l. IsDone c.args.plan.now c.args.run.now c.post_line.new.run l h) (sym c.in-Post.is) (f h stands)) c.post_line.ensures.done
+pub returns-in_err-text-clause-stops : goal.returns-in_err-text-clause-stops
+returns-in_err-text-clause-stops g c =
+    passed_on c.from_residual.result _ _
+    (λ e same.
+    stops_line c.args.plan.now c.args.line.now c.args.fleet.now c.line_text.new.fleet
+    (g.K.Sink.written c.args.out.now) (g.K.Sink.faults c.args.out.now) e
+    (subst (Stops c.args.plan.now c.args.line.now c.args.fleet.now) (sym same) c.in_err-text.ensures.stops))
+    c.from_residual.ensures.1
 
-pub returns-in-Post-clause-cut : goal.returns-in-Post-clause-cut
-returns-in-Post-clause-cut c =
-    if_err c.post_line.result _ _ (λ e f k is h stands. subst (λ l. IsCut c.args.plan.now c.args.run.now c.post_line.new.run l k h) (sym c.in-Post.is) (f k is h stands)) c.post_line.ensures.cut
+pub returns-in-Ok-clause-done : goal.returns-in-Ok-clause-done
+returns-in-Ok-clause-done g c =
+    does_line c.args.plan.now c.args.line.now c.args.fleet.now c.line_text.new.fleet
+    (g.K.Sink.written c.args.out.now) (g.K.Sink.written c.write_all.new.out)
+    (g.K.Sink.faults c.args.out.now) (g.K.Sink.faults c.write_all.new.out) c.in_ok-text.text.items
+    c.in_ok-text.ensures.done
+    (subst (Appends (g.K.Sink.written c.args.out.now) (g.K.Sink.written c.write_all.new.out)) c.deref.ensures.value
+    c.in-Ok.ensures.all)
+    c.write_all.ensures.rises
 
-pub returns-in-Settle-clause-done : goal.returns-in-Settle-clause-done
-returns-in-Settle-clause-done c =
-    on_ok c.settle_line.result _ _ (λ f h stands. subst (λ l. IsDone c.args.plan.now c.args.run.now c.settle_line.new.run l h) (sym c.in-Settle.is) (f h stands)) c.settle_line.ensures.done
-
-pub returns-in-Settle-clause-cut : goal.returns-in-Settle-clause-cut
-returns-in-Settle-clause-cut c =
-    if_err c.settle_line.result _ _ (λ e f k is h stands. subst (λ l. IsCut c.args.plan.now c.args.run.now c.settle_line.new.run l k h) (sym c.in-Settle.is) (f k is h stands)) c.settle_line.ensures.cut
-
-pub returns-in-Show-clause-done : goal.returns-in-Show-clause-done
-returns-in-Show-clause-done c =
-    on_ok c.show_line.result _ _ (λ f h stands. subst (λ l. IsDone c.args.plan.now c.args.run.now c.show_line.new.run l h) (sym c.in-Show.is) (f h stands)) c.show_line.ensures.done
-
-pub returns-in-Show-clause-cut : goal.returns-in-Show-clause-cut
-returns-in-Show-clause-cut c =
-    if_err c.show_line.result _ _ (λ e f k is h stands. subst (λ l. IsCut c.args.plan.now c.args.run.now c.show_line.new.run l k h) (sym c.in-Show.is) (f k is h stands)) c.show_line.ensures.cut
+pub returns-clause-stops : goal.returns-clause-stops
+returns-clause-stops g c =
+    fails_line c.args.plan.now c.args.line.now c.args.fleet.now c.line_text.new.fleet
+    (g.K.Sink.written c.args.out.now) (g.K.Sink.written c.write_all.new.out)
+    (g.K.Sink.faults c.args.out.now) (g.K.Sink.faults c.write_all.new.out) c.in_ok-text.text.items
+    c.in_ok-text.ensures.done
+    (subst (λ text. (n : ℕ) × (n < length text)
+    × Appends (g.K.Sink.written c.args.out.now) (g.K.Sink.written c.write_all.new.out) (take n text))
+    c.deref.ensures.value c.in-Err.ensures.prefix)
+    (c.in-Err.ensures.failed refl)

@@ -1,18 +1,84 @@
-use Rattle.std.proofs.Common.{[]}
-use Rattle.ason_main.specs.Histories.{new_history}
-use Rattle.ason_main.proofs.Scripts.{output_of, stopped_output_of, valid_lines}
+use Rattle.std.proofs.Common.{subst}
+use Rattle.ason_main.specs.Outputs.{script_of}
+use Rattle.ason_main.specs.Running.{CutsAll, FailsIn, StopsAll, at}
+use Rattle.ason_main.proofs.PlanRuns.{ready, run_ended, run_failed, run_not_begun, run_stopped, run_unfinished}
+use Rattle.ason_main.proofs.ScriptRuns.{world_laws}
 use Rattle.ason_main.proofs.runner.run.run_plan.Goals as goal
 
-pub run_script-requires-clause-valid : goal.run_script-requires-clause-valid
-run_script-requires-clause-valid c = valid_lines c.args.plan.now.topology [] c.args.plan.now.lines c.requires.postable
+pub returns-in-Err : goal.returns-in-Err
+returns-in-Err g c =
+    run_not_begun
+    (world_laws c.every_world_run.ensures.image c.every_world_run.ensures.laws c.every_world_run.ensures.counts
+    c.every_script.ensures.start c.every_script.ensures.post c.every_script.ensures.settle
+    c.every_script.ensures.goes_on)
+    c.args.plan.now (g.K.Sink.written c.args.out.now) c.requires
 
-pub returns-in-Ok : goal.returns-in-Ok
-returns-in-Ok c =
-    output_of c.args.plan.now c.in_ok-run.run' c.run_script.new.run c.requires.topology c.requires.postable c.in_ok-run.ensures.text (c.in-Ok.ensures.done new_history c.in_ok-run.ensures.start)
+pub run_script-requires : goal.run_script-requires
+run_script-requires g c = ready c.args.plan.now c.in-Ok.fleet c.requires c.in-Ok.ensures
 
-pub returns-in_ok-text-in-Err-AtLimit : goal.returns-in_ok-text-in-Err-AtLimit
-returns-in_ok-text-in-Err-AtLimit c = (
-  c.in-Err-AtLimit.n,
-  stopped_output_of c.args.plan.now c.in_ok-run.run' c.run_script.new.run c.in-Err-AtLimit.n c.in_ok-text-in-Err-AtLimit.text.items c.requires.topology c.requires.postable c.in_ok-run.ensures.text
-      (c.in-Err-AtLimit.ensures.cut c.in-Err-AtLimit.n c.in-Err-AtLimit.field-0-is new_history c.in_ok-run.ensures.start) c.in_ok-text-in-Err-AtLimit.ensures,
-)
+pub returns-in-Ok-run_script : goal.returns-in-Ok-run_script
+returns-in-Ok-run_script g c =
+    run_ended
+    (world_laws c.every_world_run.ensures.image c.every_world_run.ensures.laws c.every_world_run.ensures.counts
+    c.every_script.ensures.start c.every_script.ensures.post c.every_script.ensures.settle
+    c.every_script.ensures.goes_on)
+    c.args.plan.now
+    (at c.in-Ok.fleet (g.K.Sink.written c.args.out.now) (g.K.Sink.faults c.args.out.now))
+    (at c.run_script.new.fleet (g.K.Sink.written c.run_script.new.out) (g.K.Sink.faults c.run_script.new.out))
+    c.requires c.in-Ok.ensures c.in-Ok-run_script.ensures.done
+
+pub returns-in-Err-AtLimit : goal.returns-in-Err-AtLimit
+returns-in-Err-AtLimit g c =
+    let cuts : CutsAll c.args.plan.now (script_of c.args.plan.now)
+    (at c.in-Ok.fleet (g.K.Sink.written c.args.out.now) (g.K.Sink.faults c.args.out.now))
+    (at c.run_script.new.fleet (g.K.Sink.written c.run_script.new.out) (g.K.Sink.faults c.run_script.new.out))
+    c.in-Err-AtLimit.node =
+    (subst (StopsAll c.args.plan.now (script_of c.args.plan.now)
+    (at c.in-Ok.fleet (g.K.Sink.written c.args.out.now) (g.K.Sink.faults c.args.out.now))
+    (at c.run_script.new.fleet (g.K.Sink.written c.run_script.new.out) (g.K.Sink.faults c.run_script.new.out)))
+    c.in-Err-AtLimit.field-0-is c.in-Err-AtLimit.ensures.stops) in (
+      cuts.rises,
+      run_stopped
+          (world_laws c.every_world_run.ensures.image c.every_world_run.ensures.laws c.every_world_run.ensures.counts
+          c.every_script.ensures.start c.every_script.ensures.post c.every_script.ensures.settle
+          c.every_script.ensures.goes_on)
+          c.args.plan.now
+          (at c.in-Ok.fleet (g.K.Sink.written c.args.out.now) (g.K.Sink.faults c.args.out.now))
+          (at c.run_script.new.fleet (g.K.Sink.written c.run_script.new.out) (g.K.Sink.faults c.run_script.new.out))
+          c.in-Err-AtLimit.node c.requires c.in-Ok.ensures cuts,
+    )
+
+pub returns-in-Err-Failed : goal.returns-in-Err-Failed
+returns-in-Err-Failed g c =
+    let fails : FailsIn c.args.plan.now (script_of c.args.plan.now)
+    (at c.in-Ok.fleet (g.K.Sink.written c.args.out.now) (g.K.Sink.faults c.args.out.now))
+    (at c.run_script.new.fleet (g.K.Sink.written c.run_script.new.out) (g.K.Sink.faults c.run_script.new.out)) =
+    (subst (StopsAll c.args.plan.now (script_of c.args.plan.now)
+    (at c.in-Ok.fleet (g.K.Sink.written c.args.out.now) (g.K.Sink.faults c.args.out.now))
+    (at c.run_script.new.fleet (g.K.Sink.written c.run_script.new.out) (g.K.Sink.faults c.run_script.new.out)))
+    c.in-Err-Failed.field-0-is c.in-Err-Failed.ensures.stops) in (
+      fails.rose,
+      run_failed
+          (world_laws c.every_world_run.ensures.image c.every_world_run.ensures.laws c.every_world_run.ensures.counts
+          c.every_script.ensures.start c.every_script.ensures.post c.every_script.ensures.settle
+          c.every_script.ensures.goes_on)
+          c.args.plan.now
+          (at c.in-Ok.fleet (g.K.Sink.written c.args.out.now) (g.K.Sink.faults c.args.out.now))
+          (at c.run_script.new.fleet (g.K.Sink.written c.run_script.new.out) (g.K.Sink.faults c.run_script.new.out))
+          c.requires c.in-Ok.ensures fails,
+    )
+
+pub returns : goal.returns
+returns g c =
+    run_unfinished
+    (world_laws c.every_world_run.ensures.image c.every_world_run.ensures.laws c.every_world_run.ensures.counts
+    c.every_script.ensures.start c.every_script.ensures.post c.every_script.ensures.settle
+    c.every_script.ensures.goes_on)
+    c.args.plan.now
+    (at c.in-Ok.fleet (g.K.Sink.written c.args.out.now) (g.K.Sink.faults c.args.out.now))
+    (at c.run_script.new.fleet (g.K.Sink.written c.run_script.new.out) (g.K.Sink.faults c.run_script.new.out))
+    c.requires c.in-Ok.ensures
+    (subst (StopsAll c.args.plan.now (script_of c.args.plan.now)
+    (at c.in-Ok.fleet (g.K.Sink.written c.args.out.now) (g.K.Sink.faults c.args.out.now))
+    (at c.run_script.new.fleet (g.K.Sink.written c.run_script.new.out) (g.K.Sink.faults c.run_script.new.out)))
+    c.in-Err-OutOfMemory.field-0-is c.in-Err-OutOfMemory.ensures.stops)

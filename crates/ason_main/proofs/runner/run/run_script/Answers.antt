@@ -1,58 +1,89 @@
-use Rattle.std.proofs.Common.{sym, ◌∙◌, subst}
-use Rattle.plan_reader.specs.Plans.{AreValidLines}
-use Rattle.ason_main.specs.Running.{AreCut, AreDone}
+use Rattle.std.proofs.Common.{subst, sym}
+use Rattle.ason_main.specs.Running.{DoesAll, IsReady, StopsAll, at}
+use Rattle.ason_main.specs.Outputs.{settling_script}
 use Rattle.ason_main.proofs.Results.{if_err, on_ok, passed_on}
-use Rattle.ason_main.proofs.Scripts.{CutsAll, DoesAll, cut_first, cut_last, cut_lines, cut_show, does_script}
+use Rattle.ason_main.proofs.Scripts.{does_script, first_lines, last_lines, ready_last, ready_lines, stops_first, stops_last, stops_lines}
 use Rattle.ason_main.proofs.runner.run.run_script.Goals as goal
 
-pub run_lines-requires-clause-valid : goal.run_lines-requires-clause-valid
-run_lines-requires-clause-valid c = subst (AreValidLines c.args.plan.now.topology) (sym c.items.ensures) c.requires.valid
-
-pub returns-in_err-settle_line-clause-cut : goal.returns-in_err-settle_line-clause-cut
-returns-in_err-settle_line-clause-cut c =
+pub returns-in_err-run_lines-clause-stops : goal.returns-in_err-run_lines-clause-stops
+returns-in_err-run_lines-clause-stops g c =
     passed_on c.from_residual.result _ _
-    (λ e same k is h stands. (cut_first c.args.plan.now c.args.rounds c.args.run.now c.settle_line.new.run k (record { cut = c.in_err-settle_line.ensures.cut k (sym same ∙ is) })).cut h stands)
+    (λ e same. stops_first c.args.plan.now c.args.rounds
+    (at c.args.fleet.now (g.K.Sink.written c.args.out.now) (g.K.Sink.faults c.args.out.now))
+    (at c.run_lines.new.fleet (g.K.Sink.written c.run_lines.new.out) (g.K.Sink.faults c.run_lines.new.out)) e
+    (subst (StopsAll c.args.plan.now (first_lines c.args.rounds)
+    (at c.args.fleet.now (g.K.Sink.written c.args.out.now) (g.K.Sink.faults c.args.out.now))
+    (at c.run_lines.new.fleet (g.K.Sink.written c.run_lines.new.out) (g.K.Sink.faults c.run_lines.new.out)))
+    (sym same) c.in_err-run_lines.ensures.stops))
     c.from_residual.ensures.1
 
-pub returns-in_err-run_lines-clause-cut : goal.returns-in_err-run_lines-clause-cut
-returns-in_err-run_lines-clause-cut c =
-    passed_on c.from_residual-in_err-run_lines.result _ _
-    (λ e same k is h stands.
-    let p = c.args.plan.now in
-    let cuts : CutsAll p c.settle_line.new.run c.run_lines.new.run p.lines k =
-    record { cut = λ g now. subst (λ ls. AreCut p c.settle_line.new.run c.run_lines.new.run ls k g) c.items.ensures (c.in_err-run_lines.ensures.cut k (sym same ∙ is) g now) } in
-    (cut_lines p c.args.rounds c.args.run.now c.settle_line.new.run c.run_lines.new.run k (record { done = c.in_ok-settle_line.ensures.done }) cuts).cut h stands)
-    c.from_residual-in_err-run_lines.ensures.1
+pub run_lines-requires-2 : goal.run_lines-requires-2
+run_lines-requires-2 g c =
+    subst (λ ls. IsReady c.args.plan.now ls c.run_lines.new.fleet) (sym c.items.ensures)
+    (ready_lines c.args.plan.now c.args.rounds
+    (at c.args.fleet.now (g.K.Sink.written c.args.out.now) (g.K.Sink.faults c.args.out.now))
+    (at c.run_lines.new.fleet (g.K.Sink.written c.run_lines.new.out) (g.K.Sink.faults c.run_lines.new.out))
+    c.requires c.in_ok-run_lines.ensures.done)
 
-pub returns-in_err-settle_line-2-clause-cut : goal.returns-in_err-settle_line-2-clause-cut
-returns-in_err-settle_line-2-clause-cut c =
-    passed_on c.from_residual-in_err-settle_line-2.result _ _
-    (λ e same k is h stands.
-    let p = c.args.plan.now in
-    let lines : DoesAll p c.settle_line.new.run c.run_lines.new.run p.lines =
-    record { done = λ g now. subst (λ ls. AreDone p c.settle_line.new.run c.run_lines.new.run ls g) c.items.ensures (c.in_ok-run_lines.ensures.done g now) } in
-    (cut_last p c.args.rounds c.args.run.now c.settle_line.new.run c.run_lines.new.run c.settle_line-2.new.run k
-    (record { done = c.in_ok-settle_line.ensures.done }) lines (record { cut = c.in_err-settle_line-2.ensures.cut k (sym same ∙ is) })).cut h stands)
-    c.from_residual-in_err-settle_line-2.ensures.1
+pub returns-in_err-run_lines-2-clause-stops : goal.returns-in_err-run_lines-2-clause-stops
+returns-in_err-run_lines-2-clause-stops g c =
+    passed_on c.from_residual-in_err-run_lines-2.result _ _
+    (λ e same. stops_lines c.args.plan.now c.args.rounds
+    (at c.args.fleet.now (g.K.Sink.written c.args.out.now) (g.K.Sink.faults c.args.out.now))
+    (at c.run_lines.new.fleet (g.K.Sink.written c.run_lines.new.out) (g.K.Sink.faults c.run_lines.new.out))
+    (at c.run_lines-2.new.fleet (g.K.Sink.written c.run_lines-2.new.out) (g.K.Sink.faults c.run_lines-2.new.out)) e
+    c.in_ok-run_lines.ensures.done
+    (subst (StopsAll c.args.plan.now c.args.plan.now.lines
+    (at c.run_lines.new.fleet (g.K.Sink.written c.run_lines.new.out) (g.K.Sink.faults c.run_lines.new.out))
+    (at c.run_lines-2.new.fleet (g.K.Sink.written c.run_lines-2.new.out) (g.K.Sink.faults c.run_lines-2.new.out)))
+    (sym same)
+    (subst (λ ls. StopsAll c.args.plan.now ls
+    (at c.run_lines.new.fleet (g.K.Sink.written c.run_lines.new.out) (g.K.Sink.faults c.run_lines.new.out))
+    (at c.run_lines-2.new.fleet (g.K.Sink.written c.run_lines-2.new.out) (g.K.Sink.faults c.run_lines-2.new.out))
+    c.in_err-run_lines-2.field-0.0)
+    c.items.ensures c.in_err-run_lines-2.ensures.stops)))
+    c.from_residual-in_err-run_lines-2.ensures.1
+
+pub run_lines-requires-3 : goal.run_lines-requires-3
+run_lines-requires-3 g c =
+    ready_last c.args.plan.now c.args.rounds
+    (at c.args.fleet.now (g.K.Sink.written c.args.out.now) (g.K.Sink.faults c.args.out.now))
+    (at c.run_lines.new.fleet (g.K.Sink.written c.run_lines.new.out) (g.K.Sink.faults c.run_lines.new.out))
+    (at c.run_lines-2.new.fleet (g.K.Sink.written c.run_lines-2.new.out) (g.K.Sink.faults c.run_lines-2.new.out))
+    c.requires c.in_ok-run_lines.ensures.done
+    (subst (λ ls. DoesAll c.args.plan.now ls
+    (at c.run_lines.new.fleet (g.K.Sink.written c.run_lines.new.out) (g.K.Sink.faults c.run_lines.new.out))
+    (at c.run_lines-2.new.fleet (g.K.Sink.written c.run_lines-2.new.out) (g.K.Sink.faults c.run_lines-2.new.out)))
+    c.items.ensures c.in_ok-run_lines-2.ensures.done)
 
 pub returns-clause-done : goal.returns-clause-done
-returns-clause-done c =
-    on_ok c.show_line.result _ _
-    (λ f h stands.
-    let p = c.args.plan.now in
-    let lines : DoesAll p c.settle_line.new.run c.run_lines.new.run p.lines =
-    record { done = λ g now. subst (λ ls. AreDone p c.settle_line.new.run c.run_lines.new.run ls g) c.items.ensures (c.in_ok-run_lines.ensures.done g now) } in
-    (does_script p c.args.rounds c.args.run.now c.settle_line.new.run c.run_lines.new.run c.settle_line-2.new.run c.show_line.new.run
-    (record { done = c.in_ok-settle_line.ensures.done }) lines (record { done = c.in_ok-settle_line-2.ensures.done }) (record { done = f })).done h stands)
-    c.show_line.ensures.done
+returns-clause-done g c =
+    on_ok c.run_lines-3.result _ _
+    (λ does. does_script c.args.plan.now c.args.rounds
+    (at c.args.fleet.now (g.K.Sink.written c.args.out.now) (g.K.Sink.faults c.args.out.now))
+    (at c.run_lines.new.fleet (g.K.Sink.written c.run_lines.new.out) (g.K.Sink.faults c.run_lines.new.out))
+    (at c.run_lines-2.new.fleet (g.K.Sink.written c.run_lines-2.new.out) (g.K.Sink.faults c.run_lines-2.new.out))
+    (at c.run_lines-3.new.fleet (g.K.Sink.written c.run_lines-3.new.out) (g.K.Sink.faults c.run_lines-3.new.out))
+    c.in_ok-run_lines.ensures.done
+    (subst (λ ls. DoesAll c.args.plan.now ls
+    (at c.run_lines.new.fleet (g.K.Sink.written c.run_lines.new.out) (g.K.Sink.faults c.run_lines.new.out))
+    (at c.run_lines-2.new.fleet (g.K.Sink.written c.run_lines-2.new.out) (g.K.Sink.faults c.run_lines-2.new.out)))
+    c.items.ensures c.in_ok-run_lines-2.ensures.done)
+    does)
+    c.run_lines-3.ensures.done
 
-pub returns-clause-cut : goal.returns-clause-cut
-returns-clause-cut c =
-    if_err c.show_line.result _ _
-    (λ e f k is h stands.
-    let p = c.args.plan.now in
-    let lines : DoesAll p c.settle_line.new.run c.run_lines.new.run p.lines =
-    record { done = λ g now. subst (λ ls. AreDone p c.settle_line.new.run c.run_lines.new.run ls g) c.items.ensures (c.in_ok-run_lines.ensures.done g now) } in
-    (cut_show p c.args.rounds c.args.run.now c.settle_line.new.run c.run_lines.new.run c.settle_line-2.new.run c.show_line.new.run k
-    (record { done = c.in_ok-settle_line.ensures.done }) lines (record { done = c.in_ok-settle_line-2.ensures.done }) (record { cut = f k is })).cut h stands)
-    c.show_line.ensures.cut
+pub returns-clause-stops : goal.returns-clause-stops
+returns-clause-stops g c =
+    if_err c.run_lines-3.result _ _
+    (λ e stops. stops_last c.args.plan.now c.args.rounds
+    (at c.args.fleet.now (g.K.Sink.written c.args.out.now) (g.K.Sink.faults c.args.out.now))
+    (at c.run_lines.new.fleet (g.K.Sink.written c.run_lines.new.out) (g.K.Sink.faults c.run_lines.new.out))
+    (at c.run_lines-2.new.fleet (g.K.Sink.written c.run_lines-2.new.out) (g.K.Sink.faults c.run_lines-2.new.out))
+    (at c.run_lines-3.new.fleet (g.K.Sink.written c.run_lines-3.new.out) (g.K.Sink.faults c.run_lines-3.new.out)) e
+    c.in_ok-run_lines.ensures.done
+    (subst (λ ls. DoesAll c.args.plan.now ls
+    (at c.run_lines.new.fleet (g.K.Sink.written c.run_lines.new.out) (g.K.Sink.faults c.run_lines.new.out))
+    (at c.run_lines-2.new.fleet (g.K.Sink.written c.run_lines-2.new.out) (g.K.Sink.faults c.run_lines-2.new.out)))
+    c.items.ensures c.in_ok-run_lines-2.ensures.done)
+    stops)
+    c.run_lines-3.ensures.stops

@@ -6,4 +6,5 @@ use Rattle.controller.proofs.controller.Controller.new.Goals as goal
 
 pub invariant_of-result : goal.invariant_of-result
 invariant_of-result c =
-    subst (λ (p : LocalNode). IsKept p c.in_ok-adjacencies.adjacencies.items 0) (sym (ap (λ (n : NodeView). n.place) c.in_ok-node.ensures)) c.in_ok-adjacencies.ensures.kept
+    subst (λ (p : LocalNode). IsKept p c.in_ok-adjacencies.adjacencies.items 0)
+    (sym (ap (λ (n : NodeView). n.place) c.in_ok-node.ensures)) c.in_ok-adjacencies.ensures.kept

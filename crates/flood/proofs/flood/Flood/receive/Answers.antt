@@ -6,5 +6,8 @@ use Rattle.flood.proofs.flood.Flood.receive.Goals as goal
 
 pub invariant_of-self : goal.invariant_of-self
 invariant_of-self c =
-    rw (settled (acked_by c.args.from c.in-Ack.number) c.self.inside.neighbours.items c.deref_mut.result.now c.take_ack.new.neighbours c.self.inside.neighbours.len c.self.inside.neighbours.ok.0 c.deref_mut.ensures.value c.take_ack.ensures)
-    (counted-ack c.args.from c.in-Ack.number (length c.self.inside.rows.items) c.self.inside.neighbours.items c.self.invariant)
+    rw (settled (acked_by c.args.from c.in-Ack.number) c.self.inside.neighbours.items c.deref_mut.result.now
+    c.take_ack.new.neighbours c.self.inside.neighbours.len c.self.inside.neighbours.ok.0
+    c.deref_mut.ensures.value c.take_ack.ensures)
+    (counted-ack c.args.from c.in-Ack.number (length c.self.inside.known) c.self.inside.neighbours.items
+    c.self.invariant)

@@ -8,5 +8,6 @@ loop-claim-preserved c =
     let items = c.loop-claim.claim-items in
     let i = c.loop-claim.claim-index in
     let change = disarmed c.args.label c.args.lsp in
-    let more = map_over_more change c.deref_mut-claim-items.result.now items i c.claim-item.result c.loop-claim-test.true c.loop-claim.invariant c.claim-item.is in
+    let more = map_over_more change c.deref_mut-claim-items.result.now items i c.claim-item.result
+    c.loop-claim-test.true c.loop-claim.invariant c.claim-item.is in
     ap (set items i) (c.disarmed.ensures ∙ ap change (sym c.claim-item.is)) ∙ more

@@ -10,7 +10,8 @@ unclaimed_fibre-requires c =
     let links = c.links-link-items.ensures in
     let i = c.loop-link.link-index in
     let below : i < length c.args.t.now.links = subst (λ xs. i < length xs) links.list c.loop-link-test.true in
-    narrow-link c.args.t.now links.valid i c.link-item.result below (c.link-item.is ∙ ap (λ xs. get_or xs i c.link-item.result) links.list)
+    narrow-link c.args.t.now links.valid i c.link-item.result below
+    (c.link-item.is ∙ ap (λ xs. get_or xs i c.link-item.result) links.list)
 
 pub returns-clause-fibres : goal.returns-clause-fibres
 returns-clause-fibres c =

@@ -5,4 +5,5 @@ use Rattle.link_owner.specs.Owners.{fibre_unclaimed}
 use Rattle.link_owner.proofs.owner.Owner.new.Given as goal
 
 abbrev pub invariant-loop-link : goal.invariant-loop-link
-invariant-loop-link l = l.fibres.items ≡ map (fibre_unclaimed l.node) (filter (touches l.node) (take l.link-index l.link-items))
+invariant-loop-link l = l.fibres.items ≡ map (fibre_unclaimed l.node)
+    (filter (touches l.node) (take l.link-index l.link-items))

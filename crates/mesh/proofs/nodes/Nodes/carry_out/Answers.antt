@@ -8,29 +8,40 @@ use Rattle.mesh.proofs.nodes.Nodes.carry_out.Goals as goal
 
 pub carry_out-requires : goal.carry_out-requires
 carry_out-requires c =
-    let at : position (is_node c.args.node.0) c.self.inside.nodes.items ≡ None = ap (λ s. position (is_node c.args.node.0) s.nodes) c.self.view_is ∙ sym c.place_of.ensures ∙ c.in-None.is in
-    let same = c.in_ok-new-in-None.ensures ∙ node_at-nowhere c.self.inside.network c.args.node c.self.inside.nodes.items at ∙ ap (λ s. node_at s c.args.node) c.self.view_is in
+    let at : position (is_node c.args.node.0) c.self.inside.nodes.items ≡ None =
+    ap (λ s. position (is_node c.args.node.0) s.nodes) c.self.view_is ∙ sym c.place_of.ensures ∙ c.in-None.is in
+    let same = c.in_ok-new-in-None.ensures ∙ node_at-nowhere c.self.inside.network c.args.node
+    c.self.inside.nodes.items at ∙ ap (λ s. node_at s c.args.node) c.self.view_is in
     subst (λ n. IsAnswerOf n c.args.change) (sym same) c.requires
 
 pub carry_out-requires-in-Some : goal.carry_out-requires-in-Some
 carry_out-requires-in-Some c =
-    let at : position (is_node c.args.node.0) c.self.inside.nodes.items ≡ Some c.in-Some.place = ap (λ s. position (is_node c.args.node.0) s.nodes) c.self.view_is ∙ sym c.place_of.ensures ∙ c.in-Some.is in
-    let same = node_at-place c.self.inside.network c.args.node c.self.inside.nodes.items c.in-Some.place c.index_mut.result.now c.self.invariant at c.index_mut.ensures.value ∙ ap (λ s. node_at s c.args.node) c.self.view_is in
+    let at : position (is_node c.args.node.0) c.self.inside.nodes.items ≡ Some c.in-Some.place =
+    ap (λ s. position (is_node c.args.node.0) s.nodes) c.self.view_is ∙ sym c.place_of.ensures ∙ c.in-Some.is in
+    let same = node_at-place c.self.inside.network c.args.node c.self.inside.nodes.items c.in-Some.place
+    c.index_mut.result.now c.self.invariant at c.index_mut.ensures.value ∙
+    ap (λ s. node_at s c.args.node) c.self.view_is in
     subst (λ n. IsAnswerOf n c.args.change) (sym same) c.requires
 
 pub returns-in_ok-push-in-None-clause-ok : goal.returns-in_ok-push-in-None-clause-ok
 returns-in_ok-push-in-None-clause-ok c =
-    let at : position (is_node c.args.node.0) c.self.inside.nodes.items ≡ None = ap (λ s. position (is_node c.args.node.0) s.nodes) c.self.view_is ∙ sym c.place_of.ensures ∙ c.in-None.is in
+    let at : position (is_node c.args.node.0) c.self.inside.nodes.items ≡ None =
+    ap (λ s. position (is_node c.args.node.0) s.nodes) c.self.view_is ∙ sym c.place_of.ensures ∙ c.in-None.is in
     ap (λ xs. record { network = c.self.inside.network; nodes = xs })
-    (carried-nowhere c.self.inside.network c.args.node c.self.inside.nodes.items c.push.new.self.items c.args.change c.in_ok-new-in-None.new c.carry_out.new.self at c.in_ok-new-in-None.ensures c.in_ok-sent-in-None.ensures.place c.in_ok-sent-in-None.ensures.ok c.in_ok-push-in-None.ensures.items)
+    (carried-nowhere c.self.inside.network c.args.node c.self.inside.nodes.items c.push.new.self.items c.args.change
+    c.in_ok-new-in-None.new c.carry_out.new.self at c.in_ok-new-in-None.ensures
+    c.in_ok-sent-in-None.ensures.place c.in_ok-sent-in-None.ensures.ok c.in_ok-push-in-None.ensures.items)
     ∙ ap (λ s. with_state s c.args.node (changed (state_at c.args.node.0 s.nodes) c.args.change)) c.self.view_is
 
 pub returns-in-Some-clause-ok : goal.returns-in-Some-clause-ok
 returns-in-Some-clause-ok c =
-    let at : position (is_node c.args.node.0) c.self.inside.nodes.items ≡ Some c.in-Some.place = ap (λ s. position (is_node c.args.node.0) s.nodes) c.self.view_is ∙ sym c.place_of.ensures ∙ c.in-Some.is in
+    let at : position (is_node c.args.node.0) c.self.inside.nodes.items ≡ Some c.in-Some.place =
+    ap (λ s. position (is_node c.args.node.0) s.nodes) c.self.view_is ∙ sym c.place_of.ensures ∙ c.in-Some.is in
     on_ok c.carry_out-in-Some.result _ _
     (λ does.
     ap (λ xs. record { network = c.self.inside.network; nodes = xs })
-    (carried-place c.self.inside.network c.args.node c.self.inside.nodes.items c.in-Some.place c.args.change c.index_mut.result.now c.carry_out-in-Some.new.self at c.index_mut.ensures.value c.carry_out-in-Some.ensures.place does)
+    (carried-place c.self.inside.network c.args.node c.self.inside.nodes.items c.in-Some.place c.args.change
+    c.index_mut.result.now c.carry_out-in-Some.new.self at c.index_mut.ensures.value
+    c.carry_out-in-Some.ensures.place does)
     ∙ ap (λ s. with_state s c.args.node (changed (state_at c.args.node.0 s.nodes) c.args.change)) c.self.view_is)
     c.carry_out-in-Some.ensures.ok

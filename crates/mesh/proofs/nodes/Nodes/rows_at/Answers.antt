@@ -12,8 +12,10 @@ returns-in-None-clause-calls c =
 
 pub returns-in-Some-clause-calls : goal.returns-in-Some-clause-calls
 returns-in-Some-clause-calls c =
-    let at : position (is_node c.args.node.0) c.self.inside.nodes.items ≡ Some c.in-Some.place = ap (λ s. position (is_node c.args.node.0) s.nodes) c.self.view_is ∙ sym c.place_of.ensures ∙ c.in-Some.is in
-    let is = node_at-place c.self.inside.network c.args.node c.self.inside.nodes.items c.in-Some.place c.index.result.now c.self.invariant at c.index.ensures ∙ ap (λ s. node_at s c.args.node) c.self.view_is in
+    let at : position (is_node c.args.node.0) c.self.inside.nodes.items ≡ Some c.in-Some.place =
+    ap (λ s. position (is_node c.args.node.0) s.nodes) c.self.view_is ∙ sym c.place_of.ensures ∙ c.in-Some.is in
+    let is = node_at-place c.self.inside.network c.args.node c.self.inside.nodes.items c.in-Some.place
+    c.index.result.now c.self.invariant at c.index.ensures ∙ ap (λ s. node_at s c.args.node) c.self.view_is in
     subst (λ n. IfOk c.rows.result (λ rows. rows.calls ≡ call_rows n.place.id n.state)) is c.rows.ensures.calls
 
 pub returns-in-None-clause-legs : goal.returns-in-None-clause-legs
@@ -23,6 +25,8 @@ returns-in-None-clause-legs c =
 
 pub returns-in-Some-clause-legs : goal.returns-in-Some-clause-legs
 returns-in-Some-clause-legs c =
-    let at : position (is_node c.args.node.0) c.self.inside.nodes.items ≡ Some c.in-Some.place = ap (λ s. position (is_node c.args.node.0) s.nodes) c.self.view_is ∙ sym c.place_of.ensures ∙ c.in-Some.is in
-    let is = node_at-place c.self.inside.network c.args.node c.self.inside.nodes.items c.in-Some.place c.index.result.now c.self.invariant at c.index.ensures ∙ ap (λ s. node_at s c.args.node) c.self.view_is in
+    let at : position (is_node c.args.node.0) c.self.inside.nodes.items ≡ Some c.in-Some.place =
+    ap (λ s. position (is_node c.args.node.0) s.nodes) c.self.view_is ∙ sym c.place_of.ensures ∙ c.in-Some.is in
+    let is = node_at-place c.self.inside.network c.args.node c.self.inside.nodes.items c.in-Some.place
+    c.index.result.now c.self.invariant at c.index.ensures ∙ ap (λ s. node_at s c.args.node) c.self.view_is in
     subst (λ n. IfOk c.rows.result (λ rows. rows.legs ≡ leg_rows n.place.id n.state)) is c.rows.ensures.legs

@@ -9,4 +9,5 @@ returns-then-is_nothing-clause-busy c quiet =
 
 pub returns-else-is_nothing-clause-busy : goal.returns-else-is_nothing-clause-busy
 returns-else-is_nothing-clause-busy c quiet =
-    c.is_nothing.ensures.something (c.deref.ensures.value ∙ ap (λ k. k.desks) c.self.view_is ∙ no_desks c.args.self.now.desks quiet.desks)
+    c.is_nothing.ensures.something (c.deref.ensures.value ∙ ap (λ k. k.desks) c.self.view_is ∙
+    no_desks c.args.self.now.desks quiet.desks)

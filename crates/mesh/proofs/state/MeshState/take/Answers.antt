@@ -6,15 +6,25 @@ use Rattle.mesh.proofs.state.MeshState.take.Goals as goal
 
 pub returns-in-None-clause-fault : goal.returns-in-None-clause-fault
 returns-in-None-clause-fault c =
-    let at : position (is_between c.args.from.0 c.args.to.0) c.args.self.now.mail ≡ None = ap (λ k. position (is_between c.args.from.0 c.args.to.0) k.mail) (sym c.self.view_is) ∙ ap (position (is_between c.args.from.0 c.args.to.0)) (sym c.deref.ensures.value) ∙ sym c.first_message.ensures ∙ c.in-None.is in
+    let at : position (is_between c.args.from.0 c.args.to.0) c.args.self.now.mail ≡ None =
+    ap (λ k. position (is_between c.args.from.0 c.args.to.0) k.mail) (sym c.self.view_is) ∙
+    ap (position (is_between c.args.from.0 c.args.to.0)) (sym c.deref.ensures.value) ∙
+    sym c.first_message.ensures ∙ c.in-None.is in
     ap fault_if (sym (has_none (λ x. x.msg) (is_between c.args.from.0 c.args.to.0) c.args.self.now.mail at))
 
 pub returns-in-Ok-clause-enabled : goal.returns-in-Ok-clause-enabled
 returns-in-Ok-clause-enabled c =
-    let at : position (is_between c.args.from.0 c.args.to.0) c.args.self.now.mail ≡ Some c.in-Some.place = ap (λ k. position (is_between c.args.from.0 c.args.to.0) k.mail) (sym c.self.view_is) ∙ ap (position (is_between c.args.from.0 c.args.to.0)) (sym c.deref.ensures.value) ∙ sym c.first_message.ensures ∙ c.in-Some.is in
+    let at : position (is_between c.args.from.0 c.args.to.0) c.args.self.now.mail ≡ Some c.in-Some.place =
+    ap (λ k. position (is_between c.args.from.0 c.args.to.0) k.mail) (sym c.self.view_is) ∙
+    ap (position (is_between c.args.from.0 c.args.to.0)) (sym c.deref.ensures.value) ∙
+    sym c.first_message.ensures ∙ c.in-Some.is in
     has_some (λ x. x.msg) (is_between c.args.from.0 c.args.to.0) c.args.self.now.mail c.in-Some.place at
 
 pub returns-in-Err-clause-fault : goal.returns-in-Err-clause-fault
 returns-in-Err-clause-fault c =
-    let at : position (is_between c.args.from.0 c.args.to.0) c.args.self.now.mail ≡ Some c.in-Some.place = ap (λ k. position (is_between c.args.from.0 c.args.to.0) k.mail) (sym c.self.view_is) ∙ ap (position (is_between c.args.from.0 c.args.to.0)) (sym c.deref.ensures.value) ∙ sym c.first_message.ensures ∙ c.in-Some.is in
-    ap fault_if (sym (has_some (λ x. x.msg) (is_between c.args.from.0 c.args.to.0) c.args.self.now.mail c.in-Some.place at))
+    let at : position (is_between c.args.from.0 c.args.to.0) c.args.self.now.mail ≡ Some c.in-Some.place =
+    ap (λ k. position (is_between c.args.from.0 c.args.to.0) k.mail) (sym c.self.view_is) ∙
+    ap (position (is_between c.args.from.0 c.args.to.0)) (sym c.deref.ensures.value) ∙
+    sym c.first_message.ensures ∙ c.in-Some.is in
+    ap fault_if (sym (has_some (λ x. x.msg) (is_between c.args.from.0 c.args.to.0) c.args.self.now.mail
+    c.in-Some.place at))

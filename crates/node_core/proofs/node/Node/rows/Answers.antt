@@ -9,5 +9,5 @@ returns-clause-calls_rise c =
 
 pub returns-clause-legs_rise : goal.returns-clause-legs_rise
 returns-clause-legs_rise c =
-    rw (c.in_ok-legs.ensures, c.legs.ensures.value)
+    rw c.in_ok-legs.ensures
     (leg-rows-rise c.node.result.now.id c.self.inside.tables.legs c.self.invariant.0.state.legs.rise)

@@ -2,7 +2,7 @@ use Rattle.std.proofs.Common.{sym, ◌∙◌, ap, length, arith}
 use Rattle.station.specs.Histories.{handled}
 use Rattle.station.specs.Standing.{Stands}
 use Rattle.station.specs.Turns.{repeated}
-use Rattle.station.proofs.Results.{passed-on}
+use Rattle.ason_base.proofs.Results.{passed_on}
 use Rattle.station.proofs.Stopping.{all-times, handled-stays, once-more, repeated-cut}
 use Rattle.station.proofs.station.Station.handle_desk.Goals as goal
 
@@ -24,7 +24,7 @@ returns-clause-on c t h n there stands =
 
 pub returns-in_err-handle_item-clause-stops : goal.returns-in_err-handle_item-clause-stops
 returns-in_err-handle_item-clause-stops c =
-    passed-on c.from_residual.result _ _
+    passed_on c.from_residual.result _ _
     (λ e same is t h n there stands.
     ap (λ j. (repeated (handled t n) j h).stopped) (sym (c.desk_len-count.ensures ∙ ap length stands.node.desk))
     ∙ repeated-cut (handled t n) (handled-stays t n) c.desk_len-count.result c.loop-item._item h n c.loop-item-test.true

@@ -16,8 +16,8 @@ invariant_of-result c =
     (sym c.in_ok-controller.ensures)
     (subst (LinksFit (local_node t n) 0) (sym c.in_ok-links.ensures) (new-links-fit t c.nodes-nodes.ensures.valid n))
 
-pub returns : goal.returns
-returns c =
+pub returns-clause-stands : goal.returns-clause-stands
+returns-clause-stands c =
     let t = c.args.t.now in
     let n = c.args.id in
     subst (λ (x : ControllerState). Stands t new_history n (λ d. [])
@@ -35,3 +35,6 @@ returns c =
       links =
           ls;
     })) (sym c.in_ok-links.ensures) (new-stands t n)))
+
+pub returns-clause-links : goal.returns-clause-links
+returns-clause-links c = c.in_ok-links.ensures

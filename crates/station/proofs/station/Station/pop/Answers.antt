@@ -15,8 +15,10 @@ invariant_of-self c =
     let at = ap (λ (s : StationState). slice_get
     (map (λ (l : LinkState). l.peer) s.links) c.args.place) c.self.view_is ∙ c.requires in
     subst (LinksFit c.self.inside.controller.node.place c.self.inside.controller.steps)
-    (sym (popped-at links c.pop_at.new.links.items c.args.place c.args.from c.self.invariant.apart at c.pop_at.ensures.rest))
-    (links-popped-fit c.self.inside.controller.node.place c.self.inside.controller.steps c.args.from links c.self.invariant)
+    (sym (popped-at links c.pop_at.new.links.items c.args.place c.args.from c.self.invariant.apart at
+    c.pop_at.ensures.rest))
+    (links-popped-fit c.self.inside.controller.node.place c.self.inside.controller.steps c.args.from links
+    c.self.invariant)
 
 pub returns-clause-links : goal.returns-clause-links
 returns-clause-links c =
@@ -32,4 +34,5 @@ returns-clause-near c =
     (map (λ (l : LinkState). l.peer) s.links) c.args.place) c.self.view_is ∙ c.requires in
     subst (λ (s : StationState). IsTrue (is_neighbour s.controller.node.place c.args.from)) c.self.view_is
     (all-at (λ (n : NodeId). IsTrue
-    (is_neighbour c.self.inside.controller.node.place n)) c.self.inside.links.items c.args.place c.args.from c.self.invariant.near at)
+    (is_neighbour c.self.inside.controller.node.place n)) c.self.inside.links.items c.args.place c.args.from
+    c.self.invariant.near at)

@@ -3,7 +3,7 @@ use Rattle.std.specs.Prelude.{slice_get}
 use Rattle.station.specs.Histories.{took}
 use Rattle.station.specs.Standing.{Stands}
 use Rattle.station.specs.Turns.{repeated}
-use Rattle.station.proofs.Results.{passed-on}
+use Rattle.ason_base.proofs.Results.{passed_on}
 use Rattle.station.proofs.Stopping.{all-times, once-more, repeated-cut, took-stays}
 use Rattle.station.proofs.Taking.{is-ring, ring-length}
 use Rattle.station.proofs.station.Station.take_ring.Goals as goal
@@ -26,13 +26,14 @@ pub returns-clause-on : goal.returns-clause-on
 returns-clause-on c t h n there stands =
     let r = is-ring t h n c.args.from there c.args.self.now c.args.place c.requires stands in
     all-times (λ g. Stands t g n there c.loop-frame.self)
-    (took t n c.args.from) c.early_len-count.result c.loop-frame._frame _ h c.loop-frame.invariant.within c.loop-frame-test.false
+    (took t n c.args.from) c.early_len-count.result c.loop-frame._frame _ h c.loop-frame.invariant.within
+    c.loop-frame-test.false
     (c.early_len-count.ensures r.link r.there ∙ ring-length t h n c.args.from c.args.self.now c.args.place r)
     (c.loop-frame.invariant.on t h n there stands)
 
 pub returns-in_err-take_frame-clause-stops : goal.returns-in_err-take_frame-clause-stops
 returns-in_err-take_frame-clause-stops c =
-    passed-on c.from_residual.result _ _
+    passed_on c.from_residual.result _ _
     (λ e same is t h n there stands.
     let r = is-ring t h n c.args.from there c.args.self.now c.args.place c.requires stands in
     ap (λ j. (repeated (took t n c.args.from) j h).stopped) (sym

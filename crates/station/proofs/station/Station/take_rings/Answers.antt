@@ -6,7 +6,7 @@ use Rattle.station.specs.Links.{LinkState}
 use Rattle.station.specs.Standing.{Stands}
 use Rattle.station.specs.Turns.{ring_done}
 use Rattle.station.proofs.Sending.{length-map}
-use Rattle.station.proofs.Results.{passed-on}
+use Rattle.ason_base.proofs.Results.{passed_on}
 use Rattle.station.proofs.Stopping.{fold-cut-at, fold-next, ring-stays}
 use Rattle.station.proofs.station.Station.take_rings.Goals as goal
 
@@ -37,7 +37,7 @@ returns-clause-on c t h n there stands =
 
 pub returns-in_err-take_ring-clause-stops : goal.returns-in_err-take_ring-clause-stops
 returns-in_err-take_ring-clause-stops c =
-    passed-on c.from_residual.result _ _
+    passed_on c.from_residual.result _ _
     (λ e same is t h n there stands.
     let peers = map (λ (l : LinkState). l.peer) c.args.self.now.links in
     let at : slice_get peers c.loop-place.place ≡ Some c.peer-from.result = ap (λ ps. slice_get ps c.loop-place.place)

@@ -3,13 +3,13 @@ use Rattle.std.specs.Prelude.{Some}
 use Rattle.ason_base.specs.declared.ids.NodeId.{NodeId}
 use Rattle.station.specs.Standing.{Stands}
 use Rattle.station.specs.Turns.{desk_done, rings_done, tick_done}
-use Rattle.station.proofs.Results.{if-err, on-ok, passed-on}
+use Rattle.ason_base.proofs.Results.{if_err, on_ok, passed_on}
 use Rattle.station.proofs.Stopping.{turn-cut-desk}
 use Rattle.station.proofs.station.Station.work.Goals as goal
 
 pub returns-in_err-handle_desk-clause-stops : goal.returns-in_err-handle_desk-clause-stops
 returns-in_err-handle_desk-clause-stops c =
-    passed-on c.from_residual-in_err-handle_desk.result _ _
+    passed_on c.from_residual-in_err-handle_desk.result _ _
     (λ e same is t h n there stands.
     turn-cut-desk t c.args.tick n h n (c.in_err-handle_desk.ensures.stops (sym same ∙ is) t
     (tick_done t c.args.tick n h) n there (c.in_ok-tick_if.ensures.on t h n there stands)))
@@ -17,7 +17,7 @@ returns-in_err-handle_desk-clause-stops c =
 
 pub returns-clause-on : goal.returns-clause-on
 returns-clause-on c =
-    on-ok c.take_rings.result _ _
+    on_ok c.take_rings.result _ _
     (λ f t h n there stands.
     let done = c.in_ok-handle_desk.ensures.on t (tick_done t c.args.tick n h) n there
     (c.in_ok-tick_if.ensures.on t h n there stands) in
@@ -28,7 +28,7 @@ returns-clause-on c =
 
 pub returns-clause-stops : goal.returns-clause-stops
 returns-clause-stops c =
-    if-err c.take_rings.result _ _
+    if_err c.take_rings.result _ _
     (λ e f is t h n there stands.
     let done = c.in_ok-handle_desk.ensures.on t (tick_done t c.args.tick n h) n there
     (c.in_ok-tick_if.ensures.on t h n there stands) in
@@ -39,6 +39,6 @@ returns-clause-stops c =
 
 pub returns-in_err-tick_if-clause-stops : goal.returns-in_err-tick_if-clause-stops
 returns-in_err-tick_if-clause-stops c =
-    passed-on c.from_residual.result _ _
+    passed_on c.from_residual.result _ _
     (λ e same is t h n there stands. c.in_err-tick_if.ensures.stops (sym same ∙ is) t h n there stands)
     c.from_residual.ensures.1

@@ -1,0 +1,12 @@
+use Rattle.std.proofs.Common.{ap, ◌∙◌}
+use Rattle.std.specs.List.{list_all}
+use Rattle.fleet.specs.Standing.{FleetState}
+use Rattle.fleet.specs.Waiting.{has_nothing}
+use Rattle.fleet.proofs.Sums.{quiet-stands}
+use Rattle.fleet.proofs.fleet.Fleet.quiet.Goals as goal
+
+pub returns : goal.returns
+returns c t h s =
+    c.are_quiet.ensures
+    ∙ ap (list_all has_nothing) (c.deref.ensures.value ∙ ap (λ (x : FleetState). x.stations) c.self.view_is)
+    ∙ quiet-stands t h c.args.self.now s

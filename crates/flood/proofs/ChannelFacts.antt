@@ -1,0 +1,344 @@
+-- What lasts between a node x and another node y, which has number d, of the rows that x floods.
+use Rattle.std.proofs.Common.{◌≡◌, ◌⊎◌, inl, inr, ℕ, ◌+◌, ◌==◌, Bool, true, false, cond, not, List, [], ◌∷◌, ◌++◌, length, map, refl, sym, ap, ◌∙◌, subst, arith, Contains}
+use Rattle.std.specs.Prelude.{Option, Some}
+use Rattle.std.specs.List.{slice_get}
+use Rattle.std.proofs.lemmas.List.{length-append}
+use Rattle.std.proofs.lemmas.List.Elements.{Contains-append_cases, Contains-append_left, Contains-push, Contains-push_cases}
+use Rattle.ason_base.specs.declared.ids.NodeId.{NodeId}
+use Rattle.ason_base.specs.declared.network.TeRow.{TeRow}
+use Rattle.hop_reliable.proofs.Members.{get-append_cases, get-append_last, get-append_left}
+use Rattle.flood.specs.declared.due.Due.{Due}
+use Rattle.flood.specs.declared.messages.FloodMsg.{FloodMsg}
+use Rattle.flood.specs.declared.messages.FloodMsg.TheVariants.{Row, Ack}
+use Rattle.flood.specs.State.{FloodState, NeighbourState, acked, acked_by, is_from, is_known, older, older_neighbour, queued, queued_unless, ticked, with_neighbours, with_row}
+use Rattle.flood.proofs.NodeFacts.{acked_id, queued_id}
+use Rattle.flood.proofs.Members.{each_mapped, there_filter, there_from_filter, there_from_map, there_map}
+
+-- The rows that x gave numbers for y, each with its origin, in order of number.
+
+abbrev pub Given : Type 0
+Given = List (NodeId × TeRow)
+
+-- the row of this number, from 1
+pub record IsNumbered (given : Given) (n : ℕ) (origin : NodeId) (row : TeRow) : Type 0 where
+  pub place : ℕ
+  pub number : n ≡ place + 1
+  pub at : slice_get given place ≡ Some (origin, row)
+
+-- the number is due to the neighbour
+pub record IsDueAs (n : ℕ) (l : NeighbourState) : Type 0 where
+  pub due : Due
+  pub there : Contains l.due due
+  pub number : due.number ≡ n
+
+pub record LineFits (given : Given) (y : FloodState) (l : NeighbourState) : Type 0 where
+  pub sent : l.sent ≡ length given
+  pub due : (e : Due) → Contains l.due e → IsNumbered given e.number e.origin e.row
+  -- what isn't due any more is known at y
+  pub kept : (k : ℕ) (o : NodeId) (r : TeRow) → slice_get given k ≡ Some (o, r)
+      → IsDueAs (k + 1) l ⊎ (is_known y.rows r.link ≡ true)
+
+-- y knows the row of this number
+pub record IsHeard (given : Given) (y : FloodState) (n : ℕ) : Type 0 where
+  pub origin : NodeId
+  pub row : TeRow
+  pub numbered : IsNumbered given n origin row
+  pub known : is_known y.rows row.link ≡ true
+
+pub record IsGiven (given : Given) (r : TeRow) : Type 0 where
+  pub place : ℕ
+  pub origin : NodeId
+  pub at : slice_get given place ≡ Some (origin, r)
+
+pub record Flow (x y : FloodState) (d : ℕ) (sent back : List FloodMsg) (given : Given) : Type 0 where
+  pub lines : (l : NeighbourState) → Contains x.neighbours l → (l.id.0 == d) ≡ true → LineFits given y l
+  pub frames : (n : ℕ) (o : NodeId) (r : TeRow) → Contains sent (Row n o r) → IsNumbered given n o r
+  pub acks : (n : ℕ) → Contains back (Ack n) → IsHeard given y n
+  pub spread : (r : TeRow) → Contains x.rows r → IsGiven given r ⊎ (is_known y.rows r.link ≡ true)
+  pub backed : (k : ℕ) (o : NodeId) (r : TeRow) → slice_get given k ≡ Some (o, r) → Contains x.rows r
+
+-- one number is one row
+pub one_number : (given : Given) (n : ℕ) (o p : NodeId) (r s : TeRow) → IsNumbered given n o r
+    → IsNumbered given n p s → (o ≡ p) × (r ≡ s)
+one_number given n o p r s f g =
+    let first : n ≡ f.place + 1 = f.number in
+    let second : n ≡ g.place + 1 = g.number in
+    let place : f.place ≡ g.place = omega arith in
+    let here : slice_get given g.place ≡ Some (o, r) = subst (λ k. slice_get given k ≡ Some (o, r)) place f.at in
+    let there : slice_get given g.place ≡ Some (p, s) = g.at in
+    let same : ◌≡◌ {A = NodeId × TeRow} (o, r) (p, s) = cc in
+    (ap (λ (q : NodeId × TeRow). q.0) same, ap (λ (q : NodeId × TeRow). q.1) same)
+
+-- y changes, and answers
+
+pub flow_far : (x y z : FloodState) (d : ℕ) (sent back ms : List FloodMsg) (given : Given)
+    → ((r : TeRow) → is_known y.rows r.link ≡ true → is_known z.rows r.link ≡ true)
+    → ((n : ℕ) → Contains ms (Ack n) → IsHeard given z n)
+    → Flow x y d sent back given → Flow x z d sent (back ++ ms) given
+flow_far x y z d sent back ms given more heard f = record {
+  lines = λ l there to.
+      let line = f.lines l there to in
+      record {
+        sent = line.sent;
+        due = line.due;
+        kept = λ k o r at. elim (line.kept k o r at) [ inl due ↦ inl due | inr known ↦ inr (more r known) ];
+      };
+  frames = f.frames;
+  acks = λ n there. elim (Contains-append_cases back ms (Ack n) there) [
+    | inl before ↦
+        let h = f.acks n before in
+        record { origin = h.origin; row = h.row; numbered = h.numbered; known = more h.row h.known }
+    | inr now ↦ heard n now
+  ];
+  spread = λ r there. elim (f.spread r there) [ inl given ↦ inl given | inr known ↦ inr (more r known) ];
+  backed = f.backed;
+}
+
+-- x sends what has a number already
+
+frames_more : (sent ms : List FloodMsg) (given : Given)
+    → ((n : ℕ) (o : NodeId) (r : TeRow) → Contains sent (Row n o r) → IsNumbered given n o r)
+    → ((n : ℕ) (o : NodeId) (r : TeRow) → Contains ms (Row n o r) → IsNumbered given n o r)
+    → (n : ℕ) (o : NodeId) (r : TeRow) → Contains (sent ++ ms) (Row n o r) → IsNumbered given n o r
+frames_more sent ms given old new n o r there =
+    elim (Contains-append_cases sent ms (Row n o r) there) [ inl before ↦ old n o r before | inr now ↦ new n o r now ]
+
+pub flow_again : (x y : FloodState) (d : ℕ) (sent back ms : List FloodMsg) (given : Given)
+    → ((n : ℕ) (o : NodeId) (r : TeRow) → Contains ms (Row n o r) → IsNumbered given n o r)
+    → Flow x y d sent back given → Flow x y d (sent ++ ms) back given
+flow_again x y d sent back ms given numbered f = record {
+  lines = f.lines;
+  frames = frames_more sent ms given f.frames numbered;
+  acks = f.acks;
+  spread = f.spread;
+  backed = f.backed;
+}
+
+-- x ticks
+
+line_older : (given : Given) (y : FloodState) (l : NeighbourState) → LineFits given y l
+    → LineFits given y (older_neighbour l)
+line_older given y l f = record {
+  sent = f.sent;
+  due = each_mapped (λ (e : Due). IsNumbered given e.number e.origin e.row)
+      (λ (e : Due). IsNumbered given e.number e.origin e.row) older l.due (λ e p. p) f.due;
+  kept = λ k o r at. elim (f.kept k o r at) [
+    | inl due ↦
+        inl (record { due = older due.due; there = there_map older l.due due.due due.there; number = due.number })
+    | inr known ↦ inr known
+  ];
+}
+
+-- each neighbour is changed by a map that keeps its id
+lines_mapped : (ns : List NeighbourState) (d : ℕ) (given more : Given) (y : FloodState)
+    (g : NeighbourState → NeighbourState)
+    → ((l : NeighbourState) → (g l).id ≡ l.id)
+    → ((l : NeighbourState) → (l.id.0 == d) ≡ true → LineFits given y l → LineFits more y (g l))
+    → ((l : NeighbourState) → Contains ns l → (l.id.0 == d) ≡ true → LineFits given y l)
+    → (l : NeighbourState) → Contains (map g ns) l → (l.id.0 == d) ≡ true → LineFits more y l
+lines_mapped ns d given more y g same keeps all l there to =
+    let q = there_from_map g ns l there in
+    let was : (q.0.id.0 == d) ≡ true = ap (λ (i : NodeId). i.0 == d) (sym (same q.0)) ∙
+    ap (λ (m : NeighbourState). m.id.0 == d) q.2 ∙ to in
+    subst (LineFits more y) q.2 (keeps q.0 was (all q.0 q.1 was))
+
+pub flow_ticked : (x y : FloodState) (d : ℕ) (sent back : List FloodMsg) (given : Given) → Flow x y d sent back given
+    → Flow (ticked x) y d sent back given
+flow_ticked x y d sent back given f = record {
+  lines = lines_mapped x.neighbours d given given y older_neighbour (λ l. refl) (λ l to. line_older given y l) f.lines;
+  frames = f.frames;
+  acks = f.acks;
+  spread = f.spread;
+  backed = f.backed;
+}
+
+-- x takes an acknowledgement
+
+same_number : (a b : ℕ) → (a == b) ≡ true → a ≡ b
+same_number a b h = grind arith
+
+number_off : (number k : ℕ) → (number == k + 1) ≡ false → (n : ℕ) → n ≡ k + 1 → not (n == number) ≡ true
+number_off number k other n is = grind arith
+
+line_acked : (given : Given) (y : FloodState) (number : ℕ) (l : NeighbourState) → IsHeard given y number
+    → LineFits given y l
+    → LineFits given y (acked number l)
+line_acked given y number l h f = record {
+  sent = f.sent;
+  due = λ e there. f.due e (there_from_filter (λ (d : Due). not (d.number == number)) l.due e there).0;
+  kept = λ k o r at. by_number k o r at (number == k + 1) refl;
+}
+  where
+    by_number : (k : ℕ) (o : NodeId) (r : TeRow) → slice_get given k ≡ Some (o, r) → (b : Bool) → (number == k + 1) ≡ b
+        → IsDueAs (k + 1) (acked number l) ⊎ (is_known y.rows r.link ≡ true)
+    by_number k o r at true e =
+        let is : number ≡ k + 1 = same_number number (k + 1) e in
+        let same = one_number given number h.origin o h.row r h.numbered (record { place = k; number = is; at = at }) in
+        inr (subst (λ (s : TeRow). is_known y.rows s.link ≡ true) same.1 h.known)
+    by_number k o r at false e = elim (f.kept k o r at) [
+      | inl due ↦ inl (record {
+        due = due.due;
+        there = there_filter (λ (d : Due). not (d.number == number)) l.due due.due due.there
+            (number_off number k e due.due.number due.number);
+        number = due.number;
+      })
+      | inr known ↦ inr known
+    ]
+
+both : (a b c : ℕ) → (a == b) ≡ true → (a == c) ≡ true → (b == c) ≡ true
+both a b c h k = grind arith
+
+pub flow_acked : (x y : FloodState) (d : ℕ) (sent back : List FloodMsg) (given : Given) (from : NodeId) (number : ℕ)
+    → ((from.0 == d) ≡ true → IsHeard given y number) → Flow x y d sent back given
+    → Flow (with_neighbours x (map (acked_by from number) x.neighbours)) y d sent back given
+flow_acked x y d sent back given from number heard f = record {
+  lines = lines_mapped x.neighbours d given given y (acked_by from number) (acked_id from number) line f.lines;
+  frames = f.frames;
+  acks = f.acks;
+  spread = f.spread;
+  backed = f.backed;
+}
+  where
+    line : (l : NeighbourState) → (l.id.0 == d) ≡ true → LineFits given y l → LineFits given y (acked_by from number l)
+    line l to fits = by_from (l.id.0 == from.0) refl
+      where
+        by_from : (b : Bool) → (l.id.0 == from.0) ≡ b → LineFits given y (cond b (acked number l) l)
+        by_from true e = line_acked given y number l (heard (both l.id.0 from.0 d e to)) fits
+        by_from false e = fits
+
+-- x learns a row
+
+numbered_more : (given : Given) (new : NodeId × TeRow) (n : ℕ) (o : NodeId) (r : TeRow) → IsNumbered given n o r
+    → IsNumbered (given ++ new ∷ []) n o r
+numbered_more given new n o r f =
+    record { place = f.place; number = f.number; at = get-append_left given (new ∷ []) f.place (o, r) f.at }
+
+numbered_last : (given : Given) (n : ℕ) (o : NodeId) (r : TeRow) → n ≡ length given
+    → IsNumbered (given ++ (o, r) ∷ []) (n + 1) o r
+numbered_last given n o r e =
+    record { place = length given; number = ap (λ k. k + 1) e; at = get-append_last given (o, r) }
+
+line_queued : (given : Given) (y : FloodState) (origin : NodeId) (age : Option ℕ) (row : TeRow)
+    (l : NeighbourState) → LineFits given y l
+    → LineFits (given ++ (origin, row) ∷ []) y (queued origin age row l)
+line_queued given y origin age row l f = record {
+  sent = rw length-append (ap (λ k. k + 1) f.sent);
+  due = λ e there. elim (Contains-push_cases l.due new e there) [
+    | inl before ↦ numbered_more given (origin, row) e.number e.origin e.row (f.due e before)
+    | inr is ↦ subst (λ (d : Due). IsNumbered (given ++ (origin, row) ∷ []) d.number d.origin d.row) is
+        (numbered_last given l.sent origin row f.sent)
+  ];
+  kept = λ k o r at. elim (get-append_cases given (origin, row) k (o, r) at) [
+    | inl before ↦ elim (f.kept k o r before) [
+      | inl due ↦ inl (record {
+        due = due.due;
+        there = Contains-append_left l.due (new ∷ []) due.due due.there;
+        number = due.number;
+      })
+      | inr known ↦ inr known
+    ]
+    | inr last ↦
+        inl (record { due = new; there = Contains-push l.due new; number = ap (λ j. j + 1) (f.sent ∙ sym last.0) })
+  ];
+}
+  where
+    new : Due
+    new = record { number = l.sent + 1; age = age; origin = origin; row = row }
+
+-- the row came from elsewhere, and goes to y
+pub flow_learns : (x y : FloodState) (d : ℕ) (sent back ms : List FloodMsg) (given : Given) (from : Option NodeId)
+    (origin : NodeId) (age : Option ℕ) (row : TeRow)
+    → ((l : NeighbourState) → (l.id.0 == d) ≡ true → is_from from l ≡ false)
+    → ((n : ℕ) (o : NodeId) (r : TeRow) → Contains ms (Row n o r) → IsNumbered (given ++ (origin, row) ∷ []) n o r)
+    → Flow x y d sent back given → Flow (with_row x from origin age row) y d (sent ++ ms) back
+    (given ++ (origin, row) ∷ [])
+flow_learns x y d sent back ms given from origin age row other numbered f = record {
+  lines = lines_mapped x.neighbours d given (given ++ (origin, row) ∷ []) y (queued_unless from origin age row)
+      (queued_id from origin age row) line f.lines;
+  frames = frames_more sent ms (given ++ (origin, row) ∷ [])
+      (λ n o r there. numbered_more given (origin, row) n o r (f.frames n o r there)) numbered;
+  acks = λ n there.
+      let h = f.acks n there in
+      record {
+        origin = h.origin;
+        row = h.row;
+        numbered = numbered_more given (origin, row) n h.origin h.row h.numbered;
+        known = h.known;
+      };
+  spread = λ r there. elim (Contains-push_cases x.rows row r there) [
+    | inl before ↦ elim (f.spread r before) [
+      | inl g ↦ inl (record {
+        place = g.place;
+        origin = g.origin;
+        at = get-append_left given ((origin, row) ∷ []) g.place (g.origin, r) g.at;
+      })
+      | inr known ↦ inr known
+    ]
+    | inr is ↦ inl (record {
+      place = length given;
+      origin = origin;
+      at = get-append_last given (origin, row) ∙ ap (λ (s : TeRow). Some (origin, s)) is;
+    })
+  ];
+  backed = λ k o r at. elim (get-append_cases given (origin, row) k (o, r) at) [
+    | inl before ↦ Contains-append_left x.rows (row ∷ []) r (f.backed k o r before)
+    | inr last ↦ subst (Contains (x.rows ++ row ∷ [])) (ap (λ (q : NodeId × TeRow). q.1) last.1)
+        (Contains-push x.rows row)
+  ];
+}
+  where
+    line : (l : NeighbourState) → (l.id.0 == d) ≡ true → LineFits given y l
+        → LineFits (given ++ (origin, row) ∷ []) y (queued_unless from origin age row l)
+    line l to fits =
+        subst (λ b. LineFits (given ++ (origin, row) ∷ []) y (cond b l (queued origin age row l))) (sym (other l to))
+        (line_queued given y origin age row l fits)
+
+-- the row came from y, and doesn't go there
+pub flow_told : (x y : FloodState) (d : ℕ) (sent back ms : List FloodMsg) (given : Given) (from origin : NodeId)
+    (age : Option ℕ) (row : TeRow)
+    → (from.0 == d) ≡ true → is_known y.rows row.link ≡ true
+    → ((n : ℕ) (o : NodeId) (r : TeRow) → Contains ms (Row n o r) → IsNumbered given n o r)
+    → Flow x y d sent back given → Flow (with_row x (Some from) origin age row) y d (sent ++ ms) back given
+flow_told x y d sent back ms given from origin age row is known numbered f = record {
+  lines = lines_mapped x.neighbours d given given y (queued_unless (Some from) origin age row)
+      (queued_id (Some from) origin age row) line f.lines;
+  frames = frames_more sent ms given f.frames numbered;
+  acks = f.acks;
+  spread = λ r there. elim (Contains-push_cases x.rows row r there) [
+    | inl before ↦ f.spread r before
+    | inr same ↦ inr (subst (λ (s : TeRow). is_known y.rows s.link ≡ true) same known)
+  ];
+  backed = λ k o r at. Contains-append_left x.rows (row ∷ []) r (f.backed k o r at);
+}
+  where
+    agree : (a b c : ℕ) → (a == c) ≡ true → (b == c) ≡ true → (a == b) ≡ true
+    agree a b c h k = grind arith
+
+    line : (l : NeighbourState) → (l.id.0 == d) ≡ true → LineFits given y l
+        → LineFits given y (queued_unless (Some from) origin age row l)
+    line l to fits = subst (λ b. LineFits given y (cond b l (queued origin age row l)))
+        (sym (agree l.id.0 from.0 d to is)) fits
+
+-- What x sends to y has the numbers that were given.
+pub again_numbered : (given : Given) (y : FloodState) (l : NeighbourState) (e : Due) (n : ℕ) (o : NodeId)
+    (r : TeRow) → LineFits given y l
+    → Contains l.due e → Row e.number e.origin e.row ≡ Row n o r → IsNumbered given n o r
+again_numbered given y l e n o r f there is =
+    let number : e.number ≡ n = cc in
+    let origin : e.origin ≡ o = cc in
+    let row : e.row ≡ r = cc in
+    subst (λ k. IsNumbered given k o r) number (subst (λ p. IsNumbered given e.number p r) origin
+    (subst (IsNumbered given e.number e.origin) row (f.due e there)))
+
+pub first_numbered : (given : Given) (y : FloodState) (l : NeighbourState) (origin : NodeId) (row : TeRow) (n : ℕ)
+    (o : NodeId) (r : TeRow)
+    → LineFits given y l → Row (l.sent + 1) origin row ≡ Row n o r → IsNumbered (given ++ (origin, row) ∷ []) n o r
+first_numbered given y l origin row n o r f is =
+    let number : l.sent + 1 ≡ n = cc in
+    let from : origin ≡ o = cc in
+    let same : row ≡ r = cc in
+    let last : IsNumbered (given ++ (origin, row) ∷ []) (l.sent + 1) origin row =
+    numbered_last given l.sent origin row f.sent in
+    subst (λ k. IsNumbered (given ++ (origin, row) ∷ []) k o r) number
+    (subst (λ p. IsNumbered (given ++ (origin, row) ∷ []) (l.sent + 1) p r) from
+    (subst (IsNumbered (given ++ (origin, row) ∷ []) (l.sent + 1) origin) same last))

@@ -1,0 +1,14 @@
+use Rattle.std.proofs.Common.{refl}
+use Rattle.leg_table.specs.Tables.{reported}
+use Rattle.leg_table.proofs.CallIndexes.{calls-as-before, calls-kept, in-both, reported-back, reported-call, reported-work}
+use Rattle.leg_table.proofs.call_table.Calls.report.Goals as goal
+
+pub invariant_of-self : goal.invariant_of-self
+invariant_of-self c =
+    let role = c.args.role in
+    let f = c.args.f in
+    let t = c.self.inside.list in
+    in-both c.report.result
+    (λ e. calls-kept c.args.call (reported role f) t _ c.self.invariant (reported-call role f) (reported-work role f)
+    (reported-back role f) c.report.ensures.rising e refl refl)
+    (λ e. calls-as-before t _ c.self.invariant e refl refl) c.report.ensures.ok c.report.ensures.err

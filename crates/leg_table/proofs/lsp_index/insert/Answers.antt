@@ -1,0 +1,19 @@
+use Rattle.std.proofs.Common.{◌≤◌, length, sym, subst, ◌∙◌, ap}
+use Rattle.std.specs.List.{position_or_len}
+use Rattle.leg_table.specs.LspIndexes.{IndexRises, has_entry, is_entry, is_from}
+use Rattle.leg_table.proofs.LspIndex.{any-insert, entry-rises}
+use Rattle.leg_table.proofs.lsp_index.insert.Goals as goal
+
+pub returns-clause-rising : goal.returns-clause-rising
+returns-clause-rising c =
+    let e = c.args.entry in
+    let n = c.place_of-place.result in
+    let place = c.place_of-place.ensures.place ∙ ap (position_or_len (is_from e)) c.deref.ensures.value in
+    let within = subst (λ xs. n ≤ length xs) c.deref.ensures.value c.place_of-place.ensures.within in
+    subst IndexRises (sym c.insert_here.ensures.items)
+    (entry-rises e c.args.entries.now.items n c.requires.rising place within c.requires.new)
+
+pub returns-clause-has : goal.returns-clause-has
+returns-clause-has c = λ e.
+    ap (has_entry e) c.insert_here.ensures.items
+    ∙ any-insert (is_entry e) c.args.entries.now.items c.place_of-place.result c.args.entry

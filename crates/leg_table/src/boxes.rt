@@ -1,0 +1,123 @@
+//! Legs in boxes: where one comes or goes, a list of these moves the boxes behind it, and no leg.
+
+ghost use Rattle.std.specs.Prelude.{◌≡◌, IfOk};
+ghost use Rattle.mesh_rules.specs.declared.changes.LegChange.TheVariants as changes;
+ghost use Rattle.leg_table.specs.Edits.{change_of};
+ghost use Rattle.leg_table.specs.Tables.{in_phase, with_back_labels, with_labels};
+
+use ason_base::{Label, Leg, Lsp, OutOfMemory, Phase};
+use std::alloc::Global;
+use std::marker::Model;
+
+/// A leg in a box.
+#[derive(Debug, Drop)]
+pub struct BoxedLeg {
+    leg: Box<Leg>,
+}
+
+impl Model for BoxedLeg {
+    ghost use Rattle.ason_base.specs.declared.tables.Leg.{Leg};
+
+    ghost Value = { Leg };
+
+    ghost view = { λ b. b.leg.value };
+}
+
+impl BoxedLeg {
+    pub fn new(alloc: Global, leg: Leg) -> Result<BoxedLeg, OutOfMemory>
+        ensures { IfOk result (λ b. b ≡ leg) }
+    {
+        let leg = Box::new(alloc, leg)?;
+        Ok(BoxedLeg { leg })
+    }
+
+    /// The same leg again.
+    pub fn copy(&self, alloc: Global) -> Result<BoxedLeg, OutOfMemory>
+        ensures { IfOk result (λ b. b ≡ self.now) }
+    {
+        let leg = self.leg.copy(alloc)?;
+        BoxedLeg::new(alloc, leg)
+    }
+
+    pub fn leg(&self) -> &Leg
+        ensures { result.now ≡ self.now }
+    {
+        &self.leg
+    }
+
+    pub fn set_phase(&mut self, phase: Phase)
+        ensures { self.new ≡ in_phase phase self.old }
+    {
+        self.leg.phase = phase;
+    }
+
+    pub fn set_labels(&mut self, in_label: Option<Label>, out_label: Option<Label>)
+        ensures { self.new ≡ with_labels in_label out_label self.old }
+    {
+        self.leg.in_label = in_label;
+        self.leg.out_label = out_label;
+    }
+
+    pub fn set_back(&mut self, back_in: Option<Label>, back_out: Option<Label>)
+        ensures { self.new ≡ with_back_labels back_in back_out self.old }
+    {
+        self.leg.back_in = back_in;
+        self.leg.back_out = back_out;
+    }
+
+    pub fn into_leg(self) -> Leg
+        ensures { result ≡ self }
+    {
+        Box::into_inner(self.leg)
+    }
+}
+
+/// What becomes of a leg, which is in a box where it is put.
+#[derive(Debug, Drop)]
+pub enum BoxedChange {
+    Goes(Lsp),
+    Put(BoxedLeg),
+}
+
+/// A change of a leg, for which memory was taken.
+#[derive(Debug, Drop)]
+pub struct LegEdit {
+    change: BoxedChange,
+}
+
+impl Model for LegEdit {
+    ghost use Rattle.mesh_rules.specs.declared.changes.LegChange.{LegChange};
+
+    ghost Value = { LegChange };
+
+    ghost use Rattle.leg_table.specs.Edits.{change_of};
+
+    ghost view = { λ e. change_of e.change };
+}
+
+impl LegEdit {
+    /// The leg of this LSP goes.
+    pub fn goes(lsp: Lsp) -> LegEdit
+        ensures { result ≡ changes.Goes lsp }
+    {
+        LegEdit {
+            change: BoxedChange::Goes(lsp),
+        }
+    }
+
+    /// The leg is put in its place.
+    pub fn puts(alloc: Global, leg: Leg) -> Result<LegEdit, OutOfMemory>
+        ensures { IfOk result (λ e. e ≡ changes.Put leg) }
+    {
+        let leg = BoxedLeg::new(alloc, leg)?;
+        Ok(LegEdit {
+            change: BoxedChange::Put(leg),
+        })
+    }
+
+    pub fn into_change(self) -> BoxedChange
+        ensures { change_of result ≡ self }
+    {
+        self.change
+    }
+}

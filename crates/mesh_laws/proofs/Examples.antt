@@ -1,0 +1,170 @@
+-- Backups at one node, worked by hand: which label each takes, in which phase its leg is, and why it is refused.
+use Rattle.std.proofs.Common.{◌≡◌, ℕ, Bool, true, false, List, [], ◌∷◌, ◌++◌, refl}
+use Rattle.std.specs.Prelude.{map, Option, Some, None}
+use Rattle.ason_base.specs.Codes.{label_code, primary_code, set_code}
+use Rattle.ason_base.specs.Labels as labels
+use Rattle.ason_base.specs.declared.calls.Phase.{Phase}
+use Rattle.ason_base.specs.declared.calls.Phase.TheVariants.{Asked, Held, Live, Closing}
+use Rattle.ason_base.specs.declared.ids.LinkId.{LinkId}
+use Rattle.ason_base.specs.declared.ids.Lsp.{Lsp}
+use Rattle.ason_base.specs.declared.ids.NodeId.{NodeId}
+use Rattle.ason_base.specs.declared.messages.Msg.{Msg}
+use Rattle.ason_base.specs.declared.messages.Msg.TheVariants.{Path, Resv, PathErr, PathTear}
+use Rattle.ason_base.specs.declared.messages.PathRole.{PathRole}
+use Rattle.ason_base.specs.declared.messages.PathRole.TheVariants.{Work, Back}
+use Rattle.ason_base.specs.declared.network.LinkSpec.{LinkSpec}
+use Rattle.ason_base.specs.declared.steps.Step.{Step}
+use Rattle.ason_base.specs.declared.tables.Out.{Out}
+use Rattle.mesh_rules.specs.Changes.{to_node}
+use Rattle.mesh_rules.specs.LocalNodes.{LocalNode}
+use Rattle.mesh_rules.specs.Messages.{on_message}
+use Rattle.mesh_rules.specs.State.{NodeState, new_node}
+use Rattle.mesh_laws.specs.NodeLaw.{NodeInput, Message, after_inputs}
+
+abbrev node : ℕ → NodeId
+node n = record { 0 = n }
+
+abbrev link : ℕ → LinkId
+link k = record { 0 = k }
+
+-- two labels; the SRLGs are given
+abbrev joins : ℕ → ℕ → ℕ → List ℕ → LinkSpec
+joins k a b srlgs = record { id = link k; low = node a; high = node b; labels = 2; metric = 1; srlgs = srlgs }
+
+-- node 2, which converts: link 1 leads to node 1, links 2 to 5 lead to node 3, and 4 and 5 have an SRLG in common
+abbrev middle : LocalNode
+middle = record {
+  id = node 2;
+  convert = true;
+  own = joins 1 1 2 [] ∷ joins 2 2 3 [] ∷ joins 3 2 3 [] ∷ joins 4 2 3 (7 ∷ []) ∷ joins 5 2 3 (7 ∷ []) ∷ [];
+}
+
+abbrev lsp : ℕ → Lsp
+lsp n = record { ingress = node 1; tunnel = n; lsp = n }
+
+-- the primary goes over this link
+abbrev backup : Bool → ℕ → PathRole
+backup active k = Back active 9 (record { node = node 2; link = link k } ∷ [])
+
+-- a Path that ends here, and one that goes on to node 3
+abbrev ends : ℕ → PathRole → Msg
+ends n r = Path (lsp n) (node 2) (link 1) [] (1 ∷ 2 ∷ []) None r
+
+abbrev goes_on : ℕ → PathRole → Msg
+goes_on n r = Path (lsp n) (node 3) (link 1) (record { node = node 2; link = link 2 } ∷ []) (1 ∷ 2 ∷ []) None r
+
+-- the label that came from node 3
+abbrev answers : ℕ → ℕ → Msg
+answers n x = Resv (lsp n) (node 3) (link 2) x
+
+abbrev from_1 : Msg → NodeInput
+from_1 m = Message (node 1) m
+
+abbrev from_3 : Msg → NodeInput
+from_3 m = Message (node 3) m
+
+abbrev after : List NodeInput → NodeState
+after inputs = after_inputs middle new_node inputs
+
+-- the phase and the label in of each leg
+abbrev seen : NodeState → List (Phase × Option ℕ)
+seen s = map (λ g. (g.phase, g.in_label)) s.legs
+
+-- At the egress
+
+held : seen (after (from_1 (ends 1 (backup false 2)) ∷ [])) ≡ (Held, Some 1) ∷ []
+unfolding labels.numbers_from
+held = refl
+
+-- primaries over different links: the label is shared
+shared : seen (after (from_1 (ends 1 (backup false 2)) ∷ from_1 (ends 2 (backup false 3)) ∷ [])) ≡
+    (Held, Some 1) ∷ (Held, Some 1) ∷ []
+unfolding labels.numbers_from
+shared = refl
+
+-- over one link, or over links with one SRLG: another label
+one_link : seen (after (from_1 (ends 1 (backup false 2)) ∷ from_1 (ends 2 (backup false 2)) ∷ [])) ≡
+    (Held, Some 1) ∷ (Held, Some 2) ∷ []
+unfolding labels.numbers_from
+one_link = refl
+
+one_srlg : seen (after (from_1 (ends 1 (backup false 4)) ∷ from_1 (ends 2 (backup false 5)) ∷ [])) ≡
+    (Held, Some 1) ∷ (Held, Some 2) ∷ []
+unfolding labels.numbers_from
+one_srlg = refl
+
+-- a working LSP shares no label, whichever comes first
+work_after : seen (after (from_1 (ends 1 (backup false 2)) ∷ from_1 (ends 2 (Work false)) ∷ [])) ≡
+    (Held, Some 1) ∷ (Live, Some 2) ∷ []
+unfolding labels.numbers_from
+work_after = refl
+
+work_before : seen (after (from_1 (ends 1 (Work false)) ∷ from_1 (ends 2 (backup false 2)) ∷ [])) ≡
+    (Live, Some 1) ∷ (Held, Some 2) ∷ []
+unfolding labels.numbers_from
+work_before = refl
+
+-- Refusals
+
+abbrev told : NodeState → Msg → List Out
+told s m = (on_message middle s (node 1) m).sent
+
+-- two backups over one link have both labels, so a third one has none
+refused_set : told (after (from_1 (ends 1 (backup false 2))
+    ∷ from_1 (ends 2 (backup false 2)) ∷ [])) (ends 3 (backup false 2)) ≡
+    to_node (node 1) (PathErr (lsp 3) (node 2) (node 2) true set_code) ∷ []
+unfolding labels.numbers_from
+refused_set = refl
+
+-- a link of the primary isn't known
+refused_primary : told new_node (ends 1 (backup false 6)) ≡
+    to_node (node 1) (PathErr (lsp 1) (node 2) (node 2) true primary_code) ∷ []
+unfolding labels.numbers_from
+refused_primary = refl
+
+-- an activation of a backup that has no leg here is swallowed
+no_activation : told new_node (ends 1 (backup true 2)) ≡ []
+unfolding labels.numbers_from
+no_activation = refl
+
+-- Between the ends
+
+asked : seen (after (from_1 (goes_on 1 (backup false 2)) ∷ [])) ≡ (Asked, None) ∷ []
+unfolding labels.numbers_from
+asked = refl
+
+-- the Resv reserves the least label that is usable now, which another backup has
+reserved_shared : seen (after (from_1 (goes_on 1 (backup false 2))
+    ∷ from_1 (ends 2 (backup false 3)) ∷ from_3 (answers 1 2) ∷ [])) ≡
+    (Held, Some 1) ∷ (Held, Some 1) ∷ []
+unfolding labels.numbers_from
+reserved_shared = refl
+
+reserved_apart : seen (after (from_1 (goes_on 1 (backup false 2))
+    ∷ from_1 (ends 2 (backup false 2)) ∷ from_3 (answers 1 2) ∷ [])) ≡
+    (Held, Some 2) ∷ (Held, Some 1) ∷ []
+unfolding labels.numbers_from
+reserved_apart = refl
+
+-- working LSPs took all labels meanwhile: it is torn both ways
+abbrev full : NodeState
+full =
+    after (from_1 (goes_on 1 (backup false 2)) ∷ from_1 (ends 2 (Work false)) ∷ from_1 (ends 3 (Work false)) ∷ [])
+
+no_label_left : (on_message middle full (node 3) (answers 1 2)).sent ≡
+    to_node (node 3) (PathTear (lsp 1) (node 3) (link 2))
+    ∷ to_node (node 1) (PathErr (lsp 1) (node 3) (node 2) true label_code) ∷ []
+unfolding labels.numbers_from
+no_label_left = refl
+
+closed : seen (after_inputs middle full (from_3 (answers 1 2) ∷ [])) ≡
+    (Closing, None) ∷ (Live, Some 1) ∷ (Live, Some 2) ∷ []
+unfolding labels.numbers_from
+closed = refl
+
+-- a torn backup gives its label up, and the other one that shares it keeps it
+torn : seen (after (from_1 (ends 1 (backup false 2))
+    ∷ from_1 (ends 2 (backup false 3)) ∷ from_1 (PathTear (lsp 1) (node 2) (link 1)) ∷ [])) ≡
+    (Held, Some 1) ∷ []
+unfolding labels.numbers_from
+torn = refl

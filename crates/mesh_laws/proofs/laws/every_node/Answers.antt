@@ -1,0 +1,5 @@
+use Rattle.mesh_laws.proofs.nodes.Laws.{every_node}
+use Rattle.mesh_laws.proofs.laws.every_node.Goals as goal
+
+pub returns : goal.returns
+returns c = every_node

@@ -1,0 +1,86 @@
+-- Which legs may share a label of a node.
+use Rattle.std.proofs.Common.{◌≡◌, ℕ, Bool, true, false, cond, not, List, [], ◌∷◌, refl, subst}
+use Rattle.std.specs.Prelude.{◌||◌, ◌&&◌, Option, Some, None}
+use Rattle.std.specs.List.{list_any}
+use Rattle.ason_base.specs.declared.calls.Role.{Role}
+use Rattle.ason_base.specs.declared.calls.Role.TheVariants.{Work, Back}
+use Rattle.ason_base.specs.declared.ids.Fibre.{Fibre}
+use Rattle.ason_base.specs.declared.ids.Lsp.{Lsp}
+use Rattle.ason_base.specs.declared.risks.Risk.{Risk}
+use Rattle.ason_base.specs.declared.tables.Leg.{Leg}
+use Rattle.ason_base.specs.Lsps.{same_lsp}
+use Rattle.ason_base.specs.Risks.{AreDisjoint, have_common}
+use Rattle.ason_base.proofs.RiskOrder.{disjoint-flip, there-common}
+use Rattle.mesh_rules.specs.Legs.{find_leg, is_apart, is_free, is_shareable, is_usable, is_work, takes}
+use Rattle.mesh_nodes.proofs.Cases.{both_left, both_right, not-true}
+use Rattle.mesh_laws.specs.LabelLaw.{MayShare, is_in_use}
+
+pub may_share-flip : (g h : Leg) → MayShare g h → MayShare h g
+may_share-flip g h s = record {
+  backups = (s.backups.1, s.backups.0);
+  apart = disjoint-flip g.risks h.risks s.apart;
+  one_in_use = swap (is_in_use g.phase) (is_in_use h.phase) s.one_in_use;
+}
+  where
+    swap : (a b : Bool) → (a && b) ≡ false → (b && a) ≡ false
+    swap true b e = go b e
+      where
+        go : (b : Bool) → b ≡ false → (b && true) ≡ false
+        go true e = e
+        go false e = refl
+    swap false true e = refl
+    swap false false e = refl
+
+or-last : (a b : Bool) → b ≡ true → (a || b) ≡ true
+or-last true b e = refl
+or-last false b e = e
+
+-- no leg of the list passes a test, so none that is found does
+none-found : (q : Leg → Bool) (m : Lsp) (legs : List Leg) (h : Leg) → not (list_any q legs) ≡ true →
+    find_leg m legs ≡ Some h → q h ≡ true → ⊥
+none-found q m [] h none found passes = cc
+none-found q m (g ∷ legs) h none found passes =
+    go (q g) (same_lsp g.lsp m) refl none found (none-found q m legs h)
+  where
+    go : (b c : Bool) → q g ≡ b → not (b || list_any q legs) ≡ true → cond c (Some g) (find_leg m legs) ≡ Some h →
+        (not (list_any q legs) ≡ true → find_leg m legs ≡ Some h → q h ≡ true → ⊥) → ⊥
+    go true c e none found later = cc none
+    go false true e none found later =
+        let is : g ≡ h = cc found in let no : q h ≡ false = subst (λ y. q y ≡ false) is e in cc (no, passes)
+    go false false e none found later = later none found passes
+
+-- a leg that takes a free label is not there
+pub free-not_taken : (f : Fibre) (x : ℕ) (legs : List Leg) (m : Lsp) (h : Leg) → is_free legs f x ≡ true →
+    find_leg m legs ≡ Some h → takes f x h ≡ true → ⊥
+free-not_taken f x legs m h free found this = none-found (takes f x) m legs h free found this
+
+-- a leg that takes a label that may be shared is a backup without a common risk
+shareable-apart : (risks : List Risk) (legs : List Leg) (f : Fibre) (x : ℕ) (m : Lsp) (h : Leg) →
+    is_shareable risks legs f x ≡ true → find_leg m legs ≡ Some h → takes f x h ≡ true → is_apart risks h ≡ true
+shareable-apart risks legs f x m h shareable found this = go (is_apart risks h) refl
+  where
+    go : (b : Bool) → is_apart risks h ≡ b → b ≡ true
+    go true e = refl
+    go false e =
+        absurd (none-found (λ g. takes f x g && not (is_apart risks g)) m legs h shareable found (rw (this, e) refl))
+
+back-of : (r : Role) → not (is_work r) ≡ true → r ≡ Back
+back-of Work e = absurd (cc e)
+back-of Back e = refl
+
+apart-of : (a b : List Risk) → have_common a b ≡ false → AreDisjoint a b
+apart-of a b none r in_a in_b = let common = there-common a b r in_a in_b in cc (common, none)
+
+-- a leg of this role may share a label that is usable for it with each leg that takes it, while it isn't in use
+pub usable-shares : (g : Leg) (r : Role) (legs : List Leg) (f : Fibre) (x : ℕ) (m : Lsp) (h : Leg) → g.role ≡ r →
+    is_usable r g.risks legs f x ≡ true → (r ≡ Back → is_in_use g.phase ≡ false) → find_leg m legs ≡ Some h →
+    takes f x h ≡ true → MayShare g h
+usable-shares g Work legs f x m h role usable idle found this = absurd (free-not_taken f x legs m h usable found this)
+usable-shares g Back legs f x m h role usable idle found this =
+    let apart : is_apart g.risks h ≡ true = shareable-apart g.risks legs f x m h usable found this in
+    record {
+      backups = (role, back-of h.role (both_left (not (is_work h.role)) _ apart));
+      apart =
+          apart-of g.risks h.risks (not-true (have_common g.risks h.risks) (both_right (not (is_work h.role)) _ apart));
+      one_in_use = rw (idle refl) refl;
+    }

@@ -1,0 +1,10 @@
+pub mod Backups
+pub mod Found
+pub mod Least
+pub mod Lists
+pub mod Makes
+pub mod Nodes
+pub mod Order
+pub mod Shorter
+pub mod Topologies
+pub mod Walked

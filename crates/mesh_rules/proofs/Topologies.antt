@@ -1,0 +1,95 @@
+-- The links of a topology: each has a number above those of all earlier ones, and a metric of 1 to 65,535.
+use Rattle.std.proofs.Common.{◌≡◌, ◌<◌, ◌≤◌, ◌-◌, ℕ, zero, suc, Bool, true, false, cond, nat_eq, nat_lt, List, [], ◌∷◌, length, get_or, map, refl, ap, ◌∙◌, sym, arith}
+use Rattle.std.specs.Prelude.{◌&&◌, nat_le, slice_get, All, Some}
+use Rattle.std.specs.List.{AllByRecursion, list_all, list_any}
+use Rattle.std.proofs.lemmas.List.Elements.{recursion_from_All}
+use Rattle.std.proofs.lemmas.Option.{slice_get-get_or}
+use Rattle.ason_base.specs.declared.network.LinkSpec.{LinkSpec}
+use Rattle.ason_base.specs.declared.network.NodeSpec.{NodeSpec}
+use Rattle.ason_base.specs.Network.{IsTopology, Network, is_after, is_distinct, is_link, is_link_here, link_number}
+use Rattle.mesh_rules.specs.Commands.{has_metric, is_searchable}
+use Rattle.mesh_rules.proofs.Conjunctions.{and_first, and_second}
+
+-- Numbers
+
+-- each link's number is above n, and above those of all earlier ones
+abbrev pub Rises : ℕ → List LinkSpec → Type 0
+Rises n [] = Unit {0}
+Rises n (l ∷ links) = (n < l.id.0) × Rises l.id.0 links
+
+-- the link at this place has a number above that of the one before, the first above n
+abbrev is_above : ℕ → List LinkSpec → ℕ → Bool
+is_above n links k = nat_lt (cond (nat_eq k 0) n (link_number (slice_get links (k - 1))))
+    (link_number (slice_get links k))
+
+without_first : (n : ℕ) (l : LinkSpec) (links : List LinkSpec) (k : ℕ) → is_above n (l ∷ links) (suc k) ≡ true →
+    is_above l.id.0 links k ≡ true
+without_first n l links zero e = e
+without_first n l links (suc k) e =
+    let here : suc (suc k) - 1 ≡ suc k = omega arith in
+    let before : suc k - 1 ≡ k = omega arith in
+    let first : nat_eq (suc (suc k)) 0 ≡ false = grind arith in
+    let later : nat_eq (suc k) 0 ≡ false = grind arith in
+    let at : nat_lt (link_number (slice_get (l ∷ links) (suc k))) (link_number (slice_get links (suc k))) ≡ true =
+    sym (ap (λ b. nat_lt (cond b n (link_number (slice_get (l ∷ links) (suc (suc k) - 1))))
+    (link_number (slice_get links (suc k)))) first
+    ∙ ap (λ j. nat_lt (link_number (slice_get (l ∷ links) j)) (link_number (slice_get links (suc k)))) here) ∙ e
+    in
+    ap (λ b. nat_lt (cond b l.id.0 (link_number (slice_get links (suc k - 1))))
+    (link_number (slice_get links (suc k)))) later
+    ∙ ap (λ j. nat_lt (link_number (slice_get links j)) (link_number (slice_get links (suc k)))) before ∙ at
+
+less : (a b : ℕ) → nat_lt a b ≡ true → a < b
+less a b e = grind arith
+
+rises : (n : ℕ) (links : List LinkSpec) → ((k : ℕ) → k < length links → is_above n links k ≡ true) → Rises n links
+rises n [] each = tt
+rises n (l ∷ links) each = (
+  less n l.id.0 (each 0 (omega arith)),
+  rises l.id.0 links (λ k below. without_first n l links k (each (suc k) (omega arith))),
+)
+
+pub links-rise : (t : Network) → IsTopology t → Rises 0 t.links
+links-rise t valid = rises 0 t.links (λ k below. and_first (is_after t.links k) _ (valid.links k below))
+
+none_equal : (n m : ℕ) (links : List LinkSpec) → n ≤ m → Rises m links →
+    list_any (λ y. nat_eq y n) (map (λ l. l.id.0) links) ≡ false
+none_equal n m [] most rise = refl
+none_equal n m (l ∷ links) most rise =
+    let apart : nat_eq l.id.0 n ≡ false = (let above : m < l.id.0 = rise.0 in grind arith) in
+    let later : n ≤ l.id.0 = (let above : m < l.id.0 = rise.0 in omega arith) in
+    rw (apart, none_equal n l.id.0 links later rise.1) refl
+
+distinct : (n : ℕ) (links : List LinkSpec) → Rises n links → is_distinct (map (λ l. l.id.0) links) ≡ true
+distinct n [] rise = refl
+distinct n (l ∷ links) rise = rw (
+  none_equal l.id.0 l.id.0 links (omega arith) rise.1,
+  distinct l.id.0 links rise.1,
+) refl
+
+-- Metrics
+
+at-each-place : (t : Network) → IsTopology t → All (λ l. is_link t.nodes l ≡ true) t.links
+at-each-place t valid k d below =
+    let here : is_link_here t.nodes (slice_get t.links k) ≡ true =
+    and_second (is_after t.links k) _ (valid.links k below) in
+    let found : slice_get t.links k ≡ Some (get_or t.links k d) = slice_get-get_or t.links k d below in
+    rw found at here
+
+pub each-link : (t : Network) → IsTopology t → AllByRecursion (λ l. is_link t.nodes l ≡ true) t.links
+each-link t valid = recursion_from_All (λ l. is_link t.nodes l ≡ true) t.links (at-each-place t valid)
+
+pub link-metric : (nodes : List NodeSpec) (l : LinkSpec) → is_link nodes l ≡ true → has_metric l ≡ true
+link-metric nodes l link = and_second _ (has_metric l) (and_first _ _ link)
+
+metrics : (nodes : List NodeSpec) (links : List LinkSpec) → AllByRecursion (λ l. is_link nodes l ≡ true) links →
+    list_all has_metric links ≡ true
+metrics nodes [] all = refl
+metrics nodes (l ∷ links) all = rw (link-metric nodes l all.0, metrics nodes links all.1) refl
+
+-- routes can be searched for in every topology
+pub topology_searchable : (t : Network) → IsTopology t → is_searchable t ≡ true
+topology_searchable t valid = rw (
+  distinct 0 t.links (links-rise t valid),
+  metrics t.nodes t.links (each-link t valid),
+) refl

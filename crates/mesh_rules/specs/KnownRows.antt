@@ -1,0 +1,10 @@
+-- The links that a node knows, as routing knows them.
+use Rattle.std.specs.Prelude.{List, ◌++◌, map}
+use Rattle.ason_base.specs.declared.network.TeRow.{TeRow}
+use Rattle.ason_base.specs.Network.{row_of}
+use Rattle.mesh_rules.specs.LocalNodes.{LocalNode}
+use Rattle.mesh_rules.specs.State.{NodeState}
+
+-- the rows of its own links, in order of number, and then those that it learnt, in the order in which they came
+abbrev pub known_rows : LocalNode → NodeState → List TeRow
+known_rows p s = map row_of p.own ++ s.learnt

@@ -1,0 +1,453 @@
+-- What a replay keeps stands for the world after an event of a node.
+use Rattle.std.proofs.Common.{◌≡◌, ◌<◌, ◌+◌, ℕ, Bool, true, false, cond, nat_eq, nat_lt, List, [], ◌∷◌, drop, length, map, set, refl, sym, ap, ◌∙◌, subst, arith}
+use Rattle.std.specs.Prelude.{◌&&◌, Option, Some, None, find, is_some, not, position, slice_get}
+use Rattle.std.specs.List.{AllByRecursion, list_any}
+use Rattle.ason_base.specs.declared.ids.NodeId.{NodeId}
+use Rattle.ason_base.specs.declared.commands.Event.{Event}
+use Rattle.ason_base.specs.declared.commands.Event.TheVariants as world
+use Rattle.ason_base.specs.declared.messages.Msg.{Msg}
+use Rattle.ason_base.specs.Network.{Network, are_ends, is_distinct, is_node_id}
+use Rattle.hop_reliable.specs.Schedules.{HopEnd}
+use Rattle.mesh_nodes.specs.LocalNodes.{is_neighbour}
+use Rattle.mesh_rules.specs.Events.{has_first}
+use Rattle.mesh_rules.specs.LocalNodes.{LocalNode, local_node}
+use Rattle.controller.specs.Frames.{SpellsNothing}
+use Rattle.world_core.specs.declared.acts.Act.{Act}
+use Rattle.world_core.specs.declared.acts.Act.TheVariants as act
+use Rattle.world_core.specs.Channels.{ChannelState, channel_to, frame_on}
+use Rattle.world_core.specs.Frames.{Content, Message}
+use Rattle.world_core.specs.Replays.{HasActed, HasStepped, IsDisabled, IsNowhere, IsUnable, StandsFor, WorldState}
+use Rattle.world_core.specs.Runs.{is_channel, is_event_of, may_act, step}
+use Rattle.world_core.specs.Seats.{HasDoneAt, SeatStands, SeatState, can_do, channel_of, frame_there, is_able, is_at, is_channel_there}
+use Rattle.world_core.specs.Standing.{IsUntouched}
+use Rattle.world_core.specs.Worlds.{World, delivered, frame_at, handed_up, numbered_at, taken, with_event}
+use Rattle.world_core.specs.Worlds as worlds
+use Rattle.world_core.proofs.Finding.{IsFirst, all-get, also-found, found-has, is-first, item-found, not-found, same_number, self_test}
+use Rattle.world_core.proofs.Places.{all-set, nodes-set, numbers-set, seat-there}
+use Rattle.world_core.proofs.Seating.{desk_kept, frame-stands, handle-stands, made_kept, noise-stands, still-stands, tick-stands}
+use Rattle.world_core.proofs.Sending.{IsNumbered, is-numbered, not-numbered}
+use Rattle.world_core.proofs.Untouched.{channels-join-neighbours, others-are-untouched}
+
+turned : (a b : ℕ) (c : Bool) → nat_eq a b ≡ c → nat_eq b a ≡ c
+turned a b true e = grind arith
+turned a b false e = grind arith
+
+-- Desks and numbers of events that an event leaves
+
+record IsLeft (w new : World) (m : ℕ) : Type 0 where
+  desk : new.desks m ≡ w.desks m
+  made : new.made m ≡ w.made m
+
+uncounted : (w : World) (n m : ℕ) → nat_eq m n ≡ false → (with_event w n).made m ≡ w.made m
+uncounted w n m other = ap (λ b. cond b (w.made m + 1) (w.made m)) other
+
+differs : (a b m : ℕ) → nat_eq a b ≡ true → nat_eq m b ≡ false → nat_eq m a ≡ false
+differs a b m h k = grind arith
+
+others-left : (t : Network) (w : World) (e : Event) (n m : ℕ) → is_event_of n e ≡ true → nat_eq m n ≡ false →
+    IsLeft w (step t w e) m
+others-left t w (world.Deliver d u k) n m of other = record {
+  desk = desk_kept t (with_event w d.0) d u (frame_at w u d k) m;
+  made = made_kept t (with_event w d.0) d u (frame_at w u d k) m ∙ uncounted w d.0 m (differs d.0 n m of other);
+}
+others-left t w (world.Noise d u bytes) n m of other =
+    record { desk = refl; made = uncounted w d.0 m (differs d.0 n m of other) }
+others-left t w (world.Tick d) n m of other =
+    record { desk = refl; made = uncounted w d.0 m (differs d.0 n m of other) }
+others-left t w (world.Desk d) n m of other = record {
+  desk = ap (λ b. cond b (drop 1 (w.desks m)) (w.desks m)) (differs d.0 n m of other);
+  made = uncounted w d.0 m (differs d.0 n m of other);
+}
+others-left t w (world.Post c) n m of other = absurd (cc (of))
+
+posted_kept : (t : Network) (w : World) (d u : NodeId) (o : Option Content) → (delivered t w d u o).posted ≡ w.posted
+posted_kept t w d u None = refl
+posted_kept t w d u (Some (Message p)) = go (handed_up w d u p)
+  where
+    go : (ms : List Msg) → (worlds.handled t (taken w d u p) d u ms).posted ≡ w.posted
+    go [] = refl
+    go (m ∷ ms) = refl
+
+posted-left : (t : Network) (w : World) (e : Event) (n : ℕ) → is_event_of n e ≡ true → (step t w e).posted ≡ w.posted
+posted-left t w (world.Deliver d u k) n of = posted_kept t (with_event w d.0) d u (frame_at w u d k)
+posted-left t w (world.Noise d u bytes) n of = refl
+posted-left t w (world.Tick d) n of = refl
+posted-left t w (world.Desk d) n of = refl
+posted-left t w (world.Post c) n of = absurd (cc (of))
+
+not_of : (e : Event) (n m : ℕ) → is_event_of n e ≡ true → nat_eq m n ≡ false → is_event_of m e ≡ false
+not_of (world.Deliver d u k) n m of other = turned m d.0 false (differs d.0 n m of other)
+not_of (world.Noise d u bytes) n m of other = turned m d.0 false (differs d.0 n m of other)
+not_of (world.Tick d) n m of other = turned m d.0 false (differs d.0 n m of other)
+not_of (world.Desk d) n m of other = turned m d.0 false (differs d.0 n m of other)
+not_of (world.Post c) n m of other = absurd (cc (of))
+
+-- where nothing waited at a number that is no node's, nothing does
+still-nowhere : (t : Network) (w : World) (e : Event) (n m : NodeId) → is_event_of n.0 e ≡ true →
+    is_node_id t.nodes n ≡ true → is_node_id t.nodes m ≡ false → IsNowhere w m.0 → IsNowhere (step t w e) m.0
+still-nowhere t w e n m of there none is =
+    let other : nat_eq m.0 n.0 ≡ false = not_same (nat_eq m.0 n.0) refl in
+    let left : IsLeft w (step t w e) m.0 = others-left t w e n.0 m.0 of other in
+    let same : IsUntouched w (step t w e) m.0 = others-are-untouched t w e m.0 (not_of e n.0 m.0 of other) in
+    record {
+      desk = left.desk ∙ is.desk;
+      hops = λ d. ap (λ (x : HopEnd). x.hop.unacked) (same.ends d) ∙ is.hops d;
+    }
+  where
+    not_same : (b : Bool) → nat_eq m.0 n.0 ≡ b → b ≡ false
+    not_same true h =
+        let is : m.0 ≡ n.0 = same_number m.0 n.0 h in
+        absurd (cc (none, subst (λ k. is_node_id t.nodes (record { 0 = k }) ≡ true) (sym is) there))
+    not_same false h = refl
+
+-- The node that acts
+
+pub record IsActing (t : Network) (w : World) (n : NodeId) (s : SeatState) : Type 0 where
+  pub node : s.node ≡ n
+  pub stands : SeatStands t w s
+  pub there : is_node_id t.nodes n ≡ true
+  pub may : may_act t w n ≡ true
+
+both_of : (b c : Bool) → (b && c) ≡ true → (b ≡ true) × (c ≡ true)
+both_of b c h = (grind arith, grind arith)
+
+pub acting : (t : Network) (k : WorldState) (w : World) (n : NodeId) (i : ℕ) (s : SeatState) → StandsFor t k w →
+    position (is_able n.0) k.seats ≡ Some i → slice_get k.seats i ≡ Some s → IsActing t w n s
+acting t k w n i s stands at there = record {
+  node = node;
+  stands = seat;
+  there = is_node;
+  may = rw is_node (ap (λ c. nat_lt c 50000) (sym made) ∙ able.1);
+}
+  where
+    first : IsFirst (is_able n.0) k.seats i
+    first = is-first (is_able n.0) k.seats i at
+
+    same : first.item ≡ s
+    same = cc (first.there, there)
+
+    able : (nat_eq s.node.0 n.0 ≡ true) × (nat_lt s.controller.steps 50000 ≡ true)
+    able = both_of (nat_eq s.node.0 n.0) (nat_lt s.controller.steps 50000) (ap (is_able n.0) (sym same) ∙ first.passes)
+
+    node : s.node ≡ n
+    node = ap (λ x. record { 0 = x }) (same_number s.node.0 n.0 able.0)
+
+    seat : SeatStands t w s
+    seat = all-get (SeatStands t w) k.seats i s stands.seats there
+
+    is_node : is_node_id t.nodes n ≡ true
+    is_node = sym (seat-there k.seats t.nodes n stands.nodes) ∙ item-found (is_at n.0) k.seats i s there able.0
+
+    made : s.controller.steps ≡ w.made n.0
+    made = seat.made ∙ ap (λ (m : NodeId). w.made m.0) node
+
+-- none may act where none is found that is able to
+pub cannot-act : (t : Network) (k : WorldState) (w : World) (n : NodeId) → StandsFor t k w →
+    position (is_able n.0) k.seats ≡ None → may_act t w n ≡ false
+cannot-act t k w n stands none = go (may_act t w n) refl
+  where
+    found : is_node_id t.nodes n ≡ true → nat_lt (w.made n.0) 50000 ≡ true → ⊥
+    found there below = by (find (is_at n.0) k.seats) refl
+        (seat-there k.seats t.nodes n stands.nodes ∙ there)
+      where
+        by : (o : Option SeatState) → find (is_at n.0) k.seats ≡ o → is_some o ≡ true → ⊥
+        by None e h = absurd (cc (h))
+        by (Some s) e h =
+            let is = found-has (is_at n.0) (SeatStands t w) k.seats s stands.seats e in
+            let made : s.controller.steps ≡ w.made n.0 = is.1.made ∙ ap w.made (same_number s.node.0 n.0 is.0) in
+            also-found (is_at n.0) (is_able n.0) k.seats s e
+            (rw is.0 (ap (λ c. nat_lt c 50000) made ∙ below)) (not-found (is_able n.0) k.seats none)
+
+    go : (b : Bool) → may_act t w n ≡ b → b ≡ false
+    go true h =
+        let parts = both_of (is_node_id t.nodes n) (nat_lt (w.made n.0) 50000) h in
+        absurd (found parts.0 parts.1)
+    go false h = refl
+
+-- an event of a node, whose seat stands for the node after it
+acted-stands : (t : Network) (k after : WorldState) (w : World) (e : Event) (n : NodeId) (i : ℕ) (s new : SeatState) →
+    StandsFor t k w → is_event_of n.0 e ≡ true → IsActing t w n s → slice_get k.seats i ≡ Some s → new.node ≡ s.node →
+    SeatStands t (step t w e) new → after.seats ≡ set k.seats i new → after.posted ≡ k.posted →
+    StandsFor t after (step t w e)
+acted-stands t k after w e n i s new stands of is at node seat seats posted = record {
+  nodes = ap (map (λ (x : SeatState). x.node)) seats ∙ nodes-set k.seats i s new at node ∙ stands.nodes;
+  apart = ap (λ (xs : List SeatState). is_distinct (map (λ (x : SeatState). x.node.0) xs)) seats
+      ∙ ap is_distinct (numbers-set k.seats i s new at node) ∙ stands.apart;
+  seats = subst (AllByRecursion (SeatStands t (step t w e))) (sym seats)
+      (all-set (SeatStands t w) (SeatStands t (step t w e)) k.seats i s new at stands.apart stands.seats other seat);
+  nowhere = λ m none. still-nowhere t w e n m of is.there none (stands.nowhere m none);
+  posted = posted ∙ stands.posted ∙ sym (posted-left t w e n.0 of);
+}
+  where
+    other : (x : SeatState) → nat_eq x.node.0 s.node.0 ≡ false → SeatStands t w x → SeatStands t (step t w e) x
+    other x apart sits =
+        let differs : nat_eq x.node.0 n.0 ≡ false = ap (λ (m : NodeId). nat_eq x.node.0 m.0) (sym is.node) ∙ apart in
+        let left : IsLeft w (step t w e) x.node.0 = others-left t w e n.0 x.node.0 of differs in
+        still-stands t w (step t w e) x (others-are-untouched t w e x.node.0 (not_of e n.0 x.node.0 of differs))
+        left.desk left.made sits
+
+-- A frame that was sent
+
+pub record IsSent (t : Network) (w : World) (u d : NodeId) (k : ℕ) (bytes : List ℕ) : Type 0 where
+  pub channel : is_channel t u d ≡ true
+  pub frame : IsNumbered (w.channels u.0 d.0) k bytes
+
+channel_false : (t : Network) (u d : NodeId) → is_node_id t.nodes u ≡ false → is_channel t u d ≡ false
+channel_false t u d h =
+    go (is_node_id t.nodes u) (is_node_id t.nodes d) (not (nat_eq u.0 d.0))
+    (list_any (λ l. are_ends l.low l.high u d) t.links) h
+  where
+    go : (a b c f : Bool) → a ≡ false → (a && b && c && f) ≡ false
+    go true b c f h = absurd (cc (h))
+    go false b c f h = refl
+
+-- what is known of the seat of a node
+seat_of : (t : Network) (k : WorldState) (w : World) (u : NodeId) (s : SeatState) → StandsFor t k w →
+    find (is_at u.0) k.seats ≡ Some s → (s.node ≡ u) × SeatStands t w s
+seat_of t k w u s stands e =
+    let is = found-has (is_at u.0) (SeatStands t w) k.seats s stands.seats e in
+    (ap (λ x. record { 0 = x }) (same_number s.node.0 u.0 is.0), is.1)
+
+no_seat : (t : Network) (k : WorldState) (w : World) (u : NodeId) → StandsFor t k w → find (is_at u.0) k.seats ≡ None →
+    is_node_id t.nodes u ≡ false
+no_seat t k w u stands e = sym (seat-there k.seats t.nodes u stands.nodes) ∙ ap is_some e
+
+pub channel-there : (t : Network) (k : WorldState) (w : World) (u d : NodeId) → StandsFor t k w →
+    is_channel_there k.seats u d ≡ is_channel t u d
+channel-there t k w u d stands = go (find (is_at u.0) k.seats) refl
+  where
+    go : (o : Option SeatState) → find (is_at u.0) k.seats ≡ o → is_some (channel_of o d.0) ≡ is_channel t u d
+    go None e = sym (channel_false t u d (no_seat t k w u stands e))
+    go (Some s) e =
+        let is = seat_of t k w u s stands e in
+        is.1.channels d ∙ ap (λ (n : NodeId). is_channel t n d) is.0
+
+pub was-sent : (t : Network) (k : WorldState) (w : World) (u d : NodeId) (number : ℕ) (bytes : List ℕ) →
+    StandsFor t k w →
+    frame_there k.seats u d number ≡ Some bytes → IsSent t w u d number bytes
+was-sent t k w u d number bytes stands e = go (find (is_at u.0) k.seats) refl e
+  where
+    on_channel : (s : SeatState) → (s.node ≡ u) × SeatStands t w s → (o : Option ChannelState) →
+        channel_to s.channels d.0 ≡ o →
+        frame_on o number ≡ Some bytes → IsSent t w u d number bytes
+    on_channel s is None e h = absurd (cc (h))
+    on_channel s is (Some c) e h = record {
+      channel = ap (λ (n : NodeId). is_channel t n d) (sym is.0) ∙ sym (is.1.channels d) ∙ ap is_some e;
+      frame = subst (λ (n : NodeId). IsNumbered (w.channels n.0 d.0) number bytes) is.0
+          (is-numbered s.node (w.channels s.node.0 d.0) c.frames number bytes (is.1.frames d c e) h);
+    }
+
+    go : (o : Option SeatState) → find (is_at u.0) k.seats ≡ o → frame_on (channel_of o d.0) number ≡ Some bytes →
+        IsSent t w u d number bytes
+    go None e h = absurd (cc (h))
+    go (Some s) e h = on_channel s (seat_of t k w u s stands e) (channel_to s.channels d.0) refl h
+
+pub never-sent : (t : Network) (k : WorldState) (w : World) (u d : NodeId) (number : ℕ) → StandsFor t k w →
+    frame_there k.seats u d number ≡ None → (is_channel t u d && is_some (frame_at w u d number)) ≡ false
+never-sent t k w u d number stands e = go (find (is_at u.0) k.seats) refl e
+  where
+    left : (a b : Bool) → a ≡ false → (a && b) ≡ false
+    left true b h = absurd (cc (h))
+    left false b h = refl
+
+    right : (a b : Bool) → b ≡ false → (a && b) ≡ false
+    right true b h = h
+    right false b h = refl
+
+    on_channel : (s : SeatState) → (s.node ≡ u) × SeatStands t w s → (o : Option ChannelState) →
+        channel_to s.channels d.0 ≡ o →
+        frame_on o number ≡ None → (is_channel t u d && is_some (frame_at w u d number)) ≡ false
+    on_channel s is None e h =
+        left (is_channel t u d) (is_some (frame_at w u d number))
+        (ap (λ (n : NodeId). is_channel t n d) (sym is.0) ∙ sym (is.1.channels d) ∙ ap is_some e)
+    on_channel s is (Some c) e h =
+        right (is_channel t u d) (is_some (frame_at w u d number))
+        (subst (λ (n : NodeId). is_some (numbered_at (w.channels n.0 d.0) number) ≡ false) is.0
+        (not-numbered s.node (w.channels s.node.0 d.0) c.frames number (is.1.frames d c e) h))
+
+    go : (o : Option SeatState) → find (is_at u.0) k.seats ≡ o → frame_on (channel_of o d.0) number ≡ None →
+        (is_channel t u d && is_some (frame_at w u d number)) ≡ false
+    go None e h =
+        left (is_channel t u d) (is_some (frame_at w u d number)) (channel_false t u d (no_seat t k w u stands e))
+    go (Some s) e h = on_channel s (seat_of t k w u s stands e) (channel_to s.channels d.0) refl h
+
+-- What is refused
+
+three : (a b c : Bool) → a ≡ true → b ≡ true → c ≡ true → (a && b && c) ≡ true
+three a b c p q r = grind arith
+
+first_false : (a b c : Bool) → a ≡ false → (a && b && c) ≡ true → ⊥
+first_false a b c p h = absurd (grind arith)
+
+last_false : (a b c : Bool) → (b && c) ≡ false → (a && b && c) ≡ true → ⊥
+last_false a b c p h = absurd (grind arith)
+
+-- a node that may act is refused where it can't do this
+refused : (t : Network) (k : WorldState) (w : World) (n : NodeId) (a : Act) → StandsFor t k w → IsUnable k n a →
+    ((s : SeatState) → IsActing t w n s → can_do s a ≡ true) → may_act t w n ≡ false
+refused t k w n a stands unable can = go (position (is_able n.0) k.seats) refl
+  where
+    go : (o : Option ℕ) → position (is_able n.0) k.seats ≡ o → may_act t w n ≡ false
+    go None at = cannot-act t k w n stands at
+    go (Some i) at =
+        let first = is-first (is_able n.0) k.seats i at in
+        absurd (cc (
+          can first.item (acting t k w n i first.item stands at first.there),
+          unable i first.item at first.there,
+        ))
+
+near : (t : Network) (w : World) (u d : NodeId) (s : SeatState) (bytes : List ℕ) → is_channel t u d ≡ true →
+    IsActing t w d s → can_do s (act.Take u bytes) ≡ true
+near t w u d s bytes on is =
+    ap (λ (p : LocalNode). is_neighbour p u) (is.stands.place ∙ ap (local_node t) is.node)
+    ∙ channels-join-neighbours t u d on
+
+-- Deliveries
+
+pub delivered-steps : (t : Network) (k after : WorldState) (d u : NodeId) (number : ℕ) (bytes : List ℕ) →
+    frame_there k.seats u d number ≡ Some bytes → HasActed k d (act.Take u bytes) after →
+    HasStepped t k (world.Deliver d u number) after
+delivered-steps t k after d u number bytes e acted w stands =
+    let sent : IsSent t w u d number bytes = was-sent t k w u d number bytes stands e in
+    let is : IsActing t w d acted.seat = acting t k w d acted.place acted.seat stands acted.found acted.there in (
+      three (may_act t w d) (is_channel t u d) (is_some (frame_at w u d number)) is.may sent.channel
+          (ap is_some sent.frame.there),
+      acted-stands t k after w (world.Deliver d u number) d acted.place acted.seat acted.done.new stands
+          (self_test d.0) is
+          acted.there acted.done.done.0.node
+          (subst (λ (n : NodeId). SeatStands t (step t w (world.Deliver n u number)) acted.done.new) is.node
+          (frame-stands t w acted.seat acted.done.new u number bytes sent.frame.content
+          (subst (λ (n : NodeId). frame_at w u n number ≡ Some sent.frame.content) (sym is.node) sent.frame.there)
+          sent.frame.bears is.stands acted.done.done)) acted.done.seats acted.posted,
+    )
+
+pub undelivered : (t : Network) (k : WorldState) (d u : NodeId) (number : ℕ) → frame_there k.seats u d number ≡ None →
+    IsDisabled t k (world.Deliver d u number)
+undelivered t k d u number none w stands on =
+    last_false (may_act t w d) (is_channel t u d) (is_some (frame_at w u d number))
+    (never-sent t k w u d number stands none) on
+
+pub not-taken : (t : Network) (k : WorldState) (d u : NodeId) (number : ℕ) (bytes : List ℕ) →
+    frame_there k.seats u d number ≡ Some bytes → IsUnable k d (act.Take u bytes) →
+    IsDisabled t k (world.Deliver d u number)
+not-taken t k d u number bytes e unable w stands on =
+    let sent : IsSent t w u d number bytes = was-sent t k w u d number bytes stands e in
+    first_false (may_act t w d) (is_channel t u d) (is_some (frame_at w u d number))
+    (refused t k w d (act.Take u bytes) stands unable (λ s is. near t w u d s bytes sent.channel is)) on
+
+-- Noise
+
+pub noise-steps : (t : Network) (k after : WorldState) (d u : NodeId) (bytes : List ℕ) →
+    is_channel_there k.seats u d ≡ true → SpellsNothing bytes → HasActed k d (act.Take u bytes) after →
+    HasStepped t k (world.Noise d u bytes) after
+noise-steps t k after d u bytes on nothing acted w stands =
+    let is : IsActing t w d acted.seat = acting t k w d acted.place acted.seat stands acted.found acted.there in (
+      (rw is.may (sym (channel-there t k w u d stands) ∙ on), nothing),
+      acted-stands t k after w (world.Noise d u bytes) d acted.place acted.seat acted.done.new stands (self_test d.0) is
+          acted.there acted.done.done.0.node
+          (subst (λ (n : NodeId). SeatStands t (step t w (world.Noise n u bytes)) acted.done.new) is.node
+          (noise-stands t w acted.seat acted.done.new u bytes nothing is.stands acted.done.done)) acted.done.seats
+          acted.posted,
+    )
+
+second : (a b : Bool) → (a && b) ≡ true → b ≡ true
+second a b h = grind arith
+
+pub no-channel : (t : Network) (k : WorldState) (d u : NodeId) (bytes : List ℕ) → is_channel_there k.seats u d ≡ false →
+    IsDisabled t k (world.Noise d u bytes)
+no-channel t k d u bytes none w stands on =
+    absurd (cc (none, channel-there t k w u d stands, second (may_act t w d) (is_channel t u d) on.0))
+
+pub no-noise : (t : Network) (k : WorldState) (d u : NodeId) (bytes : List ℕ) → ¬ SpellsNothing bytes →
+    IsDisabled t k (world.Noise d u bytes)
+no-noise t k d u bytes spells w stands on = spells on.1
+
+pub not-heard : (t : Network) (k : WorldState) (d u : NodeId) (bytes : List ℕ) → is_channel_there k.seats u d ≡ true →
+    IsUnable k d (act.Take u bytes) → IsDisabled t k (world.Noise d u bytes)
+not-heard t k d u bytes on unable w stands enabled =
+    let channel : is_channel t u d ≡ true = sym (channel-there t k w u d stands) ∙ on in
+    let none : may_act t w d ≡ false =
+    refused t k w d (act.Take u bytes) stands unable (λ s is. near t w u d s bytes channel is) in
+    absurd (cc (none, first_true (may_act t w d) (is_channel t u d) enabled.0))
+  where
+    first_true : (a b : Bool) → (a && b) ≡ true → a ≡ true
+    first_true a b h = grind arith
+
+-- Ticks
+
+pub ticked-steps : (t : Network) (k after : WorldState) (n : NodeId) → HasActed k n act.Tick after →
+    HasStepped t k (world.Tick n) after
+ticked-steps t k after n acted w stands =
+    let is : IsActing t w n acted.seat = acting t k w n acted.place acted.seat stands acted.found acted.there in (
+      is.may,
+      acted-stands t k after w (world.Tick n) n acted.place acted.seat acted.done.new stands
+          (self_test n.0) is acted.there
+          acted.done.done.0.node
+          (subst (λ (m : NodeId). SeatStands t (step t w (world.Tick m)) acted.done.new) is.node
+          (tick-stands t w acted.seat acted.done.new is.stands acted.done.done)) acted.done.seats acted.posted,
+    )
+
+pub not-ticked : (t : Network) (k : WorldState) (n : NodeId) → IsUnable k n act.Tick → IsDisabled t k (world.Tick n)
+not-ticked t k n unable w stands on = absurd (cc (on, refused t k w n act.Tick stands unable (λ s is. refl)))
+
+-- Items
+
+pub handled-steps : (t : Network) (k after : WorldState) (n : NodeId) → HasActed k n act.Handle after →
+    HasStepped t k (world.Desk n) after
+handled-steps t k after n acted w stands =
+    let is : IsActing t w n acted.seat = acting t k w n acted.place acted.seat stands acted.found acted.there in
+    let items = sym acted.done.done.1 ∙ is.stands.desk ∙ ap (λ (m : NodeId). w.desks m.0) is.node in (
+      rw is.may (sym (ap has_first items)),
+      acted-stands t k after w (world.Desk n) n acted.place acted.seat acted.done.new stands
+          (self_test n.0) is acted.there
+          acted.done.done.2.node
+          (subst (λ (m : NodeId). SeatStands t (step t w (world.Desk m)) acted.done.new) is.node
+          (handle-stands t w acted.seat acted.done.new is.stands acted.done.done)) acted.done.seats acted.posted,
+    )
+
+pub not-handled : (t : Network) (k : WorldState) (n : NodeId) → IsUnable k n act.Handle → IsDisabled t k (world.Desk n)
+not-handled t k n unable w stands on =
+    absurd (cc (
+      parts.0,
+      refused t k w n act.Handle stands unable
+          (λ s is. ap has_first (is.stands.desk ∙ ap (λ (m : NodeId). w.desks m.0) is.node) ∙ parts.1),
+    ))
+  where
+    parts : (may_act t w n ≡ true) × (has_first (w.desks n.0) ≡ true)
+    parts = both_of (may_act t w n) (has_first (w.desks n.0)) on
+
+-- The place of the node that acts
+
+pub able-within : (n : ℕ) (seats : List SeatState) (i : ℕ) → position (is_able n) seats ≡ Some i → i < length seats
+able-within n seats i at = (is-first (is_able n) seats i at).within
+
+pub able-few : (n : ℕ) (seats : List SeatState) (i : ℕ) (s : SeatState) → position (is_able n) seats ≡ Some i →
+    slice_get seats i ≡ Some s → s.controller.steps < 50000
+able-few n seats i s at there =
+    let first = is-first (is_able n) seats i at in
+    let same : first.item ≡ s = cc (first.there, there) in
+    less s.controller.steps
+    (both_of (nat_eq s.node.0 n) (nat_lt s.controller.steps 50000) (ap (is_able n) (sym same) ∙ first.passes)).1
+  where
+    less : (a : ℕ) → nat_lt a 50000 ≡ true → a < 50000
+    less a h = grind arith
+
+pub has-acted : (k after : WorldState) (n : NodeId) (a : Act) (i : ℕ) → position (is_able n.0) k.seats ≡ Some i →
+    after.posted ≡ k.posted →
+    ((s : SeatState) → slice_get k.seats i ≡ Some s → HasDoneAt k.seats i s a after.seats) → HasActed k n a after
+has-acted k after n a i at posted does =
+    let first = is-first (is_able n.0) k.seats i at in
+    record {
+      place = i;
+      seat = first.item;
+      found = at;
+      there = first.there;
+      done = does first.item first.there;
+      posted = posted;
+    }
+
+-- the answer of the seat that was found
+pub is-unable : (k : WorldState) (n : NodeId) (a : Act) (i : ℕ) → position (is_able n.0) k.seats ≡ Some i →
+    ((s : SeatState) → slice_get k.seats i ≡ Some s → can_do s a ≡ false) → IsUnable k n a
+is-unable k n a i at cannot j s found there =
+    let same : i ≡ j = cc (at, found) in cannot s (subst (λ x. slice_get k.seats x ≡ Some s) (sym same) there)

@@ -1,0 +1,108 @@
+-- New seats stand for the start of a world.
+use Rattle.std.proofs.Common.{◌≡◌, ◌<◌, ◌-◌, ℕ, zero, suc, true, false, cond, nat_eq, nat_lt, List, [], ◌∷◌, get_or, length, map, refl, sym, ap, ◌∙◌, subst, arith}
+use Rattle.std.specs.Prelude.{IsTrue, is_some, slice_get}
+use Rattle.std.specs.List.{AllByRecursion, list_any}
+use Rattle.std.proofs.lemmas.Option.{slice_get-get_or}
+use Rattle.ason_base.specs.declared.network.NodeSpec.{NodeSpec}
+use Rattle.ason_base.specs.Network.{IsTopology, Network, find_node, is_distinct, node_number}
+use Rattle.world_core.specs.Replays.{StandsFor}
+use Rattle.world_core.specs.Seats.{SeatStands, SeatState, new_seat}
+use Rattle.world_core.specs.Worlds.{start}
+use Rattle.world_core.proofs.Finding.{item-found, self_test}
+use Rattle.world_core.proofs.Seating.{new-stands}
+
+-- The nodes of a topology rise
+
+abbrev Rises : ℕ → List NodeSpec → Type 0
+Rises n [] = Unit {0}
+Rises n (m ∷ ms) = (n < m.id.0) × Rises m.id.0 ms
+
+abbrev before : ℕ → List NodeSpec → ℕ → ℕ
+before n nodes zero = n
+before n nodes (suc k) = node_number (slice_get nodes k)
+
+rises-from : (n : ℕ) (nodes : List NodeSpec) →
+    ((k : ℕ) → k < length nodes → before n nodes k < node_number (slice_get nodes k)) → Rises n nodes
+rises-from n [] each = tt
+rises-from n (m ∷ ms) each = (each 0 (omega arith), rises-from m.id.0 ms (λ k below. go k below))
+  where
+    inside : (k : ℕ) → k < length ms → suc k < suc (length ms)
+    inside k below = omega arith
+
+    go : (k : ℕ) → k < length ms → before m.id.0 ms k < node_number (slice_get ms k)
+    go zero below = each 1 (inside 0 below)
+    go (suc k) below = each (suc (suc k)) (inside (suc k) below)
+
+at_start : (nodes : List NodeSpec) (k : ℕ) →
+    cond (nat_eq k 0) 0 (node_number (slice_get nodes (k - 1))) ≡ before 0 nodes k
+at_start nodes zero = refl
+at_start nodes (suc k) =
+    let less : suc k - 1 ≡ k = omega arith in
+    let past : nat_eq (suc k) 0 ≡ false = grind arith in
+    ap (λ b. cond b 0 (node_number (slice_get nodes (suc k - 1)))) past ∙ ap (λ j. node_number (slice_get nodes j)) less
+
+rises : (t : Network) → IsTopology t → Rises 0 t.nodes
+rises t is =
+    rises-from 0 t.nodes (λ k below. subst (λ j. j < node_number (slice_get t.nodes k)) (at_start t.nodes k)
+    (less _ _ (is.nodes k below)))
+  where
+    less : (a b : ℕ) → nat_lt a b ≡ true → a < b
+    less a b h = grind arith
+
+-- so no two have the same number
+
+rises_less : (n k : ℕ) (nodes : List NodeSpec) → n < k → Rises k nodes → Rises n nodes
+rises_less n k [] less rising = tt
+rises_less n k (m ∷ ms) less rising = (let h : k < m.id.0 = rising.0 in omega arith, rising.1)
+
+abbrev numbers : List NodeSpec → List ℕ
+numbers nodes = map (λ (m : NodeSpec). m.id.0) nodes
+
+not_above : (n : ℕ) (nodes : List NodeSpec) → Rises n nodes → list_any (λ y. nat_eq y n) (numbers nodes) ≡ false
+not_above n [] rising = refl
+not_above n (m ∷ ms) rising =
+    rw (apart m.id.0 n rising.0) (not_above n ms (rises_less n m.id.0 ms rising.0 rising.1))
+  where
+    apart : (a b : ℕ) → b < a → nat_eq a b ≡ false
+    apart a b h = grind arith
+
+distinct : (n : ℕ) (nodes : List NodeSpec) → Rises n nodes → is_distinct (numbers nodes) ≡ true
+distinct n [] rising = refl
+distinct n (m ∷ ms) rising = rw (not_above m.id.0 ms rising.1) (distinct m.id.0 ms rising.1)
+
+-- The seats
+
+nodes-new : (t : Network) (nodes : List NodeSpec) →
+    map (λ (s : SeatState). s.node) (map (λ (m : NodeSpec). new_seat t m.id) nodes) ≡ map (λ (m : NodeSpec). m.id) nodes
+nodes-new t [] = refl
+nodes-new t (m ∷ ms) = ap (λ ns. m.id ∷ ns) (nodes-new t ms)
+
+numbers-new : (t : Network) (nodes : List NodeSpec) →
+    map (λ (s : SeatState). s.node.0) (map (λ (m : NodeSpec). new_seat t m.id) nodes) ≡ numbers nodes
+numbers-new t [] = refl
+numbers-new t (m ∷ ms) = ap (λ ns. m.id.0 ∷ ns) (numbers-new t ms)
+
+all-new : (t : Network) (nodes : List NodeSpec) →
+    AllByRecursion (SeatStands t start) (map (λ (m : NodeSpec). new_seat t m.id) nodes)
+all-new t [] = tt
+all-new t (m ∷ ms) = (new-stands t m.id, all-new t ms)
+
+pub new-world : (t : Network) → IsTopology t →
+    StandsFor t (record { seats = map (λ (m : NodeSpec). new_seat t m.id) t.nodes; posted = [] }) start
+new-world t is = record {
+  nodes = nodes-new t t.nodes;
+  apart = ap is_distinct (numbers-new t t.nodes) ∙ distinct 0 t.nodes (rises t is);
+  seats = all-new t t.nodes;
+  nowhere = λ n none. record { desk = refl; hops = λ d. refl };
+  posted = refl;
+}
+
+-- a node of the topology is found there
+pub node-found : (t : Network) (nodes : List NodeSpec) (i : ℕ) (d : NodeSpec) → nodes ≡ t.nodes → i < length nodes →
+    IsTrue (is_some (find_node t (get_or nodes i d).id))
+node-found t nodes i d same within =
+    item-found (λ (k : NodeSpec). nat_eq k.id.0 m.id.0) t.nodes i m
+    (ap (λ ms. slice_get ms i) (sym same) ∙ slice_get-get_or nodes i d within) (self_test m.id.0)
+  where
+    m : NodeSpec
+    m = get_or nodes i d

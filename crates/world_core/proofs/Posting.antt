@@ -1,0 +1,208 @@
+-- What a replay keeps stands for the world after a post.
+use Rattle.std.proofs.Common.{◌≡◌, ◌<◌, ℕ, Bool, true, false, cond, nat_eq, arith, List, [], ◌∷◌, ◌++◌, length, map, set, refl, sym, ap, ◌∙◌, subst, append-nil}
+use Rattle.std.specs.Prelude.{◌&&◌, Option, Some, None, is_some, not, position, slice_get}
+use Rattle.std.specs.List.{AllByRecursion}
+use Rattle.ason_base.specs.declared.ids.NodeId.{NodeId}
+use Rattle.ason_base.specs.declared.commands.Command.{Command}
+use Rattle.ason_base.specs.declared.commands.Command.TheVariants.{Setup, Release, Protect, Retry, Revert, Fail, Repair}
+use Rattle.ason_base.specs.declared.commands.DeskItem.{DeskItem}
+use Rattle.ason_base.specs.declared.commands.DeskItem.TheVariants.{Order}
+use Rattle.ason_base.specs.declared.commands.Event.TheVariants.{Post}
+use Rattle.ason_base.specs.Network.{Network, is_distinct, is_node_id}
+use Rattle.hop_reliable.specs.Schedules.{HopEnd}
+use Rattle.mesh_rules.specs.Commands.{has_way, is_again, is_given_backup, is_valid}
+use Rattle.world_core.specs.Replays.{HasStepped, IsDisabled, IsForNobody, IsGiven, IsNowhere, IsPut, IsPutIf, StandsFor, WorldState, ingress_of, numbers_of}
+use Rattle.world_core.specs.Runs.{posted}
+use Rattle.world_core.specs.Seats.{SeatStands, SeatState, is_at, with_item}
+use Rattle.world_core.specs.Worlds.{World}
+use Rattle.world_core.proofs.Counted.{made_posted}
+use Rattle.world_core.proofs.Finding.{IsFirst, all-get, is-first, not-found, same_number, self_test}
+use Rattle.world_core.proofs.Places.{all-set, nodes-set, numbers-set, seat-there}
+use Rattle.world_core.proofs.Seating.{put-stands, still-stands}
+use Rattle.world_core.proofs.Untouched.{posted_elsewhere}
+
+-- What a post makes of the world
+
+abbrev desk_after : World → Option NodeId → DeskItem → ℕ → List DeskItem
+desk_after w None i m = w.desks m
+desk_after w (Some n) i m = cond (nat_eq m n.0) (w.desks m ++ i ∷ []) (w.desks m)
+
+desks-posted : (w : World) (c : Command) (m : ℕ) → (posted w c).desks m ≡ desk_after w (ingress_of c) (Order c) m
+desks-posted w (Setup n from to protected both via backup) m = refl
+desks-posted w (Release n from) m = refl
+desks-posted w (Protect n from) m = refl
+desks-posted w (Retry n from) m = refl
+desks-posted w (Revert n from) m = refl
+desks-posted w (Fail g) m = refl
+desks-posted w (Repair g) m = refl
+
+numbers-posted : (w : World) (c : Command) → (posted w c).posted ≡ w.posted ++ numbers_of c
+numbers-posted w (Setup n from to protected both via backup) = refl
+numbers-posted w (Release n from) = sym (append-nil w.posted)
+numbers-posted w (Protect n from) = sym (append-nil w.posted)
+numbers-posted w (Retry n from) = sym (append-nil w.posted)
+numbers-posted w (Revert n from) = sym (append-nil w.posted)
+numbers-posted w (Fail g) = sym (append-nil w.posted)
+numbers-posted w (Repair g) = sym (append-nil w.posted)
+
+-- a valid command's ingress is a node
+ingress-is-node : (t : Network) (c : Command) (n : NodeId) → is_valid t c ≡ true → ingress_of c ≡ Some n →
+    is_node_id t.nodes n ≡ true
+ingress-is-node t (Setup k from to protected both via backup) n valid e =
+    let same : from ≡ n = cc (e) in
+    subst (λ m. is_node_id t.nodes m ≡ true) same
+    (first (is_node_id t.nodes from) (is_node_id t.nodes to) (not (nat_eq from.0 to.0))
+    (has_way t from to via) (is_given_backup t from to protected via backup) valid)
+  where
+    first : (a b c d f : Bool) → (a && b && c && d && f) ≡ true → a ≡ true
+    first true b c d f h = refl
+    first false b c d f h = absurd (cc (h))
+ingress-is-node t (Release k from) n valid e =
+    let same : from ≡ n = cc (e) in subst (λ m. is_node_id t.nodes m ≡ true) same valid
+ingress-is-node t (Protect k from) n valid e =
+    let same : from ≡ n = cc (e) in subst (λ m. is_node_id t.nodes m ≡ true) same valid
+ingress-is-node t (Retry k from) n valid e =
+    let same : from ≡ n = cc (e) in subst (λ m. is_node_id t.nodes m ≡ true) same valid
+ingress-is-node t (Revert k from) n valid e =
+    let same : from ≡ n = cc (e) in subst (λ m. is_node_id t.nodes m ≡ true) same valid
+ingress-is-node t (Fail g) n valid e = absurd (cc (e))
+ingress-is-node t (Repair g) n valid e = absurd (cc (e))
+
+-- What is kept
+
+each : (P Q : SeatState → Type 0) → ((x : SeatState) → P x → Q x) → (seats : List SeatState) → AllByRecursion P seats →
+    AllByRecursion Q seats
+each P Q f [] all = tt
+each P Q f (x ∷ xs) all = (f x all.0, each P Q f xs all.1)
+
+-- a seat whose desk the post leaves
+seat_left : (t : Network) (w : World) (c : Command) (s : SeatState) →
+    desk_after w (ingress_of c) (Order c) s.node.0 ≡ w.desks s.node.0 → SeatStands t w s → SeatStands t (posted w c) s
+seat_left t w c s same stands =
+    still-stands t w (posted w c) s (posted_elsewhere w c s.node.0) (desks-posted w c s.node.0 ∙ same)
+    (ap (λ (f : ℕ → ℕ). f s.node.0) (made_posted w c)) stands
+
+nowhere_left : (t : Network) (w : World) (c : Command) (m : ℕ) → desk_after w (ingress_of c) (Order c) m ≡ w.desks m →
+    IsNowhere w m → IsNowhere (posted w c) m
+nowhere_left t w c m same is = record {
+  desk = desks-posted w c m ∙ same ∙ is.desk;
+  hops = λ d. ap (λ (x : HopEnd). x.hop.unacked) ((posted_elsewhere w c m).ends d) ∙ is.hops d;
+}
+
+given-stands : (t : Network) (k after : WorldState) (w : World) (c : Command) → is_valid t c ≡ true → StandsFor t k w →
+    IsGiven k c after → StandsFor t after (posted w c)
+given-stands t k after w c valid stands given = go (ingress_of c) refl given.seats
+  where
+    numbers : after.posted ≡ (posted w c).posted
+    numbers = given.posted ∙ ap (λ ns. ns ++ numbers_of c) stands.posted ∙ sym (numbers-posted w c)
+
+    go : (o : Option NodeId) → ingress_of c ≡ o → IsPutIf k.seats o (Order c) after.seats →
+        StandsFor t after (posted w c)
+    go None e same = record {
+      nodes = ap (map (λ (x : SeatState). x.node)) same ∙ stands.nodes;
+      apart = ap (λ (xs : List SeatState). is_distinct (map (λ (x : SeatState). x.node.0) xs)) same ∙ stands.apart;
+      seats = subst (AllByRecursion (SeatStands t (posted w c))) (sym same)
+          (each (SeatStands t w) (SeatStands t (posted w c))
+          (λ s sits. seat_left t w c s (ap (λ o. desk_after w o (Order c) s.node.0) e) sits) k.seats stands.seats);
+      nowhere = λ m none. nowhere_left t w c m.0 (ap (λ o. desk_after w o (Order c) m.0) e) (stands.nowhere m none);
+      posted = numbers;
+    }
+    go (Some n) e put = record {
+      nodes = ap (map (λ (x : SeatState). x.node)) put.seats
+          ∙ nodes-set k.seats put.place put.seat new put.there refl ∙ stands.nodes;
+      apart = ap (λ (xs : List SeatState). is_distinct (map (λ (x : SeatState). x.node.0) xs)) put.seats
+          ∙ ap is_distinct (numbers-set k.seats put.place put.seat new put.there refl) ∙ stands.apart;
+      seats = subst (AllByRecursion (SeatStands t (posted w c))) (sym put.seats)
+          (all-set (SeatStands t w) (SeatStands t (posted w c)) k.seats put.place put.seat new put.there stands.apart
+          stands.seats other here);
+      nowhere = λ m none. nowhere_left t w c m.0 (elsewhere m.0 (not_it m none)) (stands.nowhere m none);
+      posted = numbers;
+    }
+      where
+        new : SeatState
+        new = with_item (Order c) put.seat
+
+        first : IsFirst (is_at n.0) k.seats put.place
+        first = is-first (is_at n.0) k.seats put.place put.found
+
+        node : put.seat.node.0 ≡ n.0
+        node =
+            let same : first.item ≡ put.seat = cc (first.there, put.there) in
+            same_number put.seat.node.0 n.0 (ap (is_at n.0) (sym same) ∙ first.passes)
+
+        elsewhere : (m : ℕ) → nat_eq m n.0 ≡ false → desk_after w (ingress_of c) (Order c) m ≡ w.desks m
+        elsewhere m other =
+            ap (λ o. desk_after w o (Order c) m) e ∙ ap (λ b. cond b (w.desks m ++ Order c ∷ []) (w.desks m)) other
+
+        not_it : (m : NodeId) → is_node_id t.nodes m ≡ false → nat_eq m.0 n.0 ≡ false
+        not_it m none = by (nat_eq m.0 n.0) refl
+          where
+            by : (b : Bool) → nat_eq m.0 n.0 ≡ b → b ≡ false
+            by true h =
+                let is : m.0 ≡ n.0 = same_number m.0 n.0 h in
+                absurd (cc (
+                  none,
+                  subst (λ x. is_node_id t.nodes (record { 0 = x }) ≡ true) (sym is)
+                      (ingress-is-node t c n valid e),
+                ))
+            by false h = refl
+
+        other : (x : SeatState) → nat_eq x.node.0 put.seat.node.0 ≡ false → SeatStands t w x →
+            SeatStands t (posted w c) x
+        other x apart sits = seat_left t w c x (elsewhere x.node.0 (ap (nat_eq x.node.0) (sym node) ∙ apart)) sits
+
+        here : SeatStands t (posted w c) new
+        here =
+            put-stands t w (posted w c) put.seat (Order c) (posted_elsewhere w c put.seat.node.0)
+            (desks-posted w c put.seat.node.0 ∙ ap (λ o. desk_after w o (Order c) put.seat.node.0) e
+            ∙ ap (λ x. cond (nat_eq put.seat.node.0 x) (w.desks put.seat.node.0 ++ Order c ∷ [])
+            (w.desks put.seat.node.0)) (sym node)
+            ∙ ap (λ b. cond b (w.desks put.seat.node.0 ++ Order c ∷ []) (w.desks put.seat.node.0))
+            (self_test put.seat.node.0))
+            (ap (λ (f : ℕ → ℕ). f put.seat.node.0) (made_posted w c))
+            (all-get (SeatStands t w) k.seats put.place put.seat stands.seats put.there)
+
+pub posted-steps : (t : Network) (k after : WorldState) (c : Command) → is_valid t c ≡ true →
+    is_again k.posted c ≡ false → IsGiven k c after → HasStepped t k (Post c) after
+posted-steps t k after c valid fresh given w stands = (
+  both (is_valid t c) (is_again w.posted c) valid (ap (λ ns. is_again ns c) (sym stands.posted) ∙ fresh),
+  given-stands t k after w c valid stands given,
+)
+  where
+    both : (a b : Bool) → a ≡ true → b ≡ false → (a && not b) ≡ true
+    both a b p q = grind arith
+
+pub not-valid : (t : Network) (k : WorldState) (c : Command) → is_valid t c ≡ false → IsDisabled t k (Post c)
+not-valid t k c bad w stands on = no (is_valid t c) (not (is_again w.posted c)) bad on
+  where
+    no : (a b : Bool) → a ≡ false → (a && b) ≡ true → ⊥
+    no a b p q = absurd (grind arith)
+
+pub not-new : (t : Network) (k : WorldState) (c : Command) → is_again k.posted c ≡ true → IsDisabled t k (Post c)
+not-new t k c again w stands on =
+    no (is_valid t c) (is_again w.posted c) (ap (λ ns. is_again ns c) (sym stands.posted) ∙ again) on
+  where
+    no : (a b : Bool) → b ≡ true → (a && not b) ≡ true → ⊥
+    no a b p q = absurd (grind arith)
+
+-- a valid command is for a node
+pub not-given : (t : Network) (k : WorldState) (c : Command) → is_valid t c ≡ true → IsForNobody k.seats c →
+    IsDisabled t k (Post c)
+not-given t k c valid is w stands on =
+    absurd (cc (
+      ap is_some (not-found (is_at is.node.0) k.seats is.nowhere),
+      seat-there k.seats t.nodes is.node stands.nodes,
+      ingress-is-node t c is.node valid is.ingress,
+    ))
+
+-- The place of the ingress
+
+pub place-within : (n : ℕ) (seats : List SeatState) (i : ℕ) → position (is_at n) seats ≡ Some i → i < length seats
+place-within n seats i at = (is-first (is_at n) seats i at).within
+
+pub is-put : (seats after : List SeatState) (n : NodeId) (item : DeskItem) (i : ℕ) →
+    position (is_at n.0) seats ≡ Some i →
+    ((s : SeatState) → slice_get seats i ≡ Some s → after ≡ set seats i (with_item item s)) → IsPut seats n item after
+is-put seats after n item i at puts =
+    let first = is-first (is_at n.0) seats i at in
+    record { place = i; seat = first.item; found = at; there = first.there; seats = puts first.item first.there }

@@ -1,0 +1,242 @@
+-- A seat that stands for its node still does after an event.
+use Rattle.std.proofs.Common.{◌≡◌, ◌+◌, ℕ, cond, nat_eq, List, [], ◌∷◌, ◌++◌, drop, refl, sym, ap, ◌∙◌, subst}
+use Rattle.std.specs.Prelude.{Option, Some, None}
+use Rattle.std.specs.Option.{option_map}
+use Rattle.ason_base.specs.declared.ids.NodeId.{NodeId}
+use Rattle.ason_base.specs.declared.commands.DeskItem.{DeskItem}
+use Rattle.ason_base.specs.declared.commands.Event.TheVariants as world
+use Rattle.ason_base.specs.declared.messages.Msg.{Msg}
+use Rattle.ason_base.specs.Network.{Network}
+use Rattle.ason_base.specs.declared.messages.Packet.{Packet}
+use Rattle.hop_reliable.specs.Schedules.{HopEnd}
+use Rattle.mesh_rules.specs.LocalNodes.{LocalNode, local_node}
+use Rattle.controller.specs.declared.frames.Frame.{Frame}
+use Rattle.controller.specs.declared.inputs.CoreInput.{CoreInput}
+use Rattle.controller.specs.Adjacencies.{neighbours}
+use Rattle.controller.specs.Controllers.{ControllerState, IsMade, IsStep, Stepped, after_tick, handled, meaning, took, unmoved}
+use Rattle.controller.specs.Frames.{AllSpelled, SpellsNothing, frames_to}
+use Rattle.controller.proofs.Reaching.{hop-new, peers-new}
+use Rattle.world_core.specs.declared.acts.Act.TheVariants as act
+use Rattle.world_core.specs.Channels.{AreSent, Bears, ChannelState, HasFrames, after_frames, channel_to, receivers}
+use Rattle.world_core.specs.Frames.{Content, Message}
+use Rattle.world_core.specs.Runs.{step}
+use Rattle.world_core.specs.Seats.{HasDone, HasReacted, SeatStands, SeatState, new_seat, with_item}
+use Rattle.world_core.specs.Standing.{IsStepOf, IsUntouched, packets_to}
+use Rattle.world_core.specs.Worlds.{World, delivered, frame_at, handed_up, start, taken, with_event, with_packets}
+use Rattle.world_core.specs.Worlds as worlds
+use Rattle.world_core.proofs.Finding.{found-passes, same_number, self_test}
+use Rattle.world_core.proofs.Sending.{has-sent, new-frames, new-there, still-there}
+use Rattle.world_core.proofs.Stepping.{deliveries-are-taken, items-are-handled, noise-moves-nothing, ticks-are-ticked}
+
+-- what an event of its node makes of a seat and of the world
+record IsStepped (w new : World) (s after : SeatState) (x : Stepped) (frames : List Frame) : Type 0 where
+  made : IsMade s.controller.node after.controller.node s.controller.adjacencies after.controller.adjacencies x frames
+  steps : after.controller.steps ≡ s.controller.steps + 1
+  sent : AreSent frames s.channels after.channels
+  node : after.node ≡ s.node
+  world : IsStepOf w new s.node.0 x
+  desk : after.desk ≡ new.desks s.node.0
+  count : new.made s.node.0 ≡ w.made s.node.0 + 1
+
+stepped : (t : Network) (w new : World) (s after : SeatState) (x : Stepped) (frames : List Frame) → SeatStands t w s →
+    IsStepped w new s after x frames → SeatStands t new after
+stepped t w new s after x frames stands is =
+    subst (λ (n : NodeId). SeatStands t new (record {
+      node = n;
+      controller = after.controller;
+      desk = after.desk;
+      channels = after.channels;
+    })) (sym is.node) (record {
+      place = is.made.becomes.place ∙ stands.place;
+      stands = record {
+        state = is.made.becomes.state ∙ is.world.stands.state;
+        hops = λ d. is.made.becomes.hops d ∙ is.world.stands.hops d;
+      };
+      hops = is.made.becomes.peers ∙ stands.hops;
+      made = is.steps ∙ ap (λ k. k + 1) stands.made ∙ sym is.count;
+      desk = is.desk;
+      channels = λ d. still-there frames s.channels after.channels is.sent d.0 ∙ stands.channels d;
+      frames = λ d c found. go d c (channel_to s.channels d.0) refl (sym (is.sent d.0) ∙ found);
+    })
+  where
+    id : s.controller.node.place.id ≡ s.node
+    id = ap (λ (p : LocalNode). p.id) stands.place
+
+    sent : frames ≡ frames_to s.node x.sendings
+    sent = is.made.frames ∙ ap (λ (n : NodeId). frames_to n x.sendings) id
+
+    spelled : AllSpelled s.node x.sendings
+    spelled = subst (λ (n : NodeId). AllSpelled n x.sendings) id is.made.spelled
+
+    go : (d : NodeId) (c : ChannelState) (o : Option ChannelState) → channel_to s.channels d.0 ≡ o →
+        option_map (after_frames frames) o ≡ Some c → HasFrames s.node (new.channels s.node.0 d.0) c.frames
+    go d c None there e = absurd (cc (e))
+    go d c (Some k) there e =
+        let same : after_frames frames k ≡ c = cc (e) in
+        let to : k.to.0 ≡ d.0 = same_number k.to.0 d.0
+        (found-passes (λ (y : ChannelState). nat_eq y.to.0 d.0) s.channels k there) in
+        subst (λ (y : ChannelState). HasFrames s.node (new.channels s.node.0 d.0) y.frames) same
+        (subst (λ contents. HasFrames s.node contents (after_frames frames k).frames) (sym (is.world.channels d.0))
+        (subst (λ fs. HasFrames s.node (with_packets (w.channels s.node.0 d.0) (packets d))
+        (after_frames fs k).frames) (sym sent)
+        (has-sent s.node (w.channels s.node.0 d.0) k d.0 x.sendings to spelled (stands.frames d k there))))
+      where
+        packets : NodeId → List Packet
+        packets n = packets_to n.0 x.sendings
+
+made_once : (w : World) (n : NodeId) → (with_event w n.0).made n.0 ≡ w.made n.0 + 1
+made_once w n = ap (λ b. cond b (w.made n.0 + 1) (w.made n.0)) (self_test n.0)
+
+-- what a seat does after its desk changed, it does before
+pub reacted-before : (s later after : SeatState) (i : CoreInput) → later.controller ≡ s.controller →
+    later.channels ≡ s.channels → later.node ≡ s.node → HasReacted later after i → HasReacted s after i
+reacted-before s later after i controller channels node is = record {
+  frames = is.frames;
+  step = subst (λ (c : ControllerState). IsStep c after.controller i is.frames) controller is.step;
+  sent = subst (λ cs. AreSent is.frames cs after.channels) channels is.sent;
+  node = is.node ∙ node;
+}
+
+-- A tick
+
+pub tick-stands : (t : Network) (w : World) (s after : SeatState) → SeatStands t w s → HasDone s act.Tick after →
+    SeatStands t (step t w (world.Tick s.node)) after
+tick-stands t w s after stands done =
+    stepped t w (step t w (world.Tick s.node)) s after
+    (after_tick s.controller.node.place s.controller.node.state s.controller.adjacencies) done.0.frames stands
+    (record {
+      made = done.0.step.reaction;
+      steps = done.0.step.steps;
+      sent = done.0.sent;
+      node = done.0.node;
+      world = subst (λ (p : LocalNode). IsStepOf w (step t w (world.Tick s.node)) s.node.0
+          (after_tick p s.controller.node.state s.controller.adjacencies)) (sym stands.place)
+          (ticks-are-ticked t w s.node s.controller.node.state s.controller.adjacencies stands.stands stands.hops);
+      desk = done.1 ∙ stands.desk;
+      count = made_once w s.node;
+    })
+
+-- An item
+
+pub handle-stands : (t : Network) (w : World) (s after : SeatState) → SeatStands t w s → HasDone s act.Handle after →
+    SeatStands t (step t w (world.Desk s.node)) after
+handle-stands t w s after stands done =
+    stepped t w (step t w (world.Desk s.node)) s after
+    (handled s.controller.node.place (meaning s.controller.node s.controller.adjacencies) done.0) done.2.frames stands
+    (record {
+      made = done.2.step.reaction;
+      steps = done.2.step.steps;
+      sent = done.2.sent;
+      node = done.2.node;
+      world = subst (λ (p : LocalNode). IsStepOf w (step t w (world.Desk s.node)) s.node.0
+          (handled p (meaning s.controller.node s.controller.adjacencies) done.0)) (sym stands.place)
+          (items-are-handled t w s.node done.0 after.desk
+          (meaning s.controller.node s.controller.adjacencies) stands.stands
+          (sym stands.desk ∙ done.1));
+      desk = ap (drop 1) (sym done.1 ∙ stands.desk)
+          ∙ sym (ap (λ b. cond b (drop 1 (w.desks s.node.0)) (w.desks s.node.0)) (self_test s.node.0));
+      count = made_once w s.node;
+    })
+
+-- A frame
+
+pub desk_kept : (t : Network) (w : World) (d u : NodeId) (o : Option Content) (n : ℕ) →
+    (delivered t w d u o).desks n ≡ w.desks n
+desk_kept t w d u None n = refl
+desk_kept t w d u (Some (Message p)) n = go (handed_up w d u p)
+  where
+    go : (ms : List Msg) → (worlds.handled t (taken w d u p) d u ms).desks n ≡ w.desks n
+    go [] = refl
+    go (m ∷ ms) = refl
+
+pub made_kept : (t : Network) (w : World) (d u : NodeId) (o : Option Content) (n : ℕ) →
+    (delivered t w d u o).made n ≡ w.made n
+made_kept t w d u None n = refl
+made_kept t w d u (Some (Message p)) n = go (handed_up w d u p)
+  where
+    go : (ms : List Msg) → (worlds.handled t (taken w d u p) d u ms).made n ≡ w.made n
+    go [] = refl
+    go (m ∷ ms) = refl
+
+pub frame-stands : (t : Network) (w : World) (s after : SeatState) (u : NodeId) (k : ℕ) (bytes : List ℕ)
+    (content : Content) → frame_at w u s.node k ≡ Some content → Bears bytes content → SeatStands t w s →
+    HasDone s (act.Take u bytes) after → SeatStands t (step t w (world.Deliver s.node u k)) after
+frame-stands t w s after u k bytes (Message p) there bears stands done =
+    stepped t w (step t w (world.Deliver s.node u k)) s after
+    (took s.controller.node.place (meaning s.controller.node s.controller.adjacencies) u p) done.0.frames stands
+    (record {
+      made = done.0.step.reaction.0 p bears;
+      steps = done.0.step.steps;
+      sent = done.0.sent;
+      node = done.0.node;
+      world = subst (λ (m : LocalNode). IsStepOf w (step t w (world.Deliver s.node u k)) s.node.0
+          (took m (meaning s.controller.node s.controller.adjacencies) u p)) (sym stands.place)
+          (deliveries-are-taken t w s.node u k p (meaning s.controller.node s.controller.adjacencies) stands.stands
+          there);
+      desk = done.1 ∙ stands.desk ∙ sym (desk_kept t (with_event w s.node.0) s.node u (frame_at w u s.node k) s.node.0);
+      count = made_kept t (with_event w s.node.0) s.node u (frame_at w u s.node k) s.node.0 ∙ made_once w s.node;
+    })
+
+pub noise-stands : (t : Network) (w : World) (s after : SeatState) (u : NodeId) (bytes : List ℕ) → SpellsNothing bytes →
+    SeatStands t w s → HasDone s (act.Take u bytes) after → SeatStands t (step t w (world.Noise s.node u bytes)) after
+noise-stands t w s after u bytes nothing stands done =
+    stepped t w (step t w (world.Noise s.node u bytes)) s after
+    (unmoved (meaning s.controller.node s.controller.adjacencies)) done.0.frames stands
+    (record {
+      made = done.0.step.reaction.1 nothing;
+      steps = done.0.step.steps;
+      sent = done.0.sent;
+      node = done.0.node;
+      world = noise-moves-nothing t w s.node u bytes (meaning s.controller.node s.controller.adjacencies) stands.stands;
+      desk = done.1 ∙ stands.desk;
+      count = made_once w s.node;
+    })
+
+-- Events of other nodes
+
+pub still-stands : (t : Network) (w new : World) (s : SeatState) → IsUntouched w new s.node.0 →
+    new.desks s.node.0 ≡ w.desks s.node.0 → new.made s.node.0 ≡ w.made s.node.0 → SeatStands t w s → SeatStands t new s
+still-stands t w new s same desks made stands = record {
+  place = stands.place;
+  stands = record {
+    state = stands.stands.state ∙ sym same.nodes;
+    hops = λ d. stands.stands.hops d ∙ sym (ap (λ (x : HopEnd). x.hop) (same.ends d));
+  };
+  hops = stands.hops;
+  made = stands.made ∙ sym made;
+  desk = stands.desk ∙ sym desks;
+  channels = stands.channels;
+  frames = λ d c found. subst (λ contents. HasFrames s.node contents c.frames) (sym (same.channels d.0))
+      (stands.frames d c found);
+}
+
+-- an item more on the desk, here and in the world
+pub put-stands : (t : Network) (w new : World) (s : SeatState) (i : DeskItem) → IsUntouched w new s.node.0 →
+    new.desks s.node.0 ≡ w.desks s.node.0 ++ i ∷ [] → new.made s.node.0 ≡ w.made s.node.0 → SeatStands t w s →
+    SeatStands t new (with_item i s)
+put-stands t w new s i same desks made stands = record {
+  place = stands.place;
+  stands = record {
+    state = stands.stands.state ∙ sym same.nodes;
+    hops = λ d. stands.stands.hops d ∙ sym (ap (λ (x : HopEnd). x.hop) (same.ends d));
+  };
+  hops = stands.hops;
+  made = stands.made ∙ sym made;
+  desk = ap (λ items. items ++ i ∷ []) stands.desk ∙ sym desks;
+  channels = stands.channels;
+  frames = λ d c found. subst (λ contents. HasFrames s.node contents c.frames) (sym (same.channels d.0))
+      (stands.frames d c found);
+}
+
+-- A new seat
+
+pub new-stands : (t : Network) (n : NodeId) → SeatStands t start (new_seat t n)
+new-stands t n = record {
+  place = refl;
+  stands = record { state = refl; hops = hop-new (neighbours (local_node t n)) };
+  hops = peers-new (neighbours (local_node t n));
+  made = refl;
+  desk = refl;
+  channels = new-there t n;
+  frames = λ d c found. record { bytes = new-frames (receivers t n) d.0 c found; spelled = tt };
+}

@@ -1,0 +1,147 @@
+-- What is read of a replay is what the world shows.
+use Rattle.std.proofs.Common.{◌≡◌, ℕ, Bool, true, false, cond, nat_eq, List, [], ◌∷◌, ◌++◌, length, map, refl, sym, ap, ◌∙◌, subst, arith}
+use Rattle.std.specs.Prelude.{◌&&◌, Option, Some, None, find, flat_map, is_some}
+use Rattle.std.specs.List.{AllByRecursion, list_all}
+use Rattle.ason_base.specs.declared.ids.NodeId.{NodeId}
+use Rattle.ason_base.specs.declared.network.NodeSpec.{NodeSpec}
+use Rattle.ason_base.specs.Network.{Network}
+use Rattle.hop_reliable.specs.Hop.{HopState}
+use Rattle.mesh_rules.specs.LocalNodes.{LocalNode, local_node}
+use Rattle.mesh_rules.specs.State.{NodeState}
+use Rattle.controller.specs.declared.adjacencies.Adjacency.{Adjacency}
+use Rattle.controller.specs.Adjacencies.{hop_at, hop_of, is_to}
+use Rattle.controller.specs.Kept.{unacknowledged}
+use Rattle.controller.proofs.Reaching.{each-to_neighbour}
+use Rattle.world_core.specs.Images.{IsQuiet}
+use Rattle.world_core.specs.Replays.{StandsFor, WorldState}
+use Rattle.world_core.specs.Seats.{SeatStands, SeatState, is_at, is_quiet}
+use Rattle.world_core.specs.Worlds.{World}
+use Rattle.world_core.proofs.Finding.{found-has, same_number}
+use Rattle.world_core.proofs.Places.{nodes_of, seat-there}
+
+-- Tables
+
+pub rows-are : {R : Type 0} (F : NodeId → NodeState → List R) (t : Network) (w : World) (seats : List SeatState)
+    (nodes : List NodeSpec) → nodes_of seats ≡ map (λ (m : NodeSpec). m.id) nodes →
+    AllByRecursion (SeatStands t w) seats →
+    flat_map (λ (s : SeatState). F s.controller.node.place.id s.controller.node.state) seats
+    ≡ flat_map (λ (m : NodeSpec). F m.id (w.nodes m.id.0)) nodes
+rows-are F t w [] [] e all = refl
+rows-are F t w [] (m ∷ ms) e all = absurd (cc (e))
+rows-are F t w (s ∷ ss) [] e all = absurd (cc (e))
+rows-are {R} F t w (s ∷ ss) (m ∷ ms) e all =
+    ap (λ xs. xs ++ flat_map (λ (x : SeatState). F x.controller.node.place.id x.controller.node.state) ss) here
+    ∙ ap (λ xs. F m.id (w.nodes m.id.0) ++ xs) (rows-are F t w ss ms rest all.1)
+  where
+    node : s.node ≡ m.id
+    node = cc (e)
+
+    rest : nodes_of ss ≡ map (λ (k : NodeSpec). k.id) ms
+    rest = cc (e)
+
+    here : F s.controller.node.place.id s.controller.node.state ≡ F m.id (w.nodes m.id.0)
+    here =
+        ap (λ n. F n s.controller.node.state) (ap (λ (p : LocalNode). p.id) all.0.place ∙ node)
+        ∙ ap (F m.id) (all.0.stands.state ∙ ap (λ (n : NodeId). w.nodes n.0) node)
+
+-- Quiet
+
+all_pass : (p : SeatState → Bool) (seats : List SeatState) → list_all p seats ≡ true →
+    AllByRecursion (λ (s : SeatState). p s ≡ true) seats
+all_pass p [] h = tt
+all_pass p (s ∷ ss) h = let parts = both_of (p s) (list_all p ss) h in (parts.0, all_pass p ss parts.1)
+  where
+    both_of : (b c : Bool) → (b && c) ≡ true → (b ≡ true) × (c ≡ true)
+    both_of true c h = (refl, h)
+    both_of false c h = absurd (cc (h))
+
+pass_all : (p : SeatState → Bool) (seats : List SeatState) → AllByRecursion (λ (s : SeatState). p s ≡ true) seats →
+    list_all p seats ≡ true
+pass_all p [] all = refl
+pass_all p (s ∷ ss) all = rw all.0 (pass_all p ss all.1)
+
+none_left : {X : Type 0} (xs : List X) → length xs ≡ 0 → xs ≡ []
+none_left [] e = refl
+none_left (x ∷ xs) e = absurd (omega arith)
+
+no-unacked : (xs : List Adjacency) → unacknowledged xs ≡ 0 → (d : ℕ) → (hop_at xs d).unacked ≡ []
+no-unacked [] none d = refl
+no-unacked (a ∷ xs) none d = go (nat_eq a.peer.0 d) (no-unacked xs (omega arith) d)
+  where
+    go : (b : Bool) → (hop_at xs d).unacked ≡ [] → (hop_of (cond b (Some a) (find (is_to d) xs))).state.unacked ≡ []
+    go true later = none_left a.hop.state.unacked (omega arith)
+    go false later = later
+
+all-acked : (xs : List Adjacency) → AllByRecursion (λ (a : Adjacency). a.hop.state.unacked ≡ []) xs →
+    unacknowledged xs ≡ 0
+all-acked [] all = refl
+all-acked (a ∷ xs) all =
+    let none : length a.hop.state.unacked ≡ 0 = ap length all.0 in
+    let rest : unacknowledged xs ≡ 0 = all-acked xs all.1 in
+    omega arith
+
+zero_is : (n : ℕ) → nat_eq n 0 ≡ true → n ≡ 0
+zero_is n h = grind arith
+
+-- nothing waits at this number
+record IsStill (w : World) (n : ℕ) : Type 0 where
+  desk : w.desks n ≡ []
+  hops : (d : ℕ) → (w.ends n d).hop.unacked ≡ []
+
+seat_still : (t : Network) (w : World) (s : SeatState) → is_quiet s ≡ true → SeatStands t w s → IsStill w s.node.0
+seat_still t w s quiet stands =
+    let parts = both_of (nat_eq (length s.desk) 0) (nat_eq (unacknowledged s.controller.adjacencies) 0) quiet in
+    record {
+      desk = sym stands.desk ∙ none_left s.desk (zero_is (length s.desk) parts.0);
+      hops = λ d. ap (λ (h : HopState). h.unacked) (sym (stands.stands.hops d))
+          ∙ no-unacked s.controller.adjacencies (zero_is (unacknowledged s.controller.adjacencies) parts.1) d;
+    }
+  where
+    both_of : (b c : Bool) → (b && c) ≡ true → (b ≡ true) × (c ≡ true)
+    both_of true c h = (refl, h)
+    both_of false c h = absurd (cc (h))
+
+still_at : (t : Network) (k : WorldState) (w : World) → StandsFor t k w → list_all is_quiet k.seats ≡ true →
+    (n : NodeId) →
+    IsStill w n.0
+still_at t k w stands quiet n = go (find (is_at n.0) k.seats) refl
+  where
+    go : (o : Option SeatState) → find (is_at n.0) k.seats ≡ o → IsStill w n.0
+    go None e =
+        let is = stands.nowhere n (sym (seat-there k.seats t.nodes n stands.nodes) ∙ ap is_some e) in
+        record { desk = is.desk; hops = is.hops }
+    go (Some s) e =
+        let sits = found-has (is_at n.0) (SeatStands t w) k.seats s stands.seats e in
+        let rests = found-has (is_at n.0) (λ (x : SeatState). is_quiet x ≡ true) k.seats s
+        (all_pass is_quiet k.seats quiet) e in
+        subst (IsStill w) (same_number s.node.0 n.0 sits.0) (seat_still t w s rests.1 sits.1)
+
+pub quiet-is : (t : Network) (k : WorldState) (w : World) → StandsFor t k w → list_all is_quiet k.seats ≡ true →
+    IsQuiet w
+quiet-is t k w stands quiet = record {
+  desks = λ n. (still_at t k w stands quiet (record { 0 = n })).desk;
+  hops = λ u d. (still_at t k w stands quiet (record { 0 = u })).hops d;
+}
+
+seat_quiet : (t : Network) (w : World) (s : SeatState) → IsQuiet w → SeatStands t w s → is_quiet s ≡ true
+seat_quiet t w s quiet stands =
+    both (nat_eq (length s.desk) 0) (nat_eq (unacknowledged s.controller.adjacencies) 0)
+    (ap (λ items. nat_eq (length items) 0) (stands.desk ∙ quiet.desks s.node.0))
+    (ap (λ n. nat_eq n 0) (all-acked s.controller.adjacencies acked))
+  where
+    both : (b c : Bool) → b ≡ true → c ≡ true → (b && c) ≡ true
+    both b c p q = grind arith
+
+    acked : AllByRecursion (λ (a : Adjacency). a.hop.state.unacked ≡ []) s.controller.adjacencies
+    acked =
+        each-to_neighbour (λ h. h.unacked ≡ []) (local_node t s.node) s.controller.adjacencies stands.hops refl
+        (λ d. ap (λ (h : HopState). h.unacked) (stands.stands.hops d) ∙ quiet.hops s.node.0 d)
+
+pub is-quiet : (t : Network) (k : WorldState) (w : World) → StandsFor t k w → IsQuiet w →
+    list_all is_quiet k.seats ≡ true
+is-quiet t k w stands quiet = pass_all is_quiet k.seats (go k.seats stands.seats)
+  where
+    go : (seats : List SeatState) → AllByRecursion (SeatStands t w) seats →
+        AllByRecursion (λ (s : SeatState). is_quiet s ≡ true) seats
+    go [] all = tt
+    go (s ∷ ss) all = (seat_quiet t w s quiet all.0, go ss all.1)

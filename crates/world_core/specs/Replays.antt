@@ -1,0 +1,137 @@
+-- What a replay keeps, the world that it stands for, and the first event that isn't enabled.
+use Rattle.std.specs.Prelude.{◌≡◌, ◌+◌, ℕ, Bool, true, false, List, [], ◌∷◌, ◌++◌, length, map, Option, Some, None, position, slice_get, slice_set, Result, IfErr, IsTrue, ◌↔◌}
+use Rattle.std.specs.List.{AllByRecursion}
+use Rattle.ason_base.specs.declared.ids.NodeId.{NodeId}
+use Rattle.ason_base.specs.declared.ids.CallNo.{CallNo}
+use Rattle.ason_base.specs.declared.calls.CallRow.{CallRow}
+use Rattle.ason_base.specs.declared.calls.LegRow.{LegRow}
+use Rattle.ason_base.specs.declared.commands.Command.{Command}
+use Rattle.ason_base.specs.declared.commands.Command.TheVariants.{Setup, Release, Protect, Retry, Revert, Fail, Repair}
+use Rattle.ason_base.specs.declared.commands.DeskItem.{DeskItem}
+use Rattle.ason_base.specs.declared.commands.DeskItem.TheVariants.{Order}
+use Rattle.ason_base.specs.declared.commands.Event.{Event}
+use Rattle.ason_base.specs.Network.{Network, is_distinct, is_node_id}
+use Rattle.mesh_rules.specs.Rows.{all_call_rows, all_leg_rows}
+use Rattle.world_core.specs.declared.acts.Act.{Act}
+use Rattle.world_core.specs.declared.faults.Fault.{Fault}
+use Rattle.world_core.specs.declared.faults.Fault.TheVariants.{NotEnabled}
+use Rattle.world_core.specs.Images.{IsQuiet, image}
+use Rattle.world_core.specs.Seats.{HasDoneAt, SeatStands, SeatState, can_do, is_able, is_at, with_item}
+use Rattle.world_core.specs.Worlds.{World, start}
+use Rattle.world_core.specs.Runs.{IsEnabled, IsRun, after, step}
+
+-- the seats of all nodes, in order of number, and the call numbers of the setups that were posted
+pub record WorldState : Type 0 where
+  pub seats : List SeatState
+  pub posted : List CallNo
+
+-- at a number that is no node's, nothing waits
+pub record IsNowhere (w : World) (n : ℕ) : Type 0 where
+  pub desk : w.desks n ≡ []
+  pub hops : (d : ℕ) → (w.ends n d).hop.unacked ≡ []
+
+-- each node of the topology has one seat, which is what the world has of it
+pub record StandsFor (t : Network) (k : WorldState) (w : World) : Type 0 where
+  pub nodes : map (λ s. s.node) k.seats ≡ map (λ m. m.id) t.nodes
+  pub apart : is_distinct (map (λ s. s.node.0) k.seats) ≡ true
+  pub seats : AllByRecursion (SeatStands t w) k.seats
+  pub nowhere : (n : NodeId) → is_node_id t.nodes n ≡ false → IsNowhere w n.0
+  pub posted : k.posted ≡ w.posted
+
+-- What is read of it, in whatever world it stands for
+
+abbrev pub ShowsCalls : WorldState → List CallRow → Type 0
+ShowsCalls k rows = (t : Network) (w : World) → StandsFor t k w → rows ≡ all_call_rows t (image w)
+
+abbrev pub ShowsLegs : WorldState → List LegRow → Type 0
+ShowsLegs k rows = (t : Network) (w : World) → StandsFor t k w → rows ≡ all_leg_rows t (image w)
+
+-- true just where the world is quiet
+abbrev pub TellsQuiet : WorldState → Bool → Type 0
+TellsQuiet k b = (t : Network) (w : World) → StandsFor t k w → IsTrue b ↔ IsQuiet w
+
+-- One node
+
+-- a node that may make an event more does this
+pub record HasActed (old : WorldState) (n : NodeId) (a : Act) (new : WorldState) : Type 0 where
+  pub place : ℕ
+  pub seat : SeatState
+  pub found : position (is_able n.0) old.seats ≡ Some place
+  pub there : slice_get old.seats place ≡ Some seat
+  pub done : HasDoneAt old.seats place seat a new.seats
+  pub posted : new.posted ≡ old.posted
+
+-- there is no such node, or it can't do this
+abbrev pub IsUnable : WorldState → NodeId → Act → Type 0
+IsUnable k n a = (place : ℕ) (s : SeatState) → position (is_able n.0) k.seats ≡ Some place →
+    slice_get k.seats place ≡ Some s → can_do s a ≡ false
+
+-- Commands
+
+-- the node on whose desk a command goes, if it is a call's
+abbrev pub ingress_of : Command → Option NodeId
+ingress_of (Setup n from to protected both via backup) = Some from
+ingress_of (Release n from) = Some from
+ingress_of (Protect n from) = Some from
+ingress_of (Retry n from) = Some from
+ingress_of (Revert n from) = Some from
+ingress_of (Fail g) = None
+ingress_of (Repair g) = None
+
+-- the call number that it takes, if it is a setup
+abbrev pub numbers_of : Command → List CallNo
+numbers_of (Setup n from to protected both via backup) = n ∷ []
+numbers_of (Release n from) = []
+numbers_of (Protect n from) = []
+numbers_of (Retry n from) = []
+numbers_of (Revert n from) = []
+numbers_of (Fail g) = []
+numbers_of (Repair g) = []
+
+-- an item goes on the desk of a node
+pub record IsPut (old : List SeatState) (n : NodeId) (i : DeskItem) (new : List SeatState) : Type 0 where
+  pub place : ℕ
+  pub seat : SeatState
+  pub found : position (is_at n.0) old ≡ Some place
+  pub there : slice_get old place ≡ Some seat
+  pub seats : new ≡ slice_set old place (with_item i seat)
+
+abbrev pub IsPutIf : List SeatState → Option NodeId → DeskItem → List SeatState → Type 0
+IsPutIf old None i new = new ≡ old
+IsPutIf old (Some n) i new = IsPut old n i new
+
+-- the command goes to the desk of its ingress, and its number to those that were posted
+pub record IsGiven (old : WorldState) (c : Command) (new : WorldState) : Type 0 where
+  pub seats : IsPutIf old.seats (ingress_of c) (Order c) new.seats
+  pub posted : new.posted ≡ old.posted ++ numbers_of c
+
+-- its ingress is no node
+pub record IsForNobody (seats : List SeatState) (c : Command) : Type 0 where
+  pub node : NodeId
+  pub ingress : ingress_of c ≡ Some node
+  pub nowhere : position (is_at node.0) seats ≡ None
+
+-- One event
+
+-- in whatever world the one stands for the event is enabled, and the other stands for the next
+abbrev pub HasStepped : Network → WorldState → Event → WorldState → Type 0
+HasStepped t old e new = (w : World) → StandsFor t old w → IsEnabled t w e × StandsFor t new (step t w e)
+
+abbrev pub IsDisabled : Network → WorldState → Event → Type 0
+IsDisabled t k e = (w : World) → StandsFor t k w → ¬ IsEnabled t w e
+
+-- the event is refused just where it isn't enabled
+abbrev pub IsRefused : Result (Unit {0}) Fault → Type 0 → Type 0
+IsRefused r Disabled = IfErr r (λ f. f ≡ NotEnabled → Disabled)
+
+-- Runs
+
+-- The event with this number, of which the first has number 1, isn't enabled. Those before it are a run.
+pub record IsFirstDisabled (t : Network) (events : List Event) (number : ℕ) : Type 0 where
+  pub before : List Event
+  pub event : Event
+  pub later : List Event
+  pub all : events ≡ before ++ event ∷ later
+  pub counted : number ≡ length before + 1
+  pub run : IsRun t start before
+  pub disabled : ¬ IsEnabled t (after t start before) event

@@ -1,0 +1,46 @@
+//! The replay of a list of events.
+
+ghost use Rattle.std.specs.Prelude.{◌≡◌, ℕ, IfErr, IfOk};
+ghost use Rattle.world_core.specs.declared.replays.ReplayError.{ReplayError};
+ghost use Rattle.world_core.specs.Replays.{IsFirstDisabled, StandsFor};
+ghost use Rattle.world_core.specs.Runs.{IsRun, after};
+ghost use Rattle.world_core.specs.Worlds.{start};
+
+use crate::faults::Fault;
+use crate::world::World;
+use ason_base::{Event, OutOfMemory, Topology};
+use std::alloc::Global;
+
+/// Why events weren't replayed.
+#[derive(Clone, Copy, Debug, PartialEq, Eq, Drop)]
+pub enum ReplayError {
+    /// The event with this number, counted from 1, is the first that isn't enabled.
+    NotRun(usize),
+    OutOfMemory,
+}
+
+impl From<OutOfMemory> for ReplayError {
+    ghost from_gives = { λ _ error. error ≡ ReplayError.OutOfMemory };
+
+    fn from(_: OutOfMemory) -> ReplayError {
+        ReplayError::OutOfMemory
+    }
+}
+
+/// The world to which these events lead, one after the other from the start, if they are a run.
+pub fn replay(alloc: Global, t: &Topology, events: &[Event]) -> Result<World, ReplayError>
+    ensures run { IfOk result (λ w. IsRun t.now start events.now) }
+    ensures last { IfOk result (λ w. StandsFor t.now w (after t.now start events.now)) }
+    ensures not_run { IfErr result
+        (λ e. (i : ℕ) → e ≡ ReplayError.NotRun i → IsFirstDisabled t.now events.now i) }
+{
+    let mut world = World::new(alloc, t)?;
+    for (place, event) in events.iter().enumerate() {
+        match world.step(alloc, t, event) {
+            Ok(()) => {}
+            Err(Fault::NotEnabled) => return Err(ReplayError::NotRun(place + 1)),
+            Err(Fault::OutOfMemory) => return Err(ReplayError::OutOfMemory),
+        }
+    }
+    Ok(world)
+}

@@ -1,0 +1,178 @@
+//! The seat of a node in a world.
+
+ghost use Rattle.std.specs.Prelude.{◌≡◌, ◌<◌, [], ◌∷◌, IfErr, IfOk, IsSome, IsTrue, MatchOption, OnOk, false, is_some};
+ghost use Rattle.std.specs.Option.{option_copied};
+ghost use Rattle.ason_base.specs.Network.{find_node};
+ghost use Rattle.mesh_rules.specs.Rows.{call_rows, leg_rows};
+ghost use Rattle.controller.specs.Kept.{IsFromNeighbour};
+ghost use Rattle.world_core.specs.declared.acts.Act.{Act};
+ghost use Rattle.world_core.specs.declared.faults.Fault.{Fault};
+ghost use Rattle.world_core.specs.Channels.{channel_to, frame_on};
+ghost use Rattle.world_core.specs.Seats.{HasDone, HasReacted, can_do, is_able, is_quiet, new_seat, with_item};
+
+use crate::acts::Act;
+use crate::channel::{Channel, frame_to, is_there, new_channels, send_all};
+use crate::faults::Fault;
+use ason_base::{Bytes, DeskItem, NodeId, OutOfMemory, TableRows, Topology};
+use controller::controller::MOST_STEPS;
+use controller::{Controller, CoreInput};
+use std::alloc::Global;
+use std::collections::VecDeque;
+use std::marker::Model;
+
+/// A node's controller, its desk, and the channels that lead from it.
+#[derive(Debug, Drop)]
+pub struct Seat {
+    node: NodeId,
+    controller: Controller,
+    desk: VecDeque<DeskItem>,
+    channels: Vec<Channel>,
+}
+
+impl Model for Seat {
+    ghost use Rattle.world_core.specs.Seats.{SeatState};
+
+    ghost Value = { SeatState };
+
+    ghost view = { λ s. record { node = s.node; controller = s.controller; desk = s.desk.items; channels = s.channels.items } };
+}
+
+impl Seat {
+    /// The seat of node `id`, which keeps nothing and sent nothing.
+    pub(crate) fn new(alloc: Global, t: &Topology, id: NodeId) -> Result<Seat, OutOfMemory>
+        requires { IsSome (find_node t.now id) }
+        ensures { IfOk result (λ s. s ≡ new_seat t.now id) }
+    {
+        Ok(Seat {
+            node: id,
+            controller: Controller::new(alloc, t, id)?,
+            desk: VecDeque::new(alloc),
+            channels: new_channels(alloc, t, id)?,
+        })
+    }
+
+    pub(crate) fn node(&self) -> NodeId
+        ensures { result ≡ self.now.node }
+    {
+        self.node
+    }
+
+    /// Whether it is this node's, which may make an event more.
+    pub(crate) fn is_able(&self, n: NodeId) -> bool
+        ensures { result ≡ is_able n.0 self.now }
+    {
+        self.node == n && self.controller.steps() < MOST_STEPS
+    }
+
+    // The controller takes an input, and what it sends goes on the channels.
+    fn react(&mut self, input: &CoreInput) -> Result<(), OutOfMemory>
+        requires few { self.old.controller.steps < 50000 }
+        requires from { IsFromNeighbour self.old.controller.node.place input.now }
+        ensures done { OnOk result (HasReacted self.old self.new input.now) }
+        ensures desk { self.new.desk ≡ self.old.desk }
+    {
+        let frames = self.controller.step(input)?;
+        send_all(&mut self.channels, frames)
+    }
+
+    fn take(&mut self, from: NodeId, bytes: Bytes) -> Result<(), Fault>
+        requires { self.old.controller.steps < 50000 }
+        ensures done { OnOk result (HasDone self.old (Act.Take from bytes) self.new) }
+        ensures refused { IfErr result
+            (λ f. f ≡ Fault.NotEnabled → can_do self.old (Act.Take from bytes) ≡ false) }
+    {
+        if !self.controller.has_neighbour(from) {
+            return Err(Fault::NotEnabled);
+        }
+        self.react(&CoreInput::Frame { from, bytes })?;
+        Ok(())
+    }
+
+    fn tick(&mut self) -> Result<(), Fault>
+        requires { self.old.controller.steps < 50000 }
+        ensures done { OnOk result (HasDone self.old Act.Tick self.new) }
+        ensures refused { IfErr result (λ f. f ≡ Fault.OutOfMemory) }
+    {
+        self.react(&CoreInput::Tick)?;
+        Ok(())
+    }
+
+    // Takes the first item of the desk.
+    fn pop(&mut self) -> Option<DeskItem>
+        ensures item { MatchOption result (self.old.desk ≡ [])
+            (λ i. self.old.desk ≡ i ∷ self.new.desk) }
+        ensures rest { (self.new.node ≡ self.old.node) ×
+            (self.new.controller ≡ self.old.controller) × (self.new.channels ≡ self.old.channels) }
+    {
+        self.desk.pop_front()
+    }
+
+    fn handle(&mut self) -> Result<(), Fault>
+        requires { self.old.controller.steps < 50000 }
+        ensures done { OnOk result (HasDone self.old Act.Handle self.new) }
+        ensures refused { IfErr result
+            (λ f. f ≡ Fault.NotEnabled → can_do self.old Act.Handle ≡ false) }
+    {
+        match self.pop() {
+            None => Err(Fault::NotEnabled),
+            Some(item) => {
+                self.react(&CoreInput::Desk(item))?;
+                Ok(())
+            }
+        }
+    }
+
+    /// The node does this, where it can be done.
+    pub(crate) fn act(&mut self, act: Act) -> Result<(), Fault>
+        requires { self.old.controller.steps < 50000 }
+        ensures done { OnOk result (HasDone self.old act self.new) }
+        ensures refused { IfErr result (λ f. f ≡ Fault.NotEnabled → can_do self.old act ≡ false) }
+    {
+        match act {
+            Act::Take { from, bytes } => self.take(from, bytes),
+            Act::Tick => self.tick(),
+            Act::Handle => self.handle(),
+        }
+    }
+
+    /// Puts an item at the end of the desk.
+    pub(crate) fn put(&mut self, item: DeskItem) -> Result<(), OutOfMemory>
+        ensures { OnOk result (self.new ≡ with_item item self.old) }
+    {
+        self.desk.push_back(item)?;
+        Ok(())
+    }
+
+    /// Whether a channel leads from here to this node.
+    pub(crate) fn leads_to(&self, n: NodeId) -> bool
+        ensures { result ≡ is_some (channel_to self.now.channels n.0) }
+    {
+        is_there(&self.channels, n)
+    }
+
+    /// The frame with this number on the channel from here to this node.
+    pub(crate) fn frame(&self, n: NodeId, number: u64) -> Option<&Bytes>
+        ensures { option_copied result ≡ frame_on (channel_to self.now.channels n.0) number }
+    {
+        frame_to(&self.channels, n, number)
+    }
+
+    /// What a table shows of the node.
+    pub(crate) fn rows(&self, alloc: Global) -> Result<TableRows, OutOfMemory>
+        ensures calls { IfOk result
+            (λ rows. rows.calls ≡
+            call_rows self.now.controller.node.place.id self.now.controller.node.state) }
+        ensures legs { IfOk result
+            (λ rows. rows.legs ≡
+            leg_rows self.now.controller.node.place.id self.now.controller.node.state) }
+    {
+        self.controller.rows(alloc)
+    }
+
+    /// Whether nothing waits on the desk, and no message of the node isn't acknowledged.
+    pub(crate) fn is_quiet(&self) -> bool
+        ensures { result ≡ is_quiet self.now }
+    {
+        self.desk.is_empty() && self.controller.pending().hop == 0
+    }
+}

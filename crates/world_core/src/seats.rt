@@ -1,0 +1,119 @@
+//! The seats of all nodes, in order of number.
+
+ghost use Rattle.std.specs.Prelude.{◌≡◌, ◌<◌, IfErr, IfOk, OnOk, Some, false, find, flat_map, length, map, position, slice_get, slice_set};
+ghost use Rattle.std.specs.List.{list_all};
+ghost use Rattle.std.specs.Option.{option_copied};
+ghost use Rattle.mesh_rules.specs.Rows.{call_rows, leg_rows};
+ghost use Rattle.world_core.specs.declared.faults.Fault.{Fault};
+ghost use Rattle.world_core.specs.Seats.{HasDoneAt, SeatState, can_do, frame_there, is_able, is_at, is_channel_there, is_quiet, new_seat, with_item};
+
+use crate::acts::Act;
+use crate::faults::Fault;
+use crate::seat::Seat;
+use ason_base::{Bytes, CallRows, DeskItem, LegRows, NodeId, OutOfMemory, TableRows, Topology};
+use std::alloc::Global;
+
+/// A seat for each node.
+pub(crate) fn new_seats(alloc: Global, t: &Topology) -> Result<Vec<Seat>, OutOfMemory>
+    ensures { IfOk result (λ v. v.items ≡ map (λ m. new_seat t.now m.id) t.now.nodes) }
+{
+    let mut seats = Vec::new(alloc);
+    for m in t.nodes() {
+        let seat = Seat::new(alloc, t, m.id)?;
+        seats.push(seat)?;
+    }
+    Ok(seats)
+}
+
+/// Where the seat of this node is.
+pub(crate) fn place_of(seats: &[Seat], n: NodeId) -> Option<usize>
+    ensures { result ≡ position (is_at n.0) seats.now }
+{
+    seats.iter().position(|seat| seat.node() == n)
+}
+
+/// Where the seat of this node is, if the node may make an event more.
+pub(crate) fn able_place(seats: &[Seat], n: NodeId) -> Option<usize>
+    ensures { result ≡ position (is_able n.0) seats.now }
+{
+    seats.iter().position(|seat| seat.is_able(n))
+}
+
+/// The node at this place does this, where it can be done.
+pub(crate) fn act_at(seats: &mut Vec<Seat>, place: usize, act: Act) -> Result<(), Fault>
+    requires within { place < length seats.old.items }
+    requires few { (s : SeatState) → slice_get seats.old.items place ≡ Some s →
+        s.controller.steps < 50000 }
+    ensures done { OnOk result ((s : SeatState) → slice_get seats.old.items place ≡ Some s →
+        HasDoneAt seats.old.items place s act seats.new.items) }
+    ensures refused { IfErr result
+        (λ f. f ≡ Fault.NotEnabled → (s : SeatState) → slice_get seats.old.items place ≡ Some s →
+        can_do s act ≡ false) }
+{
+    let seat = &mut seats[place];
+    seat.act(act)
+}
+
+/// Puts an item on the desk at this place.
+pub(crate) fn put_at(seats: &mut Vec<Seat>, place: usize, item: DeskItem) -> Result<(), OutOfMemory>
+    requires { place < length seats.old.items }
+    ensures { OnOk result ((s : SeatState) → slice_get seats.old.items place ≡ Some s →
+        seats.new.items ≡ slice_set seats.old.items place (with_item item s)) }
+{
+    let seat = &mut seats[place];
+    seat.put(item)
+}
+
+fn seat_at(seats: &[Seat], n: NodeId) -> Option<&Seat>
+    ensures { option_copied result ≡ find (is_at n.0) seats.now }
+{
+    seats.iter().find(|seat| seat.node() == n)
+}
+
+/// Whether a channel leads from one node to the other.
+pub(crate) fn is_channel_there(seats: &[Seat], u: NodeId, d: NodeId) -> bool
+    ensures { result ≡ is_channel_there seats.now u d }
+{
+    match seat_at(seats, u) {
+        None => false,
+        Some(seat) => seat.leads_to(d),
+    }
+}
+
+/// The frame with this number on the channel from one node to the other.
+pub(crate) fn frame_there(seats: &[Seat], u: NodeId, d: NodeId, number: u64) -> Option<&Bytes>
+    ensures { option_copied result ≡ frame_there seats.now u d number }
+{
+    match seat_at(seats, u) {
+        None => None,
+        Some(seat) => seat.frame(d, number),
+    }
+}
+
+/// What a table shows of each node, one after the other.
+pub(crate) fn rows_of(alloc: Global, seats: &[Seat]) -> Result<TableRows, OutOfMemory>
+    ensures calls { IfOk result
+        (λ rows. rows.calls ≡ flat_map
+        (λ s. call_rows s.controller.node.place.id s.controller.node.state) seats.now) }
+    ensures legs { IfOk result
+        (λ rows. rows.legs ≡ flat_map
+        (λ s. leg_rows s.controller.node.place.id s.controller.node.state) seats.now) }
+{
+    let mut calls = Vec::new(alloc);
+    let mut legs = Vec::new(alloc);
+    for seat in seats {
+        let rows = seat.rows(alloc)?;
+        calls.extend_from_slice(rows.calls.items())?;
+        legs.extend_from_slice(rows.legs.items())?;
+    }
+    let calls = CallRows::from_vec(calls);
+    let legs = LegRows::from_vec(legs);
+    Ok(TableRows { calls, legs })
+}
+
+/// Whether nothing waits at any node.
+pub(crate) fn are_quiet(seats: &[Seat]) -> bool
+    ensures { result ≡ list_all is_quiet seats.now }
+{
+    seats.iter().all(|seat| seat.is_quiet())
+}

@@ -1,0 +1,243 @@
+//! A world of controllers, and what each event makes of it.
+
+ghost use Rattle.std.specs.Prelude.{◌≡◌, ◌++◌, ◌∷◌, [], ℕ, IfErr, IfOk, MatchOption, MatchResult, OnOk, position, true, None, Some};
+ghost use Rattle.ason_base.specs.Network.{Network};
+ghost use Rattle.ason_base.specs.declared.commands.DeskItem.TheVariants.{Order};
+ghost use Rattle.ason_base.specs.declared.commands.Event.{Event};
+ghost use Rattle.world_core.specs.declared.acts.Act.{Act};
+ghost use Rattle.world_core.specs.declared.faults.Fault.{Fault};
+ghost use Rattle.world_core.specs.Replays.{HasActed, HasStepped, IsDisabled, IsForNobody, IsGiven, IsPut, IsPutIf, IsRefused, IsUnable, ShowsCalls, ShowsLegs, StandsFor, TellsQuiet, ingress_of, numbers_of};
+ghost use Rattle.world_core.specs.Seats.{frame_there, is_at};
+ghost use Rattle.world_core.specs.Worlds.{start};
+
+use crate::acts::Act;
+use crate::faults::Fault;
+use crate::noise::spells_nothing;
+use crate::seat::Seat;
+use crate::seats::{
+    able_place, act_at, are_quiet, frame_there, is_channel_there, new_seats, place_of, put_at,
+    rows_of,
+};
+use ason_base::{
+    Bytes, CallNo, Command, DeskItem, Event, NodeId, OutOfMemory, TableRows, Topology,
+};
+use mesh_rules::commands::{is_again, is_valid};
+use std::alloc::Global;
+use std::marker::Model;
+
+/// The controllers of a network with their desks, all that was ever sent on each channel, and the call numbers of the setups
+/// that were posted.
+#[derive(Debug, Drop)]
+pub struct World {
+    seats: Vec<Seat>,
+    posted: Vec<CallNo>,
+}
+
+impl Model for World {
+    ghost use Rattle.world_core.specs.Replays.{WorldState};
+
+    ghost Value = { WorldState };
+
+    ghost view = { λ w. record { seats = w.seats.items; posted = w.posted.items } };
+}
+
+// The node on whose desk a command goes, if it is a call's.
+fn ingress_of(command: &Command) -> Option<NodeId>
+    ensures { result ≡ ingress_of command.now }
+{
+    match command {
+        Command::Setup { from, .. }
+        | Command::Release { from, .. }
+        | Command::Protect { from, .. }
+        | Command::Retry { from, .. }
+        | Command::Revert { from, .. } => Some(*from),
+        Command::Fail { .. } | Command::Repair { .. } => None,
+    }
+}
+
+impl World {
+    /// Nothing stands, and nothing was sent.
+    pub(crate) fn new(alloc: Global, t: &Topology) -> Result<World, OutOfMemory>
+        ensures { IfOk result (λ w. StandsFor t.now w start) }
+    {
+        let _nodes = t.nodes();
+        let seats = new_seats(alloc, t)?;
+        Ok(World {
+            seats,
+            posted: Vec::new(alloc),
+        })
+    }
+
+    // The node does this, where it may.
+    fn act(&mut self, node: NodeId, act: Act) -> Result<(), Fault>
+        ensures done { OnOk result (HasActed self.old node act self.new) }
+        ensures refused { IsRefused result (IsUnable self.old node act) }
+    {
+        match able_place(&self.seats, node) {
+            None => Err(Fault::NotEnabled),
+            Some(place) => act_at(&mut self.seats, place, act),
+        }
+    }
+
+    // The frame with this number on the channel from one node to the other.
+    fn frame(
+        &self,
+        alloc: Global,
+        from: NodeId,
+        to: NodeId,
+        number: u64,
+    ) -> Result<Option<Bytes>, OutOfMemory>
+        ensures { IfOk result (λ o. o ≡ frame_there self.now.seats from to number) }
+    {
+        match frame_there(&self.seats, from, to, number) {
+            None => Ok(None),
+            Some(frame) => {
+                let bytes = frame.copy(alloc)?;
+                Ok(Some(bytes))
+            }
+        }
+    }
+
+    fn deliver(&mut self, alloc: Global, to: NodeId, from: NodeId, number: u64) -> Result<(), Fault>
+        ensures done { OnOk result
+            ((t : Network) → HasStepped t self.old (Event.Deliver to from number) self.new) }
+        ensures refused { IsRefused result
+            ((t : Network) → IsDisabled t self.old (Event.Deliver to from number)) }
+    {
+        match self.frame(alloc, from, to, number)? {
+            None => Err(Fault::NotEnabled),
+            Some(bytes) => self.act(to, Act::Take { from, bytes }),
+        }
+    }
+
+    fn make_noise(
+        &mut self,
+        alloc: Global,
+        to: NodeId,
+        from: NodeId,
+        bytes: &Bytes,
+    ) -> Result<(), Fault>
+        ensures done { OnOk result
+            ((t : Network) → HasStepped t self.old (Event.Noise to from bytes.now) self.new) }
+        ensures refused { IsRefused result
+            ((t : Network) → IsDisabled t self.old (Event.Noise to from bytes.now)) }
+    {
+        if !is_channel_there(&self.seats, from, to) {
+            return Err(Fault::NotEnabled);
+        }
+        if !spells_nothing(alloc, bytes.items())? {
+            return Err(Fault::NotEnabled);
+        }
+        let bytes = bytes.copy(alloc)?;
+        self.act(to, Act::Take { from, bytes })
+    }
+
+    fn tick(&mut self, node: NodeId) -> Result<(), Fault>
+        ensures done { OnOk result
+            ((t : Network) → HasStepped t self.old (Event.Tick node) self.new) }
+        ensures refused { IsRefused result
+            ((t : Network) → IsDisabled t self.old (Event.Tick node)) }
+    {
+        self.act(node, Act::Tick)
+    }
+
+    fn handle(&mut self, node: NodeId) -> Result<(), Fault>
+        ensures done { OnOk result
+            ((t : Network) → HasStepped t self.old (Event.Desk node) self.new) }
+        ensures refused { IsRefused result
+            ((t : Network) → IsDisabled t self.old (Event.Desk node)) }
+    {
+        self.act(node, Act::Handle)
+    }
+
+    // Puts a command on the desk of a node.
+    fn put(&mut self, alloc: Global, node: NodeId, command: &Command) -> Result<(), Fault>
+        ensures done { OnOk result (IsPut self.old.seats node (Order command.now) self.new.seats) }
+        ensures refused { IsRefused result (position (is_at node.0) self.old.seats ≡ None) }
+        ensures posted { self.new.posted ≡ self.old.posted }
+    {
+        match place_of(&self.seats, node) {
+            None => Err(Fault::NotEnabled),
+            Some(place) => {
+                let item = DeskItem::Order(command.copy(alloc)?);
+                put_at(&mut self.seats, place, item)?;
+                Ok(())
+            }
+        }
+    }
+
+    // A call's command goes to the desk of its ingress.
+    fn order(&mut self, alloc: Global, command: &Command) -> Result<(), Fault>
+        ensures done { OnOk result
+            (IsPutIf self.old.seats (ingress_of command.now) (Order command.now) self.new.seats) }
+        ensures refused { IsRefused result (IsForNobody self.old.seats command.now) }
+        ensures posted { self.new.posted ≡ self.old.posted }
+    {
+        match ingress_of(command) {
+            None => Ok(()),
+            Some(node) => self.put(alloc, node, command),
+        }
+    }
+
+    // The number of a setup is taken.
+    fn take_number(&mut self, command: &Command) -> Result<(), OutOfMemory>
+        ensures done { OnOk result (self.new.posted ≡ self.old.posted ++ numbers_of command.now) }
+        ensures seats { self.new.seats ≡ self.old.seats }
+    {
+        if let Command::Setup { call, .. } = command {
+            self.posted.push(*call)?;
+        }
+        Ok(())
+    }
+
+    fn give(&mut self, alloc: Global, command: &Command) -> Result<(), Fault>
+        ensures done { OnOk result (IsGiven self.old command.now self.new) }
+        ensures refused { IsRefused result (IsForNobody self.old.seats command.now) }
+    {
+        self.order(alloc, command)?;
+        self.take_number(command)?;
+        Ok(())
+    }
+
+    fn post(&mut self, alloc: Global, t: &Topology, command: &Command) -> Result<(), Fault>
+        ensures done { OnOk result (HasStepped t.now self.old (Event.Post command.now) self.new) }
+        ensures refused { IsRefused result (IsDisabled t.now self.old (Event.Post command.now)) }
+    {
+        if !is_valid(t, command) {
+            return Err(Fault::NotEnabled);
+        }
+        if is_again(&self.posted, command) {
+            return Err(Fault::NotEnabled);
+        }
+        self.give(alloc, command)
+    }
+
+    /// Makes an event, where it is enabled.
+    pub(crate) fn step(&mut self, alloc: Global, t: &Topology, event: &Event) -> Result<(), Fault>
+        ensures done { OnOk result (HasStepped t.now self.old event.now self.new) }
+        ensures refused { IsRefused result (IsDisabled t.now self.old event.now) }
+    {
+        match event {
+            Event::Deliver { to, from, number } => self.deliver(alloc, *to, *from, *number),
+            Event::Noise { to, from, bytes } => self.make_noise(alloc, *to, *from, bytes),
+            Event::Tick { node } => self.tick(*node),
+            Event::Desk { node } => self.handle(*node),
+            Event::Post { command } => self.post(alloc, t, command),
+        }
+    }
+
+    /// What a table shows of the world: the calls and the legs of each node, nodes in order of number.
+    pub fn rows(&self, alloc: Global) -> Result<TableRows, OutOfMemory>
+        ensures calls { IfOk result (λ rows. ShowsCalls self.now rows.calls) }
+        ensures legs { IfOk result (λ rows. ShowsLegs self.now rows.legs) }
+    {
+        rows_of(alloc, &self.seats)
+    }
+
+    /// Whether every desk is empty, and each message is acknowledged.
+    pub fn quiet(&self) -> bool
+        ensures { TellsQuiet self.now result }
+    {
+        are_quiet(&self.seats)
+    }
+}
