@@ -31,10 +31,6 @@ nodes_of route = map (λ h. h.node.0) route
 abbrev pub makes_route : Network → NodeId → NodeId → List Step → Bool
 makes_route t from to route = is_end (route_end t from route) to && is_distinct (nodes_of route ++ to.0 ∷ [])
 
-abbrev pub is_given_route : Network → NodeId → NodeId → Option (List Step) → Bool
-is_given_route t from to None = true
-is_given_route t from to (Some route) = makes_route t from to route
-
 -- Risks
 
 -- the links are one, or have an SRLG in common

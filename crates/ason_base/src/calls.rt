@@ -3,6 +3,7 @@
 ghost use Rattle.std.specs.Prelude.{◌≡◌, IfOk};
 
 use crate::codes::ErrCode;
+use crate::copies::Copied;
 use crate::ids::{CallNo, LinkId, Lsp, NodeId, OutOfMemory};
 use crate::items::Items;
 use crate::labels::Label;
@@ -111,9 +112,8 @@ pub struct TableRows {
     pub legs: LegRows,
 }
 
-impl TableRows {
-    /// The same rows again.
-    pub fn copy(&self, alloc: Global) -> Result<TableRows, OutOfMemory>
+impl Copied for TableRows {
+    fn copy(&self, alloc: Global) -> Result<TableRows, OutOfMemory>
         ensures { IfOk result (λ r. r ≡ self.now) }
     {
         let calls = self.calls.copy(alloc)?;

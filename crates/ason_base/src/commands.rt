@@ -2,6 +2,7 @@
 
 ghost use Rattle.std.specs.Prelude.{◌≡◌, IfOk};
 
+use crate::copies::Copied;
 use crate::ids::{CallNo, Fibre, LinkId, NodeId, OutOfMemory};
 use crate::lists::Bytes;
 use crate::steps::Steps;
@@ -57,21 +58,8 @@ pub enum Command {
     },
 }
 
-pub(crate) fn copy_route(alloc: Global, route: &Option<Steps>) -> Result<Option<Steps>, OutOfMemory>
-    ensures { IfOk result (λ r. r ≡ route.now) }
-{
-    match route {
-        None => Ok(None),
-        Some(steps) => {
-            let steps = steps.copy(alloc)?;
-            Ok(Some(steps))
-        }
-    }
-}
-
-impl Command {
-    /// The same command again.
-    pub fn copy(&self, alloc: Global) -> Result<Command, OutOfMemory>
+impl Copied for Command {
+    fn copy(&self, alloc: Global) -> Result<Command, OutOfMemory>
         ensures { IfOk result (λ r. r ≡ self.now) }
     {
         match self {
@@ -84,8 +72,8 @@ impl Command {
                 via,
                 backup,
             } => {
-                let via = copy_route(alloc, via)?;
-                let backup = copy_route(alloc, backup)?;
+                let via = via.copy(alloc)?;
+                let backup = backup.copy(alloc)?;
                 Ok(Command::Setup {
                     call: *call,
                     from: *from,
@@ -128,9 +116,8 @@ pub enum DeskItem {
     Clear(Fibre),
 }
 
-impl DeskItem {
-    /// The same item again.
-    pub fn copy(&self, alloc: Global) -> Result<DeskItem, OutOfMemory>
+impl Copied for DeskItem {
+    fn copy(&self, alloc: Global) -> Result<DeskItem, OutOfMemory>
         ensures { IfOk result (λ r. r ≡ self.now) }
     {
         match self {
@@ -172,9 +159,8 @@ pub enum Event {
     },
 }
 
-impl Event {
-    /// The same event again.
-    pub fn copy(&self, alloc: Global) -> Result<Event, OutOfMemory>
+impl Copied for Event {
+    fn copy(&self, alloc: Global) -> Result<Event, OutOfMemory>
         ensures { IfOk result (λ r. r ≡ self.now) }
     {
         match self {
@@ -209,9 +195,8 @@ pub struct Entry {
     pub event: Event,
 }
 
-impl Entry {
-    /// The same entry again.
-    pub fn copy(&self, alloc: Global) -> Result<Entry, OutOfMemory>
+impl Copied for Entry {
+    fn copy(&self, alloc: Global) -> Result<Entry, OutOfMemory>
         ensures { IfOk result (λ r. r ≡ self.now) }
     {
         let event = self.event.copy(alloc)?;

@@ -2,6 +2,7 @@
 
 ghost use Rattle.std.specs.Prelude.{◌≡◌, [], ◌∷◌, ◌++◌, IfOk, OnErr, OnOk, drop};
 
+use crate::copies::Copied;
 use crate::ids::OutOfMemory;
 use std::alloc::Global;
 use std::marker::Model;
@@ -69,9 +70,10 @@ impl<T: Copy + Drop> Items<T> {
         let items = Vec::from_slice(alloc, left)?;
         Ok(Items { items })
     }
+}
 
-    /// The same items again.
-    pub fn copy(&self, alloc: Global) -> Result<Items<T>, OutOfMemory>
+impl<T: Copy + Drop> Copied for Items<T> {
+    fn copy(&self, alloc: Global) -> Result<Items<T>, OutOfMemory>
         ensures { IfOk result (λ r. r ≡ self.now) }
     {
         let items = Vec::from_slice(alloc, &self.items)?;

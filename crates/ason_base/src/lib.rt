@@ -4,6 +4,7 @@
 pub mod calls;
 pub mod codes;
 pub mod commands;
+pub mod copies;
 pub mod ids;
 pub mod items;
 pub mod labels;
@@ -18,6 +19,7 @@ pub mod tables;
 pub use calls::{CallRow, CallRows, CallState, Cause, LegRow, LegRows, Phase, Role, TableRows};
 pub use codes::ErrCode;
 pub use commands::{Command, DeskItem, Disturb, DisturbKind, Entry, Event, Group};
+pub use copies::{Copied, copy_all};
 pub use ids::{CallNo, Fibre, LinkId, Lsp, NodeId, OutOfMemory};
 pub use items::Items;
 pub use labels::{Label, LabelSet};

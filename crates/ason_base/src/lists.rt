@@ -4,6 +4,7 @@ ghost use Rattle.std.specs.Prelude.{◌≡◌, ◌↔◌, ◌<◌, ℕ, nat_lt, 
 ghost use Rattle.std.specs.List.Sorted.{IsStrictlyIncreasing};
 ghost use Rattle.ason_base.specs.InOrder.{in_order};
 
+use crate::copies::Copied;
 use crate::ids::OutOfMemory;
 use crate::items::Items;
 use std::alloc::Global;
@@ -76,9 +77,10 @@ impl Srlgs {
     {
         let _numbers = &self.numbers;
     }
+}
 
-    /// The same SRLGs again.
-    pub fn copy(&self, alloc: Global) -> Result<Srlgs, OutOfMemory>
+impl Copied for Srlgs {
+    fn copy(&self, alloc: Global) -> Result<Srlgs, OutOfMemory>
         ensures { IfOk result (λ r. r ≡ self.now) }
     {
         let numbers = Vec::from_slice(alloc, &self.numbers)?;

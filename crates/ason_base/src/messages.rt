@@ -3,6 +3,7 @@
 ghost use Rattle.std.specs.Prelude.{◌≡◌, IfOk};
 
 use crate::codes::ErrCode;
+use crate::copies::Copied;
 use crate::ids::{LinkId, Lsp, NodeId, OutOfMemory};
 use crate::items::Items;
 use crate::labels::{Label, LabelSet};
@@ -24,9 +25,8 @@ pub enum PathRole {
     },
 }
 
-impl PathRole {
-    /// The same role again.
-    pub fn copy(&self, alloc: Global) -> Result<PathRole, OutOfMemory>
+impl Copied for PathRole {
+    fn copy(&self, alloc: Global) -> Result<PathRole, OutOfMemory>
         ensures { IfOk result (λ r. r ≡ self.now) }
     {
         match self {
@@ -91,9 +91,8 @@ pub enum Msg {
     },
 }
 
-impl Msg {
-    /// The same message again.
-    pub fn copy(&self, alloc: Global) -> Result<Msg, OutOfMemory>
+impl Copied for Msg {
+    fn copy(&self, alloc: Global) -> Result<Msg, OutOfMemory>
         ensures { IfOk result (λ m. m ≡ self.now) }
     {
         match self {
@@ -182,9 +181,8 @@ pub struct Packet {
     pub body: Option<Msg>,
 }
 
-impl Packet {
-    /// The same packet again.
-    pub fn copy(&self, alloc: Global) -> Result<Packet, OutOfMemory>
+impl Copied for Packet {
+    fn copy(&self, alloc: Global) -> Result<Packet, OutOfMemory>
         ensures { IfOk result (λ p. p ≡ self.now) }
     {
         let acks = self.acks.copy(alloc)?;

@@ -4,6 +4,7 @@ ghost use Rattle.std.specs.Prelude.{◌≡◌, ◌<◌, IfErr, IfNone, IfOk, IfS
 ghost use Rattle.std.specs.Option.{option_copied};
 ghost use Rattle.ason_base.specs.Network.{AreLinks, AreNodes, FaultOf, IsTopology, find_link, find_node, is_after, is_distinct, is_link, is_link_at, is_node_at, is_node_id, joins, receiver_of, row_of, sender_of};
 
+use crate::copies::{Copied, copy_all};
 use crate::ids::{Fibre, LinkId, NodeId, OutOfMemory};
 use crate::lists::{Numbers, Srlgs};
 use std::alloc::Global;
@@ -36,9 +37,8 @@ pub struct LinkSpec {
     pub srlgs: Numbers,
 }
 
-impl LinkSpec {
-    /// The same link again.
-    pub fn copy(&self, alloc: Global) -> Result<LinkSpec, OutOfMemory>
+impl Copied for LinkSpec {
+    fn copy(&self, alloc: Global) -> Result<LinkSpec, OutOfMemory>
         ensures { IfOk result (λ r. r ≡ self.now) }
     {
         let srlgs = self.srlgs.copy(alloc)?;
@@ -77,9 +77,10 @@ impl TeRow {
             srlgs,
         })
     }
+}
 
-    /// The same row again.
-    pub fn copy(&self, alloc: Global) -> Result<TeRow, OutOfMemory>
+impl Copied for TeRow {
+    fn copy(&self, alloc: Global) -> Result<TeRow, OutOfMemory>
         ensures { IfOk result (λ r. r ≡ self.now) }
     {
         let srlgs = self.srlgs.copy(alloc)?;
@@ -147,24 +148,11 @@ impl Topology {
             return Err(TopologyFault::Link(i));
         }
         let nodes = Vec::from_slice(alloc, nodes);
-        let links = copy_links(alloc, links);
+        let links = copy_all(alloc, links);
         match (nodes, links) {
             (Ok(nodes), Ok(links)) => Ok(Topology { wait, nodes, links }),
             _ => Err(TopologyFault::OutOfMemory),
         }
-    }
-
-    /// The same topology again.
-    pub fn copy(&self, alloc: Global) -> Result<Topology, OutOfMemory>
-        ensures { IfOk result (λ t. t ≡ self.now) }
-    {
-        let nodes = Vec::from_slice(alloc, &self.nodes)?;
-        let links = copy_links(alloc, &self.links)?;
-        Ok(Topology {
-            wait: self.wait,
-            nodes,
-            links,
-        })
     }
 
     /// The ticks that a call waits before it is restored; 0: by command alone.
@@ -232,6 +220,20 @@ impl Topology {
             None => false,
             Some(link) => { (link.low == a && link.high == b) || (link.low == b && link.high == a) }
         }
+    }
+}
+
+impl Copied for Topology {
+    fn copy(&self, alloc: Global) -> Result<Topology, OutOfMemory>
+        ensures { IfOk result (λ t. t ≡ self.now) }
+    {
+        let nodes = Vec::from_slice(alloc, &self.nodes)?;
+        let links = copy_all(alloc, &self.links)?;
+        Ok(Topology {
+            wait: self.wait,
+            nodes,
+            links,
+        })
     }
 }
 
@@ -314,15 +316,4 @@ fn bad_link(nodes: &[NodeSpec], links: &[LinkSpec]) -> Option<usize>
         }
     }
     None
-}
-
-fn copy_links(alloc: Global, links: &[LinkSpec]) -> Result<Vec<LinkSpec>, OutOfMemory>
-    ensures { IfOk result (λ v. v.items ≡ links.now) }
-{
-    let mut copies = Vec::with_capacity(alloc, links.len())?;
-    for link in links {
-        let copy = link.copy(alloc)?;
-        copies.push(copy)?;
-    }
-    Ok(copies)
 }

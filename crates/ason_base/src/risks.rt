@@ -7,6 +7,7 @@ ghost use Rattle.ason_base.specs.declared.ids.LinkId.{LinkId};
 ghost use Rattle.ason_base.specs.declared.risks.Risk.{Risk};
 ghost use Rattle.ason_base.specs.declared.steps.Step.{Step};
 
+use crate::copies::Copied;
 use crate::ids::{LinkId, OutOfMemory};
 use crate::network::TeRow;
 use crate::steps::Steps;
@@ -84,14 +85,6 @@ impl RiskSet {
         &self.risks
     }
 
-    /// The same risks again.
-    pub fn copy(&self, alloc: Global) -> Result<RiskSet, OutOfMemory>
-        ensures { IfOk result (λ r. r ≡ self.now) }
-    {
-        let risks = Vec::from_slice(alloc, &self.risks)?;
-        Ok(RiskSet { risks })
-    }
-
     /// The risks of a route: of each of its links the declared SRLGs and the link itself.
     pub fn of(alloc: Global, rows: &[TeRow], route: &Steps) -> Result<RiskSet, RiskFault>
         ensures exact { IfOk result (λ set. set ≡ route_risks rows.now route.now) }
@@ -116,6 +109,15 @@ impl RiskSet {
         ensures exact { result ≡ not (have_common self.now other.now) }
     {
         are_disjoint(&self.risks, &other.risks)
+    }
+}
+
+impl Copied for RiskSet {
+    fn copy(&self, alloc: Global) -> Result<RiskSet, OutOfMemory>
+        ensures { IfOk result (λ r. r ≡ self.now) }
+    {
+        let risks = Vec::from_slice(alloc, &self.risks)?;
+        Ok(RiskSet { risks })
     }
 }
 

@@ -4,7 +4,7 @@ ghost use Rattle.std.specs.Prelude.{◌≡◌, ◌==◌, ◌∷◌, ◌++◌, []
 ghost use Rattle.std.specs.List.{list_any};
 ghost use Rattle.std.specs.Option.{option_copied};
 ghost use Rattle.ason_base.specs.Network.{find_link, is_distinct, other_end, touches};
-ghost use Rattle.ason_base.specs.Routes.{across, is_beside, is_end, is_given_route, makes_route, nodes_of, one_step, route_end, routes_share_node, routes_share_risk, shares_risk};
+ghost use Rattle.ason_base.specs.Routes.{across, is_beside, is_end, makes_route, nodes_of, one_step, route_end, routes_share_node, routes_share_risk, shares_risk};
 
 use crate::ids::NodeId;
 use crate::network::{LinkSpec, Topology};
@@ -100,16 +100,6 @@ pub fn makes_route(t: &Topology, from: NodeId, to: NodeId, route: &[Step]) -> bo
     ensures { result ≡ makes_route t.now from to route.now }
 {
     is_end(route_end(t, from, route), to) && is_apart(route, to)
-}
-
-/// Whether the route, if one is given, leads from one node to the other, with no node twice.
-pub fn is_given_route(t: &Topology, from: NodeId, to: NodeId, route: Option<&Steps>) -> bool
-    ensures { result ≡ is_given_route t.now from to (option_copied route.entry) }
-{
-    match route {
-        None => true,
-        Some(route) => makes_route(t, from, to, route.items()),
-    }
 }
 
 // Risks

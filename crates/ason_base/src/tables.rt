@@ -4,7 +4,7 @@ ghost use Rattle.std.specs.Prelude.{◌≡◌, [], ◌∷◌, ◌++◌, All, IfO
 ghost use Rattle.ason_base.specs.Lsps.{has_fibre, is_other_fibre, without_fibre};
 
 use crate::calls::{CallState, Cause, Phase, Role};
-use crate::commands::copy_route;
+use crate::copies::Copied;
 use crate::ids::{CallNo, Fibre, Lsp, NodeId, OutOfMemory};
 use crate::items::Items;
 use crate::labels::{Label, LabelSet};
@@ -74,9 +74,10 @@ impl Fibres {
     {
         self.fibres.retain(|g| is_other_fibre(f, *g));
     }
+}
 
-    /// The same fibres again.
-    pub fn copy(&self, alloc: Global) -> Result<Fibres, OutOfMemory>
+impl Copied for Fibres {
+    fn copy(&self, alloc: Global) -> Result<Fibres, OutOfMemory>
         ensures { IfOk result (λ r. r ≡ self.now) }
     {
         let fibres = Vec::from_slice(alloc, &self.fibres)?;
@@ -113,9 +114,8 @@ pub struct Leg {
     pub back_out: Option<Label>,
 }
 
-impl Leg {
-    /// The same leg again.
-    pub fn copy(&self, alloc: Global) -> Result<Leg, OutOfMemory>
+impl Copied for Leg {
+    fn copy(&self, alloc: Global) -> Result<Leg, OutOfMemory>
         ensures { IfOk result (λ r. r ≡ self.now) }
     {
         let route = self.route.copy(alloc)?;
@@ -163,12 +163,11 @@ pub struct CallRec {
     pub ticks: u32,
 }
 
-impl CallRec {
-    /// The same call again.
-    pub fn copy(&self, alloc: Global) -> Result<CallRec, OutOfMemory>
+impl Copied for CallRec {
+    fn copy(&self, alloc: Global) -> Result<CallRec, OutOfMemory>
         ensures { IfOk result (λ r. r ≡ self.now) }
     {
-        let backup = copy_route(alloc, &self.backup)?;
+        let backup = self.backup.copy(alloc)?;
         let work_reports = self.work_reports.copy(alloc)?;
         let back_reports = self.back_reports.copy(alloc)?;
         Ok(CallRec {
@@ -192,6 +191,15 @@ impl CallRec {
 pub struct Out {
     pub to: NodeId,
     pub msg: Msg,
+}
+
+impl Copied for Out {
+    fn copy(&self, alloc: Global) -> Result<Out, OutOfMemory>
+        ensures { IfOk result (λ r. r ≡ self.now) }
+    {
+        let msg = self.msg.copy(alloc)?;
+        Ok(Out { to: self.to, msg })
+    }
 }
 
 /// The messages of a step, in order.

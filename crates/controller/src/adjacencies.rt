@@ -141,18 +141,6 @@ fn prepare_framed(
     Frame::new(alloc, me, to, &packet)
 }
 
-/// The same messages again.
-pub(crate) fn copy_outs(alloc: Global, outs: &[Out]) -> Result<Vec<Out>, OutOfMemory>
-    ensures { IfOk result (λ v. v.items ≡ outs.now) }
-{
-    let mut copies = Vec::with_capacity(alloc, outs.len())?;
-    for out in outs {
-        let msg = out.msg.copy(alloc)?;
-        copies.push(Out { to: out.to, msg })?;
-    }
-    Ok(copies)
-}
-
 /// Prepares these messages, in order. Their frames go to the end of the list.
 pub(crate) fn prepare_all(
     alloc: Global,

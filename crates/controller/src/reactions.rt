@@ -14,12 +14,12 @@ ghost use Rattle.controller.specs.Frames.{AllSpelled, IsFrame, SpellsNothing, fr
 ghost use Rattle.controller.specs.Kept.{AllToNeighbours, IsFromNeighbour, IsKept, IsReady};
 
 use crate::adjacencies::{
-    Adjacency, age_all, commit_all, copy_outs, discard_all, frame_due, hears, prepare_all, take,
+    Adjacency, age_all, commit_all, discard_all, frame_due, hears, prepare_all, take,
 };
 use crate::frames::Frame;
 use crate::inputs::CoreInput;
 use crate::packets::{acknowledge, packet_of};
-use ason_base::{DeskItem, Msg, NodeId, OutOfMemory, Packet};
+use ason_base::{Copied, DeskItem, Msg, NodeId, OutOfMemory, Packet, copy_all};
 use hop_reliable::Heard;
 use node_core::{Change, Input, Node};
 use std::alloc::Global;
@@ -45,7 +45,7 @@ fn prepared(
         (AnswerIsSpelled node.now adjacencies.old (answer_to node.now input.now)) }
 {
     let change = node.answer(alloc, input)?;
-    let outs = copy_outs(alloc, change.sent().items())?;
+    let outs = copy_all(alloc, change.sent().items())?;
     prepare_all(alloc, node.id(), adjacencies, frames, outs)?;
     Ok(change)
 }

@@ -3,8 +3,8 @@
 use crate::controller::MOST_STEPS;
 use crate::{Controller, CoreInput, Frames, Pending};
 use ason_base::{
-    Bytes, CallNo, Command, DeskItem, Label, LinkId, LinkSpec, NodeId, NodeSpec, Numbers, Phase,
-    Step, Steps, TableRows, Topology,
+    Bytes, CallNo, Command, Copied, DeskItem, Label, LinkId, LinkSpec, NodeId, NodeSpec, Numbers,
+    Phase, Step, Steps, TableRows, Topology,
 };
 use std::alloc::Global;
 use std::test::Fail;

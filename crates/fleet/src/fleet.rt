@@ -18,7 +18,7 @@ use crate::looks::look;
 use crate::posts::ingress;
 use crate::seats::{Seat, new_seats};
 use crate::waiting::{are_quiet, items_of, rows_of, unacked_of};
-use ason_base::{Command, DeskItem, NodeId, OutOfMemory, TableRows, Topology};
+use ason_base::{Command, Copied, DeskItem, NodeId, OutOfMemory, TableRows, Topology};
 use station::{Station, Turn};
 use std::alloc::Global;
 use std::marker::Model;

@@ -6,11 +6,11 @@ ghost use Rattle.flood.specs.State.{IsStart, declared_row, has_room, is_end, is_
 use crate::known::KnownRows;
 use crate::messages::FloodMsg;
 use crate::neighbours::{
-    Neighbour, age_neighbours, copy_all, new_all, pending, push_first_sendings, queue_all, rising,
+    Neighbour, age_neighbours, new_all, pending, push_first_sendings, queue_all, rising,
     sent_at_tick, take_ack, unqueue_first,
 };
 use crate::sends::{FloodOut, FloodSends};
-use ason_base::{LinkId, NodeId, OutOfMemory, TeRow};
+use ason_base::{Copied, LinkId, NodeId, OutOfMemory, TeRow, copy_all};
 use std::alloc::Global;
 use std::marker::Model;
 
@@ -43,19 +43,6 @@ impl Flood {
         Ok(Flood {
             me,
             known: KnownRows::new(alloc),
-            neighbours,
-        })
-    }
-
-    /// The same again.
-    pub fn copy(&self, alloc: Global) -> Result<Flood, OutOfMemory>
-        ensures { IfOk result (λ f. f ≡ self.now) }
-    {
-        let known = self.known.copy(alloc)?;
-        let neighbours = copy_all(alloc, &self.neighbours)?;
-        Ok(Flood {
-            me: self.me,
-            known,
             neighbours,
         })
     }
@@ -197,6 +184,20 @@ impl Flood {
         ensures { result ≡ pending_count self.now }
     {
         pending(&self.neighbours)
+    }
+}
+
+impl Copied for Flood {
+    fn copy(&self, alloc: Global) -> Result<Flood, OutOfMemory>
+        ensures { IfOk result (λ f. f ≡ self.now) }
+    {
+        let known = self.known.copy(alloc)?;
+        let neighbours = copy_all(alloc, &self.neighbours)?;
+        Ok(Flood {
+            me: self.me,
+            known,
+            neighbours,
+        })
     }
 }
 

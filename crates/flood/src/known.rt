@@ -6,7 +6,7 @@ ghost use Rattle.std.specs.List.Sorted.{IsNonDecreasing};
 ghost use Rattle.flood.specs.State.{has_room, is_known, with_end, with_ends};
 
 use ason_base::network::{MOST_LINKS, MOST_NODES};
-use ason_base::{LinkId, OutOfMemory, TeRow};
+use ason_base::{Copied, LinkId, OutOfMemory, TeRow, copy_all};
 use std::alloc::Global;
 use std::marker::Model;
 
@@ -41,16 +41,6 @@ impl KnownRows {
             links: Vec::new(alloc),
             ends: Vec::new(alloc),
         }
-    }
-
-    /// The same rows again.
-    pub fn copy(&self, alloc: Global) -> Result<KnownRows, OutOfMemory>
-        ensures { IfOk result (λ k. k ≡ self.now) }
-    {
-        let rows = copy_rows(alloc, &self.rows)?;
-        let links = Vec::from_slice(alloc, &self.links)?;
-        let ends = Vec::from_slice(alloc, &self.ends)?;
-        Ok(KnownRows { rows, links, ends })
     }
 
     /// The rows, in order of learning.
@@ -89,15 +79,15 @@ impl KnownRows {
     }
 }
 
-/// The same rows again.
-fn copy_rows(alloc: Global, rows: &[TeRow]) -> Result<Vec<TeRow>, OutOfMemory>
-    ensures { IfOk result (λ all. all.items ≡ rows.now) }
-{
-    let mut all = Vec::with_capacity(alloc, rows.len())?;
-    for row in rows {
-        all.push(row.copy(alloc)?)?;
+impl Copied for KnownRows {
+    fn copy(&self, alloc: Global) -> Result<KnownRows, OutOfMemory>
+        ensures { IfOk result (λ k. k ≡ self.now) }
+    {
+        let rows = copy_all(alloc, &self.rows)?;
+        let links = Vec::from_slice(alloc, &self.links)?;
+        let ends = Vec::from_slice(alloc, &self.ends)?;
+        Ok(KnownRows { rows, links, ends })
     }
-    Ok(all)
 }
 
 /// Puts a link's number in its place, if it isn't there. There is room for it.

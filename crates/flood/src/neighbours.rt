@@ -8,7 +8,7 @@ ghost use Rattle.flood.specs.State.{acked_by, due_to, first_sending, first_sendi
 use crate::due::{Due, age_after_tick, age_all, copies, goes_at, take_off};
 use crate::messages::FloodMsg;
 use crate::sends::FloodSends;
-use ason_base::{NodeId, OutOfMemory, TeRow};
+use ason_base::{Copied, NodeId, OutOfMemory, TeRow};
 use std::alloc::Global;
 use std::collections::VecDeque;
 use std::marker::Model;
@@ -41,18 +41,6 @@ impl Neighbour {
             sent: 0,
             due: VecDeque::new(alloc),
         }
-    }
-
-    /// The same neighbour again.
-    pub fn copy(&self, alloc: Global) -> Result<Neighbour, OutOfMemory>
-        ensures { IfOk result (λ n. n ≡ self.now) }
-    {
-        let due = copies(alloc, &self.due)?;
-        Ok(Neighbour {
-            id: self.id,
-            sent: self.sent,
-            due,
-        })
     }
 
     /// Makes the row due to it with the next number.
@@ -170,6 +158,19 @@ impl Neighbour {
     }
 }
 
+impl Copied for Neighbour {
+    fn copy(&self, alloc: Global) -> Result<Neighbour, OutOfMemory>
+        ensures { IfOk result (λ n. n ≡ self.now) }
+    {
+        let due = copies(alloc, &self.due)?;
+        Ok(Neighbour {
+            id: self.id,
+            sent: self.sent,
+            due,
+        })
+    }
+}
+
 /// Adds what of these rows goes out to the neighbour in a tick.
 fn push_due(
     alloc: Global,
@@ -227,20 +228,6 @@ pub(crate) fn unqueue_first(neighbours: &mut [Neighbour], count: usize, from: Op
     for i in 0..count {
         neighbours[i].unqueue_unless(from);
     }
-}
-
-/// The same neighbours again.
-pub(crate) fn copy_all(
-    alloc: Global,
-    neighbours: &[Neighbour],
-) -> Result<Vec<Neighbour>, OutOfMemory>
-    ensures { IfOk result (λ ns. ns.items ≡ neighbours.now) }
-{
-    let mut all = Vec::with_capacity(alloc, neighbours.len())?;
-    for n in neighbours {
-        all.push(n.copy(alloc)?)?;
-    }
-    Ok(all)
 }
 
 /// Takes off the row that a neighbour acknowledged.

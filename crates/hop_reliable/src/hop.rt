@@ -4,8 +4,8 @@ ghost use Rattle.std.specs.Prelude.{◌≡◌, ◌+◌, ◌-◌, ◌<◌, ◌≤
 ghost use Rattle.hop_reliable.specs.Hop.{all_sent, fresh, heard_as, last_number, numbered, received, resent, resting, taken, ticked, with_next};
 
 use crate::heard::{Heard, heard_as};
-use crate::unacked::{Unacked, age_all, copies, due_after_tick, numbered, take_off};
-use ason_base::{Msg, MsgId, OutOfMemory, Packet};
+use crate::unacked::{Unacked, age_all, due_after_tick, numbered, take_off};
+use ason_base::{Copied, Msg, MsgId, OutOfMemory, Packet, copy_all};
 use std::alloc::Global;
 use std::marker::Model;
 
@@ -44,21 +44,6 @@ impl Hop {
             unacked: Vec::new(alloc),
             prepared: Vec::new(alloc),
         }
-    }
-
-    /// The same hop again.
-    pub fn copy(&self, alloc: Global) -> Result<Hop, OutOfMemory>
-        ensures { IfOk result (λ h. h ≡ self.now) }
-    {
-        let mut unacked = copies(alloc, &self.unacked)?;
-        let prepared = copies(alloc, &self.prepared)?;
-        unacked.reserve(prepared.len())?;
-        Ok(Hop {
-            sent: self.sent,
-            handed_up: self.handed_up,
-            unacked,
-            prepared,
-        })
     }
 
     /// Gives the message the next number, and keeps it until it is acknowledged. The packet is the message as it goes out
@@ -193,6 +178,22 @@ impl Hop {
         ensures { result ≡ self.now.state.sent }
     {
         self.sent
+    }
+}
+
+impl Copied for Hop {
+    fn copy(&self, alloc: Global) -> Result<Hop, OutOfMemory>
+        ensures { IfOk result (λ h. h ≡ self.now) }
+    {
+        let mut unacked = copy_all(alloc, &self.unacked)?;
+        let prepared = copy_all(alloc, &self.prepared)?;
+        unacked.reserve(prepared.len())?;
+        Ok(Hop {
+            sent: self.sent,
+            handed_up: self.handed_up,
+            unacked,
+            prepared,
+        })
     }
 }
 

@@ -6,7 +6,7 @@ ghost use Rattle.hop_reliable.specs.Hop.{again, is_ack_of, numbered, older, stil
 
 use crate::ages::{is_due, older_age};
 use crate::heard::EPOCH;
-use ason_base::{Ids, Msg, MsgId, OutOfMemory, Packet};
+use ason_base::{Copied, Ids, Msg, MsgId, OutOfMemory, Packet};
 use std::alloc::Global;
 
 /// A message that was sent and not acknowledged. `age` counts ticks since its first sending, where 68 counts as 8.
@@ -17,9 +17,8 @@ pub struct Unacked {
     pub msg: Msg,
 }
 
-impl Unacked {
-    /// The same again.
-    pub fn copy(&self, alloc: Global) -> Result<Unacked, OutOfMemory>
+impl Copied for Unacked {
+    fn copy(&self, alloc: Global) -> Result<Unacked, OutOfMemory>
         ensures { IfOk result (λ w. w ≡ self.now) }
     {
         let msg = self.msg.copy(alloc)?;
@@ -43,17 +42,6 @@ pub(crate) fn numbered(alloc: Global, number: u32, msg: Msg) -> Packet
         acks: Ids::new(alloc),
         body: Some(msg),
     }
-}
-
-/// The same messages again, with their numbers and ages.
-pub(crate) fn copies(alloc: Global, unacked: &[Unacked]) -> Result<Vec<Unacked>, OutOfMemory>
-    ensures { IfOk result (λ ws. ws.items ≡ unacked.now) }
-{
-    let mut all = Vec::with_capacity(alloc, unacked.len())?;
-    for w in unacked {
-        all.push(w.copy(alloc)?)?;
-    }
-    Ok(all)
 }
 
 /// What goes again once each message is a tick older.

@@ -5,7 +5,7 @@ ghost use Rattle.mesh_rules.specs.declared.changes.LegChange.TheVariants as chan
 ghost use Rattle.leg_table.specs.Edits.{change_of};
 ghost use Rattle.leg_table.specs.Tables.{in_phase, with_back_labels, with_labels};
 
-use ason_base::{Label, Leg, Lsp, OutOfMemory, Phase};
+use ason_base::{Copied, Label, Leg, Lsp, OutOfMemory, Phase};
 use std::alloc::Global;
 use std::marker::Model;
 
@@ -29,14 +29,6 @@ impl BoxedLeg {
     {
         let leg = Box::new(alloc, leg)?;
         Ok(BoxedLeg { leg })
-    }
-
-    /// The same leg again.
-    pub fn copy(&self, alloc: Global) -> Result<BoxedLeg, OutOfMemory>
-        ensures { IfOk result (λ b. b ≡ self.now) }
-    {
-        let leg = self.leg.copy(alloc)?;
-        BoxedLeg::new(alloc, leg)
     }
 
     pub fn leg(&self) -> &Leg
@@ -69,6 +61,15 @@ impl BoxedLeg {
         ensures { result ≡ self }
     {
         Box::into_inner(self.leg)
+    }
+}
+
+impl Copied for BoxedLeg {
+    fn copy(&self, alloc: Global) -> Result<BoxedLeg, OutOfMemory>
+        ensures { IfOk result (λ b. b ≡ self.now) }
+    {
+        let leg = self.leg.copy(alloc)?;
+        BoxedLeg::new(alloc, leg)
     }
 }
 

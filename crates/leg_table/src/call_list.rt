@@ -7,9 +7,9 @@ ghost use Rattle.leg_table.specs.CallLists.{AreCalls, GrewBy, HasRoom, IsEntryOf
 ghost use Rattle.leg_table.specs.LspIndexes.{HasJust, IndexRises, IsSet, IsTakenOff, back_of, work_of};
 ghost use Rattle.leg_table.specs.Tables.{call_changed, number_of, serves, with_lsps};
 
-use crate::calls::{copy_calls, find_call, set_call, set_lsps, take_call};
+use crate::calls::{find_call, set_call, set_lsps, take_call};
 use crate::lsp_index::{LspOfCall, add, first_call, remove, replace};
-use ason_base::{CallNo, CallRec, Lsp, OutOfMemory};
+use ason_base::{CallNo, CallRec, Copied, Lsp, OutOfMemory, copy_all};
 use mesh_rules::CallChange;
 use std::alloc::Global;
 
@@ -108,13 +108,8 @@ impl CallList {
         }
     }
 
-    /// The same calls again.
-    pub(crate) fn copy(&self, alloc: Global) -> Result<CallList, OutOfMemory>
-        requires { AreCalls self.now }
-        ensures calls { IfOk result (λ t. t.calls.items ≡ self.now.calls.items) }
-        ensures fit { IfOk result AreCalls }
     {
-        let calls = copy_calls(alloc, &self.calls)?;
+        let calls = copy_all(alloc, &self.calls)?;
         let works = Vec::from_slice(alloc, &self.works)?;
         let backs = Vec::from_slice(alloc, &self.backs)?;
         Ok(CallList {
@@ -245,4 +240,11 @@ impl CallList {
     {
         lesser(first_call(&self.works, lsp), first_call(&self.backs, lsp))
     }
+}
+
+impl Copied for CallList {
+    fn copy(&self, alloc: Global) -> Result<CallList, OutOfMemory>
+        requires { AreCalls self.now }
+        ensures calls { IfOk result (λ t. t.calls.items ≡ self.now.calls.items) }
+        ensures fit { IfOk result AreCalls }
 }

@@ -7,7 +7,7 @@ ghost use Rattle.leg_table.specs.Tables.{in_state, number_of, reported, serves, 
 
 use crate::call_list::CallList;
 use crate::calls::{find_call, report, set_state, unreport};
-use ason_base::{CallNo, CallRec, CallState, Cause, Fibre, Lsp, OutOfMemory, Role};
+use ason_base::{CallNo, CallRec, CallState, Cause, Copied, Fibre, Lsp, OutOfMemory, Role};
 use std::alloc::Global;
 use std::marker::Model;
 
@@ -42,19 +42,6 @@ impl Calls {
             tunnel: 1,
             lsp: 1,
         }
-    }
-
-    /// The same calls again.
-    pub fn copy(&self, alloc: Global) -> Result<Calls, OutOfMemory>
-        ensures { IfOk result (λ t. t ≡ self.now) }
-    {
-        let list = self.list.copy(alloc)?;
-        Ok(Calls {
-            alloc,
-            list,
-            tunnel: self.tunnel,
-            lsp: self.lsp,
-        })
     }
 
     /// Adds a call of a new number. After want of memory nothing has changed.
@@ -178,6 +165,20 @@ impl Calls {
     {
         self.tunnel = tunnel;
         self.lsp = lsp;
+    }
+}
+
+impl Copied for Calls {
+    fn copy(&self, alloc: Global) -> Result<Calls, OutOfMemory>
+        ensures { IfOk result (λ t. t ≡ self.now) }
+    {
+        let list = self.list.copy(alloc)?;
+        Ok(Calls {
+            alloc,
+            list,
+            tunnel: self.tunnel,
+            lsp: self.lsp,
+        })
     }
 }
 

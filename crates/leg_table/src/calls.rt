@@ -206,14 +206,3 @@ pub(crate) fn unreport(calls: &mut Vec<CallRec>, number: CallNo, role: Role, f: 
         drop_report(&mut calls[place], role, f);
     }
 }
-
-pub(crate) fn copy_calls(alloc: Global, calls: &[CallRec]) -> Result<Vec<CallRec>, OutOfMemory>
-    ensures { IfOk result (λ v. v.items ≡ calls.now) }
-{
-    let mut copies = Vec::with_capacity(alloc, calls.len())?;
-    for call in calls {
-        let copy = call.copy(alloc)?;
-        copies.push(copy)?;
-    }
-    Ok(copies)
-}

@@ -176,15 +176,3 @@ pub(crate) fn set_back(
         legs[place].set_back(back_in, back_out);
     }
 }
-
-/// The same legs again.
-pub(crate) fn copy_legs(alloc: Global, legs: &[BoxedLeg]) -> Result<Vec<BoxedLeg>, OutOfMemory>
-    ensures { IfOk result (λ v. v.items ≡ legs.now) }
-{
-    let mut copies = Vec::with_capacity(alloc, legs.len())?;
-    for leg in legs {
-        let copy = leg.copy(alloc)?;
-        copies.push(copy)?;
-    }
-    Ok(copies)
-}

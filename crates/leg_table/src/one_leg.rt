@@ -3,7 +3,7 @@
 ghost use Rattle.std.specs.Prelude.{◌≡◌, IfOk};
 ghost use Rattle.mesh_rules.specs.Legs.{closed, closing_phase, connected, following, is_asked, is_beyond_asked, is_closing, is_node, is_over, is_work, neighbour_over, previous, reserved};
 
-use ason_base::{Fibre, Label, Leg, LinkId, NodeId, OutOfMemory, Phase, Role};
+use ason_base::{Copied, Fibre, Label, Leg, LinkId, NodeId, OutOfMemory, Phase, Role};
 use mesh_rules::Neighbour;
 use std::alloc::Global;
 

@@ -11,8 +11,8 @@ use crate::boxes::BoxedLeg;
 use crate::legs;
 use ason_base::routes::touches;
 use ason_base::{
-    Fibre, Fibres, Label, Leg, LinkId, LinkSpec, Lsp, NodeId, NodeSpec, OutOfMemory, Phase, TeRow,
-    Topology,
+    Copied, Fibre, Fibres, Label, Leg, LinkId, LinkSpec, Lsp, NodeId, NodeSpec, OutOfMemory, Phase,
+    TeRow, Topology, copy_all,
 };
 use std::alloc::Global;
 use std::marker::Model;
@@ -66,24 +66,6 @@ impl NodeTables {
             rows,
             down: Fibres::new(alloc),
             legs: Vec::new(alloc),
-        })
-    }
-
-    /// The same tables again.
-    pub fn copy(&self, alloc: Global) -> Result<NodeTables, OutOfMemory>
-        ensures { IfOk result (λ s. s ≡ self.now) }
-    {
-        let own = copy_links(alloc, &self.own)?;
-        let rows = copy_rows(alloc, &self.rows)?;
-        let down = self.down.copy(alloc)?;
-        let legs = legs::copy_legs(alloc, &self.legs)?;
-        Ok(NodeTables {
-            node: self.node,
-            wait: self.wait,
-            own,
-            rows,
-            down,
-            legs,
         })
     }
 
@@ -229,6 +211,25 @@ impl NodeTables {
     }
 }
 
+impl Copied for NodeTables {
+    fn copy(&self, alloc: Global) -> Result<NodeTables, OutOfMemory>
+        ensures { IfOk result (λ s. s ≡ self.now) }
+    {
+        let own = copy_all(alloc, &self.own)?;
+        let rows = copy_all(alloc, &self.rows)?;
+        let down = self.down.copy(alloc)?;
+        let legs = copy_all(alloc, &self.legs)?;
+        Ok(NodeTables {
+            node: self.node,
+            wait: self.wait,
+            own,
+            rows,
+            down,
+            legs,
+        })
+    }
+}
+
 /// Adds the fibre, unless it is there.
 pub(crate) fn add_fibre(fibres: &mut Fibres, f: Fibre) -> Result<(), OutOfMemory>
     ensures ok { OnOk result (fibres.new ≡ with_fibre f fibres.old) }
@@ -268,28 +269,6 @@ fn copy_own(alloc: Global, links: &[LinkSpec], n: NodeId) -> Result<Vec<LinkSpec
         }
     }
     Ok(own)
-}
-
-fn copy_links(alloc: Global, links: &[LinkSpec]) -> Result<Vec<LinkSpec>, OutOfMemory>
-    ensures { IfOk result (λ v. v.items ≡ links.now) }
-{
-    let mut copies = Vec::with_capacity(alloc, links.len())?;
-    for link in links {
-        let copy = link.copy(alloc)?;
-        copies.push(copy)?;
-    }
-    Ok(copies)
-}
-
-fn copy_rows(alloc: Global, rows: &[TeRow]) -> Result<Vec<TeRow>, OutOfMemory>
-    ensures { IfOk result (λ v. v.items ≡ rows.now) }
-{
-    let mut copies = Vec::with_capacity(alloc, rows.len())?;
-    for row in rows {
-        let copy = row.copy(alloc)?;
-        copies.push(copy)?;
-    }
-    Ok(copies)
 }
 
 fn rows_of(alloc: Global, links: &[LinkSpec]) -> Result<Vec<TeRow>, OutOfMemory>

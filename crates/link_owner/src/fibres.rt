@@ -5,7 +5,7 @@ ghost use Rattle.link_owner.specs.Claims.{IsLeast, NoClaim, RefusedFor, armed, b
 
 use crate::claims;
 use crate::claims::{Busy, Claim, ClaimFault, ClaimKind, Sought, is_of_lsp, least_lsp};
-use ason_base::{Fibre, Label, LabelSet, Lsp, OutOfMemory};
+use ason_base::{Copied, Fibre, Label, LabelSet, Lsp, OutOfMemory};
 use std::alloc::Global;
 use std::marker::Model;
 
@@ -39,18 +39,6 @@ impl FibreOwner {
             labels,
             claims: Vec::new(alloc),
         }
-    }
-
-    /// The same claims again.
-    pub(crate) fn copy(&self, alloc: Global) -> Result<FibreOwner, OutOfMemory>
-        ensures { IfOk result (λ r. r ≡ self.now) }
-    {
-        let claims = Vec::from_slice(alloc, &self.claims)?;
-        Ok(FibreOwner {
-            fibre: self.fibre,
-            labels: self.labels,
-            claims,
-        })
     }
 
     pub(crate) fn fibre(&self) -> Fibre
@@ -165,5 +153,18 @@ impl FibreOwner {
         ensures { result ≡ shareable self.now.labels self.now.claims }
     {
         claims::shareable(&self.claims, self.labels)
+    }
+}
+
+impl Copied for FibreOwner {
+    fn copy(&self, alloc: Global) -> Result<FibreOwner, OutOfMemory>
+        ensures { IfOk result (λ r. r ≡ self.now) }
+    {
+        let claims = Vec::from_slice(alloc, &self.claims)?;
+        Ok(FibreOwner {
+            fibre: self.fibre,
+            labels: self.labels,
+            claims,
+        })
     }
 }

@@ -8,7 +8,9 @@ ghost use Rattle.link_owner.specs.Owners.{HasFibresInto, claim_added, claims_of,
 use crate::claims::{Busy, Claim, ClaimFault};
 use crate::fibres::FibreOwner;
 use ason_base::routes::touches;
-use ason_base::{Fibre, Label, LabelSet, LinkSpec, Lsp, NodeId, OutOfMemory, Topology};
+use ason_base::{
+    Copied, Fibre, Label, LabelSet, LinkSpec, Lsp, NodeId, OutOfMemory, Topology, copy_all,
+};
 use std::alloc::Global;
 use std::marker::Model;
 
@@ -38,18 +40,6 @@ impl Owner {
             if touches(node, link) {
                 fibres.push(unclaimed_fibre(alloc, node, link))?;
             }
-        }
-        Ok(Owner { fibres })
-    }
-
-    /// The same claims again.
-    pub fn copy(&self, alloc: Global) -> Result<Owner, OutOfMemory>
-        ensures { IfOk result (λ o. o ≡ self.now) }
-    {
-        let mut fibres = Vec::with_capacity(alloc, self.fibres.len())?;
-        for fibre in &self.fibres {
-            let copy = fibre.copy(alloc)?;
-            fibres.push(copy)?;
         }
         Ok(Owner { fibres })
     }
@@ -155,6 +145,15 @@ impl Owner {
     {
         let place = self.place(f);
         self.fibres[place].shareable()
+    }
+}
+
+impl Copied for Owner {
+    fn copy(&self, alloc: Global) -> Result<Owner, OutOfMemory>
+        ensures { IfOk result (λ o. o ≡ self.now) }
+    {
+        let fibres = copy_all(alloc, &self.fibres)?;
+        Ok(Owner { fibres })
     }
 }
 

@@ -6,7 +6,7 @@ ghost use Rattle.mesh_rules.specs.Rows.{call_rows, leg_rows};
 ghost use Rattle.node_core.specs.Nodes.{IsAnswerOf, answer_to};
 ghost use Rattle.mesh.specs.Kept.{is_node, node_at, state_at, with_state};
 
-use ason_base::{CallRows, LegRows, NodeId, NodeSpec, OutOfMemory, Outs, TableRows, Topology};
+use ason_base::{CallRows, Copied, LegRows, NodeId, NodeSpec, OutOfMemory, Outs, TableRows, Topology};
 use node_core::{Change, Input, Node};
 use std::alloc::Global;
 use std::marker::Model;

@@ -4,7 +4,7 @@ ghost use Rattle.std.specs.Prelude.{◌≡◌, ◌≤◌, ◌+◌, ◌∷◌, �
 ghost use Rattle.ason_base.specs.declared.commands.DeskItem.TheVariants.{Order};
 ghost use Rattle.mesh.specs.Kept.{is_between, is_waiting, sent_by};
 
-use ason_base::{Command, DeskItem, Msg, NodeId, Out, OutOfMemory, Outs};
+use ason_base::{Command, Copied, DeskItem, Msg, NodeId, Out, OutOfMemory, Outs};
 use std::alloc::Global;
 
 /// An item on a node's desk.

@@ -14,7 +14,7 @@ ghost use Rattle.mesh.specs.Kept.{IsStep, acted, desk_of, fault_if, is_between, 
 use crate::nodes::Nodes;
 use crate::queues::{Sent, Waiting, first_item, first_message, order, send};
 use ason_base::routes::{other_end, touches};
-use ason_base::{CallNo, Command, LinkId, NodeId, OutOfMemory, TableRows, Topology};
+use ason_base::{CallNo, Command, Copied, LinkId, NodeId, OutOfMemory, TableRows, Topology};
 use mesh_rules::commands::{has_node, is_again, is_valid};
 use mesh_rules::{MeshEvent, StepFault};
 use node_core::Input;

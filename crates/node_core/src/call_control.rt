@@ -18,8 +18,8 @@ ghost use Rattle.node_core.specs.Rules.{CanSearch, admitted_here, begins_here, c
 use crate::routes::least_route;
 use ason_base::routes::other_end;
 use ason_base::{
-    CallNo, CallRec, CallState, Cause, ErrCode, Fibres, LabelSet, Leg, LinkId, LinkSpec, Lsp, Msg,
-    NodeId, OutOfMemory, PathRole, Phase, RiskSet, Role, Steps,
+    CallNo, CallRec, CallState, Cause, Copied, ErrCode, Fibres, LabelSet, Leg, LinkId, LinkSpec,
+    Lsp, Msg, NodeId, OutOfMemory, PathRole, Phase, RiskSet, Role, Steps,
 };
 use leg_table::one_leg::{closed, following};
 use leg_table::{Calls, Change, NodeTables};
@@ -145,18 +145,6 @@ impl<'a> Model for SetupRequest<'a> {
     ghost view = { λ r. record { call = r.call; from = r.from; egress = r.egress; protected = r.protected; both = r.both; via = r.via.now; backup = r.backup.now } };
 }
 
-fn copy_route(alloc: Global, route: &Option<Steps>) -> Result<Option<Steps>, OutOfMemory>
-    ensures { IfOk result (λ r. r ≡ route.now) }
-{
-    match route {
-        None => Ok(None),
-        Some(steps) => {
-            let steps = steps.copy(alloc)?;
-            Ok(Some(steps))
-        }
-    }
-}
-
 fn call_record(
     alloc: Global,
     request: &SetupRequest<'_>,
@@ -166,7 +154,7 @@ fn call_record(
 ) -> Result<CallRec, OutOfMemory>
     ensures { IfOk result (λ c. c ≡ call_record request.now state work cause) }
 {
-    let backup = copy_route(alloc, request.backup)?;
+    let backup = request.backup.copy(alloc)?;
     Ok(CallRec {
         call: request.call,
         egress: request.egress,

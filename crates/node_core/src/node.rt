@@ -15,7 +15,7 @@ ghost use Rattle.node_core.specs.Nodes.{IsAnswerOf, IsWritableInput, answer_to, 
 use crate::inputs::Input;
 use crate::rows::{call_rows, leg_rows};
 use crate::rules::on_input;
-use ason_base::{NodeId, OutOfMemory, Outs, TableRows, Topology};
+use ason_base::{Copied, NodeId, OutOfMemory, Outs, TableRows, Topology};
 use leg_table::carrying::carry_out;
 use leg_table::{Calls, Change, NodeTables};
 use link_owner::Owner;
@@ -53,20 +53,6 @@ impl Node {
             tables,
             owner,
             calls: Calls::new(alloc),
-        })
-    }
-
-    /// The same node again.
-    pub fn copy(&self, alloc: Global) -> Result<Node, OutOfMemory>
-        ensures { IfOk result (λ n. n ≡ self.now) }
-    {
-        let tables = self.tables.copy(alloc)?;
-        let owner = self.owner.copy(alloc)?;
-        let calls = self.calls.copy(alloc)?;
-        Ok(Node {
-            tables,
-            owner,
-            calls,
         })
     }
 
@@ -136,6 +122,21 @@ impl Node {
         let calls = call_rows(alloc, id, &self.tables, self.calls.calls())?;
         let legs = leg_rows(alloc, id, &self.tables)?;
         Ok(TableRows { calls, legs })
+    }
+}
+
+impl Copied for Node {
+    fn copy(&self, alloc: Global) -> Result<Node, OutOfMemory>
+        ensures { IfOk result (λ n. n ≡ self.now) }
+    {
+        let tables = self.tables.copy(alloc)?;
+        let owner = self.owner.copy(alloc)?;
+        let calls = self.calls.copy(alloc)?;
+        Ok(Node {
+            tables,
+            owner,
+            calls,
+        })
     }
 }
 

@@ -10,8 +10,8 @@ ghost use Rattle.path_state.specs.Answers.{IsUnknownFor, admitted_here, asked_he
 use ason_base::codes::{FULL, PRIMARY, ROUTE, SET};
 use ason_base::routes::other_end;
 use ason_base::{
-    ErrCode, LabelSet, Leg, LinkSpec, Lsp, Msg, NodeId, OutOfMemory, PathRole, Phase, RiskFault,
-    RiskSet, Role, Step, Steps,
+    Copied, ErrCode, LabelSet, Leg, LinkSpec, Lsp, Msg, NodeId, OutOfMemory, PathRole, Phase,
+    RiskFault, RiskSet, Role, Step, Steps,
 };
 use leg_table::labels::usable;
 use leg_table::one_leg::reserved;

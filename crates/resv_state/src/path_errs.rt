@@ -7,7 +7,7 @@ ghost use Rattle.leg_table.specs.States.{legs_state};
 ghost use Rattle.resv_state.specs.Answers.{err_passed_here, path_err_answer, refuses, refuses_leg, removed_here};
 
 use crate::resvs::begins_here;
-use ason_base::{ErrCode, Leg, Lsp, Msg, NodeId, OutOfMemory};
+use ason_base::{Copied, ErrCode, Leg, Lsp, Msg, NodeId, OutOfMemory};
 use leg_table::one_leg::{following, is_asked, is_closing, is_node, previous};
 use leg_table::{Change, NodeTables};
 use std::alloc::Global;

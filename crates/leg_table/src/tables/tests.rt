@@ -5,8 +5,8 @@ ghost use Rattle.ason_base.specs.Network.{is_node_id};
 
 use crate::tables::NodeTables;
 use ason_base::{
-    Fibre, Fibres, LabelSet, Leg, LinkId, LinkSpec, Lsp, NodeId, NodeSpec, Numbers, PathRole,
-    Phase, RiskSet, Role, Srlgs, Steps, TeRow, Topology,
+    Copied, Fibre, Fibres, LabelSet, Leg, LinkId, LinkSpec, Lsp, NodeId, NodeSpec, Numbers,
+    PathRole, Phase, RiskSet, Role, Srlgs, Steps, TeRow, Topology,
 };
 use std::alloc::Global;
 use std::test::Fail;

@@ -6,7 +6,7 @@ ghost use Rattle.ason_base.specs.Network.{is_node_id};
 use crate::fibres::FibreOwner;
 use crate::owner::Owner;
 use ason_base::{
-    Fibre, Label, LinkId, LinkSpec, Lsp, NodeId, NodeSpec, Numbers, OutOfMemory, Topology,
+    Copied, Fibre, Label, LinkId, LinkSpec, Lsp, NodeId, NodeSpec, Numbers, OutOfMemory, Topology,
 };
 use std::alloc::Global;
 use std::test::Fail;
