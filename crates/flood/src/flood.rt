@@ -1,6 +1,6 @@
 //! What a node knows of links, and what it still owes its neighbours.
 
-ghost use Rattle.std.specs.Prelude.{◌≡◌, ◌<◌, length, Some, IfOk, OnErr, OnOk, IsTrue, false};
+ghost use Rattle.std.specs.Prelude.{◌≡◌, ℕ, ◌<◌, length, Some, IfOk, OnErr, OnOk, IsTrue, false};
 ghost use Rattle.flood.specs.State.{IsStart, declared_row, has_room, is_end, is_known, is_new, learnt_of, pending_count, received, sends_after, sent_at_tick, ticked, with_row};
 
 use crate::known::KnownRows;
@@ -82,9 +82,42 @@ impl Flood {
         }
     }
 
-    /// Takes a flood message of a neighbour. A row is acknowledged; a new one becomes known and goes at once to the other
-    /// neighbours. It is not new where its link is known or this node is one of its ends, or where the rows would be more
-    /// than 256 or have more than 64 different ends.
+    /// What a flood message of a neighbour comes to. A row is acknowledged; a new one becomes known and goes at once to the
+    /// other neighbours. It is not new where its link is known or this node is one of its ends, or where the rows would be
+    /// more than 256 or have more than 64 different ends.
+    pub fn answer(&self, alloc: Global, from: NodeId, m: &FloodMsg) -> Result<FloodOut, OutOfMemory>
+        ensures learnt { IfOk result (λ out. out.learnt ≡ learnt_of self.now m.now) }
+        ensures sends { IfOk result (λ out. out.sends ≡ sends_after self.now from m.now) }
+    {
+        match m {
+            FloodMsg::Ack { .. } => Ok(FloodOut {
+                learnt: None,
+                sends: FloodSends::new(alloc),
+            }),
+            FloodMsg::Row {
+                number,
+                origin,
+                row,
+            } => self.answer_row(alloc, from, *number, *origin, row),
+        }
+    }
+
+    /// Takes the message: a row that is new becomes known and due to the other neighbours, and what is acknowledged is due
+    /// no more.
+    pub fn take(&mut self, alloc: Global, from: NodeId, m: &FloodMsg) -> Result<(), OutOfMemory>
+        ensures ok { OnOk result (self.new ≡ received self.old from m.now) }
+        ensures err { OnErr result (self.new ≡ self.old) }
+    {
+        match m {
+            FloodMsg::Ack { number } => {
+                self.take_ack(from, *number);
+                Ok(())
+            }
+            FloodMsg::Row { origin, row, .. } => self.take_row(alloc, from, *origin, row),
+        }
+    }
+
+    /// Takes the message, and tells what it comes to.
     pub fn receive(
         &mut self,
         alloc: Global,
@@ -96,20 +129,9 @@ impl Flood {
         ensures ok { OnOk result (self.new ≡ received self.old from m.now) }
         ensures err { OnErr result (self.new ≡ self.old) }
     {
-        match m {
-            FloodMsg::Ack { number } => {
-                take_ack(&mut self.neighbours, from, *number);
-                Ok(FloodOut {
-                    learnt: None,
-                    sends: FloodSends::new(alloc),
-                })
-            }
-            FloodMsg::Row {
-                number,
-                origin,
-                row,
-            } => self.take_row(alloc, from, *number, *origin, row),
-        }
+        let out = self.answer(alloc, from, m)?;
+        self.take(alloc, from, m)?;
+        Ok(out)
     }
 
     /// Whether a row that a neighbour gave becomes known.
@@ -119,9 +141,9 @@ impl Flood {
         !self.known.has_link(row.link) && !is_end(self.me, row) && self.known.has_room(row)
     }
 
-    /// Takes a row of a neighbour.
-    fn take_row(
-        &mut self,
+    /// What a row of a neighbour comes to.
+    fn answer_row(
+        &self,
         alloc: Global,
         from: NodeId,
         number: u32,
@@ -129,12 +151,9 @@ impl Flood {
         row: &TeRow,
     ) -> Result<FloodOut, OutOfMemory>
         ensures learnt { IfOk result
-            (λ out. out.learnt ≡ learnt_of self.old (FloodMsg.Row number origin row.now)) }
+            (λ out. out.learnt ≡ learnt_of self.now (FloodMsg.Row number origin row.now)) }
         ensures sends { IfOk result
-            (λ out. out.sends ≡ sends_after self.old from (FloodMsg.Row number origin row.now)) }
-        ensures ok { OnOk result
-            (self.new ≡ received self.old from (FloodMsg.Row number origin row.now)) }
-        ensures err { OnErr result (self.new ≡ self.old) }
+            (λ out. out.sends ≡ sends_after self.now from (FloodMsg.Row number origin row.now)) }
     {
         let mut sends = FloodSends::new(alloc);
         sends.push((from, FloodMsg::Ack { number }))?;
@@ -145,23 +164,61 @@ impl Flood {
             });
         }
         push_first_sendings(alloc, &mut sends, &self.neighbours, from, origin, row)?;
-        let learnt = row.copy(alloc)?;
         let row = row.copy(alloc)?;
-        self.add(alloc, Some(from), origin, Some(0), row)?;
         Ok(FloodOut {
-            learnt: Some(learnt),
+            learnt: Some(row),
             sends,
         })
     }
 
-    /// What goes out in a tick, by neighbour, then number: rows that were not sent yet, and those that are due again.
+    /// Takes a row of a neighbour.
+    fn take_row(
+        &mut self,
+        alloc: Global,
+        from: NodeId,
+        origin: NodeId,
+        row: &TeRow,
+    ) -> Result<(), OutOfMemory>
+        ensures ok { (number : ℕ) → OnOk result
+            (self.new ≡ received self.old from (FloodMsg.Row number origin row.now)) }
+        ensures err { OnErr result (self.new ≡ self.old) }
+    {
+        if !self.is_new(row) {
+            return Ok(());
+        }
+        let row = row.copy(alloc)?;
+        self.add(alloc, Some(from), origin, Some(0), row)
+    }
+
+    /// Takes off what a neighbour acknowledged.
+    fn take_ack(&mut self, from: NodeId, number: u32)
+        ensures { self.new ≡ received self.old from (FloodMsg.Ack number) }
+    {
+        take_ack(&mut self.neighbours, from, number);
+    }
+
+    /// What goes out in the next tick, by neighbour, then number: rows that were not sent yet, and those that are due again.
+    pub fn due(&self, alloc: Global) -> Result<FloodSends, OutOfMemory>
+        ensures { IfOk result (λ sends. sends ≡ sent_at_tick self.now) }
+    {
+        sent_at_tick(alloc, &self.neighbours)
+    }
+
+    /// Makes all that is due a tick older.
+    pub fn age(&mut self)
+        ensures { self.new ≡ ticked self.old }
+    {
+        age_neighbours(&mut self.neighbours);
+    }
+
+    /// Makes a tick, and tells what goes out in it.
     pub fn tick(&mut self, alloc: Global) -> Result<FloodSends, OutOfMemory>
         ensures sends { IfOk result (λ sends. sends ≡ sent_at_tick self.old) }
         ensures ok { OnOk result (self.new ≡ ticked self.old) }
         ensures err { OnErr result (self.new ≡ self.old) }
     {
-        let sends = sent_at_tick(alloc, &self.neighbours)?;
-        age_neighbours(&mut self.neighbours);
+        let sends = self.due(alloc)?;
+        self.age();
         Ok(sends)
     }
 
