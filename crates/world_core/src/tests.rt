@@ -194,7 +194,7 @@ fn carry_out(alloc: Global, driven: &mut Driven, act: Act) -> Result<(), Fail> {
     }
 }
 
-fn driven(alloc: Global, acts: &[Act]) -> Result<Driven, Fail> {
+fn drive(alloc: Global, acts: &[Act]) -> Result<Driven, Fail> {
     let t = two_nodes(alloc)?;
     let a = controller(alloc, &t, A)?;
     let b = controller(alloc, &t, B)?;
@@ -233,7 +233,7 @@ fn are_live(rows: &TableRows) -> bool {
 fn a_replay_is_what_its_controllers_do(rt: HostRuntime) -> Result<(), Fail> {
     let alloc = rt.alloc();
     let world = replayed(alloc, ACTS)?;
-    let hand = driven(alloc, ACTS)?;
+    let hand = drive(alloc, ACTS)?;
     let rows = world.rows(alloc)?;
     let (a, b) = (hand.a.rows(alloc)?, hand.b.rows(alloc)?);
     assert!(rt; same_calls(rows.calls.items(), a.calls.items(), b.calls.items()));
