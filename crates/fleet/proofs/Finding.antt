@@ -1,13 +1,13 @@
 -- Where something stands in a list, and the seats and stations of a new fleet.
-use Rattle.std.proofs.Common.{◌≡◌, ◌≤◌, ◌<◌, ◌+◌, ◌-◌, ◌^◌, ℕ, zero, suc, Bool, true, false, cond, not, nat_eq, nat_lt, List, [], ◌∷◌, ◌++◌, get_or, length, map, refl, sym, ap, ◌∙◌, subst, arith}
-use Rattle.std.specs.Prelude.{◌||◌, IsSome, Option, Some, None, find, position, slice_get}
+use Rattle.std.proofs.Common.{◌≡◌, ◌≤◌, ◌<◌, ◌+◌, ◌-◌, ◌^◌, ℕ, suc, Bool, true, false, cond, not, nat_eq, nat_lt, List, [], ◌∷◌, ◌++◌, get_or, length, map, refl, sym, ap, ◌∙◌, subst, arith}
+use Rattle.std.specs.Prelude.{◌||◌, IsSome, Some, None, find, position, slice_get}
 use Rattle.std.specs.List.{AllByRecursion, position_or_len}
 use Rattle.std.proofs.lemmas.Option.{slice_get-get_or, slice_get_read}
 use Rattle.ason_base.specs.declared.ids.NodeId.{NodeId}
 use Rattle.ason_base.specs.declared.network.NodeSpec.{NodeSpec}
 use Rattle.ason_base.specs.Network.{IsTopology, Network, find_node, is_node_id}
 use Rattle.world_core.specs.Runs.{is_channel}
-use Rattle.station.specs.Histories.{new_history, world_after}
+use Rattle.station.specs.Histories.{new_history}
 use Rattle.station.specs.Links.{LinkState, is_to, new_link}
 use Rattle.station.specs.Standing.{StationState}
 use Rattle.station.specs.Turns.{neighbours}
@@ -18,9 +18,9 @@ use Rattle.fleet.specs.declared.seats.End.{End}
 use Rattle.fleet.specs.declared.seats.Seat.{Seat}
 use Rattle.fleet.specs.NewFleets.{AreNew, IsNew, is_node}
 use Rattle.fleet.specs.Posts.{is_seat}
-use Rattle.fleet.specs.Standing.{AreSeats, AreStations, FleetState, IsEnd, IsSeat, IsStationOf, IsWired, StandsFor, Wires, ids_of}
-use Rattle.fleet.proofs.Channels.{back, from-near, near-at, parts}
-use Rattle.fleet.proofs.Places.{IsAt, IsImage, IsThere, at-if, get-map, known, map-get, one_there, pushed-each, same_node, there, within}
+use Rattle.fleet.specs.Standing.{AreSeats, FleetState, IsEnd, StandsFor, ids_of}
+use Rattle.fleet.proofs.Channels.{near-at}
+use Rattle.fleet.proofs.Places.{IsAt, IsImage, IsThere, get-map, known, map-get, one_there, pushed-each, same_node, there, within}
 use Rattle.fleet.proofs.Runs.{the_start_is_running}
 
 -- The first that passes

@@ -1,4 +1,5 @@
 pub mod Channels
+pub mod Connecting
 pub mod Elsewhere
 pub mod Ends
 pub mod Example

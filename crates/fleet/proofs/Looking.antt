@@ -1,25 +1,20 @@
 -- Looks over the links of a node, one after the other.
-use Rattle.std.proofs.Common.{◌≡◌, ◌≤◌, ◌<◌, ◌+◌, ℕ, Bool, true, false, cond, nat_eq, List, [], length, refl, sym, ap, ◌∙◌, subst, arith}
+use Rattle.std.proofs.Common.{◌≡◌, ◌<◌, ◌+◌, ℕ, Bool, true, false, nat_eq, List, length, refl, sym, ap, ◌∙◌, subst, arith}
 use Rattle.std.specs.Prelude.{Some, slice_get}
-use Rattle.std.specs.List.{AllByRecursion}
 use Rattle.std.proofs.lemmas.List.{length-append}
 use Rattle.ason_base.specs.declared.ids.NodeId.{NodeId}
-use Rattle.ason_base.specs.declared.network.NodeSpec.{NodeSpec}
 use Rattle.ason_base.specs.Network.{Network}
 use Rattle.station.specs.Histories.{History}
 use Rattle.station.specs.Links.{LinkState, looked}
 use Rattle.station.specs.Turns.{neighbours}
-use Rattle.station.proofs.Doing.{self_test}
 use Rattle.station.proofs.Linking.{all-get}
-use Rattle.station.proofs.Sending.{length-map}
 use Rattle.fleet.specs.declared.seats.End.{End}
 use Rattle.fleet.specs.declared.seats.Seat.{Seat}
 use Rattle.fleet.specs.Looks.{AreJoined, IsKnown, IsLookedAt, IsMet, LooksOver, after_look, met}
-use Rattle.fleet.specs.Standing.{AreSeats, FleetState, IsEnd, IsSeat, StandsFor, StandsForSome, Wires, ids_of}
-use Rattle.fleet.proofs.Channels.{back, from-near, parts}
-use Rattle.fleet.proofs.Meeting.{IsFound, found, is_met, is_met_here, is_met_there, met-stands, one_link, this_link, unmet, unmet_here}
-use Rattle.fleet.proofs.Places.{IsThere, apart, get-map, one_there, rising-near, same_number, there, within}
-use Rattle.fleet.proofs.Rounding.{id-of, node-at}
+use Rattle.fleet.specs.Standing.{AreSeats, FleetState, IsEnd, IsSeat, StandsFor, Wires, ids_of}
+use Rattle.fleet.proofs.Channels.{from-near, parts}
+use Rattle.fleet.proofs.Meeting.{IsFound, found, is_met_here, is_met_there, met-stands, one_link, this_link, unmet, unmet_here}
+use Rattle.fleet.proofs.Places.{IsImage, IsThere, apart, get-map, map-get, one_there, rising-near, same_number, there}
 
 -- Seats
 
@@ -28,7 +23,7 @@ pub seat-id : (t : Network) (seats : List Seat) (place : ℕ) (n : NodeId) (seat
 seat-id t seats place n seat are at seated = one_there (ids_of t) place seat.id n
     (ap (λ ids. slice_get ids place) (sym are.ids) ∙ get-map (λ (y : Seat). y.id) seats place seat seated) at
 
-seat-of : (t : Network) (seats : List Seat) (place : ℕ) (n : NodeId) (seat : Seat) → AreSeats t seats →
+pub seat-of : (t : Network) (seats : List Seat) (place : ℕ) (n : NodeId) (seat : Seat) → AreSeats t seats →
     slice_get (ids_of t) place ≡ Some n → slice_get seats place ≡ Some seat →
     IsSeat t (record { id = n; ends = seat.ends })
 seat-of t seats place n seat are at seated =
@@ -62,29 +57,13 @@ looks-over place link old new seat e seated ended seats posts is t h n u at near
     let x : IsFound t h old s n u place link e = found t h old s n u place link e at near end in
     met-stands t h old new s n u place link e at near end x seats posts (is x.joined)
 
-pub joined : (place link : ℕ) (f : FleetState) (seat : Seat) (e : End) → StandsForSome f →
-    place < length f.stations → slice_get f.seats place ≡ Some seat → slice_get seat.ends.items link ≡ Some e →
-    AreJoined f.stations place link e
-joined place link f seat e (t, h, s) below seated ended =
-    let m : IsThere t.nodes place = node-at t h f s place below in
-    let at : slice_get (ids_of t) place ≡ Some m.item.id = id-of t place m.item m.is in
-    let u : IsThere (neighbours t m.item.id) link = near-there t f.seats place link m.item.id seat s.seats at seated
-    (within seat.ends.items link e ended) in
-    (found t h f s m.item.id u.item place link e at u.is
-    ((seat-of t f.seats place m.item.id seat s.seats at seated).each link e u.item ended u.is)).joined
-
--- a seat at each place of a station
-pub seat-there : (place : ℕ) (f : FleetState) → StandsForSome f → place < length f.stations → IsThere f.seats place
-seat-there place f (t, h, s) below =
-    let m : IsThere t.nodes place = node-at t h f s place below in
-    there f.seats place (less place (length (ids_of t)) (length f.seats)
-    (within (ids_of t) place m.item.id (id-of t place m.item m.is)) count)
-  where
-    less : (a b c : ℕ) → a < b → c ≡ b → a < c
-    less a b c p q = omega arith
-
-    count : length f.seats ≡ length (ids_of t)
-    count = sym (length-map (λ (y : Seat). y.id) f.seats) ∙ ap length s.seats.ids
+-- a seat at each place of a node
+pub seat-there : (t : Network) (seats : List Seat) (place : ℕ) (n : NodeId) → AreSeats t seats →
+    slice_get (ids_of t) place ≡ Some n → IsThere seats place
+seat-there t seats place n are at =
+    let is : IsImage (λ (y : Seat). y.id) seats place n = map-get (λ (y : Seat). y.id) seats place n
+    (ap (λ ids. slice_get ids place) are.ids ∙ at) in
+    record { item = is.item; is = is.is }
 
 -- Looks one after the other
 

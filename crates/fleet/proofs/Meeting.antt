@@ -5,19 +5,18 @@ use Rattle.std.specs.List.{AllByRecursion}
 use Rattle.std.proofs.lemmas.List.{length-append, map-append}
 use Rattle.ason_base.specs.declared.ids.NodeId.{NodeId}
 use Rattle.ason_base.specs.Network.{IsTopology, Network}
-use Rattle.world_core.specs.Frames.{Content}
 use Rattle.world_core.specs.Runs.{is_channel}
 use Rattle.world_core.specs.Worlds.{World}
 use Rattle.station.specs.declared.parcels.Parcel.{Parcel}
 use Rattle.station.specs.Histories.{History, count_of, world_after}
-use Rattle.station.specs.Links.{AreFew, LinkState, looked}
+use Rattle.station.specs.Links.{LinkState, looked}
 use Rattle.station.specs.Standing.{AreParcelsOf, StationState, numbers_of}
 use Rattle.station.specs.Turns.{neighbours}
 use Rattle.station.proofs.Doing.{self_test}
 use Rattle.station.proofs.Sending.{length-map}
 use Rattle.fleet.specs.declared.seats.End.{End}
 use Rattle.fleet.specs.Looks.{AreJoined, IsMet, after_look, met, with_link}
-use Rattle.fleet.specs.Standing.{AreSeats, AreStations, FleetState, IsEnd, IsStationOf, IsWired, StandsFor, Wires, ids_of}
+use Rattle.fleet.specs.Standing.{AreSeats, FleetState, IsEnd, IsStationOf, IsWired, StandsFor, Wires, ids_of}
 use Rattle.fleet.proofs.Channels.{back, from-near, parts}
 use Rattle.fleet.proofs.Places.{IsThere, all-of, apart, get-map, get-set, get-set-elsewhere, length-set, one_there, rising-ids, rising-near, same_number, there, within}
 use Rattle.fleet.proofs.Wires.{same-map, set-one}
@@ -126,7 +125,7 @@ station-at t h f s n place at = there f.stations place
     below : (a b c d : ℕ) → a < b → b ≡ c → d ≡ c → a < d
     below a b c d p q r = omega arith
 
-differ : (t : Network) (n u : NodeId) (a b : ℕ) → slice_get (ids_of t) a ≡ Some n → slice_get (ids_of t) b ≡ Some u →
+pub differ : (t : Network) (n u : NodeId) (a b : ℕ) → slice_get (ids_of t) a ≡ Some n → slice_get (ids_of t) b ≡ Some u →
     nat_eq n.0 u.0 ≡ false → nat_eq a b ≡ false
 differ t n u a b here there other = go (nat_eq a b) refl
   where

@@ -1,7 +1,6 @@
 -- After a post a fleet stands for the run with that post.
-use Rattle.std.proofs.Common.{◌≡◌, ◌≤◌, ◌<◌, ◌+◌, ◌-◌, ◌^◌, ℕ, Bool, true, false, cond, nat_eq, List, [], ◌∷◌, ◌++◌, length, map, refl, sym, ap, ◌∙◌, subst, arith}
-use Rattle.std.specs.Prelude.{◌&&◌, not, Option, Some, None, position, slice_get, slice_set}
-use Rattle.std.specs.List.{AllByRecursion}
+use Rattle.std.proofs.Common.{◌≡◌, ◌≤◌, ◌+◌, ◌-◌, ◌^◌, ℕ, Bool, true, false, cond, nat_eq, List, [], ◌∷◌, ◌++◌, length, refl, sym, ap, ◌∙◌, subst, arith}
+use Rattle.std.specs.Prelude.{◌&&◌, not, Some, None, slice_get, slice_set}
 use Rattle.std.proofs.lemmas.List.{length-append}
 use Rattle.ason_base.specs.declared.ids.NodeId.{NodeId}
 use Rattle.ason_base.specs.declared.commands.Command.{Command}
@@ -12,15 +11,14 @@ use Rattle.ason_base.specs.declared.commands.Event.TheVariants.{Post}
 use Rattle.ason_base.specs.Network.{Network, is_node_id}
 use Rattle.controller.specs.Controllers.{ControllerState}
 use Rattle.mesh_rules.specs.Commands.{has_way, is_again, is_given_backup, is_valid}
-use Rattle.world_core.specs.Runs.{IsEnabled, posted, step}
+use Rattle.world_core.specs.Runs.{IsEnabled, posted}
 use Rattle.world_core.specs.Standing.{IsUntouched}
 use Rattle.world_core.specs.Worlds.{World}
 use Rattle.world_core.proofs.Untouched.{others-are-untouched}
 use Rattle.station.specs.Histories.{History, refilled, with_event, world_after}
 use Rattle.station.specs.Standing.{AreParcelsOf, NodeStands, StationState}
 use Rattle.station.proofs.Doing.{self_test, world-with}
-use Rattle.fleet.specs.Posts.{IsOrderedAt, Orders, Posts, ingress_of, with_order}
-use Rattle.fleet.specs.Running.{IsRunning}
+use Rattle.fleet.specs.Posts.{IsOrderedAt, Orders, ingress_of, with_order}
 use Rattle.fleet.specs.Standing.{AreSeats, AreStations, FleetState, IsStationOf, IsWired, StandsFor, Wires, ids_of}
 use Rattle.fleet.proofs.Elsewhere.{unfilled}
 use Rattle.fleet.proofs.Places.{apart, get-set, get-set-elsewhere, length-set, one_there, rising-ids, same_node, same_number}

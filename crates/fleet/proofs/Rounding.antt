@@ -1,5 +1,5 @@
 -- Turns one after the other are a round.
-use Rattle.std.proofs.Common.{◌≡◌, ◌≤◌, ◌<◌, ◌+◌, ℕ, true, List, length, map, refl, sym, ap, ◌∙◌, subst, arith, take}
+use Rattle.std.proofs.Common.{◌≡◌, ◌≤◌, ◌<◌, ◌+◌, ℕ, true, length, refl, sym, ap, ◌∙◌, subst, arith, take}
 use Rattle.std.specs.Prelude.{IfErr, IfOk, OnOk, Some, fold, slice_get}
 use Rattle.std.proofs.lemmas.List.{take_all}
 use Rattle.ason_base.specs.declared.ids.NodeId.{NodeId}
@@ -8,18 +8,17 @@ use Rattle.ason_base.specs.Network.{Network}
 use Rattle.station.specs.declared.turns.Turn.{Turn}
 use Rattle.station.specs.declared.turns.Turn.TheVariants.{AtLimit, Idle, Starved, Worked}
 use Rattle.station.specs.Histories.{History}
-use Rattle.station.specs.Standing.{Stands}
 use Rattle.station.specs.Turning.{HasTurned, IsStopped}
 use Rattle.station.specs.Turns.{neighbours, turn}
-use Rattle.station.proofs.Sending.{length-map}
 use Rattle.station.proofs.Stopping.{fold-cut-at, fold-next, turn-stays}
 use Rattle.fleet.specs.declared.seats.Seat.{Seat}
 use Rattle.fleet.specs.declared.fleet.RoundFault.TheVariants as fault
 use Rattle.fleet.specs.Looks.{HasWorked, IsCountedAt, IsCutAt, IsLookedAt, LooksAround, TurnsAt, answer_of}
 use Rattle.fleet.specs.Rounds.{round}
-use Rattle.fleet.specs.Standing.{FleetState, StandsFor, StandsForSome, ids_of}
-use Rattle.fleet.proofs.Places.{IsThere, get-map, one_there, there, within}
-use Rattle.fleet.proofs.Turned.{before-turn, came_from, turned-count, turned-few, turned-stands}
+use Rattle.fleet.specs.Standing.{FleetState, StandsFor, ids_of}
+use Rattle.fleet.proofs.Looking.{seat-id, seat-there}
+use Rattle.fleet.proofs.Places.{IsThere, get-map, there}
+use Rattle.fleet.proofs.Turned.{before-turn, came_from, turned-count, turned-stands}
 
 -- The turns of the first nodes
 
@@ -71,26 +70,13 @@ work-counts place k old mid new end looks w turned more t h n at s =
     turned-count t h mid n place k w.before w.after x at w.there more
     (turned t h n (came_from x.stands.wires n) (before-turn t h mid n place w.before x at w.there))
 
-pub work-few : (place k : ℕ) (old mid new : FleetState) (end : Turn) → StandsForSome old →
-    place < length old.stations → LooksAround place old mid →
-    (w : HasWorked place mid new end) → HasTurned w.before w.after true →
-    w.after.controller.steps ≡ w.before.controller.steps + k → k ≤ 50000
-work-few place k old mid new end (t, h, s) below looks w turned more =
-    let m : IsThere t.nodes place = node-at t h old s place below in
-    let at : slice_get (ids_of t) place ≡ Some m.item.id = id-of t place m.item m.is in
-    let x : IsLookedAt t h mid m.item.id (length (neighbours t m.item.id)) = looks t h m.item.id at s in
-    turned-few t h mid m.item.id place k w.before w.after x at more
-    (turned t h m.item.id (came_from x.stands.wires m.item.id)
-    (before-turn t h mid m.item.id place w.before x at w.there))
-
-pub work-cut : (place : ℕ) (old mid new : FleetState) (end : Turn) (seat : Seat) → LooksAround place old mid →
-    (w : HasWorked place mid new end) → IsStopped w.before true → slice_get old.seats place ≡ Some seat →
-    IsCutAt place old seat.id
-work-cut place old mid new end seat looks w stopped seated t h n at s =
+pub work-cut : (place : ℕ) (old mid new : FleetState) (end : Turn) (m : NodeId) → LooksAround place old mid →
+    (w : HasWorked place mid new end) → IsStopped w.before true →
+    ((seat : Seat) → slice_get old.seats place ≡ Some seat → m ≡ seat.id) → IsCutAt place old m
+work-cut place old mid new end m looks w stopped id t h n at s =
     let x : IsLookedAt t h mid n (length (neighbours t n)) = looks t h n at s in
-    let id : slice_get (ids_of t) place ≡ Some seat.id = ap (λ ids. slice_get ids place) (sym s.seats.ids)
-    ∙ get-map (λ (y : Seat). y.id) old.seats place seat seated in
-    let same : n ≡ seat.id = one_there (ids_of t) place n seat.id at id in
+    let seat : IsThere old.seats place = seat-there t old.seats place n s.seats at in
+    let same : n ≡ m = sym (seat-id t old.seats place n seat.item s.seats at seat.is) ∙ sym (id seat.item seat.is) in
     stopped t h n (came_from x.stands.wires n) (before-turn t h mid n place w.before x at w.there) ∙ ap Some same
 
 -- The answer
@@ -115,21 +101,19 @@ answered-made place old mid new Idle n looks w =
 answered-made place old mid new AtLimit n looks w = tt
 answered-made place old mid new Starved n looks w = tt
 
-pub answered-few : (place : ℕ) (old mid new : FleetState) (end : Turn) (n : NodeId) → StandsForSome old →
-    place < length old.stations → LooksAround place old mid → HasWorked place mid new end →
+pub answered-few : (place : ℕ) (mid new : FleetState) (end : Turn) (n : NodeId) → HasWorked place mid new end →
     IfOk (answer_of end n) (λ k. k ≤ 50000)
-answered-few place old mid new (Worked k) n some below looks w =
-    work-few place k old mid new (Worked k) some below looks w w.turn.2 w.turn.1
-answered-few place old mid new Idle n some below looks w = omega arith
-answered-few place old mid new AtLimit n some below looks w = tt
-answered-few place old mid new Starved n some below looks w = tt
+answered-few place mid new (Worked k) n w = w.few k refl
+answered-few place mid new Idle n w = omega arith
+answered-few place mid new AtLimit n w = tt
+answered-few place mid new Starved n w = tt
 
-pub answered-stops : (place : ℕ) (old mid new : FleetState) (end : Turn) (n : NodeId) (seat : Seat) →
-    slice_get old.seats place ≡ Some seat → n ≡ seat.id → LooksAround place old mid → HasWorked place mid new end →
-    IfErr (answer_of end n) (λ e. (m : NodeId) → e ≡ fault.AtLimit m → IsCutAt place old m)
-answered-stops place old mid new (Worked k) n seat seated id looks w = tt
-answered-stops place old mid new Idle n seat seated id looks w = tt
-answered-stops place old mid new AtLimit n seat seated id looks w = λ m same.
-    let node : seat.id ≡ m = sym id ∙ cc (same) in
-    subst (λ (k : NodeId). IsCutAt place old k) node (work-cut place old mid new AtLimit seat looks w w.turn seated)
-answered-stops place old mid new Starved n seat seated id looks w = λ m same. absurd (cc (same))
+pub answered-stops : (place : ℕ) (old mid new : FleetState) (end : Turn) (n : NodeId) →
+    ((seat : Seat) → slice_get old.seats place ≡ Some seat → n ≡ seat.id) → LooksAround place old mid →
+    HasWorked place mid new end → IfErr (answer_of end n) (λ e. (m : NodeId) → e ≡ fault.AtLimit m → IsCutAt place old m)
+answered-stops place old mid new (Worked k) n id looks w = tt
+answered-stops place old mid new Idle n id looks w = tt
+answered-stops place old mid new AtLimit n id looks w = λ m same.
+    let node : n ≡ m = cc (same) in
+    subst (λ (k : NodeId). IsCutAt place old k) node (work-cut place old mid new AtLimit n looks w w.turn id)
+answered-stops place old mid new Starved n id looks w = λ m same. absurd (cc (same))

@@ -5,11 +5,8 @@ use Rattle.std.specs.List.{AllByRecursion, list_all}
 use Rattle.std.proofs.Math.Nat.{min-eq_left}
 use Rattle.std.proofs.lemmas.List.Sums.{sum_by-cons, sum_by_more, sum_by_more_le}
 use Rattle.std.proofs.lemmas.Option.{get_or_from_slice_get}
-use Rattle.ason_base.specs.declared.calls.CallRow.{CallRow}
-use Rattle.ason_base.specs.declared.calls.LegRow.{LegRow}
 use Rattle.ason_base.specs.declared.ids.NodeId.{NodeId}
 use Rattle.ason_base.specs.declared.network.NodeSpec.{NodeSpec}
-use Rattle.ason_base.specs.InOrder.{in_order}
 use Rattle.ason_base.specs.Network.{IsTopology, Network, other_end}
 use Rattle.ason_base.proofs.Ordered.{Rises, in_order-rises}
 use Rattle.ason_base.proofs.RisingNumbers.{nat_order}

@@ -1,24 +1,24 @@
 -- After a node's turn a fleet stands for the run with that turn.
-use Rattle.std.proofs.Common.{◌≡◌, ◌≤◌, ◌<◌, ◌+◌, ◌-◌, ◌^◌, ℕ, zero, suc, Bool, true, false, cond, nat_eq, List, [], ◌∷◌, ◌++◌, length, map, refl, sym, ap, ◌∙◌, subst, arith, append-nil}
-use Rattle.std.specs.Prelude.{Some, None, slice_get, slice_set}
+use Rattle.std.proofs.Common.{◌≡◌, ◌≤◌, ◌+◌, ◌-◌, ◌^◌, ℕ, Bool, true, false, cond, nat_eq, List, [], ◌∷◌, ◌++◌, length, map, refl, sym, ap, ◌∙◌, subst, arith, append-nil}
+use Rattle.std.specs.Prelude.{Some, slice_get, slice_set}
 use Rattle.std.specs.List.{AllByRecursion}
 use Rattle.ason_base.specs.declared.ids.NodeId.{NodeId}
 use Rattle.ason_base.specs.declared.commands.DeskItem.{DeskItem}
 use Rattle.ason_base.specs.Network.{Network}
-use Rattle.controller.specs.Controllers.{ControllerState, meaning}
+use Rattle.controller.specs.Controllers.{ControllerState}
 use Rattle.world_core.specs.Runs.{is_channel}
-use Rattle.world_core.specs.Standing.{IsUntouched, StandsAt}
+use Rattle.world_core.specs.Standing.{IsUntouched}
 use Rattle.world_core.specs.Worlds.{World}
 use Rattle.station.specs.declared.parcels.Parcel.{Parcel}
 use Rattle.station.specs.Histories.{History, count_of, made_by, world_after}
 use Rattle.station.specs.Links.{LinkState}
 use Rattle.station.specs.Standing.{AreParcelsOf, LinkStands, NodeStands, Stands, StationState, numbers_of}
 use Rattle.station.specs.Turns.{neighbours, turn}
-use Rattle.station.proofs.Doing.{self_test, turned}
+use Rattle.station.proofs.Doing.{self_test}
 use Rattle.station.proofs.Sending.{length-map}
 use Rattle.fleet.specs.Looks.{IsKnown, IsLookedAt}
 use Rattle.fleet.specs.Running.{IsRunning}
-use Rattle.fleet.specs.Standing.{AreSeats, AreStations, FleetState, IsStationOf, IsWired, StandsFor, Wires, ids_of}
+use Rattle.fleet.specs.Standing.{AreSeats, FleetState, IsStationOf, IsWired, StandsFor, Wires, ids_of}
 use Rattle.fleet.proofs.Channels.{back, from-near, near-at, parts}
 use Rattle.fleet.proofs.Elsewhere.{IsElsewhere, IsLeft, turn-elsewhere}
 use Rattle.fleet.proofs.Keeping.{turn_keeps}
@@ -349,14 +349,3 @@ turned-count t h f n place made before after x at there more stands =
   where
     counts : (a b c d k m j : ℕ) → a + b ≡ c + d → k ≡ b → m ≡ d → m ≡ k + j → a ≡ c + j
     counts a b c d k m j p q r s = omega arith
-
-pub turned-few : (t : Network) (h : History) (f : FleetState) (n : NodeId) (place made : ℕ)
-    (before after : StationState) (x : IsLookedAt t h f n (length (neighbours t n))) →
-    slice_get (ids_of t) place ≡ Some n → after.controller.steps ≡ before.controller.steps + made →
-    Stands t (turn t true n h) n (came_from x.stands.wires n) after → made ≤ 50000
-turned-few t h f n place made before after x at more stands =
-    counts before.controller.steps after.controller.steps made (made_by t (turn t true n h) n) more stands.node.made
-    ((turn_keeps t (IsRunning t) true n (running_is_kept t n) (known t place n at) h x.stands.running).most n)
-  where
-    counts : (k m j d : ℕ) → m ≡ k + j → m ≡ d → d ≤ 50000 → j ≤ 50000
-    counts k m j d p q r = omega arith

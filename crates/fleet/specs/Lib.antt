@@ -1,3 +1,4 @@
+pub mod Connections
 pub mod Laws
 pub mod Looks
 pub mod NewFleets

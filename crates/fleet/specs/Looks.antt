@@ -1,5 +1,5 @@
 -- What looks and turns make of a fleet.
-use Rattle.std.specs.Prelude.{◌≡◌, ◌<◌, ◌+◌, ◌==◌, ◌&&◌, ◌||◌, ℕ, Bool, List, [], length, Result, Ok, Err, Some, slice_get, slice_set, true, false, if◌then◌else◌}
+use Rattle.std.specs.Prelude.{◌≡◌, ◌<◌, ◌≤◌, ◌+◌, ◌==◌, ◌&&◌, ◌||◌, ℕ, List, [], length, Result, Ok, Err, Some, slice_get, slice_set, true, false, if◌then◌else◌}
 use Rattle.ason_base.specs.declared.ids.NodeId.{NodeId}
 use Rattle.ason_base.specs.Network.{Network}
 use Rattle.station.specs.Histories.{History}
@@ -76,7 +76,7 @@ LooksAround place old new =
 
 -- Turns and rounds
 
--- the station at this place makes its turn
+-- the station at this place makes its turn, of at most 50,000 events
 pub record HasWorked (place : ℕ) (old new : FleetState) (end : Turn) : Type 0 where
   pub before : StationState
   pub after : StationState
@@ -85,6 +85,7 @@ pub record HasWorked (place : ℕ) (old new : FleetState) (end : Turn) : Type 0 
   pub seats : new.seats ≡ old.seats
   pub posts : new.posts ≡ old.posts
   pub turn : IsTurn before after true end
+  pub few : (k : ℕ) → end ≡ Worked k → k ≤ 50000
 
 -- how the turn of this node ends a round, if it does
 abbrev pub answer_of : Turn → NodeId → Result ℕ RoundFault

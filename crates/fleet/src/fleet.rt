@@ -12,7 +12,7 @@ ghost use Rattle.fleet.specs.Looks.{HasWorked, IsCountedAt, IsCutAt, LooksAround
 ghost use Rattle.fleet.specs.NewFleets.{AreNew};
 ghost use Rattle.fleet.specs.Posts.{IsOrdered, Orders, Posts, is_seat};
 ghost use Rattle.fleet.specs.Rounds.{is_quiet, items_waiting, round, unacked_waiting};
-ghost use Rattle.fleet.specs.Standing.{StandsFor, StandsForSome};
+ghost use Rattle.fleet.specs.Standing.{StandsFor};
 
 use crate::looks::look;
 use crate::posts::ingress;
@@ -53,14 +53,14 @@ pub struct Fleet {
 }
 
 impl Model for Fleet {
-    ghost use Rattle.std.specs.Prelude.{◌≡◌, length};
+    ghost use Rattle.fleet.specs.Connections.{AreConnected};
     ghost use Rattle.fleet.specs.Standing.{FleetState};
 
     ghost Value = { FleetState };
 
     ghost view = { λ f. record { seats = f.seats.items; stations = f.stations.items; posts = f.posts } };
 
-    ghost invariant = { λ f. length f.stations.items ≡ length f.seats.items };
+    ghost invariant = { λ f. AreConnected f.seats.items f.stations.items };
 }
 
 // A station for each node, in order of number.
@@ -104,7 +104,8 @@ impl Fleet {
 
     // How many stations there are.
     fn count(&self) -> usize
-        ensures { result ≡ length self.now.stations }
+        ensures count { result ≡ length self.now.stations }
+        ensures few { result ≤ 64 }
     {
         self.stations.len()
     }
@@ -128,7 +129,6 @@ impl Fleet {
 
     // Looks at both ends of the rings over one link of the station at this place.
     fn look(&mut self, place: usize, link: usize)
-        requires some { StandsForSome self.old }
         requires within { place < length self.old.stations }
         requires link { (s : Seat) → slice_get self.old.seats place ≡ Some s →
             link < length s.ends.items }
@@ -142,8 +142,7 @@ impl Fleet {
 
     // Looks at both ends of each ring of the station at this place.
     fn look_around(&mut self, place: usize)
-        requires some { StandsForSome self.old }
-        requires within { place < length self.old.stations }
+        requires { place < length self.old.stations }
         ensures looks { LooksAround place self.old self.new }
         ensures seats { self.new.seats ≡ self.old.seats }
         ensures count { length self.new.stations ≡ length self.old.stations }
@@ -164,8 +163,7 @@ impl Fleet {
 
     // The node at this place makes its turn, after a look at both ends of each of its rings.
     fn turn(&mut self, place: usize) -> Result<u64, RoundFault>
-        requires some { StandsForSome self.old }
-        requires within { place < length self.old.stations }
+        requires { place < length self.old.stations }
         ensures on { OnOk result (TurnsAt place self.old self.new) }
         ensures made { IfOk result (IsCountedAt place self.old) }
         ensures few { IfOk result (λ k. k ≤ 50000) }
@@ -179,10 +177,9 @@ impl Fleet {
         answer_of(end, node)
     }
 
-    /// Each node makes one turn with a tick, in order of number. With Ok so many events were made. After an error the run has
-    /// ended.
+    /// Each node makes one turn with a tick, in order of number. With Ok so many events were made. After an error nothing
+    /// is said of the run, and more rounds may be made.
     pub fn round(&mut self) -> Result<u64, RoundFault>
-        requires { StandsForSome self.old }
         ensures on { OnOk result ((t : Network) (h : History) → StandsFor t self.old h →
             StandsFor t self.new (round t h)) }
         ensures made { IfOk result (λ k. (t : Network) (h : History) → StandsFor t self.old h →

@@ -3,6 +3,7 @@ pub mod Linking
 pub mod Making
 pub mod NewStations
 pub mod Reacting
+pub mod Rooms
 pub mod Sending
 pub mod Stopping
 pub mod Taking

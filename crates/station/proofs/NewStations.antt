@@ -128,6 +128,7 @@ channels t n = all-near (λ m. is_channel t m.id n) (λ u. is_channel t u n) (λ
 pub new-links-fit : (t : Network) → IsTopology t → (n : NodeId) →
     LinksFit (local_node t n) 0 (map new_link (neighbours t n))
 new-links-fit t is n = record {
+  most = omega arith;
   apart = apart-if (λ m. is_channel t m.id n) 0 t.nodes (rises t is);
   near = all_map (λ (u : NodeId). is_channel t u n ≡ true) (λ (l : LinkState). IsTrue
       (is_neighbour (local_node t n) l.peer)) (λ u on. channels-join-neighbours t u n on) (neighbours t n)

@@ -31,8 +31,10 @@ after_frames-sent (f ∷ fs) l = two (after_frames-sent fs (after_frame f l)) (a
     two h k = omega arith
 
 pub links-still-fit : (p : LocalNode) (steps : ℕ) (frames : List Frame) (links : List LinkState) →
-    length frames ≤ 2 ^ 40 → LinksFit p steps links → LinksFit p (steps + 1) (map (after_frames frames) links)
-links-still-fit p steps frames links few fit = record {
+    steps < 50000 → length frames ≤ 2 ^ 40 → LinksFit p steps links →
+    LinksFit p (steps + 1) (map (after_frames frames) links)
+links-still-fit p steps frames links below few fit = record {
+  most = omega arith;
   apart = peers-apart-map (after_frames frames) links (after_frames-peer frames) fit.apart;
   near = near links fit.near;
   few = sent links fit.few;
@@ -69,6 +71,7 @@ peers-kept frames (l ∷ links) = rw (after_frames-peer frames l, peers-kept fra
 pub links-popped-fit : (p : LocalNode) (steps : ℕ) (u : NodeId) (links : List LinkState) → LinksFit p steps links →
     LinksFit p steps (map (if_to u with_popped) links)
 links-popped-fit p steps u links fit = record {
+  most = fit.most;
   apart = peers-apart-map (if_to u with_popped) links popped_peer fit.apart;
   near = near links fit.near;
   few = sent links fit.few;
@@ -138,6 +141,7 @@ pub links-set-fit : (p : LocalNode) (steps : ℕ) (links : List LinkState) (plac
     slice_get links place ≡ Some l → k.peer ≡ l.peer → k.sent ≡ l.sent → LinksFit p steps links →
     LinksFit p steps (slice_set links place k)
 links-set-fit p steps links place l k at peer sent fit = record {
+  most = fit.most;
   apart = apart-set links place l k at peer fit.apart;
   near = all-set (λ (x : LinkState). IsTrue (is_neighbour p x.peer)) links place l k at
       (subst (λ (n : NodeId). IsTrue (is_neighbour p n)) (sym peer)) fit.near;

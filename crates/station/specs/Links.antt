@@ -1,6 +1,6 @@
 -- The link to a neighbour, and what sending and taking make of it.
 use Rattle.std.specs.Prelude.{◌≡◌, ℕ, ◌+◌, ◌<◌, ◌≤◌, ◌^◌, ◌==◌, nat_lt, Bool, false, List, [], ◌∷◌, ◌++◌, drop, length, map, Some, slice_get, slice_set, if◌then◌else◌}
-use Rattle.std.specs.List.{AllByRecursion}
+use Rattle.std.specs.List.{AllByRecursion, AllZip}
 use Rattle.ason_base.specs.declared.ids.NodeId.{NodeId}
 use Rattle.controller.specs.declared.frames.Frame.{Frame}
 use Rattle.station.specs.declared.parcels.Parcel.{Parcel}
@@ -66,6 +66,17 @@ AreFew l m = (length m.early + length l.backlog ≤ 256) × (length l.early + le
 -- the link l after a look at it and its other end m: what m sent came, and what l sent stands there
 abbrev pub looked : LinkState → LinkState → LinkState
 looked l m = record l { standing = length m.early + length l.backlog; backlog = []; early = l.early ++ m.backlog }
+
+-- Room
+
+-- Frames that came were taken, and others were sent: in the ring stand as many more as were sent and not dropped.
+pub record KeepsRoom (before after : LinkState) : Type 0 where
+  pub early : length after.early ≤ length before.early
+  pub standing : after.standing + length before.backlog ≡ before.standing + length after.backlog
+  pub most : before.standing ≤ 256 → after.standing ≤ 256
+
+abbrev pub KeepRoom : List LinkState → List LinkState → Type 0
+KeepRoom before after = AllZip KeepsRoom before after
 
 -- Lists of links
 

@@ -2,7 +2,7 @@
 
 ghost use Rattle.std.specs.Prelude.{◌≡◌, ◌<◌, ◌≤◌, OnErr, OnOk};
 ghost use Rattle.controller.specs.Kept.{IsFromNeighbour};
-ghost use Rattle.station.specs.Links.{peers_of};
+ghost use Rattle.station.specs.Links.{KeepRoom, peers_of};
 ghost use Rattle.station.specs.Steps.{HasReacted, LinksFit};
 
 use crate::links::{Link, send_frames};
@@ -23,6 +23,7 @@ pub(crate) fn react(
         (HasReacted controller.old controller.new links.old.items links.new.items input.now) }
     ensures fit { LinksFit controller.new.node.place controller.new.steps links.new.items }
     ensures peers { peers_of links.new.items ≡ peers_of links.old.items }
+    ensures rings { KeepRoom links.old.items links.new.items }
     ensures grows { controller.old.steps ≤ controller.new.steps }
     ensures controller { OnErr result (controller.new ≡ controller.old) }
     ensures links { OnErr result (links.new.items ≡ links.old.items) }

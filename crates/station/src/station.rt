@@ -10,7 +10,7 @@ ghost use Rattle.controller.specs.declared.inputs.CoreInput.{CoreInput};
 ghost use Rattle.mesh_nodes.specs.LocalNodes.{is_neighbour};
 ghost use Rattle.station.specs.declared.halts.Halt.{Halt};
 ghost use Rattle.station.specs.Histories.{History, handled, made, new_history, took};
-ghost use Rattle.station.specs.Links.{AreFew, LinkState, is_to, looked, new_link, peers_of, popped_from};
+ghost use Rattle.station.specs.Links.{AreFew, KeepRoom, LinkState, is_to, looked, new_link, peers_of, popped_from};
 ghost use Rattle.station.specs.Standing.{Stands, StationState};
 ghost use Rattle.station.specs.Steps.{HasReacted, LinksFit};
 ghost use Rattle.station.specs.Turning.{HasDone, HasTurned, IsCutBy, IsStopped, IsTurn, answer_of, worked};
@@ -85,6 +85,7 @@ impl Station {
         ensures peers { peers_of self.new.links ≡ peers_of self.old.links }
         ensures desk { self.new.desk ≡ self.old.desk }
         ensures grows { self.old.controller.steps ≤ self.new.controller.steps }
+        ensures rings { KeepRoom self.old.links self.new.links }
     {
         react(&mut self.controller, &mut self.links, input)
     }
@@ -94,6 +95,7 @@ impl Station {
         ensures on { OnOk result (HasDone (λ t n h. made t n (Tick n) h) self.old self.new) }
         ensures stops { IsCutBy result (λ t n h. made t n (Tick n) h) self.old }
         ensures grows { self.old.controller.steps ≤ self.new.controller.steps }
+        ensures rings { KeepRoom self.old.links self.new.links }
     {
         if self.is_full() {
             return Err(Halt::AtLimit);
@@ -110,6 +112,7 @@ impl Station {
             (CoreInput.Desk item)) }
         ensures desk { self.new.desk ≡ self.old.desk }
         ensures grows { self.old.controller.steps ≤ self.new.controller.steps }
+        ensures rings { KeepRoom self.old.links self.new.links }
     {
         let input = CoreInput::Desk(item);
         self.take_input(&input)
@@ -125,6 +128,7 @@ impl Station {
         ensures peers { peers_of self.new.links ≡ peers_of self.old.links }
         ensures desk { self.new.desk ≡ self.old.desk }
         ensures grows { self.old.controller.steps ≤ self.new.controller.steps }
+        ensures rings { KeepRoom self.old.links self.new.links }
     {
         let input = CoreInput::Frame { from, bytes: frame };
         self.take_input(&input)
@@ -145,6 +149,7 @@ impl Station {
         ensures on { OnOk result (HasDone (λ t n h. handled t n h) self.old self.new) }
         ensures stops { IsCutBy result (λ t n h. handled t n h) self.old }
         ensures grows { self.old.controller.steps ≤ self.new.controller.steps }
+        ensures rings { KeepRoom self.old.links self.new.links }
     {
         if self.desk.len() == 0 {
             return Ok(());
@@ -191,6 +196,7 @@ impl Station {
         ensures stops { IsCutBy result (λ t n h. took t n from h) self.old }
         ensures peers { OnOk result (peers_of self.new.links ≡ peers_of self.old.links) }
         ensures grows { self.old.controller.steps ≤ self.new.controller.steps }
+        ensures rings { KeepRoom self.old.links self.new.links }
     {
         if self.early_len(place) == 0 {
             return Ok(());
@@ -213,6 +219,7 @@ impl Station {
         ensures on { OnOk result (HasDone (λ t n h. desk_done t n h) self.old self.new) }
         ensures stops { IsCutBy result (λ t n h. desk_done t n h) self.old }
         ensures grows { self.old.controller.steps ≤ self.new.controller.steps }
+        ensures rings { KeepRoom self.old.links self.new.links }
     {
         let count = self.desk_len();
         for _item in 0..count {
@@ -228,6 +235,7 @@ impl Station {
         ensures stops { IsCutBy result (λ t n h. ring_done t n h from) self.old }
         ensures peers { OnOk result (peers_of self.new.links ≡ peers_of self.old.links) }
         ensures grows { self.old.controller.steps ≤ self.new.controller.steps }
+        ensures rings { KeepRoom self.old.links self.new.links }
     {
         let count = self.early_len(place);
         for _frame in 0..count {
@@ -265,6 +273,7 @@ impl Station {
         ensures stops { IsCutBy result
             (λ t n h. rings_done t n (peers_of self.old.links) h) self.old }
         ensures grows { self.old.controller.steps ≤ self.new.controller.steps }
+        ensures rings { KeepRoom self.old.links self.new.links }
     {
         let count = self.link_count();
         for place in 0..count {
@@ -276,7 +285,8 @@ impl Station {
 
     /// How many events the node has made.
     pub fn made(&self) -> u64
-        ensures { result ≡ self.now.controller.steps }
+        ensures made { result ≡ self.now.controller.steps }
+        ensures few { result ≤ 50000 }
     {
         self.controller.steps()
     }
@@ -337,6 +347,7 @@ impl Station {
         ensures on { OnOk result (HasDone (λ t n h. tick_done t tick n h) self.old self.new) }
         ensures stops { IsCutBy result (λ t n h. turn t tick n h) self.old }
         ensures grows { self.old.controller.steps ≤ self.new.controller.steps }
+        ensures rings { KeepRoom self.old.links self.new.links }
     {
         if tick { self.make_tick() } else { Ok(()) }
     }
@@ -346,6 +357,7 @@ impl Station {
         ensures on { OnOk result (HasTurned self.old self.new tick) }
         ensures stops { IfErr result (λ e. e ≡ Halt.AtLimit → IsStopped self.old tick) }
         ensures grows { self.old.controller.steps ≤ self.new.controller.steps }
+        ensures rings { KeepRoom self.old.links self.new.links }
     {
         self.tick_if(tick)?;
         self.handle_desk()?;
@@ -355,7 +367,9 @@ impl Station {
     /// One turn: a tick if it is asked for, all items of the desk, then all frames that came, by neighbour. It reaches nothing but
     /// the station's own parts.
     pub fn turn(&mut self, tick: bool) -> Turn
-        ensures { IsTurn self.old self.new tick result }
+        ensures turn { IsTurn self.old self.new tick result }
+        ensures few { (k : ℕ) → result ≡ Turn.Worked k → k ≤ 50000 }
+        ensures rings { KeepRoom self.old.links self.new.links }
     {
         let before = self.made();
         let done = self.work(tick);

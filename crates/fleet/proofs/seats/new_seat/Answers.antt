@@ -1,8 +1,6 @@
-use Rattle.std.proofs.Common.{◌≡◌, ◌+◌, ◌++◌, ◌∷◌, [], length, ap, ◌∙◌, subst, sym, arith}
-use Rattle.std.specs.Prelude.{Some, slice_get}
+use Rattle.std.proofs.Common.{◌+◌, ◌∷◌, [], length, ap, ◌∙◌, sym, arith}
+use Rattle.std.specs.Prelude.{slice_get}
 use Rattle.std.proofs.lemmas.List.{length-append}
-use Rattle.station.specs.Turns.{neighbours}
-use Rattle.fleet.specs.Standing.{IsEnd}
 use Rattle.fleet.proofs.Finding.{ends-more}
 use Rattle.fleet.proofs.seats.new_seat.Goals as goal
 

@@ -1,4 +1,4 @@
-use Rattle.std.proofs.Common.{◌≡◌, ◌≤◌, ◌^◌, length, sym, ap, ◌∙◌, subst, arith}
+use Rattle.std.proofs.Common.{◌≡◌, ◌≤◌, ◌^◌, ap, ◌∙◌, subst, arith}
 use Rattle.controller.specs.Controllers.{ControllerState}
 use Rattle.controller.specs.Kept.{unacknowledged}
 use Rattle.fleet.specs.Waiting.{unacked_of}

@@ -1,20 +1,9 @@
 use Rattle.std.proofs.Common.{◌≡◌, ◌<◌, length, ◌∙◌, subst, arith}
-use Rattle.std.specs.Prelude.{Some, slice_get}
 use Rattle.station.specs.Turns.{neighbours}
 use Rattle.fleet.specs.Looks.{IsLookedAt}
-use Rattle.fleet.specs.Standing.{ids_of}
-use Rattle.fleet.proofs.Looking.{ends-count, looked-more, near-there, not-looked, seat-there}
+use Rattle.fleet.proofs.Looking.{ends-count, looked-more, near-there, seat-there}
 use Rattle.fleet.proofs.Places.{IsThere}
-use Rattle.fleet.proofs.Rounding.{id-of, node-at}
 use Rattle.fleet.proofs.fleet.Fleet.look_around.Goals as goal
-
-pub look-requires-clause-some : goal.look-requires-clause-some
-look-requires-clause-some c =
-    let t = c.requires.some.0 in
-    let h = c.requires.some.1 in
-    let s = c.requires.some.2 in
-    let m : IsThere t.nodes c.args.place = node-at t h c.args.self.now s c.args.place c.requires.within in
-    (t, h, (c.loop-link.invariant.looks t h m.item.id (id-of t c.args.place m.item m.is) s).stands)
 
 pub loop-link-preserved : goal.loop-link-preserved
 loop-link-preserved c = record {
@@ -23,7 +12,7 @@ loop-link-preserved c = record {
   count = c.look.ensures.count ∙ c.loop-link.invariant.count;
   looks = λ t h n at s.
       let seat : IsThere c.args.self.now.seats c.args.place =
-      seat-there c.args.place c.args.self.now c.requires.some c.requires.within in
+      seat-there t c.args.self.now.seats c.args.place n s.seats at in
       let count : c.link_count-count.result ≡ length seat.item.ends.items =
       c.link_count-count.ensures seat.item seat.is in
       let below : c.loop-link.link < length seat.item.ends.items = omega (arith, c.loop-link-test.true, count) in
@@ -37,7 +26,7 @@ loop-link-preserved c = record {
 pub returns-clause-looks : goal.returns-clause-looks
 returns-clause-looks c t h n at s =
     let seat : IsThere c.args.self.now.seats c.args.place =
-    seat-there c.args.place c.args.self.now c.requires.some c.requires.within in
+    seat-there t c.args.self.now.seats c.args.place n s.seats at in
     let count : c.link_count-count.result ≡ length seat.item.ends.items =
     c.link_count-count.ensures seat.item seat.is in
     let total : length seat.item.ends.items ≡ length (neighbours t n) =

@@ -3,7 +3,6 @@ use Rattle.fleet.specs.Posts.{is_seat}
 use Rattle.fleet.specs.Standing.{FleetState}
 use Rattle.ason_base.proofs.Results.{on_ok}
 use Rattle.station.proofs.Linking.{IsPlaced}
-use Rattle.fleet.specs.declared.seats.Seat.{Seat}
 use Rattle.fleet.proofs.Finding.{placed-at, seat-found, seat-lost}
 use Rattle.fleet.proofs.Places.{within}
 use Rattle.fleet.proofs.fleet.Fleet.order.Goals as goal
@@ -14,7 +13,7 @@ order_at-requires-clause-within c =
     let at : IsPlaced (is_seat c.args.node) (λ x. x) f.seats c.in-Some.place =
     placed-at (is_seat c.args.node) f.seats c.in-Some.place (sym c.in-Some.ensures) in
     let same : length f.stations ≡ length f.seats =
-    subst (λ (x : FleetState). length x.stations ≡ length x.seats) c.self.view_is c.self.invariant in
+    subst (λ (x : FleetState). length x.stations ≡ length x.seats) c.self.view_is c.self.invariant.count in
     subst (λ k. c.in-Some.place < k) (sym same) (within f.seats c.in-Some.place at.item at.there)
 
 pub returns-in-None-clause-on : goal.returns-in-None-clause-on

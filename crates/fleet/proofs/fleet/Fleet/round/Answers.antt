@@ -1,4 +1,4 @@
-use Rattle.std.proofs.Common.{◌≡◌, ◌≤◌, ◌<◌, ◌+◌, length, sym, ◌∙◌, subst, arith}
+use Rattle.std.proofs.Common.{◌≡◌, ◌≤◌, ◌<◌, ◌+◌, length, sym, ◌∙◌, arith}
 use Rattle.ason_base.proofs.Results.{passed_on}
 use Rattle.station.specs.Histories.{History}
 use Rattle.fleet.specs.Standing.{StandsFor}
@@ -6,18 +6,12 @@ use Rattle.fleet.proofs.Places.{IsThere}
 use Rattle.fleet.proofs.Rounding.{id-of, node-at, part, part-all, part-cut, part-next}
 use Rattle.fleet.proofs.fleet.Fleet.round.Goals as goal
 
-pub turn-requires-clause-some : goal.turn-requires-clause-some
-turn-requires-clause-some c =
-    let t = c.requires.0 in
-    let h = c.requires.1 in
-    (t, part t h c.loop-place.place, c.loop-place.invariant.on t h c.requires.2)
-
 pub loop-place-preserved : goal.loop-place-preserved
 loop-place-preserved c =
     let f = c.loop-place.self in
     let place = c.loop-place.place in
     let below : place < length f.stations = omega
-    (arith, c.loop-place-test.true, c.count-count.ensures, c.loop-place.invariant.count) in
+    (arith, c.loop-place-test.true, c.count-count.ensures.count, c.loop-place.invariant.count) in
     record {
       within = omega (arith, c.loop-place-test.true);
       count = c.turn.ensures.count ∙ c.loop-place.invariant.count;
@@ -44,7 +38,7 @@ returns-in_err-events-clause-stops c =
     let f = c.loop-place.self in
     let place = c.loop-place.place in
     let below : place < length f.stations = omega
-    (arith, c.loop-place-test.true, c.count-count.ensures, c.loop-place.invariant.count) in
+    (arith, c.loop-place-test.true, c.count-count.ensures.count, c.loop-place.invariant.count) in
     passed_on c.from_residual.result _ _
     (λ e same n is t h s.
     let now : StandsFor t f (part t h place) = c.loop-place.invariant.on t h s in
@@ -56,6 +50,6 @@ returns-in_err-events-clause-stops c =
 pub returns-clause-made : goal.returns-clause-made
 returns-clause-made c t h s =
     let past : length t.nodes ≤ c.loop-place.place =
-    omega (arith, c.loop-place-test.false, c.count-count.ensures, s.stations.count) in
+    omega (arith, c.loop-place-test.false, c.count-count.ensures.count, s.stations.count) in
     part-all (λ (g : History). length g.events ≡ length h.events + c.loop-place.made) t h c.loop-place.place past
     (c.loop-place.invariant.made t h s)

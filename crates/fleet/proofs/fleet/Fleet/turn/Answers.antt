@@ -3,8 +3,6 @@ use Rattle.std.specs.Prelude.{IfErr, IfOk, OnOk}
 use Rattle.ason_base.specs.declared.ids.NodeId.{NodeId}
 use Rattle.fleet.specs.declared.fleet.RoundFault.TheVariants as fault
 use Rattle.fleet.specs.Looks.{IsCountedAt, IsCutAt, TurnsAt}
-use Rattle.fleet.proofs.Looking.{seat-there}
-use Rattle.fleet.proofs.Places.{IsThere}
 use Rattle.fleet.proofs.Rounding.{answered-few, answered-made, answered-on, answered-stops}
 use Rattle.fleet.proofs.fleet.Fleet.turn.Goals as goal
 
@@ -23,15 +21,12 @@ returns-clause-made c =
 pub returns-clause-few : goal.returns-clause-few
 returns-clause-few c =
     subst (λ r. IfOk r (λ k. k ≤ 50000)) (sym c.answer_of.ensures)
-    (answered-few c.args.place c.args.self.now c.look_around.new.self c.work-end.new.self c.work-end.result
-    c.node-node.result c.requires.some c.requires.within c.look_around.ensures.looks c.work-end.ensures)
+    (answered-few c.args.place c.look_around.new.self c.work-end.new.self c.work-end.result c.node-node.result
+    c.work-end.ensures)
 
 pub returns-clause-stops : goal.returns-clause-stops
 returns-clause-stops c =
-    let seat : IsThere c.args.self.now.seats c.args.place =
-    seat-there c.args.place c.args.self.now c.requires.some c.requires.within in
     subst (λ r. IfErr r (λ e. (m : NodeId) → e ≡ fault.AtLimit m → IsCutAt c.args.place c.args.self.now m))
     (sym c.answer_of.ensures)
     (answered-stops c.args.place c.args.self.now c.look_around.new.self c.work-end.new.self c.work-end.result
-    c.node-node.result seat.item seat.is (c.node-node.ensures seat.item seat.is) c.look_around.ensures.looks
-    c.work-end.ensures)
+    c.node-node.result c.node-node.ensures c.look_around.ensures.looks c.work-end.ensures)

@@ -4,12 +4,15 @@ use Rattle.station.specs.Standing.{Stands}
 use Rattle.station.specs.Turns.{repeated}
 use Rattle.ason_base.proofs.Results.{passed_on}
 use Rattle.station.proofs.Stopping.{all-times, handled-stays, once-more, repeated-cut}
+use Rattle.station.proofs.Rooms.{still, twice}
 use Rattle.station.proofs.station.Station.handle_desk.Goals as goal
 
 pub loop-item-preserved : goal.loop-item-preserved
 loop-item-preserved c = record {
   within = omega arith;
   grows = omega (arith, c.handle_item.ensures.grows, c.loop-item.invariant.grows);
+  rings = twice c.args.self.now.links c.loop-item.self.links c.handle_item.new.self.links c.loop-item.invariant.rings
+      c.handle_item.ensures.rings;
   on = λ t h n there stands.
       once-more (λ g. Stands t g n there c.handle_item.new.self) (handled t n) c.loop-item._item h
       (c.in_ok-handle_item.ensures.on t (repeated (handled t n) c.loop-item._item h) n there
@@ -31,3 +34,16 @@ returns-in_err-handle_item-clause-stops c =
     (c.in_err-handle_item.ensures.stops (sym same ∙ is) t (repeated (handled t n) c.loop-item._item h) n there
     (c.loop-item.invariant.on t h n there stands)))
     c.from_residual.ensures.1
+
+pub loop-item-init : goal.loop-item-init
+loop-item-init c = record {
+  within = omega arith;
+  on = λ t h n there stands. stands;
+  grows = omega arith;
+  rings = still c.args.self.now.links;
+}
+
+pub returns-in_err-handle_item-clause-rings : goal.returns-in_err-handle_item-clause-rings
+returns-in_err-handle_item-clause-rings c =
+    twice c.args.self.now.links c.loop-item.self.links c.handle_item.new.self.links c.loop-item.invariant.rings
+    c.handle_item.ensures.rings

@@ -5,6 +5,8 @@ use Rattle.station.specs.Histories.{made_by}
 use Rattle.station.specs.Steps.{HasReacted}
 use Rattle.station.proofs.Making.{is-true}
 use Rattle.station.proofs.Taking.{handled-done}
+use Rattle.station.specs.Links.{KeepRoom}
+use Rattle.station.proofs.Rooms.{still, still-same}
 use Rattle.station.proofs.station.Station.handle_item.Goals as goal
 
 pub returns-in_ok-handle-in-Some-clause-on : goal.returns-in_ok-handle-in-Some-clause-on
@@ -19,3 +21,20 @@ returns-in_ok-handle-in-Some-clause-on c t h n there stands =
     (subst (λ (x : ControllerState). HasReacted x d.controller c.pop_item.new.self.links d.links
     (input.Desk i)) c.pop_item.ensures.controller c.in_ok-handle-in-Some.ensures.step))
     below stands
+
+pub returns-then-len-eq0-clause-rings : goal.returns-then-len-eq0-clause-rings
+returns-then-len-eq0-clause-rings c = still c.args.self.now.links
+
+pub returns-then-is_full-clause-rings : goal.returns-then-is_full-clause-rings
+returns-then-is_full-clause-rings c = still c.args.self.now.links
+
+pub returns-in-None-clause-rings : goal.returns-in-None-clause-rings
+returns-in-None-clause-rings c = still-same c.args.self.now.links c.pop_item.new.self.links c.pop_item.ensures.links
+
+pub returns-in_err-handle-in-Some-clause-rings : goal.returns-in_err-handle-in-Some-clause-rings
+returns-in_err-handle-in-Some-clause-rings c =
+    subst (λ ls. KeepRoom ls c.handle.new.self.links) c.pop_item.ensures.links c.handle.ensures.rings
+
+pub returns-in_ok-handle-in-Some-clause-rings : goal.returns-in_ok-handle-in-Some-clause-rings
+returns-in_ok-handle-in-Some-clause-rings c =
+    subst (λ ls. KeepRoom ls c.handle.new.self.links) c.pop_item.ensures.links c.handle.ensures.rings

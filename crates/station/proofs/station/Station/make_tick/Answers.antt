@@ -4,6 +4,7 @@ use Rattle.station.specs.Histories.{made_by, with_event}
 use Rattle.station.specs.Standing.{Stands}
 use Rattle.station.proofs.Doing.{tick-done}
 use Rattle.station.proofs.Making.{able-below, is-true}
+use Rattle.station.proofs.Rooms.{still}
 use Rattle.station.proofs.station.Station.make_tick.Goals as goal
 
 pub returns-clause-on : goal.returns-clause-on
@@ -16,3 +17,6 @@ returns-clause-on c t h n there stands =
     (subst (λ desk. Stands t (with_event t h (Tick n)) n there
     (record { controller = d.controller; desk = desk; links = d.links })) (sym c.take_input.ensures.desk)
     (tick-done t h n there s.controller d.controller s.desk s.links d.links c.in_ok-take_input.ensures.step stands))
+
+pub returns-then-is_full-clause-rings : goal.returns-then-is_full-clause-rings
+returns-then-is_full-clause-rings c = still c.args.self.now.links

@@ -10,6 +10,7 @@ use Rattle.station.specs.Steps.{HasReacted}
 use Rattle.station.proofs.Making.{is-false, is-true}
 use Rattle.station.proofs.Reacting.{peers-popped}
 use Rattle.station.proofs.Taking.{is-ring, some-first, took-done, took-full, took-none}
+use Rattle.station.proofs.Rooms.{popped, still, twice}
 use Rattle.station.proofs.station.Station.take_frame.Goals as goal
 
 pub returns-then-early_len-eq0-clause-on : goal.returns-then-early_len-eq0-clause-on
@@ -61,3 +62,22 @@ returns-in_ok-deliver-in-Some-clause-on c t h n there stands =
 pub returns-in_ok-deliver-in-Some-clause-peers : goal.returns-in_ok-deliver-in-Some-clause-peers
 returns-in_ok-deliver-in-Some-clause-peers c = c.deliver.ensures.peers
     ∙ ap (map (λ (l : LinkState). l.peer)) c.pop.ensures.links ∙ peers-popped c.args.from c.args.self.now.links
+
+pub returns-then-early_len-eq0-clause-rings : goal.returns-then-early_len-eq0-clause-rings
+returns-then-early_len-eq0-clause-rings c = still c.args.self.now.links
+
+pub returns-then-is_full-clause-rings : goal.returns-then-is_full-clause-rings
+returns-then-is_full-clause-rings c = still c.args.self.now.links
+
+pub returns-in-None-clause-rings : goal.returns-in-None-clause-rings
+returns-in-None-clause-rings c = popped c.args.from c.args.self.now.links c.pop.new.self.links c.pop.ensures.links
+
+pub returns-in_err-deliver-in-Some-clause-rings : goal.returns-in_err-deliver-in-Some-clause-rings
+returns-in_err-deliver-in-Some-clause-rings c =
+    twice c.args.self.now.links c.pop.new.self.links c.deliver.new.self.links
+    (popped c.args.from c.args.self.now.links c.pop.new.self.links c.pop.ensures.links) c.deliver.ensures.rings
+
+pub returns-in_ok-deliver-in-Some-clause-rings : goal.returns-in_ok-deliver-in-Some-clause-rings
+returns-in_ok-deliver-in-Some-clause-rings c =
+    twice c.args.self.now.links c.pop.new.self.links c.deliver.new.self.links
+    (popped c.args.from c.args.self.now.links c.pop.new.self.links c.pop.ensures.links) c.deliver.ensures.rings

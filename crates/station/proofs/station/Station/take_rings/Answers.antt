@@ -1,4 +1,4 @@
-use Rattle.std.proofs.Common.{◌≡◌, ◌≤◌, List, sym, ◌∙◌, ap, length, map, subst, take, arith}
+use Rattle.std.proofs.Common.{refl, ◌≡◌, ◌≤◌, List, sym, ◌∙◌, ap, length, map, subst, take, arith}
 use Rattle.std.specs.Prelude.{Some, fold, slice_get}
 use Rattle.std.proofs.lemmas.List.{take_all}
 use Rattle.ason_base.specs.declared.ids.NodeId.{NodeId}
@@ -8,6 +8,7 @@ use Rattle.station.specs.Turns.{ring_done}
 use Rattle.station.proofs.Sending.{length-map}
 use Rattle.ason_base.proofs.Results.{passed_on}
 use Rattle.station.proofs.Stopping.{fold-cut-at, fold-next, ring-stays}
+use Rattle.station.proofs.Rooms.{still, twice}
 use Rattle.station.proofs.station.Station.take_rings.Goals as goal
 
 pub loop-place-preserved : goal.loop-place-preserved
@@ -18,6 +19,8 @@ loop-place-preserved c =
     record {
       within = omega arith;
       grows = omega (arith, c.take_ring.ensures.grows, c.loop-place.invariant.grows);
+      rings = twice c.args.self.now.links c.loop-place.self.links c.take_ring.new.self.links c.loop-place.invariant.rings
+          c.take_ring.ensures.rings;
       on = λ t h n there stands.
           fold-next (λ g. Stands t g n there c.take_ring.new.self)
           (ring_done t n) h peers c.loop-place.place c.peer-from.result at
@@ -46,3 +49,17 @@ returns-in_err-take_ring-clause-stops c =
     (c.in_err-take_ring.ensures.stops (sym same ∙ is) t (fold (ring_done t n) h
     (take c.loop-place.place peers)) n there (c.loop-place.invariant.on t h n there stands)))
     c.from_residual.ensures.1
+
+pub loop-place-init : goal.loop-place-init
+loop-place-init c = record {
+  within = omega arith;
+  on = λ t h n there stands. stands;
+  peers = refl;
+  grows = omega arith;
+  rings = still c.args.self.now.links;
+}
+
+pub returns-in_err-take_ring-clause-rings : goal.returns-in_err-take_ring-clause-rings
+returns-in_err-take_ring-clause-rings c =
+    twice c.args.self.now.links c.loop-place.self.links c.take_ring.new.self.links c.loop-place.invariant.rings
+    c.take_ring.ensures.rings

@@ -5,6 +5,7 @@ use Rattle.station.specs.Standing.{Stands}
 use Rattle.station.specs.Turns.{desk_done, rings_done, tick_done}
 use Rattle.ason_base.proofs.Results.{if_err, on_ok, passed_on}
 use Rattle.station.proofs.Stopping.{turn-cut-desk}
+use Rattle.station.proofs.Rooms.{twice}
 use Rattle.station.proofs.station.Station.work.Goals as goal
 
 pub returns-in_err-handle_desk-clause-stops : goal.returns-in_err-handle_desk-clause-stops
@@ -42,3 +43,14 @@ returns-in_err-tick_if-clause-stops c =
     passed_on c.from_residual.result _ _
     (λ e same is t h n there stands. c.in_err-tick_if.ensures.stops (sym same ∙ is) t h n there stands)
     c.from_residual.ensures.1
+
+pub returns-in_err-handle_desk-clause-rings : goal.returns-in_err-handle_desk-clause-rings
+returns-in_err-handle_desk-clause-rings c =
+    twice c.args.self.now.links c.tick_if.new.self.links c.handle_desk.new.self.links c.tick_if.ensures.rings
+    c.handle_desk.ensures.rings
+
+pub returns-clause-rings : goal.returns-clause-rings
+returns-clause-rings c =
+    twice c.args.self.now.links c.handle_desk.new.self.links c.take_rings.new.self.links
+    (twice c.args.self.now.links c.tick_if.new.self.links c.handle_desk.new.self.links c.tick_if.ensures.rings
+    c.handle_desk.ensures.rings) c.take_rings.ensures.rings
