@@ -6,6 +6,8 @@ pub mod laws;
 pub mod looks;
 pub mod posts;
 pub mod seats;
+#[cfg(test)]
+mod tests;
 pub mod waiting;
 
 pub use fleet::{Fleet, FleetPending, RoundFault};
