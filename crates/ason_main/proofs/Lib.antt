@@ -7,7 +7,6 @@ pub mod OneTable
 pub mod PlanRuns
 pub mod Printing
 pub mod Replies
-pub mod Results
 pub mod ScriptRuns
 pub mod Scripts
 pub mod Settling

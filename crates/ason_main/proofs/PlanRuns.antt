@@ -17,7 +17,7 @@ use Rattle.plan_reader.specs.declared.plan.Plan.{Plan}
 use Rattle.plan_reader.specs.Plans.{ArePostable, calls_after_line}
 use Rattle.table_text.specs.TableText.{stopped_text}
 use Rattle.ason_main.specs.Outputs.{IsBegun, IsLawful, IsOneRun, IsTheOutput, PrintsFirst, run_of, script_of, settling_script}
-use Rattle.ason_main.specs.Running.{CutsAll, DoesAll, EndsIn, FailsIn, HasWritten, HasWrittenPart, IsCutShort, IsReady, RunState}
+use Rattle.ason_main.specs.Running.{CutsAll, DoesAll, EndsIn, FailsIn, HasWritten, HasWrittenPart, IsCutShort, RunState}
 use Rattle.ason_main.proofs.OneOutput.{the_output, the_stopped_output}
 use Rattle.ason_main.proofs.ScriptRuns.{WorldLaws, first_part, lead_through, lines_running}
 
@@ -33,10 +33,6 @@ postable_script : (rounds : ℕ) (p : Plan) → ArePostable p.topology [] p.line
     ArePostable p.topology [] (settling_script rounds p)
 postable_script rounds p are =
     (tt, postable_append p.topology [] p.lines (Settle rounds ∷ Show ∷ []) are (λ r. (tt, (tt, tt))))
-
-pub ready : (p : Plan) (f : FleetState) → ArePostable p.topology [] p.lines →
-    StandsFor p.topology f new_history → IsReady p (script_of p) f
-ready p f postable stands = (new_history, stands, postable_script 1000 p postable)
 
 -- The run
 

@@ -16,7 +16,7 @@ use Rattle.plan_reader.specs.declared.plan.Plan.{Plan}
 use Rattle.plan_reader.specs.Plans.{ArePostable, calls_after_lines}
 use Rattle.ason_main.specs.declared.runner.stops.Stop.{Stop}
 use Rattle.ason_main.specs.Outputs.{line_done, lines_done, settling_script}
-use Rattle.ason_main.specs.Running.{AreCut, AreDone, CanPost, CutsAll, Does, DoesAll, EndsIn, FailsIn, IsReady, RunState, Stops, StopsAll, at}
+use Rattle.ason_main.specs.Running.{AreCut, AreDone, CanPost, CutsAll, Does, DoesAll, EndsIn, FailsIn, RunState, Stops, StopsAll, at}
 use Rattle.ason_main.proofs.Lines.{nothing_printed}
 use Rattle.ason_main.proofs.Printing.{both_done, calls_append, postable_first, postable_rest, prints_one, written_both, written_early, written_later, written_part_early, written_part_later, written_stopped}
 use Rattle.ason_main.proofs.ScriptRuns.{line_posted}
@@ -186,26 +186,6 @@ stops_at p lines i d a b c s below first stops =
     (stops_later p (take i lines) (get_or lines i d ∷ drop (i + 1) lines) a b c s first
     (stops_early p (get_or lines i d ∷ []) (drop (i + 1) lines) b c s stops))
 
--- Ready for more lines
-
-pub ready_first : (p : Plan) (xs ys : List Line) (f : FleetState) → IsReady p (xs ++ ys) f → IsReady p xs f
-ready_first p xs ys f is =
-    (is.0, is.1, postable_first p.topology (world_after p.topology is.0).posted xs ys is.2)
-
-pub ready_later : (p : Plan) (xs ys : List Line) (a b : RunState) → IsReady p (xs ++ ys) a.fleet →
-    DoesAll p xs a b → IsReady p ys b.fleet
-ready_later p xs ys a b is does =
-    let t = p.topology in
-    let are = does.done is.0 is.1 (postable_first t (world_after t is.0).posted xs ys is.2) in
-    (lines_done t xs is.0, are.stands, can_later p xs ys a b is.0 are is.2)
-
-pub ready_at : (p : Plan) (lines : List Line) (i : ℕ) (d : Line) (a b : RunState) → i < length lines →
-    IsReady p lines a.fleet → DoesAll p (take i lines) a b → IsReady p (get_or lines i d ∷ []) b.fleet
-ready_at p lines i d a b below is does =
-    ready_first p (get_or lines i d ∷ []) (drop (i + 1) lines) b.fleet
-    (ready_later p (take i lines) (get_or lines i d ∷ drop (i + 1) lines) a b
-    (subst (λ ls. IsReady p ls a.fleet) (sym (parts lines i d below)) is) does)
-
 -- The whole script
 
 abbrev pub first_lines : ℕ → List Line
@@ -235,15 +215,3 @@ pub stops_last : (p : Plan) (rounds : ℕ) (a b c d : RunState) (s : Stop) → D
 stops_last p rounds a b c d s first lines stops =
     stops_later p (first_lines rounds) (p.lines ++ last_lines rounds) a b d s first
     (stops_later p p.lines (last_lines rounds) b c d s lines stops)
-
-pub ready_lines : (p : Plan) (rounds : ℕ) (a b : RunState) → IsReady p (settling_script rounds p) a.fleet →
-    DoesAll p (first_lines rounds) a b → IsReady p p.lines b.fleet
-ready_lines p rounds a b is first =
-    ready_first p p.lines (last_lines rounds) b.fleet
-    (ready_later p (first_lines rounds) (p.lines ++ last_lines rounds) a b is first)
-
-pub ready_last : (p : Plan) (rounds : ℕ) (a b c : RunState) → IsReady p (settling_script rounds p) a.fleet →
-    DoesAll p (first_lines rounds) a b → DoesAll p p.lines b c → IsReady p (last_lines rounds) c.fleet
-ready_last p rounds a b c is first lines =
-    ready_later p p.lines (last_lines rounds) b c
-    (ready_later p (first_lines rounds) (p.lines ++ last_lines rounds) a b is first) lines

@@ -86,10 +86,6 @@ HasWrittenPart old new is =
 abbrev pub CanPost : Network → History → List Line → Type 0
 CanPost t h lines = ArePostable t (world_after t h).posted lines
 
--- the stations stand for a run in which the lines can be posted
-abbrev pub IsReady : Plan → List Line → FleetState → Type 0
-IsReady p lines f = (h : History) × StandsFor p.topology f h × CanPost p.topology h lines
-
 -- the lines are done, one after the other
 pub record AreDone (p : Plan) (lines : List Line) (old new : RunState) (h : History) : Type 0 where
   pub stands : StandsFor p.topology new.fleet (lines_done p.topology lines h)

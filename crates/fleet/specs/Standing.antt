@@ -84,7 +84,3 @@ pub record StandsFor (t : Network) (f : FleetState) (h : History) : Type 0 where
   -- each item was posted
   pub posted : (n : NodeId) → length ((world_after t h).desks n.0) ≤ f.posts
   pub few : f.posts ≤ 2 ^ 32 - 1
-
--- it stands for some run of some network
-abbrev pub StandsForSome : FleetState → Type 0
-StandsForSome f = (t : Network) × (h : History) × StandsFor t f h

@@ -1,10 +1,9 @@
 //! What one line of a script does, and the text that it prints.
 
-ghost use Rattle.std.specs.Prelude.{◌∷◌, [], IfErr, IfOk};
-ghost use Rattle.fleet.specs.Standing.{StandsForSome};
+ghost use Rattle.std.specs.Prelude.{IfErr, IfOk};
 ghost use Rattle.plan_reader.specs.declared.lines.Line.TheVariants as said;
 ghost use Rattle.plan_reader.specs.declared.plan.Plan.{Plan};
-ghost use Rattle.ason_main.specs.Running.{Does, IsReady, Stops, TellsUnsettled};
+ghost use Rattle.ason_main.specs.Running.{Does, Stops, TellsUnsettled};
 
 use crate::runner::settling::settle;
 use crate::runner::stops::Stop;
@@ -40,7 +39,6 @@ fn post_line(alloc: Global, fleet: &mut Fleet, command: &Command) -> Result<Vec<
 
 // Settles, and tells what is unsettled.
 fn settle_line(alloc: Global, fleet: &mut Fleet, rounds: u32) -> Result<Vec<u8>, Stop>
-    requires { StandsForSome fleet.old }
     ensures done { (p : Plan) → IfOk result
         (λ text. Does p (said.Settle rounds) fleet.old fleet.new text.items) }
     ensures stops { (p : Plan) → IfErr result (Stops p (said.Settle rounds) fleet.old) }
@@ -68,7 +66,6 @@ pub fn line_text(
     fleet: &mut Fleet,
     line: &Line,
 ) -> Result<Vec<u8>, Stop>
-    requires { IsReady plan.now (line.now ∷ []) fleet.old }
     ensures done { IfOk result (λ text. Does plan.now line.now fleet.old fleet.new text.items) }
     ensures stops { IfErr result (Stops plan.now line.now fleet.old) }
 {

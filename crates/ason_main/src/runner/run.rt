@@ -3,7 +3,7 @@
 ghost use Rattle.std.specs.Prelude.{◌∷◌, [], IfErr, OnOk};
 ghost use Rattle.plan_reader.specs.Plans.{ArePostable};
 ghost use Rattle.ason_main.specs.Outputs.{settling_script};
-ghost use Rattle.ason_main.specs.Running.{DoesAll, IsRan, IsReady, StopsAll, at};
+ghost use Rattle.ason_main.specs.Running.{DoesAll, IsRan, StopsAll, at};
 
 use crate::runner::lines::line_text;
 use crate::runner::stops::Stop;
@@ -38,7 +38,6 @@ fn run_line<K: Sink>(
     out: &mut K,
     line: &Line,
 ) -> Result<(), Stop>
-    requires { IsReady plan.now (line.now ∷ []) fleet.old }
     ensures done { OnOk result (DoesAll plan.now (line.now ∷ [])
         (at fleet.old (K.written out.old) (K.faults out.old))
         (at fleet.new (K.written out.new) (K.faults out.new))) }
@@ -61,7 +60,6 @@ fn run_lines<K: Sink>(
     out: &mut K,
     lines: &[Line],
 ) -> Result<(), Stop>
-    requires { IsReady plan.now lines.now fleet.old }
     ensures done { OnOk result (DoesAll plan.now lines.now
         (at fleet.old (K.written out.old) (K.faults out.old))
         (at fleet.new (K.written out.new) (K.faults out.new))) }
@@ -83,7 +81,6 @@ fn run_script<K: Sink>(
     out: &mut K,
     rounds: u32,
 ) -> Result<(), Stop>
-    requires { IsReady plan.now (settling_script rounds plan.now) fleet.old }
     ensures done { OnOk result (DoesAll plan.now (settling_script rounds plan.now)
         (at fleet.old (K.written out.old) (K.faults out.old))
         (at fleet.new (K.written out.new) (K.faults out.new))) }

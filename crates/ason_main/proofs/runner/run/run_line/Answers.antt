@@ -1,7 +1,7 @@
 use Rattle.std.proofs.Common.{◌<◌, ℕ, List, length, refl, subst, sym, take}
 use Rattle.std.specs.Io.KnownBytes.{Appends}
 use Rattle.ason_main.specs.Running.{Stops}
-use Rattle.ason_main.proofs.Results.{passed_on}
+use Rattle.ason_base.proofs.Results.{passed_on}
 use Rattle.ason_main.proofs.Scripts.{does_line, fails_line, stops_line}
 use Rattle.ason_main.proofs.runner.run.run_line.Goals as goal
 

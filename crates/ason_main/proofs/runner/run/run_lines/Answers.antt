@@ -1,21 +1,13 @@
 use Rattle.std.proofs.Common.{get_or, sym, subst, take, ◌∷◌, []}
 use Rattle.std.proofs.lemmas.List.{take_all}
-use Rattle.ason_main.specs.Running.{DoesAll, IsReady, StopsAll, at}
-use Rattle.ason_main.proofs.Results.{passed_on}
-use Rattle.ason_main.proofs.Scripts.{does_more, does_none, ready_at, stops_at}
+use Rattle.ason_main.specs.Running.{DoesAll, StopsAll, at}
+use Rattle.ason_base.proofs.Results.{passed_on}
+use Rattle.ason_main.proofs.Scripts.{does_more, does_none, stops_at}
 use Rattle.ason_main.proofs.runner.run.run_lines.Goals as goal
 
 pub loop-line-init : goal.loop-line-init
 loop-line-init g c =
     does_none c.args.plan.now c.args.fleet.now (g.K.Sink.written c.args.out.now) (g.K.Sink.faults c.args.out.now)
-
-pub run_line-requires : goal.run_line-requires
-run_line-requires g c =
-    subst (λ l. IsReady c.args.plan.now (l ∷ []) c.loop-line.fleet) (sym c.line-item.is)
-    (ready_at c.args.plan.now c.args.lines.now c.loop-line.line-index c.line-item.result
-    (at c.args.fleet.now (g.K.Sink.written c.args.out.now) (g.K.Sink.faults c.args.out.now))
-    (at c.loop-line.fleet (g.K.Sink.written c.loop-line.out) (g.K.Sink.faults c.loop-line.out))
-    c.loop-line-test.true c.requires c.loop-line.invariant)
 
 pub returns-in_err-run_line-clause-stops : goal.returns-in_err-run_line-clause-stops
 returns-in_err-run_line-clause-stops g c =

@@ -1,7 +1,7 @@
 use Rattle.std.proofs.Common.{subst}
 use Rattle.ason_main.specs.Outputs.{script_of}
 use Rattle.ason_main.specs.Running.{CutsAll, FailsIn, StopsAll, at}
-use Rattle.ason_main.proofs.PlanRuns.{ready, run_ended, run_failed, run_not_begun, run_stopped, run_unfinished}
+use Rattle.ason_main.proofs.PlanRuns.{run_ended, run_failed, run_not_begun, run_stopped, run_unfinished}
 use Rattle.ason_main.proofs.ScriptRuns.{world_laws}
 use Rattle.ason_main.proofs.runner.run.run_plan.Goals as goal
 
@@ -12,9 +12,6 @@ returns-in-Err g c =
     c.every_script.ensures.start c.every_script.ensures.post c.every_script.ensures.settle
     c.every_script.ensures.goes_on)
     c.args.plan.now (g.K.Sink.written c.args.out.now) c.requires
-
-pub run_script-requires : goal.run_script-requires
-run_script-requires g c = ready c.args.plan.now c.in-Ok.fleet c.requires c.in-Ok.ensures
 
 pub returns-in-Ok-run_script : goal.returns-in-Ok-run_script
 returns-in-Ok-run_script g c =

@@ -1,8 +1,8 @@
 use Rattle.std.proofs.Common.{subst, sym}
-use Rattle.ason_main.specs.Running.{DoesAll, IsReady, StopsAll, at}
+use Rattle.ason_main.specs.Running.{DoesAll, StopsAll, at}
 use Rattle.ason_main.specs.Outputs.{settling_script}
-use Rattle.ason_main.proofs.Results.{if_err, on_ok, passed_on}
-use Rattle.ason_main.proofs.Scripts.{does_script, first_lines, last_lines, ready_last, ready_lines, stops_first, stops_last, stops_lines}
+use Rattle.ason_base.proofs.Results.{if_err, on_ok, passed_on}
+use Rattle.ason_main.proofs.Scripts.{does_script, first_lines, last_lines, stops_first, stops_last, stops_lines}
 use Rattle.ason_main.proofs.runner.run.run_script.Goals as goal
 
 pub returns-in_err-run_lines-clause-stops : goal.returns-in_err-run_lines-clause-stops
@@ -16,14 +16,6 @@ returns-in_err-run_lines-clause-stops g c =
     (at c.run_lines.new.fleet (g.K.Sink.written c.run_lines.new.out) (g.K.Sink.faults c.run_lines.new.out)))
     (sym same) c.in_err-run_lines.ensures.stops))
     c.from_residual.ensures.1
-
-pub run_lines-requires-2 : goal.run_lines-requires-2
-run_lines-requires-2 g c =
-    subst (λ ls. IsReady c.args.plan.now ls c.run_lines.new.fleet) (sym c.items.ensures)
-    (ready_lines c.args.plan.now c.args.rounds
-    (at c.args.fleet.now (g.K.Sink.written c.args.out.now) (g.K.Sink.faults c.args.out.now))
-    (at c.run_lines.new.fleet (g.K.Sink.written c.run_lines.new.out) (g.K.Sink.faults c.run_lines.new.out))
-    c.requires c.in_ok-run_lines.ensures.done)
 
 pub returns-in_err-run_lines-2-clause-stops : goal.returns-in_err-run_lines-2-clause-stops
 returns-in_err-run_lines-2-clause-stops g c =
@@ -43,18 +35,6 @@ returns-in_err-run_lines-2-clause-stops g c =
     c.in_err-run_lines-2.field-0.0)
     c.items.ensures c.in_err-run_lines-2.ensures.stops)))
     c.from_residual-in_err-run_lines-2.ensures.1
-
-pub run_lines-requires-3 : goal.run_lines-requires-3
-run_lines-requires-3 g c =
-    ready_last c.args.plan.now c.args.rounds
-    (at c.args.fleet.now (g.K.Sink.written c.args.out.now) (g.K.Sink.faults c.args.out.now))
-    (at c.run_lines.new.fleet (g.K.Sink.written c.run_lines.new.out) (g.K.Sink.faults c.run_lines.new.out))
-    (at c.run_lines-2.new.fleet (g.K.Sink.written c.run_lines-2.new.out) (g.K.Sink.faults c.run_lines-2.new.out))
-    c.requires c.in_ok-run_lines.ensures.done
-    (subst (λ ls. DoesAll c.args.plan.now ls
-    (at c.run_lines.new.fleet (g.K.Sink.written c.run_lines.new.out) (g.K.Sink.faults c.run_lines.new.out))
-    (at c.run_lines-2.new.fleet (g.K.Sink.written c.run_lines-2.new.out) (g.K.Sink.faults c.run_lines-2.new.out)))
-    c.items.ensures c.in_ok-run_lines-2.ensures.done)
 
 pub returns-clause-done : goal.returns-clause-done
 returns-clause-done g c =

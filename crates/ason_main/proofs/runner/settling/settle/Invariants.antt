@@ -1,9 +1,5 @@
-use Rattle.fleet.specs.Standing.{StandsForSome}
 use Rattle.ason_main.proofs.Settling.{IsSettling}
 use Rattle.ason_main.proofs.runner.settling.settle.Given as goal
 
 abbrev pub invariant-loop-made : goal.invariant-loop-made
-invariant-loop-made l = record {
-  settling : IsSettling l.rounds l._made l.initial.fleet l.fleet;
-  stands : StandsForSome l.fleet;
-}
+invariant-loop-made l = IsSettling l.rounds l._made l.initial.fleet l.fleet
