@@ -5,5 +5,6 @@ pub mod Lsps
 pub mod Network
 pub mod Risks
 pub mod Routes
+pub mod Texts
 pub mod Walks
 pub mod Writable

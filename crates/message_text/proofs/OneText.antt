@@ -12,7 +12,8 @@ use Rattle.rsvp_messages.specs.Packets.{SpelledBy, Spells}
 use Rattle.message_text.specs.DecodeText.{AreTexts, IsBytesText, IsMessageText, message_text, packet_text}
 use Rattle.message_text.specs.Hex.{hex_bytes}
 use Rattle.message_text.specs.LinesLeft.{lines_left}
-use Rattle.message_text.specs.OneText.{Appends, AppendsOne, IsOne}
+use Rattle.ason_base.specs.Texts.{Appends}
+use Rattle.message_text.specs.OneText.{AppendsOne, IsOne}
 
 pub is_one : (Is : List ℕ → Type 0) (text other : List ℕ) → other ≡ text → IsOne Is text → IsOne Is other
 is_one Is text other e one = subst (IsOne Is) (sym e) one

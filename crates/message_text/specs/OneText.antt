@@ -1,15 +1,12 @@
 -- One text and no other.
-use Rattle.std.specs.Prelude.{◌≡◌, ℕ, List, ◌++◌, String, string_bytes}
+use Rattle.std.specs.Prelude.{◌≡◌, ℕ, List, String}
 use Rattle.std.specs.Global.{Global}
+use Rattle.ason_base.specs.Texts.{Appends}
 
 -- the text is of this kind, and no other one is
 pub record IsOne (Is : List ℕ → Type 0) (text : List ℕ) : Type 0 where
   pub is : Is text
   pub only : (other : List ℕ) → Is other → other ≡ text
-
--- the new text is the old one with this part at its end
-abbrev pub Appends : String Global → String Global → List ℕ → Type 0
-Appends old new part = string_bytes new ≡ string_bytes old ++ part
 
 -- the one text of this kind was appended
 abbrev pub AppendsOne : (List ℕ → Type 0) → String Global → String Global → Type 0

@@ -3,7 +3,7 @@
 ghost use Rattle.std.specs.Prelude.{◌≡◌, OnOk};
 ghost use Rattle.std.specs.List.{flat_map};
 ghost use Rattle.message_text.specs.DecodeText.{acks_text, fate_word, head_text, id_text, lsp_and_egress, more_text, object_text, packet_text, subject_text, type_word};
-ghost use Rattle.message_text.specs.OneText.{Appends};
+ghost use Rattle.ason_base.specs.Texts.{Appends};
 
 use ason_base::{Lsp, Msg, MsgId, NodeId, OutOfMemory, Packet};
 use rsvp_messages::{Fate, ObjectLine};

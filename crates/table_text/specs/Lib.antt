@@ -1,3 +1,2 @@
 pub mod FaultText
 pub mod TableText
-pub mod Writers

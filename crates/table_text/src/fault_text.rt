@@ -2,7 +2,7 @@
 
 ghost use Rattle.std.specs.Prelude.{◌≡◌, IfOk, OnOk, string_bytes};
 ghost use Rattle.table_text.specs.FaultText.{entry_text, kind_word, refused_text};
-ghost use Rattle.table_text.specs.Writers.{Appends};
+ghost use Rattle.ason_base.specs.Texts.{Appends};
 
 use ason_base::OutOfMemory;
 use plan_reader::{PlanEntry, PlanFault, PlanKind};

@@ -3,7 +3,7 @@
 ghost use Rattle.std.specs.Prelude.{◌≡◌, ◌==◌, ◌++◌, IfOk, OnErr, OnOk, position, string_bytes};
 ghost use Rattle.std.specs.List.{flat_map};
 ghost use Rattle.table_text.specs.TableText.{back_label_text, back_text, call_name, call_text, cause_text, code_name, call_lsps, head_text, label_text, leg_labels, leg_place, leg_standing, leg_text, lsp_or_dash, lsp_text, name_at, named_or_decimal, node_name, phase_word, role_word, state_word, stopped_text, table_text, unsettled_text};
-ghost use Rattle.table_text.specs.Writers.{Appends};
+ghost use Rattle.ason_base.specs.Texts.{Appends};
 
 use crate::words::{code_name, phase_word, role_word, state_word};
 use ason_base::{

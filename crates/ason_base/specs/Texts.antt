@@ -1,4 +1,4 @@
--- What a writer of text does.
+-- Texts that are written piece by piece.
 use Rattle.std.specs.Prelude.{◌≡◌, ℕ, List, ◌++◌, String, string_bytes}
 use Rattle.std.specs.Global.{Global}
 
