@@ -11,7 +11,6 @@ pub mod Places
 pub mod Posting
 pub mod Reached
 pub mod Replaying
-pub mod Results
 pub mod Seating
 pub mod Sending
 pub mod Sent

@@ -1,7 +1,7 @@
 use Rattle.std.proofs.Common.{◌≡◌, sym, ◌∙◌, ap}
 use Rattle.std.specs.Prelude.{Some, position}
 use Rattle.world_core.specs.Channels.{leads_to}
-use Rattle.world_core.proofs.Results.{on-ok}
+use Rattle.ason_base.proofs.Results.{on_ok}
 use Rattle.world_core.proofs.Sending.{frame-pushed, frame-unsent}
 use Rattle.world_core.proofs.channel.send.Goals as goal
 
@@ -14,6 +14,6 @@ pub returns-in-Some : goal.returns-in-Some
 returns-in-Some c =
     let at : position (leads_to c.args.frame.to.0) c.args.channels.now.items ≡ Some c.in-Some.place =
     ap (position (leads_to c.args.frame.to.0)) (sym c.deref.ensures.value) ∙ sym c.in-Some.ensures in
-    on-ok c.push_at.result _ _
+    on_ok c.push_at.result _ _
     (frame-pushed c.args.frame c.args.channels.now.items c.push_at.new.channels.items c.in-Some.place at)
     c.push_at.ensures

@@ -3,7 +3,7 @@ use Rattle.std.specs.Prelude.{Some, position}
 use Rattle.world_core.specs.Replays.{HasActed, WorldState}
 use Rattle.world_core.specs.Seats.{is_able}
 use Rattle.world_core.proofs.Acting.{able-few, has-acted}
-use Rattle.world_core.proofs.Results.{on-ok}
+use Rattle.ason_base.proofs.Results.{on_ok}
 use Rattle.world_core.proofs.world.World.act.Goals as goal
 
 pub act_at-requires-clause-few : goal.act_at-requires-clause-few
@@ -18,6 +18,6 @@ returns-in-Some-clause-done c =
     ap (position (is_able c.args.node.0)) (sym c.deref.ensures.value) ∙ sym c.able_place.ensures ∙ c.in-Some.is in
     let before : WorldState = record { seats = c.self.inside.seats.items; posted = c.self.inside.posted.items } in
     let after : WorldState = record { seats = c.act_at.new.seats.items; posted = c.self.inside.posted.items } in
-    on-ok c.act_at.result _ _
+    on_ok c.act_at.result _ _
     (λ does. subst (λ k. HasActed k c.args.node c.args.act after) c.self.view_is
     (has-acted before after c.args.node c.args.act c.in-Some.place at refl does)) c.act_at.ensures.done

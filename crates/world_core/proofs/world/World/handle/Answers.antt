@@ -1,12 +1,12 @@
 use Rattle.world_core.proofs.Acting.{handled-steps, not-handled}
-use Rattle.world_core.proofs.Results.{if-err, on-ok}
+use Rattle.ason_base.proofs.Results.{if_err, on_ok}
 use Rattle.world_core.proofs.world.World.handle.Goals as goal
 
 pub returns-clause-done : goal.returns-clause-done
 returns-clause-done c =
-    on-ok c.act.result _ _ (λ acted t. handled-steps t c.args.self.now c.act.new.self c.args.node acted)
+    on_ok c.act.result _ _ (λ acted t. handled-steps t c.args.self.now c.act.new.self c.args.node acted)
     c.act.ensures.done
 
 pub returns-clause-refused : goal.returns-clause-refused
 returns-clause-refused c =
-    if-err c.act.result _ _ (λ f unable e t. not-handled t c.args.self.now c.args.node (unable e)) c.act.ensures.refused
+    if_err c.act.result _ _ (λ f unable e t. not-handled t c.args.self.now c.args.node (unable e)) c.act.ensures.refused

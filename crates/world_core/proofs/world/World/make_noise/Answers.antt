@@ -4,7 +4,7 @@ use Rattle.world_core.specs.declared.acts.Act.TheVariants.{Take}
 use Rattle.world_core.specs.Replays.{HasActed, IsUnable, WorldState}
 use Rattle.world_core.specs.Seats.{is_channel_there}
 use Rattle.world_core.proofs.Acting.{no-channel, no-noise, noise-steps, not-heard}
-use Rattle.world_core.proofs.Results.{if-err, on-ok}
+use Rattle.ason_base.proofs.Results.{if_err, on_ok}
 use Rattle.world_core.proofs.world.World.make_noise.Goals as goal
 
 pub returns-then-not-is_channel_there-clause-refused : goal.returns-then-not-is_channel_there-clause-refused
@@ -30,7 +30,7 @@ returns-clause-done c =
     sym c.is_channel_there.ensures in
     let on : c.is_channel_there.result ≡ true = grind (arith, c.if-not-is_channel_there.false) in
     let yes : c.in_ok-spells_nothing.field-0 ≡ true = grind (arith, c.if-not-branch.false) in
-    on-ok c.act.result _ _
+    on_ok c.act.result _ _
     (λ acted t. noise-steps t c.args.self.now c.act.new.self c.args.to c.args.from c.args.bytes.now (there ∙ on)
     (subst SpellsNothing c.items.ensures (c.in_ok-spells_nothing.ensures.nothing yes))
     (subst (λ bytes. HasActed c.args.self.now c.args.to (Take c.args.from bytes) c.act.new.self)
@@ -44,7 +44,7 @@ returns-clause-refused c =
     ∙ ap (λ seats. is_channel_there seats c.args.from c.args.to) (sym c.deref.ensures.value) ∙
     sym c.is_channel_there.ensures in
     let on : c.is_channel_there.result ≡ true = grind (arith, c.if-not-is_channel_there.false) in
-    if-err c.act.result _ _
+    if_err c.act.result _ _
     (λ f unable e t. not-heard t c.args.self.now c.args.to c.args.from c.args.bytes.now (there ∙ on)
     (subst (λ bytes. IsUnable c.args.self.now c.args.to (Take c.args.from bytes)) c.in_ok-bytes.ensures (unable e)))
     c.act.ensures.refused

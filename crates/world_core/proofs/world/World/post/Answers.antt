@@ -2,7 +2,7 @@ use Rattle.std.proofs.Common.{◌≡◌, true, false, sym, ◌∙◌, ap, arith}
 use Rattle.mesh_rules.specs.Commands.{is_again}
 use Rattle.world_core.specs.Replays.{WorldState}
 use Rattle.world_core.proofs.Posting.{not-given, posted-steps}
-use Rattle.world_core.proofs.Results.{if-err, on-ok}
+use Rattle.ason_base.proofs.Results.{if_err, on_ok}
 use Rattle.world_core.proofs.world.World.post.Goals as goal
 
 pub returns-clause-done : goal.returns-clause-done
@@ -12,13 +12,13 @@ returns-clause-done c =
     ap (λ (k : WorldState). is_again k.posted c.args.command.now) (sym c.self.view_is)
     ∙ ap (λ ns. is_again ns c.args.command.now) (sym c.deref.ensures.value) ∙ sym c.is_again.ensures ∙
     c.if-is_again.false in
-    on-ok c.give.result _ _
+    on_ok c.give.result _ _
     (posted-steps c.args.t.now c.args.self.now c.give.new.self c.args.command.now (sym c.is_valid.ensures ∙ yes) fresh)
     c.give.ensures.done
 
 pub returns-clause-refused : goal.returns-clause-refused
 returns-clause-refused c =
     let yes : c.is_valid.result ≡ true = grind (arith, c.if-not-is_valid.false) in
-    if-err c.give.result _ _
+    if_err c.give.result _ _
     (λ f nobody e. not-given c.args.t.now c.args.self.now c.args.command.now (sym c.is_valid.ensures ∙ yes) (nobody e))
     c.give.ensures.refused
