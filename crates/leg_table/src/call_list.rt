@@ -9,7 +9,7 @@ ghost use Rattle.leg_table.specs.Tables.{call_changed, number_of, serves, with_l
 
 use crate::calls::{find_call, set_call, set_lsps, take_call};
 use crate::lsp_index::{LspOfCall, add, first_call, remove, replace};
-use ason_base::{CallNo, CallRec, Copied, Lsp, OutOfMemory, copy_all};
+use ason_base::{CallNo, CallRec, Lsp, OutOfMemory, copy_all};
 use mesh_rules::CallChange;
 use std::alloc::Global;
 
@@ -108,6 +108,11 @@ impl CallList {
         }
     }
 
+    /// The same calls again.
+    pub(crate) fn copy(&self, alloc: Global) -> Result<CallList, OutOfMemory>
+        requires { AreCalls self.now }
+        ensures calls { IfOk result (λ t. t.calls.items ≡ self.now.calls.items) }
+        ensures fit { IfOk result AreCalls }
     {
         let calls = copy_all(alloc, &self.calls)?;
         let works = Vec::from_slice(alloc, &self.works)?;
@@ -240,11 +245,4 @@ impl CallList {
     {
         lesser(first_call(&self.works, lsp), first_call(&self.backs, lsp))
     }
-}
-
-impl Copied for CallList {
-    fn copy(&self, alloc: Global) -> Result<CallList, OutOfMemory>
-        requires { AreCalls self.now }
-        ensures calls { IfOk result (λ t. t.calls.items ≡ self.now.calls.items) }
-        ensures fit { IfOk result AreCalls }
 }
