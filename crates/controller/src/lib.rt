@@ -8,8 +8,6 @@ pub mod inputs;
 mod packets;
 mod peers;
 mod reactions;
-#[cfg(test)]
-mod tests;
 
 pub use adjacencies::Adjacency;
 pub use controller::Controller;

@@ -6,8 +6,6 @@ pub mod laws;
 pub mod looks;
 pub mod posts;
 pub mod seats;
-#[cfg(test)]
-mod tests;
 pub mod waiting;
 
 pub use fleet::{Fleet, FleetPending, RoundFault};

@@ -12,6 +12,3 @@ pub mod sends;
 pub use flood::Flood;
 pub use messages::{FloodMsg, decode_flood, encode_flood};
 pub use sends::{FloodOut, FloodSends};
-
-#[cfg(test)]
-mod tests;

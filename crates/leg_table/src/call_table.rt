@@ -181,6 +181,3 @@ impl Copied for Calls {
         })
     }
 }
-
-#[cfg(test)]
-mod tests;

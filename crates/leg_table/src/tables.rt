@@ -281,6 +281,3 @@ fn rows_of(alloc: Global, links: &[LinkSpec]) -> Result<Vec<TeRow>, OutOfMemory>
     }
     Ok(rows)
 }
-
-#[cfg(test)]
-mod tests;

@@ -179,6 +179,3 @@ fn unclaimed_fibre(alloc: Global, node: NodeId, link: &LinkSpec) -> FibreOwner
     };
     FibreOwner::new(alloc, fibre, link.labels)
 }
-
-#[cfg(test)]
-mod tests;

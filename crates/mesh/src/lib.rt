@@ -4,8 +4,6 @@
 mod nodes;
 mod queues;
 pub mod state;
-#[cfg(test)]
-mod tests;
 
 pub use mesh_laws::laws;
 pub use mesh_rules::{MeshEvent, StepFault};

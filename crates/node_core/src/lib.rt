@@ -7,8 +7,6 @@ pub mod node;
 mod routes;
 mod rows;
 mod rules;
-#[cfg(test)]
-mod tests;
 
 pub use inputs::Input;
 pub use leg_table::Change;

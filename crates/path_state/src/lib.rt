@@ -4,8 +4,6 @@
 mod handlers;
 mod paths;
 mod tears;
-#[cfg(test)]
-mod tests;
 
 pub use handlers::{path, tear};
 pub use paths::path_change;

@@ -2,4 +2,3 @@ pub mod ByLegs
 pub mod KeptLegs
 pub mod MayResvs
 pub mod NoCall
-pub mod TestLegs

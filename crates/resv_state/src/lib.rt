@@ -5,8 +5,6 @@
 mod handlers;
 mod path_errs;
 mod resvs;
-#[cfg(test)]
-mod tests;
 
 pub use handlers::{path_err, resv};
 pub use path_errs::{path_err_change, refuses};

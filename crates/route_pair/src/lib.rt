@@ -10,10 +10,6 @@ ghost use Rattle.route_pair.specs.Pairs.{IsBackupFault, IsBackupFound, IsFault, 
 
 pub mod answers;
 mod bans;
-#[cfg(test)]
-mod fixtures;
-#[cfg(test)]
-mod tests;
 
 pub use answers::{BackupFault, Pair, PairFault};
 use ason_base::ids::{NodeId, OutOfMemory};

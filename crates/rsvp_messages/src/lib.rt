@@ -26,6 +26,3 @@ pub use lines::{Fate, ObjectLine, objects};
 pub use reading::decode;
 pub use writable::is_writable;
 pub use writing::encode;
-
-#[cfg(test)]
-mod tests;

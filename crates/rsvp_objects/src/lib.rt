@@ -21,6 +21,3 @@ pub use request::{LabelRequest, read_request, write_request};
 pub use route::{read_route, write_route};
 pub use sender::{SenderRef, read_filter, read_sender, write_filter, write_sender};
 pub use session::{Session, read_session, write_session};
-
-#[cfg(test)]
-mod tests;

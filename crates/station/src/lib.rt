@@ -7,8 +7,6 @@ pub mod halts;
 pub mod links;
 pub mod parcels;
 pub mod station;
-#[cfg(test)]
-mod tests;
 pub mod turns;
 pub mod wiring;
 

@@ -9,6 +9,3 @@ pub mod writing;
 
 pub use reading::read_row;
 pub use writing::write_row;
-
-#[cfg(test)]
-mod tests;

@@ -10,8 +10,6 @@ mod noise;
 pub mod replays;
 pub mod seat;
 mod seats;
-#[cfg(test)]
-mod tests;
 pub mod world;
 
 pub use laws::every_world_run;

@@ -1,5 +1,0 @@
-//! A node over inputs that are given to it by hand.
-
-mod cases;
-mod inputs;
-mod outs;

@@ -1,0 +1,156 @@
+//! A call over one link, set up and released round by round, with ample memory.
+
+use ason_base::{
+    CallNo, CallState, Command, Group, Label, LegRow, LinkId, LinkSpec, NodeId, NodeSpec, Numbers,
+    Phase, Step, Steps, Topology,
+};
+use fleet::{Fleet, FleetPending};
+use std::alloc::Global;
+use std::test::Fail;
+
+const A: NodeId = NodeId(1);
+
+const B: NodeId = NodeId(2);
+
+const LINK: LinkId = LinkId(1);
+
+// Two nodes that convert, and one link of one label.
+fn new_fleet(alloc: Global) -> Result<Fleet, Fail> {
+    let node = |id: NodeId| NodeSpec { id, convert: true };
+    let link = LinkSpec {
+        id: LINK,
+        low: A,
+        high: B,
+        labels: 1,
+        metric: 1,
+        srlgs: Numbers::new(alloc),
+    };
+    let t = Topology::new(alloc, 0, &[node(A), node(B)], &[link])?;
+    Ok(Fleet::new(alloc, &t)?)
+}
+
+// The call of this number from a to b.
+fn setup(alloc: Global, call: u16) -> Result<Command, Fail> {
+    let mut via = Steps::new(alloc);
+    via.push(Step {
+        node: A,
+        link: LINK,
+    })?;
+    Ok(Command::Setup {
+        call: CallNo(call),
+        from: A,
+        to: B,
+        protected: false,
+        both: false,
+        via: Some(via),
+        backup: None,
+    })
+}
+
+fn release() -> Command {
+    Command::Release {
+        call: CallNo(0),
+        from: A,
+    }
+}
+
+// Rounds until nothing waits, at most ten.
+fn settle(fleet: &mut Fleet) -> Result<(), Fail> {
+    for _ in 0..10 {
+        if !fleet.quiet() {
+            fleet.round()?;
+        }
+    }
+    Ok(())
+}
+
+// So much waits, and no row of a flood.
+fn waits(fleet: &Fleet, desk: usize, hop: usize) -> bool {
+    let most = FleetPending {
+        desk,
+        hop,
+        flood: 0,
+    };
+    fleet.pending() == most && fleet.quiet() == (desk == 0 && hop == 0)
+}
+
+// The leg is Live, has no fibre in at a and none out at b, and label 1 of the link elsewhere.
+fn is_live(leg: &LegRow) -> bool {
+    let label = Label::new(1);
+    let into = (leg.in_link, leg.in_label);
+    let out = (leg.out_link, leg.out_label);
+    let ends = if leg.node == A {
+        into == (None, None) && out == (Some(LINK), label)
+    } else {
+        into == (Some(LINK), label) && out == (None, None)
+    };
+    ends && leg.phase == Phase::Live
+}
+
+// The call stands at a, with a leg at a and one at b.
+fn stands(alloc: Global, fleet: &Fleet) -> Result<bool, Fail> {
+    let rows = fleet.rows(alloc)?;
+    let calls = rows.calls.items();
+    let legs = rows.legs.items();
+    let at_a = calls.iter().all(|row| row.ingress == A
+        && row.egress == B
+        && row.state == CallState::Bare);
+    let nodes = legs.iter().map(|leg| leg.node);
+    Ok(calls.len() == 1 && at_a && nodes.eq([A, B]) && legs.iter().all(|leg| is_live(leg)))
+}
+
+// No call and no leg.
+fn is_bare(alloc: Global, fleet: &Fleet) -> Result<bool, Fail> {
+    let rows = fleet.rows(alloc)?;
+    Ok(rows.calls.items().is_empty() && rows.legs.items().is_empty())
+}
+
+// After the first round the Path and the Resv aren't acknowledged; the second brings both acknowledgements. The events are those
+// that proofs/Example works out.
+#[test]
+fn a_call_is_set_up_in_two_rounds(rt: HostRuntime) -> Result<(), Fail> {
+    let alloc = rt.alloc();
+    let mut fleet = new_fleet(alloc)?;
+    assert!(rt; waits(&fleet, 0, 0));
+    assert!(rt; is_bare(alloc, &fleet)?);
+    fleet.post(&setup(alloc, 0)?)?;
+    assert!(rt; waits(&fleet, 1, 0));
+    assert!(rt; fleet.round() == Ok(4));
+    assert!(rt; waits(&fleet, 0, 2));
+    assert!(rt; fleet.round() == Ok(6));
+    assert!(rt; waits(&fleet, 0, 0));
+    assert!(rt; stands(alloc, &fleet)?);
+    Ok(())
+}
+
+// A release leaves no call and no leg, and the label is free for another call.
+#[test]
+fn a_call_that_is_released_leaves_nothing(rt: HostRuntime) -> Result<(), Fail> {
+    let alloc = rt.alloc();
+    let mut fleet = new_fleet(alloc)?;
+    fleet.post(&setup(alloc, 0)?)?;
+    settle(&mut fleet)?;
+    fleet.post(&release())?;
+    assert!(rt; waits(&fleet, 1, 0));
+    assert!(rt; stands(alloc, &fleet)?);
+    settle(&mut fleet)?;
+    assert!(rt; waits(&fleet, 0, 0));
+    assert!(rt; is_bare(alloc, &fleet)?);
+    fleet.post(&setup(alloc, 1)?)?;
+    settle(&mut fleet)?;
+    assert!(rt; stands(alloc, &fleet)?);
+    Ok(())
+}
+
+// A command of a group goes to no desk. A quiet fleet's round is a tick of each node.
+#[test]
+fn a_group_goes_to_no_desk(rt: HostRuntime) -> Result<(), Fail> {
+    let alloc = rt.alloc();
+    let mut fleet = new_fleet(alloc)?;
+    fleet.post(&Command::Fail {
+        group: Group::Link(LINK),
+    })?;
+    assert!(rt; waits(&fleet, 0, 0));
+    assert!(rt; fleet.round() == Ok(2));
+    Ok(())
+}
