@@ -8,7 +8,7 @@ use Rattle.mesh_laws.specs.Laws.{EveryRunKeepsTheLaws, LawsHold}
 use Rattle.mesh_laws.proofs.hops.Joined.{every_call_joined}
 use Rattle.mesh_laws.proofs.hops.Laws.{every_hop}
 use Rattle.mesh_laws.proofs.hops.Safe.{every_run_safe}
-use Rattle.mesh_laws.proofs.nodes.Laws.{every_call, every_label, every_live}
+use Rattle.mesh_laws.proofs.nodes.Laws.{every_call, every_label, every_learnt_row, every_live}
 
 pub laws_hold : EveryRunKeepsTheLaws
 laws_hold t events run =
@@ -21,6 +21,7 @@ laws_hold t events run =
       hops = hops.1;
       safe = every_run_safe t events run;
       joined = every_call_joined t events run;
+      learnt = every_learnt_row t events run;
     }
 
 run_so_far : (t : Network) (s : Mesh) (events later : List MeshEvent) → IsRun t s (events ++ later) → IsRun t s events

@@ -9,6 +9,7 @@ use Rattle.mesh_laws.specs.CallLaw.{CallsFit}
 use Rattle.mesh_laws.specs.HopLaw.{HasOneLegEach, LspFits}
 use Rattle.mesh_laws.specs.JoinedLaw.{CallsAreJoined}
 use Rattle.mesh_laws.specs.LabelLaw.{LabelsAreShared, LiveLegsAreLabelled}
+use Rattle.mesh_laws.specs.LearntLaw.{LearntRowsAreTrue}
 use Rattle.mesh_laws.specs.SafeLaw.{IsSafe}
 
 -- what holds of the state to which these events lead from the start
@@ -26,6 +27,8 @@ pub record LawsHold (t : Network) (events : List MeshEvent) : Type 0 where
   pub safe : IsSafe t (after t start events)
   -- each call that stands is cross-connected from end to end
   pub joined : CallsAreJoined t events
+  -- what a node learnt of links is true of the network
+  pub learnt : LearntRowsAreTrue t (after t start events)
 
 -- over every network and every run
 abbrev pub EveryRunKeepsTheLaws : Type 0

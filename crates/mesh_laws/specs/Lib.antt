@@ -4,5 +4,6 @@ pub mod HopShapes
 pub mod JoinedLaw
 pub mod LabelLaw
 pub mod Laws
+pub mod LearntLaw
 pub mod NodeLaw
 pub mod SafeLaw

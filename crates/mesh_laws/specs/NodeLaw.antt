@@ -1,4 +1,4 @@
--- At one node, whatever messages come to it: a label is one LSP's, or shared lawfully.
+-- At one node, whatever comes to it: a label is one LSP's, or shared lawfully.
 use Rattle.std.specs.Prelude.{◌≡◌, ℕ, List, [], ◌∷◌, IsTrue}
 use Rattle.std.specs.List.{AllByRecursion}
 use Rattle.ason_base.specs.declared.commands.Command.TheVariants.{Setup, Release, Protect, Retry, Revert, Fail, Repair}
@@ -6,9 +6,11 @@ use Rattle.ason_base.specs.declared.commands.DeskItem.{DeskItem}
 use Rattle.ason_base.specs.declared.commands.DeskItem.TheVariants.{Order, Alarm, Clear}
 use Rattle.ason_base.specs.declared.ids.NodeId.{NodeId}
 use Rattle.ason_base.specs.declared.messages.Msg.{Msg}
+use Rattle.ason_base.specs.declared.network.TeRow.{TeRow}
 use Rattle.ason_base.specs.Network.{Network}
 use Rattle.mesh_rules.specs.Changes.{Answer, changed}
 use Rattle.mesh_rules.specs.Commands.{is_valid}
+use Rattle.mesh_rules.specs.Learnt.{on_row}
 use Rattle.mesh_rules.specs.LocalNodes.{LocalNode, local_node}
 use Rattle.mesh_rules.specs.Messages.{on_message}
 use Rattle.mesh_rules.specs.Orders.{on_item}
@@ -40,15 +42,19 @@ pub data NodeInput : Type 0 where
   Message : NodeId → Msg → NodeInput
   -- an item of the desk
   Item : DeskItem → NodeInput
+  -- a row of a link, as told by a neighbour
+  Row : TeRow → NodeInput
 
--- any message of whatever sender, and the items that a desk has
+-- any message of whatever sender, any row, and the items that a desk has
 abbrev pub MayCome : Network → ℕ → NodeInput → Type 0
 MayCome t n (Message u m) = Unit {0}
 MayCome t n (Item i) = FitsDesk t n i
+MayCome t n (Row row) = Unit {0}
 
 abbrev pub answer : LocalNode → NodeState → NodeInput → Answer
 answer p s (Message u m) = on_message p s u m
 answer p s (Item i) = on_item p s i
+answer p s (Row row) = on_row p s row
 
 abbrev pub after_inputs : LocalNode → NodeState → List NodeInput → NodeState
 after_inputs p s [] = s

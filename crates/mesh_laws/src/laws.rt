@@ -5,6 +5,7 @@ ghost use Rattle.mesh_laws.specs.HopLaw.{EveryHopHasAShape};
 ghost use Rattle.mesh_laws.specs.JoinedLaw.{EveryCallIsJoined};
 ghost use Rattle.mesh_laws.specs.LabelLaw.{EveryLabelIsShared, EveryLiveLegIsLabelled};
 ghost use Rattle.mesh_laws.specs.Laws.{EveryRunKeepsTheLaws};
+ghost use Rattle.mesh_laws.specs.LearntLaw.{EveryLearntRowIsTrue};
 ghost use Rattle.mesh_laws.specs.NodeLaw.{EveryNodeSharesLawfully};
 ghost use Rattle.mesh_laws.specs.SafeLaw.{EveryRunIsSafe};
 
@@ -14,7 +15,8 @@ ghost use Rattle.mesh_laws.specs.SafeLaw.{EveryRunIsSafe};
 /// call. Each hop of each LSP, its legs at both ends with the messages between them, has a shape of the table, and each leg
 /// names the end of its LSP's route as its egress. No label of a fibre is cross-connected for two LSPs. Each call that is
 /// neither asking nor blocked is joined: its working LSP is Live at each node of its route, each label out being the next
-/// node's label in. The last clause says all of it of one state, in one word.
+/// node's label in. What a node learnt of links are rows of the network. The last clause says all of it of one state, in one
+/// word.
 pub fn every_run()
     ensures labels { EveryLabelIsShared }
     ensures labelled { EveryLiveLegIsLabelled }
@@ -22,12 +24,13 @@ pub fn every_run()
     ensures hops { EveryHopHasAShape }
     ensures safe { EveryRunIsSafe }
     ensures joined { EveryCallIsJoined }
+    ensures learnt { EveryLearntRowIsTrue }
     ensures together { EveryRunKeepsTheLaws }
 {}
 
-/// At each node, whatever messages come to it, of whatever senders, in whatever order with the orders of its own calls: a
-/// label of a fibre is taken by one leg alone, or by backups whose primaries have no risk in common, at most one of them Armed
-/// or Live.
+/// At each node, whatever messages come to it, of whatever senders, and whatever rows it learns, in whatever order with the
+/// orders of its own calls: a label of a fibre is taken by one leg alone, or by backups whose primaries have no risk in common,
+/// at most one of them Armed or Live.
 pub fn every_node()
     ensures { EveryNodeSharesLawfully }
 {}

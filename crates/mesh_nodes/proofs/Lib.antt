@@ -2,6 +2,7 @@ pub mod CallList
 pub mod Cases
 pub mod Items
 pub mod Kept
+pub mod LearnsNothing
 pub mod LegList
 pub mod Links
 pub mod Messages

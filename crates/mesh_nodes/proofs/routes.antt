@@ -1,5 +1,6 @@
 pub mod Backups
 pub mod Found
+pub mod Learnt
 pub mod Least
 pub mod Lists
 pub mod Makes

@@ -28,6 +28,6 @@ abbrev pub ItemsFit : Type 0
 ItemsFit = (p : LocalNode) (s : NodeState) (i : DeskItem) → LocalNodeFits p → NodeFits p s →
     AnswerFits p s (Unit {0}) (on_item p s i)
 
--- a tick, or a row that a neighbour tells: nothing is answered
+-- a tick: nothing is answered
 abbrev pub NothingFits : Type 0
 NothingFits = (p : LocalNode) (s : NodeState) → NodeFits p s → AnswerFits p s (Unit {0}) nothing

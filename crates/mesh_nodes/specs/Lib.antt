@@ -1,5 +1,6 @@
 pub mod Kept
 pub mod Laws
+pub mod Learnt
 pub mod LocalNodes
 pub mod Order
 pub mod Routes

@@ -1,6 +1,7 @@
 //! The laws of one node, and of the routes that it finds.
 
 ghost use Rattle.mesh_nodes.specs.Laws.{ItemsFit, MessagesFit, NewNodesFit, NothingFits};
+ghost use Rattle.mesh_nodes.specs.Learnt.{LearningFits, LearntIsKnown, LearntStayTrue, NetworkRowsMayBeLearnt, NothingElseIsLearnt, RowsStayFit};
 ghost use Rattle.mesh_nodes.specs.Routes.{FoundRoutesAreFollowed, FoundRoutesLead, LeastBackupIsLeast, LeastBackupVisitsOnce, LeastTripIsLeast, LeastTripVisitsOnce, NewRowsFit, NoBackupIsNone, NoTripIsNoWalk};
 
 /// The node of a topology knows its own links and keeps nothing that doesn't fit them. Whatever comes then, a message, an item
@@ -27,4 +28,17 @@ pub fn least_routes()
     ensures new { NewRowsFit }
     ensures leads { FoundRoutesLead }
     ensures followed { FoundRoutesAreFollowed }
+{}
+
+/// What a node learns of links that aren't its own. A row that may be learnt is known afterwards, what else the node keeps fits
+/// as it did, nothing is sent, and routes can be asked of what is known then. At a node of a topology that learnt rows of it
+/// alone each row of it may be learnt, and what the node learnt stays so. By no message, and by no item of its desk, does a node
+/// learn of a link.
+pub fn learnt_rows()
+    ensures known { LearntIsKnown }
+    ensures fits { LearningFits }
+    ensures rows { RowsStayFit }
+    ensures may { NetworkRowsMayBeLearnt }
+    ensures stay { LearntStayTrue }
+    ensures others { NothingElseIsLearnt }
 {}

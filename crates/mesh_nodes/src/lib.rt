@@ -4,4 +4,4 @@
 
 pub mod laws;
 
-pub use laws::{every_answer, least_routes};
+pub use laws::{every_answer, learnt_rows, least_routes};

@@ -1,26 +1,28 @@
--- Links that a node knows.
-use Rattle.std.proofs.Common.{◌≡◌, Bool, true, false, cond, nat_eq, List, [], ◌∷◌, refl}
-use Rattle.std.specs.Prelude.{◌&&◌, ◌||◌, filter, find}
+-- A node that learnt nothing knows its own links.
+use Rattle.std.proofs.Common.{◌≡◌, ◌∙◌, ap, sym, Bool, true, false, cond, nat_eq, List, [], ◌∷◌, map, refl, append-nil}
+use Rattle.std.specs.Prelude.{◌&&◌, ◌||◌, filter}
 use Rattle.std.specs.List.{list_any}
 use Rattle.ason_base.specs.declared.ids.NodeId.{NodeId}
 use Rattle.ason_base.specs.declared.ids.LinkId.{LinkId}
 use Rattle.ason_base.specs.declared.network.LinkSpec.{LinkSpec}
-use Rattle.ason_base.specs.Network.{Network, touches}
-use Rattle.mesh_rules.specs.LocalNodes.{is_link_there}
-use Rattle.mesh_rules.specs.Events.{knows}
+use Rattle.ason_base.specs.Network.{Network, row_of, touches}
+use Rattle.mesh_rules.specs.KnownRows.{has_row, known_rows}
+use Rattle.mesh_rules.specs.LocalNodes.{local_node}
+use Rattle.mesh_rules.specs.State.{new_node}
 
-found_link : (p q : LinkSpec → Bool) (links : List LinkSpec) →
-    list_any (λ l. q l && p l) links ≡ is_link_there (find p (filter q links))
-found_link p q [] = refl
-found_link p q (l ∷ links) = go (q l) (p l) refl (found_link p q links)
+kept-rows : (p : LinkSpec → Bool) (k : LinkId) (links : List LinkSpec) →
+    list_any (λ l. p l && nat_eq l.id.0 k.0) links ≡ has_row (map row_of (filter p links)) k
+kept-rows p k [] = refl
+kept-rows p k (l ∷ links) = go (p l) (kept-rows p k links)
   where
-    go : (a b : Bool) → p l ≡ b → list_any (λ l. q l && p l) links ≡ is_link_there (find p (filter q links)) →
-        ((a && b) || list_any (λ l. q l && p l) links) ≡ is_link_there
-        (find p (cond a (l ∷ filter q links) (filter q links)))
-    go true true e h = rw e refl
-    go true false e h = rw e h
-    go false b e h = h
+    go : (b : Bool) → list_any (λ l. p l && nat_eq l.id.0 k.0) links ≡ has_row (map row_of (filter p links)) k →
+        ((b && nat_eq l.id.0 k.0) || list_any (λ l. p l && nat_eq l.id.0 k.0) links) ≡
+        has_row (map row_of (cond b (l ∷ filter p links) (filter p links))) k
+    go true later = ap (λ b. nat_eq l.id.0 k.0 || b) later
+    go false later = later
 
-pub knows_link : (t : Network) (n : NodeId) (k : LinkId) →
-    list_any (λ l. touches n l && nat_eq l.id.0 k.0) t.links ≡ knows t n k
-knows_link t n k = found_link (λ l. nat_eq l.id.0 k.0) (touches n) t.links
+pub knows-own : (t : Network) (n : NodeId) (k : LinkId) →
+    list_any (λ l. touches n l && nat_eq l.id.0 k.0) t.links ≡ has_row (known_rows (local_node t n) new_node) k
+knows-own t n k =
+    kept-rows (touches n) k t.links ∙
+    ap (λ rows. has_row rows k) (sym (append-nil (map row_of (filter (touches n) t.links))))

@@ -4,6 +4,7 @@ use Rattle.ason_base.specs.declared.ids.Fibre.{Fibre}
 use Rattle.ason_base.specs.declared.ids.Lsp.{Lsp}
 use Rattle.ason_base.specs.declared.ids.NodeId.{NodeId}
 use Rattle.ason_base.specs.declared.messages.Msg.{Msg}
+use Rattle.ason_base.specs.declared.network.TeRow.{TeRow}
 use Rattle.ason_base.specs.declared.tables.Leg.{Leg}
 use Rattle.ason_base.specs.declared.tables.Out.{Out}
 use Rattle.mesh_rules.specs.declared.changes.LegChange.{LegChange}
@@ -17,18 +18,18 @@ use Rattle.mesh_rules.specs.Calls.{calls_changed}
 -- Answers
 
 -- the legs and calls that change, the numbers where some were given out, the fibres known to be down where these
--- change, and the
--- messages that are sent, in order
+-- change, the rows that are learnt, and the messages that are sent, in order
 pub record Answer : Type 0 where
   pub legs : List LegChange
   pub calls : List CallChange
   pub numbers : Option NextNumbers
   pub down : Option (List Fibre)
+  pub rows : List TeRow
   pub sent : List Out
 
 -- the rule that changes nothing and sends nothing
 abbrev pub nothing : Answer
-nothing = record { legs = []; calls = []; numbers = None; down = None; sent = [] }
+nothing = record { legs = []; calls = []; numbers = None; down = None; rows = []; sent = [] }
 
 -- only this is sent
 abbrev pub sends : List Out → Answer
@@ -46,6 +47,10 @@ removes l outs = record nothing { legs = leg.Goes l ∷ []; sent = outs }
 abbrev pub changes_calls : List CallChange → Answer
 changes_calls cs = record nothing { calls = cs }
 
+-- only this row is learnt
+abbrev pub learns : TeRow → Answer
+learns row = record nothing { rows = row ∷ [] }
+
 abbrev pub to_node : NodeId → Msg → Out
 to_node n m = record { to = n; msg = m }
 
@@ -62,6 +67,7 @@ followed_by a b = record {
   calls = a.calls ++ b.calls;
   numbers = later a.numbers b.numbers;
   down = later a.down b.down;
+  rows = a.rows ++ b.rows;
   sent = a.sent ++ b.sent;
 }
 
@@ -79,6 +85,11 @@ abbrev pub down_after : Option (List Fibre) → List Fibre → List Fibre
 down_after None fibres = fibres
 down_after (Some fs) fibres = fs
 
+-- these rows come after those that were learnt before, in order
+abbrev pub learnt_after : List TeRow → List TeRow → List TeRow
+learnt_after [] learnt = learnt
+learnt_after (row ∷ rows) learnt = learnt_after rows (learnt ++ row ∷ [])
+
 abbrev pub changed : NodeState → Answer → NodeState
 changed s a = record s {
   legs = legs_changed a.legs s.legs;
@@ -86,4 +97,5 @@ changed s a = record s {
   tunnel = tunnel_after a.numbers s.tunnel;
   lsp = lsp_after a.numbers s.lsp;
   down = down_after a.down s.down;
+  learnt = learnt_after a.rows s.learnt;
 }

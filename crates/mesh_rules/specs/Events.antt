@@ -12,13 +12,15 @@ use Rattle.ason_base.specs.declared.commands.DeskItem.TheVariants.{Order}
 use Rattle.ason_base.specs.declared.messages.Msg.{Msg}
 use Rattle.ason_base.specs.declared.messages.Msg.TheVariants.{Path, Resv, PathTear, PathErr, Notify}
 use Rattle.ason_base.specs.declared.tables.Out.{Out}
-use Rattle.ason_base.specs.Network.{Network, is_node_id, touches, other_end}
+use Rattle.ason_base.specs.Network.{Network, find_link, is_node_id, touches, other_end}
 use Rattle.ason_base.specs.Lsps.{same_lsp}
 use Rattle.mesh_rules.specs.declared.events.MeshEvent.{MeshEvent}
 use Rattle.mesh_rules.specs.declared.events.MeshEvent.TheVariants.{Take, Desk, Tick, Learn, Post}
 use Rattle.mesh_rules.specs.Changes.{Answer, nothing}
 use Rattle.mesh_rules.specs.State.{NodeState}
-use Rattle.mesh_rules.specs.LocalNodes.{LocalNode, local_node, own_link, is_link_there}
+use Rattle.mesh_rules.specs.KnownRows.{has_row, known_rows}
+use Rattle.mesh_rules.specs.Learnt.{on_link}
+use Rattle.mesh_rules.specs.LocalNodes.{LocalNode, local_node}
 use Rattle.mesh_rules.specs.Messages.{on_message}
 use Rattle.mesh_rules.specs.Orders.{on_item, on_tick}
 use Rattle.mesh_rules.specs.Commands.{is_valid, is_again}
@@ -30,15 +32,19 @@ abbrev pub has_first : {X : Type 0} → List X → Bool
 has_first [] = false
 has_first (x ∷ xs) = true
 
--- a node knows its own links
-abbrev pub knows : Network → NodeId → LinkId → Bool
-knows t n k = is_link_there (own_link (local_node t n) k)
+-- a node knows its own links, and those that it learnt
+abbrev pub knows : Network → Mesh → NodeId → LinkId → Bool
+knows t s n k = has_row (known_rows (local_node t n) (s.nodes n.0)) k
+
+-- a neighbour of the node knows the link
+abbrev pub may_learn : Network → Mesh → NodeId → LinkId → Bool
+may_learn t s n k = list_any (λ l. touches n l && knows t s (other_end l n) k) t.links
 
 abbrev pub is_enabled : Network → Mesh → MeshEvent → Bool
 is_enabled t s (Take d u) = has_first (s.mail u.0 d.0)
 is_enabled t s (Desk n) = has_first (s.desks n.0)
 is_enabled t s (Tick n) = is_node_id t.nodes n
-is_enabled t s (Learn n k) = list_any (λ l. touches n l && knows t (other_end l n) k) t.links
+is_enabled t s (Learn n k) = may_learn t s n k
 is_enabled t s (Post c) = is_valid t c && not (is_again s.posted c)
 
 -- What each event does
@@ -69,7 +75,7 @@ abbrev pub step : Network → Mesh → MeshEvent → Mesh
 step t s (Take d u) = commit (without_first s u.0 d.0) d.0 (on_first (local_node t d) (s.nodes d.0) u (s.mail u.0 d.0))
 step t s (Desk n) = commit (without_item s n.0) n.0 (on_first_item (local_node t n) (s.nodes n.0) (s.desks n.0))
 step t s (Tick n) = commit s n.0 (on_tick (local_node t n) (s.nodes n.0))
-step t s (Learn n k) = s
+step t s (Learn n k) = commit s n.0 (on_link (local_node t n) (s.nodes n.0) (find_link t k))
 step t s (Post c) = posted s c
 
 -- Runs

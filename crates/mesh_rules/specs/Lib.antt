@@ -3,6 +3,7 @@ pub mod Changes
 pub mod Commands
 pub mod Events
 pub mod KnownRows
+pub mod Learnt
 pub mod LeastRoutes
 pub mod Legs
 pub mod LocalNodes

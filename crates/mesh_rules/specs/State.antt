@@ -6,8 +6,7 @@ use Rattle.ason_base.specs.declared.tables.CallRec.{CallRec}
 use Rattle.ason_base.specs.declared.tables.Leg.{Leg}
 
 -- its legs in order of LSP, its calls in order of number, the numbers that it gives out next, the rows of other nodes'
--- links that
--- it learnt, and the fibres in that it knows to be down
+-- links that it learnt, in the order in which they came, and the fibres in that it knows to be down
 pub record NodeState : Type 0 where
   pub legs : List Leg
   pub calls : List CallRec

@@ -10,7 +10,7 @@ pub enum MeshEvent {
     /// The first item of the node's desk is handled.
     Desk { node: NodeId },
     Tick { node: NodeId },
-    /// The node learns of a link that a neighbour knows.
+    /// The node learns the row of a link that a neighbour knows.
     Learn { node: NodeId, link: LinkId },
     /// A command is given.
     Post { command: Command },

@@ -4,6 +4,7 @@ use Rattle.std.specs.Prelude.{map, filter, Option, Some, None}
 use Rattle.std.proofs.lemmas.List.{append_assoc, map-append}
 use Rattle.std.proofs.lemmas.List.Elements.{filter-append}
 use Rattle.ason_base.specs.declared.ids.Fibre.{Fibre}
+use Rattle.ason_base.specs.declared.network.TeRow.{TeRow}
 use Rattle.ason_base.specs.declared.tables.CallRec.{CallRec}
 use Rattle.ason_base.specs.declared.tables.Leg.{Leg}
 use Rattle.ason_base.specs.declared.tables.Out.{Out}
@@ -13,7 +14,7 @@ use Rattle.mesh_rules.specs.declared.changes.NextNumbers.{NextNumbers}
 use Rattle.mesh_rules.specs.State.{NodeState}
 use Rattle.mesh_rules.specs.Legs.{legs_changed, leg_changed}
 use Rattle.mesh_rules.specs.Calls.{calls_changed, call_changed}
-use Rattle.mesh_rules.specs.Changes.{Answer, later, followed_by, tunnel_after, lsp_after, down_after, changed}
+use Rattle.mesh_rules.specs.Changes.{Answer, later, followed_by, tunnel_after, lsp_after, down_after, learnt_after, changed}
 use Rattle.mesh_rules.specs.Machine.{Mesh, commit, sent_to}
 
 legs-then : (cs ds : List LegChange) (legs : List Leg) →
@@ -38,6 +39,10 @@ down-then : (a b : Option (List Fibre)) (fs : List Fibre) → down_after (later 
 down-then a None fs = refl
 down-then a (Some gs) fs = refl
 
+learnt-then : (a b learnt : List TeRow) → learnt_after (a ++ b) learnt ≡ learnt_after b (learnt_after a learnt)
+learnt-then [] b learnt = refl
+learnt-then (row ∷ a) b learnt = learnt-then a b (learnt ++ row ∷ [])
+
 changed-then : (s : NodeState) (a b : Answer) → changed s (followed_by a b) ≡ changed (changed s a) b
 changed-then s a b = λ i. record s {
   legs = legs-then a.legs b.legs s.legs i;
@@ -45,6 +50,7 @@ changed-then s a b = λ i. record s {
   tunnel = tunnel-then a.numbers b.numbers s.tunnel i;
   lsp = lsp-then a.numbers b.numbers s.lsp i;
   down = down-then a.down b.down s.down i;
+  learnt = learnt-then a.rows b.rows s.learnt i;
 }
 
 sent-then : (d : ℕ) (a b : List Out) → sent_to d (a ++ b) ≡ sent_to d a ++ sent_to d b

@@ -1,7 +1,7 @@
 -- No Notify is under way: no rule sends one.
 use Rattle.std.proofs.Common.{◌≡◌, ℕ, Bool, true, false, cond, nat_eq, List, [], ◌∷◌, ◌++◌, drop, refl}
 use Rattle.std.specs.Prelude.{◌&&◌, filter, map, Option, Some, None}
-use Rattle.ason_base.specs.Network.{Network}
+use Rattle.ason_base.specs.Network.{Network, find_link, row_of}
 use Rattle.ason_base.specs.declared.ids.Lsp.{Lsp}
 use Rattle.ason_base.specs.declared.ids.NodeId.{NodeId}
 use Rattle.ason_base.specs.declared.steps.Step.{Step}
@@ -18,11 +18,12 @@ use Rattle.mesh_rules.specs.declared.neighbours.Neighbour.{Neighbour}
 use Rattle.mesh_rules.specs.declared.events.MeshEvent.{MeshEvent}
 use Rattle.mesh_rules.specs.declared.events.MeshEvent.TheVariants.{Take, Desk, Tick, Learn, Post}
 use Rattle.mesh_rules.specs.State.{NodeState}
-use Rattle.mesh_rules.specs.Changes.{Answer, nothing}
+use Rattle.mesh_rules.specs.Changes.{Answer, learns, nothing}
 use Rattle.mesh_rules.specs.LocalNodes.{LocalNode, local_node}
 use Rattle.mesh_rules.specs.Legs.{following, leg_of}
 use Rattle.mesh_rules.specs.Calls.{find_call}
-use Rattle.mesh_rules.specs.KnownRows.{known_rows}
+use Rattle.mesh_rules.specs.KnownRows.{has_row, known_rows}
+use Rattle.mesh_rules.specs.Learnt.{on_link}
 use Rattle.mesh_rules.specs.LeastRoutes.{Trip, least_trip}
 use Rattle.mesh_rules.specs.Setups.{SetupRequest, is_spent, is_full, first_link, is_order_here, over_first, over_found, new_call, setup_with}
 use Rattle.mesh_rules.specs.Releases.{tear_to, tears, release_with}
@@ -115,6 +116,12 @@ item-plain p s (Order c ∷ items) = order-plain p s c
 item-plain p s (Alarm f ∷ items) = record { sent = tt }
 item-plain p s (Clear f ∷ items) = record { sent = tt }
 
+link-plain : (p : LocalNode) (s : NodeState) (o : Option LinkSpec) → IsPlain (on_link p s o)
+link-plain p s None = record { sent = tt }
+link-plain p s (Some l) =
+    if_cases IsPlain (has_row (known_rows p s) l.id) nothing (learns (row_of l)) (λ h. record { sent = tt })
+    (λ h. record { sent = tt })
+
 -- Steps
 
 none-append : (xs ys : List Msg) → NoNotice xs → NoNotice ys → NoNotice (xs ++ ys)
@@ -165,7 +172,9 @@ step-quiet t s (Desk n) h = λ a b.
     committed (s.mail a b) b (on_first_item (local_node t n) (s.nodes n.0) (s.desks n.0)) (nat_eq a n.0) (h a b)
     (item-plain (local_node t n) (s.nodes n.0) (s.desks n.0))
 step-quiet t s (Tick n) h = λ a b. committed (s.mail a b) b nothing (nat_eq a n.0) (h a b) (record { sent = tt })
-step-quiet t s (Learn n k) h = h
+step-quiet t s (Learn n k) h = λ a b.
+    committed (s.mail a b) b (on_link (local_node t n) (s.nodes n.0) (find_link t k)) (nat_eq a n.0) (h a b)
+    (link-plain (local_node t n) (s.nodes n.0) (find_link t k))
 step-quiet t s (Post c) h = posted-quiet s c h
 
 run-quiet : (t : Network) (s : Mesh) (events : List MeshEvent) → NoNotices s → NoNotices (after t s events)

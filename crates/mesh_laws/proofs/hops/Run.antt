@@ -1,7 +1,8 @@
 -- Each LSP with its route in every state of every run.
 use Rattle.std.proofs.Common.{◌≡◌, ℕ, true, List, [], ◌∷◌, refl, arith}
 use Rattle.std.specs.Prelude.{Option, Some, None}
-use Rattle.ason_base.specs.Network.{Network}
+use Rattle.ason_base.specs.declared.network.LinkSpec.{LinkSpec}
+use Rattle.ason_base.specs.Network.{Network, find_link, row_of}
 use Rattle.ason_base.specs.declared.ids.CallNo.{CallNo}
 use Rattle.ason_base.specs.declared.ids.Lsp.{Lsp}
 use Rattle.ason_base.specs.declared.ids.NodeId.{NodeId}
@@ -14,8 +15,11 @@ use Rattle.ason_base.specs.declared.tables.CallRec.{CallRec}
 use Rattle.ason_base.specs.Routes.{makes_route}
 use Rattle.mesh_rules.specs.declared.events.MeshEvent.{MeshEvent}
 use Rattle.mesh_rules.specs.declared.events.MeshEvent.TheVariants.{Take, Desk, Tick, Learn, Post}
-use Rattle.mesh_rules.specs.Changes.{Answer}
-use Rattle.mesh_rules.specs.LocalNodes.{local_node}
+use Rattle.mesh_rules.specs.Changes.{Answer, learns, nothing}
+use Rattle.mesh_rules.specs.KnownRows.{has_row, known_rows}
+use Rattle.mesh_rules.specs.Learnt.{on_link}
+use Rattle.mesh_rules.specs.LocalNodes.{LocalNode, local_node}
+use Rattle.mesh_rules.specs.State.{NodeState}
 use Rattle.mesh_rules.specs.Calls.{find_call}
 use Rattle.mesh_rules.specs.Orders.{on_order, on_item}
 use Rattle.mesh_rules.specs.Releases.{release_with}
@@ -24,6 +28,9 @@ use Rattle.mesh_rules.specs.Machine.{Mesh, commit, without_item}
 use Rattle.mesh_rules.specs.Events.{is_enabled, on_first_item, posted, step, IsRun, after, first_route, or_route, sent_at_ingress, route_of}
 use Rattle.mesh_rules.proofs.Conjunctions.{and_first, and_second}
 use Rattle.mesh_nodes.specs.Routes.{AreRowsOf}
+use Rattle.mesh_nodes.proofs.Cases.{if_cases}
+use Rattle.mesh_laws.proofs.hops.Own.{IsQuiet}
+use Rattle.mesh_laws.proofs.hops.Quiet.{same_quiet}
 use Rattle.mesh_laws.proofs.hops.Planned.{Follows, SameOf, follows_same, or_none}
 use Rattle.mesh_laws.proofs.hops.Traced.{traced_take}
 use Rattle.mesh_laws.proofs.hops.Begun.{Stepped, stepped_none, stepped_nothing, setup_stepped}
@@ -106,6 +113,14 @@ desk_same : (t : Network) (s : Mesh) (n : NodeId) (a : Answer) (l : Lsp) →
     SameOf (commit s n.0 a) (commit (without_item s n.0) n.0 a) l
 desk_same t s n a l = record { legs = λ m. refl; mail = λ x b. refl; next = omega arith }
 
+-- a row that is learnt leaves the legs and messages
+link_quiet : (p : LocalNode) (s : NodeState) (found : Option LinkSpec) → IsQuiet (on_link p s found)
+link_quiet p s None = record { legs = refl; sent = refl; numbers = refl }
+link_quiet p s (Some l) =
+    if_cases IsQuiet (has_row (known_rows p s) l.id) nothing (learns (row_of l))
+    (λ h. record { legs = refl; sent = refl; numbers = refl })
+    (λ h. record { legs = refl; sent = refl; numbers = refl })
+
 pub step_follows : (t : Network) (s : Mesh) (e : MeshEvent) (l : Lsp) (o : Option (List Step)) →
     is_enabled t s e ≡ true → StepFacts t s → Follows t s l o →
     Follows t (step t s e) l (or_route o (first_route l (sent_at_ingress t s e l)))
@@ -115,7 +130,10 @@ step_follows t s (Desk n) l o enabled facts f =
     (desk_same t s n (on_first_item (local_node t n) (s.nodes n.0) (s.desks n.0)) l)
     (first_stepped t s n l o (s.desks n.0) f facts refl).follows
 step_follows t s (Tick n) l o enabled facts f = (stepped_nothing t s n l o f).follows
-step_follows t s (Learn n k) l o enabled facts f = rw or_none f
+step_follows t s (Learn n k) l o enabled facts f =
+    let a = on_link (local_node t n) (s.nodes n.0) (find_link t k) in
+    rw or_none (follows_same t s (commit s n.0 a) l o
+    (same_quiet s n a l (link_quiet (local_node t n) (s.nodes n.0) (find_link t k))) f)
 step_follows t s (Post c) l o enabled facts f = rw or_none (follows_same t s (posted s c) l o (posted_same s c l) f)
 
 or_assoc : (a b c : Option (List Step)) → or_route (or_route a b) c ≡ or_route a (or_route b c)

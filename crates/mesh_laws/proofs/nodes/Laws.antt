@@ -19,7 +19,8 @@ use Rattle.mesh_rules.specs.Changes.{changed}
 use Rattle.mesh_rules.specs.LocalNodes.{LocalNode, local_node}
 use Rattle.mesh_rules.specs.State.{NodeState, new_node}
 use Rattle.mesh_laws.specs.LabelLaw.{EveryLabelIsShared, EveryLiveLegIsLabelled, IsLabelled, LabelsAreShared, ShareLawfully}
-use Rattle.mesh_laws.specs.NodeLaw.{EveryNodeSharesLawfully, MayCome, NodeInput, Item, Message, after_inputs, answer}
+use Rattle.mesh_laws.specs.LearntLaw.{EveryLearntRowIsTrue}
+use Rattle.mesh_laws.specs.NodeLaw.{EveryNodeSharesLawfully, MayCome, NodeInput, Item, Message, Row, after_inputs, answer}
 use Rattle.mesh_laws.specs.CallLaw.{CallsFit, EveryCallFitsItsLegs, FitsLegs, IsOfOneCall, names, wants_call}
 use Rattle.mesh_nodes.proofs.Cases.{both_left, both_right, not-true}
 use Rattle.mesh_laws.proofs.nodes.Facts.{FitsPhase, LabelsFit, NodeFacts}
@@ -28,7 +29,7 @@ use Rattle.mesh_nodes.proofs.LegList.{all-found, before-apart, found-all, found-
 use Rattle.mesh_nodes.proofs.CallList.{all-calls_found, one-count}
 use Rattle.mesh_laws.proofs.nodes.MessageKeeps.{keeps-on_message}
 use Rattle.mesh_laws.proofs.nodes.OrderKeeps.{keeps-on_item}
-use Rattle.mesh_laws.proofs.nodes.Runs.{facts-hold, new-facts}
+use Rattle.mesh_laws.proofs.nodes.Runs.{facts-hold, keeps-row, new-facts}
 
 -- Labels
 
@@ -79,6 +80,7 @@ facts-after t p s (i ∷ inputs) facts may =
     one : (i : NodeInput) → NodeFacts p.id.0 s → MayCome t p.id.0 i → NodeFacts p.id.0 (changed s (answer p s i))
     one (Message u m) facts may = keeps-on_message p s u m facts
     one (Item i) facts may = keeps-on_item t p s i may facts
+    one (Row row) facts may = keeps-row p s row facts
 
 pub every_node : EveryNodeSharesLawfully
 every_node t n inputs may =
@@ -134,3 +136,8 @@ calls_fit n s facts = record {
 
 pub every_call : EveryCallFitsItsLegs
 every_call t events run n = calls_fit n _ ((facts-hold t events run).node n)
+
+-- Rows
+
+pub every_learnt_row : EveryLearntRowIsTrue
+every_learnt_row t events run n = (facts-hold t events run).learnt n

@@ -1,15 +1,21 @@
 -- The facts of each node hold in every state of every run.
 use Rattle.std.proofs.Common.{◌≡◌, ℕ, Bool, true, false, cond, not, nat_eq, List, [], ◌∷◌, ◌++◌, drop, refl, sym, subst, arith}
+use Rattle.ason_base.specs.declared.ids.LinkId.{LinkId}
 use Rattle.ason_base.specs.declared.ids.NodeId.{NodeId}
 use Rattle.ason_base.specs.declared.commands.Command.{Command}
 use Rattle.ason_base.specs.declared.commands.Command.TheVariants.{Setup, Release, Protect, Retry, Revert, Fail, Repair}
 use Rattle.ason_base.specs.declared.commands.DeskItem.{DeskItem}
 use Rattle.ason_base.specs.declared.commands.DeskItem.TheVariants.{Order}
 use Rattle.ason_base.specs.declared.messages.Msg.{Msg}
-use Rattle.ason_base.specs.Network.{Network}
+use Rattle.ason_base.specs.declared.network.LinkSpec.{LinkSpec}
+use Rattle.ason_base.specs.declared.network.TeRow.{TeRow}
+use Rattle.ason_base.specs.Network.{Network, find_link, row_of}
+use Rattle.std.specs.Prelude.{Option, Some, None}
 use Rattle.mesh_rules.specs.declared.events.MeshEvent.{MeshEvent}
 use Rattle.mesh_rules.specs.declared.events.MeshEvent.TheVariants.{Take, Desk, Tick, Learn, Post}
-use Rattle.mesh_rules.specs.Changes.{Answer, changed}
+use Rattle.mesh_rules.specs.Changes.{Answer, changed, learns, nothing}
+use Rattle.mesh_rules.specs.KnownRows.{has_row, known_rows}
+use Rattle.mesh_rules.specs.Learnt.{on_link, on_row}
 use Rattle.mesh_rules.specs.LocalNodes.{LocalNode, local_node}
 use Rattle.mesh_rules.specs.State.{NodeState, new_node}
 use Rattle.mesh_rules.specs.Orders.{on_tick}
@@ -19,6 +25,8 @@ use Rattle.mesh_rules.specs.Events.{IsRun, after, is_enabled, on_first, on_first
 use Rattle.ason_base.proofs.Ordered.{contains-none}
 use Rattle.mesh_nodes.specs.Routes.{AreRowsOf}
 use Rattle.mesh_nodes.proofs.Cases.{both_left, if_cases}
+use Rattle.mesh_nodes.proofs.LearnsNothing.{item-learns_nothing, message-learns_nothing}
+use Rattle.mesh_nodes.proofs.routes.Learnt.{found-row, learnt-stay_true}
 use Rattle.mesh_laws.specs.NodeLaw.{DeskFits, FitsDesk}
 use Rattle.mesh_laws.proofs.nodes.Facts.{MeshFacts, NodeFacts}
 use Rattle.mesh_laws.proofs.nodes.PathKeeps.{Keeps}
@@ -46,18 +54,18 @@ facts-start t = record {
 
 -- A rule is carried out at a node
 
-keeps-commit : (t : Network) (s : Mesh) (n : ℕ) (a : Answer) → NodeFacts n (changed (s.nodes n) a) → MeshFacts t s →
-    MeshFacts t (commit s n a)
-keeps-commit t s n a here facts = record {
+keeps-commit : (t : Network) (s : Mesh) (n : ℕ) (a : Answer) → NodeFacts n (changed (s.nodes n) a) →
+    AreRowsOf t (changed (s.nodes n) a).learnt → MeshFacts t s → MeshFacts t (commit s n a)
+keeps-commit t s n a here rows facts = record {
   node = λ m. each m (nat_eq m n) refl;
   desk = facts.desk;
-  learnt = λ m. same m (nat_eq m n);
+  learnt = λ m. learnt m (nat_eq m n) refl;
 }
   where
-    -- a rule learns nothing
-    same : (m : ℕ) (b : Bool) → AreRowsOf t (cond b (changed (s.nodes m) a) (s.nodes m)).learnt
-    same m true = facts.learnt m
-    same m false = facts.learnt m
+    learnt : (m : ℕ) (b : Bool) → nat_eq m n ≡ b → AreRowsOf t (cond b (changed (s.nodes m) a) (s.nodes m)).learnt
+    learnt m true e =
+        let is : m ≡ n = grind arith in subst (λ k. AreRowsOf t (changed (s.nodes k) a).learnt) (sym is) rows
+    learnt m false e = facts.learnt m
 
     each : (m : ℕ) (b : Bool) → nat_eq m n ≡ b → NodeFacts m (cond b (changed (s.nodes m) a) (s.nodes m))
     each m true e = let is : m ≡ n = grind arith in subst (λ k. NodeFacts k (changed (s.nodes k) a)) (sym is) here
@@ -67,6 +75,20 @@ keeps-first : (p : LocalNode) (s : NodeState) (u : NodeId) (ms : List Msg) → N
     Keeps p s (on_first p s u ms)
 keeps-first p s u [] facts = facts
 keeps-first p s u (m ∷ ms) facts = keeps-on_message p s u m facts
+
+-- where nothing is learnt
+same-rows : (t : Network) (s : NodeState) (a : Answer) → a.rows ≡ [] → AreRowsOf t s.learnt →
+    AreRowsOf t (changed s a).learnt
+same-rows t s a none rows = rw none rows
+
+first-learns_nothing : (p : LocalNode) (s : NodeState) (u : NodeId) (ms : List Msg) → (on_first p s u ms).rows ≡ []
+first-learns_nothing p s u [] = refl
+first-learns_nothing p s u (m ∷ ms) = message-learns_nothing p s u m
+
+first_item-learns_nothing : (p : LocalNode) (s : NodeState) (items : List DeskItem) →
+    (on_first_item p s items).rows ≡ []
+first_item-learns_nothing p s [] = refl
+first_item-learns_nothing p s (i ∷ items) = item-learns_nothing p s i
 
 keeps-first_item : (t : Network) (p : LocalNode) (s : NodeState) (items : List DeskItem) → DeskFits t p.id.0 items →
     NodeFacts p.id.0 s → Keeps p s (on_first_item p s items)
@@ -140,6 +162,29 @@ keeps-posted t s (Revert n from) valid facts =
 keeps-posted t s (Fail g) valid facts = facts
 keeps-posted t s (Repair g) valid facts = facts
 
+-- A link that a neighbour knows
+
+pub keeps-row : (p : LocalNode) (s : NodeState) (row : TeRow) → NodeFacts p.id.0 s → Keeps p s (on_row p s row)
+keeps-row p s row facts =
+    if_cases (Keeps p s) (has_row (known_rows p s) row.link) nothing (learns row) (λ known. facts) (λ none. record {
+      legs_rise = facts.legs_rise;
+      leg = facts.leg;
+      labels = facts.labels;
+      calls_rise = facts.calls_rise;
+      call = facts.call;
+      one_call = facts.one_call;
+      has_call = facts.has_call;
+    })
+
+keeps-link : (p : LocalNode) (s : NodeState) (o : Option LinkSpec) → NodeFacts p.id.0 s → Keeps p s (on_link p s o)
+keeps-link p s None facts = facts
+keeps-link p s (Some l) facts = keeps-row p s (row_of l) facts
+
+true-link : (t : Network) (p : LocalNode) (s : NodeState) (k : LinkId) (o : Option LinkSpec) → find_link t k ≡ o →
+    AreRowsOf t s.learnt → AreRowsOf t (changed s (on_link p s o)).learnt
+true-link t p s k None found rows = rows
+true-link t p s k (Some l) found rows = learnt-stay_true t p s (row_of l) rows (found-row t k l found)
+
 -- Every event
 
 pub facts-step : (t : Network) (s : Mesh) (e : MeshEvent) → is_enabled t s e ≡ true → MeshFacts t s →
@@ -147,14 +192,21 @@ pub facts-step : (t : Network) (s : Mesh) (e : MeshEvent) → is_enabled t s e �
 facts-step t s (Take d u) enabled facts =
     keeps-commit t (without_first s u.0 d.0) d.0 (on_first (local_node t d) (s.nodes d.0) u (s.mail u.0 d.0))
     (keeps-first (local_node t d) (s.nodes d.0) u (s.mail u.0 d.0) (facts.node d.0))
+    (same-rows t (s.nodes d.0) (on_first (local_node t d) (s.nodes d.0) u (s.mail u.0 d.0))
+    (first-learns_nothing (local_node t d) (s.nodes d.0) u (s.mail u.0 d.0)) (facts.learnt d.0))
     (record { node = facts.node; desk = facts.desk; learnt = facts.learnt })
 facts-step t s (Desk n) enabled facts =
     keeps-commit t (without_item s n.0) n.0 (on_first_item (local_node t n) (s.nodes n.0) (s.desks n.0))
     (keeps-first_item t (local_node t n) (s.nodes n.0) (s.desks n.0) (facts.desk n.0) (facts.node n.0))
+    (same-rows t (s.nodes n.0) (on_first_item (local_node t n) (s.nodes n.0) (s.desks n.0))
+    (first_item-learns_nothing (local_node t n) (s.nodes n.0) (s.desks n.0)) (facts.learnt n.0))
     (without_item-facts t s n.0 facts)
 facts-step t s (Tick n) enabled facts =
-    keeps-commit t s n.0 (on_tick (local_node t n) (s.nodes n.0)) (facts.node n.0) facts
-facts-step t s (Learn n k) enabled facts = facts
+    keeps-commit t s n.0 (on_tick (local_node t n) (s.nodes n.0)) (facts.node n.0) (facts.learnt n.0) facts
+facts-step t s (Learn n k) enabled facts =
+    keeps-commit t s n.0 (on_link (local_node t n) (s.nodes n.0) (find_link t k))
+    (keeps-link (local_node t n) (s.nodes n.0) (find_link t k) (facts.node n.0))
+    (true-link t (local_node t n) (s.nodes n.0) k (find_link t k) refl (facts.learnt n.0)) facts
 facts-step t s (Post c) enabled facts =
     keeps-posted t s c (both_left (is_valid t c) (not (is_again s.posted c)) enabled) facts
 

@@ -57,7 +57,7 @@ found-link (m ∷ links) l once there =
         absurd (cc (none, twice))
     go false e (inr at) later = later at
 
-find-there : (p : LinkSpec → Bool) (links : List LinkSpec) (l : LinkSpec) → find p links ≡ Some l → Contains links l
+pub find-there : (p : LinkSpec → Bool) (links : List LinkSpec) (l : LinkSpec) → find p links ≡ Some l → Contains links l
 find-there p [] l e = absurd (cc e)
 find-there p (m ∷ links) l e = go (p m) e (find-there p links l)
   where
@@ -85,7 +85,7 @@ all-there p (y ∷ xs) x e there = elim (contains-cases y x xs there) [
 
 -- Rows of a network
 
-known-are : (t : Network) (n : NodeId) (s : NodeState) → is_searchable t ≡ true → AreRowsOf t s.learnt →
+pub known-are : (t : Network) (n : NodeId) (s : NodeState) → is_searchable t ≡ true → AreRowsOf t s.learnt →
     AreRowsOf t (known_rows (local_node t n) s)
 known-are t n s searchable are row there =
     elim (Contains-append_cases (map row_of (filter (touches n) t.links)) s.learnt row there) [
@@ -105,7 +105,7 @@ known-are t n s searchable are row there =
 at_least : (a b : ℕ) → nat_le a b ≡ true → a ≤ b
 at_least a b e = grind arith
 
-metrics-are : (t : Network) (rows : List TeRow) → is_searchable t ≡ true → AreRowsOf t rows → HaveMetrics rows
+pub metrics-are : (t : Network) (rows : List TeRow) → is_searchable t ≡ true → AreRowsOf t rows → HaveMetrics rows
 metrics-are t rows searchable are k d below =
     let row = get_or rows k d in
     let is : IsRowOf t row = are row (Contains-get_or rows k d below) in

@@ -48,7 +48,7 @@ known-end nodes n e =
     let m = any-there (λ m. nat_eq m.id.0 n.0) nodes e in
     subst (Contains (map (λ m. m.id) nodes)) (same_node m.0.id n m.2) (contains-map (λ m. m.id) nodes m.0 m.1)
 
-both-ends : (nodes : List NodeSpec) (l : LinkSpec) → is_link nodes l ≡ true →
+pub both-ends : (nodes : List NodeSpec) (l : LinkSpec) → is_link nodes l ≡ true →
     Contains (map (λ m. m.id) nodes) l.low × Contains (map (λ m. m.id) nodes) l.high
 both-ends nodes l link =
     let ends = both_right _ (is_node_id nodes l.low && is_node_id nodes l.high)
@@ -60,6 +60,13 @@ both-ends nodes l link =
 length-ids : (nodes : List NodeSpec) → length (map (λ m. m.id) nodes) ≡ length nodes
 length-ids [] = refl
 length-ids (m ∷ nodes) = ap suc (length-ids nodes)
+
+pub few-nodes : (t : Network) → IsTopology t → length (map (λ m. m.id) t.nodes) ≤ 64
+few-nodes t valid =
+    let few : length t.nodes ≤ 64 = at_most (length t.nodes) 64
+    (both_left _ (nat_le (length t.links) 256) (both_right (nat_le 1 (length t.nodes)) _ valid.count)) in
+    let same : length (map (λ m. m.id) t.nodes) ≡ length t.nodes = length-ids t.nodes in
+    omega arith
 
 -- Numbers
 
@@ -100,10 +107,7 @@ own-searchable : (t : Network) (n : NodeId) → IsTopology t → AreSearchable (
 own-searchable t n valid = record {
   ends = (
     map (λ m. m.id) t.nodes,
-    (let few : length t.nodes ≤ 64 = at_most (length t.nodes) 64
-        (both_left _ (nat_le (length t.links) 256) (both_right (nat_le 1 (length t.nodes)) _ valid.count)) in
-        let same : length (map (λ m. m.id) t.nodes) ≡ length t.nodes = length-ids t.nodes in
-        omega arith),
+    few-nodes t valid,
     All-from_recursion (λ row. Contains (map (λ m. m.id) t.nodes) row.low × Contains (map (λ m. m.id) t.nodes) row.high)
         (map row_of (filter (touches n) t.links)) (of-some _ t.nodes n (both-ends t.nodes) t.links (each-link t valid)),
   );

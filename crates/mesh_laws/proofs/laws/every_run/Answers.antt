@@ -2,7 +2,7 @@ use Rattle.mesh_laws.proofs.EveryRun.{laws_hold}
 use Rattle.mesh_laws.proofs.hops.Joined.{every_call_joined}
 use Rattle.mesh_laws.proofs.hops.Laws.{every_hop}
 use Rattle.mesh_laws.proofs.hops.Safe.{every_run_safe}
-use Rattle.mesh_laws.proofs.nodes.Laws.{every_call, every_label, every_live}
+use Rattle.mesh_laws.proofs.nodes.Laws.{every_call, every_label, every_learnt_row, every_live}
 use Rattle.mesh_laws.proofs.laws.every_run.Goals as goal
 
 pub returns-clause-labels : goal.returns-clause-labels
@@ -22,6 +22,9 @@ returns-clause-safe c = every_run_safe
 
 pub returns-clause-joined : goal.returns-clause-joined
 returns-clause-joined c = every_call_joined
+
+pub returns-clause-learnt : goal.returns-clause-learnt
+returns-clause-learnt c = every_learnt_row
 
 pub returns-clause-together : goal.returns-clause-together
 returns-clause-together c = laws_hold

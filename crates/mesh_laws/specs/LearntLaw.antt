@@ -1,0 +1,16 @@
+-- What a node learnt of links that aren't its own.
+use Rattle.std.specs.Prelude.{ℕ, List}
+use Rattle.ason_base.specs.Network.{Network}
+use Rattle.mesh_rules.specs.declared.events.MeshEvent.{MeshEvent}
+use Rattle.mesh_rules.specs.Machine.{Mesh, start}
+use Rattle.mesh_rules.specs.Events.{IsRun, after}
+use Rattle.mesh_nodes.specs.Routes.{AreRowsOf}
+
+-- at each node rows of links of the network
+abbrev pub LearntRowsAreTrue : Network → Mesh → Type 0
+LearntRowsAreTrue t s = (n : ℕ) → AreRowsOf t (s.nodes n).learnt
+
+-- in each state of each run
+abbrev pub EveryLearntRowIsTrue : Type 0
+EveryLearntRowIsTrue = (t : Network) (events : List MeshEvent) → IsRun t start events →
+    LearntRowsAreTrue t (after t start events)

@@ -1,0 +1,18 @@
+-- A link that a neighbour knows (flooding of links: RFC 3630, section 2). p is the node; s is what it keeps.
+use Rattle.std.specs.Prelude.{Option, Some, None, if◌then◌else◌}
+use Rattle.ason_base.specs.declared.network.LinkSpec.{LinkSpec}
+use Rattle.ason_base.specs.declared.network.TeRow.{TeRow}
+use Rattle.ason_base.specs.Network.{row_of}
+use Rattle.mesh_rules.specs.Changes.{Answer, nothing, learns}
+use Rattle.mesh_rules.specs.KnownRows.{has_row, known_rows}
+use Rattle.mesh_rules.specs.LocalNodes.{LocalNode}
+use Rattle.mesh_rules.specs.State.{NodeState}
+
+-- its row becomes known; what is known stays as it is
+abbrev pub on_row : LocalNode → NodeState → TeRow → Answer
+on_row p s row = if has_row (known_rows p s) row.link then nothing else learns row
+
+-- the row is that of the network's link
+abbrev pub on_link : LocalNode → NodeState → Option LinkSpec → Answer
+on_link p s None = nothing
+on_link p s (Some l) = on_row p s (row_of l)
