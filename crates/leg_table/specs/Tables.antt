@@ -1,6 +1,6 @@
 -- What a node keeps in its tables.
 use Rattle.std.specs.Prelude.{ℕ, ◌≡◌, ◌<◌, length, ◌==◌, ◌||◌, ◌++◌, nat_lt, Bool, true, false, List, [], ◌∷◌, find, filter, map, Option, Some, None, IsTrue, if◌then◌else◌}
-use Rattle.std.specs.List.{AllPairs, list_any}
+use Rattle.std.specs.List.{AllPairs}
 use Rattle.ason_base.specs.declared.ids.CallNo.{CallNo}
 use Rattle.ason_base.specs.declared.ids.Fibre.{Fibre}
 use Rattle.ason_base.specs.declared.ids.LinkId.{LinkId}
@@ -20,6 +20,7 @@ use Rattle.ason_base.specs.Network.{Network, find_node, row_of, touches}
 use Rattle.leg_table.specs.declared.tables.PutFault.{PutFault}
 use Rattle.leg_table.specs.declared.tables.PutFault.TheVariants.{Full, OutOfMemory}
 use Rattle.ason_base.specs.Lsps.{has_fibre, is_lsp, lsp_before, same_lsp, without_fibre}
+use Rattle.mesh_rules.specs.KnownRows.{has_row}
 
 -- a node's own links, the links that it knows, the fibres that it knows to be down, and its legs in order of LSP
 pub record LegTable : Type 0 where
@@ -95,12 +96,9 @@ new_table t n = table_of t n (node_or_none n (find_node t n))
 abbrev pub find_own : LinkId → List LinkSpec → Option LinkSpec
 find_own k links = find (λ l. l.id.0 == k.0) links
 
-abbrev pub knows : LinkId → List TeRow → Bool
-knows k rows = list_any (λ r. r.link.0 == k.0) rows
-
 -- the rows with this one, unless its link is known
 abbrev pub learnt : TeRow → List TeRow → List TeRow
-learnt r rows = if knows r.link rows then rows else rows ++ r ∷ []
+learnt r rows = if has_row rows r.link then rows else rows ++ r ∷ []
 
 -- the fibres with this one, once
 abbrev pub with_fibre : Fibre → List Fibre → List Fibre

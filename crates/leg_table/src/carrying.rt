@@ -1,10 +1,11 @@
-//! Carrying out what a rule changes: the legs with the claims that they have, the calls and the numbers.
+//! Carrying out what a rule changes: the legs with the claims that they have, the row that is learnt, the calls and the numbers.
 
 ghost use Rattle.std.specs.Prelude.{◌≡◌, ◌≤◌, ◌<◌, ◌+◌, IfErr, IfOk, IfSome, IsTrue, None, OnErr, OnOk, Some, length, not, vec_capacity, vec_len};
 ghost use Rattle.std.specs.List.{AllByRecursion};
+ghost use Rattle.std.specs.Option.{option_to_list};
 ghost use Rattle.link_owner.specs.Claims.{NoClaim, RefusedFor};
 ghost use Rattle.link_owner.specs.Owners.{claim_added, claims_of, comes_in, has_label, labels_of};
-ghost use Rattle.mesh_rules.specs.Changes.{changed};
+ghost use Rattle.mesh_rules.specs.Changes.{changed, learnt_after};
 ghost use Rattle.mesh_rules.specs.Legs.{find_leg, leg_changed, legs_changed, with_leg, without_leg};
 ghost use Rattle.leg_table.specs.LegClaims.{ClaimsFit, IsOwnerOf, MayAllEnter, MayBeMade, MayClaim, MayEnter, SameFibres, TakesNone, bars, first_claim, freed_of, taken, taken_of};
 ghost use Rattle.leg_table.specs.States.{local_of, state_of};
@@ -16,7 +17,7 @@ use crate::changes::Change;
 use crate::labels::{TakenLabel, taken, taken_of};
 use crate::legs::{find_leg, set_leg, take_leg};
 use crate::tables::NodeTables;
-use ason_base::{Lsp, OutOfMemory, Outs, Role};
+use ason_base::{Lsp, OutOfMemory, Outs, Role, TeRow};
 use link_owner::{ClaimFault, Owner};
 use std::alloc::Global;
 
@@ -228,25 +229,58 @@ fn change_legs(
     Ok(())
 }
 
-/// Carries out changes of legs, one after the other. The owner's claims follow the legs. After want of memory nothing has
-/// changed.
-pub(crate) fn carry_out_legs(
+// Rows
+
+// Makes room for the row, if there is one.
+fn make_room(rows: &mut Vec<TeRow>, row: &Option<TeRow>) -> Result<(), OutOfMemory>
+    ensures same { rows.new.items ≡ rows.old.items }
+    ensures room { OnOk result (IfSome row.now (λ _. vec_len rows.new < vec_capacity rows.new)) }
+{
+    if row.is_some() {
+        rows.reserve(1)?;
+    }
+    Ok(())
+}
+
+// Puts the row after those that are known. There is room for it.
+fn put_row(rows: &mut Vec<TeRow>, row: Option<TeRow>)
+    requires { IfSome row (λ _. vec_len rows.old < vec_capacity rows.old) }
+    ensures { rows.new.items ≡ learnt_after (option_to_list row) rows.old.items }
+{
+    if let Some(row) = row {
+        match rows.push(row) {
+            Ok(()) => (),
+            Err(_) => unreachable!(),
+        }
+    }
+}
+
+/// Carries out changes of legs, one after the other, and puts the row, if there is one, after those that are known. The owner's
+/// claims follow the legs. After want of memory nothing has changed.
+pub(crate) fn carry_out_tables(
     alloc: Global,
     tables: &mut NodeTables,
     owner: &mut Owner,
     changes: Vec<LegEdit>,
+    row: Option<TeRow>,
 ) -> Result<(), OutOfMemory>
     requires owner { IsOwnerOf tables.old owner.old }
     requires may { MayBeMade (local_of tables.old) tables.old.legs changes.items }
     requires few { length (legs_changed changes.items tables.old.legs) ≤ 4096 }
     ensures ok { OnOk result
-        (tables.new ≡ record tables.old { legs = legs_changed changes.items tables.old.legs }) }
+        (tables.new ≡ record tables.old {
+            legs = legs_changed changes.items tables.old.legs;
+            rows = learnt_after (option_to_list row) tables.old.rows;
+        }) }
     ensures err { OnErr result (tables.new ≡ tables.old) }
     ensures err_owner { OnErr result (owner.new ≡ owner.old) }
     ensures owner { IsOwnerOf tables.new owner.new }
 {
+    make_room(&mut tables.rows, &row)?;
     tables.legs.reserve(changes.len())?;
-    change_legs(&mut tables.legs, owner, alloc, changes)
+    change_legs(&mut tables.legs, owner, alloc, changes)?;
+    put_row(&mut tables.rows, row);
+    Ok(())
 }
 
 /// Carries out what a rule changes, and hands back what is to be sent, in order. The owner's claims follow the legs. After want
@@ -273,11 +307,12 @@ pub fn carry_out(
         legs,
         calls: changes,
         numbers,
+        row,
         sent,
         ..
     } = change;
     calls.list.reserve(changes.len())?;
-    carry_out_legs(calls.alloc, tables, owner, legs)?;
+    carry_out_tables(calls.alloc, tables, owner, legs, row)?;
     calls.list.change(changes);
     if let Some(numbers) = numbers {
         calls.tunnel = numbers.tunnel;

@@ -1,11 +1,11 @@
-//! What a rule answers: the legs and calls that change, and the messages that are sent.
+//! What a rule answers: the legs and calls that change, the row that is learnt, and the messages that are sent.
 
 ghost use Rattle.std.specs.Prelude.{◌≡◌, [], ◌∷◌, IfOk, OnOk, Some};
 ghost use Rattle.mesh_rules.specs.declared.changes.CallChange.TheVariants as calls;
-ghost use Rattle.mesh_rules.specs.Changes.{changes_calls, followed_by, nothing, puts, removes, sends, to_node};
+ghost use Rattle.mesh_rules.specs.Changes.{changes_calls, followed_by, learns, nothing, puts, removes, sends, to_node};
 
 use crate::boxes::LegEdit;
-use ason_base::{CallNo, CallRec, Leg, Lsp, Msg, NodeId, Out, OutOfMemory, Outs};
+use ason_base::{CallNo, CallRec, Leg, Lsp, Msg, NodeId, Out, OutOfMemory, Outs, TeRow};
 use mesh_rules::{CallChange, NextNumbers};
 use std::alloc::Global;
 use std::marker::Model;
@@ -17,16 +17,18 @@ pub struct Change {
     pub(crate) legs: Vec<LegEdit>,
     pub(crate) calls: Vec<CallChange>,
     pub(crate) numbers: Option<NextNumbers>,
+    pub(crate) row: Option<TeRow>,
     pub(crate) sent: Outs,
 }
 
 impl Model for Change {
     ghost use Rattle.std.specs.Prelude.{None};
+    ghost use Rattle.std.specs.Option.{option_to_list};
     ghost use Rattle.mesh_rules.specs.Changes.{Answer};
 
     ghost Value = { Answer };
 
-    ghost view = { λ c. record { legs = c.legs.items; calls = c.calls.items; numbers = c.numbers; down = None; sent = c.sent } };
+    ghost view = { λ c. record { legs = c.legs.items; calls = c.calls.items; numbers = c.numbers; down = None; rows = option_to_list c.row; sent = c.sent } };
 }
 
 impl Change {
@@ -39,8 +41,18 @@ impl Change {
             legs: Vec::new(alloc),
             calls: Vec::new(alloc),
             numbers: None,
+            row: None,
             sent: Outs::new(alloc),
         }
+    }
+
+    /// The row is learnt, and nothing is sent.
+    pub fn learns(alloc: Global, row: TeRow) -> Change
+        ensures { result ≡ learns row }
+    {
+        let mut change = Change::nothing(alloc);
+        change.row = Some(row);
+        change
     }
 
     /// One message is sent.

@@ -5,7 +5,7 @@ ghost use Rattle.leg_table.specs.Fits.{OwnLegsFit, TablesFit, legs_after};
 ghost use Rattle.leg_table.specs.LegClaims.{MayBeMade};
 ghost use Rattle.leg_table.specs.States.{local_of};
 
-use crate::carrying::carry_out_legs;
+use crate::carrying::carry_out_tables;
 use crate::changes::Change;
 use crate::tables::NodeTables;
 use ason_base::{OutOfMemory, Outs};
@@ -32,7 +32,7 @@ pub fn handle(
 {
     let Change { legs, sent, .. } = change;
     if !legs.is_empty() {
-        carry_out_legs(alloc, tables, owner, legs)?;
+        carry_out_tables(alloc, tables, owner, legs, None)?;
     }
     Ok(sent)
 }

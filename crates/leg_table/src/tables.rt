@@ -4,8 +4,9 @@ ghost use Rattle.std.specs.Prelude.{◌≡◌, ◌≤◌, ◌<◌, [], IfErr, If
 ghost use Rattle.std.specs.Option.{option_copied};
 ghost use Rattle.ason_base.specs.Lsps.{has_fibre, without_fibre};
 ghost use Rattle.ason_base.specs.Network.{find_node, row_of, touches};
+ghost use Rattle.mesh_rules.specs.KnownRows.{has_row};
 ghost use Rattle.mesh_rules.specs.Legs.{find_leg, with_leg, without_leg};
-ghost use Rattle.leg_table.specs.Tables.{LegsRise, PutRefused, find_own, in_phase, knows, learnt, new_table, node_or_none, with_back_labels, with_fibre, with_labels, with_leg_changed};
+ghost use Rattle.leg_table.specs.Tables.{LegsRise, PutRefused, find_own, in_phase, learnt, new_table, node_or_none, with_back_labels, with_fibre, with_labels, with_leg_changed};
 
 use crate::boxes::BoxedLeg;
 use crate::legs;
@@ -34,7 +35,7 @@ pub struct NodeTables {
     node: NodeSpec,
     wait: u32,
     own: Vec<LinkSpec>,
-    rows: Vec<TeRow>,
+    pub(crate) rows: Vec<TeRow>,
     down: Fibres,
     pub(crate) legs: Vec<BoxedLeg>,
 }
@@ -176,12 +177,19 @@ impl NodeTables {
         &self.rows
     }
 
+    /// Whether the node knows the link.
+    pub fn knows(&self, link: LinkId) -> bool
+        ensures { result ≡ has_row self.now.rows link }
+    {
+        self.rows.iter().any(|row| row.link == link)
+    }
+
     /// Takes a row in, unless its link is known. After want of memory nothing has changed.
     pub fn learn(&mut self, _: Global, row: TeRow) -> Result<(), OutOfMemory>
         ensures ok { OnOk result (self.new ≡ record self.old { rows = learnt row self.old.rows }) }
         ensures err { OnErr result (self.new ≡ self.old) }
     {
-        if !knows(&self.rows, row.link) {
+        if !self.knows(row.link) {
             self.rows.push(row)?;
         }
         Ok(())
@@ -239,12 +247,6 @@ pub(crate) fn add_fibre(fibres: &mut Fibres, f: Fibre) -> Result<(), OutOfMemory
         return Ok(());
     }
     fibres.push(f)
-}
-
-fn knows(rows: &[TeRow], link: LinkId) -> bool
-    ensures { result ≡ knows link rows.now }
-{
-    rows.iter().any(|row| row.link == link)
 }
 
 fn node_of(t: &Topology, id: NodeId) -> NodeSpec

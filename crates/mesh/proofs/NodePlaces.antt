@@ -1,15 +1,21 @@
 -- The state of each node, in the list of those that have had an input.
 use Rattle.std.proofs.Common.{◌≡◌, ◌<◌, ◌+◌, ℕ, zero, suc, Bool, true, false, cond, not, nat_eq, List, [], ◌∷◌, ◌++◌, length, get_or, set, refl, sym, ap, ◌∙◌, arith}
-use Rattle.std.specs.Prelude.{position, Some, None, Result, Ok, Err, OnOk}
+use Rattle.std.specs.Prelude.{find, position, Some, None, Result, Ok, Err, OnOk}
 use Rattle.std.specs.List.{position_or_len, AllByRecursion}
 use Rattle.std.proofs.lemmas.List.Quantifiers.{position-Some}
 use Rattle.ason_base.specs.declared.ids.NodeId.{NodeId}
-use Rattle.ason_base.specs.Network.{Network}
+use Rattle.ason_base.specs.Network.{IsTopology, Network}
+use Rattle.ason_base.proofs.Ordered.{contains-none}
 use Rattle.mesh_rules.specs.LocalNodes.{local_node}
-use Rattle.node_core.specs.Nodes.{NodeView}
+use Rattle.mesh_nodes.specs.Routes.{AreRowsOf}
+use Rattle.mesh_nodes.proofs.LearnsNothing.{item-learns_nothing, message-learns_nothing}
+use Rattle.mesh_nodes.proofs.routes.Learnt.{learnt-stay_true, network-rows-may}
+use Rattle.node_core.specs.declared.inputs.Input.{Input}
+use Rattle.node_core.specs.declared.inputs.Input.TheVariants.{Message, Desk, Tick, Learn}
+use Rattle.node_core.specs.Nodes.{MayTake, NodeView, answer_to}
 use Rattle.mesh_rules.specs.Changes.{Answer, changed}
 use Rattle.mesh_rules.specs.State.{NodeState, new_node}
-use Rattle.mesh.specs.Kept.{IsOfNetwork, is_node, node_at, put_state, state_at}
+use Rattle.mesh.specs.Kept.{AreOfNetwork, IsOfNetwork, MayCome, Seats, is_node, node_at, put_state, state_at, state_of}
 use Rattle.leg_table.proofs.Places.{position-nowhere}
 
 -- What holds of an Ok
@@ -173,7 +179,7 @@ pub node_at-place : (t : Network) (n : NodeId) (nodes : List NodeView) (i : ℕ)
 node_at-place t n nodes i s all at is =
     let facts = position-Some (is_node n.0) nodes i s at in
     let same : s.place.id ≡ n = number s.place.id n (ap (λ x. nat_eq x.place.id.0 n.0) is ∙ facts.1) in
-    let told : s.place ≡ local_node t s.place.id = ap (λ x. x.place) is ∙ of_network t nodes i s all facts.0 ∙
+    let told : s.place ≡ local_node t s.place.id = ap (λ x. x.place) is ∙ (of_network t nodes i s all facts.0).place ∙
     ap (λ x. local_node t x.place.id) (sym is) in
     λ j. record {
       place = (told ∙ ap (local_node t) same) j;
@@ -187,13 +193,52 @@ pub node_at-nowhere : (t : Network) (n : NodeId) (nodes : List NodeView) → pos
     record { place = local_node t n; state = new_node } ≡ node_at (record { network = t; nodes = nodes }) n
 node_at-nowhere t n nodes none = λ j. record { place = local_node t n; state = sym (state_at-nowhere n.0 nodes none) j }
 
-pub all-put : (t : Network) (n : NodeId) (state : NodeState) (nodes : List NodeView) →
+pub all-put : (t : Network) (n : NodeId) (state : NodeState) (nodes : List NodeView) → AreRowsOf t state.learnt →
     AllByRecursion (IsOfNetwork t) nodes → AllByRecursion (IsOfNetwork t) (put_state t n state nodes)
-all-put t n state [] all = (refl, tt)
-all-put t n state (s ∷ nodes) all = go (is_node n.0 s) (all-put t n state nodes all.1)
+all-put t n state [] rows all = (record { place = refl; learnt = rows }, tt)
+all-put t n state (s ∷ nodes) rows all = go (is_node n.0 s) (all-put t n state nodes rows all.1)
   where
     go : (b : Bool) → AllByRecursion (IsOfNetwork t) (put_state t n state nodes) →
         AllByRecursion (IsOfNetwork t) (cond b (record { place = s.place; state = state } ∷ nodes)
         (s ∷ put_state t n state nodes))
-    go true rest = (all.0, all.1)
+    go true rest = (record { place = all.0.place; learnt = rows }, all.1)
     go false rest = (all.0, rest)
+
+-- What each node learnt
+
+pub learnt-at : (t : Network) (n : ℕ) (nodes : List NodeView) → AllByRecursion (IsOfNetwork t) nodes →
+    AreRowsOf t (state_at n nodes).learnt
+learnt-at t n [] all = λ row there. absurd (contains-none row there)
+learnt-at t n (s ∷ nodes) all = go (is_node n s) (learnt-at t n nodes all.1)
+  where
+    go : (b : Bool) → AreRowsOf t (state_at n nodes).learnt →
+        AreRowsOf t (state_of (cond b (Some s) (find (is_node n) nodes))).learnt
+    go true later = all.0.learnt
+    go false later = later
+
+-- an input that may come may be taken
+pub may-take : (s : Seats) (n : NodeId) (i : Input) → IsTopology s.network → AreOfNetwork s → MayCome s.network i →
+    MayTake (node_at s n) i
+may-take s n (Message u m) valid all may = tt
+may-take s n (Desk item) valid all may = tt
+may-take s n Tick valid all may = tt
+may-take s n (Learn row) valid all may =
+    network-rows-may s.network n (state_at n.0 s.nodes) row valid (learnt-at s.network n.0 s.nodes all) may
+
+same-rows : (t : Network) (s : NodeState) (a : Answer) → a.rows ≡ [] → AreRowsOf t s.learnt →
+    AreRowsOf t (changed s a).learnt
+same-rows t s a none rows = rw none rows
+
+-- and what the node learnt then are rows of the network
+pub rows-after : (s : Seats) (n : NodeId) (i : Input) → AreOfNetwork s → MayCome s.network i →
+    AreRowsOf s.network (changed (state_at n.0 s.nodes) (answer_to (node_at s n) i)).learnt
+rows-after s n (Message u m) all may =
+    same-rows s.network (state_at n.0 s.nodes) (answer_to (node_at s n) (Message u m))
+    (message-learns_nothing (local_node s.network n) (state_at n.0 s.nodes) u m) (learnt-at s.network n.0 s.nodes all)
+rows-after s n (Desk item) all may =
+    same-rows s.network (state_at n.0 s.nodes) (answer_to (node_at s n) (Desk item))
+    (item-learns_nothing (local_node s.network n) (state_at n.0 s.nodes) item) (learnt-at s.network n.0 s.nodes all)
+rows-after s n Tick all may = learnt-at s.network n.0 s.nodes all
+rows-after s n (Learn row) all may =
+    learnt-stay_true s.network (local_node s.network n) (state_at n.0 s.nodes) row
+    (learnt-at s.network n.0 s.nodes all) may

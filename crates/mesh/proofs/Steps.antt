@@ -1,6 +1,7 @@
 -- What the lists stand for after a rule's answer, and without or with one thing more.
 use Rattle.std.proofs.Common.{◌≡◌, ◌<◌, ℕ, Bool, true, false, cond, nat_eq, List, [], ◌∷◌, ◌++◌, length, get_or, drop, refl, sym, ap, ◌∙◌, arith, append-nil}
-use Rattle.std.specs.Prelude.{◌&&◌, filter, map, remove, position, Some}
+use Rattle.std.specs.Prelude.{◌&&◌, filter, map, remove, position, Option, Some, None}
+use Rattle.std.specs.Option.{option_map}
 use Rattle.std.proofs.lemmas.List.{map-append}
 use Rattle.std.proofs.lemmas.List.Elements.{filter-append}
 use Rattle.std.proofs.lemmas.List.Edits.{remove-append_left}
@@ -12,20 +13,24 @@ use Rattle.ason_base.specs.declared.commands.DeskItem.{DeskItem}
 use Rattle.ason_base.specs.declared.commands.DeskItem.TheVariants.{Order}
 use Rattle.ason_base.specs.declared.messages.Msg.{Msg}
 use Rattle.ason_base.specs.declared.tables.Out.{Out}
-use Rattle.ason_base.specs.Network.{Network}
-use Rattle.mesh_rules.specs.declared.events.MeshEvent.TheVariants.{Take, Desk, Tick, Post}
+use Rattle.ason_base.specs.declared.ids.LinkId.{LinkId}
+use Rattle.ason_base.specs.declared.network.LinkSpec.{LinkSpec}
+use Rattle.ason_base.specs.declared.network.TeRow.{TeRow}
+use Rattle.ason_base.specs.Network.{Network, find_link, row_of}
+use Rattle.mesh_rules.specs.declared.events.MeshEvent.TheVariants.{Take, Desk, Tick, Learn, Post}
 use Rattle.node_core.specs.declared.inputs.Input.{Input}
 use Rattle.node_core.specs.declared.inputs.Input.TheVariants as inputs
 use Rattle.node_core.specs.Nodes.{NodeView, answer_to}
 use Rattle.mesh.specs.declared.queues.Waiting.{Waiting}
 use Rattle.mesh.specs.declared.queues.Sent.{Sent}
-use Rattle.mesh_rules.specs.Changes.{Answer, changed}
+use Rattle.mesh_rules.specs.Changes.{Answer, changed, nothing}
+use Rattle.mesh_rules.specs.Learnt.{on_link, on_row}
 use Rattle.mesh_rules.specs.LocalNodes.{local_node}
 use Rattle.mesh_rules.specs.Orders.{on_item, on_tick}
 use Rattle.mesh_rules.specs.Messages.{on_message}
-use Rattle.mesh_rules.specs.Machine.{commit, sent_to, without_first, without_item, with_item}
+use Rattle.mesh_rules.specs.Machine.{Mesh, commit, sent_to, without_first, without_item, with_item}
 use Rattle.mesh_rules.specs.Events.{on_first, on_first_item, step}
-use Rattle.mesh.specs.Kept.{IsStep, Kept, Seats, acted, desk_of, is_between, is_waiting, mail_of, mesh_of, node_at, put_state, sent_at, sent_by, state_at}
+use Rattle.mesh.specs.Kept.{IsStep, Kept, Seats, acted, desk_of, is_between, is_waiting, mail_of, mesh_of, node_at, put_state, row_in, sent_at, sent_by, state_at}
 use Rattle.mesh.proofs.Firsts.{filter-other, first_of, none_of}
 use Rattle.mesh.proofs.NodePlaces.{state_at-put}
 
@@ -277,6 +282,58 @@ is_ticked k n after mail seats sent =
           ∙ mesh_of-tick k.seats.network n k.seats.nodes k.desks k.mail k.posted a refl;
       network = ap (λ x. x.network) seats;
     }
+
+-- A row
+
+nothing-commits : (s : Mesh) (n : ℕ) → commit s n nothing ≡ s
+nothing-commits s n = λ i. record s { nodes = λ m. node m i; mail = λ u d. mail u d i }
+  where
+    node : (m : ℕ) → (commit s n nothing).nodes m ≡ s.nodes m
+    node m = elim (nat_eq m n) as (λ b. cond b (changed (s.nodes m) nothing) (s.nodes m) ≡ s.nodes m) [
+      | true ↦ refl
+      | false ↦ refl
+    ]
+
+    mail : (u d : ℕ) → (commit s n nothing).mail u d ≡ s.mail u d
+    mail u d = elim (nat_eq u n) as (λ b. cond b (s.mail u d ++ []) (s.mail u d) ≡ s.mail u d) [
+      | true ↦ append-nil (s.mail u d)
+      | false ↦ refl
+    ]
+
+-- the network has no such link
+pub not_learnt : (k : Kept) (n : NodeId) (link : LinkId) → None ≡ row_in k.seats.network link →
+    IsStep k (Learn n link) k
+not_learnt k n link none = record {
+  mesh = sym
+      (ap (λ o. commit (mesh_of k) n.0 (on_link (local_node k.seats.network n) (state_at n.0 k.seats.nodes) o))
+      (no_link (find_link k.seats.network link) none) ∙ nothing-commits (mesh_of k) n.0);
+  network = refl;
+}
+  where
+    no_link : (o : Option LinkSpec) → None ≡ option_map row_of o → o ≡ None
+    no_link None e = refl
+    no_link (Some l) e = absurd (cc e)
+
+pub is_learnt : (k : Kept) (n : NodeId) (link : LinkId) (row : TeRow) (after : Seats) (mail : List Sent) →
+    Some row ≡ row_in k.seats.network link → after ≡ acted k.seats n (inputs.Learn row) →
+    mail ≡ k.mail ++ sent_at k.seats n (inputs.Learn row) →
+    IsStep k (Learn n link) (record k { seats = after; mail = mail })
+is_learnt k n link row after mail told seats sent =
+    let a = answer_to (node_at k.seats n) (inputs.Learn row) in
+    record {
+      mesh = ap (λ x. mesh_of (record k { seats = x; mail = mail })) seats ∙
+          ap (λ x. mesh_of (record k { seats = acted k.seats n (inputs.Learn row); mail = x })) sent
+          ∙ mesh_of-commit k.seats.network n a k.seats.nodes k.desks k.mail k.posted
+          ∙ ap (commit (mesh_of k) n.0) (by_link (find_link k.seats.network link) told);
+      network = ap (λ x. x.network) seats;
+    }
+  where
+    by_link : (o : Option LinkSpec) → Some row ≡ option_map row_of o →
+        on_row (local_node k.seats.network n) (state_at n.0 k.seats.nodes) row ≡
+        on_link (local_node k.seats.network n) (state_at n.0 k.seats.nodes) o
+    by_link None e = absurd (cc e)
+    by_link (Some l) e =
+        let same : row ≡ row_of l = cc e in ap (on_row (local_node k.seats.network n) (state_at n.0 k.seats.nodes)) same
 
 -- Nothing waits
 

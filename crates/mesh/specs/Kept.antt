@@ -1,12 +1,15 @@
 -- What the runnable mesh keeps, as lists, and the mesh that it stands for.
 use Rattle.std.specs.Prelude.{◌≡◌, ℕ, ◌==◌, ◌&&◌, Bool, true, false, List, [], ◌∷◌, map, filter, find, Option, Some, None, if◌then◌else◌}
 use Rattle.std.specs.List.{AllByRecursion}
+use Rattle.std.specs.Option.{option_map}
 use Rattle.ason_base.specs.declared.ids.NodeId.{NodeId}
 use Rattle.ason_base.specs.declared.ids.CallNo.{CallNo}
 use Rattle.ason_base.specs.declared.commands.DeskItem.{DeskItem}
 use Rattle.ason_base.specs.declared.messages.Msg.{Msg}
 use Rattle.ason_base.specs.declared.tables.Out.{Out}
-use Rattle.ason_base.specs.Network.{Network}
+use Rattle.ason_base.specs.declared.ids.LinkId.{LinkId}
+use Rattle.ason_base.specs.declared.network.TeRow.{TeRow}
+use Rattle.ason_base.specs.Network.{Network, find_link, row_of}
 use Rattle.mesh_rules.specs.declared.events.MeshEvent.{MeshEvent}
 use Rattle.mesh_rules.specs.declared.events.StepFault.{StepFault}
 use Rattle.mesh_rules.specs.declared.events.StepFault.TheVariants.{NotEnabled, OutOfMemory}
@@ -15,7 +18,9 @@ use Rattle.mesh_rules.specs.LocalNodes.{local_node}
 use Rattle.mesh_rules.specs.Machine.{Mesh}
 use Rattle.mesh_rules.specs.Events.{step}
 use Rattle.mesh_rules.specs.Changes.{changed}
+use Rattle.mesh_nodes.specs.Routes.{AreRowsOf, IsRowOf}
 use Rattle.node_core.specs.declared.inputs.Input.{Input}
+use Rattle.node_core.specs.declared.inputs.Input.TheVariants.{Message, Desk, Tick, Learn}
 use Rattle.node_core.specs.Nodes.{NodeView, answer_to}
 use Rattle.mesh.specs.declared.queues.Waiting.{Waiting}
 use Rattle.mesh.specs.declared.queues.Sent.{Sent}
@@ -58,12 +63,24 @@ put_state t n state (s ∷ nodes) =
 abbrev pub with_state : Seats → NodeId → NodeState → Seats
 with_state s n state = record { network = s.network; nodes = put_state s.network n state s.nodes }
 
--- each node knows of itself what the network tells
-abbrev pub IsOfNetwork : Network → NodeView → Type 0
-IsOfNetwork t s = s.place ≡ local_node t s.place.id
+-- each node knows of itself what the network tells, and learnt rows of the network's links alone
+pub record IsOfNetwork (t : Network) (s : NodeView) : Type 0 where
+  pub place : s.place ≡ local_node t s.place.id
+  pub learnt : AreRowsOf t s.state.learnt
 
 abbrev pub AreOfNetwork : Seats → Type 0
 AreOfNetwork s = AllByRecursion (IsOfNetwork s.network) s.nodes
+
+-- an input that may come to a node: any, but of rows those alone of the network's links
+abbrev pub MayCome : Network → Input → Type 0
+MayCome t (Message u m) = Unit {0}
+MayCome t (Desk item) = Unit {0}
+MayCome t Tick = Unit {0}
+MayCome t (Learn row) = IsRowOf t row
+
+-- the row of a link that the network has
+abbrev pub row_in : Network → LinkId → Option TeRow
+row_in t k = option_map row_of (find_link t k)
 
 -- the nodes after an input at one of them
 abbrev pub acted : Seats → NodeId → Input → Seats

@@ -1,15 +1,27 @@
 //! The nodes that have had an input.
 
-ghost use Rattle.std.specs.Prelude.{◌≡◌, [], IfOk, OnErr, OnOk, flat_map, position};
+ghost use Rattle.std.specs.Prelude.{◌≡◌, ◌==◌, ◌&&◌, [], IfOk, IfSome, OnErr, OnOk, flat_map, position};
+ghost use Rattle.std.specs.List.{list_any};
+ghost use Rattle.ason_base.specs.Network.{other_end, touches};
 ghost use Rattle.mesh_rules.specs.Changes.{changed};
+ghost use Rattle.mesh_rules.specs.KnownRows.{has_row, known_rows};
+ghost use Rattle.mesh_rules.specs.LocalNodes.{local_node};
 ghost use Rattle.mesh_rules.specs.Rows.{call_rows, leg_rows};
 ghost use Rattle.node_core.specs.Nodes.{IsAnswerOf, answer_to};
-ghost use Rattle.mesh.specs.Kept.{is_node, node_at, state_at, with_state};
+ghost use Rattle.mesh_nodes.specs.Routes.{AreRowsOf, IsRowOf};
+ghost use Rattle.mesh.specs.Kept.{MayCome, is_node, node_at, row_in, state_at, with_state};
 
-use ason_base::{CallRows, Copied, LegRows, NodeId, NodeSpec, OutOfMemory, Outs, TableRows, Topology};
+use ason_base::routes::{other_end, touches};
+use ason_base::{CallRows, Copied, LegRows, LinkId, NodeId, NodeSpec, OutOfMemory, Outs, TableRows, TeRow, Topology};
 use node_core::{Change, Input, Node};
 use std::alloc::Global;
 use std::marker::Model;
+
+fn ends_at(t: &Topology, node: NodeId, link: LinkId) -> bool
+    ensures { result ≡ list_any (λ l. touches node l && l.id.0 == link.0) t.now.links }
+{
+    t.links().iter().any(|l| touches(node, l) && l.id == link)
+}
 
 /// The network, and the nodes that have had an input.
 #[derive(Debug, Drop)]
@@ -59,8 +71,42 @@ impl Nodes {
         self.nodes.iter().position(|n| n.id() == node)
     }
 
-    /// What an input would change at the node, and send.
-    pub(crate) fn answer(
+    // Whether the node knows the link.
+    fn knows(&self, node: NodeId, link: LinkId) -> bool
+        ensures { result ≡
+            has_row (known_rows (local_node self.now.network node) (state_at node.0 self.now.nodes)) link }
+    {
+        match self.place_of(node) {
+            None => ends_at(&self.network, node, link),
+            Some(place) => self.nodes[place].knows(link),
+        }
+    }
+
+    /// Whether a neighbour of the node knows the link.
+    pub(crate) fn may_learn(&self, node: NodeId, link: LinkId) -> bool
+        ensures { result ≡ list_any (λ l. touches node l && has_row
+            (known_rows (local_node self.now.network (other_end l node))
+            (state_at (other_end l node).0 self.now.nodes)) link) self.now.network.links }
+    {
+        self.network
+            .links()
+            .iter()
+            .any(|l| touches(node, l) && self.knows(other_end(l, node), link))
+    }
+
+    /// The row of the network's link: none exactly where there is none of this number.
+    pub(crate) fn row(&self, alloc: Global, link: LinkId) -> Result<Option<TeRow>, OutOfMemory>
+        ensures row { IfOk result (λ row. row ≡ row_in self.now.network link) }
+        ensures true { IfOk result (λ row. IfSome row (IsRowOf self.now.network)) }
+    {
+        match self.network.link(link) {
+            None => Ok(None),
+            Some(link) => Ok(Some(TeRow::of(alloc, link)?)),
+        }
+    }
+
+    // What an input would change at the node, and send.
+    fn answer_at(
         &self,
         alloc: Global,
         node: NodeId,
@@ -77,6 +123,24 @@ impl Nodes {
         }
     }
 
+    /// What an input would change at the node, and send. It may be carried out there.
+    pub(crate) fn answer(
+        &self,
+        alloc: Global,
+        node: NodeId,
+        input: &Input,
+    ) -> Result<Change, OutOfMemory>
+        requires { MayCome self.now.network input.now }
+        ensures answer { IfOk result (λ c. c ≡ answer_to (node_at self.now node) input.now) }
+        ensures may { IfOk result (IsAnswerOf (node_at self.now node)) }
+        ensures rows { IfOk result (λ c.
+            AreRowsOf self.now.network (changed (state_at node.0 self.now.nodes) c).learnt) }
+    {
+        let _links = self.network.links();
+        let change = self.answer_at(alloc, node, input)?;
+        Ok(change)
+    }
+
     /// Carries an answer out at the node, and hands back what is to be sent. After want of memory nothing has changed.
     pub(crate) fn carry_out(
         &mut self,
@@ -84,7 +148,8 @@ impl Nodes {
         node: NodeId,
         change: Change,
     ) -> Result<Outs, OutOfMemory>
-        requires { IsAnswerOf (node_at self.old node) change }
+        requires answer { IsAnswerOf (node_at self.old node) change }
+        requires rows { AreRowsOf self.old.network (changed (state_at node.0 self.old.nodes) change).learnt }
         ensures ok { OnOk result
             (self.new ≡ with_state self.old node (changed (state_at node.0 self.old.nodes) change)) }
         ensures sent { IfOk result (λ outs. outs ≡ change.sent) }

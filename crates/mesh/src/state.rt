@@ -1,19 +1,17 @@
 //! The mesh machine, step by step.
 
-ghost use Rattle.std.specs.Prelude.{◌≡◌, ◌==◌, ◌&&◌, ◌++◌, [], IfErr, IfOk, IsTrue, OnErr, OnOk, Some, not, position, true};
-ghost use Rattle.std.specs.List.{list_any};
-ghost use Rattle.ason_base.specs.Network.{is_node_id, other_end, touches};
+ghost use Rattle.std.specs.Prelude.{◌≡◌, ◌&&◌, ◌++◌, [], IfErr, IfOk, IsTrue, OnErr, OnOk, Some, not, position, true};
+ghost use Rattle.ason_base.specs.Network.{is_node_id};
 ghost use Rattle.mesh_rules.specs.Commands.{is_again, is_valid};
-ghost use Rattle.mesh_rules.specs.Events.{has_first, is_enabled, knows, step};
+ghost use Rattle.mesh_rules.specs.Events.{has_first, is_enabled, may_learn, step};
 ghost use Rattle.mesh_rules.specs.Machine.{start};
 ghost use Rattle.mesh_rules.specs.Rows.{all_call_rows, all_leg_rows};
 ghost use Rattle.mesh_rules.specs.declared.events.MeshEvent.{MeshEvent};
 ghost use Rattle.mesh_rules.specs.Quiet.{IsQuiet};
-ghost use Rattle.mesh.specs.Kept.{IsStep, acted, desk_of, fault_if, is_between, is_waiting, mail_of, mesh_of, sent_at};
+ghost use Rattle.mesh.specs.Kept.{IsStep, MayCome, acted, desk_of, fault_if, is_between, is_waiting, mail_of, mesh_of, sent_at};
 
 use crate::nodes::Nodes;
 use crate::queues::{Sent, Waiting, first_item, first_message, order, send};
-use ason_base::routes::{other_end, touches};
 use ason_base::{CallNo, Command, Copied, LinkId, NodeId, OutOfMemory, TableRows, Topology};
 use mesh_rules::commands::{has_node, is_again, is_valid};
 use mesh_rules::{MeshEvent, StepFault};
@@ -29,6 +27,7 @@ fn act(
     node: NodeId,
     input: &Input,
 ) -> Result<(), OutOfMemory>
+    requires { MayCome nodes.old.network input.now }
     ensures nodes { OnOk result (nodes.new ≡ acted nodes.old node input.now) }
     ensures mail { OnOk result
         (mail.new.items ≡ mail.old.items ++ sent_at nodes.old node input.now) }
@@ -50,30 +49,6 @@ fn is_nothing<T>(items: &[T]) -> bool
         [] => true,
         [..] => false,
     }
-}
-
-// Learn
-
-fn ends_at(t: &Topology, node: NodeId, link: LinkId) -> bool
-    ensures { result ≡ list_any (λ l. touches node l && l.id.0 == link.0) t.now.links }
-{
-    t.links().iter().any(|l| touches(node, l) && l.id == link)
-}
-
-fn knows(t: &Topology, node: NodeId, link: LinkId) -> bool
-    ensures { result ≡ knows t.now node link }
-{
-    ends_at(t, node, link)
-}
-
-// Whether a neighbour of the node knows the link.
-fn may_learn(t: &Topology, node: NodeId, link: LinkId) -> bool
-    ensures { result ≡ list_any
-        (λ l. touches node l && knows t.now (other_end l node) link) t.now.links }
-{
-    t.links()
-        .iter()
-        .any(|l| touches(node, l) && knows(t, other_end(l, node), link))
 }
 
 /// The mesh of a topology: its nodes, their desks, the messages under way, and the calls that were set up.
@@ -211,18 +186,34 @@ impl MeshState {
         }
     }
 
-    fn learn(&self, node: NodeId, link: LinkId) -> Result<(), StepFault>
-        ensures enabled { OnOk result
-            (IsTrue (is_enabled self.now.seats.network (mesh_of self.now)
-            (MeshEvent.Learn node link))) }
-        ensures fault { IfErr result
-            (λ f. f ≡ fault_if (is_enabled self.now.seats.network (mesh_of self.now)
-            (MeshEvent.Learn node link))) }
+    // The row of the link becomes known at the node.
+    fn learn_at(&mut self, alloc: Global, node: NodeId, link: LinkId) -> Result<(), OutOfMemory>
+        ensures ok { OnOk result (IsStep self.old (MeshEvent.Learn node link) self.new) }
+        ensures err { OnErr result (self.new ≡ self.old) }
     {
-        if may_learn(self.nodes.network(), node, link) {
-            Ok(())
-        } else {
-            Err(StepFault::NotEnabled)
+        match self.nodes.row(alloc, link)? {
+            None => Ok(()),
+            Some(row) => {
+                let input = Input::Learn(row);
+                act(alloc, &mut self.nodes, &mut self.mail, node, &input)
+            }
+        }
+    }
+
+    fn learn(&mut self, alloc: Global, node: NodeId, link: LinkId) -> Result<(), StepFault>
+        ensures ok { OnOk result (IsStep self.old (MeshEvent.Learn node link) self.new) }
+        ensures enabled { OnOk result
+            (IsTrue (may_learn self.old.seats.network (mesh_of self.old) node link)) }
+        ensures err { OnErr result (self.new ≡ self.old) }
+        ensures fault { IfErr result
+            (λ f. f ≡ fault_if (may_learn self.old.seats.network (mesh_of self.old) node link)) }
+    {
+        if !self.nodes.may_learn(node, link) {
+            return Err(StepFault::NotEnabled);
+        }
+        match self.learn_at(alloc, node, link) {
+            Ok(()) => Ok(()),
+            Err(_) => Err(StepFault::OutOfMemory),
         }
     }
 
@@ -283,7 +274,7 @@ impl MeshState {
             MeshEvent::Take { to, from } => self.take(alloc, *to, *from),
             MeshEvent::Desk { node } => self.handle(alloc, *node),
             MeshEvent::Tick { node } => self.tick(alloc, *node),
-            MeshEvent::Learn { node, link } => self.learn(*node, *link),
+            MeshEvent::Learn { node, link } => self.learn(alloc, *node, *link),
             MeshEvent::Post { command } => self.post(alloc, command),
         }
     }

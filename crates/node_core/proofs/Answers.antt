@@ -1,7 +1,7 @@
 -- A node's answer to any input fits, and so does the node after it.
-use Rattle.std.proofs.Common.{◌≡◌, ◌∙◌, ◌≤◌, List, ap, sym, subst, Result, Ok, Err, arith}
-use Rattle.std.specs.Prelude.{IfSome, None, OnErr, OnOk, Option, Some}
-use Rattle.ason_base.specs.Network.{IsTopology, Network}
+use Rattle.std.proofs.Common.{◌≡◌, ◌∙◌, ◌≤◌, ◌++◌, List, [], map, ap, sym, subst, Result, Ok, Err, arith}
+use Rattle.std.specs.Prelude.{All, IfSome, None, OnErr, OnOk, Option, Some}
+use Rattle.ason_base.specs.Network.{IsTopology, Network, row_of}
 use Rattle.ason_base.specs.declared.ids.LinkId.{LinkId}
 use Rattle.ason_base.specs.declared.ids.NodeId.{NodeId}
 use Rattle.ason_base.specs.declared.network.LinkSpec.{LinkSpec}
@@ -17,43 +17,66 @@ use Rattle.leg_table.specs.States.{local_of, no_call, state_of}
 use Rattle.leg_table.specs.Tables.{CallTable, LegTable, new_table}
 use Rattle.leg_table.proofs.AtStart.{at_start-fits, at_start-is}
 use Rattle.leg_table.proofs.RuleChanges.{item-may, message-may}
-use Rattle.mesh_rules.specs.Changes.{Answer, changed}
-use Rattle.mesh_rules.specs.State.{new_node}
+use Rattle.mesh_rules.specs.Changes.{Answer, changed, learns, learnt_after, nothing}
+use Rattle.mesh_rules.specs.KnownRows.{has_row, known_rows}
+use Rattle.mesh_rules.specs.State.{NodeState, new_node}
 use Rattle.mesh_nodes.specs.Kept.{NodeFits}
-use Rattle.mesh_nodes.specs.Routes.{RowsFit}
+use Rattle.mesh_nodes.specs.Routes.{AreSearchable, IsElsewhere, RowsFit}
 use Rattle.mesh_nodes.specs.Sent.{AnswerFits}
+use Rattle.mesh_nodes.proofs.Cases.{if_cases}
+use Rattle.mesh_nodes.proofs.LearnsNothing.{item-learns_nothing, message-learns_nothing}
+use Rattle.mesh_nodes.proofs.routes.Learnt.{learning-fits, rows-stay_fit}
 use Rattle.mesh_nodes.proofs.routes.Topologies.{new-rows}
 use Rattle.mesh_nodes.proofs.Items.{items-fit}
 use Rattle.mesh_nodes.proofs.Messages.{messages-fit}
 use Rattle.mesh_nodes.proofs.Paths.{nothing-fits}
 use Rattle.node_core.specs.declared.inputs.Input.{Input}
 use Rattle.node_core.specs.declared.inputs.Input.TheVariants.{Message, Desk, Tick, Learn}
-use Rattle.node_core.specs.Nodes.{IsAnswerOf, IsNode, IsWritableInput, NodeView, answer_to, node_of}
+use Rattle.node_core.specs.Nodes.{IsAnswerOf, IsNode, IsWritableInput, MayTake, NodeView, answer_to, node_of}
 
 pub answer-fits : (n : NodeView) (i : Input) → IsNode n → AnswerFits n.place n.state (IsWritableInput i) (answer_to n i)
 answer-fits n (Message u m) fits = messages-fit n.place n.state u m fits.place fits.state
 answer-fits n (Desk item) fits = items-fit n.place n.state item fits.place fits.state
 answer-fits n Tick fits = nothing-fits n.place n.state (Unit {0}) fits.state
-answer-fits n (Learn row) fits = nothing-fits n.place n.state (Unit {0}) fits.state
+answer-fits n (Learn row) fits = learning-fits n.place n.state row fits.state
+
+-- where nothing is learnt the same rows are known
+same-rows : (p : LocalNode) (s : NodeState) (a : Answer) → a.rows ≡ [] → RowsFit p s → RowsFit p (changed s a)
+same-rows p s a none fit =
+    let same : (changed s a).learnt ≡ s.learnt = ap (λ rows. learnt_after rows s.learnt) none in
+    record {
+      searchable = subst (λ rows. AreSearchable (map row_of p.own ++ rows)) (sym same) fit.searchable;
+      others = subst (All (IsElsewhere p.id)) (sym same) fit.others;
+    }
+
+rows-fit : (n : NodeView) (i : Input) → IsNode n → MayTake n i → RowsFit n.place (changed n.state (answer_to n i))
+rows-fit n (Message u m) fits may =
+    same-rows n.place n.state (answer_to n (Message u m)) (message-learns_nothing n.place n.state u m) fits.rows
+rows-fit n (Desk item) fits may =
+    same-rows n.place n.state (answer_to n (Desk item)) (item-learns_nothing n.place n.state item) fits.rows
+rows-fit n Tick fits may = record { searchable = fits.rows.searchable; others = fits.rows.others }
+rows-fit n (Learn row) fits may = rows-stay_fit n.place n.state row fits.rows may
 
 -- the node after an answer of it
 pub answered-fits : (n : NodeView) (a : Answer) → IsNode n → IsAnswerOf n a →
     IsNode (record { place = n.place; state = changed n.state a })
-answered-fits n a fits (i, is) = record {
+answered-fits n a fits (i, may, is) = record {
   place = fits.place;
   state = subst (λ b. NodeFits n.place (changed n.state b)) (sym is) (answer-fits n i fits).kept;
-  rows = record { searchable = fits.rows.searchable; others = fits.rows.others };
+  rows = subst (λ b. RowsFit n.place (changed n.state b)) (sym is) (rows-fit n i fits may);
 }
 
 -- the legs that it changes may be changed so
 pub answered-may : (n : NodeView) (a : Answer) → IsNode n → IsAnswerOf n a → MayBeMade n.place n.state.legs a.legs
-answered-may n a fits (i, is) = subst (λ b. MayBeMade n.place n.state.legs b.legs) (sym is) (by_input i)
+answered-may n a fits (i, may, is) = subst (λ b. MayBeMade n.place n.state.legs b.legs) (sym is) (by_input i)
   where
     by_input : (i : Input) → MayBeMade n.place n.state.legs (answer_to n i).legs
     by_input (Message u m) = message-may n.place n.state n.state.lsp u m fits.state.legs.each
     by_input (Desk item) = item-may n.place n.state item
     by_input Tick = tt
-    by_input (Learn row) = tt
+    by_input (Learn row) =
+        if_cases (λ b. MayBeMade n.place n.state.legs b.legs) (has_row (known_rows n.place n.state) row.link) nothing
+        (learns row) (λ known. tt) (λ none. tt)
 
 -- it is carried out, or the node is as it was
 pub carried-fits : {X E : Type 0} (t after : LegTable) (c calls : CallTable) (a : Answer) (r : Result X E) →

@@ -2,12 +2,14 @@
 use Rattle.std.specs.Prelude.{◌≡◌}
 use Rattle.node_core.specs.declared.inputs.Input.{Input}
 use Rattle.node_core.specs.declared.inputs.Input.TheVariants.{Message, Desk, Tick, Learn}
-use Rattle.mesh_rules.specs.Changes.{Answer, nothing, changed}
+use Rattle.mesh_rules.specs.Changes.{Answer, changed}
+use Rattle.mesh_rules.specs.Learnt.{on_row}
 use Rattle.mesh_rules.specs.LocalNodes.{LocalNode}
 use Rattle.mesh_rules.specs.Messages.{on_message}
 use Rattle.mesh_rules.specs.State.{NodeState}
 use Rattle.mesh_rules.specs.Orders.{on_item, on_tick}
 use Rattle.mesh_nodes.specs.Kept.{NodeFits}
+use Rattle.mesh_nodes.specs.Learnt.{MayLearn}
 use Rattle.mesh_nodes.specs.LocalNodes.{LocalNodeFits}
 use Rattle.mesh_nodes.specs.Routes.{RowsFit}
 use Rattle.leg_table.specs.States.{local_of, state_of}
@@ -28,20 +30,27 @@ pub record IsNode (n : NodeView) : Type 0 where
 abbrev pub node_of : LegTable → CallTable → NodeView
 node_of t c = record { place = local_of t; state = state_of t c }
 
--- the rule of an input; a node learns nothing of other links
+-- the rule of an input
 abbrev pub answer_to : NodeView → Input → Answer
 answer_to n (Message u m) = on_message n.place n.state u m
 answer_to n (Desk item) = on_item n.place n.state item
 answer_to n Tick = on_tick n.place n.state
-answer_to n (Learn row) = nothing
+answer_to n (Learn row) = on_row n.place n.state row
 
 -- the node after it
 abbrev pub stepped : NodeView → Input → NodeView
 stepped n i = record { place = n.place; state = changed n.state (answer_to n i) }
 
--- this is what the node answers to some input
+-- an input that may come to the node: any, but of rows those alone that it may learn
+abbrev pub MayTake : NodeView → Input → Type 0
+MayTake n (Message u m) = Unit {0}
+MayTake n (Desk item) = Unit {0}
+MayTake n Tick = Unit {0}
+MayTake n (Learn row) = MayLearn n.place n.state row
+
+-- this is what the node answers to some input that may come
 abbrev pub IsAnswerOf : NodeView → Answer → Type 0
-IsAnswerOf n a = (i : Input) × (a ≡ answer_to n i)
+IsAnswerOf n a = (i : Input) × MayTake n i × (a ≡ answer_to n i)
 
 -- a message that can be passed on, or another input: what it makes the node send can be written
 abbrev pub IsWritableInput : Input → Type 0

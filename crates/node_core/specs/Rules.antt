@@ -6,9 +6,11 @@ use Rattle.ason_base.specs.declared.ids.CallNo.{CallNo}
 use Rattle.ason_base.specs.declared.ids.NodeId.{NodeId}
 use Rattle.ason_base.specs.declared.messages.Msg.{Msg}
 use Rattle.ason_base.specs.declared.network.LinkSpec.{LinkSpec}
+use Rattle.ason_base.specs.declared.network.TeRow.{TeRow}
 use Rattle.ason_base.specs.declared.steps.Step.{Step}
 use Rattle.mesh_rules.specs.Changes.{Answer}
 use Rattle.mesh_rules.specs.KnownRows.{known_rows}
+use Rattle.mesh_rules.specs.Learnt.{on_row}
 use Rattle.mesh_rules.specs.LeastRoutes.{Trip, least_trip}
 use Rattle.mesh_rules.specs.Messages.{on_message}
 use Rattle.mesh_rules.specs.Orders.{on_item, on_order}
@@ -31,6 +33,9 @@ order_here t c command = on_order (local_of t) (state_of t c) command
 
 abbrev pub item_here : LegTable → CallTable → DeskItem → Answer
 item_here t c item = on_item (local_of t) (state_of t c) item
+
+abbrev pub row_here : LegTable → CallTable → TeRow → Answer
+row_here t c row = on_row (local_of t) (state_of t c) row
 
 abbrev pub setup_here : LegTable → CallTable → SetupRequest → Answer
 setup_here t c w = on_setup (local_of t) (state_of t c) w

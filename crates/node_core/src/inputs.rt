@@ -10,6 +10,6 @@ pub enum Input {
     /// An item of the node's desk.
     Desk(DeskItem),
     Tick,
-    /// A row that a neighbour knows.
+    /// The row of a link that a neighbour knows.
     Learn(TeRow),
 }

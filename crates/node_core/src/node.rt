@@ -2,6 +2,7 @@
 
 ghost use Rattle.std.specs.Prelude.{◌≡◌, ◌≤◌, IfOk, OnErr, OnOk, length};
 ghost use Rattle.mesh_rules.specs.Changes.{changed};
+ghost use Rattle.mesh_rules.specs.KnownRows.{has_row, known_rows};
 ghost use Rattle.mesh_rules.specs.LocalNodes.{local_node};
 ghost use Rattle.mesh_rules.specs.Rows.{call_rows, leg_rows};
 ghost use Rattle.mesh_rules.specs.State.{new_node};
@@ -10,12 +11,12 @@ ghost use Rattle.mesh_nodes.specs.LocalNodes.{LocalNodeFits};
 ghost use Rattle.mesh_nodes.specs.Order.{CallRowsRise, LegRowsRise};
 ghost use Rattle.mesh_nodes.specs.Routes.{RowsFit};
 ghost use Rattle.mesh_nodes.specs.Sent.{AllToNeighbours, AllWritable};
-ghost use Rattle.node_core.specs.Nodes.{IsAnswerOf, IsWritableInput, answer_to, stepped};
+ghost use Rattle.node_core.specs.Nodes.{IsAnswerOf, IsWritableInput, MayTake, answer_to, stepped};
 
 use crate::inputs::Input;
 use crate::rows::{call_rows, leg_rows};
 use crate::rules::on_input;
-use ason_base::{Copied, NodeId, OutOfMemory, Outs, TableRows, Topology};
+use ason_base::{Copied, LinkId, NodeId, OutOfMemory, Outs, TableRows, Topology};
 use leg_table::carrying::carry_out;
 use leg_table::{Calls, Change, NodeTables};
 use link_owner::Owner;
@@ -72,6 +73,13 @@ impl Node {
         let _tables = &self.tables;
     }
 
+    /// Whether the node knows the link: as its own, or by a row that it learnt.
+    pub fn knows(&self, link: LinkId) -> bool
+        ensures { result ≡ has_row (known_rows self.now.place self.now.state) link }
+    {
+        self.tables.knows(link)
+    }
+
     /// What the rule of an input would change and send. It changes nothing.
     pub fn answer(&self, alloc: Global, input: &Input) -> Result<Change, OutOfMemory>
         ensures answer { IfOk result (λ c. c ≡ answer_to self.now input.now) }
@@ -84,8 +92,8 @@ impl Node {
         Ok(change)
     }
 
-    /// Carries out what the node answers to some input, and hands back what is to be sent, in order. After want of memory the
-    /// node is unchanged.
+    /// Carries out what the node answers to some input that may come, and hands back what is to be sent, in order. After want of
+    /// memory the node is unchanged.
     pub fn carry_out(&mut self, change: Change) -> Result<Outs, OutOfMemory>
         requires { IsAnswerOf self.old change }
         ensures place { self.new.place ≡ self.old.place }
@@ -96,9 +104,10 @@ impl Node {
         carry_out(change, &mut self.tables, &mut self.owner, &mut self.calls)
     }
 
-    /// Takes one input by the rules of the mesh, and hands back what is to be sent, in order. After want of memory the node is
-    /// unchanged.
+    /// Takes one input by the rules of the mesh, and hands back what is to be sent, in order. Of rows of links those alone may
+    /// come that the node may learn. After want of memory the node is unchanged.
     pub fn step(&mut self, alloc: Global, input: &Input) -> Result<Outs, OutOfMemory>
+        requires { MayTake self.old input.now }
         ensures ok { OnOk result (self.new ≡ stepped self.old input.now) }
         ensures sent { IfOk result (λ outs. outs ≡ (answer_to self.old input.now).sent) }
         ensures near { IfOk result (AllToNeighbours self.old.place) }

@@ -1,4 +1,4 @@
-//! The rule of each input: messages, orders, desk items and ticks.
+//! The rule of each input: messages, orders, desk items, ticks and rows that are learnt.
 
 ghost use Rattle.std.specs.Prelude.{◌≡◌, IfOk};
 ghost use Rattle.mesh_rules.specs.Orders.{on_tick};
@@ -7,11 +7,11 @@ ghost use Rattle.leg_table.specs.Fits.{TablesFit};
 ghost use Rattle.leg_table.specs.States.{local_of, state_of};
 ghost use Rattle.node_core.specs.Followed.{err_followed, resv_followed};
 ghost use Rattle.node_core.specs.Nodes.{answer_to, node_of};
-ghost use Rattle.node_core.specs.Rules.{CanSearch, item_here, message_here, order_here};
+ghost use Rattle.node_core.specs.Rules.{CanSearch, item_here, message_here, order_here, row_here};
 
 use crate::call_control::{SetupRequest, call_connected, call_refused, release, set_up};
 use crate::inputs::Input;
-use ason_base::{Command, DeskItem, ErrCode, Lsp, Msg, NodeId, OutOfMemory};
+use ason_base::{Command, DeskItem, ErrCode, Lsp, Msg, NodeId, OutOfMemory, TeRow};
 use leg_table::{Calls, Change, NodeTables};
 use link_owner::Owner;
 use path_state::{path_change, tear_change};
@@ -146,6 +146,23 @@ fn on_tick(alloc: Global, tables: &NodeTables, calls: &Calls) -> Change
     Change::nothing(alloc)
 }
 
+// What a row of a link that a neighbour knows does: it is learnt, unless the link is known.
+fn on_row(
+    alloc: Global,
+    tables: &NodeTables,
+    calls: &Calls,
+    row: &TeRow,
+) -> Result<Change, OutOfMemory>
+    requires { CanSearch tables.now calls.now }
+    ensures { IfOk result (λ c. c ≡ row_here tables.now calls.now row.now) }
+{
+    if tables.knows(row.link) {
+        return Ok(Change::nothing(alloc));
+    }
+    let row = row.copy(alloc)?;
+    Ok(Change::learns(alloc, row))
+}
+
 /// What an input does: what the node answers to it.
 pub(crate) fn on_input(
     alloc: Global,
@@ -162,6 +179,6 @@ pub(crate) fn on_input(
         Input::Message { from, msg } => on_message(alloc, tables, owner, calls, *from, msg),
         Input::Desk(item) => on_item(alloc, tables, calls, item),
         Input::Tick => Ok(on_tick(alloc, tables, calls)),
-        Input::Learn(_) => Ok(Change::nothing(alloc)),
+        Input::Learn(row) => on_row(alloc, tables, calls, row),
     }
 }

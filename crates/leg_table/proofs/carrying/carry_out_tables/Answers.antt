@@ -4,7 +4,7 @@ use Rattle.leg_table.specs.States.{local_of}
 use Rattle.leg_table.specs.Tables.{LegsRise}
 use Rattle.leg_table.proofs.Carried.{may-all-enter}
 use Rattle.leg_table.proofs.LegOrder.{legs-to}
-use Rattle.leg_table.proofs.carrying.carry_out_legs.Goals as goal
+use Rattle.leg_table.proofs.carrying.carry_out_tables.Goals as goal
 
 pub change_legs-requires-clause-may : goal.change_legs-requires-clause-may
 change_legs-requires-clause-may c =
