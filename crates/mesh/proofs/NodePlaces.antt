@@ -1,6 +1,7 @@
 -- The state of each node, in the list of those that have had an input.
-use Rattle.std.proofs.Common.{◌≡◌, ◌<◌, ◌+◌, ℕ, zero, suc, Bool, true, false, cond, not, nat_eq, List, [], ◌∷◌, ◌++◌, length, get_or, set, refl, sym, ap, ◌∙◌, arith}
-use Rattle.std.specs.Prelude.{find, position, Some, None, Result, Ok, Err, OnOk}
+use Rattle.std.proofs.Common.{◌≡◌, ◌<◌, ◌+◌, ℕ, zero, suc, Bool, true, false, cond, not, nat_eq, List, [], ◌∷◌, ◌++◌, length, get_or, set, refl, sym, ap, subst, ◌∙◌, arith}
+use Rattle.std.proofs.lemmas.List.{set-get_or}
+use Rattle.std.specs.Prelude.{find, position, Some, None, Result, Ok, Err, OnErr, OnOk}
 use Rattle.std.specs.List.{position_or_len, AllByRecursion}
 use Rattle.std.proofs.lemmas.List.Quantifiers.{position-Some}
 use Rattle.ason_base.specs.declared.ids.NodeId.{NodeId}
@@ -242,3 +243,16 @@ rows-after s n Tick all may = learnt-at s.network n.0 s.nodes all
 rows-after s n (Learn row) all may =
     learnt-stay_true s.network (local_node s.network n) (state_at n.0 s.nodes) row
     (learnt-at s.network n.0 s.nodes all) may
+
+-- the node at its place after an answer, or as it was
+pub all-carried : {X E : Type 0} (t : Network) (n : NodeId) (nodes : List NodeView) (i : ℕ) (a : Answer)
+    (s after : NodeView) (r : Result X E) → position (is_node n.0) nodes ≡ Some i → s ≡ get_or nodes i s →
+    after.place ≡ s.place → OnOk r (after.state ≡ changed s.state a) → OnErr r (after ≡ s) →
+    AreRowsOf t (changed (state_at n.0 nodes) a).learnt → AllByRecursion (IsOfNetwork t) nodes →
+    AllByRecursion (IsOfNetwork t) (set nodes i after)
+all-carried t n nodes i a s after (Ok x) at is place does same rows all =
+    subst (AllByRecursion (IsOfNetwork t)) (sym (carried-place t n nodes i a s after at is place does))
+    (all-put t n (changed (state_at n.0 nodes) a) nodes rows all)
+all-carried t n nodes i a s after (Err e) at is place does same rows all =
+    let back : set nodes i after ≡ nodes = ap (set nodes i) (same ∙ is) ∙ set-get_or nodes i s in
+    subst (AllByRecursion (IsOfNetwork t)) (sym back) all

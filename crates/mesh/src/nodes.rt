@@ -97,7 +97,7 @@ impl Nodes {
     /// The row of the network's link: none exactly where there is none of this number.
     pub(crate) fn row(&self, alloc: Global, link: LinkId) -> Result<Option<TeRow>, OutOfMemory>
         ensures row { IfOk result (λ row. row ≡ row_in self.now.network link) }
-        ensures true { IfOk result (λ row. IfSome row (IsRowOf self.now.network)) }
+        ensures network { IfOk result (λ row. IfSome row (IsRowOf self.now.network)) }
     {
         match self.network.link(link) {
             None => Ok(None),

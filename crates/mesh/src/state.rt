@@ -8,11 +8,12 @@ ghost use Rattle.mesh_rules.specs.Machine.{start};
 ghost use Rattle.mesh_rules.specs.Rows.{all_call_rows, all_leg_rows};
 ghost use Rattle.mesh_rules.specs.declared.events.MeshEvent.{MeshEvent};
 ghost use Rattle.mesh_rules.specs.Quiet.{IsQuiet};
-ghost use Rattle.mesh.specs.Kept.{IsStep, MayCome, acted, desk_of, fault_if, is_between, is_waiting, mail_of, mesh_of, sent_at};
+ghost use Rattle.mesh_nodes.specs.Routes.{IsRowOf};
+ghost use Rattle.mesh.specs.Kept.{IsStep, MayCome, acted, desk_of, fault_if, is_between, is_waiting, mail_of, mesh_of, row_in, sent_at};
 
 use crate::nodes::Nodes;
 use crate::queues::{Sent, Waiting, first_item, first_message, order, send};
-use ason_base::{CallNo, Command, Copied, LinkId, NodeId, OutOfMemory, TableRows, Topology};
+use ason_base::{CallNo, Command, Copied, LinkId, NodeId, OutOfMemory, TableRows, TeRow, Topology};
 use mesh_rules::commands::{has_node, is_again, is_valid};
 use mesh_rules::{MeshEvent, StepFault};
 use node_core::Input;
@@ -186,17 +187,32 @@ impl MeshState {
         }
     }
 
-    // The row of the link becomes known at the node.
+    // The row of the network's link becomes known at the node.
+    fn learn_row(
+        &mut self,
+        alloc: Global,
+        node: NodeId,
+        link: LinkId,
+        row: TeRow,
+    ) -> Result<(), OutOfMemory>
+        requires row { row_in self.old.seats.network link ≡ Some row }
+        requires network { IsRowOf self.old.seats.network row }
+        ensures ok { OnOk result (IsStep self.old (MeshEvent.Learn node link) self.new) }
+        ensures err { OnErr result (self.new ≡ self.old) }
+    {
+        let input = Input::Learn(row);
+        act(alloc, &mut self.nodes, &mut self.mail, node, &input)?;
+        Ok(())
+    }
+
+    // What the network has of the link becomes known at the node.
     fn learn_at(&mut self, alloc: Global, node: NodeId, link: LinkId) -> Result<(), OutOfMemory>
         ensures ok { OnOk result (IsStep self.old (MeshEvent.Learn node link) self.new) }
         ensures err { OnErr result (self.new ≡ self.old) }
     {
         match self.nodes.row(alloc, link)? {
             None => Ok(()),
-            Some(row) => {
-                let input = Input::Learn(row);
-                act(alloc, &mut self.nodes, &mut self.mail, node, &input)
-            }
+            Some(row) => self.learn_row(alloc, node, link, row),
         }
     }
 
