@@ -6,7 +6,7 @@ ghost use Rattle.std.specs.Option.{option_to_list};
 ghost use Rattle.ason_base.specs.declared.messages.Packet.{Packet};
 ghost use Rattle.mesh_nodes.specs.LocalNodes.{is_neighbour};
 ghost use Rattle.mesh_rules.specs.Changes.{changed};
-ghost use Rattle.node_core.specs.Nodes.{IsWritableInput, answer_to, stepped};
+ghost use Rattle.node_core.specs.Nodes.{IsWritableInput, MayTake, answer_to, stepped};
 ghost use Rattle.controller.specs.Adjacencies.{ArePrepared, reaches, rested};
 ghost use Rattle.controller.specs.Answers.{BodyCanBePassedOn, body_answer};
 ghost use Rattle.controller.specs.Controllers.{AddsAnswer, AnswerIsSpelled, Becomes, IsMade, IsReaction, handed_body, idle_step, item_step, packet_step, tick_step};
@@ -59,6 +59,7 @@ fn carry_out(
 ) -> Result<(), OutOfMemory>
     requires ready { IsReady node.old.place adjacencies.old }
     requires input { IsWritableInput input.now }
+    requires may { MayTake node.old input.now }
     ensures node { OnOk result (node.new ≡ stepped node.old input.now) }
     ensures same { OnErr result (node.new ≡ node.old) }
     ensures hops { OnOk result
@@ -85,6 +86,7 @@ fn give(
 ) -> Result<(), OutOfMemory>
     requires ready { IsReady node.old.place adjacencies.old }
     requires input { IsWritableInput input.now }
+    requires may { MayTake node.old input.now }
     ensures node { OnOk result (node.new ≡ stepped node.old input.now) }
     ensures same { OnErr result (node.new ≡ node.old) }
     ensures hops { OnOk result

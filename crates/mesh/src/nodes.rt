@@ -88,10 +88,8 @@ impl Nodes {
             (known_rows (local_node self.now.network (other_end l node))
             (state_at (other_end l node).0 self.now.nodes)) link) self.now.network.links }
     {
-        self.network
-            .links()
-            .iter()
-            .any(|l| touches(node, l) && self.knows(other_end(l, node), link))
+        self.network.links().iter().any(|l| touches(node, l)
+            && self.knows(other_end(l, node), link))
     }
 
     /// The row of the network's link: none exactly where there is none of this number.
@@ -106,12 +104,7 @@ impl Nodes {
     }
 
     // What an input would change at the node, and send.
-    fn answer_at(
-        &self,
-        alloc: Global,
-        node: NodeId,
-        input: &Input,
-    ) -> Result<Change, OutOfMemory>
+    fn answer_at(&self, alloc: Global, node: NodeId, input: &Input) -> Result<Change, OutOfMemory>
         ensures { IfOk result (λ c. c ≡ answer_to (node_at self.now node) input.now) }
     {
         match self.place_of(node) {

@@ -1,5 +1,5 @@
-//! The mesh over one link, and over the plans of examples/line.toml and examples/two.toml: its rows are those that the program
-//! prints of them.
+//! The mesh over one link, over links that are learnt, and over the plans of examples/line.toml and examples/two.toml, whose
+//! rows are those that the program prints of them.
 
 use ason_base::{
     CallNo, CallRow, CallState, Cause, Command, LegRow, LinkId, LinkSpec, NodeId, NodeSpec,
@@ -59,6 +59,26 @@ fn setup(alloc: Global, call: u16, route: &[(u32, u32)], to: u32) -> Result<Comm
         via: Some(via),
         backup: None,
     })
+}
+
+/// A setup without a route: the ingress searches for one.
+fn search(call: u16, from: u32, to: u32) -> Command {
+    Command::Setup {
+        call: CallNo(call),
+        from: NodeId(from),
+        to: NodeId(to),
+        protected: false,
+        both: false,
+        via: None,
+        backup: None,
+    }
+}
+
+fn learn(node: u32, link: u32) -> MeshEvent {
+    MeshEvent::Learn {
+        node: NodeId(node),
+        link: LinkId(link),
+    }
 }
 
 /// Each node ticks, handles an item of its desk and takes a message of each other node, where there is one.
@@ -182,5 +202,58 @@ fn a_call_that_is_blocked(rt: HostRuntime) -> Result<(), Fail> {
         )
     );
     assert!(rt; are_legs(rows.legs.items(), &legs));
+    Ok(())
+}
+
+// A link is learnt from a neighbour that knows it, and a call goes over what its ingress learnt. Of the two routes of a square
+// that cost as much, the one with the lesser links is the least, once both are known.
+#[test]
+fn calls_over_learnt_links(rt: HostRuntime) -> Result<(), Fail> {
+    let alloc = rt.alloc();
+    let joins = [(1, 1, 2, 1), (2, 1, 3, 1), (3, 2, 4, 1), (4, 3, 4, 1)];
+    let t = topology(alloc, 4, &joins)?;
+    let mut mesh = MeshState::new(alloc, &t)?;
+    for call in 0..3 {
+        let command = search(call, 1, 4);
+        mesh.step(alloc, &MeshEvent::Post { command })?;
+    }
+    mesh.step(alloc, &MeshEvent::Desk { node: NodeId(1) })?;
+    mesh.step(alloc, &learn(1, 4))?;
+    mesh.step(alloc, &MeshEvent::Desk { node: NodeId(1) })?;
+    mesh.step(alloc, &learn(1, 3))?;
+    mesh.step(alloc, &learn(1, 3))?;
+    for _ in 0..20 {
+        round(alloc, &mut mesh, 4);
+    }
+    let rows = mesh.rows(alloc)?;
+    let legs = [
+        (1, None, Some((2, 1))),
+        (1, None, Some((1, 1))),
+        (2, Some((1, 1)), Some((3, 1))),
+        (3, Some((2, 1)), Some((4, 1))),
+        (4, Some((4, 1)), None),
+        (4, Some((3, 1)), None),
+    ];
+    let calls = rows.calls.items();
+    assert!(rt; mesh.is_quiet());
+    assert!(rt; calls.len() == 3);
+    assert!(rt; has_call(calls, 0, CallState::Blocked, Cause::NoRoute));
+    assert!(rt; has_call(calls, 1, CallState::Bare, Cause::Unset));
+    assert!(rt; has_call(calls, 2, CallState::Bare, Cause::Unset));
+    assert!(rt; are_legs(rows.legs.items(), &legs));
+    Ok(())
+}
+
+// A row goes from node to node: the next one learns it once its neighbour did.
+#[test]
+fn a_row_from_node_to_node(rt: HostRuntime) -> Result<(), Fail> {
+    let alloc = rt.alloc();
+    let t = topology(alloc, 4, &[(1, 1, 2, 1), (2, 2, 3, 1), (3, 3, 4, 1)])?;
+    let mut mesh = MeshState::new(alloc, &t)?;
+    assert!(rt; mesh.step(alloc, &learn(1, 3)) == Err(StepFault::NotEnabled));
+    assert!(rt; mesh.step(alloc, &learn(1, 9)) == Err(StepFault::NotEnabled));
+    assert!(rt; mesh.step(alloc, &learn(9, 1)) == Err(StepFault::NotEnabled));
+    assert!(rt; mesh.step(alloc, &learn(2, 3)).is_ok());
+    assert!(rt; mesh.step(alloc, &learn(1, 3)).is_ok());
     Ok(())
 }

@@ -5,9 +5,9 @@ use crate::nodes::outs::{Told, tells};
 use ason_base::codes::{FULL, LABEL, ROUTE, SET, TORN};
 use ason_base::{
     CallState, Cause, ErrCode, LinkId, LinkSpec, Msg, NodeId, NodeSpec, Numbers, Outs, Phase,
-    Topology,
+    TeRow, Topology,
 };
-use node_core::Node;
+use node_core::{Input, Node};
 use std::alloc::Global;
 use std::process::Abort;
 use std::test::Fail;
@@ -290,11 +290,33 @@ fn sent(alloc: Global, outs: &Outs) -> Result<Vec<Sent>, Fail> {
     Ok(sent)
 }
 
+// A row is given by knowing alone.
+fn step(alloc: Global, node: &mut Node, input: &Input) -> Result<Outs, Fail> {
+    match input {
+        Input::Message { .. } | Input::Desk(_) | Input::Tick => Ok(node.step(alloc, input)?),
+        Input::Learn(_) => Err(Fail::new("a row")),
+    }
+}
+
 // One input, and what is sent.
 fn give(alloc: Global, node: &mut Node, number: u16, said: Said) -> Result<Vec<Sent>, Fail> {
     let input = input(alloc, number, said)?;
-    let outs = node.step(alloc, &input)?;
+    let outs = step(alloc, node, &input)?;
     sent(alloc, &outs)
+}
+
+// A node of the network that learnt the row of this link.
+fn knowing(alloc: Global, t: &Topology, id: NodeId, link: LinkId) -> Result<Node, Fail> {
+    let mut node = Node::new(alloc, t, id)?;
+    let _links = t.links();
+    match t.link(link) {
+        None => Err(Fail::new("no such link")),
+        Some(link) => {
+            let row = TeRow::of(alloc, link)?;
+            node.step(alloc, &Input::Learn(row))?;
+            Ok(node)
+        }
+    }
 }
 
 // What is sent at the last of these inputs.
@@ -369,4 +391,21 @@ fn converting_nodes(rt: HostRuntime) -> Result<(), Fail> {
 fn transparent_nodes(rt: HostRuntime) -> Result<(), Fail> {
     let t = line(rt.alloc(), false, 2)?;
     go_through(&rt, rt.alloc(), &t, TRANSPARENT)
+}
+
+// A call to a node beyond the neighbour goes over the link that was learnt.
+#[test]
+fn a_link_is_learnt(rt: HostRuntime) -> Result<(), Fail> {
+    let alloc = rt.alloc();
+    let t = line(alloc, true, 1)?;
+    let mut node = knowing(alloc, &t, A, LinkId(2))?;
+    assert!(rt; node.knows(LinkId(1)));
+    assert!(rt; node.knows(LinkId(2)));
+    assert!(rt; !node.knows(LinkId(3)));
+    let sent = give(alloc, &mut node, 1, Said::SetupTo(C))?;
+    let path: [Sent; 1] = [(B, Told::Path([true, false, false]))];
+    assert_eq!(rt; sent.as_slice(), path.as_slice());
+    let call = Some((CallState::Asking, Cause::Unset));
+    assert_eq!(rt; shown(alloc, &node)?, (1, Some(Phase::Asked), call));
+    Ok(())
 }

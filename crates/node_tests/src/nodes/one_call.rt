@@ -1,7 +1,7 @@
 //! One call over one link, step by step.
 
 use ason_base::{
-    CallNo, CallState, Command, Copied, DeskItem, LinkId, LinkSpec, NodeId, NodeSpec, Numbers,
+    CallNo, CallState, Command, Copied, DeskItem, LinkId, LinkSpec, Msg, NodeId, NodeSpec, Numbers,
     Outs, Phase, Step, Steps, Topology,
 };
 use node_core::{Input, Node};
@@ -42,10 +42,10 @@ fn setup(alloc: Global) -> Option<Command> {
     })
 }
 
-// The only message of a step, to be taken by the neighbour.
-fn only(outs: Outs, from: NodeId) -> Option<Input> {
+// The only message of a step.
+fn only(outs: Outs) -> Option<Msg> {
     let out = outs.into_vec().pop()?;
-    Some(Input::Message { from, msg: out.msg })
+    Some(out.msg)
 }
 
 // A call over one link: the Path, the Resv, and what a table shows.
@@ -58,10 +58,11 @@ fn one_call(rt: HostRuntime) {
     let mut egress = Node::new(alloc, &t, b).ok().expect(&rt, "a node");
     let order = setup(alloc).expect(&rt, "a setup");
     let asked = ingress.step(alloc, &Input::Desk(DeskItem::Order(order)));
-    let path = only(asked.ok().expect(&rt, "a step"), a).expect(&rt, "a Path");
-    let answered = egress.step(alloc, &path);
-    let resv = only(answered.ok().expect(&rt, "a step"), b).expect(&rt, "a Resv");
-    assert!(rt; ingress.step(alloc, &resv).is_ok());
+    let path = only(asked.ok().expect(&rt, "a step")).expect(&rt, "a Path");
+    let answered = egress.step(alloc, &Input::Message { from: a, msg: path });
+    let resv = only(answered.ok().expect(&rt, "a step")).expect(&rt, "a Resv");
+    let connected = ingress.step(alloc, &Input::Message { from: b, msg: resv });
+    assert!(rt; connected.is_ok());
     assert!(rt; ingress.step(alloc, &Input::Tick).is_ok());
     let again = ingress.copy(alloc).ok().expect(&rt, "a copy");
     let rows = again.rows(alloc).ok().expect(&rt, "rows");
