@@ -1,6 +1,6 @@
 -- The one's complement sum, word by word.
 use Rattle.std.proofs.Common.{◌≡◌, ℕ, zero, suc, ◌+◌, ◌-◌, ◌*◌, ◌%◌, ◌<◌, ◌≤◌, List, [], ◌∷◌, ◌++◌, length, drop, refl}
-use Rattle.std.proofs.Common.{ap, ◌∙◌, arith, cond, ltb, true, false}
+use Rattle.std.proofs.Common.{ap, ◌∙◌, arith, cond, length-drop, ltb, true, false}
 use Rattle.std.specs.Prelude.{◌↔◌, sum, All}
 use Rattle.std.proofs.lemmas.Bool.{ltb-true, ltb-false}
 use Rattle.std.proofs.lemmas.List.Sums.{sum_by-cons}
@@ -11,9 +11,8 @@ use Rattle.wire_buf.specs.Checksum.{words, ones_of, ones_add}
 
 -- what was added up so far, and what is still to come
 pub record SumsTo (bytes left : List ℕ) (so_far : ℕ) : Type 0 where
-  pub total : ℕ
-  pub is : so_far ≡ ones_of total
-  pub whole : total + sum (words left) ≡ sum (words bytes)
+  pub whole : so_far + sum (words left) ≡ sum (words bytes)
+  pub few : so_far + 65536 * length left ≤ 65536 * length bytes
 
 read_two : (a b : ℕ) (left : List ℕ) → big_number 2 (a ∷ b ∷ left) ≡ a * 256 + b
 read_two a b left = omega arith
@@ -54,24 +53,19 @@ ones_more (suc n) w h =
     ] refl)
 
 pub adds_word : (bytes left after : List ℕ) (so_far word new : ℕ) → 2 ≤ length left → word ≡ big_number 2 left →
-    word < 65536 → after ≡ drop 2 left → new ≡ ones_add so_far word → SumsTo bytes left so_far → SumsTo bytes after new
+    word < 65536 → after ≡ drop 2 left → new ≡ so_far + word → SumsTo bytes left so_far → SumsTo bytes after new
 adds_word bytes left after so_far word new long is_word fits is_after is_new sums = record {
-  total = sums.total + word;
-  is = is_new ∙ ap (λ (n : ℕ). ones_add n word) sums.is ∙ ones_more sums.total word fits;
   whole = rw is_after (let front = words_front left long in omega (arith, sums.whole));
+  few = rw is_after (omega (arith, sums.few, length-drop 2 left));
 }
 
 pub ends_even : (bytes left : List ℕ) (so_far : ℕ) → length left ≡ 0 → SumsTo bytes left so_far →
-    so_far ≡ ones_of (sum (words bytes))
-ends_even bytes left so_far none sums =
-    let e : sums.total ≡ sum (words bytes) = omega (arith, sums.whole, words_none left none) in sums.is ∙ ap ones_of e
+    so_far ≡ sum (words bytes)
+ends_even bytes left so_far none sums = omega (arith, sums.whole, words_none left none)
 
-pub ends_odd : (bytes left : List ℕ) (so_far last new : ℕ) → length left ≡ 1 → last ≡ big_number 1 left → last < 256 →
-    new ≡ ones_add so_far (last * 256) → SumsTo bytes left so_far → new ≡ ones_of (sum (words bytes))
-ends_odd bytes left so_far last new one is_last fits is_new sums =
-    let e : sums.total + last * 256 ≡ sum (words bytes) = omega (arith, sums.whole, words_last left one) in
-    is_new ∙ ap (λ (n : ℕ). ones_add n (last * 256)) sums.is ∙ ones_more sums.total (last * 256) (omega arith)
-    ∙ ap ones_of e
+pub ends_odd : (bytes left : List ℕ) (so_far last new : ℕ) → length left ≡ 1 → last ≡ big_number 1 left →
+    new ≡ so_far + last * 256 → SumsTo bytes left so_far → new ≡ sum (words bytes)
+ends_odd bytes left so_far last new one is_last is_new sums = omega (arith, sums.whole, words_last left one)
 
 add_all : (n : ℕ) (ws : List ℕ) → All (λ w. w < 65536) ws → fold ones_add (ones_of n) ws ≡ ones_of (n + sum ws)
 add_all n [] fit = ap ones_of (omega arith)

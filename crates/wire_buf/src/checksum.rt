@@ -5,15 +5,14 @@ ghost use Rattle.wire_buf.specs.Checksum.{checksum_of, ones_add, ones_of, words}
 
 use crate::cursor::Cursor;
 
-// Addition in one's complement: the carry out of the top is added at the bottom.
-fn ones_sum(a: u16, b: u16) -> u16
-    ensures { result ≡ ones_add a b }
+// What stands for a sum in one's complement.
+fn ones_of(sum: u128) -> u16
+    ensures { result ≡ ones_of sum }
 {
-    let sum = u32::from(a) + u32::from(b);
-    if sum > 0xFFFF {
-        (sum - 0xFFFF) as u16
+    if sum == 0 {
+        0
     } else {
-        sum as u16
+        ((sum - 1) % 0xFFFF + 1) as u16
     }
 }
 
@@ -42,12 +41,12 @@ pub fn internet_checksum(bytes: &[u8]) -> u16
     ensures { result ≡ checksum_of bytes.now }
 {
     let mut cursor = Cursor::new(bytes);
-    let mut sum = 0;
+    let mut sum = 0u128;
     'words: while let Some(word) = cursor.u16() {
-        sum = ones_sum(sum, word);
+        sum += u128::from(word);
     }
     if let Some(last) = cursor.u8() {
-        sum = ones_sum(sum, u16::from(last) << 8);
+        sum += u128::from(last) << 8;
     }
-    !sum
+    !ones_of(sum)
 }

@@ -51,9 +51,8 @@ fn put(out: &mut Vec<u8>, field: &[u8])
     ensures len { vec_len out.new ≡ vec_len out.old + length field.now }
     ensures capacity { vec_capacity out.old ≤ vec_capacity out.new }
 {
-    match out.extend_from_slice(field) {
-        Ok(()) => {}
-        Err(_) => unreachable!(),
+    for byte in field {
+        out.push_reserved(*byte);
     }
 }
 

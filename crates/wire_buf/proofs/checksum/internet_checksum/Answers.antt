@@ -6,4 +6,4 @@ pub words-preserved : goal.words-preserved
 words-preserved c =
     let h = c.in-Some.ensures in
     let r = rw c.in-Some.is at c.u16.type_inv in
-    adds_word _ _ _ _ _ _ h.value.0 h.value.1 (omega arith) h.left c.ones_sum-sum.ensures c.words.invariant
+    adds_word _ _ _ _ _ _ h.value.0 h.value.1 (omega arith) h.left (omega (arith, c.from-sum.ensures)) c.words.invariant
