@@ -5,7 +5,7 @@ ghost use Rattle.rsvp_messages.specs.Writable.{IsWritable};
 ghost use Rattle.controller.specs.Frames.{IsFrame, sent_frame};
 
 use ason_base::{Bytes, Items, NodeId, OutOfMemory, Packet};
-use rsvp_messages::encode;
+use rsvp_messages::{encode_into, room_for};
 use std::alloc::Global;
 
 /// The first byte of a frame that carries an RSVP message: RSVP's number among the protocols over IP.
@@ -33,8 +33,9 @@ impl Frame {
         ensures frame { IfOk result (λ f. f ≡ sent_frame me to p.now) }
         ensures spelled { IfOk result (λ f. IsFrame f.bytes p.now) }
     {
-        let mut bytes = encode(alloc, me, p)?;
-        bytes.insert(0, RSVP)?;
+        let mut bytes = Vec::with_capacity(alloc, 1 + room_for(p))?;
+        bytes.push(RSVP)?;
+        encode_into(&mut bytes, me, p)?;
         Ok(Frame {
             to,
             bytes: Bytes::from_vec(bytes),

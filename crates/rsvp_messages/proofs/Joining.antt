@@ -1,7 +1,8 @@
 -- Bytes that are written one object after the other.
-use Rattle.std.proofs.Common.{◌≡◌, ℕ, ◌+◌, ◌<◌, Result, Ok, Err, List, [], ◌∷◌, ◌++◌, length, map, take, get_or, refl}
-use Rattle.std.proofs.Common.{ap, sym, subst, ◌∙◌, append_assoc, OnOk}
-use Rattle.std.proofs.lemmas.List.{append-nil, map_more}
+use Rattle.std.proofs.Common.{◌≡◌, ℕ, ◌+◌, ◌-◌, ◌<◌, Result, Ok, Err, List, [], ◌∷◌, ◌++◌, length, map, take, drop, refl}
+use Rattle.std.proofs.Common.{get_or, ap, sym, subst, ◌∙◌, append_assoc, arith, length-append, OnOk}
+use Rattle.std.proofs.Math.Seq.{drop-append_seam, take-append_seam}
+use Rattle.std.proofs.lemmas.List.{append-nil, drop_all, map_more, take_all}
 use Rattle.std.proofs.lemmas.List.Concat.{flat_map-append}
 use Rattle.ason_base.specs.declared.ids.NodeId.{NodeId}
 use Rattle.ason_base.specs.declared.messages.Msg.{Msg}
@@ -50,11 +51,34 @@ five (Ok t) old n1 n2 n3 n4 n5 a b d e f e1 e2 e3 e4 e5 =
     (simp append_assoc refl)
 five (Err x) old n1 n2 n3 n4 n5 a b d e f e1 e2 e3 e4 e5 = tt
 
--- the pieces of a packet
-pub packet_bytes : (head n1 n2 n3 n4 : List ℕ) (id acks body : List Object) → n1 ≡ head → n2 ≡ n1 ++ all_bytes id →
-    n3 ≡ n2 ++ all_bytes acks → n4 ≡ n3 ++ all_bytes body → n4 ≡ head ++ all_bytes (id ++ (acks ++ body))
-packet_bytes head n1 n2 n3 n4 id acks body e1 e2 e3 e4 =
+-- the pieces of a packet, behind what was there
+pub packet_bytes : (old head n1 n2 n3 n4 : List ℕ) (id acks body : List Object) → n1 ≡ old ++ head →
+    n2 ≡ n1 ++ all_bytes id → n3 ≡ n2 ++ all_bytes acks → n4 ≡ n3 ++ all_bytes body →
+    n4 ≡ old ++ (head ++ all_bytes (id ++ (acks ++ body)))
+packet_bytes old head n1 n2 n3 n4 id acks body e1 e2 e3 e4 =
     rw (e4, e3, e2, e1, apart id (acks ++ body), apart acks body) (simp append_assoc refl)
+
+-- what stands behind the bytes that were there
+behind : (bytes old tail : List ℕ) (start : ℕ) → bytes ≡ old ++ tail → start ≡ length old → drop start bytes ≡ tail
+behind bytes old tail start e is =
+    ap (λ (n : ℕ). drop n bytes) is ∙ ap (λ (l : List ℕ). drop (length old) l) e ∙ drop-append_seam old tail
+
+pub tail_of : (bytes old tail : List ℕ) (start : ℕ) → bytes ≡ old ++ tail → start ≡ length old →
+    take (length bytes - start) (drop start bytes) ≡ tail
+tail_of bytes old tail start e is =
+    ap (λ (l : List ℕ). take (length bytes - start) l) (behind bytes old tail start e is)
+    ∙ take_all (length bytes - start) tail (omega (arith, is, ap length e, length-append old tail))
+
+-- and with other bytes in its place
+pub put_back : (bytes old tail new : List ℕ) (start : ℕ) → bytes ≡ old ++ tail → start ≡ length old →
+    take start bytes ++ (new ++ drop (length bytes - start) (drop start bytes)) ≡ old ++ new
+put_back bytes old tail new start e is =
+    let front : take start bytes ≡ old =
+    ap (λ (n : ℕ). take n bytes) is ∙ ap (λ (l : List ℕ). take (length old) l) e ∙ take-append_seam old tail in
+    let rest : drop (length bytes - start) (drop start bytes) ≡ [] =
+    ap (λ (l : List ℕ). drop (length bytes - start) l) (behind bytes old tail start e is)
+    ∙ drop_all (length bytes - start) tail (omega (arith, is, ap length e, length-append old tail)) in
+    rw (front, rest) (ap (λ (l : List ℕ). old ++ l) (append-nil new))
 
 -- what is written once it is sealed
 pub sealed : (v new : List ℕ) (kind : ℕ) (sender : NodeId) (p : Packet) →

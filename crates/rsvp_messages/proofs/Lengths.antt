@@ -2,6 +2,7 @@
 use Rattle.std.proofs.Common.{◌≡◌, ◌≤◌, ◌<◌, ℕ, zero, suc, ◌+◌, ◌*◌, ◌^◌, Bool, true, false, cond, Option, None, Some}
 use Rattle.std.proofs.Common.{List, [], ◌∷◌, ◌++◌, length, map, filter, refl, ap, ◌∙◌, arith, length-append}
 use Rattle.std.proofs.lemmas.List.Concat.{flat_map-append}
+use Rattle.ason_base.specs.declared.ids.LinkId.{LinkId}
 use Rattle.ason_base.specs.declared.ids.Lsp.{Lsp}
 use Rattle.ason_base.specs.declared.ids.NodeId.{NodeId}
 use Rattle.ason_base.specs.declared.messages.Msg.{Msg}
@@ -22,7 +23,7 @@ use Rattle.ason_base.specs.Writable.{IsWritableMsg, IsWritableRole}
 use Rattle.rsvp_messages.specs.Writable.{IsWritable, IsWritableBody}
 use Rattle.rsvp_messages.specs.Written.{ack_object, all_bytes, bytes_of, body_objects, header_bytes, id_objects, made}
 use Rattle.rsvp_messages.specs.Written.{msg_objects, packet_objects, path_end, path_head, protection_object}
-use Rattle.rsvp_messages.specs.Written.{request_objects, role_objects, route_objects, set_object}
+use Rattle.rsvp_messages.specs.Written.{request_objects, role_objects, route_objects, set_object, written}
 
 pub length-apart : (xs ys : List Object) → length (all_bytes (xs ++ ys)) ≡ length (all_bytes xs) + length (all_bytes ys)
 length-apart xs ys = ap length (flat_map-append bytes_of xs ys) ∙ length-append (all_bytes xs) (all_bytes ys)
@@ -50,9 +51,12 @@ set-few set = omega (arith, or_zero-few (among set), filter-few (has set) 80 1)
 pub length-cons : (o : Object) (os : List Object) → length (all_bytes (o ∷ os)) ≡ size_of o + length (all_bytes os)
 length-cons o os = omega (arith, length-append (bytes_of o) (all_bytes os))
 
+route-room : (steps : List Step) → length (all_bytes (route_objects steps)) ≤ 4 + 12 * length steps
+route-room [] = omega arith
+route-room (s ∷ ss) = omega (arith, length-cons (made 20 1 (route_bytes (s ∷ ss))) [], route_bytes-length (s ∷ ss))
+
 route-few : (steps : List Step) → length steps ≤ 64 → length (all_bytes (route_objects steps)) ≤ 772
-route-few [] few = omega arith
-route-few (s ∷ ss) few = omega (arith, length-cons (made 20 1 (route_bytes (s ∷ ss))) [], route_bytes-length (s ∷ ss))
+route-few steps few = omega (arith, route-room steps)
 
 request-few : (set : List ℕ) (role : PathRole) → length (all_bytes (request_objects set role)) ≤ 352
 request-few set role =
@@ -66,6 +70,11 @@ request-few set role =
       set-few set,
     )
 
+pub role-room : (lsp : Lsp) (active : Bool) (work : ℕ) (primary : List Step) →
+    length (all_bytes (role_objects lsp (Back active work primary))) ≤ 16 + 12 * length primary
+role-room lsp active work primary =
+    omega (arith, length-cons (made 38 1 (route_bytes primary)) [], route_bytes-length primary)
+
 role-few : (lsp : Lsp) (role : PathRole) → IsWritableRole role → length (all_bytes (role_objects lsp role)) ≤ 784
 role-few lsp (Work guard) w = omega arith
 role-few lsp (Back active work primary) w =
@@ -74,6 +83,25 @@ role-few lsp (Back active work primary) w =
 end-few : (lsp : Lsp) (upstream : Option ℕ) → length (all_bytes (path_end lsp upstream)) ≤ 56
 end-few lsp None = omega arith
 end-few lsp (Some label) = omega arith
+
+-- beside its role
+pub path-room : (sender : NodeId) (lsp : Lsp) (egress : NodeId) (link : LinkId) (route : List Step) (set : List ℕ)
+    (upstream : Option ℕ) (role : PathRole) (room : ℕ) → length (all_bytes (role_objects lsp role)) ≤ room →
+    length (all_bytes (msg_objects sender (Path lsp egress link route set upstream role))) ≤ 460 + 12 * length route
+    + room
+path-room sender lsp egress link route set upstream role room enough =
+    omega (
+      arith,
+      length-apart (path_head sender lsp egress link) (route_objects route ++
+          (request_objects set role ++ (role_objects lsp role ++ path_end lsp upstream))),
+      length-apart (route_objects route) (request_objects set role ++ (role_objects lsp role ++ path_end lsp upstream)),
+      length-apart (request_objects set role) (role_objects lsp role ++ path_end lsp upstream),
+      length-apart (role_objects lsp role) (path_end lsp upstream),
+      route-room route,
+      request-few set role,
+      enough,
+      end-few lsp upstream,
+    )
 
 msg-few : (sender : NodeId) (m : Msg) → IsWritableMsg m → length (all_bytes (msg_objects sender m)) ≤ 3000
 msg-few sender (Path lsp egress link route set upstream role) w =
@@ -129,4 +157,17 @@ packet-short sender p kind out w e =
       ap length e,
       length-append (header_bytes kind 0 0) (all_bytes (packet_objects sender p)),
       packet-few sender p w,
+    )
+
+-- the whole message
+pub packet-room : (sender : NodeId) (p : Packet) (room : ℕ) → length (all_bytes (body_objects sender p.body)) ≤ room →
+    length (written sender p) ≤ 20 + 12 * length p.acks + room
+packet-room sender p room enough =
+    omega (
+      arith,
+      length-apart (id_objects p.id) (map ack_object p.acks ++ body_objects sender p.body),
+      length-apart (map ack_object p.acks) (body_objects sender p.body),
+      id-few p.id,
+      acks-length p.acks,
+      enough,
     )

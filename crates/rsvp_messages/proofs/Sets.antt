@@ -1,7 +1,10 @@
 -- The labels that LABEL_SETs allow, one by one.
-use Rattle.std.proofs.Common.{◌≡◌, ℕ, ◌+◌, ◌≤◌, ◌&&◌, ◌||◌, ltb, eqb, cond, Bool, true, false, List, [], filter, refl}
-use Rattle.std.proofs.Common.{ap, ◌∙◌, arith}
+use Rattle.std.proofs.Common.{◌≡◌, ℕ, ◌+◌, ◌≤◌, ◌<◌, ◌&&◌, ◌||◌, ltb, eqb, cond, Bool, true, false, List, [], ◌∷◌, filter, refl}
+use Rattle.std.proofs.Common.{ap, sym, subst, ◌∙◌, arith, length, get_or}
 use Rattle.ason_base.specs.Labels.{has, numbers_from, up_to, with_label}
+use Rattle.rsvp_objects.specs.declared.label_set.LabelSetObject.{LabelSetObject}
+use Rattle.rsvp_objects.specs.LabelSets.{among}
+use Rattle.rsvp_messages.specs.Messages.{allows}
 use Rattle.rsvp_messages.proofs.Lookups.{test_other}
 use Rattle.ason_base.proofs.MaskMembers.{has-filter, filter-agree, has-bound}
 
@@ -43,3 +46,21 @@ whole p n s end e =
     e ∙ filter-agree (λ x. ltb x n && p x) p (up_to 80)
     (λ x h. let top = has-bound 80 1 x h in let inside : ltb x n ≡ true = grind arith in
     ap (λ (b : Bool). b && p x) inside)
+
+or_false : (b : Bool) → ((b || false) && true) ≡ b
+or_false true = refl
+or_false false = refl
+
+-- one LABEL_SET that includes allows just its labels
+pub one_allows : (x : LabelSetObject) → x.include ≡ true → x.labels ≡ among x.labels →
+    x.labels ≡ filter (allows (x ∷ [])) (up_to 80)
+one_allows x includes rises =
+    rises ∙ filter-agree (has x.labels) (allows (x ∷ [])) (up_to 80)
+    (λ l h. rw includes (sym (or_false (has x.labels l))))
+
+pub alone_allows : (sets : List LabelSetObject) (x : LabelSetObject) → 1 ≤ length sets → length sets < 2 →
+    x ≡ get_or sets 0 x → x.include ≡ true → x.labels ≡ among x.labels → x.labels ≡ filter (allows sets) (up_to 80)
+alone_allows [] x some few is includes rises = absurd (omega arith)
+alone_allows (y ∷ []) x some few is includes rises =
+    subst (λ (z : LabelSetObject). x.labels ≡ filter (allows (z ∷ [])) (up_to 80)) is (one_allows x includes rises)
+alone_allows (y ∷ z ∷ sets) x some few is includes rises = absurd (omega arith)

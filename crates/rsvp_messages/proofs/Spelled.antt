@@ -1,6 +1,6 @@
 -- The written form of each message spells it.
-use Rattle.std.proofs.Common.{◌≡◌, ◌≤◌, ◌<◌, ℕ, ◌^◌, ◌==◌, ◌&&◌, ◌||◌, Bool, true, false, Option, None, Some, List, []}
-use Rattle.std.proofs.Common.{◌∷◌, ◌++◌, length, filter, All, inl, inr, refl, ap, sym, subst, ◌∙◌, arith, IfSome}
+use Rattle.std.proofs.Common.{◌≡◌, ◌≤◌, ◌<◌, ℕ, ◌^◌, ◌==◌, Bool, true, false, Option, None, Some, List, []}
+use Rattle.std.proofs.Common.{◌∷◌, ◌++◌, length, All, inl, inr, refl, ap, sym, subst, ◌∙◌, arith, IfSome}
 use Rattle.std.proofs.lemmas.List.{append-nil}
 use Rattle.std.proofs.lemmas.List.Elements.{filter-append}
 use Rattle.ason_base.specs.declared.ids.LinkId.{LinkId}
@@ -12,8 +12,7 @@ use Rattle.ason_base.specs.declared.messages.MsgId.{MsgId}
 use Rattle.ason_base.specs.declared.messages.PathRole.{PathRole}
 use Rattle.ason_base.specs.declared.messages.PathRole.TheVariants.{Work, Back}
 use Rattle.ason_base.specs.declared.steps.Step.{Step}
-use Rattle.ason_base.specs.Labels.{has, up_to}
-use Rattle.ason_base.proofs.MaskMembers.{filter-agree}
+use Rattle.rsvp_messages.proofs.Sets.{one_allows}
 use Rattle.wire_buf.specs.Routes.{HasIds, IsRoute, route_bytes}
 use Rattle.rsvp_objects.specs.declared.error.ErrorSpec.{ErrorSpec}
 use Rattle.rsvp_objects.specs.declared.hop.HopObject.{HopObject}
@@ -27,7 +26,7 @@ use Rattle.rsvp_objects.specs.LabelSets.{IsLabelSet, among, label_set_bytes}
 use Rattle.rsvp_recovery.specs.declared.association.Association.{Association}
 use Rattle.rsvp_recovery.specs.declared.protection.Protection.{Protection}
 use Rattle.rsvp_recovery.specs.Bodies.{IsAssociation, IsProtection, association_bytes, protection_bytes}
-use Rattle.rsvp_messages.specs.Messages.{HasRole, HasRoute, HasSet, NamesLsp, SpellsMsg, allows, is_removed}
+use Rattle.rsvp_messages.specs.Messages.{HasRole, HasRoute, HasSet, NamesLsp, SpellsMsg, is_removed}
 use Rattle.rsvp_messages.specs.Objects.{Object, of_class}
 use Rattle.rsvp_messages.specs.Parts.{AreEach, HasAtMostOne, HasOne}
 use Rattle.ason_base.specs.Writable.{IsWritableMsg, IsWritableRole}
@@ -91,17 +90,6 @@ plain class lsp route set upstream role a b d e =
     ∙ ap (λ (l : List Object). of_class class (request_objects set role) ++ l)
     (skip_role class lsp role (path_end lsp upstream) b d ∙ skip_end class lsp upstream e)
     ∙ sym (apart class (request_objects set role) (sender_object 11 lsp ∷ sender_tspec ∷ []))
-
-or_false : (b : Bool) → ((b || false) && true) ≡ b
-or_false true = refl
-or_false false = refl
-
--- one LABEL_SET that includes just these labels
-set_allowed : (set : List ℕ) → set ≡ among set → (let x : LabelSetObject = record { include = true; labels = set } in
-    set ≡ filter (allows (x ∷ [])) (up_to 80))
-set_allowed set e =
-    let x : LabelSetObject = record { include = true; labels = set } in
-    e ∙ filter-agree (has set) (allows (x ∷ [])) (up_to 80) (λ l h. sym (or_false (has set l)))
 
 names_again : (back : ComeBack) (class : ℕ) (os : List Object) (lsp : Lsp) (egress : NodeId) → FitsLsp lsp →
     egress.0 < 2 ^ 32 → of_class 1 os ≡ session_object lsp egress ∷ [] →
@@ -209,7 +197,7 @@ set_again back sender l e k route set u role rises =
       x ∷ [],
       subst (λ (os : List Object). AreEach 1 IsLabelSet os (x ∷ []))
           (sym (plain 36 l route set u role refl refl refl refl)) (refl, back.set x rises, tt),
-      set_allowed set rises,
+      one_allows x refl rises,
     )
 
 flags_again : (removed : Bool) (e : ErrorSpec) → e.flags ≡ flags_of removed → removed ≡ is_removed e

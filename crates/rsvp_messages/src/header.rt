@@ -1,13 +1,12 @@
 //! The common header (RFC 2205, section 3.1.1).
 
-ghost use Rattle.std.specs.Prelude.{◌≡◌, ◌≤◌, ◌<◌, ◌^◌, ◌++◌, ℕ, List, Some, false, length, slice_index, IfOk, IfSome};
+ghost use Rattle.std.specs.Prelude.{◌≡◌, ◌≤◌, ◌<◌, ◌^◌, ◌++◌, ℕ, List, Some, false, length, slice_index, IfSome, OnOk};
 ghost use Rattle.std.specs.Prelude.{IsTrue};
 ghost use Rattle.rsvp_messages.specs.Headers.{HasChecksum, HasHeader};
 ghost use Rattle.rsvp_messages.specs.Written.{header_bytes, message};
 
 use ason_base::OutOfMemory;
 use byteorder::{BigEndian, ByteOrder};
-use std::alloc::Global;
 use wire_buf::internet_checksum;
 
 /// How many bytes the header takes.
@@ -48,11 +47,12 @@ pub(crate) fn read_header(bytes: &[u8]) -> Option<u8>
     }
 }
 
-/// Begins a message of this type. Its checksum and length are 0 so far.
-pub(crate) fn begin(alloc: Global, kind: u8) -> Result<Vec<u8>, OutOfMemory>
-    ensures { IfOk result (λ out. out.items ≡ header_bytes kind 0 0) }
+/// Appends the header of a message of this type. Its checksum and length are 0 so far.
+pub(crate) fn begin(out: &mut Vec<u8>, kind: u8) -> Result<(), OutOfMemory>
+    ensures { OnOk result (out.new.items ≡ out.old.items ++ header_bytes kind 0 0) }
 {
-    Ok(Vec::from_slice(alloc, &[VERSION_AND_FLAGS, kind, 0, 0, SEND_TTL, 0, 0, 0])?)
+    out.extend_from_slice(&[VERSION_AND_FLAGS, kind, 0, 0, SEND_TTL, 0, 0, 0])?;
+    Ok(())
 }
 
 /// Writes the length and the checksum of a message into its header.

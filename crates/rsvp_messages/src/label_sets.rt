@@ -83,7 +83,8 @@ fn with_allowed(set: LabelSet, sets: &[LabelSetObject], n: u8) -> LabelSet
     }
 }
 
-fn allowed(sets: &[LabelSetObject]) -> LabelSet
+// The same, label by label.
+fn allowed_of_all(sets: &[LabelSetObject]) -> LabelSet
     ensures { result ≡ filter (allows sets.now) (up_to 80) }
 {
     let mut set = LabelSet::empty();
@@ -91,6 +92,19 @@ fn allowed(sets: &[LabelSetObject]) -> LabelSet
         set = with_allowed(set, sets, n);
     }
     set
+}
+
+// The labels that all LABEL_SETs allow. Where there is one, and it includes, these are its own.
+fn allowed(sets: &[LabelSetObject]) -> LabelSet
+    ensures { result ≡ filter (allows sets.now) (up_to 80) }
+{
+    match sets {
+        [set] if set.include => {
+            set.labels.rises();
+            set.labels.copy()
+        }
+        _ => allowed_of_all(sets),
+    }
 }
 
 /// The labels that the LABEL_SETs allow. NotMessage exactly where one of them has no meaning.

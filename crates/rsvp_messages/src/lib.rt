@@ -17,6 +17,7 @@ mod raw;
 pub mod reading;
 mod resv;
 mod roles;
+pub mod room;
 mod tear;
 mod widths;
 pub mod writable;
@@ -24,5 +25,6 @@ pub mod writing;
 
 pub use lines::{Fate, ObjectLine, objects};
 pub use reading::decode;
+pub use room::room_for;
 pub use writable::is_writable;
-pub use writing::encode;
+pub use writing::{encode, encode_into};

@@ -9,6 +9,9 @@ use ason_base::DecodeError;
 use std::alloc::Global;
 use wire_buf::Cursor;
 
+/// How many objects are written at most in a message without acknowledgements.
+const MOST_WRITTEN: usize = 13;
+
 /// An object as it lies in a message.
 #[derive(Clone, Copy, Drop)]
 pub(crate) struct RawObject<'a> {
@@ -58,7 +61,10 @@ pub(crate) fn read_objects<'a>(
         → ¬ AreObjects bytes.now os }
 {
     let mut cursor = Cursor::new(bytes);
-    let mut objects = Vec::new(alloc);
+    let mut objects = match Vec::with_capacity(alloc, MOST_WRITTEN) {
+        Ok(objects) => objects,
+        Err(_) => return Err(DecodeError::OutOfMemory),
+    };
     'objects: while !cursor.is_empty() {
         let Some(object) = next_object(&mut cursor) else {
             return Err(DecodeError::NotMessage);

@@ -14,6 +14,7 @@ use crate::laws::packets_come_back;
 use crate::path::{write_path_end, write_path_head, write_path_request, write_path_route};
 use crate::resv::write_resv;
 use crate::roles::write_role;
+use crate::room::room_for;
 use crate::tear::write_tear;
 use crate::widths::{node_fits, packet_fits};
 use ason_base::{Msg, NodeId, OutOfMemory, Packet};
@@ -88,6 +89,25 @@ fn write_body(out: &mut Vec<u8>, sender: NodeId, body: &Option<Msg>) -> Result<(
     }
 }
 
+/// Appends the written form of a packet, from this sender. After want of memory there may be a part of it.
+pub fn encode_into(out: &mut Vec<u8>, sender: NodeId, p: &Packet) -> Result<(), OutOfMemory>
+    requires { IsWritable p.now }
+    ensures written { OnOk result (out.new.items ≡ out.old.items ++ written sender p.now) }
+    // What is written is read as the packet again.
+    ensures spelled { Spells (written sender p.now) p.now }
+{
+    packets_come_back();
+    node_fits(sender);
+    packet_fits(p);
+    let start = out.len();
+    begin(out, kind_of(&p.body))?;
+    write_message_id(out, p.id)?;
+    write_acks(out, p.acks.items())?;
+    write_body(out, sender, &p.body)?;
+    seal(&mut out[start..]);
+    Ok(())
+}
+
 /// The written form of a packet, from this sender.
 pub fn encode(alloc: Global, sender: NodeId, p: &Packet) -> Result<Vec<u8>, OutOfMemory>
     requires { IsWritable p.now }
@@ -95,13 +115,7 @@ pub fn encode(alloc: Global, sender: NodeId, p: &Packet) -> Result<Vec<u8>, OutO
     // What is written is read as the packet again.
     ensures spelled { IfOk result (λ bytes. Spells bytes.items p.now) }
 {
-    packets_come_back();
-    node_fits(sender);
-    packet_fits(p);
-    let mut out = begin(alloc, kind_of(&p.body))?;
-    write_message_id(&mut out, p.id)?;
-    write_acks(&mut out, p.acks.items())?;
-    write_body(&mut out, sender, &p.body)?;
-    seal(&mut out);
+    let mut out = Vec::with_capacity(alloc, room_for(p))?;
+    encode_into(&mut out, sender, p)?;
     Ok(out)
 }

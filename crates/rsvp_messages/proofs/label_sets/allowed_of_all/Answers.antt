@@ -1,7 +1,7 @@
 use Rattle.std.proofs.Common.{◌∙◌}
 use Rattle.rsvp_messages.specs.Messages.{allows}
 use Rattle.rsvp_messages.proofs.Sets.{below_first, next, whole}
-use Rattle.rsvp_messages.proofs.label_sets.allowed.Goals as goal
+use Rattle.rsvp_messages.proofs.label_sets.allowed_of_all.Goals as goal
 
 pub labels-init : goal.labels-init
 labels-init c = c.empty-set.ensures ∙ below_first (allows c.args.sets.now)

@@ -9,7 +9,8 @@ returns-in_default-clause-not_message c = λ e.
 
 pub objects-preserved : goal.objects-preserved
 objects-preserved c =
-    goes_on _ _ _ _ _ _ c.in-Some.ensures.found.0 c.in-Some.ensures.found.1 c.in-Ok.ensures.items c.objects.invariant
+    goes_on _ _ _ _ _ _ c.in-Some.ensures.found.0 c.in-Some.ensures.found.1 c.in-Ok-push.ensures.items
+    c.objects.invariant
 
 pub returns-clause-found : goal.returns-clause-found
 returns-clause-found c = ends _ _ _ (is_empty _ _ c.is_empty.ensures c.objects-test.false) c.objects.invariant
