@@ -141,9 +141,7 @@ def _value_fault(top: Placed, row: Placed, word: str, number: int, refused: Refu
         return "srlg", f"{entry} names an SRLG twice"
     if refused.kind == "count":
         return _wrong_count(row, entry)
-    if refused.kind == "ends":
-        return "ends", _ends(top, row, entry)
-    return "srlg", f"{entry} has SRLGs, which this version doesn't run"
+    return "ends", _ends(top, row, entry)
 
 
 def _out_of_range(row: Placed, word: str, entry: str) -> tuple[str, str]:

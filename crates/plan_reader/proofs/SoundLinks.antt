@@ -8,7 +8,7 @@ use Rattle.ason_base.specs.Network.{IsTopology, is_distinct, is_link, is_link_he
 use Rattle.ason_base.specs.declared.ids.NodeId.{NodeId}
 use Rattle.ason_base.specs.declared.network.LinkSpec.{LinkSpec}
 use Rattle.ason_base.specs.declared.network.NodeSpec.{NodeSpec}
-use Rattle.plan_reader.specs.PlanTables.{NodeList, all_numbers, elements_at, end_ids, end_name, ends_of, has_link_counts, has_link_kinds, has_strange, has_top_counts, id_in, integer_in, labels_in, lacks, lacks_link_key, last_link, link_between, link_of, link_of_numbers, link_with, metric_in, number_in, number_of, number_or, numbers_of, put_behind, srlg_in, srlgs_in, with_link}
+use Rattle.plan_reader.specs.PlanTables.{NodeList, all_numbers, elements_at, end_ids, end_name, ends_of, has_link_counts, has_link_kinds, has_strange, has_top_counts, id_in, integer_in, labels_in, lacks_link_key, last_link, link_between, link_of, link_of_numbers, link_with, metric_in, number_in, number_of, number_or, numbers_of, put_behind, srlg_in, srlgs_in, with_link}
 use Rattle.plan_reader.specs.PlanTexts.{id_at_place}
 use Rattle.plan_reader.specs.Names.{place_of}
 use Rattle.plan_reader.specs.Plans.{links_of, network_of, nodes_of}
@@ -159,12 +159,11 @@ link_is_sound known last d l h = go (numbers_of d) refl (counted.1)
 
     between :
         (n : LinkNumbers) → numbers_of d ≡ Some n → nat_lt last n.id ≡ true → (o : Option (NodeId × NodeId))
-        → ends_of known d ≡ o → link_between d n o ≡ Ok l → IsSound known last l
+        → ends_of known d ≡ o → link_between n o ≡ Ok l → IsSound known last l
     between n read above None e k = absurd (cc (k))
     between n read above (Some ends) e k =
         let apart = passed (not (is_distinct n.srlgs)) _ _ _ k in
-        let plain = passed (not (lacks (codes "srlg") d)) _ _ _ apart.1 in
-        let same : link_with n ends ≡ l = cc (plain.1) in
+        let same : link_with n ends ≡ l = cc (apart.1) in
         let there = all_there (id_in d) (labels_in d) (metric_in d) (srlgs_in d) n read in
         let nodes = known.nodes in
         let first = place_of known.names (end_name d 0) in

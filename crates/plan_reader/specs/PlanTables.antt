@@ -280,17 +280,15 @@ link_with n ends = record {
   srlgs = n.srlgs;
 }
 
-abbrev pub link_between : Data → LinkNumbers → Option (NodeId × NodeId) → Result LinkSpec PlanKind
-link_between d n None = Err kinds.Ends
-link_between d n (Some ends) =
-    if not (is_distinct n.srlgs) then Err kinds.Twice
-    else if not (lacks (codes "srlg") d) then Err kinds.Unbuilt
-    else Ok (link_with n ends)
+abbrev pub link_between : LinkNumbers → Option (NodeId × NodeId) → Result LinkSpec PlanKind
+link_between n None = Err kinds.Ends
+link_between n (Some ends) =
+    if not (is_distinct n.srlgs) then Err kinds.Twice else Ok (link_with n ends)
 
 abbrev pub link_of_numbers : NodeList → ℕ → Data → Option LinkNumbers → Result LinkSpec PlanKind
 link_of_numbers known last d None = Err kinds.Range
 link_of_numbers known last d (Some n) =
-    if not (nat_lt last n.id) then Err kinds.Order else link_between d n (ends_of known d)
+    if not (nat_lt last n.id) then Err kinds.Order else link_between n (ends_of known d)
 
 -- a link between these nodes after one with this id, or its first fault
 abbrev pub link_of : NodeList → ℕ → Data → Result LinkSpec PlanKind

@@ -177,9 +177,6 @@ fn read_link(alloc: Global, known: &Nodes, last: u32, value: &Value) -> Result<L
     if !is_distinct(numbers.srlgs.items()) {
         return Err(EntryError::Fault(PlanKind::Twice));
     }
-    if !lacks(value, "srlg") {
-        return Err(EntryError::Fault(PlanKind::Unbuilt));
-    }
     Ok(LinkSpec {
         id: LinkId(numbers.id),
         low,
