@@ -19,5 +19,6 @@ mod words;
 pub use faults::{PlanEntry, PlanError, PlanFault, PlanKind};
 pub use lines::{Line, Lines};
 pub use names::{Name, Names, is_name};
+pub use nodes::node_named;
 pub use plan::Plan;
 pub use reader::read_plan;

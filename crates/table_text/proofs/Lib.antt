@@ -1,1 +1,3 @@
+pub mod FoundRoutes
+pub mod PlanRows
 pub mod TextParts

@@ -267,7 +267,7 @@ fn push_code(text: &mut String, code: ErrCode) -> Result<(), OutOfMemory>
 }
 
 // The node's name; empty where the plan has no such node.
-fn node_name(plan: &Plan, node: NodeId) -> &str
+pub(crate) fn node_name(plan: &Plan, node: NodeId) -> &str
     ensures { result.now ≡ node_name plan.now node }
 {
     match node_place(plan, node) {

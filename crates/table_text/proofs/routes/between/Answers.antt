@@ -1,0 +1,87 @@
+use Rattle.std.proofs.Common.{◌≡◌, ◌∙◌, ◌++◌, ℕ, List, ap, codes, map, string_bytes, subst, sym}
+use Rattle.ason_base.specs.declared.ids.NodeId.{NodeId}
+use Rattle.ason_base.specs.declared.network.LinkSpec.{LinkSpec}
+use Rattle.ason_base.specs.declared.network.TeRow.{TeRow}
+use Rattle.ason_base.specs.Network.{IsTopology, Network, row_of}
+use Rattle.ason_base.specs.Walks.{NoLink, NoNode}
+use Rattle.ason_base.proofs.Results.{if_ok}
+use Rattle.route_least.specs.Answers.{JoinsNone}
+use Rattle.route_least.specs.declared.answers.Found.{Found}
+use Rattle.route_pair.specs.Pairs.{HasNoBackup, IsBackupFound, IsPairFault, IsPrimary}
+use Rattle.mesh_nodes.specs.Routes.{AreSearchable}
+use Rattle.plan_reader.specs.declared.plan.Plan.{Plan}
+use Rattle.table_text.specs.RouteText.{found_text, plan_rows, primary_line, route_line, routes_text}
+use Rattle.table_text.proofs.FoundRoutes.{both_told, none_told, primary_told}
+use Rattle.table_text.proofs.PlanRows.{rows-searchable}
+use Rattle.table_text.proofs.routes.between.Goals as goal
+
+-- the rows that are searched are those of the plan
+searchable : (t : Network) (links : List LinkSpec) (rows : List TeRow) → IsTopology t → links ≡ t.links →
+    rows ≡ map row_of links → AreSearchable rows
+searchable t links rows valid own are =
+    subst AreSearchable (sym (are ∙ ap (map row_of) own)) (rows-searchable t valid)
+
+pub new-requires-clause-ends : goal.new-requires-clause-ends
+new-requires-clause-ends c =
+    (searchable c.args.plan.now.topology _ _ c.requires c.links.ensures.list
+    (c.deref.ensures.value ∙ c.in_ok-rows.ensures)).ends
+
+pub new-requires-clause-metrics : goal.new-requires-clause-metrics
+new-requires-clause-metrics c =
+    (searchable c.args.plan.now.topology _ _ c.requires c.links.ensures.list
+    (c.deref.ensures.value ∙ c.in_ok-rows.ensures)).metrics
+
+pub new-requires-clause-links : goal.new-requires-clause-links
+new-requires-clause-links c =
+    (searchable c.args.plan.now.topology _ _ c.requires c.links.ensures.list
+    (c.deref.ensures.value ∙ c.in_ok-rows.ensures)).links
+
+-- what is found is told
+module _ (p : Plan) (valid : IsTopology p.topology) (rows : List TeRow) (same : rows ≡ plan_rows p)
+    (from to : NodeId) where
+  can_be_asked : AreSearchable (plan_rows p)
+  can_be_asked = rows-searchable p.topology valid
+
+  both : (a b : Found) (text : List ℕ) → IsPrimary rows from to a → IsBackupFound rows a.route from to b →
+      text ≡ found_text p (primary_line a.route a.cost ++ route_line (codes "backup") b.route b.cost) a.potential →
+      text ≡ routes_text p from to
+  both a b text is second told = told ∙ both_told p can_be_asked from to a b
+      (subst (λ rs. IsPrimary rs from to a) same is) (subst (λ rs. IsBackupFound rs a.route from to b) same second)
+
+  primary : (a : Found) (text : List ℕ) → IsPrimary rows from to a × HasNoBackup rows a.route from to →
+      text ≡ found_text p (primary_line a.route a.cost ++ codes "no backup\n") a.potential → text ≡ routes_text p from to
+  primary a text is told = told ∙ primary_told p can_be_asked from to a
+      (subst (λ rs. IsPrimary rs from to a) same is.0) (subst (λ rs. HasNoBackup rs a.route from to) same is.1)
+
+  none : (entries : List (NodeId × ℕ)) (text : List ℕ) → JoinsNone rows NoLink NoNode from to entries →
+      text ≡ found_text p (codes "no primary\n") entries → text ≡ routes_text p from to
+  none entries text is told = told ∙ none_told p can_be_asked from to entries
+      (subst (λ rs. JoinsNone rs NoLink NoNode from to entries) same is)
+
+pub returns-in-Ok : goal.returns-in-Ok
+returns-in-Ok c =
+    let p = c.args.plan.now in
+    let same = c.deref-2.ensures.value ∙ (c.in_ok-rows.ensures ∙ ap (map row_of) c.links.ensures.list) in
+    if_ok c.both_told.result _ _
+    (λ text told. both p c.requires c.deref-2.result.now same c.args.from c.args.to c.in-Ok.pair.primary
+    c.in-Ok.pair.backup (string_bytes text) c.in-Ok.ensures.primary c.in-Ok.ensures.backup told) c.both_told.ensures
+
+pub returns-in-Err-NoPrimary : goal.returns-in-Err-NoPrimary
+returns-in-Err-NoPrimary c =
+    let p = c.args.plan.now in
+    let same = c.deref-2.ensures.value ∙ (c.in_ok-rows.ensures ∙ ap (map row_of) c.links.ensures.list) in
+    let fault = subst (IsPairFault c.deref-2.result.now c.args.from c.args.to) c.in-Err-NoPrimary.field-0-is
+    c.in-Err-NoPrimary.ensures.fault in
+    if_ok c.none_told.result _ _
+    (λ text told. none p c.requires c.deref-2.result.now same c.args.from c.args.to c.in-Err-NoPrimary.potential
+    (string_bytes text) fault (told ∙ ap (found_text p (codes "no primary\n")) c.items.ensures)) c.none_told.ensures
+
+pub returns-in-Err-NoBackup : goal.returns-in-Err-NoBackup
+returns-in-Err-NoBackup c =
+    let p = c.args.plan.now in
+    let same = c.deref-2.ensures.value ∙ (c.in_ok-rows.ensures ∙ ap (map row_of) c.links.ensures.list) in
+    let fault = subst (IsPairFault c.deref-2.result.now c.args.from c.args.to) c.in-Err-NoBackup.field-0-is
+    c.in-Err-NoBackup.ensures.fault in
+    if_ok c.primary_told.result _ _
+    (λ text told. primary p c.requires c.deref-2.result.now same c.args.from c.args.to c.in-Err-NoBackup.primary
+    (string_bytes text) fault told) c.primary_told.ensures

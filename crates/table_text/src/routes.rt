@@ -1,0 +1,314 @@
+//! The least route between two nodes of a plan, its backup, and each node's potential, as text.
+
+ghost use Rattle.std.specs.Prelude.{◌≡◌, ◌++◌, ◌∷◌, [], codes, IfOk, OnOk, map, string_bytes};
+ghost use Rattle.std.specs.List.{flat_map};
+ghost use Rattle.ason_base.specs.Network.{IsTopology, row_of};
+ghost use Rattle.table_text.specs.RouteText.{backup_line, found_text, links_text, more_link, no_node_text, node_line, plan_node, potential_in, potential_text, potentials_text, primary_line, route_line, route_text, routes_text};
+ghost use Rattle.table_text.specs.Writers.{Appends};
+
+use crate::table::node_name;
+use ason_base::{LinkSpec, NodeId, NodeSpec, OutOfMemory, Step, TeRow};
+use plan_reader::{Plan, node_named};
+use route_least::{Found, RouteNetwork};
+use route_pair::{Pair, PairFault, pair_in};
+use std::alloc::Global;
+
+/// What is told of the routes between the nodes of these names over the plan's links: the first name that the plan
+/// doesn't have; or that both are the same node; or the least route, the least one that is risk-disjoint from it and
+/// shares no inner node with it, and the least cost of a walk from the first node to each node.
+pub fn route_text(alloc: Global, plan: &Plan, from: &str, to: &str) -> Result<Vec<u8>, OutOfMemory>
+    requires { IsTopology plan.now.topology }
+    ensures { IfOk result (λ text. text.items ≡ route_text plan.now from.now to.now) }
+{
+    let told = told(alloc, plan, from, to)?;
+    let text = told.as_bytes().to_vec(alloc)?;
+    Ok(text)
+}
+
+fn told(alloc: Global, plan: &Plan, from: &str, to: &str) -> Result<String, OutOfMemory>
+    requires { IsTopology plan.now.topology }
+    ensures { IfOk result (λ text. string_bytes text ≡ route_text plan.now from.now to.now) }
+{
+    let Some(start) = named(plan, from) else {
+        return no_node(alloc, from);
+    };
+    let Some(end) = named(plan, to) else {
+        return no_node(alloc, to);
+    };
+    if start == end {
+        let text = String::from_str(alloc, "same node\n")?;
+        return Ok(text);
+    }
+    between(alloc, plan, start, end)
+}
+
+fn named(plan: &Plan, name: &str) -> Option<NodeId>
+    ensures { result ≡ plan_node plan.now name.now }
+{
+    node_named(&plan.node_names, plan.topology.nodes(), name.as_bytes())
+}
+
+fn no_node(alloc: Global, name: &str) -> Result<String, OutOfMemory>
+    ensures { IfOk result (λ text. string_bytes text ≡ no_node_text name.now) }
+{
+    let text = format!(in alloc; "no node {name}\n")?;
+    Ok(text)
+}
+
+// The pair of routes, searched in one network that is prepared from the rows.
+fn between(alloc: Global, plan: &Plan, from: NodeId, to: NodeId) -> Result<String, OutOfMemory>
+    requires { IsTopology plan.now.topology }
+    ensures { IfOk result (λ text. string_bytes text ≡ routes_text plan.now from to) }
+{
+    let rows = rows_of(alloc, plan.topology.links())?;
+    let network = RouteNetwork::new(alloc, &rows)?;
+    match pair_in(alloc, &network, &rows, from, to) {
+        Ok(pair) => both_told(alloc, plan, &pair),
+        Err(PairFault::NoPrimary(potential)) => none_told(alloc, plan, potential.items()),
+        Err(PairFault::NoBackup(primary)) => primary_told(alloc, plan, &primary),
+        Err(PairFault::OutOfMemory) => Err(OutOfMemory),
+    }
+}
+
+fn rows_of(alloc: Global, links: &[LinkSpec]) -> Result<Vec<TeRow>, OutOfMemory>
+    ensures { IfOk result (λ rows. rows.items ≡ map row_of links.now) }
+{
+    let mut rows = Vec::with_capacity(alloc, links.len())?;
+    for link in links {
+        let row = TeRow::of(alloc, link)?;
+        rows.push(row)?;
+    }
+    Ok(rows)
+}
+
+// Each has the potentials of the search for the primary route.
+
+fn both_told(alloc: Global, plan: &Plan, pair: &Pair) -> Result<String, OutOfMemory>
+    ensures { IfOk result (λ text. string_bytes text ≡ found_text plan.now
+        (primary_line pair.now.primary.route pair.now.primary.cost
+        ++ route_line (codes "backup") pair.now.backup.route pair.now.backup.cost)
+        pair.now.primary.potential) }
+{
+    let mut text = String::new(alloc);
+    push_route(&mut text, "primary", &pair.primary)?;
+    push_route(&mut text, "backup", &pair.backup)?;
+    push_potentials(&mut text, plan, pair.primary.potential.items())?;
+    Ok(text)
+}
+
+fn primary_told(alloc: Global, plan: &Plan, primary: &Found) -> Result<String, OutOfMemory>
+    ensures { IfOk result (λ text. string_bytes text ≡ found_text plan.now
+        (primary_line primary.now.route primary.now.cost ++ codes "no backup\n")
+        primary.now.potential) }
+{
+    let mut text = String::new(alloc);
+    push_route(&mut text, "primary", primary)?;
+    text.push_str("no backup\n")?;
+    push_potentials(&mut text, plan, primary.potential.items())?;
+    Ok(text)
+}
+
+fn none_told(
+    alloc: Global,
+    plan: &Plan,
+    potentials: &[(NodeId, u32)],
+) -> Result<String, OutOfMemory>
+    ensures { IfOk result (λ text. string_bytes text ≡
+        found_text plan.now (codes "no primary\n") potentials.now) }
+{
+    let mut text = String::from_str(alloc, "no primary\n")?;
+    push_potentials(&mut text, plan, potentials)?;
+    Ok(text)
+}
+
+fn push_route(text: &mut String, word: &str, found: &Found) -> Result<(), OutOfMemory>
+    ensures { OnOk result
+        (Appends text.old text.new (route_line word.now found.now.route found.now.cost)) }
+{
+    let cost = found.cost;
+    write!(text, "{word} {cost} ")?;
+    push_links(text, found.route.items())?;
+    text.push_str("\n")?;
+    Ok(())
+}
+
+fn push_links(text: &mut String, steps: &[Step]) -> Result<(), OutOfMemory>
+    ensures { OnOk result (Appends text.old text.new (links_text steps.now)) }
+{
+    match steps {
+        [] => Ok(()),
+        [first, others @ ..] => {
+            write!(text, "{}", first.link.0)?;
+            push_more(text, others)
+        }
+    }
+}
+
+// Each link with a comma in front.
+fn push_more(text: &mut String, steps: &[Step]) -> Result<(), OutOfMemory>
+    ensures { OnOk result (Appends text.old text.new (flat_map more_link steps.now)) }
+{
+    for step in steps {
+        write!(text, ",{}", step.link.0)?;
+    }
+    Ok(())
+}
+
+fn push_potentials(
+    text: &mut String,
+    plan: &Plan,
+    potentials: &[(NodeId, u32)],
+) -> Result<(), OutOfMemory>
+    ensures { OnOk result
+        (Appends text.old text.new (potentials_text plan.now (potential_in potentials.now))) }
+{
+    for node in plan.topology.nodes() {
+        push_node(text, plan, potentials, node)?;
+    }
+    Ok(())
+}
+
+#[tactic(auto, unfolding(crate::specs::RouteText::node_line))]
+fn push_node(
+    text: &mut String,
+    plan: &Plan,
+    potentials: &[(NodeId, u32)],
+    node: &NodeSpec,
+) -> Result<(), OutOfMemory>
+    ensures { OnOk result
+        (Appends text.old text.new (node_line plan.now (potential_in potentials.now) node.now)) }
+{
+    push_potential(text, plan, node.id, potential_in(potentials, node.id))
+}
+
+fn push_potential(
+    text: &mut String,
+    plan: &Plan,
+    node: NodeId,
+    cost: Option<u32>,
+) -> Result<(), OutOfMemory>
+    ensures { OnOk result (Appends text.old text.new (potential_text plan.now node cost)) }
+{
+    let name = node_name(plan, node);
+    match cost {
+        None => write!(text, "potential {name} -\n")?,
+        Some(cost) => write!(text, "potential {name} {cost}\n")?,
+    }
+    Ok(())
+}
+
+fn potential_in(potentials: &[(NodeId, u32)], node: NodeId) -> Option<u32>
+    ensures { result ≡ potential_in potentials.now node }
+{
+    potentials
+        .iter()
+        .find(|entry| entry.0 == node)
+        .map(|entry| entry.1)
+}
+
+#[cfg(test)]
+mod tests {
+    use super::route_text;
+    use plan_reader::read_plan;
+    use std::alloc::Global;
+    use std::test::Fail;
+
+    // Three nodes, each two of them joined.
+    const TRIANGLE: &[u8] =
+        b"node = [{ name = \"a\", id = 1 }, { name = \"b\", id = 2 }, { name = \"c\", id = 3 }]
+link = [
+    { id = 1, ends = [\"a\", \"b\"], labels = 2 },
+    { id = 2, ends = [\"b\", \"c\"], labels = 2 },
+    { id = 3, ends = [\"a\", \"c\"], labels = 2 },
+]
+";
+
+    // The least route leaves no backup, and another route would.
+    const TRAP: &[u8] =
+        b"node = [{ name = \"s\", id = 1 }, { name = \"x\", id = 2 }, { name = \"y\", id = 3 }, { name = \"t\", id = 4 }]
+link = [
+    { id = 1, ends = [\"s\", \"x\"], labels = 1 },
+    { id = 2, ends = [\"x\", \"y\"], labels = 1 },
+    { id = 3, ends = [\"y\", \"t\"], labels = 1 },
+    { id = 4, ends = [\"s\", \"y\"], labels = 1, metric = 3 },
+    { id = 5, ends = [\"x\", \"t\"], labels = 1, metric = 3 },
+]
+";
+
+    // Two nodes without a link.
+    const APART: &[u8] = b"node = [{ name = \"a\", id = 1 }, { name = \"b\", id = 2 }]\n";
+
+    // Two links with one SRLG between two nodes.
+    const SHARED: &[u8] = b"node = [{ name = \"a\", id = 1 }, { name = \"b\", id = 2 }]
+link = [
+    { id = 1, ends = [\"a\", \"b\"], labels = 1, srlg = [7] },
+    { id = 2, ends = [\"a\", \"b\"], labels = 1, srlg = [8, 7] },
+]
+";
+
+    // A plan, two names, and what is told.
+    const ROWS: &[(&[u8], &str, &str, &str)] = &[
+        (
+            TRIANGLE,
+            "a",
+            "c",
+            "primary 1 3
+backup 2 1,2
+potential a 0
+potential b 1
+potential c 1
+",
+        ),
+        (
+            TRAP,
+            "s",
+            "t",
+            "primary 3 1,2,3
+no backup
+potential s 0
+potential x 1
+potential y 2
+potential t 3
+",
+        ),
+        (
+            APART,
+            "a",
+            "b",
+            "no primary
+potential a 0
+potential b -
+",
+        ),
+        (
+            SHARED,
+            "b",
+            "a",
+            "primary 1 1
+no backup
+potential a 1
+potential b 0
+",
+        ),
+        (APART, "b", "b", "same node\n"),
+        (APART, "x", "-", "no node x\n"),
+        (APART, "a", "-", "no node -\n"),
+    ];
+
+    fn told(alloc: Global, plan: &[u8], from: &str, to: &str) -> Result<Vec<u8>, Fail> {
+        let Ok(plan) = read_plan(alloc, plan) else {
+            return Err(Fail::new("a plan"));
+        };
+        let text = route_text(alloc, &plan, from, to)?;
+        Ok(text)
+    }
+
+    #[test]
+    fn tells_the_routes_of_two_nodes(rt: HostRuntime) -> Result<(), Fail> {
+        for (plan, from, to, text) in ROWS {
+            let answer = told(rt.alloc(), plan, from, to)?;
+            assert_eq!(rt; answer.as_slice(), text.as_bytes());
+        }
+        Ok(())
+    }
+}
