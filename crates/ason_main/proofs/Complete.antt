@@ -6,9 +6,9 @@ use Rattle.ason_io.specs.Faults.{Rose}
 use Rattle.ason_io.specs.Reading.{WasReadToEnd}
 use Rattle.plan_reader.specs.declared.plan.Plan.{Plan}
 use Rattle.ason_main.specs.declared.ason.Status.{Status}
-use Rattle.ason_main.specs.declared.ason.Task.{Task}
+use Rattle.ason_main.specs.Answers.{Decode, Request, Route, Run}
 use Rattle.ason_main.specs.Answers.{Done, EventLimit, PlanRefused, ReadFault, Reply, TooLong, Unfinished, Usage}
-use Rattle.ason_main.specs.Answers.{EndsTooLong, EndsWell, HasReadFew, IsComplete, IsDecodeReply, IsEnd, IsJudged, IsReadAndJudged, IsReply, IsReplyFor, IsReplyTo, IsRunReply, WasGiven, status_of, task_of}
+use Rattle.ason_main.specs.Answers.{EndsTooLong, EndsWell, HasReadFew, IsComplete, IsDecodeReply, IsDoneOrShort, IsEnd, IsJudged, IsReadAndJudged, IsReply, IsReplyFor, IsReplyTo, IsRouteReply, IsRunReply, WasGiven, request_of, status_of}
 use Rattle.ason_main.specs.Outputs.{run_of}
 use Rattle.plan_reader.specs.Plans.{PlanOf}
 use Rattle.plan_reader.proofs.Agree.{no_plan, one_plan}
@@ -40,24 +40,27 @@ read_few left handed ended old new bs read few = (
 
 -- what is answered of it
 judged_for : {S : Type 0} (left : S → Option (List ℕ)) (handed : S → List ℕ → S → Type 0) (ended : S → Type 0)
-    (faults : S → ℕ) (old new : S) (bs : List ℕ) (k : Task) (r : Reply) →
+    (faults : S → ℕ) (old new : S) (bs : List ℕ) (k : Request) (r : Reply) →
     WasReadToEnd left handed ended old new bs → length bs ≤ 4194304 → IsJudged k bs r →
     IsReplyFor left handed ended faults old new k r
 judged_for left handed ended faults old new bs k (Done text) read few is = (bs, read, few, is)
-judged_for left handed ended faults old new bs Task.Run Usage read few is = absurd is
-judged_for left handed ended faults old new bs Task.Decode Usage read few is = absurd is
+judged_for left handed ended faults old new bs Run Usage read few is = absurd is
+judged_for left handed ended faults old new bs Decode Usage read few is = absurd is
+judged_for left handed ended faults old new bs (Route from to) Usage read few is = absurd is
 judged_for left handed ended faults old new bs k (PlanRefused text) read few is = (bs, read, few, is)
-judged_for left handed ended faults old new bs Task.Run ReadFault read few is = absurd is
-judged_for left handed ended faults old new bs Task.Decode ReadFault read few is = absurd is
+judged_for left handed ended faults old new bs Run ReadFault read few is = absurd is
+judged_for left handed ended faults old new bs Decode ReadFault read few is = absurd is
+judged_for left handed ended faults old new bs (Route from to) ReadFault read few is = absurd is
 judged_for left handed ended faults old new bs k (EventLimit text) read few is = (bs, read, few, is)
 judged_for left handed ended faults old new bs k (Unfinished text) read few is =
     (read_few left handed ended old new bs read few, inr (bs, read, few, is))
-judged_for left handed ended faults old new bs Task.Run TooLong read few is = absurd is
-judged_for left handed ended faults old new bs Task.Decode TooLong read few is = absurd is
+judged_for left handed ended faults old new bs Run TooLong read few is = absurd is
+judged_for left handed ended faults old new bs Decode TooLong read few is = absurd is
+judged_for left handed ended faults old new bs (Route from to) TooLong read few is = absurd is
 
 pub judged_reply : {S : Type 0} (left : S → Option (List ℕ)) (handed : S → List ℕ → S → Type 0) (ended : S → Type 0)
-    (faults : S → ℕ) (words : List (List ℕ)) (old new : S) (bs : List ℕ) (k : Task) (r : Reply) →
-    task_of words ≡ Some k → WasReadToEnd left handed ended old new bs → length bs ≤ 4194304 → IsJudged k bs r →
+    (faults : S → ℕ) (words : List (List ℕ)) (old new : S) (bs : List ℕ) (k : Request) (r : Reply) →
+    request_of words ≡ Some k → WasReadToEnd left handed ended old new bs → length bs ≤ 4194304 → IsJudged k bs r →
     IsReply left handed ended faults words old new r
 judged_reply left handed ended faults words old new bs k r word read few is =
     subst (λ w. IsReplyTo left handed ended faults old new r w) (sym word)
@@ -86,7 +89,7 @@ judged_end bs p ReadFault s plan holds is = absurd holds
 judged_end bs p TooLong s plan holds is = absurd holds
 
 -- a reply to `decode`
-decoded_end : (bs : List ℕ) (r : Reply) (s : Status) → IsDecodeReply bs r → s ≡ status_of r → EndsWell Task.Decode bs s
+decoded_end : (bs : List ℕ) (r : Reply) (s : Status) → IsDecodeReply bs r → s ≡ status_of r → EndsWell Decode bs s
 decoded_end bs (Done text) s holds is = inl is
 decoded_end bs (PlanRefused text) s holds is = absurd holds
 decoded_end bs (EventLimit text) s holds is = absurd holds
@@ -95,13 +98,26 @@ decoded_end bs Usage s holds is = absurd holds
 decoded_end bs ReadFault s holds is = absurd holds
 decoded_end bs TooLong s holds is = absurd holds
 
-well_ended : (k : Task) (bs : List ℕ) (r : Reply) (s : Status) → IsJudged k bs r → s ≡ status_of r → EndsWell k bs s
-well_ended Task.Run bs r s holds is = λ p plan. judged_end bs p r s plan holds is
-well_ended Task.Decode bs r s holds is = decoded_end bs r s holds is
+-- a reply to `route`
+routed_end : (from to bs : List ℕ) (p : Plan) (r : Reply) (s : Status) → PlanOf bs (Ok p) →
+    IsRouteReply from to bs r → s ≡ status_of r → IsDoneOrShort s
+routed_end from to bs p (Done text) s plan holds is = inl is
+routed_end from to bs p (PlanRefused text) s plan holds is = absurd (no_plan bs holds.0 p holds.1 plan)
+routed_end from to bs p (EventLimit text) s plan holds is = absurd holds
+routed_end from to bs p (Unfinished text) s plan holds is = inr is
+routed_end from to bs p Usage s plan holds is = absurd holds
+routed_end from to bs p ReadFault s plan holds is = absurd holds
+routed_end from to bs p TooLong s plan holds is = absurd holds
 
-out_of_memory : (k : Task) (bs : List ℕ) (s : Status) → s ≡ Status.OutOfMemory → EndsWell k bs s
-out_of_memory Task.Run bs s is = λ p plan. inr (inr is)
-out_of_memory Task.Decode bs s is = inr is
+well_ended : (k : Request) (bs : List ℕ) (r : Reply) (s : Status) → IsJudged k bs r → s ≡ status_of r → EndsWell k bs s
+well_ended Run bs r s holds is = λ p plan. judged_end bs p r s plan holds is
+well_ended Decode bs r s holds is = decoded_end bs r s holds is
+well_ended (Route from to) bs r s holds is = λ p plan. routed_end from to bs p r s plan holds is
+
+out_of_memory : (k : Request) (bs : List ℕ) (s : Status) → s ≡ Status.OutOfMemory → EndsWell k bs s
+out_of_memory Run bs s is = λ p plan. inr (inr is)
+out_of_memory Decode bs s is = inr is
+out_of_memory (Route from to) bs s is = λ p plan. inr is
 
 too_many : (n m : ℕ) → n ≡ 4194304 + 1 → m ≤ 4194304 → n ≤ m → ⊥
 too_many n m a b c = grind arith
@@ -113,7 +129,7 @@ all_read left old new bs read tells told = sym (subst (λ l. IfSome l (λ all. (
     (left new ≡ Some []))) tells told).0
 
 replied_end : {S : Type 0} (left : S → Option (List ℕ)) (handed : S → List ℕ → S → Type 0) (ended : S → Type 0)
-    (faults : S → ℕ) (old new : S) (k : Task) (bs : List ℕ) (r : Reply) (s : Status) →
+    (faults : S → ℕ) (old new : S) (k : Request) (bs : List ℕ) (r : Reply) (s : Status) →
     left old ≡ Some bs → length bs ≤ 4194304 → ¬ Rose (faults old) (faults new) →
     IsReplyFor left handed ended faults old new k r → s ≡ status_of r → EndsWell k bs s
 replied_end left handed ended faults old new k bs r s tells short no_read = go r
@@ -133,7 +149,7 @@ replied_end left handed ended faults old new k bs r s tells short no_read = go r
         (left new) (subst (λ l. Consumes l (left new) holds.0) tells holds.1.told)))
 
 replied_too_long : {S : Type 0} (left : S → Option (List ℕ)) (handed : S → List ℕ → S → Type 0) (ended : S → Type 0)
-    (faults : S → ℕ) (old new : S) (k : Task) (bs : List ℕ) (r : Reply) (s : Status) →
+    (faults : S → ℕ) (old new : S) (k : Request) (bs : List ℕ) (r : Reply) (s : Status) →
     left old ≡ Some bs → 4194304 < length bs → ¬ Rose (faults old) (faults new) →
     IsReplyFor left handed ended faults old new k r → s ≡ status_of r → EndsTooLong s
 replied_too_long left handed ended faults old new k bs r s tells long no_read = go r

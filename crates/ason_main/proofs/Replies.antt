@@ -9,9 +9,8 @@ use Rattle.plan_reader.specs.declared.plan.Plan.{Plan}
 use Rattle.plan_reader.specs.Plans.{PlanOf}
 use Rattle.table_text.specs.TableText.{stopped_text}
 use Rattle.ason_main.specs.declared.ason.Status.{Status}
-use Rattle.ason_main.specs.declared.ason.Task.{Task}
-use Rattle.ason_main.specs.Answers.{Done, EventLimit, Reply, Unfinished, Usage}
-use Rattle.ason_main.specs.Answers.{IsAnswered, IsReply, IsReplyFor, IsReplyTo, WasToldOrNothing, task_of}
+use Rattle.ason_main.specs.Answers.{Decode, Done, EventLimit, Reply, Request, Route, Run, Unfinished, Usage}
+use Rattle.ason_main.specs.Answers.{IsAnswered, IsReply, IsReplyFor, IsReplyTo, WasToldOrNothing, request_of}
 use Rattle.ason_main.specs.Outputs.{IsBegun, IsTheOutput}
 use Rattle.ason_main.specs.Running.{HasWritten, HasWrittenPart, IsCutShort}
 use Rattle.ason_main.proofs.Printing.{part_after}
@@ -21,18 +20,18 @@ use Rattle.ason_main.proofs.Scripts.{rose_later}
 
 pub ended : {K : Type 0} (written : K → Option (List ℕ)) (faults : K → ℕ) (bs : List ℕ) (p : Plan) (old new : K) →
     PlanOf bs (Ok p) → HasWritten (written old) (written new) (IsTheOutput p) →
-    IsAnswered written faults Task.Run bs old new Status.Done
+    IsAnswered written faults Run bs old new Status.Done
 ended written faults bs p old new plan is = (Done is.0, (p, plan, is.1), inl (refl, is.2))
 
 pub failed : {K : Type 0} (written : K → Option (List ℕ)) (faults : K → ℕ) (bs : List ℕ) (p : Plan) (old new : K) →
     PlanOf bs (Ok p) → Rose (faults old) (faults new) → HasWrittenPart (written old) (written new) (IsBegun p) →
-    IsAnswered written faults Task.Run bs old new Status.WriteFault
+    IsAnswered written faults Run bs old new Status.WriteFault
 failed written faults bs p old new plan rose is =
     (Unfinished is.0, inr (p, plan, is.1), inr (refl, rose, is.2))
 
 pub unfinished : {K : Type 0} (written : K → Option (List ℕ)) (faults : K → ℕ) (bs : List ℕ) (p : Plan)
     (old new : K) → PlanOf bs (Ok p) → HasWritten (written old) (written new) (IsBegun p) →
-    IsAnswered written faults Task.Run bs old new Status.OutOfMemory
+    IsAnswered written faults Run bs old new Status.OutOfMemory
 unfinished written faults bs p old new plan is = (Unfinished is.0, inr (p, plan, is.1), inl (refl, is.2))
 
 -- the line of the stop comes last
@@ -40,7 +39,7 @@ pub stopped : {K : Type 0} (written : K → Option (List ℕ)) (faults : K → �
     (old now new : K) (s : Status) → PlanOf bs (Ok p) → faults old ≤ faults now →
     HasWritten (written old) (written now) (IsCutShort p n) →
     WasToldOrNothing written faults now new (stopped_text p n) Status.EventLimit s →
-    IsAnswered written faults Task.Run bs old new s
+    IsAnswered written faults Run bs old new s
 stopped written faults bs p n old now new s plan rises is (inl (inl told)) = (
   EventLimit (is.0 ++ stopped_text p n),
   (p, plan, (n, is.1.output)),
@@ -67,17 +66,18 @@ stopped written faults bs p n old now new s plan rises is (inr none) = (
 
 -- Want of memory before anything is told
 
-pub no_memory : {K : Type 0} (written : K → Option (List ℕ)) (faults : K → ℕ) (k : Task) (bs : List ℕ) (out : K) →
+pub no_memory : {K : Type 0} (written : K → Option (List ℕ)) (faults : K → ℕ) (k : Request) (bs : List ℕ) (out : K) →
     IsAnswered written faults k bs out out Status.OutOfMemory
-no_memory written faults Task.Run bs out = (Unfinished [], inl refl, inl (refl, Appends-nil (written out)))
-no_memory written faults Task.Decode bs out = (Unfinished [], refl, inl (refl, Appends-nil (written out)))
+no_memory written faults Run bs out = (Unfinished [], inl refl, inl (refl, Appends-nil (written out)))
+no_memory written faults Decode bs out = (Unfinished [], refl, inl (refl, Appends-nil (written out)))
+no_memory written faults (Route from to) bs out = (Unfinished [], refl, inl (refl, Appends-nil (written out)))
 
 -- Reading
 
 -- what is said of the source, where the words have this meaning
 pub reply_read :
     {S : Type 0} (left : S → Option (List ℕ)) (handed : S → List ℕ → S → Type 0) (ended : S → Type 0)
-    (faults : S → ℕ) (words : List (List ℕ)) (old new : S) (k : Task) (r : Reply) → task_of words ≡ Some k →
+    (faults : S → ℕ) (words : List (List ℕ)) (old new : S) (k : Request) (r : Reply) → request_of words ≡ Some k →
     IsReplyFor left handed ended faults old new k r → IsReply left handed ended faults words old new r
 reply_read left handed ended faults words old new k r word is =
     subst (IsReplyTo left handed ended faults old new r) (sym word) is
@@ -85,7 +85,7 @@ reply_read left handed ended faults words old new k r word is =
 -- nothing is read where they have none
 pub usage_reply :
     {S : Type 0} (left : S → Option (List ℕ)) (handed : S → List ℕ → S → Type 0) (ended : S → Type 0)
-    (faults : S → ℕ) (words : List (List ℕ)) (src : S) → task_of words ≡ None →
+    (faults : S → ℕ) (words : List (List ℕ)) (src : S) → request_of words ≡ None →
     IsReply left handed ended faults words src src Usage
 usage_reply left handed ended faults words src none =
     subst (IsReplyTo left handed ended faults src src Usage) (sym none) (refl, refl)

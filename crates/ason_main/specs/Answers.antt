@@ -1,5 +1,5 @@
 -- What the program answers to its words and to its input.
-use Rattle.std.specs.Prelude.{◌≡◌, ◌<◌, ◌≤◌, ◌+◌, ◌⊎◌, ℕ, Bool, false, List, [], ◌∷◌, Option, Some, None, Ok, Err, bytes_eq, codes, length, take, if◌then◌else◌}
+use Rattle.std.specs.Prelude.{◌≡◌, ◌<◌, ◌≤◌, ◌+◌, ◌⊎◌, ℕ, Bool, false, List, [], ◌∷◌, Option, Some, None, Ok, Err, bytes_eq, codes, length, option_map, take, if◌then◌else◌}
 use Rattle.std.specs.Io.KnownBytes.{Appends}
 use Rattle.ason_io.specs.Faults.{Rose}
 use Rattle.ason_io.specs.Reading.{HasRead, WasReadToEnd}
@@ -11,7 +11,9 @@ use Rattle.plan_reader.specs.declared.faults.PlanFault.{PlanFault}
 use Rattle.message_text.specs.DecodeText.{IsDecodeText}
 use Rattle.message_text.specs.OneText.{IsOne}
 use Rattle.table_text.specs.FaultText.{refused_text}
+use Rattle.table_text.specs.RouteText.{route_text}
 use Rattle.ason_main.specs.Outputs.{IsBegun, IsTheOutput, IsTheStoppedOutput, run_of}
+use Rattle.plan_reader.specs.PlanTexts.{word_at}
 use Rattle.plan_reader.specs.Plans.{PlanOf}
 
 -- the words are this one word
@@ -20,11 +22,37 @@ is_word [] word = false
 is_word (w ∷ []) word = bytes_eq w word
 is_word (w ∷ v ∷ ws) word = false
 
--- what the words ask for: the one word `run` or the one word `decode`; all else has no meaning
+-- they are the word `route` and two more
+abbrev pub is_route : List (List ℕ) → Bool
+is_route [] = false
+is_route (w ∷ []) = false
+is_route (w ∷ from ∷ []) = false
+is_route (w ∷ from ∷ to ∷ []) = bytes_eq w (codes "route")
+is_route (w ∷ from ∷ to ∷ v ∷ ws) = false
+
+-- the task that the words name: the one word `run`, the one word `decode`, or `route` with two names; all else has no
+-- meaning
 abbrev pub task_of : List (List ℕ) → Option Task
 task_of words =
     if is_word words (codes "run") then Some Task.Run
-    else (if is_word words (codes "decode") then Some Task.Decode else None)
+    else if is_word words (codes "decode") then Some Task.Decode
+    else if is_route words then Some Task.Route
+    else None
+
+-- what is asked for
+pub data Request : Type 0 where
+  Run : Request  -- to run a plan
+  Decode : Request  -- to tell what messages say
+  Route : (from to : List ℕ) → Request  -- to tell the routes between the nodes of these names
+
+-- a task with its words
+abbrev pub request_for : List (List ℕ) → Task → Request
+request_for words Task.Run = Run
+request_for words Task.Decode = Decode
+request_for words Task.Route = Route (word_at words 1) (word_at words 2)
+
+abbrev pub request_of : List (List ℕ) → Option Request
+request_of words = option_map (request_for words) (task_of words)
 
 -- Replies
 
@@ -96,15 +124,26 @@ IsDecodeReply bs Usage = ⊥
 IsDecodeReply bs ReadFault = ⊥
 IsDecodeReply bs TooLong = ⊥
 
-abbrev pub IsJudged : Task → List ℕ → Reply → Type 0
-IsJudged Task.Run bs r = IsRunReply bs r
-IsJudged Task.Decode bs r = IsDecodeReply bs r
+-- what the reply to `route` with these names says of them
+abbrev pub IsRouteReply : List ℕ → List ℕ → List ℕ → Reply → Type 0
+IsRouteReply from to bs (Done text) = (p : Plan) × PlanOf bs (Ok p) × (text ≡ route_text p from to)
+IsRouteReply from to bs (PlanRefused text) = (f : PlanFault) × PlanOf bs (Err f) × (text ≡ refused_text f)
+IsRouteReply from to bs (EventLimit text) = ⊥
+IsRouteReply from to bs (Unfinished text) = text ≡ []
+IsRouteReply from to bs Usage = ⊥
+IsRouteReply from to bs ReadFault = ⊥
+IsRouteReply from to bs TooLong = ⊥
+
+abbrev pub IsJudged : Request → List ℕ → Reply → Type 0
+IsJudged Run bs r = IsRunReply bs r
+IsJudged Decode bs r = IsDecodeReply bs r
+IsJudged (Route from to) bs r = IsRouteReply from to bs r
 
 -- Reading
 
 -- the source was read to its end, which came after at most 4,194,304 bytes, and that is what is judged
 abbrev pub IsReadAndJudged :
-    {S : Type 0} → (S → Option (List ℕ)) → (S → List ℕ → S → Type 0) → (S → Type 0) → S → S → Task →
+    {S : Type 0} → (S → Option (List ℕ)) → (S → List ℕ → S → Type 0) → (S → Type 0) → S → S → Request →
     Reply → Type 0
 IsReadAndJudged left handed ended old new k r =
     (bs : List ℕ) × WasReadToEnd left handed ended old new bs × (length bs ≤ 4194304) × IsJudged k bs r
@@ -116,7 +155,7 @@ HasReadFew left handed old new = HasRead left handed old new (λ n. n ≤ 419430
 -- what the reply to this says of the source
 abbrev pub IsReplyFor :
     {S : Type 0} → (S → Option (List ℕ)) → (S → List ℕ → S → Type 0) → (S → Type 0) → (S → ℕ) → S → S →
-    Task → Reply → Type 0
+    Request → Reply → Type 0
 IsReplyFor left handed ended faults old new k (Done text) =
     IsReadAndJudged left handed ended old new k (Done text)
 IsReplyFor left handed ended faults old new k Usage = ⊥
@@ -134,7 +173,7 @@ IsReplyFor left handed ended faults old new k TooLong =
 -- where the words have no meaning the reply is the usage, and nothing is read
 abbrev pub IsReplyTo :
     {S : Type 0} → (S → Option (List ℕ)) → (S → List ℕ → S → Type 0) → (S → Type 0) → (S → ℕ) → S → S →
-    Reply → Option Task → Type 0
+    Reply → Option Request → Type 0
 IsReplyTo left handed ended faults old new r None = (r ≡ Usage) × (new ≡ old)
 IsReplyTo left handed ended faults old new r (Some k) = IsReplyFor left handed ended faults old new k r
 
@@ -142,7 +181,7 @@ IsReplyTo left handed ended faults old new r (Some k) = IsReplyFor left handed e
 abbrev pub IsReply :
     {S : Type 0} → (S → Option (List ℕ)) → (S → List ℕ → S → Type 0) → (S → Type 0) → (S → ℕ) →
     List (List ℕ) → S → S → Reply → Type 0
-IsReply left handed ended faults words old new r = IsReplyTo left handed ended faults old new r (task_of words)
+IsReply left handed ended faults words old new r = IsReplyTo left handed ended faults old new r (request_of words)
 
 -- Writing
 
@@ -163,7 +202,7 @@ abbrev pub WasGiven : {K : Type 0} → (K → Option (List ℕ)) → (K → ℕ)
 WasGiven written faults old new r s = WasTold written faults old new (text_of_reply r) (status_of r) s
 
 -- a reply to the bytes was given
-abbrev pub IsAnswered : {K : Type 0} → (K → Option (List ℕ)) → (K → ℕ) → Task → List ℕ → K → K → Status → Type 0
+abbrev pub IsAnswered : {K : Type 0} → (K → Option (List ℕ)) → (K → ℕ) → Request → List ℕ → K → K → Status → Type 0
 IsAnswered written faults k bs old new s = (r : Reply) × IsJudged k bs r × WasGiven written faults old new r s
 
 -- How it ends
@@ -176,10 +215,14 @@ IsEnd p s =
     ⊎ (((s ≡ Status.EventLimit) × ((n : NodeId) × ((run_of p).stopped ≡ Some n)))
     ⊎ (s ≡ Status.OutOfMemory))
 
--- how the task ends on these bytes: `run` for a plan without fault, `decode` always
-abbrev pub EndsWell : Task → List ℕ → Status → Type 0
-EndsWell Task.Run bs s = (p : Plan) → PlanOf bs (Ok p) → IsEnd p s
-EndsWell Task.Decode bs s = (s ≡ Status.Done) ⊎ (s ≡ Status.OutOfMemory)
+abbrev pub IsDoneOrShort : Status → Type 0
+IsDoneOrShort s = (s ≡ Status.Done) ⊎ (s ≡ Status.OutOfMemory)
+
+-- how what is asked for ends on these bytes: `run` and `route` for a plan without fault, `decode` always
+abbrev pub EndsWell : Request → List ℕ → Status → Type 0
+EndsWell Run bs s = (p : Plan) → PlanOf bs (Ok p) → IsEnd p s
+EndsWell Decode bs s = IsDoneOrShort s
+EndsWell (Route from to) bs s = (p : Plan) → PlanOf bs (Ok p) → IsDoneOrShort s
 
 -- and where there are more than 4,194,304
 abbrev pub EndsTooLong : Status → Type 0
@@ -189,6 +232,6 @@ EndsTooLong s = (s ≡ Status.TooLong) ⊎ (s ≡ Status.OutOfMemory)
 abbrev pub IsComplete :
     {S K : Type 0} → (S → Option (List ℕ)) → (S → ℕ) → (K → ℕ) → List (List ℕ) → S → S → K → K → Status → Type 0
 IsComplete left faults sink_faults words old new sink_old sink_new s =
-    (k : Task) → task_of words ≡ Some k → (bs : List ℕ) → left old ≡ Some bs →
+    (k : Request) → request_of words ≡ Some k → (bs : List ℕ) → left old ≡ Some bs →
     ¬ Rose (faults old) (faults new) → ¬ Rose (sink_faults sink_old) (sink_faults sink_new) →
     (length bs ≤ 4194304 → EndsWell k bs s) × (4194304 < length bs → EndsTooLong s)

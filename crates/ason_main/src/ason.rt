@@ -1,8 +1,10 @@
 //! The top call: reads an input, and writes what a plan's network came to, or what messages say.
 
 ghost use Rattle.std.specs.Prelude.{◌≡◌, ℕ, List, [], Ok, Err, map, string_bytes};
-ghost use Rattle.ason_main.specs.Answers.{IsAnswered, IsComplete, IsReply, Reply, WasGiven, WasTold};
-ghost use Rattle.ason_main.specs.Answers.{WasToldOrNothing, exit_status, is_word, task_of};
+ghost use Rattle.ason_base.specs.Network.{IsTopology};
+ghost use Rattle.ason_main.specs.Answers.{Decode, IsAnswered, IsComplete, IsReply, Reply, Route, Run, WasGiven, WasTold};
+ghost use Rattle.ason_main.specs.Answers.{WasToldOrNothing, exit_status, is_route, is_word, request_for, task_of};
+ghost use Rattle.plan_reader.specs.PlanTexts.{word_at};
 ghost use Rattle.plan_reader.specs.Plans.{ArePostable, PlanOf};
 ghost use Rattle.table_text.specs.TableText.{stopped_text};
 
@@ -12,7 +14,7 @@ use ason_io::{ReadAllFault, Sink, Source, read_all, write_all};
 use message_text::decode_text;
 use plan_reader::{Plan, PlanError, PlanFault, read_plan};
 use std::alloc::Global;
-use table_text::{refused_text, write_stopped};
+use table_text::{refused_text, route_text, write_stopped};
 
 /// The most bytes of an input.
 const LIMIT: usize = 4_194_304;
@@ -24,7 +26,7 @@ const USAGE: &[u8] =
 /// How a command ended, with the process's exit status as its number.
 #[derive(Clone, Copy, Debug, PartialEq, Eq, Drop)]
 pub enum Status {
-    /// The plan was run and its tables written, or what the messages say was written: 0.
+    /// The plan was run and its tables written, or its routes or what the messages say: 0.
     Done,
     /// The words have no meaning; nothing was read: 2.
     Usage,
@@ -67,6 +69,8 @@ enum Task {
     Run,
     // To tell what messages say.
     Decode,
+    // To tell the routes between two nodes of a plan.
+    Route,
 }
 
 // Whether the words are this one word.
@@ -79,6 +83,16 @@ fn is_word(words: &[String], word: &str) -> bool
     }
 }
 
+// Whether they are the word `route` and two more.
+fn is_route(words: &[String]) -> bool
+    ensures { result ≡ is_route (map string_bytes words.now) }
+{
+    match words {
+        [command, _, _] => command.as_str() == "route",
+        _ => false,
+    }
+}
+
 fn task_of(words: &[String]) -> Option<Task>
     ensures { result ≡ task_of (map string_bytes words.now) }
 {
@@ -86,8 +100,20 @@ fn task_of(words: &[String]) -> Option<Task>
         Some(Task::Run)
     } else if is_word(words, "decode") {
         Some(Task::Decode)
+    } else if is_route(words) {
+        Some(Task::Route)
     } else {
         None
+    }
+}
+
+// The word at a place, from 0; empty where there is none.
+fn word_at(words: &[String], place: usize) -> &str
+    ensures { result.now ≡ word_at (map string_bytes words.now) place }
+{
+    match words.get(place) {
+        None => "",
+        Some(word) => word.as_str(),
     }
 }
 
@@ -117,7 +143,7 @@ fn tell_stop<K: Sink>(alloc: Global, plan: &Plan, node: NodeId, out: &mut K) -> 
 fn run<K: Sink>(alloc: Global, plan: &Plan, out: &mut K) -> Status
     requires { ArePostable plan.now.topology [] plan.now.lines }
     ensures { (bs : List ℕ) → PlanOf bs (Ok plan.now)
-        → IsAnswered K.written K.faults Task.Run bs out.old out.new result }
+        → IsAnswered K.written K.faults Run bs out.old out.new result }
 {
     match run_plan(alloc, plan, out) {
         Ran::Ended => Status::Done,
@@ -129,8 +155,10 @@ fn run<K: Sink>(alloc: Global, plan: &Plan, out: &mut K) -> Status
 
 // Tells the fault of what is no plan.
 fn refuse<K: Sink>(alloc: Global, fault: PlanFault, out: &mut K) -> Status
-    ensures { (bs : List ℕ) → PlanOf bs (Err fault)
-        → IsAnswered K.written K.faults Task.Run bs out.old out.new result }
+    ensures run { (bs : List ℕ) → PlanOf bs (Err fault)
+        → IsAnswered K.written K.faults Run bs out.old out.new result }
+    ensures route { (bs from to : List ℕ) → PlanOf bs (Err fault)
+        → IsAnswered K.written K.faults (Route from to) bs out.old out.new result }
 {
     match refused_text(alloc, fault) {
         Ok(text) => tell(out, &text, Status::PlanRefused),
@@ -140,7 +168,7 @@ fn refuse<K: Sink>(alloc: Global, fault: PlanFault, out: &mut K) -> Status
 
 // What `run` answers of the input.
 fn run_input<K: Sink>(alloc: Global, bytes: &[u8], out: &mut K) -> Status
-    ensures { IsAnswered K.written K.faults Task.Run bytes.now out.old out.new result }
+    ensures { IsAnswered K.written K.faults Run bytes.now out.old out.new result }
 {
     match read_plan(alloc, bytes) {
         Ok(plan) => run(alloc, &plan, out),
@@ -151,7 +179,7 @@ fn run_input<K: Sink>(alloc: Global, bytes: &[u8], out: &mut K) -> Status
 
 // What `decode` answers of the input.
 fn decode_input<K: Sink>(alloc: Global, bytes: &[u8], out: &mut K) -> Status
-    ensures { IsAnswered K.written K.faults Task.Decode bytes.now out.old out.new result }
+    ensures { IsAnswered K.written K.faults Decode bytes.now out.old out.new result }
 {
     match decode_text(alloc, bytes) {
         Ok(text) => tell(out, &text, Status::Done),
@@ -159,13 +187,39 @@ fn decode_input<K: Sink>(alloc: Global, bytes: &[u8], out: &mut K) -> Status
     }
 }
 
+// Tells the routes between the nodes of these names.
+fn tell_routes<K: Sink>(alloc: Global, plan: &Plan, from: &str, to: &str, out: &mut K) -> Status
+    requires { IsTopology plan.now.topology }
+    ensures { (bs : List ℕ) → PlanOf bs (Ok plan.now)
+        → IsAnswered K.written K.faults (Route from.now to.now) bs out.old out.new result }
+{
+    match route_text(alloc, plan, from, to) {
+        Ok(text) => tell(out, &text, Status::Done),
+        Err(OutOfMemory) => Status::OutOfMemory,
+    }
+}
+
+// What `route` with these names answers of the input.
+fn route_input<K: Sink>(alloc: Global, from: &str, to: &str, bytes: &[u8], out: &mut K) -> Status
+    ensures { IsAnswered K.written K.faults (Route from.now to.now) bytes.now
+        out.old out.new result }
+{
+    match read_plan(alloc, bytes) {
+        Ok(plan) => tell_routes(alloc, &plan, from, to, out),
+        Err(PlanError::Fault(fault)) => refuse(alloc, fault, out),
+        Err(PlanError::OutOfMemory) => Status::OutOfMemory,
+    }
+}
+
 // What is answered of the input.
-fn judge<K: Sink>(alloc: Global, task: Task, bytes: &[u8], out: &mut K) -> Status
-    ensures { IsAnswered K.written K.faults task bytes.now out.old out.new result }
+fn judge<K: Sink>(alloc: Global, words: &[String], task: Task, bytes: &[u8], out: &mut K) -> Status
+    ensures { IsAnswered K.written K.faults (request_for (map string_bytes words.now) task)
+        bytes.now out.old out.new result }
 {
     match task {
         Task::Run => run_input(alloc, bytes, out),
         Task::Decode => decode_input(alloc, bytes, out),
+        Task::Route => route_input(alloc, word_at(words, 1), word_at(words, 2), bytes, out),
     }
 }
 
@@ -179,7 +233,7 @@ fn answer<S: Source, K: Sink>(alloc: Global, words: &[String], src: &mut S, out:
         return tell(out, USAGE, Status::Usage);
     };
     match read_all(alloc, src, LIMIT) {
-        Ok(bytes) => judge(alloc, task, &bytes, out),
+        Ok(bytes) => judge(alloc, words, task, &bytes, out),
         Err(ReadAllFault::Failed) => Status::ReadFault,
         Err(ReadAllFault::OutOfMemory) => Status::OutOfMemory,
         Err(ReadAllFault::TooLong) => tell(out, b"refused input too long\n", Status::TooLong),
@@ -187,8 +241,9 @@ fn answer<S: Source, K: Sink>(alloc: Global, words: &[String], src: &mut S, out:
 }
 
 /// Answers the words, those after the program's name. `run` reads a plan, runs its script and writes what each line
-/// prints as it is done, or tells the plan's first fault. `decode` reads lines of RSVP messages in hexadecimal and
-/// writes what each says. If the sink fails the status is `WriteFault`; after that and after `OutOfMemory` a first part
+/// prints as it is done, or tells the plan's first fault. `route` and two names read a plan and write the least route
+/// between these nodes, its backup and the potentials, or the first fault. `decode` reads lines of RSVP messages in
+/// hexadecimal and writes what each says. If the sink fails the status is `WriteFault`; after that and after `OutOfMemory` a first part
 /// is written.
 pub fn ason<S: Source, K: Sink>(alloc: Global, words: &[String], src: &mut S, out: &mut K) -> Status
     ensures answer { (r : Reply)

@@ -82,6 +82,32 @@ ends = [\"a\", \"a\"]
 labels = 1
 ";
 
+// Three links between two nodes: the first two cost the same, less than the third, and share an SRLG.
+const TWINS: &str = "[[node]]
+name = \"a\"
+id = 1
+[[node]]
+name = \"b\"
+id = 2
+[[link]]
+id = 1
+ends = [\"a\", \"b\"]
+labels = 1
+metric = 2
+srlg = [7, 0]
+[[link]]
+id = 2
+ends = [\"b\", \"a\"]
+labels = 1
+metric = 2
+srlg = [0]
+[[link]]
+id = 3
+ends = [\"a\", \"b\"]
+labels = 1
+metric = 3
+";
+
 const USAGE: &str =
     "usage: ason run [--workers N] [--stride T] [--trace] | check | decode | route FROM TO | load SEED NODES CALLS\n";
 
@@ -102,6 +128,8 @@ type Row = (
 );
 
 const RUN: &[&str] = &["run"];
+
+const ROUTE: &[&str] = &["route", "a", "b"];
 
 const ROWS: &[Row] = &[
     (
@@ -223,6 +251,48 @@ call c2 c d blocked - - set
         Status::PlanRefused,
         "refused plan toml syntax\n",
     ),
+    (
+        ROUTE,
+        "\"show\"",
+        PAIR,
+        &[],
+        Status::Done,
+        "primary 1 1
+no backup
+potential a 0
+potential b 1
+",
+    ),
+    (
+        ROUTE,
+        "",
+        TWINS,
+        &[],
+        Status::Done,
+        "primary 2 1
+backup 3 3
+potential a 0
+potential b 2
+",
+    ),
+    (
+        &["route", "a", "--"],
+        "",
+        PAIR,
+        &[],
+        Status::Done,
+        "no node --\n",
+    ),
+    (
+        ROUTE,
+        "",
+        LOOPED,
+        &[],
+        Status::PlanRefused,
+        "refused plan link 1 ends\n",
+    ),
+    (ROUTE, "", PAIR, &[2], Status::ReadFault, ""),
+    (&["route", "a"], "", PAIR, &[], Status::Usage, USAGE),
 ];
 
 fn plan(alloc: Global, script: &str, network: &str) -> Result<Vec<u8>, OutOfMemory> {

@@ -1,7 +1,8 @@
-use Rattle.std.proofs.Common.{[], ◌∙◌, ap, inl, map, refl, string_bytes, sym}
-use Rattle.std.specs.Prelude.{Err}
+use Rattle.std.proofs.Common.{[], ◌∙◌, ap, inl, map, refl, string_bytes, subst, sym}
+use Rattle.std.specs.Prelude.{Err, option_map}
 use Rattle.std.proofs.KnownBytes.{Appends-nil}
-use Rattle.ason_main.specs.Answers.{ReadFault, TooLong, Unfinished, Usage}
+use Rattle.ason_main.specs.Answers.{IsJudged, ReadFault, TooLong, Unfinished, Usage, request_for}
+use Rattle.ason_main.proofs.Complete.{judged_reply}
 use Rattle.ason_main.proofs.Replies.{reply_read, usage_reply}
 use Rattle.ason_main.proofs.ason.answer.Goals as goal
 
@@ -9,15 +10,30 @@ pub returns-in_default : goal.returns-in_default
 returns-in_default g c = (
   Usage,
   usage_reply g.S.Source.left g.S.Source.handed g.S.Source.ended g.S.Source.faults (map string_bytes c.args.words.now)
-      c.args.src.now (sym c.task_of.ensures ∙ c.in_default.is),
+      c.args.src.now (ap (option_map (request_for (map string_bytes c.args.words.now)))
+      (sym c.task_of.ensures ∙ c.in_default.is)),
   c.tell.ensures,
 )
+
+pub returns-in-Ok : goal.returns-in-Ok
+returns-in-Ok g c =
+    let request = request_for (map string_bytes c.args.words.now) c.in-Some.task in
+    let given = c.judge.ensures in (
+      given.0,
+      judged_reply g.S.Source.left g.S.Source.handed g.S.Source.ended g.S.Source.faults
+          (map string_bytes c.args.words.now) c.args.src.now c.read_all.new.src c.in-Ok.bytes.items request given.0
+          (ap (option_map (request_for (map string_bytes c.args.words.now))) (sym c.task_of.ensures ∙ c.in-Some.is))
+          c.in-Ok.ensures.to_end c.in-Ok.ensures.within
+          (subst (λ bs. IsJudged request bs given.0) c.deref.ensures.value given.1),
+      given.2,
+    )
 
 pub returns-in-Err-Failed : goal.returns-in-Err-Failed
 returns-in-Err-Failed g c = (
   ReadFault,
   reply_read g.S.Source.left g.S.Source.handed g.S.Source.ended g.S.Source.faults (map string_bytes c.args.words.now)
-      c.args.src.now c.read_all.new.src c.in-Some.task ReadFault (sym c.task_of.ensures ∙ c.in-Some.is) (
+      c.args.src.now c.read_all.new.src (request_for (map string_bytes c.args.words.now) c.in-Some.task) ReadFault
+      (ap (option_map (request_for (map string_bytes c.args.words.now))) (sym c.task_of.ensures ∙ c.in-Some.is)) (
         c.in-Err-Failed.ensures.failed (ap Err c.in-Err-Failed.field-0-is),
         c.in-Err-Failed.ensures.failed_within (ap Err c.in-Err-Failed.field-0-is),
       ),
@@ -28,7 +44,8 @@ pub returns-in-Err-OutOfMemory : goal.returns-in-Err-OutOfMemory
 returns-in-Err-OutOfMemory g c = (
   Unfinished [],
   reply_read g.S.Source.left g.S.Source.handed g.S.Source.ended g.S.Source.faults (map string_bytes c.args.words.now)
-      c.args.src.now c.read_all.new.src c.in-Some.task (Unfinished []) (sym c.task_of.ensures ∙ c.in-Some.is)
+      c.args.src.now c.read_all.new.src (request_for (map string_bytes c.args.words.now) c.in-Some.task) (Unfinished [])
+      (ap (option_map (request_for (map string_bytes c.args.words.now))) (sym c.task_of.ensures ∙ c.in-Some.is))
       (c.in-Err-OutOfMemory.ensures.memory_within (ap Err c.in-Err-OutOfMemory.field-0-is), inl refl),
   inl (refl, Appends-nil (g.K.Sink.written c.args.out.now)),
 )
@@ -37,7 +54,8 @@ pub returns-in-Err-TooLong : goal.returns-in-Err-TooLong
 returns-in-Err-TooLong g c = (
   TooLong,
   reply_read g.S.Source.left g.S.Source.handed g.S.Source.ended g.S.Source.faults (map string_bytes c.args.words.now)
-      c.args.src.now c.read_all.new.src c.in-Some.task TooLong (sym c.task_of.ensures ∙ c.in-Some.is)
+      c.args.src.now c.read_all.new.src (request_for (map string_bytes c.args.words.now) c.in-Some.task) TooLong
+      (ap (option_map (request_for (map string_bytes c.args.words.now))) (sym c.task_of.ensures ∙ c.in-Some.is))
       (c.in-Err-TooLong.ensures.too_long (ap Err c.in-Err-TooLong.field-0-is)),
   c.tell-in-Err-TooLong.ensures,
 )

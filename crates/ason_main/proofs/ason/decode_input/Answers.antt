@@ -1,7 +1,6 @@
 use Rattle.std.proofs.Common.{subst}
 use Rattle.ason_main.specs.declared.ason.Status.{Status}
-use Rattle.ason_main.specs.declared.ason.Task.{Task}
-use Rattle.ason_main.specs.Answers.{Done, WasTold}
+use Rattle.ason_main.specs.Answers.{Decode, Done, WasTold}
 use Rattle.ason_main.proofs.Replies.{no_memory}
 use Rattle.ason_main.proofs.ason.decode_input.Goals as goal
 
@@ -15,4 +14,4 @@ returns-in-Ok g c = (
 )
 
 pub returns-in-Err : goal.returns-in-Err
-returns-in-Err g c = no_memory g.K.Sink.written g.K.Sink.faults Task.Decode c.args.bytes.now c.args.out.now
+returns-in-Err g c = no_memory g.K.Sink.written g.K.Sink.faults Decode c.args.bytes.now c.args.out.now

@@ -1,12 +1,11 @@
 use Rattle.std.proofs.Common.{subst}
 use Rattle.ason_main.specs.declared.ason.Status.{Status}
-use Rattle.ason_main.specs.declared.ason.Task.{Task}
-use Rattle.ason_main.specs.Answers.{PlanRefused, WasTold}
+use Rattle.ason_main.specs.Answers.{PlanRefused, Route, Run, WasTold}
 use Rattle.ason_main.proofs.Replies.{no_memory}
 use Rattle.ason_main.proofs.ason.refuse.Goals as goal
 
-pub returns-in-Ok : goal.returns-in-Ok
-returns-in-Ok g c bs plan = (
+pub returns-in-Ok-clause-run : goal.returns-in-Ok-clause-run
+returns-in-Ok-clause-run g c bs plan = (
   PlanRefused c.in-Ok.text.items,
   (c.args.fault, plan, c.in-Ok.ensures),
   subst
@@ -15,5 +14,19 @@ returns-in-Ok g c bs plan = (
       c.deref.ensures.value c.tell.ensures,
 )
 
-pub returns-in-Err : goal.returns-in-Err
-returns-in-Err g c bs plan = no_memory g.K.Sink.written g.K.Sink.faults Task.Run bs c.args.out.now
+pub returns-in-Ok-clause-route : goal.returns-in-Ok-clause-route
+returns-in-Ok-clause-route g c bs from to plan = (
+  PlanRefused c.in-Ok.text.items,
+  (c.args.fault, plan, c.in-Ok.ensures),
+  subst
+      (λ text. WasTold g.K.Sink.written g.K.Sink.faults c.args.out.now c.tell.new.out text Status.PlanRefused
+      c.tell.result)
+      c.deref.ensures.value c.tell.ensures,
+)
+
+pub returns-in-Err-clause-run : goal.returns-in-Err-clause-run
+returns-in-Err-clause-run g c bs plan = no_memory g.K.Sink.written g.K.Sink.faults Run bs c.args.out.now
+
+pub returns-in-Err-clause-route : goal.returns-in-Err-clause-route
+returns-in-Err-clause-route g c bs from to plan =
+    no_memory g.K.Sink.written g.K.Sink.faults (Route from to) bs c.args.out.now

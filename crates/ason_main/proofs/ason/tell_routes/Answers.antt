@@ -1,0 +1,18 @@
+use Rattle.std.proofs.Common.{subst}
+use Rattle.ason_main.specs.declared.ason.Status.{Status}
+use Rattle.ason_main.specs.Answers.{Done, Route, WasTold}
+use Rattle.ason_main.proofs.Replies.{no_memory}
+use Rattle.ason_main.proofs.ason.tell_routes.Goals as goal
+
+pub returns-in-Ok : goal.returns-in-Ok
+returns-in-Ok g c bs plan = (
+  Done c.in-Ok.text.items,
+  (c.args.plan.now, plan, c.in-Ok.ensures),
+  subst
+      (λ text. WasTold g.K.Sink.written g.K.Sink.faults c.args.out.now c.tell.new.out text Status.Done c.tell.result)
+      c.deref.ensures.value c.tell.ensures,
+)
+
+pub returns-in-Err : goal.returns-in-Err
+returns-in-Err g c bs plan =
+    no_memory g.K.Sink.written g.K.Sink.faults (Route c.args.from.now c.args.to.now) bs c.args.out.now
