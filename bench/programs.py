@@ -31,9 +31,5 @@ def of_crate(name):
     return program
 
 
-def route_pairs():
-    return of_crate("route_pairs")
-
-
 def flood_rows():
     return of_crate("flood_rows")

@@ -1,5 +1,0 @@
-use Rattle.route_pair.proofs.TestRows.{Rise}
-use Rattle.route_pairs.proofs.graph.has_rising_links.Given as goal
-
-abbrev pub invariant-loop-place : goal.invariant-loop-place
-invariant-loop-place l = Rise l.rows l.place
