@@ -4,7 +4,7 @@ ghost use Rattle.std.specs.Prelude.{◌≡◌, ◌++◌, ◌∷◌, [], codes, I
 ghost use Rattle.std.specs.List.{flat_map};
 ghost use Rattle.ason_base.specs.Network.{IsTopology, row_of};
 ghost use Rattle.table_text.specs.RouteText.{backup_line, found_text, links_text, more_link, no_node_text, node_line, plan_node, potential_in, potential_text, potentials_text, primary_line, route_line, route_text, routes_text};
-ghost use Rattle.table_text.specs.Writers.{Appends};
+ghost use Rattle.ason_base.specs.Texts.{Appends};
 
 use crate::table::node_name;
 use ason_base::{LinkSpec, NodeId, NodeSpec, OutOfMemory, Step, TeRow};

@@ -1,7 +1,7 @@
 use Rattle.std.proofs.Common.{take}
 use Rattle.std.specs.List.{flat_map}
 use Rattle.table_text.specs.RouteText.{more_link}
-use Rattle.table_text.specs.Writers.{Appends}
+use Rattle.ason_base.specs.Texts.{Appends}
 use Rattle.table_text.proofs.routes.push_more.Given as goal
 
 abbrev pub invariant-loop-step : goal.invariant-loop-step
