@@ -11,7 +11,7 @@ ghost use Rattle.node_core.specs.Rules.{CanSearch, item_here, message_here, orde
 
 use crate::call_control::{SetupRequest, call_connected, call_refused, release, set_up};
 use crate::inputs::Input;
-use ason_base::{Command, DeskItem, ErrCode, Lsp, Msg, NodeId, OutOfMemory, TeRow};
+use ason_base::{Command, Copied, DeskItem, ErrCode, Lsp, Msg, NodeId, OutOfMemory, TeRow};
 use leg_table::{Calls, Change, NodeTables};
 use link_owner::Owner;
 use path_state::{path_change, tear_change};
