@@ -1,5 +1,5 @@
 -- Backups at one node, worked by hand: which label each takes, in which phase its leg is, and why it is refused.
-use Rattle.std.proofs.Common.{◌≡◌, ℕ, Bool, true, false, List, [], ◌∷◌, ◌++◌, refl}
+use Rattle.std.proofs.Common.{◌≡◌, ℕ, Bool, true, false, List, [], ◌∷◌, refl}
 use Rattle.std.specs.Prelude.{map, Option, Some, None}
 use Rattle.ason_base.specs.Codes.{label_code, primary_code, set_code}
 use Rattle.ason_base.specs.Labels as labels
@@ -13,7 +13,6 @@ use Rattle.ason_base.specs.declared.messages.Msg.TheVariants.{Path, Resv, PathEr
 use Rattle.ason_base.specs.declared.messages.PathRole.{PathRole}
 use Rattle.ason_base.specs.declared.messages.PathRole.TheVariants.{Work, Back}
 use Rattle.ason_base.specs.declared.network.LinkSpec.{LinkSpec}
-use Rattle.ason_base.specs.declared.steps.Step.{Step}
 use Rattle.ason_base.specs.declared.tables.Out.{Out}
 use Rattle.mesh_rules.specs.Changes.{to_node}
 use Rattle.mesh_rules.specs.LocalNodes.{LocalNode}

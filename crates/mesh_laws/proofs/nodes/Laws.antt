@@ -6,14 +6,13 @@ use Rattle.std.specs.Prelude.{Some, IsTrue}
 use Rattle.std.specs.List.{AllByRecursion, AllPairs}
 use Rattle.std.proofs.lemmas.List.Elements.{All-from_recursion}
 use Rattle.std.proofs.lemmas.List.Kept.{AllPairs-cons}
-use Rattle.ason_base.specs.declared.ids.Fibre.{Fibre}
 use Rattle.ason_base.specs.declared.ids.Lsp.{Lsp}
 use Rattle.ason_base.specs.declared.calls.Phase.{Phase}
 use Rattle.ason_base.specs.declared.calls.Phase.TheVariants.{Asked, Held, Armed, Live, Closing, Falling}
 use Rattle.ason_base.specs.declared.tables.CallRec.{CallRec}
 use Rattle.ason_base.specs.declared.tables.Leg.{Leg}
 use Rattle.ason_base.specs.Lsps.{lsp_before, same_lsp}
-use Rattle.mesh_rules.specs.Legs.{find_leg, is_closing, takes}
+use Rattle.mesh_rules.specs.Legs.{find_leg, is_closing}
 use Rattle.ason_base.specs.Network.{Network}
 use Rattle.mesh_rules.specs.Changes.{changed}
 use Rattle.mesh_rules.specs.LocalNodes.{LocalNode, local_node}

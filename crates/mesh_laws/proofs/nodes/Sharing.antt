@@ -1,6 +1,6 @@
 -- Which legs may share a label of a node.
 use Rattle.std.proofs.Common.{◌≡◌, ℕ, Bool, true, false, cond, not, List, [], ◌∷◌, refl, subst}
-use Rattle.std.specs.Prelude.{◌||◌, ◌&&◌, Option, Some, None}
+use Rattle.std.specs.Prelude.{◌||◌, ◌&&◌, Some}
 use Rattle.std.specs.List.{list_any}
 use Rattle.ason_base.specs.declared.calls.Role.{Role}
 use Rattle.ason_base.specs.declared.calls.Role.TheVariants.{Work, Back}
