@@ -10,4 +10,5 @@ pub mod OrderKeeps
 pub mod Parts
 pub mod PathKeeps
 pub mod Runs
+pub mod Searches
 pub mod Sharing

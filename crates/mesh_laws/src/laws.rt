@@ -5,7 +5,7 @@ ghost use Rattle.mesh_laws.specs.HopLaw.{EveryHopHasAShape};
 ghost use Rattle.mesh_laws.specs.JoinedLaw.{EveryCallIsJoined};
 ghost use Rattle.mesh_laws.specs.LabelLaw.{EveryLabelIsShared, EveryLiveLegIsLabelled};
 ghost use Rattle.mesh_laws.specs.Laws.{EveryRunKeepsTheLaws};
-ghost use Rattle.mesh_laws.specs.LearntLaw.{EveryLearntRowIsTrue};
+ghost use Rattle.mesh_laws.specs.LearntLaw.{EveryLearntRowIsTrue, EveryNodeCanSearch};
 ghost use Rattle.mesh_laws.specs.NodeLaw.{EveryNodeSharesLawfully};
 ghost use Rattle.mesh_laws.specs.SafeLaw.{EveryRunIsSafe};
 
@@ -15,8 +15,8 @@ ghost use Rattle.mesh_laws.specs.SafeLaw.{EveryRunIsSafe};
 /// call. Each hop of each LSP, its legs at both ends with the messages between them, has a shape of the table, and each leg
 /// names the end of its LSP's route as its egress. No label of a fibre is cross-connected for two LSPs. Each call that is
 /// neither asking nor blocked is joined: its working LSP is Live at each node of its route, each label out being the next
-/// node's label in. What a node learnt of links are rows of the network. The last clause says all of it of one state, in one
-/// word.
+/// node's label in. What a node learnt of links are rows of the network; over a topology routes can be asked of what it knows.
+/// The last clause says all but this of one state, in one word.
 pub fn every_run()
     ensures labels { EveryLabelIsShared }
     ensures labelled { EveryLiveLegIsLabelled }
@@ -25,6 +25,7 @@ pub fn every_run()
     ensures safe { EveryRunIsSafe }
     ensures joined { EveryCallIsJoined }
     ensures learnt { EveryLearntRowIsTrue }
+    ensures searchable { EveryNodeCanSearch }
     ensures together { EveryRunKeepsTheLaws }
 {}
 

@@ -81,11 +81,11 @@ same-rows : (t : Network) (s : NodeState) (a : Answer) → a.rows ≡ [] → Are
     AreRowsOf t (changed s a).learnt
 same-rows t s a none rows = rw none rows
 
-first-learns_nothing : (p : LocalNode) (s : NodeState) (u : NodeId) (ms : List Msg) → (on_first p s u ms).rows ≡ []
+pub first-learns_nothing : (p : LocalNode) (s : NodeState) (u : NodeId) (ms : List Msg) → (on_first p s u ms).rows ≡ []
 first-learns_nothing p s u [] = refl
 first-learns_nothing p s u (m ∷ ms) = message-learns_nothing p s u m
 
-first_item-learns_nothing : (p : LocalNode) (s : NodeState) (items : List DeskItem) →
+pub first_item-learns_nothing : (p : LocalNode) (s : NodeState) (items : List DeskItem) →
     (on_first_item p s items).rows ≡ []
 first_item-learns_nothing p s [] = refl
 first_item-learns_nothing p s (i ∷ items) = item-learns_nothing p s i

@@ -3,6 +3,7 @@ use Rattle.mesh_laws.proofs.hops.Joined.{every_call_joined}
 use Rattle.mesh_laws.proofs.hops.Laws.{every_hop}
 use Rattle.mesh_laws.proofs.hops.Safe.{every_run_safe}
 use Rattle.mesh_laws.proofs.nodes.Laws.{every_call, every_label, every_learnt_row, every_live}
+use Rattle.mesh_laws.proofs.nodes.Searches.{every_search}
 use Rattle.mesh_laws.proofs.laws.every_run.Goals as goal
 
 pub returns-clause-labels : goal.returns-clause-labels
@@ -25,6 +26,9 @@ returns-clause-joined c = every_call_joined
 
 pub returns-clause-learnt : goal.returns-clause-learnt
 returns-clause-learnt c = every_learnt_row
+
+pub returns-clause-searchable : goal.returns-clause-searchable
+returns-clause-searchable c = every_search
 
 pub returns-clause-together : goal.returns-clause-together
 returns-clause-together c = laws_hold
