@@ -10,7 +10,7 @@ use Rattle.ason_base.proofs.Ordered.{contains-none}
 use Rattle.mesh_rules.specs.LocalNodes.{local_node}
 use Rattle.mesh_nodes.specs.Routes.{AreRowsOf}
 use Rattle.mesh_nodes.proofs.LearnsNothing.{item-learns_nothing, message-learns_nothing}
-use Rattle.mesh_nodes.proofs.routes.Learnt.{learnt-stay_true, network-rows-may}
+use Rattle.mesh_nodes.proofs.routes.Learnt.{learnt-stay_true, network-rows-may, same-rows_true}
 use Rattle.node_core.specs.declared.inputs.Input.{Input}
 use Rattle.node_core.specs.declared.inputs.Input.TheVariants.{Message, Desk, Tick, Learn}
 use Rattle.node_core.specs.Nodes.{MayTake, NodeView, answer_to}
@@ -226,18 +226,14 @@ may-take s n Tick valid all may = tt
 may-take s n (Learn row) valid all may =
     network-rows-may s.network n (state_at n.0 s.nodes) row valid (learnt-at s.network n.0 s.nodes all) may
 
-same-rows : (t : Network) (s : NodeState) (a : Answer) → a.rows ≡ [] → AreRowsOf t s.learnt →
-    AreRowsOf t (changed s a).learnt
-same-rows t s a none rows = rw none rows
-
 -- and what the node learnt then are rows of the network
 pub rows-after : (s : Seats) (n : NodeId) (i : Input) → AreOfNetwork s → MayCome s.network i →
     AreRowsOf s.network (changed (state_at n.0 s.nodes) (answer_to (node_at s n) i)).learnt
 rows-after s n (Message u m) all may =
-    same-rows s.network (state_at n.0 s.nodes) (answer_to (node_at s n) (Message u m))
+    same-rows_true s.network (state_at n.0 s.nodes) (answer_to (node_at s n) (Message u m))
     (message-learns_nothing (local_node s.network n) (state_at n.0 s.nodes) u m) (learnt-at s.network n.0 s.nodes all)
 rows-after s n (Desk item) all may =
-    same-rows s.network (state_at n.0 s.nodes) (answer_to (node_at s n) (Desk item))
+    same-rows_true s.network (state_at n.0 s.nodes) (answer_to (node_at s n) (Desk item))
     (item-learns_nothing (local_node s.network n) (state_at n.0 s.nodes) item) (learnt-at s.network n.0 s.nodes all)
 rows-after s n Tick all may = learnt-at s.network n.0 s.nodes all
 rows-after s n (Learn row) all may =

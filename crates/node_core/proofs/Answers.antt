@@ -1,7 +1,7 @@
 -- A node's answer to any input fits, and so does the node after it.
-use Rattle.std.proofs.Common.{◌≡◌, ◌∙◌, ◌≤◌, ◌++◌, List, [], map, ap, sym, subst, Result, Ok, Err, arith}
-use Rattle.std.specs.Prelude.{All, IfSome, None, OnErr, OnOk, Option, Some}
-use Rattle.ason_base.specs.Network.{IsTopology, Network, row_of}
+use Rattle.std.proofs.Common.{◌≡◌, ◌∙◌, ◌≤◌, List, ap, sym, subst, Result, Ok, Err, arith}
+use Rattle.std.specs.Prelude.{IfSome, None, OnErr, OnOk, Option, Some}
+use Rattle.ason_base.specs.Network.{IsTopology, Network}
 use Rattle.ason_base.specs.declared.ids.LinkId.{LinkId}
 use Rattle.ason_base.specs.declared.ids.NodeId.{NodeId}
 use Rattle.ason_base.specs.declared.network.LinkSpec.{LinkSpec}
@@ -17,15 +17,15 @@ use Rattle.leg_table.specs.States.{local_of, no_call, state_of}
 use Rattle.leg_table.specs.Tables.{CallTable, LegTable, new_table}
 use Rattle.leg_table.proofs.AtStart.{at_start-fits, at_start-is}
 use Rattle.leg_table.proofs.RuleChanges.{item-may, message-may}
-use Rattle.mesh_rules.specs.Changes.{Answer, changed, learns, learnt_after, nothing}
+use Rattle.mesh_rules.specs.Changes.{Answer, changed, learns, nothing}
 use Rattle.mesh_rules.specs.KnownRows.{has_row, known_rows}
-use Rattle.mesh_rules.specs.State.{NodeState, new_node}
+use Rattle.mesh_rules.specs.State.{new_node}
 use Rattle.mesh_nodes.specs.Kept.{NodeFits}
-use Rattle.mesh_nodes.specs.Routes.{AreSearchable, IsElsewhere, RowsFit}
+use Rattle.mesh_nodes.specs.Routes.{RowsFit}
 use Rattle.mesh_nodes.specs.Sent.{AnswerFits}
 use Rattle.mesh_nodes.proofs.Cases.{if_cases}
 use Rattle.mesh_nodes.proofs.LearnsNothing.{item-learns_nothing, message-learns_nothing}
-use Rattle.mesh_nodes.proofs.routes.Learnt.{learning-fits, rows-stay_fit}
+use Rattle.mesh_nodes.proofs.routes.Learnt.{learning-fits, rows-stay_fit, same-rows_fit}
 use Rattle.mesh_nodes.proofs.routes.Topologies.{new-rows}
 use Rattle.mesh_nodes.proofs.Items.{items-fit}
 use Rattle.mesh_nodes.proofs.Messages.{messages-fit}
@@ -40,20 +40,11 @@ answer-fits n (Desk item) fits = items-fit n.place n.state item fits.place fits.
 answer-fits n Tick fits = nothing-fits n.place n.state (Unit {0}) fits.state
 answer-fits n (Learn row) fits = learning-fits n.place n.state row fits.state
 
--- where nothing is learnt the same rows are known
-same-rows : (p : LocalNode) (s : NodeState) (a : Answer) → a.rows ≡ [] → RowsFit p s → RowsFit p (changed s a)
-same-rows p s a none fit =
-    let same : (changed s a).learnt ≡ s.learnt = ap (λ rows. learnt_after rows s.learnt) none in
-    record {
-      searchable = subst (λ rows. AreSearchable (map row_of p.own ++ rows)) (sym same) fit.searchable;
-      others = subst (All (IsElsewhere p.id)) (sym same) fit.others;
-    }
-
 rows-fit : (n : NodeView) (i : Input) → IsNode n → MayTake n i → RowsFit n.place (changed n.state (answer_to n i))
 rows-fit n (Message u m) fits may =
-    same-rows n.place n.state (answer_to n (Message u m)) (message-learns_nothing n.place n.state u m) fits.rows
+    same-rows_fit n.place n.state (answer_to n (Message u m)) (message-learns_nothing n.place n.state u m) fits.rows
 rows-fit n (Desk item) fits may =
-    same-rows n.place n.state (answer_to n (Desk item)) (item-learns_nothing n.place n.state item) fits.rows
+    same-rows_fit n.place n.state (answer_to n (Desk item)) (item-learns_nothing n.place n.state item) fits.rows
 rows-fit n Tick fits may = record { searchable = fits.rows.searchable; others = fits.rows.others }
 rows-fit n (Learn row) fits may = rows-stay_fit n.place n.state row fits.rows may
 

@@ -26,7 +26,7 @@ use Rattle.ason_base.proofs.Ordered.{contains-none}
 use Rattle.mesh_nodes.specs.Routes.{AreRowsOf}
 use Rattle.mesh_nodes.proofs.Cases.{both_left, if_cases}
 use Rattle.mesh_nodes.proofs.LearnsNothing.{item-learns_nothing, message-learns_nothing}
-use Rattle.mesh_nodes.proofs.routes.Learnt.{found-row, learnt-stay_true}
+use Rattle.mesh_nodes.proofs.routes.Learnt.{found-row, learnt-stay_true, same-rows_true}
 use Rattle.mesh_laws.specs.NodeLaw.{DeskFits, FitsDesk}
 use Rattle.mesh_laws.proofs.nodes.Facts.{MeshFacts, NodeFacts}
 use Rattle.mesh_laws.proofs.nodes.PathKeeps.{Keeps}
@@ -75,11 +75,6 @@ keeps-first : (p : LocalNode) (s : NodeState) (u : NodeId) (ms : List Msg) → N
     Keeps p s (on_first p s u ms)
 keeps-first p s u [] facts = facts
 keeps-first p s u (m ∷ ms) facts = keeps-on_message p s u m facts
-
--- where nothing is learnt
-same-rows : (t : Network) (s : NodeState) (a : Answer) → a.rows ≡ [] → AreRowsOf t s.learnt →
-    AreRowsOf t (changed s a).learnt
-same-rows t s a none rows = rw none rows
 
 pub first-learns_nothing : (p : LocalNode) (s : NodeState) (u : NodeId) (ms : List Msg) → (on_first p s u ms).rows ≡ []
 first-learns_nothing p s u [] = refl
@@ -192,13 +187,13 @@ pub facts-step : (t : Network) (s : Mesh) (e : MeshEvent) → is_enabled t s e �
 facts-step t s (Take d u) enabled facts =
     keeps-commit t (without_first s u.0 d.0) d.0 (on_first (local_node t d) (s.nodes d.0) u (s.mail u.0 d.0))
     (keeps-first (local_node t d) (s.nodes d.0) u (s.mail u.0 d.0) (facts.node d.0))
-    (same-rows t (s.nodes d.0) (on_first (local_node t d) (s.nodes d.0) u (s.mail u.0 d.0))
+    (same-rows_true t (s.nodes d.0) (on_first (local_node t d) (s.nodes d.0) u (s.mail u.0 d.0))
     (first-learns_nothing (local_node t d) (s.nodes d.0) u (s.mail u.0 d.0)) (facts.learnt d.0))
     (record { node = facts.node; desk = facts.desk; learnt = facts.learnt })
 facts-step t s (Desk n) enabled facts =
     keeps-commit t (without_item s n.0) n.0 (on_first_item (local_node t n) (s.nodes n.0) (s.desks n.0))
     (keeps-first_item t (local_node t n) (s.nodes n.0) (s.desks n.0) (facts.desk n.0) (facts.node n.0))
-    (same-rows t (s.nodes n.0) (on_first_item (local_node t n) (s.nodes n.0) (s.desks n.0))
+    (same-rows_true t (s.nodes n.0) (on_first_item (local_node t n) (s.nodes n.0) (s.desks n.0))
     (first_item-learns_nothing (local_node t n) (s.nodes n.0) (s.desks n.0)) (facts.learnt n.0))
     (without_item-facts t s n.0 facts)
 facts-step t s (Tick n) enabled facts =

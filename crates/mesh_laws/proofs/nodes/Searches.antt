@@ -1,6 +1,6 @@
 -- Over a topology routes can be asked of what each node knows, in every state of every run.
-use Rattle.std.proofs.Common.{◌≡◌, Bool, true, false, cond, nat_eq, List, [], ◌∷◌, ◌++◌, map, refl, sym, ap, subst, arith}
-use Rattle.std.specs.Prelude.{All, Option, Some, None}
+use Rattle.std.proofs.Common.{◌≡◌, Bool, true, false, cond, nat_eq, List, [], ◌∷◌, refl, subst, arith}
+use Rattle.std.specs.Prelude.{Option, Some, None}
 use Rattle.ason_base.specs.declared.commands.Command.{Command}
 use Rattle.ason_base.specs.declared.commands.Command.TheVariants.{Setup, Release, Protect, Retry, Revert, Fail, Repair}
 use Rattle.ason_base.specs.declared.ids.LinkId.{LinkId}
@@ -9,15 +9,15 @@ use Rattle.ason_base.specs.declared.network.LinkSpec.{LinkSpec}
 use Rattle.ason_base.specs.Network.{IsTopology, Network, find_link, row_of}
 use Rattle.mesh_rules.specs.declared.events.MeshEvent.{MeshEvent}
 use Rattle.mesh_rules.specs.declared.events.MeshEvent.TheVariants.{Take, Desk, Tick, Learn, Post}
-use Rattle.mesh_rules.specs.Changes.{Answer, changed, learnt_after}
+use Rattle.mesh_rules.specs.Changes.{Answer, changed}
 use Rattle.mesh_rules.specs.Events.{IsRun, after, on_first, on_first_item, posted, step}
 use Rattle.mesh_rules.specs.Learnt.{on_link}
-use Rattle.mesh_rules.specs.LocalNodes.{LocalNode, local_node}
+use Rattle.mesh_rules.specs.LocalNodes.{local_node}
 use Rattle.mesh_rules.specs.Machine.{Mesh, commit, start, without_first, without_item}
 use Rattle.mesh_rules.specs.Orders.{on_tick}
 use Rattle.mesh_rules.specs.State.{NodeState}
-use Rattle.mesh_nodes.specs.Routes.{AreRowsOf, AreSearchable, IsElsewhere, RowsFit}
-use Rattle.mesh_nodes.proofs.routes.Learnt.{found-row, network-rows-may, rows-stay_fit}
+use Rattle.mesh_nodes.specs.Routes.{AreRowsOf, RowsFit}
+use Rattle.mesh_nodes.proofs.routes.Learnt.{found-row, network-rows-may, rows-stay_fit, same-rows_fit}
 use Rattle.mesh_nodes.proofs.routes.Topologies.{new-rows}
 use Rattle.mesh_laws.specs.LearntLaw.{EveryNodeCanSearch}
 use Rattle.mesh_laws.proofs.nodes.Facts.{MeshFacts}
@@ -25,15 +25,6 @@ use Rattle.mesh_laws.proofs.nodes.Runs.{facts-start, facts-step, first-learns_no
 
 abbrev CanSearch : Network → Mesh → Type 0
 CanSearch t s = (n : NodeId) → RowsFit (local_node t n) (s.nodes n.0)
-
--- where nothing is learnt the same rows are known
-same-rows : (p : LocalNode) (s : NodeState) (a : Answer) → a.rows ≡ [] → RowsFit p s → RowsFit p (changed s a)
-same-rows p s a none fit =
-    let same : (changed s a).learnt ≡ s.learnt = ap (λ rows. learnt_after rows s.learnt) none in
-    record {
-      searchable = subst (λ rows. AreSearchable (map row_of p.own ++ rows)) (sym same) fit.searchable;
-      others = subst (All (IsElsewhere p.id)) (sym same) fit.others;
-    }
 
 after-commit : (t : Network) (s : Mesh) (n : NodeId) (a : Answer) →
     RowsFit (local_node t n) (changed (s.nodes n.0) a) → CanSearch t s → CanSearch t (commit s n.0 a)
@@ -68,16 +59,16 @@ search-step : (t : Network) (s : Mesh) (e : MeshEvent) → IsTopology t → Mesh
 search-step t s (Take d u) valid facts fit =
     let a = on_first (local_node t d) (s.nodes d.0) u (s.mail u.0 d.0) in
     after-commit t (without_first s u.0 d.0) d a
-    (same-rows (local_node t d) (s.nodes d.0) a
+    (same-rows_fit (local_node t d) (s.nodes d.0) a
     (first-learns_nothing (local_node t d) (s.nodes d.0) u (s.mail u.0 d.0)) (fit d)) fit
 search-step t s (Desk n) valid facts fit =
     let a = on_first_item (local_node t n) (s.nodes n.0) (s.desks n.0) in
     after-commit t (without_item s n.0) n a
-    (same-rows (local_node t n) (s.nodes n.0) a
+    (same-rows_fit (local_node t n) (s.nodes n.0) a
     (first_item-learns_nothing (local_node t n) (s.nodes n.0) (s.desks n.0)) (fit n)) fit
 search-step t s (Tick n) valid facts fit =
     after-commit t s n (on_tick (local_node t n) (s.nodes n.0))
-    (same-rows (local_node t n) (s.nodes n.0) (on_tick (local_node t n) (s.nodes n.0)) refl (fit n)) fit
+    (same-rows_fit (local_node t n) (s.nodes n.0) (on_tick (local_node t n) (s.nodes n.0)) refl (fit n)) fit
 search-step t s (Learn n k) valid facts fit =
     after-commit t s n (on_link (local_node t n) (s.nodes n.0) (find_link t k))
     (after-link t n (s.nodes n.0) k (find_link t k) valid refl (facts.learnt n.0) (fit n)) fit

@@ -10,7 +10,7 @@ use Rattle.ason_base.specs.declared.ids.NodeId.{NodeId}
 use Rattle.ason_base.specs.declared.network.LinkSpec.{LinkSpec}
 use Rattle.ason_base.specs.declared.network.TeRow.{TeRow}
 use Rattle.ason_base.proofs.Ordered.{contains-cases, contains-head, contains-none, there-any}
-use Rattle.mesh_rules.specs.Changes.{changed, learns, nothing}
+use Rattle.mesh_rules.specs.Changes.{Answer, changed, learns, learnt_after, nothing}
 use Rattle.mesh_rules.specs.KnownRows.{has_row, known_rows}
 use Rattle.mesh_rules.specs.LocalNodes.{LocalNode, local_node}
 use Rattle.mesh_rules.specs.State.{NodeState}
@@ -69,6 +69,20 @@ learning-fits p s row fits =
       written = λ w. tt;
       few = omega arith;
     })
+
+-- Where nothing is learnt the same rows are known
+
+pub same-rows_fit : (p : LocalNode) (s : NodeState) (a : Answer) → a.rows ≡ [] → RowsFit p s → RowsFit p (changed s a)
+same-rows_fit p s a none fit =
+    let same : (changed s a).learnt ≡ s.learnt = ap (λ rows. learnt_after rows s.learnt) none in
+    record {
+      searchable = subst (λ rows. AreSearchable (map row_of p.own ++ rows)) (sym same) fit.searchable;
+      others = subst (All (IsElsewhere p.id)) (sym same) fit.others;
+    }
+
+pub same-rows_true : (t : Network) (s : NodeState) (a : Answer) → a.rows ≡ [] → AreRowsOf t s.learnt →
+    AreRowsOf t (changed s a).learnt
+same-rows_true t s a none rows = rw none rows
 
 -- Routes can be asked of it
 
