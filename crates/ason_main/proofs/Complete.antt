@@ -8,7 +8,7 @@ use Rattle.plan_reader.specs.declared.plan.Plan.{Plan}
 use Rattle.ason_main.specs.declared.ason.Status.{Status}
 use Rattle.ason_main.specs.Answers.{Decode, Request, Route, Run}
 use Rattle.ason_main.specs.Answers.{Done, EventLimit, PlanRefused, ReadFault, Reply, TooLong, Unfinished, Usage}
-use Rattle.ason_main.specs.Answers.{EndsTooLong, EndsWell, HasReadFew, IsComplete, IsDecodeReply, IsDoneOrShort, IsEnd, IsJudged, IsReadAndJudged, IsReply, IsReplyFor, IsReplyTo, IsRouteReply, IsRunReply, WasGiven, request_of, status_of}
+use Rattle.ason_main.specs.Answers.{EndsTooLong, EndsWell, HasReadFew, IsComplete, IsDecodeReply, IsDoneOrOutOfMemory, IsEnd, IsJudged, IsReadAndJudged, IsReply, IsReplyFor, IsReplyTo, IsRouteReply, IsRunReply, WasGiven, request_of, status_of}
 use Rattle.ason_main.specs.Outputs.{run_of}
 use Rattle.plan_reader.specs.Plans.{PlanOf}
 use Rattle.plan_reader.proofs.Agree.{no_plan, one_plan}
@@ -100,7 +100,7 @@ decoded_end bs TooLong s holds is = absurd holds
 
 -- a reply to `route`
 routed_end : (from to bs : List ℕ) (p : Plan) (r : Reply) (s : Status) → PlanOf bs (Ok p) →
-    IsRouteReply from to bs r → s ≡ status_of r → IsDoneOrShort s
+    IsRouteReply from to bs r → s ≡ status_of r → IsDoneOrOutOfMemory s
 routed_end from to bs p (Done text) s plan holds is = inl is
 routed_end from to bs p (PlanRefused text) s plan holds is = absurd (no_plan bs holds.0 p holds.1 plan)
 routed_end from to bs p (EventLimit text) s plan holds is = absurd holds

@@ -215,14 +215,14 @@ IsEnd p s =
     ⊎ (((s ≡ Status.EventLimit) × ((n : NodeId) × ((run_of p).stopped ≡ Some n)))
     ⊎ (s ≡ Status.OutOfMemory))
 
-abbrev pub IsDoneOrShort : Status → Type 0
-IsDoneOrShort s = (s ≡ Status.Done) ⊎ (s ≡ Status.OutOfMemory)
+abbrev pub IsDoneOrOutOfMemory : Status → Type 0
+IsDoneOrOutOfMemory s = (s ≡ Status.Done) ⊎ (s ≡ Status.OutOfMemory)
 
 -- how what is asked for ends on these bytes: `run` and `route` for a plan without fault, `decode` always
 abbrev pub EndsWell : Request → List ℕ → Status → Type 0
 EndsWell Run bs s = (p : Plan) → PlanOf bs (Ok p) → IsEnd p s
-EndsWell Decode bs s = IsDoneOrShort s
-EndsWell (Route from to) bs s = (p : Plan) → PlanOf bs (Ok p) → IsDoneOrShort s
+EndsWell Decode bs s = IsDoneOrOutOfMemory s
+EndsWell (Route from to) bs s = (p : Plan) → PlanOf bs (Ok p) → IsDoneOrOutOfMemory s
 
 -- and where there are more than 4,194,304
 abbrev pub EndsTooLong : Status → Type 0

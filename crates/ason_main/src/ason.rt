@@ -1,4 +1,4 @@
-//! The top call: reads an input, and writes what a plan's network came to, or what messages say.
+//! The top call: reads an input, and writes what a plan's network came to, its routes, or what messages say.
 
 ghost use Rattle.std.specs.Prelude.{◌≡◌, ℕ, List, [], Ok, Err, map, string_bytes};
 ghost use Rattle.ason_base.specs.Network.{IsTopology};
