@@ -269,8 +269,8 @@ pub(crate) fn carry_out_tables(
     requires few { length (legs_changed changes.items tables.old.legs) ≤ 4096 }
     ensures ok { OnOk result
         (tables.new ≡ record tables.old {
-            legs = legs_changed changes.items tables.old.legs;
-            rows = learnt_after (option_to_list row) tables.old.rows;
+          legs = legs_changed changes.items tables.old.legs;
+          rows = learnt_after (option_to_list row) tables.old.rows;
         }) }
     ensures err { OnErr result (tables.new ≡ tables.old) }
     ensures err_owner { OnErr result (owner.new ≡ owner.old) }

@@ -178,13 +178,13 @@ elsewhere : (t : Network) (n : NodeId) (s : NodeState) (row : TeRow) → IsRowOf
     has_row (known_rows (local_node t n) s) row.link ≡ false → IsElsewhere n row
 elsewhere t n s row is none = (
   λ low. (let same : nat_eq is.link.low.0 n.0 ≡ true =
-  same_end is.link.low n (ap (λ (r : TeRow). r.low) (sym is.is) ∙ low) in
-  let known = own-known t n s row is (rw same refl) in
-  absurd (cc (none, known))),
+      same_end is.link.low n (ap (λ (r : TeRow). r.low) (sym is.is) ∙ low) in
+      let known = own-known t n s row is (rw same refl) in
+      absurd (cc (none, known))),
   λ high. (let same : nat_eq is.link.high.0 n.0 ≡ true =
-  same_end is.link.high n (ap (λ (r : TeRow). r.high) (sym is.is) ∙ high) in
-  let known = own-known t n s row is (or-right (nat_eq is.link.low.0 n.0) (nat_eq is.link.high.0 n.0) same) in
-  absurd (cc (none, known))),
+      same_end is.link.high n (ap (λ (r : TeRow). r.high) (sym is.is) ∙ high) in
+      let known = own-known t n s row is (or-right (nat_eq is.link.low.0 n.0) (nat_eq is.link.high.0 n.0) same) in
+      absurd (cc (none, known))),
 )
 
 pub network-rows-may : NetworkRowsMayBeLearnt
