@@ -4,6 +4,7 @@ ghost use Rattle.std.specs.Prelude.{◌≡◌, ◌<◌, ◌≤◌, length, IfOk}
 
 use ason_base::{DecodeError, LinkId, NodeId, OutOfMemory, Srlgs, TeRow};
 use std::alloc::Global;
+use std::process::Abort;
 use std::test::Fail;
 use te_tlv::{read_row, write_row};
 
@@ -19,6 +20,9 @@ const LINKS: &[u8] = &[0, 11, 0, 8, 0, 0, 0, 1, 0, 0, 0, 1];
 const SRLG: &[u8] = &[0, 16, 0, 4, 0, 0, 0, 7];
 
 const NONE: &[u8] = &[];
+
+/// What it shows, and sub-TLVs.
+type Case = (&'static str, [&'static [u8]; 6]);
 
 fn tlv(alloc: Global, parts: &[&[u8]]) -> Result<Vec<u8>, OutOfMemory> {
     let mut body = Vec::new(alloc);
@@ -55,137 +59,143 @@ fn is_row(read: &TeRow) -> bool {
 }
 
 // Whether these sub-TLVs from node 1 spell no row.
-fn is_refused(alloc: Global, parts: [&[u8]; 6]) -> Result<bool, OutOfMemory> {
-    let bytes = tlv(alloc, &parts)?;
+fn is_refused(alloc: Global, parts: &[&[u8]]) -> Result<bool, OutOfMemory> {
+    let bytes = tlv(alloc, parts)?;
     let read = read_row(alloc, NodeId(1), &bytes);
     Ok(matches!(read, Err(DecodeError::NotMessage)))
 }
 
+fn are_refused(rt: &impl Abort, alloc: Global, cases: &[Case]) -> Result<(), Fail> {
+    for (what, parts) in cases {
+        assert!(rt; is_refused(alloc, parts)?, "{what}");
+    }
+    Ok(())
+}
+
+const READ: &[Case] = &[
+    ("as written", [TYPE, ID, METRIC, LINKS, SRLG, NONE]),
+    ("in another order", [SRLG, LINKS, ID, TYPE, METRIC, NONE]),
+    (
+        "padding that isn't zero",
+        [&[0, 1, 0, 1, 1, 9, 9, 9], ID, METRIC, LINKS, SRLG, NONE],
+    ),
+    (
+        "another type",
+        [TYPE, ID, &[0, 9, 0, 1, 5, 0, 0, 0], METRIC, LINKS, SRLG],
+    ),
+    (
+        "other types twice",
+        [TYPE, ID, METRIC, LINKS, SRLG, &[0, 9, 0, 0, 0, 9, 0, 0]],
+    ),
+    (
+        "an SRLG twice",
+        [
+            TYPE,
+            ID,
+            METRIC,
+            LINKS,
+            &[0, 16, 0, 8, 0, 0, 0, 7, 0, 0, 0, 7],
+            NONE,
+        ],
+    ),
+];
+
 #[test]
 fn reads_in_any_order(rt: HostRuntime) -> Result<(), Fail> {
-    for (what, parts) in [
-        ("as written", [TYPE, ID, METRIC, LINKS, SRLG, NONE]),
-        ("in another order", [SRLG, LINKS, ID, TYPE, METRIC, NONE]),
-        (
-            "padding that isn't zero",
-            [&[0, 1, 0, 1, 1, 9, 9, 9], ID, METRIC, LINKS, SRLG, NONE],
-        ),
-        (
-            "another type",
-            [TYPE, ID, &[0, 9, 0, 1, 5, 0, 0, 0], METRIC, LINKS, SRLG],
-        ),
-        (
-            "other types twice",
-            [TYPE, ID, METRIC, LINKS, SRLG, &[0, 9, 0, 0, 0, 9, 0, 0]],
-        ),
-        (
-            "an SRLG twice",
-            [
-                TYPE,
-                ID,
-                METRIC,
-                LINKS,
-                &[0, 16, 0, 8, 0, 0, 0, 7, 0, 0, 0, 7],
-                NONE,
-            ],
-        ),
-    ] {
-        let bytes = tlv(rt.alloc(), &parts)?;
-        let read = read_row(rt.alloc(), NodeId(1), &bytes).ok().ok_or(what)?;
+    for (what, parts) in READ {
+        let bytes = tlv(rt.alloc(), parts)?;
+        let read = read_row(rt.alloc(), NodeId(1), &bytes).ok().ok_or(*what)?;
         assert!(rt; is_row(&read), "{what}: {read:?}");
     }
     Ok(())
 }
 
+const MISSING_OR_TWICE: &[Case] = &[
+    ("no link type", [NONE, ID, METRIC, LINKS, SRLG, NONE]),
+    ("no link id", [TYPE, NONE, METRIC, LINKS, SRLG, NONE]),
+    ("no metric", [TYPE, ID, NONE, LINKS, SRLG, NONE]),
+    ("no identifiers", [TYPE, ID, METRIC, NONE, SRLG, NONE]),
+    ("two link types", [TYPE, ID, METRIC, LINKS, SRLG, TYPE]),
+    ("two link ids", [TYPE, ID, METRIC, LINKS, SRLG, ID]),
+    ("two metrics", [TYPE, ID, METRIC, LINKS, SRLG, METRIC]),
+    ("identifiers twice", [TYPE, ID, METRIC, LINKS, SRLG, LINKS]),
+    ("SRLGs twice", [TYPE, ID, METRIC, LINKS, SRLG, SRLG]),
+];
+
 #[test]
 fn refuses_what_is_missing_or_twice(rt: HostRuntime) -> Result<(), Fail> {
-    for (what, parts) in [
-        ("no link type", [NONE, ID, METRIC, LINKS, SRLG, NONE]),
-        ("no link id", [TYPE, NONE, METRIC, LINKS, SRLG, NONE]),
-        ("no metric", [TYPE, ID, NONE, LINKS, SRLG, NONE]),
-        ("no identifiers", [TYPE, ID, METRIC, NONE, SRLG, NONE]),
-        ("two link types", [TYPE, ID, METRIC, LINKS, SRLG, TYPE]),
-        ("two link ids", [TYPE, ID, METRIC, LINKS, SRLG, ID]),
-        ("two metrics", [TYPE, ID, METRIC, LINKS, SRLG, METRIC]),
-        ("identifiers twice", [TYPE, ID, METRIC, LINKS, SRLG, LINKS]),
-        ("SRLGs twice", [TYPE, ID, METRIC, LINKS, SRLG, SRLG]),
-    ] {
-        assert!(rt; is_refused(rt.alloc(), parts)?, "{what}");
-    }
-    Ok(())
+    are_refused(&rt, rt.alloc(), MISSING_OR_TWICE)
 }
+
+const WRONG_LENGTHS: &[Case] = &[
+    (
+        "a link type of two bytes",
+        [&[0, 1, 0, 2, 1, 0, 0, 0], ID, METRIC, LINKS, SRLG, NONE],
+    ),
+    (
+        "a link id of three bytes",
+        [TYPE, &[0, 2, 0, 3, 0, 0, 2, 0], METRIC, LINKS, SRLG, NONE],
+    ),
+    (
+        "a metric of two bytes",
+        [TYPE, ID, &[0, 5, 0, 2, 0, 1, 0, 0], LINKS, SRLG, NONE],
+    ),
+    (
+        "one identifier",
+        [TYPE, ID, METRIC, &[0, 11, 0, 4, 0, 0, 0, 1], SRLG, NONE],
+    ),
+    (
+        "half an SRLG",
+        [TYPE, ID, METRIC, LINKS, &[0, 16, 0, 2, 0, 7, 0, 0], NONE],
+    ),
+    (
+        "padding left out",
+        [ID, METRIC, LINKS, SRLG, &[0, 1, 0, 1, 1], NONE],
+    ),
+    (
+        "a value past the end",
+        [TYPE, ID, METRIC, LINKS, SRLG, &[0, 9, 0, 4, 0, 0]],
+    ),
+];
 
 #[test]
 fn refuses_wrong_lengths(rt: HostRuntime) -> Result<(), Fail> {
-    for (what, parts) in [
-        (
-            "a link type of two bytes",
-            [&[0, 1, 0, 2, 1, 0, 0, 0], ID, METRIC, LINKS, SRLG, NONE],
-        ),
-        (
-            "a link id of three bytes",
-            [TYPE, &[0, 2, 0, 3, 0, 0, 2, 0], METRIC, LINKS, SRLG, NONE],
-        ),
-        (
-            "a metric of two bytes",
-            [TYPE, ID, &[0, 5, 0, 2, 0, 1, 0, 0], LINKS, SRLG, NONE],
-        ),
-        (
-            "one identifier",
-            [TYPE, ID, METRIC, &[0, 11, 0, 4, 0, 0, 0, 1], SRLG, NONE],
-        ),
-        (
-            "half an SRLG",
-            [TYPE, ID, METRIC, LINKS, &[0, 16, 0, 2, 0, 7, 0, 0], NONE],
-        ),
-        (
-            "padding left out",
-            [ID, METRIC, LINKS, SRLG, &[0, 1, 0, 1, 1], NONE],
-        ),
-        (
-            "a value past the end",
-            [TYPE, ID, METRIC, LINKS, SRLG, &[0, 9, 0, 4, 0, 0]],
-        ),
-    ] {
-        assert!(rt; is_refused(rt.alloc(), parts)?, "{what}");
-    }
-    Ok(())
+    are_refused(&rt, rt.alloc(), WRONG_LENGTHS)
 }
+
+const WRONG_VALUES: &[Case] = &[
+    (
+        "another link type",
+        [&[0, 1, 0, 1, 2, 0, 0, 0], ID, METRIC, LINKS, SRLG, NONE],
+    ),
+    (
+        "a link to the origin",
+        [TYPE, &[0, 2, 0, 4, 0, 0, 0, 1], METRIC, LINKS, SRLG, NONE],
+    ),
+    (
+        "metric 0",
+        [TYPE, ID, &[0, 5, 0, 4, 0, 0, 0, 0], LINKS, SRLG, NONE],
+    ),
+    (
+        "metric 65,536",
+        [TYPE, ID, &[0, 5, 0, 4, 0, 1, 0, 0], LINKS, SRLG, NONE],
+    ),
+    (
+        "other identifiers",
+        [
+            TYPE,
+            ID,
+            METRIC,
+            &[0, 11, 0, 8, 0, 0, 0, 1, 0, 0, 0, 2],
+            SRLG,
+            NONE,
+        ],
+    ),
+];
 
 #[test]
 fn refuses_wrong_values(rt: HostRuntime) -> Result<(), Fail> {
-    for (what, parts) in [
-        (
-            "another link type",
-            [&[0, 1, 0, 1, 2, 0, 0, 0], ID, METRIC, LINKS, SRLG, NONE],
-        ),
-        (
-            "a link to the origin",
-            [TYPE, &[0, 2, 0, 4, 0, 0, 0, 1], METRIC, LINKS, SRLG, NONE],
-        ),
-        (
-            "metric 0",
-            [TYPE, ID, &[0, 5, 0, 4, 0, 0, 0, 0], LINKS, SRLG, NONE],
-        ),
-        (
-            "metric 65,536",
-            [TYPE, ID, &[0, 5, 0, 4, 0, 1, 0, 0], LINKS, SRLG, NONE],
-        ),
-        (
-            "other identifiers",
-            [
-                TYPE,
-                ID,
-                METRIC,
-                &[0, 11, 0, 8, 0, 0, 0, 1, 0, 0, 0, 2],
-                SRLG,
-                NONE,
-            ],
-        ),
-    ] {
-        assert!(rt; is_refused(rt.alloc(), parts)?, "{what}");
-    }
-    Ok(())
+    are_refused(&rt, rt.alloc(), WRONG_VALUES)
 }
 
 #[test]

@@ -98,32 +98,38 @@ fn written_forms_come_back(rt: HostRuntime) -> Result<(), Fail> {
 }
 
 #[test]
-fn other_bytes(rt: HostRuntime) -> Result<(), Fail> {
-    let alloc = rt.alloc();
-    let mut unsent = ACK;
-    unsent[2] = 0;
-    unsent[3] = 0;
-    let written = again(alloc, 1, &unsent)?.ok_or("a message")?;
+fn checksums(rt: HostRuntime) -> Result<(), Fail> {
+    let mut without = ACK;
+    without[2] = 0;
+    without[3] = 0;
+    let written = again(rt.alloc(), 1, &without)?.ok_or("a message")?;
     assert_eq!(rt; written.as_slice(), ACK.as_slice());
     let mut wrong = ACK;
     wrong[3] = 0xCC;
-    assert!(rt; again(alloc, 1, &wrong)?.is_none());
-    assert!(rt; again(alloc, 1, &ACK[..19])?.is_none());
+    assert!(rt; again(rt.alloc(), 1, &wrong)?.is_none());
+    assert!(rt; again(rt.alloc(), 1, &ACK[..19])?.is_none(), "cut short");
+    Ok(())
+}
 
-    let (head, rest) = TEAR.split_at(20);
-    let (session, tail) = rest.split_at(16);
-    let mut moved = Vec::from_slice(alloc, head)?;
-    moved.extend_from_slice(tail)?;
-    moved.extend_from_slice(session)?;
-    let written = again(alloc, 1, &moved)?.ok_or("a message")?;
+#[test]
+fn a_session_at_the_end(rt: HostRuntime) -> Result<(), Fail> {
+    let mut moved = Vec::from_slice(rt.alloc(), &TEAR[..20])?;
+    moved.extend_from_slice(&TEAR[36..])?;
+    moved.extend_from_slice(&TEAR[20..36])?;
+    let written = again(rt.alloc(), 1, &moved)?.ok_or("a message")?;
     assert_eq!(rt; written.as_slice(), TEAR.as_slice());
+    Ok(())
+}
 
-    let mut twice = Vec::from_slice(alloc, &TEAR)?;
-    twice.extend_from_slice(session)?;
+// Without a checksum, and with the length that it has.
+#[test]
+fn a_session_that_comes_twice(rt: HostRuntime) -> Result<(), Fail> {
+    let mut twice = Vec::from_slice(rt.alloc(), &TEAR)?;
+    twice.extend_from_slice(&TEAR[20..36])?;
     twice[2] = 0;
     twice[3] = 0;
     twice[7] = 0x58;
-    assert!(rt; again(alloc, 1, &twice)?.is_none());
+    assert!(rt; again(rt.alloc(), 1, &twice)?.is_none());
     Ok(())
 }
 

@@ -156,31 +156,46 @@ fn check(rt: &impl Abort, body: &[u8], include: bool, low: u8, high: u8) {
     }
 }
 
-// Each action, with what it names of 1 to 80.
-#[test]
-fn label_sets(rt: HostRuntime) {
-    check(&rt, &[0, 0, 0, 2, 0, 0, 0, 2, 0, 0, 0, 3], true, 2, 3);
-    check(
-        &rt,
+/// The body of a LABEL_SET, whether it includes, and the least and the greatest label that it names.
+type SetCase = (&'static [u8], bool, u8, u8);
+
+/// Each action, with what it names of 1 to 80.
+const LABEL_SETS: &[SetCase] = &[
+    (&[0, 0, 0, 2, 0, 0, 0, 2, 0, 0, 0, 3], true, 2, 3),
+    (
         &[0, 0, 0, 2, 0, 0, 0, 0, 0, 0, 0, 81, 1, 0, 0, 5, 0, 0, 0, 5],
         true,
         5,
         5,
-    );
-    check(&rt, &[1, 0, 0, 2, 0, 0, 0, 80, 0, 0, 0, 79], false, 79, 80);
-    check(&rt, &[1, 0, 0, 2, 0, 0, 0, 0], false, 1, 0);
-    check(&rt, &[2, 0, 0, 2, 0, 0, 0, 1, 0, 0, 0, 4], true, 1, 4);
-    check(&rt, &[2, 0, 0, 2, 0, 0, 0, 0, 0, 0, 0, 4], true, 1, 4);
-    check(&rt, &[2, 0, 0, 2, 0, 0, 0, 77, 0, 0, 0, 0], true, 77, 80);
-    check(&rt, &[2, 0, 0, 2, 0, 0, 0, 70, 0, 1, 0, 0], true, 70, 80);
-    check(&rt, &[2, 0, 0, 2, 0, 0, 0, 81, 0, 0, 0, 90], true, 1, 0);
-    check(&rt, &[3, 0, 0, 2, 0, 0, 0, 2, 0, 0, 0, 4], false, 2, 4);
-    check(&rt, &[3, 0, 0, 2, 0, 0, 0, 0, 0, 0, 0, 0], false, 1, 80);
-    assert!(rt; read_label_set(&[4, 0, 0, 2, 0, 0, 0, 2, 0, 0, 0, 3]).is_none());
-    assert!(rt; read_label_set(&[2, 0, 0, 2, 0, 0, 0, 2]).is_none());
-    assert!(rt; read_label_set(&[3, 0, 0, 2]).is_none());
-    assert!(rt; read_label_set(&[2, 0, 0, 2, 0, 0, 0, 2, 0, 0, 0, 3, 0, 0, 0, 4]).is_none());
-    assert!(rt; read_label_set(&[0, 0, 0, 2]).is_none());
+    ),
+    (&[1, 0, 0, 2, 0, 0, 0, 80, 0, 0, 0, 79], false, 79, 80),
+    (&[1, 0, 0, 2, 0, 0, 0, 0], false, 1, 0),
+    (&[2, 0, 0, 2, 0, 0, 0, 1, 0, 0, 0, 4], true, 1, 4),
+    (&[2, 0, 0, 2, 0, 0, 0, 0, 0, 0, 0, 4], true, 1, 4),
+    (&[2, 0, 0, 2, 0, 0, 0, 77, 0, 0, 0, 0], true, 77, 80),
+    (&[2, 0, 0, 2, 0, 0, 0, 70, 0, 1, 0, 0], true, 70, 80),
+    (&[2, 0, 0, 2, 0, 0, 0, 81, 0, 0, 0, 90], true, 1, 0),
+    (&[3, 0, 0, 2, 0, 0, 0, 2, 0, 0, 0, 4], false, 2, 4),
+    (&[3, 0, 0, 2, 0, 0, 0, 0, 0, 0, 0, 0], false, 1, 80),
+];
+
+/// Another action, a range without an end, one without both, one with three numbers, and a list without a number.
+const NO_LABEL_SETS: &[&[u8]] = &[
+    &[4, 0, 0, 2, 0, 0, 0, 2, 0, 0, 0, 3],
+    &[2, 0, 0, 2, 0, 0, 0, 2],
+    &[3, 0, 0, 2],
+    &[2, 0, 0, 2, 0, 0, 0, 2, 0, 0, 0, 3, 0, 0, 0, 4],
+    &[0, 0, 0, 2],
+];
+
+#[test]
+fn label_sets(rt: HostRuntime) {
+    for (body, include, low, high) in LABEL_SETS {
+        check(&rt, body, *include, *low, *high);
+    }
+    for body in NO_LABEL_SETS {
+        assert!(rt; read_label_set(body).is_none(), "{body:?}");
+    }
 }
 
 #[test]
