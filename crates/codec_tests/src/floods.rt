@@ -64,17 +64,20 @@ fn frames_both_ways(rt: HostRuntime) -> Result<(), Fail> {
     Ok(())
 }
 
+/// No byte, an acknowledgement that is cut short, one with a byte more, another type, and a row that is cut short.
+const NO_MESSAGES: &[&[u8]] = &[
+    &[],
+    &[2, 0, 0, 0, 0, 0, 0],
+    &[2, 0, 0, 0, 0, 0, 0, 5, 0],
+    &[3, 0, 0, 0, 0, 0, 0, 5],
+    &[1, 0, 0, 0, 0, 0, 0, 5],
+];
+
 #[test]
 fn reads_acknowledgements(rt: HostRuntime) {
     let ack = decode_flood(rt.alloc(), &[2, 9, 9, 9, 0, 0, 0, 5]);
     assert!(rt; matches!(ack, Ok(FloodMsg::Ack { number: 5 })));
-    for bytes in [
-        [].as_slice(),
-        &[2, 0, 0, 0, 0, 0, 0],
-        &[2, 0, 0, 0, 0, 0, 0, 5, 0],
-        &[3, 0, 0, 0, 0, 0, 0, 5],
-        &[1, 0, 0, 0, 0, 0, 0, 5],
-    ] {
+    for bytes in NO_MESSAGES {
         let read = decode_flood(rt.alloc(), bytes);
         assert!(rt; matches!(read, Err(DecodeError::NotMessage)), "{bytes:?}");
     }

@@ -1,12 +1,10 @@
-//! Tests of routes, of the parts of a node, of nodes and of networks of them, over the public calls of their crates.
+//! Tests of routes, of the parts of a node, and of nodes, over the public calls of their crates.
 #![tactic(auto)]
 
 #[cfg(test)]
 mod call_tables;
 #[cfg(test)]
 mod controllers;
-#[cfg(test)]
-mod fleets;
 #[cfg(test)]
 mod leg_tables;
 #[cfg(test)]
@@ -18,12 +16,8 @@ mod owners;
 #[cfg(test)]
 mod paths;
 #[cfg(test)]
-mod replays;
-#[cfg(test)]
 mod resvs;
 #[cfg(test)]
 mod routes;
 #[cfg(test)]
 mod row_checks;
-#[cfg(test)]
-mod stations;

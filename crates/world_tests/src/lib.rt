@@ -1,0 +1,9 @@
+//! Tests of controllers over channels, of stations and of fleets, over the public calls of their crates.
+#![tactic(auto)]
+
+#[cfg(test)]
+mod fleets;
+#[cfg(test)]
+mod replays;
+#[cfg(test)]
+mod stations;
