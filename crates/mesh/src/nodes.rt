@@ -12,7 +12,10 @@ ghost use Rattle.mesh_nodes.specs.Routes.{AreRowsOf, IsRowOf};
 ghost use Rattle.mesh.specs.Kept.{MayCome, is_node, node_at, row_in, state_at, with_state};
 
 use ason_base::routes::{other_end, touches};
-use ason_base::{CallRows, Copied, LegRows, LinkId, NodeId, NodeSpec, OutOfMemory, Outs, TableRows, TeRow, Topology};
+use ason_base::{
+    CallRows, Copied, LegRows, LinkId, NodeId, NodeSpec, OutOfMemory, Outs, TableRows, TeRow,
+    Topology,
+};
 use node_core::{Change, Input, Node};
 use std::alloc::Global;
 use std::marker::Model;

@@ -18,7 +18,9 @@ use crate::seats::{
     able_place, act_at, are_quiet, frame_there, is_channel_there, new_seats, place_of, put_at,
     rows_of,
 };
-use ason_base::{Bytes, CallNo, Command, Copied, DeskItem, Event, NodeId, OutOfMemory, TableRows, Topology};
+use ason_base::{
+    Bytes, CallNo, Command, Copied, DeskItem, Event, NodeId, OutOfMemory, TableRows, Topology,
+};
 use mesh_rules::commands::{is_again, is_valid};
 use std::alloc::Global;
 use std::marker::Model;
