@@ -9,7 +9,7 @@ ghost use Rattle.controller.specs.Controllers.{IsStep};
 ghost use Rattle.controller.specs.Kept.{AllToNeighbours, IsFromNeighbour, new_controller, unacknowledged};
 
 use crate::adjacencies::{Adjacency, pending, reaches};
-use crate::frames::Frames;
+use crate::frames::{FrameMaker, Frames};
 use crate::inputs::{CoreInput, Pending};
 use crate::peers::adjacencies;
 use crate::reactions::react;
@@ -24,7 +24,7 @@ pub const MOST_STEPS: u64 = 50_000;
 /// The controller of one node: the node, and a reliable hop to each neighbour.
 #[derive(Debug, Drop)]
 pub struct Controller {
-    alloc: Global,
+    maker: FrameMaker,
     node: Node,
     adjacencies: Vec<Adjacency>,
     steps: u64,
@@ -50,7 +50,7 @@ impl Controller {
         let node = Node::new(alloc, t, id)?;
         let adjacencies = adjacencies(alloc, t, id)?;
         Ok(Controller {
-            alloc,
+            maker: FrameMaker::new(alloc),
             node,
             adjacencies,
             steps: 0,
@@ -68,7 +68,12 @@ impl Controller {
         ensures place { self.new.node.place ≡ self.old.node.place }
         ensures err { OnErr result (self.new ≡ self.old) }
     {
-        let frames = react(self.alloc, &mut self.node, &mut self.adjacencies, input)?;
+        let frames = react(
+            &mut self.maker,
+            &mut self.node,
+            &mut self.adjacencies,
+            input,
+        )?;
         self.steps += 1;
         Ok(Frames::from_vec(frames))
     }

@@ -21,21 +21,32 @@ pub struct Frame {
 /// Frames, in the order in which they are sent.
 pub type Frames = Items<Frame>;
 
-impl Frame {
+/// What makes frames: each is written in one buffer that is used again, and its bytes are taken from there.
+#[derive(Debug, Drop)]
+pub(crate) struct FrameMaker {
+    pub(crate) alloc: Global,
+    buffer: Vec<u8>,
+}
+
+impl FrameMaker {
+    pub(crate) fn new(alloc: Global) -> FrameMaker {
+        FrameMaker {
+            alloc,
+            buffer: Vec::new(alloc),
+        }
+    }
+
     /// The frame of a packet from this node to a neighbour.
-    pub(crate) fn new(
-        alloc: Global,
-        me: NodeId,
-        to: NodeId,
-        p: &Packet,
-    ) -> Result<Frame, OutOfMemory>
+    pub(crate) fn frame(&mut self, me: NodeId, to: NodeId, p: &Packet) -> Result<Frame, OutOfMemory>
         requires { IsWritable p.now }
         ensures frame { IfOk result (λ f. f ≡ sent_frame me to p.now) }
         ensures spelled { IfOk result (λ f. IsFrame f.bytes p.now) }
     {
-        let mut bytes = Vec::with_capacity(alloc, 1 + room_for(p))?;
-        bytes.push(RSVP)?;
-        encode_into(&mut bytes, me, p)?;
+        self.buffer.clear();
+        self.buffer.reserve(1 + room_for(p))?;
+        self.buffer.push(RSVP)?;
+        encode_into(&mut self.buffer, me, p)?;
+        let bytes = Vec::from_slice(self.alloc, &self.buffer)?;
         Ok(Frame {
             to,
             bytes: Bytes::from_vec(bytes),

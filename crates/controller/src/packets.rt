@@ -7,7 +7,7 @@ ghost use Rattle.rsvp_messages.specs.Packets.{Spells};
 ghost use Rattle.controller.specs.Controllers.{acks_to};
 ghost use Rattle.controller.specs.Frames.{AllSpelled, IsFrame, SpellsNothing, begins_rsvp, frames_to};
 
-use crate::frames::{Frame, RSVP};
+use crate::frames::{Frame, FrameMaker, RSVP};
 use ason_base::{DecodeError, NodeId, OutOfMemory, Packet};
 use hop_reliable::Heard;
 use rsvp_messages::decode;
@@ -50,7 +50,7 @@ fn decoded(alloc: Global, body: &[u8]) -> Result<Option<Packet>, OutOfMemory>
 
 /// The frame of the acknowledgement, where a packet is answered by one, goes to the end of the list.
 pub(crate) fn acknowledge(
-    alloc: Global,
+    maker: &mut FrameMaker,
     me: NodeId,
     to: NodeId,
     frames: &mut Vec<Frame>,
@@ -62,9 +62,9 @@ pub(crate) fn acknowledge(
         (frames.new.items ≡ frames.old.items ++ frames_to me (acks_to to heard p.now)) }
     ensures spelled { OnOk result (AllSpelled me (acks_to to heard p.now)) }
 {
-    let answer = heard.answer(alloc, p)?;
+    let answer = heard.answer(maker.alloc, p)?;
     if let Some(ack) = answer {
-        let frame = Frame::new(alloc, me, to, &ack)?;
+        let frame = maker.frame(me, to, &ack)?;
         frames.push(frame)?;
     }
     Ok(())

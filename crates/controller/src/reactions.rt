@@ -16,17 +16,16 @@ ghost use Rattle.controller.specs.Kept.{AllToNeighbours, IsFromNeighbour, IsKept
 use crate::adjacencies::{
     Adjacency, age_all, commit_all, discard_all, frame_due, hears, prepare_all, take,
 };
-use crate::frames::Frame;
+use crate::frames::{Frame, FrameMaker};
 use crate::inputs::CoreInput;
 use crate::packets::{acknowledge, packet_of};
 use ason_base::{Copied, DeskItem, Msg, NodeId, OutOfMemory, Packet, copy_all};
 use hop_reliable::Heard;
 use node_core::{Change, Input, Node};
-use std::alloc::Global;
 
 // What the node answers, with its messages prepared and their frames at the end of the list.
 fn prepared(
-    alloc: Global,
+    maker: &mut FrameMaker,
     node: &Node,
     adjacencies: &mut [Adjacency],
     frames: &mut Vec<Frame>,
@@ -44,14 +43,14 @@ fn prepared(
     ensures spelled { OnOk result
         (AnswerIsSpelled node.now adjacencies.old (answer_to node.now input.now)) }
 {
-    let change = node.answer(alloc, input)?;
-    let outs = copy_all(alloc, change.sent().items())?;
-    prepare_all(alloc, node.id(), adjacencies, frames, outs)?;
+    let change = node.answer(maker.alloc, input)?;
+    let outs = copy_all(maker.alloc, change.sent().items())?;
+    prepare_all(maker, node.id(), adjacencies, frames, outs)?;
     Ok(change)
 }
 
 fn carry_out(
-    alloc: Global,
+    maker: &mut FrameMaker,
     node: &mut Node,
     adjacencies: &mut [Adjacency],
     frames: &mut Vec<Frame>,
@@ -71,14 +70,14 @@ fn carry_out(
     ensures spelled { OnOk result
         (AnswerIsSpelled node.old adjacencies.old (answer_to node.old input.now)) }
 {
-    let change = prepared(alloc, node, adjacencies, frames, input)?;
+    let change = prepared(maker, node, adjacencies, frames, input)?;
     node.carry_out(change)?;
     Ok(())
 }
 
 // The node takes an input, and its messages are prepared. After want of memory none is.
 fn give(
-    alloc: Global,
+    maker: &mut FrameMaker,
     node: &mut Node,
     adjacencies: &mut [Adjacency],
     frames: &mut Vec<Frame>,
@@ -99,7 +98,7 @@ fn give(
     ensures spelled { OnOk result
         (AnswerIsSpelled node.old adjacencies.old (answer_to node.old input.now)) }
 {
-    match carry_out(alloc, node, adjacencies, frames, input) {
+    match carry_out(maker, node, adjacencies, frames, input) {
         Ok(()) => Ok(()),
         Err(e) => {
             discard_all(adjacencies);
@@ -117,7 +116,7 @@ fn handed_up(heard: Heard, body: Option<Msg>) -> Option<Msg>
 }
 
 fn hand_up(
-    alloc: Global,
+    maker: &mut FrameMaker,
     node: &mut Node,
     adjacencies: &mut [Adjacency],
     frames: &mut Vec<Frame>,
@@ -143,7 +142,7 @@ fn hand_up(
     match body {
         None => Ok(()),
         Some(msg) => give(
-            alloc,
+            maker,
             node,
             adjacencies,
             frames,
@@ -154,7 +153,7 @@ fn hand_up(
 
 // A packet of a neighbour: its acknowledgement, then what the rule of its message sends.
 fn take_packet(
-    alloc: Global,
+    maker: &mut FrameMaker,
     node: &mut Node,
     adjacencies: &mut [Adjacency],
     frames: &mut Vec<Frame>,
@@ -176,17 +175,17 @@ fn take_packet(
         (AllSpelled node.old.place.id (packet_step node.old adjacencies.old from packet).sendings) }
 {
     let heard = hears(adjacencies, from, &packet);
-    acknowledge(alloc, node.id(), from, frames, heard, &packet)?;
+    acknowledge(maker, node.id(), from, frames, heard, &packet)?;
     let Packet { acks, body, .. } = packet;
     let body = handed_up(heard, body);
-    hand_up(alloc, node, adjacencies, frames, from, body)?;
+    hand_up(maker, node, adjacencies, frames, from, body)?;
     take(adjacencies, from, heard, acks.items());
     commit_all(adjacencies);
     Ok(())
 }
 
 fn taken(
-    alloc: Global,
+    maker: &mut FrameMaker,
     node: &mut Node,
     adjacencies: &mut [Adjacency],
     from: NodeId,
@@ -207,14 +206,14 @@ fn taken(
     ensures err { OnErr result (adjacencies.new ≡ adjacencies.old) }
 {
     node.fits();
-    let mut frames = Vec::new(alloc);
-    take_packet(alloc, node, adjacencies, &mut frames, from, packet)?;
+    let mut frames = Vec::new(maker.alloc);
+    take_packet(maker, node, adjacencies, &mut frames, from, packet)?;
     Ok(frames)
 }
 
 // A frame of a neighbour. One that spells nothing changes nothing.
 fn take_frame(
-    alloc: Global,
+    maker: &mut FrameMaker,
     node: &mut Node,
     adjacencies: &mut [Adjacency],
     from: NodeId,
@@ -237,15 +236,15 @@ fn take_frame(
     ensures err { OnErr result (adjacencies.new ≡ adjacencies.old) }
 {
     // A frame that begins with the byte of a flood would go to the flood here.
-    match packet_of(alloc, bytes) {
-        Ok(Some(packet)) => taken(alloc, node, adjacencies, from, packet),
-        Ok(None) => Ok(Vec::new(alloc)),
+    match packet_of(maker.alloc, bytes) {
+        Ok(Some(packet)) => taken(maker, node, adjacencies, from, packet),
+        Ok(None) => Ok(Vec::new(maker.alloc)),
         Err(e) => Err(e),
     }
 }
 
 fn handle(
-    alloc: Global,
+    maker: &mut FrameMaker,
     node: &mut Node,
     adjacencies: &mut [Adjacency],
     item: &DeskItem,
@@ -263,16 +262,16 @@ fn handle(
     ensures err { OnErr result (adjacencies.new ≡ adjacencies.old) }
 {
     node.fits();
-    let mut frames = Vec::new(alloc);
-    let item = item.copy(alloc)?;
-    give(alloc, node, adjacencies, &mut frames, &Input::Desk(item))?;
+    let mut frames = Vec::new(maker.alloc);
+    let item = item.copy(maker.alloc)?;
+    give(maker, node, adjacencies, &mut frames, &Input::Desk(item))?;
     commit_all(adjacencies);
     Ok(frames)
 }
 
 // Messages go again, then floods would, then what the rule of a tick sends.
 fn tick(
-    alloc: Global,
+    maker: &mut FrameMaker,
     node: &mut Node,
     adjacencies: &mut [Adjacency],
 ) -> Result<Vec<Frame>, OutOfMemory>
@@ -289,9 +288,9 @@ fn tick(
     ensures err { OnErr result (adjacencies.new ≡ adjacencies.old) }
 {
     node.fits();
-    let mut frames = Vec::new(alloc);
-    frame_due(alloc, node.id(), adjacencies, &mut frames)?;
-    give(alloc, node, adjacencies, &mut frames, &Input::Tick)?;
+    let mut frames = Vec::new(maker.alloc);
+    frame_due(maker, node.id(), adjacencies, &mut frames)?;
+    give(maker, node, adjacencies, &mut frames, &Input::Tick)?;
     age_all(adjacencies);
     commit_all(adjacencies);
     Ok(frames)
@@ -299,7 +298,7 @@ fn tick(
 
 /// What an input does, and the frames that go out. After want of memory the node and its hops are unchanged.
 pub(crate) fn react(
-    alloc: Global,
+    maker: &mut FrameMaker,
     node: &mut Node,
     adjacencies: &mut [Adjacency],
     input: &CoreInput,
@@ -318,9 +317,9 @@ pub(crate) fn react(
 {
     match input {
         CoreInput::Frame { from, bytes } => {
-            take_frame(alloc, node, adjacencies, *from, bytes.items())
+            take_frame(maker, node, adjacencies, *from, bytes.items())
         }
-        CoreInput::Tick => tick(alloc, node, adjacencies),
-        CoreInput::Desk(item) => handle(alloc, node, adjacencies, item),
+        CoreInput::Tick => tick(maker, node, adjacencies),
+        CoreInput::Desk(item) => handle(maker, node, adjacencies, item),
     }
 }
