@@ -10,8 +10,7 @@ use Rattle.ason_base.specs.declared.ids.NodeId.{NodeId}
 use Rattle.ason_base.specs.declared.messages.Msg.{Msg}
 use Rattle.ason_base.specs.Network.{Network}
 use Rattle.mesh_rules.specs.Commands.{is_again, is_valid}
-use Rattle.flood.specs.declared.frames.Content.{Content}
-use Rattle.flood.specs.declared.frames.Content.TheVariants.{Message, Flood}
+use Rattle.world_core.specs.Frames.{Content, Message}
 use Rattle.world_core.specs.Worlds.{World, delivered, frame_at, handed_up, handled, taken, with_event as counted}
 use Rattle.world_core.specs.Runs.{IsRun, posted, step}
 use Rattle.world_core.specs.Laws.{EventsAreCounted, EveryImageHasTheLaws, EveryRunIsShown}
@@ -64,7 +63,6 @@ posted_delivered : (t : Network) (w : World) (d u : NodeId) (o : Option Content)
     (delivered t w d u o).posted ≡ w.posted
 posted_delivered t w d u None = refl
 posted_delivered t w d u (Some (Message p)) = posted_handled t (taken w d u p) d u (handed_up w d u p)
-posted_delivered t w d u (Some (Flood m)) = refl
 
 posted_with :
     (t : Network) (q : List CallNo) (h : History) (rings : ℕ → ℕ → List ℕ) (e : Event) →

@@ -1,6 +1,6 @@
 pub mod Changing
 pub mod Sending
-pub mod Flooding
+pub mod Spelling
 pub mod Later
 pub mod Resting
 pub mod Loops
@@ -12,4 +12,3 @@ pub mod Taking
 pub mod Preparing
 pub mod Spelled
 pub mod Reacting
-pub mod Beginning

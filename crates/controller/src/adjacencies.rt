@@ -4,18 +4,15 @@ ghost use Rattle.std.specs.Prelude.{◌≡◌, ◌+◌, ◌-◌, ◌<◌, ◌≤
 ghost use Rattle.std.specs.Option.{option_copied};
 ghost use Rattle.std.specs.List.{AllByRecursion, flat_map};
 ghost use Rattle.ason_base.specs.Writable.{IsWritableMsg};
-ghost use Rattle.flood.specs.declared.frames.Content.{Content};
-ghost use Rattle.flood.specs.Frames.{IsFrame};
 ghost use Rattle.hop_reliable.specs.Hop.{heard_as, last_number, numbered, with_next};
 ghost use Rattle.rsvp_messages.specs.Writable.{IsWritable};
 ghost use Rattle.controller.specs.declared.adjacencies.Adjacency.{Adjacency};
 ghost use Rattle.controller.specs.Adjacencies.{AllCanGo, CanGoAgain, IsChangedAt, adjacency_at, aged, again_to, committed, hop_at, is_to, next_at, packets_on, peer_numbers, prepared_at, reaches, rested, sendings_to, sent_on, sent_one, taken_at, taken_by};
-ghost use Rattle.controller.specs.Frames.{AllSpelled, frames_to, sent_frame};
+ghost use Rattle.controller.specs.Frames.{AllSpelled, IsFrame, frames_to, sent_frame};
 ghost use Rattle.controller.specs.Kept.{unacknowledged};
 
-use crate::frames::Frame;
+use crate::frames::{Frame, FrameMaker};
 use ason_base::{Msg, MsgId, NodeId, Out, OutOfMemory, Packet};
-use flood::Content;
 use hop_reliable::{Heard, Hop};
 use std::alloc::Global;
 
@@ -122,7 +119,7 @@ fn prepare(alloc: Global, adjacencies: &mut [Adjacency], out: Out) -> Result<Pac
 }
 
 fn prepare_framed(
-    alloc: Global,
+    maker: &mut FrameMaker,
     me: NodeId,
     adjacencies: &mut [Adjacency],
     out: Out,
@@ -135,19 +132,18 @@ fn prepare_framed(
     ensures rest { map rested adjacencies.new ≡ map rested adjacencies.old }
     ensures frame { IfOk result
         (λ f. f ≡ sent_frame me out.to
-        (Content.Message (numbered ((next_at adjacencies.old out.to.0).sent + 1) out.msg))) }
+        (numbered ((next_at adjacencies.old out.to.0).sent + 1) out.msg)) }
     ensures spelled { IfOk result
-        (λ f. IsFrame f.bytes
-        (Content.Message (numbered ((next_at adjacencies.old out.to.0).sent + 1) out.msg))) }
+        (λ f. IsFrame f.bytes (numbered ((next_at adjacencies.old out.to.0).sent + 1) out.msg)) }
 {
     let to = out.to;
-    let packet = prepare(alloc, adjacencies, out)?;
-    Frame::new(alloc, me, to, &Content::Message(packet))
+    let packet = prepare(maker.alloc, adjacencies, out)?;
+    maker.frame(me, to, &packet)
 }
 
 /// Prepares these messages, in order. Their frames go to the end of the list.
 pub(crate) fn prepare_all(
-    alloc: Global,
+    maker: &mut FrameMaker,
     me: NodeId,
     adjacencies: &mut [Adjacency],
     frames: &mut Vec<Frame>,
@@ -164,7 +160,7 @@ pub(crate) fn prepare_all(
         (AllSpelled me (packets_on (next_at adjacencies.old) outs.items)) }
 {
     for out in outs {
-        let frame = prepare_framed(alloc, me, adjacencies, out)?;
+        let frame = prepare_framed(maker, me, adjacencies, out)?;
         frames.push(frame)?;
     }
     Ok(())
@@ -201,7 +197,7 @@ pub(crate) fn age_all(adjacencies: &mut [Adjacency])
 
 // The frames of these packets go to the end of the list.
 fn frame_all(
-    alloc: Global,
+    maker: &mut FrameMaker,
     me: NodeId,
     to: NodeId,
     packets: Vec<Packet>,
@@ -213,7 +209,7 @@ fn frame_all(
     ensures spelled { OnOk result (AllSpelled me (sendings_to to packets.items)) }
 {
     for p in packets {
-        let frame = Frame::new(alloc, me, to, &Content::Message(p))?;
+        let frame = maker.frame(me, to, &p)?;
         frames.push(frame)?;
     }
     Ok(())
@@ -221,7 +217,7 @@ fn frame_all(
 
 // What the next tick sends again to a neighbour goes to the end of the list.
 fn frame_again(
-    alloc: Global,
+    maker: &mut FrameMaker,
     me: NodeId,
     adjacency: &Adjacency,
     frames: &mut Vec<Frame>,
@@ -231,13 +227,13 @@ fn frame_again(
         (frames.new.items ≡ frames.old.items ++ frames_to me (again_to adjacency.now)) }
     ensures spelled { OnOk result (AllSpelled me (again_to adjacency.now)) }
 {
-    let due = adjacency.hop.due(alloc)?;
-    frame_all(alloc, me, adjacency.peer, due, frames)
+    let due = adjacency.hop.due(maker.alloc)?;
+    frame_all(maker, me, adjacency.peer, due, frames)
 }
 
 /// What the next tick sends again goes to the end of the list, by neighbour and then by number.
 pub(crate) fn frame_due(
-    alloc: Global,
+    maker: &mut FrameMaker,
     me: NodeId,
     adjacencies: &[Adjacency],
     frames: &mut Vec<Frame>,
@@ -248,7 +244,7 @@ pub(crate) fn frame_due(
     ensures spelled { OnOk result (AllSpelled me (flat_map again_to adjacencies.now)) }
 {
     for adjacency in adjacencies {
-        frame_again(alloc, me, adjacency, frames)?;
+        frame_again(maker, me, adjacency, frames)?;
     }
     Ok(())
 }

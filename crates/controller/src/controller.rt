@@ -7,16 +7,13 @@ ghost use Rattle.mesh_rules.specs.Rows.{call_rows, leg_rows};
 ghost use Rattle.controller.specs.declared.controller.TheConstants.{MOST_STEPS};
 ghost use Rattle.controller.specs.Controllers.{IsStep};
 ghost use Rattle.controller.specs.Kept.{AllToNeighbours, IsFromNeighbour, new_controller, unacknowledged};
-ghost use Rattle.flood.specs.State.{pending_count};
 
 use crate::adjacencies::{Adjacency, pending, reaches};
-use crate::floods::begun;
-use crate::frames::Frames;
+use crate::frames::{FrameMaker, Frames};
 use crate::inputs::{CoreInput, Pending};
 use crate::peers::adjacencies;
 use crate::reactions::react;
 use ason_base::{NodeId, OutOfMemory, TableRows, Topology};
-use flood::Flood;
 use node_core::Node;
 use std::alloc::Global;
 use std::marker::Model;
@@ -24,41 +21,38 @@ use std::marker::Model;
 /// How many steps a controller makes, so that the numbers of its messages never end.
 pub const MOST_STEPS: u64 = 50_000;
 
-/// The controller of one node: the node, a reliable hop to each neighbour, and the rows of links that it floods.
+/// The controller of one node: the node, and a reliable hop to each neighbour.
 #[derive(Debug, Drop)]
 pub struct Controller {
-    alloc: Global,
+    maker: FrameMaker,
     node: Node,
     adjacencies: Vec<Adjacency>,
-    flood: Flood,
     steps: u64,
 }
 
 impl Model for Controller {
     ghost use Rattle.controller.specs.Controllers.{ControllerState};
-    ghost use Rattle.controller.specs.Kept.{FloodFits, IsKept};
+    ghost use Rattle.controller.specs.Kept.{IsKept};
 
     ghost Value = { ControllerState };
 
-    ghost view = { λ c. record { node = c.node; adjacencies = c.adjacencies.items; flood = c.flood; steps = c.steps } };
+    ghost view = { λ c. record { node = c.node; adjacencies = c.adjacencies.items; steps = c.steps } };
 
-    ghost invariant = { λ c. IsKept c.node.place c.adjacencies.items c.steps × FloodFits c.node.place c.node.state c.flood };
+    ghost invariant = { λ c. IsKept c.node.place c.adjacencies.items c.steps };
 }
 
 impl Controller {
-    /// The controller of node `id`, which keeps nothing, and sent nothing. The rows of its own links are due to each neighbour.
+    /// The controller of node `id`, which keeps nothing, and sent nothing.
     pub fn new(alloc: Global, t: &Topology, id: NodeId) -> Result<Controller, OutOfMemory>
         requires { IsSome (find_node t.now id) }
         ensures { IfOk result (λ c. c ≡ new_controller t.now id) }
     {
         let node = Node::new(alloc, t, id)?;
         let adjacencies = adjacencies(alloc, t, id)?;
-        let flood = begun(alloc, t, id)?;
         Ok(Controller {
-            alloc,
+            maker: FrameMaker::new(alloc),
             node,
             adjacencies,
-            flood,
             steps: 0,
         })
     }
@@ -75,10 +69,9 @@ impl Controller {
         ensures err { OnErr result (self.new ≡ self.old) }
     {
         let frames = react(
-            self.alloc,
+            &mut self.maker,
             &mut self.node,
             &mut self.adjacencies,
-            &mut self.flood,
             input,
         )?;
         self.steps += 1;
@@ -109,18 +102,15 @@ impl Controller {
         self.steps
     }
 
-    /// How many messages of its hops, and how many rows that it floods, aren't acknowledged. A row counts from the moment when it
-    /// is due to a neighbour.
+    /// How many messages of its hops aren't acknowledged. It floods no row.
     pub fn pending(&self) -> Pending
         ensures hop { result.hop ≡ unacknowledged self.now.adjacencies }
-        ensures few_hop { result.hop ≤ 2 ^ 40 }
-        ensures flood { result.flood ≡ pending_count self.now.flood }
-        ensures few_flood { result.flood ≤ 2 ^ 40 }
+        ensures few { result.hop ≤ 2 ^ 40 }
+        ensures flood { result.flood ≡ 0 }
     {
-        self.flood.counts();
         Pending {
             hop: pending(&self.adjacencies),
-            flood: self.flood.pending(),
+            flood: 0,
         }
     }
 }

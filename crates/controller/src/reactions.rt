@@ -9,30 +9,23 @@ ghost use Rattle.mesh_rules.specs.Changes.{changed};
 ghost use Rattle.node_core.specs.Nodes.{IsWritableInput, MayTake, answer_to, stepped};
 ghost use Rattle.controller.specs.Adjacencies.{ArePrepared, reaches, rested};
 ghost use Rattle.controller.specs.Answers.{BodyCanBePassedOn, body_answer};
-ghost use Rattle.flood.specs.declared.frames.Content.{Content};
-ghost use Rattle.flood.specs.Frames.{IsFrame, SpellsNothing};
-ghost use Rattle.flood.specs.Messages.{SpellsFlood};
-ghost use Rattle.flood.specs.State.{ticked};
-ghost use Rattle.controller.specs.Controllers.{AddsAnswer, AnswerIsSpelled, AreMade, Becomes, IsMade, IsReaction, flood_after, frame_step, handed_body, idle_step, item_step, packet_step, parts, tick_step};
-ghost use Rattle.controller.specs.Frames.{AllSpelled, frames_to};
-ghost use Rattle.controller.specs.Kept.{AllToNeighbours, FloodFits, IsFromNeighbour, IsKept, IsReady};
+ghost use Rattle.controller.specs.Controllers.{AddsAnswer, AnswerIsSpelled, Becomes, IsMade, IsReaction, handed_body, idle_step, item_step, packet_step, tick_step};
+ghost use Rattle.controller.specs.Frames.{AllSpelled, IsFrame, SpellsNothing, frames_to};
+ghost use Rattle.controller.specs.Kept.{AllToNeighbours, IsFromNeighbour, IsKept, IsReady};
 
-use crate::acks::acknowledge;
 use crate::adjacencies::{
     Adjacency, age_all, commit_all, discard_all, frame_due, hears, prepare_all, take,
 };
-use crate::floods::{frame_floods_due, take_flood};
-use crate::frames::Frame;
+use crate::frames::{Frame, FrameMaker};
 use crate::inputs::CoreInput;
-use ason_base::{Copied, DecodeError, DeskItem, Msg, NodeId, OutOfMemory, Packet, copy_all};
-use flood::{Content, Flood, read_frame};
+use crate::packets::{acknowledge, packet_of};
+use ason_base::{Copied, DeskItem, Msg, NodeId, OutOfMemory, Packet, copy_all};
 use hop_reliable::Heard;
 use node_core::{Change, Input, Node};
-use std::alloc::Global;
 
 // What the node answers, with its messages prepared and their frames at the end of the list.
 fn prepared(
-    alloc: Global,
+    maker: &mut FrameMaker,
     node: &Node,
     adjacencies: &mut [Adjacency],
     frames: &mut Vec<Frame>,
@@ -50,14 +43,14 @@ fn prepared(
     ensures spelled { OnOk result
         (AnswerIsSpelled node.now adjacencies.old (answer_to node.now input.now)) }
 {
-    let change = node.answer(alloc, input)?;
-    let outs = copy_all(alloc, change.sent().items())?;
-    prepare_all(alloc, node.id(), adjacencies, frames, outs)?;
+    let change = node.answer(maker.alloc, input)?;
+    let outs = copy_all(maker.alloc, change.sent().items())?;
+    prepare_all(maker, node.id(), adjacencies, frames, outs)?;
     Ok(change)
 }
 
 fn carry_out(
-    alloc: Global,
+    maker: &mut FrameMaker,
     node: &mut Node,
     adjacencies: &mut [Adjacency],
     frames: &mut Vec<Frame>,
@@ -77,14 +70,14 @@ fn carry_out(
     ensures spelled { OnOk result
         (AnswerIsSpelled node.old adjacencies.old (answer_to node.old input.now)) }
 {
-    let change = prepared(alloc, node, adjacencies, frames, input)?;
+    let change = prepared(maker, node, adjacencies, frames, input)?;
     node.carry_out(change)?;
     Ok(())
 }
 
 // The node takes an input, and its messages are prepared. After want of memory none is.
 fn give(
-    alloc: Global,
+    maker: &mut FrameMaker,
     node: &mut Node,
     adjacencies: &mut [Adjacency],
     frames: &mut Vec<Frame>,
@@ -105,7 +98,7 @@ fn give(
     ensures spelled { OnOk result
         (AnswerIsSpelled node.old adjacencies.old (answer_to node.old input.now)) }
 {
-    match carry_out(alloc, node, adjacencies, frames, input) {
+    match carry_out(maker, node, adjacencies, frames, input) {
         Ok(()) => Ok(()),
         Err(e) => {
             discard_all(adjacencies);
@@ -123,7 +116,7 @@ fn handed_up(heard: Heard, body: Option<Msg>) -> Option<Msg>
 }
 
 fn hand_up(
-    alloc: Global,
+    maker: &mut FrameMaker,
     node: &mut Node,
     adjacencies: &mut [Adjacency],
     frames: &mut Vec<Frame>,
@@ -149,7 +142,7 @@ fn hand_up(
     match body {
         None => Ok(()),
         Some(msg) => give(
-            alloc,
+            maker,
             node,
             adjacencies,
             frames,
@@ -160,7 +153,7 @@ fn hand_up(
 
 // A packet of a neighbour: its acknowledgement, then what the rule of its message sends.
 fn take_packet(
-    alloc: Global,
+    maker: &mut FrameMaker,
     node: &mut Node,
     adjacencies: &mut [Adjacency],
     frames: &mut Vec<Frame>,
@@ -182,17 +175,17 @@ fn take_packet(
         (AllSpelled node.old.place.id (packet_step node.old adjacencies.old from packet).sendings) }
 {
     let heard = hears(adjacencies, from, &packet);
-    acknowledge(alloc, node.id(), from, frames, heard, &packet)?;
+    acknowledge(maker, node.id(), from, frames, heard, &packet)?;
     let Packet { acks, body, .. } = packet;
     let body = handed_up(heard, body);
-    hand_up(alloc, node, adjacencies, frames, from, body)?;
+    hand_up(maker, node, adjacencies, frames, from, body)?;
     take(adjacencies, from, heard, acks.items());
     commit_all(adjacencies);
     Ok(())
 }
 
 fn taken(
-    alloc: Global,
+    maker: &mut FrameMaker,
     node: &mut Node,
     adjacencies: &mut [Adjacency],
     from: NodeId,
@@ -207,59 +200,51 @@ fn taken(
     ensures place { node.new.place ≡ node.old.place }
     ensures kept { (k : ℕ) → IsKept node.old.place adjacencies.old k →
         OnOk result (IsKept node.new.place adjacencies.new (k + 1)) }
-    ensures learnt { OnOk result (node.new.state.learnt ≡ node.old.state.learnt) }
     ensures near { IfOk result (λ fs. AllToNeighbours node.old.place fs.items) }
     ensures few { IfOk result (λ fs. length fs.items ≤ 2 ^ 40) }
     ensures same { OnErr result (node.new ≡ node.old) }
     ensures err { OnErr result (adjacencies.new ≡ adjacencies.old) }
 {
     node.fits();
-    let mut frames = Vec::new(alloc);
-    take_packet(alloc, node, adjacencies, &mut frames, from, packet)?;
+    let mut frames = Vec::new(maker.alloc);
+    take_packet(maker, node, adjacencies, &mut frames, from, packet)?;
     Ok(frames)
 }
 
 // A frame of a neighbour. One that spells nothing changes nothing.
 fn take_frame(
-    alloc: Global,
+    maker: &mut FrameMaker,
     node: &mut Node,
     adjacencies: &mut [Adjacency],
-    flood: &mut Flood,
     from: NodeId,
     bytes: &[u8],
 ) -> Result<Vec<Frame>, OutOfMemory>
     requires ready { IsReady node.old.place adjacencies.old }
-    requires fits { FloodFits node.old.place node.old.state flood.old }
     requires from { IsTrue (is_neighbour node.old.place from) }
-    ensures content { (c : Content) → IsFrame bytes.now c →
-        IfOk result (λ fs. AreMade (parts node.old adjacencies.old flood.old)
-        (parts node.new adjacencies.new flood.new)
-        (frame_step node.old adjacencies.old flood.old from c)
-        (flood_after flood.old from c) fs.items) }
+    ensures packet { (p : Packet) → IsFrame bytes.now p →
+        IfOk result (λ fs. IsMade node.old node.new adjacencies.old adjacencies.new
+        (packet_step node.old adjacencies.old from p) fs.items) }
     ensures noise { SpellsNothing bytes.now →
-        IfOk result (λ fs. AreMade (parts node.old adjacencies.old flood.old)
-        (parts node.new adjacencies.new flood.new)
-        (idle_step node.old adjacencies.old) flood.old fs.items) }
+        IfOk result (λ fs. IsMade node.old node.new adjacencies.old adjacencies.new
+        (idle_step node.old adjacencies.old) fs.items) }
     ensures place { node.new.place ≡ node.old.place }
     ensures kept { (k : ℕ) → IsKept node.old.place adjacencies.old k →
         OnOk result (IsKept node.new.place adjacencies.new (k + 1)) }
-    ensures fits { OnOk result (FloodFits node.new.place node.new.state flood.new) }
     ensures near { IfOk result (λ fs. AllToNeighbours node.old.place fs.items) }
     ensures few { IfOk result (λ fs. length fs.items ≤ 2 ^ 40) }
     ensures same { OnErr result (node.new ≡ node.old) }
     ensures err { OnErr result (adjacencies.new ≡ adjacencies.old) }
-    ensures err_flood { OnErr result (flood.new ≡ flood.old) }
 {
-    match read_frame(alloc, bytes) {
-        Ok(Content::Message(packet)) => taken(alloc, node, adjacencies, from, packet),
-        Ok(Content::Flood(m)) => take_flood(alloc, node, flood, from, &m),
-        Err(DecodeError::NotMessage) => Ok(Vec::new(alloc)),
-        Err(DecodeError::OutOfMemory) => Err(OutOfMemory),
+    // A frame that begins with the byte of a flood would go to the flood here.
+    match packet_of(maker.alloc, bytes) {
+        Ok(Some(packet)) => taken(maker, node, adjacencies, from, packet),
+        Ok(None) => Ok(Vec::new(maker.alloc)),
+        Err(e) => Err(e),
     }
 }
 
 fn handle(
-    alloc: Global,
+    maker: &mut FrameMaker,
     node: &mut Node,
     adjacencies: &mut [Adjacency],
     item: &DeskItem,
@@ -271,84 +256,70 @@ fn handle(
     ensures place { node.new.place ≡ node.old.place }
     ensures kept { (k : ℕ) → IsKept node.old.place adjacencies.old k →
         OnOk result (IsKept node.new.place adjacencies.new (k + 1)) }
-    ensures learnt { OnOk result (node.new.state.learnt ≡ node.old.state.learnt) }
     ensures near { IfOk result (λ fs. AllToNeighbours node.old.place fs.items) }
     ensures few { IfOk result (λ fs. length fs.items ≤ 2 ^ 40) }
     ensures same { OnErr result (node.new ≡ node.old) }
     ensures err { OnErr result (adjacencies.new ≡ adjacencies.old) }
 {
     node.fits();
-    let mut frames = Vec::new(alloc);
-    let item = item.copy(alloc)?;
-    give(alloc, node, adjacencies, &mut frames, &Input::Desk(item))?;
+    let mut frames = Vec::new(maker.alloc);
+    let item = item.copy(maker.alloc)?;
+    give(maker, node, adjacencies, &mut frames, &Input::Desk(item))?;
     commit_all(adjacencies);
     Ok(frames)
 }
 
-// Messages go again, then rows, then what the rule of a tick sends.
+// Messages go again, then floods would, then what the rule of a tick sends.
 fn tick(
-    alloc: Global,
+    maker: &mut FrameMaker,
     node: &mut Node,
     adjacencies: &mut [Adjacency],
-    flood: &mut Flood,
 ) -> Result<Vec<Frame>, OutOfMemory>
     requires ready { IsReady node.old.place adjacencies.old }
-    requires fits { FloodFits node.old.place node.old.state flood.old }
     ensures made { IfOk result
         (λ fs. IsMade node.old node.new adjacencies.old adjacencies.new
-        (tick_step node.old adjacencies.old flood.old) fs.items) }
-    ensures flood { OnOk result (flood.new ≡ ticked flood.old) }
+        (tick_step node.old adjacencies.old) fs.items) }
     ensures place { node.new.place ≡ node.old.place }
     ensures kept { (k : ℕ) → IsKept node.old.place adjacencies.old k →
         OnOk result (IsKept node.new.place adjacencies.new (k + 1)) }
-    ensures fits { OnOk result (FloodFits node.new.place node.new.state flood.new) }
     ensures near { IfOk result (λ fs. AllToNeighbours node.old.place fs.items) }
     ensures few { IfOk result (λ fs. length fs.items ≤ 2 ^ 40) }
     ensures same { OnErr result (node.new ≡ node.old) }
     ensures err { OnErr result (adjacencies.new ≡ adjacencies.old) }
-    ensures err_flood { OnErr result (flood.new ≡ flood.old) }
 {
     node.fits();
-    flood.counts();
-    let mut frames = Vec::new(alloc);
-    frame_due(alloc, node.id(), adjacencies, &mut frames)?;
-    frame_floods_due(alloc, node.id(), flood, &mut frames)?;
-    give(alloc, node, adjacencies, &mut frames, &Input::Tick)?;
+    let mut frames = Vec::new(maker.alloc);
+    frame_due(maker, node.id(), adjacencies, &mut frames)?;
+    give(maker, node, adjacencies, &mut frames, &Input::Tick)?;
     age_all(adjacencies);
     commit_all(adjacencies);
-    flood.age();
     Ok(frames)
 }
 
-/// What an input does, and the frames that go out. After want of memory the node, its hops and its flood are unchanged.
+/// What an input does, and the frames that go out. After want of memory the node and its hops are unchanged.
 pub(crate) fn react(
-    alloc: Global,
+    maker: &mut FrameMaker,
     node: &mut Node,
     adjacencies: &mut [Adjacency],
-    flood: &mut Flood,
     input: &CoreInput,
 ) -> Result<Vec<Frame>, OutOfMemory>
     requires ready { IsReady node.old.place adjacencies.old }
-    requires fits { FloodFits node.old.place node.old.state flood.old }
     requires from { IsFromNeighbour node.old.place input.now }
     ensures reaction { IfOk result
-        (λ fs. IsReaction (parts node.old adjacencies.old flood.old)
-        (parts node.new adjacencies.new flood.new) input.now fs.items) }
+        (λ fs. IsReaction node.old node.new adjacencies.old adjacencies.new input.now fs.items) }
     ensures place { node.new.place ≡ node.old.place }
     ensures kept { (k : ℕ) → IsKept node.old.place adjacencies.old k →
         OnOk result (IsKept node.new.place adjacencies.new (k + 1)) }
-    ensures fits { OnOk result (FloodFits node.new.place node.new.state flood.new) }
     ensures near { IfOk result (λ fs. AllToNeighbours node.old.place fs.items) }
     ensures few { IfOk result (λ fs. length fs.items ≤ 2 ^ 40) }
     ensures same { OnErr result (node.new ≡ node.old) }
     ensures err { OnErr result (adjacencies.new ≡ adjacencies.old) }
-    ensures err_flood { OnErr result (flood.new ≡ flood.old) }
 {
     match input {
         CoreInput::Frame { from, bytes } => {
-            take_frame(alloc, node, adjacencies, flood, *from, bytes.items())
+            take_frame(maker, node, adjacencies, *from, bytes.items())
         }
-        CoreInput::Tick => tick(alloc, node, adjacencies, flood),
-        CoreInput::Desk(item) => handle(alloc, node, adjacencies, item),
+        CoreInput::Tick => tick(maker, node, adjacencies),
+        CoreInput::Desk(item) => handle(maker, node, adjacencies, item),
     }
 }

@@ -3,7 +3,7 @@ use Rattle.std.specs.Prelude.{◌≡◌, ℕ, List, ◌++◌, None}
 use Rattle.ason_base.specs.declared.commands.Command.{Command}
 use Rattle.ason_base.specs.declared.commands.Event.{Event}
 use Rattle.ason_base.specs.declared.commands.Event.TheVariants.{Post}
-use Rattle.ason_base.specs.Network.{IsTopology, Network}
+use Rattle.ason_base.specs.Network.{Network}
 use Rattle.mesh_rules.specs.Machine as mesh
 use Rattle.mesh_rules.specs.Events as mesh_runs
 use Rattle.mesh_laws.specs.Laws.{LawsHold}
@@ -33,11 +33,11 @@ abbrev pub SettlingGoesOn : Type 0
 SettlingGoesOn = (t : Network) (rounds : ℕ) (h : History) → (left : List Event) ×
     (h.events ++ left ≡ (settled t rounds h).events)
 
--- over a topology, the mesh that a run shows is where a run of the mesh leads, of which the laws of the mesh hold
+-- the mesh that a run shows is where a run of the mesh leads, of which the laws of the mesh hold
 pub record IsShown (t : Network) (h : History) : Type 0 where
-  pub run : mesh_runs.IsRun t mesh.start (mesh_events t (start t) h.events)
-  pub leads : mesh_runs.after t mesh.start (mesh_events t (start t) h.events) ≡ state_after t h
-  pub laws : LawsHold t (mesh_events t (start t) h.events)
+  pub run : mesh_runs.IsRun t mesh.start (mesh_events t start h.events)
+  pub leads : mesh_runs.after t mesh.start (mesh_events t start h.events) ≡ state_after t h
+  pub laws : LawsHold t (mesh_events t start h.events)
 
 abbrev pub EveryRunIsShown : Type 0
-EveryRunIsShown = (t : Network) (h : History) → IsTopology t → IsRunning t h → IsShown t h
+EveryRunIsShown = (t : Network) (h : History) → IsRunning t h → IsShown t h

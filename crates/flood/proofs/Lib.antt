@@ -16,6 +16,3 @@ pub mod TopologyRows
 pub mod Example
 pub mod DueOrder
 pub mod LinkNumbers
-pub mod FrameBodies
-pub mod ReadAgain
-pub mod FewEnds

@@ -3,4 +3,3 @@ pub mod Followed
 mod LegRows
 pub mod LeastRoute
 pub mod RowOrder
-pub mod Forgetting

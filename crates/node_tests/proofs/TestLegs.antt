@@ -1,19 +1,18 @@
 -- A leg that passes a node fits there, and may be put beside the others.
-use Rattle.std.proofs.Common.{◌≡◌, ◌<◌, ◌≤◌, ℕ, Bool, true, false, nat_eq, List, length, refl, sym, ap, subst, arith}
-use Rattle.std.specs.Prelude.{◌&&◌, Option, Some, None, IfSome, IsTrue}
+use Rattle.std.proofs.Common.{◌≡◌, ◌<◌, ◌≤◌, ℕ, true, false, nat_eq, List, length, refl, ap, subst, arith}
+use Rattle.std.specs.Prelude.{◌&&◌, Some, None}
 use Rattle.ason_base.specs.declared.calls.Phase.TheVariants.{Asked}
 use Rattle.ason_base.specs.declared.ids.LinkId.{LinkId}
-use Rattle.ason_base.specs.declared.ids.NodeId.{NodeId}
 use Rattle.ason_base.specs.declared.network.LinkSpec.{LinkSpec}
 use Rattle.ason_base.specs.declared.tables.Leg.{Leg}
 use Rattle.ason_base.specs.Lsps.{same_fibre}
 use Rattle.ason_base.specs.Network.{other_end}
 use Rattle.link_owner.specs.Claims.{FibreClaims}
-use Rattle.mesh_rules.specs.Legs.{find_leg, following, is_beyond_asked, is_work, previous, with_leg}
+use Rattle.mesh_rules.specs.Legs.{find_leg, is_beyond_asked, is_work, with_leg}
 use Rattle.mesh_rules.specs.LocalNodes.{LocalNode, fibre_in, fibre_out, own_link}
 use Rattle.mesh_rules.specs.Paths.{is_for_work}
 use Rattle.mesh_nodes.specs.Kept.{LegFits}
-use Rattle.mesh_nodes.specs.LocalNodes.{LocalNodeFits, is_downstream, is_upstream}
+use Rattle.mesh_nodes.specs.LocalNodes.{is_upstream}
 use Rattle.mesh_nodes.proofs.Kept.{legs-more}
 use Rattle.mesh_nodes.proofs.Links.{any-found, end-downstream}
 use Rattle.leg_table.proofs.Carried.{given-up, left-with}

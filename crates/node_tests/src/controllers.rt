@@ -13,6 +13,8 @@ const A: NodeId = NodeId(1);
 
 const B: NodeId = NodeId(2);
 
+const DONE: Pending = Pending { hop: 0, flood: 0 };
+
 // Two nodes that convert, and one link of two labels.
 fn two_nodes(alloc: Global) -> Result<Topology, Fail> {
     let node = |id: NodeId| NodeSpec { id, convert: true };
@@ -28,7 +30,7 @@ fn two_nodes(alloc: Global) -> Result<Topology, Fail> {
     Ok(t.ok_or("no topology")?)
 }
 
-pub(crate) fn controller(alloc: Global, t: &Topology, id: NodeId) -> Result<Controller, Fail> {
+fn controller(alloc: Global, t: &Topology, id: NodeId) -> Result<Controller, Fail> {
     match t.node(id) {
         Some(_) => Ok(Controller::new(alloc, t, id)?),
         None => Ok(None.ok_or("no such node")?),
@@ -58,7 +60,7 @@ fn set_up(alloc: Global, a: &mut Controller, call: u16) -> Result<Frames, Fail> 
     }
 }
 
-pub(crate) fn tick(c: &mut Controller) -> Result<Frames, Fail> {
+fn tick(c: &mut Controller) -> Result<Frames, Fail> {
     if c.steps() < MOST_STEPS {
         Ok(c.step(&CoreInput::Tick)?)
     } else {
@@ -100,7 +102,7 @@ fn take(
     take_bytes(c, from, bytes)
 }
 
-pub(crate) fn take_bytes(c: &mut Controller, from: NodeId, bytes: Bytes) -> Result<Frames, Fail> {
+fn take_bytes(c: &mut Controller, from: NodeId, bytes: Bytes) -> Result<Frames, Fail> {
     if c.steps() < MOST_STEPS && c.has_neighbour(from) {
         Ok(c.step(&CoreInput::Frame { from, bytes })?)
     } else {
@@ -141,9 +143,9 @@ fn sent_each(driven: &Driven, counts: &[usize]) -> bool {
     sent.eq(counts.iter().copied())
 }
 
-// No message waits for an acknowledgement.
+// Nothing waits for an acknowledgement.
 fn is_done(driven: &Driven) -> bool {
-    driven.a.pending().hop == 0 && driven.b.pending().hop == 0
+    driven.a.pending() == DONE && driven.b.pending() == DONE
 }
 
 // The legs are Live, and come in and go out on these labels.
@@ -156,8 +158,7 @@ fn are_live(rows: &TableRows, labels_in: &[Option<Label>], labels_out: &[Option<
         && leave.eq(labels_out.iter().copied())
 }
 
-// The first Path is lost and goes again at the tick, before the row of the link; it comes twice; the Resv overtakes the
-// acknowledgement.
+// The first Path is lost and goes again at the tick; it comes twice; the Resv overtakes the acknowledgement.
 const LOST: &[Act] = &[
     Act::SetUp(0),
     Act::Tick,
@@ -172,7 +173,7 @@ const LOST: &[Act] = &[
 fn a_path_that_is_lost_goes_again(rt: HostRuntime) -> Result<(), Fail> {
     let alloc = rt.alloc();
     let driven = drive(alloc, LOST)?;
-    assert!(rt; sent_each(&driven, &[1, 2, 2, 1, 1, 0, 0]));
+    assert!(rt; sent_each(&driven, &[1, 1, 2, 1, 1, 0, 0]));
     assert!(rt; is_done(&driven));
     let rows = driven.a.rows(alloc)?;
     assert!(rt; are_live(&rows, &[None], &[Label::new(1)]));
@@ -211,36 +212,7 @@ fn a_newer_frame_waits_for_the_older(rt: HostRuntime) -> Result<(), Fail> {
     Ok(())
 }
 
-// The row of its link is due to a neighbour from the start, goes first at the first tick, and is due until it is
-// acknowledged.
-#[test]
-fn a_row_is_due_until_it_is_acknowledged(rt: HostRuntime) -> Result<(), Fail> {
-    let alloc = rt.alloc();
-    let due = |flood: usize| Pending { hop: 0, flood };
-    let driven = drive(alloc, &[])?;
-    assert_eq!(rt; driven.a.pending(), due(1));
-    let driven = drive(alloc, &[Act::Tick, Act::ToB(0, 0)])?;
-    assert!(rt; sent_each(&driven, &[1, 1]));
-    assert_eq!(rt; driven.a.pending(), due(1));
-    let driven = drive(
-        alloc,
-        &[Act::Tick, Act::ToB(0, 0), Act::ToA(1, 0), Act::Tick],
-    )?;
-    assert!(rt; sent_each(&driven, &[1, 1, 0, 0]));
-    assert_eq!(rt; driven.a.pending(), due(0));
-    Ok(())
-}
-
-// A row that isn't acknowledged goes again 1, 3 and 7 ticks after its first sending.
-#[test]
-fn a_row_that_is_lost_goes_again(rt: HostRuntime) -> Result<(), Fail> {
-    let alloc = rt.alloc();
-    let driven = drive(alloc, &[Act::Tick; 9])?;
-    assert!(rt; sent_each(&driven, &[1, 1, 0, 1, 0, 0, 0, 1, 0]));
-    Ok(())
-}
-
-// Bytes that spell nothing: none, a byte alone, an unfinished message, and an unfinished flood.
+// Bytes that spell nothing: none, a byte alone, an unfinished message, and the first byte of a flood.
 #[test]
 fn noise_is_not_answered(rt: HostRuntime) -> Result<(), Fail> {
     let alloc = rt.alloc();
@@ -250,6 +222,6 @@ fn noise_is_not_answered(rt: HostRuntime) -> Result<(), Fail> {
         let bytes = Bytes::from_vec(Vec::from_slice(alloc, noise)?);
         assert!(rt; take_bytes(&mut b, A, bytes)?.items().is_empty());
     }
-    assert_eq!(rt; (b.steps(), b.pending()), (4, Pending { hop: 0, flood: 1 }));
+    assert_eq!(rt; (b.steps(), b.pending()), (4, DONE));
     Ok(())
 }

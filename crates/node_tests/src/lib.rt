@@ -6,8 +6,6 @@ mod call_tables;
 #[cfg(test)]
 mod controllers;
 #[cfg(test)]
-mod floods;
-#[cfg(test)]
 mod leg_tables;
 #[cfg(test)]
 mod meshes;

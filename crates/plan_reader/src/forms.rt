@@ -84,7 +84,7 @@ fn is_protected_setup(words: &[&[u8]]) -> bool
     begins(words, "setup", 6) && is_word(words, 4, "via") && are_numbers_word(words, 5)
 }
 
-pub fn is_other_setup(words: &[&[u8]]) -> bool
+fn is_other_setup(words: &[&[u8]]) -> bool
     ensures { result ≡ is_other_setup (texts words.now) }
 {
     is_bare_setup(words) || is_protected_setup(words) || is_backed_setup(words)

@@ -14,7 +14,7 @@ ghost use Rattle.plan_reader.specs.declared.faults.PlanKind.{PlanKind};
 
 use crate::calls::Calls;
 use crate::faults::{EntryError, PlanEntry, PlanError, PlanKind, error_at};
-use crate::forms::{is_given_setup, is_other_setup, is_release, is_settle, is_show, is_unbuilt};
+use crate::forms::{is_given_setup, is_release, is_settle, is_show, is_unbuilt};
 use crate::limits::{MOST_CALLS, MOST_LINES, MOST_ROUNDS};
 use crate::lines::{Line, Lines};
 use crate::names::{Name, Names, is_name};
@@ -78,13 +78,8 @@ fn read_setup(
     ensures calls { IfOk result (λ c. calls.new ≡ calls_with calls.old (texts words.now) c) }
     ensures fault { FailsBy result (setup_of t.now names.now calls.old (texts words.now)) }
 {
-    let ids = if words.len() == 5 {
-        Vec::new(alloc)
-    } else {
-        let Some(ids) = link_ids(alloc, word(words, 6))? else {
-            return Err(EntryError::Fault(PlanKind::Range));
-        };
-        ids
+    let Some(ids) = link_ids(alloc, word(words, 6))? else {
+        return Err(EntryError::Fault(PlanKind::Range));
     };
     if !is_name(word(words, 1)) {
         return Err(EntryError::Fault(PlanKind::Name));
@@ -102,15 +97,10 @@ fn read_setup(
     if calls.count() >= MOST_CALLS {
         return Err(EntryError::Fault(PlanKind::Count));
     }
-    let via = if words.len() == 5 {
-        None
-    } else {
-        let route = steps_over(alloc, t, from, &ids)?;
-        if !makes_route(t, from, to, route.items()) {
-            return Err(EntryError::Fault(PlanKind::Route));
-        }
-        Some(route)
-    };
+    let route = steps_over(alloc, t, from, &ids)?;
+    if !makes_route(t, from, to, route.items()) {
+        return Err(EntryError::Fault(PlanKind::Route));
+    }
     let call = CallNo(calls.count() as u16);
     calls.push(alloc, name, from)?;
     Ok(Command::Setup {
@@ -119,7 +109,7 @@ fn read_setup(
         to,
         protected: false,
         both: false,
-        via,
+        via: Some(route),
         backup: None,
     })
 }
@@ -167,7 +157,7 @@ fn read_line(
     ensures calls { IfOk result (λ l. calls.new ≡ calls_with_line calls.old (texts words.now) l) }
     ensures fault { FailsBy result (line_of t.now names.now calls.old (texts words.now)) }
 {
-    if is_given_setup(words) || (words.len() == 5 && is_other_setup(words)) {
+    if is_given_setup(words) {
         let command = read_setup(alloc, t, names, calls, words)?;
         return Ok(Line::Post(command));
     }

@@ -1,12 +1,9 @@
 -- Every run of a world, and what follows of it.
-use Rattle.std.proofs.Common.{◌≡◌, ℕ, Bool, true, false, nat_eq, List, [], ◌∷◌, ◌++◌, length, drop, map, refl, sym, ap, ◌∙◌, subst, arith, append-nil, Contains}
+use Rattle.std.proofs.Common.{◌≡◌, ℕ, Bool, true, false, nat_eq, List, [], ◌∷◌, ◌++◌, length, drop, refl, sym, ap, ◌∙◌, subst, arith, append-nil}
 use Rattle.ason_base.specs.declared.commands.Event.{Event}
 use Rattle.ason_base.specs.declared.messages.Msg.{Msg}
-use Rattle.ason_base.specs.Network.{IsTopology, Network, row_of}
-use Rattle.flood.specs.NetworkLaws as floods
-use Rattle.flood.specs.NetworkLaws.{InEveryRun, LinksOfATopology}
+use Rattle.ason_base.specs.Network.{Network}
 use Rattle.hop_reliable.specs.Schedules.{BothWays, HandedUpInOrder, HopEnd, IsSettled, SettledIsDelivered, idle, under_way}
-use Rattle.mesh_nodes.specs.Learnt.{NothingElseIsLearnt}
 use Rattle.mesh_rules.specs.declared.events.MeshEvent.{MeshEvent}
 use Rattle.mesh_rules.specs.Machine.{Mesh}
 use Rattle.mesh_rules.specs.Events as mesh_runs
@@ -14,9 +11,7 @@ use Rattle.mesh_laws.specs.Laws.{EveryRunKeepsTheLaws}
 use Rattle.world_core.specs.Worlds.{World, start}
 use Rattle.world_core.specs.Runs.{IsRun, after, step}
 use Rattle.world_core.specs.Images.{IsQuiet, given_by, image, mesh_events}
-use Rattle.world_core.specs.Laws.{ChannelsHaveTheFrames, EveryImageHasTheLaws, EveryRunIsShown, JoinedKnowTheLinks, JoinedKnowTheSame, KnownIsTrue, QuietIsShown}
-use Rattle.world_core.proofs.Flooded.{AreFlooded, flooded-run, flooded-start, flooded-step}
-use Rattle.world_core.proofs.Learnt.{is-true}
+use Rattle.world_core.specs.Laws.{ChannelsHaveTheFrames, EveryImageHasTheLaws, EveryRunIsShown, QuietIsShown}
 use Rattle.world_core.proofs.Reached.{AreReached, are-reached-run, are-reached-start, are-reached-step}
 use Rattle.world_core.proofs.Shown.{Shows, shows-step}
 use Rattle.world_core.proofs.Ways.{way-is}
@@ -30,37 +25,24 @@ shows_both t (e ∷ es) fs s s' s'' first second =
     (record { run = first.run.1; leads = first.leads }) second in
     record { run = (first.run.0, rest.run); leads = rest.leads }
 
--- What the laws of floods and of what nodes learn say, of which the world needs these.
-pub record FloodLaws : Type 0 where
-  pub links : LinksOfATopology
-  pub truth : InEveryRun floods.KnownIsTrue
-  pub sent : InEveryRun floods.SentIsKnown
-  pub same : InEveryRun floods.JoinedKnowTheSame
-  pub joined : InEveryRun floods.JoinedKnowTheLinks
-  pub others : NothingElseIsLearnt
-
-shows_run : HandedUpInOrder → FloodLaws → (t : Network) → IsTopology t → (events : List Event) (w : World) →
-    IsRun t w events → AreFlooded t w → AreReached w →
+shows_run : HandedUpInOrder → (t : Network) (events : List Event) (w : World) → IsRun t w events → AreReached w →
     Shows t (image w) (mesh_events t w events) (image (after t w events))
-shows_run law laws t valid [] w run f r = record { run = tt; leads = refl }
-shows_run law laws t valid (e ∷ es) w run f r =
+shows_run law t [] w run r = record { run = tt; leads = refl }
+shows_run law t (e ∷ es) w run r =
     shows_both t (given_by w e) (mesh_events t (step t w e) es) (image w) (image (step t w e))
     (image (after t w (e ∷ es)))
-    (shows-step law t valid w e run.0 (is-true laws.links laws.truth laws.sent t valid w f) r)
-    (shows_run law laws t valid es (step t w e) run.1 (flooded-step laws.others t w e f)
-    (are-reached-step t w e run.0 r))
+    (shows-step law t w e run.0 r) (shows_run law t es (step t w e) run.1 (are-reached-step t w e run.0 r))
 
-pub every-run-is-shown : HandedUpInOrder → FloodLaws → EveryRunIsShown
-every-run-is-shown law laws t events valid run =
-    let f = shows_run law laws t valid events (start t) run (flooded-start t) (are-reached-start t) in
-    record { run = f.run; leads = f.leads }
+pub every-run-is-shown : HandedUpInOrder → EveryRunIsShown
+every-run-is-shown law t events run =
+    let f = shows_run law t events start run are-reached-start in record { run = f.run; leads = f.leads }
 
 pub channels-have-the-frames : ChannelsHaveTheFrames
-channels-have-the-frames t events run u d = (are-reached-run t events (start t) run (are-reached-start t)).channels u d
+channels-have-the-frames t events run u d = (are-reached-run t events start run are-reached-start).channels u d
 
-pub every-image-has-the-laws : HandedUpInOrder → FloodLaws → EveryRunKeepsTheLaws → EveryImageHasTheLaws
-every-image-has-the-laws law floods laws t events valid run =
-    laws t (mesh_events t (start t) events) (every-run-is-shown law floods t events valid run).run
+pub every-image-has-the-laws : HandedUpInOrder → EveryRunKeepsTheLaws → EveryImageHasTheLaws
+every-image-has-the-laws law laws t events run =
+    laws t (mesh_events t start events) (every-run-is-shown law t events run).run
 
 -- Quiet
 
@@ -88,33 +70,5 @@ quiet_way law w r quiet u d = by_test (nat_eq u d) refl
 pub quiet-is-shown : SettledIsDelivered → QuietIsShown
 quiet-is-shown law t events run quiet = record {
   desks = quiet.desks;
-  mail = λ u d. quiet_way law (after t (start t) events) (are-reached-run t events (start t) run (are-reached-start t)) quiet u d;
+  mail = λ u d. quiet_way law (after t start events) (are-reached-run t events start run are-reached-start) quiet u d;
 }
-
--- What nodes know
-
-flooded-after : FloodLaws → (t : Network) (events : List Event) → AreFlooded t (after t (start t) events)
-flooded-after laws t events = flooded-run laws.others t events (start t) (flooded-start t)
-
-pub known-is-true : FloodLaws → KnownIsTrue
-known-is-true laws t events valid run n row there =
-    let f = flooded-after laws t events in
-    (is-true laws.links laws.truth laws.sent t valid (after t (start t) events) f).truth n.0 row
-    (subst (λ rows. Contains rows row) (f.known n) there)
-
-pub joined-know-the-same : FloodLaws → JoinedKnowTheSame
-joined-know-the-same laws t events valid run quiet a b joined row =
-    let f = flooded-after laws t events in
-    let law = subst (floods.JoinedKnowTheSame (map row_of t.links)) f.leads
-    (laws.same (map row_of t.links) (laws.links t valid) f.happened) in
-    let both = law quiet.floods a b joined row in (
-      λ h. subst (λ rows. Contains rows row) (sym (f.known b)) (both.0 (subst (λ rows. Contains rows row) (f.known a) h)),
-      λ h. subst (λ rows. Contains rows row) (sym (f.known a)) (both.1 (subst (λ rows. Contains rows row) (f.known b) h)),
-    )
-
-pub joined-know-the-links : FloodLaws → JoinedKnowTheLinks
-joined-know-the-links laws t events valid run quiet a b joined row there end =
-    let f = flooded-after laws t events in
-    let law = subst (floods.JoinedKnowTheLinks (map row_of t.links)) f.leads
-    (laws.joined (map row_of t.links) (laws.links t valid) f.happened) in
-    subst (λ rows. Contains rows row) (sym (f.known b)) (law quiet.floods a b joined row there end)

@@ -7,9 +7,6 @@ pub mod Ends
 pub mod EveryRun
 pub mod Example
 pub mod Finding
-pub mod FloodExample
-pub mod Flooded
-pub mod Learnt
 pub mod Places
 pub mod Posting
 pub mod Reached

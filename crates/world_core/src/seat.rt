@@ -169,11 +169,10 @@ impl Seat {
         self.controller.rows(alloc)
     }
 
-    /// Whether nothing waits on the desk, and nothing that the node sent isn't acknowledged.
+    /// Whether nothing waits on the desk, and no message of the node isn't acknowledged.
     pub(crate) fn is_quiet(&self) -> bool
         ensures { result ≡ is_quiet self.now }
     {
-        let pending = self.controller.pending();
-        self.desk.is_empty() && pending.hop == 0 && pending.flood == 0
+        self.desk.is_empty() && self.controller.pending().hop == 0
     }
 }

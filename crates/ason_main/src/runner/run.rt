@@ -102,7 +102,6 @@ pub fn run_plan<K: Sink>(alloc: Global, plan: &Plan, out: &mut K) -> Ran
 {
     every_world_run();
     every_script();
-    let _links = plan.topology.links();
     let mut fleet = match Fleet::new(alloc, &plan.topology) {
         Ok(fleet) => fleet,
         Err(OutOfMemory) => return Ran::OutOfMemory,

@@ -11,7 +11,7 @@ returns-in-Err g c =
     (world_laws c.every_world_run.ensures.image c.every_world_run.ensures.laws c.every_world_run.ensures.counts
     c.every_script.ensures.start c.every_script.ensures.post c.every_script.ensures.settle
     c.every_script.ensures.goes_on)
-    c.args.plan.now (g.K.Sink.written c.args.out.now) c.links.ensures.valid c.requires
+    c.args.plan.now (g.K.Sink.written c.args.out.now) c.requires
 
 pub returns-in-Ok-run_script : goal.returns-in-Ok-run_script
 returns-in-Ok-run_script g c =
