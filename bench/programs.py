@@ -33,3 +33,7 @@ def of_crate(name):
 
 def flood_rows():
     return of_crate("flood_rows")
+
+
+def route_times():
+    return of_crate("route_times")

@@ -240,11 +240,15 @@ class ToolTest(unittest.TestCase):
         self.assertIn('"setup c1 Palo-Alto Ithaca unprotected via 5,8,18"', ended.out)
         self.assertIn("node 'Salt Lake City' is Salt-Lake-City\n", ended.err)
 
+    def test_routes_left_to_the_program(self) -> None:
+        ended = tool("plan-from", "examples/nsfnet.graphml", "--routes", "found", "--call", "Palo Alto", "Ithaca")
+        self.assertEqual(ended.status, 0)
+        self.assertIn('"setup c1 Palo-Alto Ithaca unprotected"', ended.out)
+
     def test_words_that_are_wrong(self) -> None:
         cases = [
             (["--labels", "81"], "plan-from: --labels is 1 to 80\n"),
             (["--per", "0"], "plan-from: --per is a number above 0\n"),
-            (["--routes", "found"], "plan-from: this version of ason doesn't run setups without a route\n"),
         ]
         for words, sentence in cases:
             ended = tool("plan-from", "examples/nsfnet.graphml", *words)

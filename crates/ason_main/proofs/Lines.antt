@@ -11,7 +11,7 @@ use Rattle.mesh_rules.specs.Rows.{all_call_rows, all_leg_rows}
 use Rattle.world_core.specs.Images.{image}
 use Rattle.world_core.specs.Runs.{IsEnabled}
 use Rattle.station.specs.Histories.{History, with_event, world_after}
-use Rattle.fleet.specs.Rounds.{is_quiet, items_waiting, settled, unacked_waiting}
+use Rattle.fleet.specs.Rounds.{is_quiet, items_waiting, rows_waiting, settled, unacked_waiting}
 use Rattle.fleet.specs.Standing.{FleetState, StandsFor}
 use Rattle.plan_reader.specs.declared.lines.Line.{Line}
 use Rattle.plan_reader.specs.declared.lines.Line.TheVariants.{Post, Settle, Show}
@@ -56,19 +56,21 @@ pub tells_nothing : (f : FleetState) (text : List ℕ) → text ≡ [] →
 tells_nothing f text none quiet = record {
   tells = λ t h stands.
       none ∙ sym (ap (λ b. cond b [] (unsettled_text (items_waiting t (world_after t h))
-      (unacked_waiting t (world_after t h)) 0)) (quiet t h stands));
+      (unacked_waiting t (world_after t h)) (rows_waiting t (world_after t h)))) (quiet t h stands));
 }
 
 pub tells_counts : (f : FleetState) (text : List ℕ) (desk hop flood : ℕ) → text ≡ unsettled_text desk hop flood →
     ((t : Network) (h : History) → StandsFor t f h → is_quiet t (world_after t h) ≡ false) →
     ((t : Network) (h : History) → StandsFor t f h → desk ≡ items_waiting t (world_after t h)) →
-    ((t : Network) (h : History) → StandsFor t f h → hop ≡ unacked_waiting t (world_after t h)) → flood ≡ 0 →
+    ((t : Network) (h : History) → StandsFor t f h → hop ≡ unacked_waiting t (world_after t h)) →
+    ((t : Network) (h : History) → StandsFor t f h → flood ≡ rows_waiting t (world_after t h)) →
     TellsUnsettled f text
-tells_counts f text desk hop flood is busy items unacked none = record {
+tells_counts f text desk hop flood is busy items unacked rows = record {
   tells = λ t h stands.
       let w = world_after t h in
-      is ∙ ((λ i. unsettled_text (items t h stands i) (unacked t h stands i) (none i))
-      ∙ sym (ap (λ b. cond b [] (unsettled_text (items_waiting t w) (unacked_waiting t w) 0)) (busy t h stands)));
+      is ∙ ((λ i. unsettled_text (items t h stands i) (unacked t h stands i) (rows t h stands i))
+      ∙ sym (ap (λ b. cond b [] (unsettled_text (items_waiting t w) (unacked_waiting t w) (rows_waiting t w)))
+      (busy t h stands)));
 }
 
 pub settle_does : (p : Plan) (rounds : ℕ) (old new : FleetState) (text : List ℕ) → Settles rounds old new →

@@ -28,7 +28,7 @@ record HasOneTable (s : Mesh) : Type 0 where
   legs : HasOneLegEach s
   calls : (n : ℕ) → CallsFit n (s.nodes n)
 
-lawful_table : (t : Network) (es : List Event) → IsLawful t es → HasOneTable (image (after t start es))
+lawful_table : (t : Network) (es : List Event) → IsLawful t es → HasOneTable (image (after t (start t) es))
 lawful_table t es is =
     subst HasOneTable is.shown.leads (record { legs = is.laws.one_leg; calls = is.laws.calls })
 

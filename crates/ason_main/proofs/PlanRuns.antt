@@ -5,7 +5,7 @@ use Rattle.std.proofs.KnownBytes.{Appends-nil}
 use Rattle.ason_base.specs.declared.ids.CallNo.{CallNo}
 use Rattle.ason_base.specs.declared.ids.NodeId.{NodeId}
 use Rattle.ason_base.specs.declared.commands.Event.{Event}
-use Rattle.ason_base.specs.Network.{Network}
+use Rattle.ason_base.specs.Network.{IsTopology, Network}
 use Rattle.world_core.specs.Runs.{IsRun, events_of}
 use Rattle.world_core.specs.Worlds.{start}
 use Rattle.station.specs.Histories.{new_history}
@@ -16,10 +16,11 @@ use Rattle.plan_reader.specs.declared.lines.Line.TheVariants.{Settle, Show}
 use Rattle.plan_reader.specs.declared.plan.Plan.{Plan}
 use Rattle.plan_reader.specs.Plans.{ArePostable, calls_after_line}
 use Rattle.table_text.specs.TableText.{stopped_text}
+use Rattle.ason_main.specs.Laws.{WorldLaws}
 use Rattle.ason_main.specs.Outputs.{IsBegun, IsLawful, IsOneRun, IsTheOutput, PrintsFirst, run_of, script_of, settling_script}
 use Rattle.ason_main.specs.Running.{CutsAll, DoesAll, EndsIn, FailsIn, HasWritten, HasWrittenPart, IsCutShort, RunState}
 use Rattle.ason_main.proofs.OneOutput.{the_output, the_stopped_output}
-use Rattle.ason_main.proofs.ScriptRuns.{WorldLaws, first_part, lead_through, lines_running}
+use Rattle.ason_main.proofs.ScriptRuns.{first_part, lead_through, lines_running}
 
 -- Lines that can be posted
 
@@ -40,15 +41,18 @@ the_run : WorldLaws → (p : Plan) → ArePostable p.topology [] p.lines → IsR
 the_run laws p postable =
     lines_running laws p.topology (script_of p) new_history (postable_script 1000 p postable) (laws.begin p.topology)
 
-lawful : WorldLaws → (t : Network) (events : List Event) → IsRun t start events → IsLawful t events
-lawful laws t events run = record { shown = laws.shown t events run; laws = laws.laws t events run }
+lawful : WorldLaws → (t : Network) → IsTopology t → (events : List Event) → IsRun t (start t) events →
+    IsLawful t events
+lawful laws t valid events run =
+    let each = laws.topology t valid in
+    record { shown = laws.shown t events each run; laws = laws.laws t events each run }
 
-one_run : WorldLaws → (p : Plan) → ArePostable p.topology [] p.lines → IsOneRun p
-one_run laws p postable = record {
+one_run : WorldLaws → (p : Plan) → IsTopology p.topology → ArePostable p.topology [] p.lines → IsOneRun p
+one_run laws p valid postable = record {
   run = (the_run laws p postable).run;
   laws = λ first left is.
-      lawful laws p.topology first (first_part p.topology start first left
-      (subst (IsRun p.topology start) (sym is) (the_run laws p postable).run));
+      lawful laws p.topology valid first (first_part p.topology (start p.topology) first left
+      (subst (IsRun p.topology (start p.topology)) (sym is) (the_run laws p postable).run));
   leads = lead_through laws p.topology (script_of p) new_history;
 }
 
@@ -58,9 +62,9 @@ full_where_stopped laws p n postable stopped =
     let running = the_run laws p postable in
     sym (laws.counts p.topology (run_of p).events running.run n.0).made ∙ running.full n stopped
 
-begun : WorldLaws → (p : Plan) (text : List ℕ) → ArePostable p.topology [] p.lines →
+begun : WorldLaws → (p : Plan) (text : List ℕ) → IsTopology p.topology → ArePostable p.topology [] p.lines →
     PrintsFirst p (script_of p) new_history text → IsBegun p text
-begun laws p text postable printed = record { one_run = one_run laws p postable; printed = printed }
+begun laws p text valid postable printed = record { one_run = one_run laws p valid postable; printed = printed }
 
 -- What was written
 
@@ -71,7 +75,11 @@ run_ended laws p a b postable stands does =
     let are = does.done new_history stands (postable_script 1000 p postable) in (
       are.printed.0,
       the_output p are.printed.0
-          (record { one_run = one_run laws p postable; ended = are.stands.going; printed = are.printed.1 }),
+          (record {
+            one_run = one_run laws p stands.valid postable;
+            ended = are.stands.going;
+            printed = are.printed.1;
+          }),
       are.printed.2,
     )
 
@@ -83,12 +91,13 @@ run_stopped laws p a b n postable stands cuts =
       are.printed.0,
       record {
         output = the_stopped_output p n (are.printed.0 ++ stopped_text p n) (record {
-          one_run = one_run laws p postable;
+          one_run = one_run laws p stands.valid postable;
           stopped = are.stopped;
           full = full_where_stopped laws p n postable are.stopped;
           printed = (are.printed.0, are.printed.1, refl);
         });
-        begun = begun laws p are.printed.0 postable (script_of p, [], append-nil (script_of p), are.printed.1);
+        begun = begun laws p are.printed.0 stands.valid postable
+            (script_of p, [], append-nil (script_of p), are.printed.1);
       },
       are.printed.2,
     )
@@ -98,17 +107,17 @@ pub run_failed : WorldLaws → (p : Plan) (a b : RunState) → ArePostable p.top
     HasWrittenPart a.written b.written (IsBegun p)
 run_failed laws p a b postable stands fails =
     let part = fails.part new_history stands (postable_script 1000 p postable) in
-    (part.0, begun laws p part.0 postable part.1, part.2)
+    (part.0, begun laws p part.0 stands.valid postable part.1, part.2)
 
 pub run_unfinished : WorldLaws → (p : Plan) (a b : RunState) → ArePostable p.topology [] p.lines →
     StandsFor p.topology a.fleet new_history → EndsIn p (script_of p) a b →
     HasWritten a.written b.written (IsBegun p)
 run_unfinished laws p a b postable stands ends =
     let part = ends.part new_history stands (postable_script 1000 p postable) in
-    (part.0, begun laws p part.0 postable part.1, part.2)
+    (part.0, begun laws p part.0 stands.valid postable part.1, part.2)
 
 -- nothing was written
-pub run_not_begun : WorldLaws → (p : Plan) (w : Option (List ℕ)) → ArePostable p.topology [] p.lines →
-    HasWritten w w (IsBegun p)
-run_not_begun laws p w postable =
-    ([], begun laws p [] postable ([], script_of p, refl, refl), Appends-nil w)
+pub run_not_begun : WorldLaws → (p : Plan) (w : Option (List ℕ)) → IsTopology p.topology →
+    ArePostable p.topology [] p.lines → HasWritten w w (IsBegun p)
+run_not_begun laws p w valid postable =
+    ([], begun laws p [] valid postable ([], script_of p, refl, refl), Appends-nil w)

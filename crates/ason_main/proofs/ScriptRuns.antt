@@ -10,44 +10,22 @@ use Rattle.ason_base.specs.declared.ids.NodeId.{NodeId}
 use Rattle.ason_base.specs.declared.messages.Msg.{Msg}
 use Rattle.ason_base.specs.Network.{Network}
 use Rattle.mesh_rules.specs.Commands.{is_again, is_valid}
-use Rattle.world_core.specs.Frames.{Content, Message}
+use Rattle.flood.specs.declared.frames.Content.{Content}
+use Rattle.flood.specs.declared.frames.Content.TheVariants.{Message, Flood}
 use Rattle.world_core.specs.Worlds.{World, delivered, frame_at, handed_up, handled, taken, with_event as counted}
 use Rattle.world_core.specs.Runs.{IsRun, posted, step}
-use Rattle.world_core.specs.Laws.{EventsAreCounted, EveryImageHasTheLaws, EveryRunIsShown}
 use Rattle.station.specs.Histories.{History, if_able, made_by, popped, stopped_at, with_event, with_event_over, world_after}
 use Rattle.station.proofs.Doing.{world-with}
-use Rattle.fleet.specs.Laws.{PostsAreRunning, SettlingGoesOn, SettlingIsRunning, TheStartIsRunning}
 use Rattle.fleet.specs.Rounds.{settled}
 use Rattle.fleet.specs.Running.{IsRunning}
 use Rattle.fleet.proofs.Keeping.{IsKept, settled_keeps}
 use Rattle.plan_reader.specs.declared.lines.Line.{Line}
 use Rattle.plan_reader.specs.declared.lines.Line.TheVariants.{Post, Settle, Show}
 use Rattle.plan_reader.specs.Plans.{ArePostable, IsPostable, calls_after, calls_after_line}
+use Rattle.ason_main.specs.Laws.{WorldLaws}
 use Rattle.ason_main.specs.Outputs.{LeadThrough, line_done, lines_done, posted_on}
 use Rattle.ason_main.specs.Running.{CanPost}
 use Rattle.ason_main.proofs.Stopping.{lines_stay}
-
--- the laws of worlds, and of posts and rounds
-pub record WorldLaws : Type 0 where
-  pub shown : EveryRunIsShown
-  pub laws : EveryImageHasTheLaws
-  pub counts : EventsAreCounted
-  pub begin : TheStartIsRunning
-  pub post : PostsAreRunning
-  pub settle : SettlingIsRunning
-  pub goes_on : SettlingGoesOn
-
-pub world_laws : EveryRunIsShown → EveryImageHasTheLaws → EventsAreCounted → TheStartIsRunning → PostsAreRunning →
-    SettlingIsRunning → SettlingGoesOn → WorldLaws
-world_laws shown laws counts begin post settle goes_on = record {
-  shown = shown;
-  laws = laws;
-  counts = counts;
-  begin = begin;
-  post = post;
-  settle = settle;
-  goes_on = goes_on;
-}
 
 -- What was posted
 
@@ -63,6 +41,7 @@ posted_delivered : (t : Network) (w : World) (d u : NodeId) (o : Option Content)
     (delivered t w d u o).posted ≡ w.posted
 posted_delivered t w d u None = refl
 posted_delivered t w d u (Some (Message p)) = posted_handled t (taken w d u p) d u (handed_up w d u p)
+posted_delivered t w d u (Some (Flood m)) = refl
 
 posted_with :
     (t : Network) (q : List CallNo) (h : History) (rings : ℕ → ℕ → List ℕ) (e : Event) →

@@ -1,5 +1,5 @@
 -- What the program answers to its words and to its input.
-use Rattle.std.specs.Prelude.{◌≡◌, ◌<◌, ◌≤◌, ◌+◌, ◌⊎◌, ℕ, Bool, false, List, [], ◌∷◌, Option, Some, None, Ok, Err, bytes_eq, codes, length, option_map, take, if◌then◌else◌}
+use Rattle.std.specs.Prelude.{◌≡◌, ◌<◌, ◌≤◌, ◌+◌, ◌⊎◌, ℕ, Bool, false, List, [], ◌∷◌, ◌++◌, Option, Some, None, Ok, Err, bytes_eq, codes, length, option_map, take, if◌then◌else◌}
 use Rattle.std.specs.Io.KnownBytes.{Appends}
 use Rattle.ason_io.specs.Faults.{Rose}
 use Rattle.ason_io.specs.Reading.{HasRead, WasReadToEnd}
@@ -91,7 +91,8 @@ exit_status Status.TooLong = 8
 abbrev pub text_of_reply : Reply → List ℕ
 text_of_reply (Done text) = text
 text_of_reply Usage =
-    codes "usage: ason run [--workers N] [--stride T] [--trace] | check | decode | route FROM TO | load SEED NODES CALLS\n"
+    codes "usage: ason run [--workers N] [--stride T] [--trace] | check | decode | route FROM TO "
+    ++ codes "| load SEED NODES CALLS\n"
 text_of_reply (PlanRefused text) = text
 text_of_reply ReadFault = []
 text_of_reply (EventLimit text) = text

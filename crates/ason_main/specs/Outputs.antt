@@ -18,7 +18,7 @@ use Rattle.world_core.specs.Runs.{IsRun, events_of}
 use Rattle.world_core.specs.Images.{image, mesh_events}
 use Rattle.world_core.specs.Laws.{IsShown}
 use Rattle.station.specs.Histories.{History, new_history, with_event, world_after}
-use Rattle.fleet.specs.Rounds.{is_quiet, items_waiting, settled, unacked_waiting}
+use Rattle.fleet.specs.Rounds.{is_quiet, items_waiting, rows_waiting, settled, unacked_waiting}
 use Rattle.plan_reader.specs.declared.lines.Line.{Line}
 use Rattle.plan_reader.specs.declared.lines.Line.TheVariants.{Post, Settle, Show}
 use Rattle.plan_reader.specs.declared.plan.Plan.{Plan}
@@ -69,10 +69,11 @@ run_of p = lines_done p.topology (script_of p) new_history
 
 -- What is printed
 
--- the line of what is unsettled, where it isn't quiet: desk items, unacknowledged messages, and floods, of which there
--- are none
+-- the line of what is unsettled, where it isn't quiet: desk items, unacknowledged messages, and rows of links that
+-- aren't acknowledged
 abbrev pub unsettled_line : Network → World → List ℕ
-unsettled_line t w = if is_quiet t w then [] else unsettled_text (items_waiting t w) (unacked_waiting t w) 0
+unsettled_line t w =
+    if is_quiet t w then [] else unsettled_text (items_waiting t w) (unacked_waiting t w) (rows_waiting t w)
 
 -- what a line prints of the world that it leads to; a table is that of the mesh which this world shows
 abbrev pub Shows : Plan → Line → World → List ℕ → Type 0
@@ -113,11 +114,11 @@ LeadThrough t es (line ∷ lines) h =
 -- of it
 pub record IsLawful (t : Network) (events : List Event) : Type 0 where
   pub shown : IsShown t events
-  pub laws : LawsHold t (mesh_events t start events)
+  pub laws : LawsHold t (mesh_events t (start t) events)
 
 -- one run of a world leads through the whole script, and each first part of it is lawful
 pub record IsOneRun (p : Plan) : Type 0 where
-  pub run : IsRun p.topology start (run_of p).events
+  pub run : IsRun p.topology (start p.topology) (run_of p).events
   pub laws : (first left : List Event) → first ++ left ≡ (run_of p).events → IsLawful p.topology first
   pub leads : LeadThrough p.topology (run_of p).events (script_of p) new_history
 

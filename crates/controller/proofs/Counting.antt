@@ -109,7 +109,7 @@ due-few (a ∷ xs) =
     let later : length (flat_map again_to xs) ≤ unacknowledged xs = due-few xs in
     rw (length-append (again_to a) (flat_map again_to xs)) (omega arith)
 
-pub acks-few : (u : NodeId) (v : Heard) (q : Packet) → length (acks_to u v q) ≤ 256 * (65536 * 50000)
+pub acks-few : (u : NodeId) (v : Heard) (q : Packet) → length (acks_to u v q) ≤ 256 * (65536 * 50001)
 acks-few u Next q = omega arith
 acks-few u Repeat q = omega arith
 acks-few u Acked q = omega arith
@@ -122,13 +122,13 @@ packets-count (o ∷ outs) hops = ap suc (packets-count outs (sent_one hops o))
 
 -- the frames of a step
 pub frames-few : (p : LocalNode) (me : NodeId) (first : List Sending) (hops : ℕ → HopState) (a : Answer)
-    (none frames : List Frame) → length first ≤ 256 * (65536 * 50000) → CanBeSent p a → none ≡ [] →
+    (none frames : List Frame) → length first ≤ 256 * (65536 * 50001) → CanBeSent p a → none ≡ [] →
     frames ≡ none ++ frames_to me (first ++ packets_on hops a.sent) → length frames ≤ 2 ^ 40
 frames-few p me first hops a none frames before can start e =
     let all : length frames ≡ length (frames_to me (first ++ packets_on hops a.sent)) =
     ap length (e ∙ ap (λ fs. fs ++ frames_to me (first ++ packets_on hops a.sent)) start) in
     let same : length (frames_to me (first ++ packets_on hops a.sent)) ≡ length (first ++ packets_on hops a.sent) =
-    length-map (first ++ packets_on hops a.sent) (λ (s : Sending). sent_frame me s.to s.packet) in
+    length-map (first ++ packets_on hops a.sent) (λ (s : Sending). sent_frame me s.to s.content) in
     let both : length (first ++ packets_on hops a.sent) ≡ length first + length (packets_on hops a.sent) =
     length-append first (packets_on hops a.sent) in
     let count : length (packets_on hops a.sent) ≡ length a.sent = packets-count a.sent hops in
@@ -136,7 +136,7 @@ frames-few p me first hops a none frames before can start e =
     omega arith
 
 pub made-few : (n m : NodeView) (before after : List Adjacency) (hops : ℕ → HopState) (a : Answer)
-    (first : List Sending) (frames : List Frame) → length first ≤ 256 * (65536 * 50000) → CanBeSent n.place a →
+    (first : List Sending) (frames : List Frame) → length first ≤ 256 * (65536 * 50001) → CanBeSent n.place a →
     IsMade n m before after (carried hops n.state a first) frames → length frames ≤ 2 ^ 40
 made-few n m before after hops a first frames few can made =
     frames-few n.place n.place.id first hops a [] frames few can refl made.frames

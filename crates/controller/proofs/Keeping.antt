@@ -46,6 +46,7 @@ is-ready p xs steps k few = record {
   again = each-to_neighbour CanGoAgain p xs k.peers tt k.again;
   left = λ d. let sent : (hop_at xs d).sent ≤ 65536 * steps = k.few d in omega arith;
   near = peers-near p xs k.peers;
+  narrow = k.narrow;
   waiting = unacknowledged-few p xs k.peers k.narrow
       (each-to_neighbour (λ (h : HopState). length h.unacked ≤ 65536 * 50000) p xs k.peers (omega arith) waits);
   rest = k.rest;
@@ -174,7 +175,7 @@ heard-answered p s u v q place fits body = go v
 
 -- Where frames go
 
-frames-near : (p : LocalNode) (me : NodeId) (ss : List Sending) →
+pub frames-near : (p : LocalNode) (me : NodeId) (ss : List Sending) →
     AllByRecursion (λ (s : Sending). is_neighbour p s.to ≡ true) ss →
     kept.AllToNeighbours p (frames_to me ss)
 frames-near p me [] h = tt
@@ -262,7 +263,7 @@ one-put x (y ∷ ys) = go (nat_lt x y) (nat_lt y x) (one-put x ys)
     go false true h = omega arith
     go false false h = omega arith
 
-order-few : (xs : List ℕ) → length (in_order nat_lt xs) ≤ length xs
+pub order-few : (xs : List ℕ) → length (in_order nat_lt xs) ≤ length xs
 order-few [] = omega arith
 order-few (x ∷ xs) =
     let later : length (in_order nat_lt xs) ≤ length xs = order-few xs in

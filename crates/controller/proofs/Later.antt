@@ -2,6 +2,7 @@
 use Rattle.std.proofs.Common.{◌≡◌, ◌≤◌, ◌<◌, ◌+◌, ◌-◌, ◌^◌, ℕ, Bool, true, false, cond, nat_eq, List, [], ◌∷◌, ◌++◌, length, refl, sym, ap, ◌∙◌, arith, append_assoc, append-nil}
 use Rattle.ason_base.specs.declared.ids.NodeId.{NodeId}
 use Rattle.ason_base.specs.declared.tables.Out.{Out}
+use Rattle.flood.specs.declared.frames.Content.TheVariants.{Message}
 use Rattle.hop_reliable.specs.declared.unacked.Unacked.{Unacked}
 use Rattle.hop_reliable.specs.Hop.{HopState, all_sent, numbered, sent_message}
 use Rattle.mesh_nodes.specs.LocalNodes.{is_neighbour}
@@ -79,7 +80,7 @@ packets-later (o ∷ outs) hops after same =
     ∙ ap (λ ss. sending (after o.to.0).sent ∷ ss) (packets-later outs (sent_one hops o) (sent_one after o) next)
   where
     sending : ℕ → Sending
-    sending n = record { to = o.to; packet = numbered (n + 1) o.msg }
+    sending n = record { to = o.to; content = Message (numbered (n + 1) o.msg) }
 
     next : (d : ℕ) → (sent_one after o d).sent ≡ (sent_one hops o d).sent
     next d = go (nat_eq d o.to.0)

@@ -1,6 +1,6 @@
 pub mod Changing
 pub mod Sending
-pub mod Spelling
+pub mod Flooding
 pub mod Later
 pub mod Resting
 pub mod Loops
@@ -12,3 +12,4 @@ pub mod Taking
 pub mod Preparing
 pub mod Spelled
 pub mod Reacting
+pub mod Beginning

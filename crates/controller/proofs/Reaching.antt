@@ -78,6 +78,14 @@ each-peer P (a ∷ xs) f = (
   each-peer P xs (λ n h. f n (contains-tail a.peer.0 n (peer_numbers xs) h)),
 )
 
+pub each-numbered : {X : Type 0} (P : ℕ → Type 0) (f : X → ℕ) (xs : List X) →
+    ((n : ℕ) → Contains (map f xs) n → P n) → AllByRecursion (λ x. P (f x)) xs
+each-numbered P f [] h = tt
+each-numbered P f (x ∷ xs) h = (
+  h (f x) (contains-head (f x) (map f xs)),
+  each-numbered P f xs (λ n there. h n (contains-tail (f x) n (map f xs) there)),
+)
+
 -- Neighbours
 
 pub neighbour-reached : (p : LocalNode) (xs : List Adjacency) → peer_numbers xs ≡ neighbours p → (n : NodeId) →
@@ -103,6 +111,11 @@ reach-is p xs e n = go (reaches xs n.0) (is_neighbour p n) refl refl
     go true b h k = h ∙ sym (reached-neighbour p xs e n h)
     go false true h k = neighbour-reached p xs e n k ∙ sym k
     go false false h k = h ∙ sym k
+
+pub number-near : (p : LocalNode) (n : ℕ) → Contains (neighbours p) n → is_neighbour p (record { 0 = n }) ≡ true
+number-near p n there =
+    let ends : List ℕ = map (λ l. (other_end l p.id).0) p.own in
+    member-any (λ l. (other_end l p.id).0) p.own n ((in_order-has nat_lt nat_order ends n).0 there)
 
 pub peers-near : (p : LocalNode) (xs : List Adjacency) → peer_numbers xs ≡ neighbours p →
     AllByRecursion (λ (a : Adjacency). is_neighbour p a.peer ≡ true) xs

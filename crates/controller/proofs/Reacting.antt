@@ -1,26 +1,51 @@
--- What a frame does, for each packet that it spells and for bytes that spell none.
-use Rattle.std.proofs.Common.{◌≡◌, ℕ, List, sym, subst}
-use Rattle.std.specs.Prelude.{Result, Ok, Err, IfOk}
+-- What a frame does, for whatever it spells and for bytes that spell nothing.
+use Rattle.std.proofs.Common.{◌≡◌, ℕ, List, map, refl, sym, subst}
+use Rattle.std.specs.Prelude.{Result, Ok, Err, IfOk, OnOk}
 use Rattle.ason_base.specs.declared.ids.NodeId.{NodeId}
-use Rattle.ason_base.specs.declared.messages.Packet.{Packet}
+use Rattle.flood.specs.declared.frames.Content.{Content}
+use Rattle.flood.specs.declared.frames.Content.TheVariants.{Flood}
+use Rattle.flood.specs.declared.messages.FloodMsg.{FloodMsg}
+use Rattle.flood.specs.Frames.{IsFrame, SpellsNothing}
+use Rattle.flood.specs.State.{FloodState, learnt_of, received, sends_after}
 use Rattle.node_core.specs.Nodes.{NodeView}
 use Rattle.controller.specs.declared.adjacencies.Adjacency.{Adjacency}
 use Rattle.controller.specs.declared.frames.Frame.{Frame}
 use Rattle.controller.specs.declared.inputs.CoreInput.{CoreInput}
 use Rattle.controller.specs.declared.inputs.CoreInput.TheVariants as input
-use Rattle.controller.specs.Controllers.{IsMade, IsReaction, meaning, took, unmoved}
-use Rattle.controller.specs.Frames.{IsFrame, SpellsNothing}
+use Rattle.controller.specs.Adjacencies.{rested}
+use Rattle.controller.specs.Controllers.{AreMade, IsReaction, Parts, flood_after, floods_to, frame_step, idle_step, parts, with_learnt}
+use Rattle.controller.specs.Frames.{AllSpelled, frames_to}
 
-pub frame-reaction : {T E : Type 0} (r : Result T E) (out : T → List Frame) (n m : NodeView)
-    (before after : List Adjacency) (i : CoreInput) (u : NodeId)
+pub frame-reaction : {T E : Type 0} (r : Result T E) (out : T → List Frame) (c d : Parts) (i : CoreInput) (u : NodeId)
     (bytes given : List ℕ) → i ≡ input.Frame u bytes → given ≡ bytes →
-    ((p : Packet) → IsFrame given p → IfOk r (λ x. IsMade n m before after (took n.place (meaning n before) u p)
-    (out x))) →
-    (SpellsNothing given → IfOk r (λ x. IsMade n m before after (unmoved (meaning n before)) (out x))) →
-    IfOk r (λ x. IsReaction n m before after i (out x))
-frame-reaction (Ok x) out n m before after i u bytes given e same packet noise =
-    subst (λ j. IsReaction n m before after j (out x)) (sym e) (
-      (λ p f. packet p (subst (λ bs. IsFrame bs p) (sym same) f)),
+    ((x : Content) → IsFrame given x → IfOk r (λ y.
+    AreMade c d (frame_step c.node c.adjacencies c.flood u x) (flood_after c.flood u x) (out y))) →
+    (SpellsNothing given → IfOk r (λ y. AreMade c d (idle_step c.node c.adjacencies) c.flood (out y))) →
+    IfOk r (λ y. IsReaction c d i (out y))
+frame-reaction (Ok y) out c d i u bytes given e same content noise =
+    subst (λ j. IsReaction c d j (out y)) (sym e) (
+      (λ x f. content x (subst (λ bs. IsFrame bs x) (sym same) f)),
       (λ none. noise (subst SpellsNothing (sym same) none)),
     )
-frame-reaction (Err y) out n m before after i u bytes given e same packet noise = tt
+frame-reaction (Err y) out c d i u bytes given e same content noise = tt
+
+-- a flood message that was taken: the hops stay as they were
+pub flood-made : {T E : Type 0} (r : Result T E) (out : T → List Frame) (n m : NodeView) (adjacencies : List Adjacency)
+    (f g : FloodState) (u : NodeId) (x : FloodMsg) (c : Content) → Flood x ≡ c →
+    map rested adjacencies ≡ adjacencies → m.place ≡ n.place →
+    OnOk r (m.state ≡ with_learnt n.place n.state (learnt_of f x)) → OnOk r (g ≡ received f u x) →
+    IfOk r (λ y. out y ≡ frames_to n.place.id (floods_to (sends_after f u x))) →
+    IfOk r (λ y. AllSpelled n.place.id (floods_to (sends_after f u x))) →
+    IfOk r (λ y. AreMade (parts n adjacencies f) (parts m adjacencies g) (frame_step n adjacencies f u c)
+    (flood_after f u c) (out y))
+flood-made (Ok y) out n m adjacencies f g u x c same rest place state flood frames spelled =
+    subst (λ (d : Content). AreMade (parts n adjacencies f) (parts m adjacencies g) (frame_step n adjacencies f u d)
+    (flood_after f u d) (out y)) same (record {
+      made = record {
+        becomes = record { place = place; state = state; hops = λ d. refl; peers = refl; rest = rest };
+        frames = frames;
+        spelled = spelled;
+      };
+      flood = flood;
+    })
+flood-made (Err e) out n m adjacencies f g u x c same rest place state flood frames spelled = tt

@@ -2,6 +2,7 @@
 use Rattle.std.proofs.Common.{◌≡◌, ℕ, Bool, cond, nat_eq, List, [], ◌∷◌, ◌++◌, ◌+◌, sym, ap, ◌∙◌, subst, append_assoc}
 use Rattle.ason_base.specs.declared.ids.NodeId.{NodeId}
 use Rattle.ason_base.specs.declared.tables.Out.{Out}
+use Rattle.flood.specs.declared.frames.Content.TheVariants.{Message}
 use Rattle.hop_reliable.specs.Hop.{HopState, numbered, sent_message}
 use Rattle.controller.specs.Frames.{frames_to, sent_frame}
 use Rattle.controller.specs.declared.frames.Frame.{Frame}
@@ -24,13 +25,13 @@ hops_go_on hops after start o rest all e h = ap (λ f. sent_on f rest) e ∙ h
 
 pub frames_go_on : (me : NodeId) (hops after start : ℕ → HopState) (o : Out) (rest all : List Out)
     (fs new first : List Frame) (f : Frame) → after ≡ sent_one hops o →
-    f ≡ sent_frame me o.to (numbered ((hops o.to.0).sent + 1) o.msg) → new ≡ fs ++ f ∷ [] →
+    f ≡ sent_frame me o.to (Message (numbered ((hops o.to.0).sent + 1) o.msg)) → new ≡ fs ++ f ∷ [] →
     fs ++ frames_to me (packets_on hops (o ∷ rest)) ≡ first ++ frames_to me (packets_on start all) → new ++
     frames_to me (packets_on after rest) ≡ first ++ frames_to me (packets_on start all)
 frames_go_on me hops after start o rest all fs new first f e is pushed h =
     ap (λ n. n ++ frames_to me (packets_on after rest)) pushed
     ∙ append_assoc fs (f ∷ []) (frames_to me (packets_on after rest))
     ∙ ap (λ g. fs ++ g ∷ frames_to me (packets_on after rest)) is
-    ∙ ap (λ hs. fs ++ sent_frame me o.to (numbered ((hops o.to.0).sent + 1) o.msg) ∷ frames_to me
+    ∙ ap (λ hs. fs ++ sent_frame me o.to (Message (numbered ((hops o.to.0).sent + 1) o.msg)) ∷ frames_to me
     (packets_on hs rest)) e
     ∙ h

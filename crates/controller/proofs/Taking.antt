@@ -8,6 +8,7 @@ use Rattle.ason_base.specs.declared.messages.Msg.{Msg}
 use Rattle.ason_base.specs.declared.ids.NodeId.{NodeId}
 use Rattle.ason_base.specs.declared.messages.Packet.{Packet}
 use Rattle.ason_base.specs.declared.tables.Out.{Out}
+use Rattle.flood.specs.State.{FloodState, sent_at_tick}
 use Rattle.hop_reliable.specs.declared.heard.Heard.{Heard}
 use Rattle.hop_reliable.specs.declared.heard.Heard.TheVariants.{Acked, Unnumbered, Ahead, Repeat, Next}
 use Rattle.hop_reliable.specs.Hop.{HopState, all_sent, handed_up_of, heard_as, received, taken, ticked}
@@ -20,16 +21,16 @@ use Rattle.controller.specs.declared.adjacencies.Adjacency.{Adjacency}
 use Rattle.controller.specs.declared.frames.Frame.{Frame}
 use Rattle.controller.specs.Adjacencies.{ArePrepared, again_to, aged, committed, hop_at, next_at, packets_on, peer_numbers, prepared_at, rested, sent_on, taken_by}
 use Rattle.controller.specs.Answers.{body_answer}
-use Rattle.controller.specs.Controllers.{Becomes, IsMade, acks_to, after_tick, handed_body, handled, heard_hops, meaning, took}
+use Rattle.controller.specs.Controllers.{Becomes, IsMade, acks_to, after_tick, floods_to, handed_body, handled, heard_hops, meaning, took}
 use Rattle.controller.specs.Frames.{AllSpelled, Sending, frames_to, sent_frame}
 use Rattle.controller.proofs.Keeping.{heard-sent}
 use Rattle.controller.proofs.Later.{packets-later, sent-later}
 use Rattle.controller.proofs.Spelled.{both-spelled}
 use Rattle.controller.proofs.Resting.{committed-rests, hop-committed, next-aged, peers-aged, peers-committed, same-hop, same-peers}
 
-frames-append : (me : NodeId) (xs ys : List Sending) → frames_to me (xs ++ ys) ≡ frames_to me xs ++ frames_to me ys
+pub frames-append : (me : NodeId) (xs ys : List Sending) → frames_to me (xs ++ ys) ≡ frames_to me xs ++ frames_to me ys
 frames-append me [] ys = refl
-frames-append me (x ∷ xs) ys = ap (λ fs. sent_frame me x.to x.packet ∷ fs) (frames-append me xs ys)
+frames-append me (x ∷ xs) ys = ap (λ fs. sent_frame me x.to x.content ∷ fs) (frames-append me xs ys)
 
 -- what is prepared at a hop, after an answer
 prepared-for : (before mid : List Adjacency) (outs : List Out) → ArePrepared before outs mid →
@@ -95,16 +96,18 @@ handled-made n m before mid after i j none frames same node are rest is start fr
     })
 
 -- a tick was made
-pub ticked-made : (n m : NodeView) (me : NodeId) (before mid late after : List Adjacency)
-    (none due frames : List Frame) → m ≡ stepped n input.Tick →
+pub ticked-made : (n m : NodeView) (me : NodeId) (before mid late after : List Adjacency) (f : FloodState)
+    (none again due frames : List Frame) → m ≡ stepped n input.Tick →
     ArePrepared before (on_tick n.place n.state).sent mid → map rested mid ≡ map rested before →
     late ≡ map aged mid → after ≡ map committed late →
-    none ≡ [] → me ≡ n.place.id → due ≡ none ++ frames_to me (flat_map again_to before) →
+    none ≡ [] → me ≡ n.place.id → again ≡ none ++ frames_to me (flat_map again_to before) →
+    due ≡ again ++ frames_to me (floods_to (sent_at_tick f)) →
     frames ≡ due ++ frames_to n.place.id (packets_on (hop_at before) (on_tick n.place n.state).sent) →
-    AllSpelled me (flat_map again_to before) →
+    AllSpelled me (flat_map again_to before) → AllSpelled me (floods_to (sent_at_tick f)) →
     AllSpelled n.place.id (packets_on (hop_at before) (on_tick n.place n.state).sent) →
-    IsMade n m before after (after_tick n.place n.state before) frames
-ticked-made n m me before mid late after none due frames node are rest ages is start same again framed resent spelled
+    IsMade n m before after (after_tick n.place n.state before f) frames
+ticked-made n m me before mid late after f none again due frames node are rest ages is start same resends rows framed
+    resent flooded spelled
     = record {
       becomes = record {
         place = ap (λ (k : NodeView). k.place) node;
@@ -115,13 +118,13 @@ ticked-made n m me before mid late after none due frames node are rest ages is s
       };
       frames = framed
           ∙ ap (λ fs. fs ++ frames_to n.place.id (packets_on (hop_at before) sent))
-          (again ∙ ap (λ fs. fs ++ frames_to me (flat_map again_to before)) start ∙
-          ap (λ k. frames_to k (flat_map again_to before)) same)
-          ∙ ap (λ ps. frames_to n.place.id (flat_map again_to before) ++ frames_to n.place.id ps)
+          (all-first ∙ ap (λ fs. fs ++ frames_to me first) start ∙ ap (λ k. frames_to k first) same)
+          ∙ ap (λ ps. frames_to n.place.id first ++ frames_to n.place.id ps)
           (packets-later sent (hop_at before) (λ d. ticked (hop_at before d)) (λ d. refl))
-          ∙ sym (frames-append n.place.id (flat_map again_to before) (packets_on (λ d. ticked (hop_at before d)) sent));
-      spelled = both-spelled n.place.id (flat_map again_to before) (packets_on (λ d. ticked (hop_at before d)) sent)
-          (subst (λ k. AllSpelled k (flat_map again_to before)) same resent)
+          ∙ sym (frames-append n.place.id first (packets_on (λ d. ticked (hop_at before d)) sent));
+      spelled = both-spelled n.place.id first (packets_on (λ d. ticked (hop_at before d)) sent)
+          (subst (λ k. AllSpelled k first) same
+          (both-spelled me (flat_map again_to before) (floods_to (sent_at_tick f)) resent flooded))
           (subst (AllSpelled n.place.id) (packets-later sent (hop_at before) (λ d. ticked (hop_at before d))
           (λ d. refl))
           spelled);
@@ -129,6 +132,16 @@ ticked-made n m me before mid late after none due frames node are rest ages is s
   where
     sent : List Out
     sent = (on_tick n.place n.state).sent
+
+    first : List Sending
+    first = flat_map again_to before ++ floods_to (sent_at_tick f)
+
+    all-first : due ≡ none ++ frames_to me first
+    all-first =
+        rows ∙ ap (λ fs. fs ++ frames_to me (floods_to (sent_at_tick f))) resends
+        ∙ append_assoc none (frames_to me (flat_map again_to before)) (frames_to me (floods_to (sent_at_tick f)))
+        ∙ ap (λ fs. none ++ fs)
+        (sym (frames-append me (flat_map again_to before) (floods_to (sent_at_tick f))))
 
 -- Packets
 

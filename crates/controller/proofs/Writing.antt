@@ -10,6 +10,8 @@ use Rattle.ason_base.specs.declared.messages.PathRole.{PathRole}
 use Rattle.ason_base.specs.declared.messages.PathRole.TheVariants.{Work, Back}
 use Rattle.ason_base.specs.declared.steps.Step.{Step}
 use Rattle.ason_base.specs.Writable.{IsWritableMsg, IsWritableRole}
+use Rattle.flood.specs.declared.frames.Content.TheVariants.{Message}
+use Rattle.flood.specs.Frames.{CanBeWritten, IsFrame}
 use Rattle.hop_reliable.specs.declared.unacked.Unacked.{Unacked}
 use Rattle.hop_reliable.specs.Ages.{is_due, older_age}
 use Rattle.hop_reliable.specs.Hop.{HopState, again, numbered, older, resent}
@@ -20,7 +22,7 @@ use Rattle.rsvp_messages.specs.Packets.{SpellsBody}
 use Rattle.rsvp_messages.specs.Writable.{IsWritable}
 use Rattle.controller.specs.Adjacencies.{CanGoAgain, sendings_to}
 use Rattle.controller.specs.Answers.{BodyCanBePassedOn}
-use Rattle.controller.specs.Frames.{IsFrame, frames_to, sent_frame}
+use Rattle.controller.specs.Frames.{frames_to, sent_frame}
 use Rattle.controller.specs.declared.frames.Frame.{Frame}
 
 -- Numbered messages
@@ -28,7 +30,8 @@ use Rattle.controller.specs.declared.frames.Frame.{Frame}
 numbered-writable : (n : ℕ) (m : Msg) → IsWritableMsg m → IsWritable (numbered n m)
 numbered-writable n m w = record { id = omega arith; acks = λ k d h. absurd (omega arith); few = omega arith; body = w }
 
-pub next-writable : (n : ℕ) (m : Msg) (p : Packet) → IsWritableMsg m → p ≡ numbered (n + 1) m → IsWritable p
+pub next-writable : (n : ℕ) (m : Msg) (p : Packet) → IsWritableMsg m → p ≡ numbered (n + 1) m →
+    CanBeWritten (Message p)
 next-writable n m p w e = subst IsWritable (sym e) (numbered-writable (n + 1) m w)
 
 again-writable : (ws : List Unacked) → AllByRecursion (λ (w : Unacked). IsWritableMsg w.msg) ws →
@@ -64,7 +67,7 @@ passed-msg os (PathTear l e k) s = tt
 passed-msg os (PathErr l e at gone code) s = tt
 passed-msg os (Notify l e at k code) s = tt
 
-pub passed-on : (bytes : List ℕ) (p : Packet) → IsFrame bytes p → BodyCanBePassedOn p.body
+pub passed-on : (bytes : List ℕ) (p : Packet) → IsFrame bytes (Message p) → BodyCanBePassedOn p.body
 passed-on bytes p (body, is, spelled) = go p.body spelled.1.packet.body
   where
     go : (b : Option Msg) → SpellsBody spelled.0 p.id p.acks b → BodyCanBePassedOn b
@@ -74,7 +77,7 @@ passed-on bytes p (body, is, spelled) = go p.body spelled.1.packet.body
 -- Frames at the end of a list
 
 pub framed-on : (me to : NodeId) (fs new first : List Frame) (f : Frame) (p : Packet) (rest all : List Packet) →
-    f ≡ sent_frame me to p → new ≡ fs ++ f ∷ [] →
+    f ≡ sent_frame me to (Message p) → new ≡ fs ++ f ∷ [] →
     fs ++ frames_to me (sendings_to to (p ∷ rest)) ≡ first ++ frames_to me (sendings_to to all) →
     new ++ frames_to me (sendings_to to rest) ≡ first ++ frames_to me (sendings_to to all)
 framed-on me to fs new first f p rest all is pushed h =

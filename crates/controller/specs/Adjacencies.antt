@@ -8,6 +8,7 @@ use Rattle.ason_base.specs.declared.tables.Out.{Out}
 use Rattle.ason_base.specs.InOrder.{in_order}
 use Rattle.ason_base.specs.Network.{other_end}
 use Rattle.ason_base.specs.Writable.{IsWritableMsg}
+use Rattle.flood.specs.declared.frames.Content.TheVariants.{Message}
 use Rattle.hop_reliable.specs.declared.heard.Heard.{Heard}
 use Rattle.hop_reliable.specs.Hop.{HopState, PreparedHop, all_sent, fresh, numbered, resent, resting, sent_message, taken, ticked}
 use Rattle.mesh_rules.specs.LocalNodes.{LocalNode}
@@ -98,7 +99,8 @@ sent_on hops (o ∷ outs) = sent_on (sent_one hops o) outs
 abbrev pub packets_on : (ℕ → HopState) → List Out → List Sending
 packets_on hops [] = []
 packets_on hops (o ∷ outs) =
-    record { to = o.to; packet = numbered ((hops o.to.0).sent + 1) o.msg } ∷ packets_on (sent_one hops o) outs
+    record { to = o.to; content = Message (numbered ((hops o.to.0).sent + 1) o.msg) }
+    ∷ packets_on (sent_one hops o) outs
 
 -- all that will be sent is prepared
 abbrev pub ArePrepared : List Adjacency → List Out → List Adjacency → Type 0
@@ -114,7 +116,7 @@ AllCanGo near hops (o ∷ outs) =
 -- A tick
 
 abbrev pub sendings_to : NodeId → List Packet → List Sending
-sendings_to n packets = map (λ q. record { to = n; packet = q }) packets
+sendings_to n packets = map (λ q. record { to = n; content = Message q }) packets
 
 -- what goes again to a neighbour
 abbrev pub again_to : Adjacency → List Sending

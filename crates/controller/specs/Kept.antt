@@ -3,9 +3,14 @@ use Rattle.std.specs.Prelude.{◌≡◌, ◌≤◌, ◌<◌, ◌+◌, ◌-◌, �
 use Rattle.std.specs.List.{AllByRecursion}
 use Rattle.ason_base.specs.declared.ids.NodeId.{NodeId}
 use Rattle.mesh_nodes.specs.LocalNodes.{is_neighbour}
+use Rattle.mesh_rules.specs.KnownRows.{known_rows}
 use Rattle.mesh_rules.specs.LocalNodes.{LocalNode, local_node}
-use Rattle.mesh_rules.specs.State.{new_node}
-use Rattle.ason_base.specs.Network.{Network}
+use Rattle.mesh_rules.specs.State.{NodeState, new_node}
+use Rattle.ason_base.specs.Network.{Network, row_of}
+use Rattle.flood.specs.declared.due.Due.{Due}
+use Rattle.flood.specs.Networks.{begun_node}
+use Rattle.flood.specs.State.{FloodState}
+use Rattle.te_tlv.specs.Written.{IsWritable}
 use Rattle.controller.specs.declared.adjacencies.Adjacency.{Adjacency}
 use Rattle.controller.specs.declared.frames.Frame.{Frame}
 use Rattle.controller.specs.declared.inputs.CoreInput.{CoreInput}
@@ -17,6 +22,17 @@ use Rattle.controller.specs.Controllers.{ControllerState}
 abbrev pub unacknowledged : List Adjacency → ℕ
 unacknowledged [] = 0
 unacknowledged (a ∷ adjacencies) = length a.hop.state.unacked + unacknowledged adjacencies
+
+-- the row can go to a neighbour
+abbrev pub CanGo : Due → Type 0
+CanGo d = IsWritable d.origin d.row
+
+-- what a node floods are the rows that it knows, to its neighbours, and what is due to them can be written
+pub record FloodFits (p : LocalNode) (s : NodeState) (f : FloodState) : Type 0 where
+  pub me : f.me ≡ p.id
+  pub rows : f.rows ≡ known_rows p s
+  pub neighbours : map (λ n. n.id.0) f.neighbours ≡ neighbours p
+  pub due : AllByRecursion (λ n. AllByRecursion CanGo n.due) f.neighbours
 
 -- after so many steps
 pub record IsKept (p : LocalNode) (adjacencies : List Adjacency) (steps : ℕ) : Type 0 where
@@ -38,6 +54,7 @@ pub record IsReady (p : LocalNode) (adjacencies : List Adjacency) : Type 0 where
   pub again : AllByRecursion (λ a. CanGoAgain a.hop.state) adjacencies
   pub left : (d : ℕ) → (hop_at adjacencies d).sent + 65536 < 2 ^ 32 - 1
   pub near : AllByRecursion (λ a. IsTrue (is_neighbour p a.peer)) adjacencies
+  pub narrow : length (neighbours p) ≤ 256
   -- all that 50,000 steps send to 256 neighbours
   pub waiting : unacknowledged adjacencies ≤ 256 * (65536 * 50000)
   pub rest : map rested adjacencies ≡ adjacencies
@@ -52,10 +69,11 @@ IsFromNeighbour p (input.Desk i) = Unit {0}
 abbrev pub AllToNeighbours : LocalNode → List Frame → Type 0
 AllToNeighbours p frames = AllByRecursion (λ f. IsTrue (is_neighbour p f.to)) frames
 
--- the controller of this node that made no step
+-- the controller of this node that made no step: the rows of its own links are due to every neighbour
 abbrev pub new_controller : Network → NodeId → ControllerState
 new_controller t id = record {
   node = record { place = local_node t id; state = new_node };
   adjacencies = map new_adjacency (neighbours (local_node t id));
+  flood = begun_node (map row_of t.links) id;
   steps = 0;
 }

@@ -1,18 +1,21 @@
 //! The hops of a node, one a neighbour, in order of neighbour.
 
-ghost use Rattle.std.specs.Prelude.{◌≡◌, ◌+◌, ◌-◌, ◌<◌, ◌≤◌, ◌==◌, ◌^◌, ◌++◌, ℕ, All, IfOk, IsTrue, OnErr, OnOk, length, map, position, slice_get, Some, if◌then◌else◌};
+ghost use Rattle.std.specs.Prelude.{◌≡◌, ◌+◌, ◌-◌, ◌<◌, ◌≤◌, ◌==◌, ◌^◌, ◌++◌, ◌∷◌, [], ℕ, All, IfOk, IsTrue, OnErr, OnOk, length, map, position, slice_get, Some, if◌then◌else◌};
 ghost use Rattle.std.specs.Option.{option_copied};
 ghost use Rattle.std.specs.List.{AllByRecursion, flat_map};
 ghost use Rattle.ason_base.specs.Writable.{IsWritableMsg};
+ghost use Rattle.flood.specs.declared.frames.Content.{Content};
+ghost use Rattle.flood.specs.Frames.{IsFrame, frame_bytes};
 ghost use Rattle.hop_reliable.specs.Hop.{heard_as, last_number, numbered, with_next};
 ghost use Rattle.rsvp_messages.specs.Writable.{IsWritable};
 ghost use Rattle.controller.specs.declared.adjacencies.Adjacency.{Adjacency};
 ghost use Rattle.controller.specs.Adjacencies.{AllCanGo, CanGoAgain, IsChangedAt, adjacency_at, aged, again_to, committed, hop_at, is_to, next_at, packets_on, peer_numbers, prepared_at, reaches, rested, sendings_to, sent_on, sent_one, taken_at, taken_by};
-ghost use Rattle.controller.specs.Frames.{AllSpelled, IsFrame, frames_to, sent_frame};
+ghost use Rattle.controller.specs.Frames.{AllSpelled, frames_to, sent_frame};
 ghost use Rattle.controller.specs.Kept.{unacknowledged};
 
 use crate::frames::{Frame, FrameMaker};
 use ason_base::{Msg, MsgId, NodeId, Out, OutOfMemory, Packet};
+use flood::Content;
 use hop_reliable::{Heard, Hop};
 use std::alloc::Global;
 
@@ -132,13 +135,14 @@ fn prepare_framed(
     ensures rest { map rested adjacencies.new ≡ map rested adjacencies.old }
     ensures frame { IfOk result
         (λ f. f ≡ sent_frame me out.to
-        (numbered ((next_at adjacencies.old out.to.0).sent + 1) out.msg)) }
+        (Content.Message (numbered ((next_at adjacencies.old out.to.0).sent + 1) out.msg))) }
     ensures spelled { IfOk result
-        (λ f. IsFrame f.bytes (numbered ((next_at adjacencies.old out.to.0).sent + 1) out.msg)) }
+        (λ f. IsFrame f.bytes
+        (Content.Message (numbered ((next_at adjacencies.old out.to.0).sent + 1) out.msg))) }
 {
     let to = out.to;
     let packet = prepare(maker.alloc, adjacencies, out)?;
-    maker.frame(me, to, &packet)
+    maker.frame(me, to, &Content::Message(packet))
 }
 
 /// Prepares these messages, in order. Their frames go to the end of the list.
@@ -195,6 +199,25 @@ pub(crate) fn age_all(adjacencies: &mut [Adjacency])
     }
 }
 
+// The frame of this packet goes to the end of the list.
+fn frame_one(
+    maker: &mut FrameMaker,
+    me: NodeId,
+    to: NodeId,
+    p: Packet,
+    frames: &mut Vec<Frame>,
+) -> Result<(), OutOfMemory>
+    requires { IsWritable p }
+    ensures frames { OnOk result
+        (frames.new.items ≡ frames.old.items ++ sent_frame me to (Content.Message p) ∷ []) }
+    ensures spelled { OnOk result
+        (IsFrame (frame_bytes me (Content.Message p)) (Content.Message p)) }
+{
+    let frame = maker.frame(me, to, &Content::Message(p))?;
+    frames.push(frame)?;
+    Ok(())
+}
+
 // The frames of these packets go to the end of the list.
 fn frame_all(
     maker: &mut FrameMaker,
@@ -209,8 +232,7 @@ fn frame_all(
     ensures spelled { OnOk result (AllSpelled me (sendings_to to packets.items)) }
 {
     for p in packets {
-        let frame = maker.frame(me, to, &p)?;
-        frames.push(frame)?;
+        frame_one(maker, me, to, p, frames)?;
     }
     Ok(())
 }

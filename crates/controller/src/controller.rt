@@ -7,13 +7,16 @@ ghost use Rattle.mesh_rules.specs.Rows.{call_rows, leg_rows};
 ghost use Rattle.controller.specs.declared.controller.TheConstants.{MOST_STEPS};
 ghost use Rattle.controller.specs.Controllers.{IsStep};
 ghost use Rattle.controller.specs.Kept.{AllToNeighbours, IsFromNeighbour, new_controller, unacknowledged};
+ghost use Rattle.flood.specs.State.{pending_count};
 
 use crate::adjacencies::{Adjacency, pending, reaches};
+use crate::floods::begun;
 use crate::frames::{FrameMaker, Frames};
 use crate::inputs::{CoreInput, Pending};
 use crate::peers::adjacencies;
 use crate::reactions::react;
 use ason_base::{NodeId, OutOfMemory, TableRows, Topology};
+use flood::Flood;
 use node_core::Node;
 use std::alloc::Global;
 use std::marker::Model;
@@ -21,38 +24,42 @@ use std::marker::Model;
 /// How many steps a controller makes, so that the numbers of its messages never end.
 pub const MOST_STEPS: u64 = 50_000;
 
-/// The controller of one node: the node, and a reliable hop to each neighbour.
+/// The controller of one node: the node, a reliable hop to each neighbour, and the rows of links that it floods.
 #[derive(Debug, Drop)]
 pub struct Controller {
     maker: FrameMaker,
     node: Node,
     adjacencies: Vec<Adjacency>,
+    flood: Flood,
     steps: u64,
 }
 
 impl Model for Controller {
     ghost use Rattle.controller.specs.Controllers.{ControllerState};
-    ghost use Rattle.controller.specs.Kept.{IsKept};
+    ghost use Rattle.controller.specs.Kept.{FloodFits, IsKept};
 
     ghost Value = { ControllerState };
 
-    ghost view = { λ c. record { node = c.node; adjacencies = c.adjacencies.items; steps = c.steps } };
+    ghost view = { λ c. record { node = c.node; adjacencies = c.adjacencies.items; flood = c.flood; steps = c.steps } };
 
-    ghost invariant = { λ c. IsKept c.node.place c.adjacencies.items c.steps };
+    ghost invariant = { λ c.
+        IsKept c.node.place c.adjacencies.items c.steps × FloodFits c.node.place c.node.state c.flood };
 }
 
 impl Controller {
-    /// The controller of node `id`, which keeps nothing, and sent nothing.
+    /// The controller of node `id`, which keeps nothing, and sent nothing. The rows of its own links are due to each neighbour.
     pub fn new(alloc: Global, t: &Topology, id: NodeId) -> Result<Controller, OutOfMemory>
         requires { IsSome (find_node t.now id) }
         ensures { IfOk result (λ c. c ≡ new_controller t.now id) }
     {
         let node = Node::new(alloc, t, id)?;
         let adjacencies = adjacencies(alloc, t, id)?;
+        let flood = begun(alloc, t, id)?;
         Ok(Controller {
             maker: FrameMaker::new(alloc),
             node,
             adjacencies,
+            flood,
             steps: 0,
         })
     }
@@ -72,6 +79,7 @@ impl Controller {
             &mut self.maker,
             &mut self.node,
             &mut self.adjacencies,
+            &mut self.flood,
             input,
         )?;
         self.steps += 1;
@@ -102,15 +110,18 @@ impl Controller {
         self.steps
     }
 
-    /// How many messages of its hops aren't acknowledged. It floods no row.
+    /// How many messages of its hops, and how many rows that it floods, aren't acknowledged. A row counts from the moment when it
+    /// is due to a neighbour.
     pub fn pending(&self) -> Pending
         ensures hop { result.hop ≡ unacknowledged self.now.adjacencies }
-        ensures few { result.hop ≤ 2 ^ 40 }
-        ensures flood { result.flood ≡ 0 }
+        ensures few_hop { result.hop ≤ 2 ^ 40 }
+        ensures flood { result.flood ≡ pending_count self.now.flood }
+        ensures few_flood { result.flood ≤ 2 ^ 40 }
     {
+        self.flood.counts();
         Pending {
             hop: pending(&self.adjacencies),
-            flood: 0,
+            flood: self.flood.pending(),
         }
     }
 }

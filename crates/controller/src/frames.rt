@@ -1,15 +1,12 @@
-//! Frames on a control channel.
+//! The frames that a controller sends.
 
 ghost use Rattle.std.specs.Prelude.{◌≡◌, IfOk};
-ghost use Rattle.rsvp_messages.specs.Writable.{IsWritable};
-ghost use Rattle.controller.specs.Frames.{IsFrame, sent_frame};
+ghost use Rattle.flood.specs.Frames.{CanBeWritten, IsFrame};
+ghost use Rattle.controller.specs.Frames.{sent_frame};
 
-use ason_base::{Bytes, Items, NodeId, OutOfMemory, Packet};
-use rsvp_messages::{encode_into, room_for};
+use ason_base::{Bytes, Items, NodeId, OutOfMemory};
+use flood::{Content, write_frame};
 use std::alloc::Global;
-
-/// The first byte of a frame that carries an RSVP message: RSVP's number among the protocols over IP.
-pub const RSVP: u8 = 46;
 
 /// Bytes on their way to a neighbour.
 #[derive(Debug, Drop)]
@@ -36,16 +33,19 @@ impl FrameMaker {
         }
     }
 
-    /// The frame of a packet from this node to a neighbour.
-    pub(crate) fn frame(&mut self, me: NodeId, to: NodeId, p: &Packet) -> Result<Frame, OutOfMemory>
-        requires { IsWritable p.now }
-        ensures frame { IfOk result (λ f. f ≡ sent_frame me to p.now) }
-        ensures spelled { IfOk result (λ f. IsFrame f.bytes p.now) }
+    /// What goes from this node to a neighbour.
+    pub(crate) fn frame(
+        &mut self,
+        me: NodeId,
+        to: NodeId,
+        content: &Content,
+    ) -> Result<Frame, OutOfMemory>
+        requires { CanBeWritten content.now }
+        ensures frame { IfOk result (λ f. f ≡ sent_frame me to content.now) }
+        ensures spelled { IfOk result (λ f. IsFrame f.bytes content.now) }
     {
         self.buffer.clear();
-        self.buffer.reserve(1 + room_for(p))?;
-        self.buffer.push(RSVP)?;
-        encode_into(&mut self.buffer, me, p)?;
+        write_frame(self.alloc, &mut self.buffer, me, content)?;
         let bytes = Vec::from_slice(self.alloc, &self.buffer)?;
         Ok(Frame {
             to,

@@ -13,24 +13,35 @@ use ason_base::{LinkSpec, NodeId, OutOfMemory, Topology};
 use hop_reliable::Hop;
 use std::alloc::Global;
 
-fn touches(n: NodeId, link: &LinkSpec) -> bool
+/// Whether the node is an end of the link.
+pub(crate) fn touches(n: NodeId, link: &LinkSpec) -> bool
     ensures { result ≡ touches n link.now }
 {
     link.low == n || link.high == n
 }
 
-// The other ends of the node's links.
-fn other_ends(alloc: Global, links: &[LinkSpec], n: NodeId) -> Result<Vec<u32>, OutOfMemory>
-    ensures { IfOk result
-        (λ v. v.items ≡ map (λ l. (other_end l n).0) (filter (touches n) links.now)) }
+/// The other ends of the node's links.
+pub(crate) fn other_ends(
+    alloc: Global,
+    links: &[LinkSpec],
+    n: NodeId,
+) -> Result<Vec<NodeId>, OutOfMemory>
+    ensures { IfOk result (λ v. v.items ≡ map (λ l. other_end l n) (filter (touches n) links.now)) }
 {
     let mut ends = Vec::new(alloc);
     for link in links {
         if touches(n, link) {
-            ends.push(other_end(link, n).0)?;
+            ends.push(other_end(link, n))?;
         }
     }
     Ok(ends)
+}
+
+fn numbers_of(alloc: Global, nodes: &[NodeId]) -> Result<Vec<u32>, OutOfMemory>
+    ensures { IfOk result (λ v. v.items ≡ map (λ n. n.0) nodes.now) }
+{
+    let numbers = nodes.iter().map(|n| n.0).collect(alloc)?;
+    Ok(numbers)
 }
 
 // The nodes that these links lead to, in order, each once.
@@ -39,10 +50,11 @@ fn neighbours(alloc: Global, links: &[LinkSpec], n: NodeId) -> Result<Vec<u32>, 
         (λ v. v.items ≡ in_order nat_lt
         (map (λ l. (other_end l n).0) (filter (touches n) links.now))) }
 {
-    let mut ends = other_ends(alloc, links, n)?;
-    ends.sort_unstable();
-    ends.dedup();
-    Ok(ends)
+    let ends = other_ends(alloc, links, n)?;
+    let mut numbers = numbers_of(alloc, &ends)?;
+    numbers.sort_unstable();
+    numbers.dedup();
+    Ok(numbers)
 }
 
 /// A hop to each neighbour, over which nothing was sent.

@@ -9,17 +9,23 @@ ghost use Rattle.mesh_rules.specs.Changes.{changed};
 ghost use Rattle.node_core.specs.Nodes.{IsWritableInput, MayTake, answer_to, stepped};
 ghost use Rattle.controller.specs.Adjacencies.{ArePrepared, reaches, rested};
 ghost use Rattle.controller.specs.Answers.{BodyCanBePassedOn, body_answer};
-ghost use Rattle.controller.specs.Controllers.{AddsAnswer, AnswerIsSpelled, Becomes, IsMade, IsReaction, handed_body, idle_step, item_step, packet_step, tick_step};
-ghost use Rattle.controller.specs.Frames.{AllSpelled, IsFrame, SpellsNothing, frames_to};
-ghost use Rattle.controller.specs.Kept.{AllToNeighbours, IsFromNeighbour, IsKept, IsReady};
+ghost use Rattle.flood.specs.declared.frames.Content.{Content};
+ghost use Rattle.flood.specs.Frames.{IsFrame, SpellsNothing};
+ghost use Rattle.flood.specs.Messages.{SpellsFlood};
+ghost use Rattle.flood.specs.State.{ticked};
+ghost use Rattle.controller.specs.Controllers.{AddsAnswer, AnswerIsSpelled, AreMade, Becomes, IsMade, IsReaction, flood_after, frame_step, handed_body, idle_step, item_step, packet_step, parts, tick_step};
+ghost use Rattle.controller.specs.Frames.{AllSpelled, frames_to};
+ghost use Rattle.controller.specs.Kept.{AllToNeighbours, FloodFits, IsFromNeighbour, IsKept, IsReady};
 
+use crate::acks::acknowledge;
 use crate::adjacencies::{
     Adjacency, age_all, commit_all, discard_all, frame_due, hears, prepare_all, take,
 };
+use crate::floods::{frame_floods_due, take_flood};
 use crate::frames::{Frame, FrameMaker};
 use crate::inputs::CoreInput;
-use crate::packets::{acknowledge, packet_of};
-use ason_base::{Copied, DeskItem, Msg, NodeId, OutOfMemory, Packet, copy_all};
+use ason_base::{Copied, DecodeError, DeskItem, Msg, NodeId, OutOfMemory, Packet, copy_all};
+use flood::{Content, Flood, read_frame};
 use hop_reliable::Heard;
 use node_core::{Change, Input, Node};
 
@@ -200,6 +206,7 @@ fn taken(
     ensures place { node.new.place ≡ node.old.place }
     ensures kept { (k : ℕ) → IsKept node.old.place adjacencies.old k →
         OnOk result (IsKept node.new.place adjacencies.new (k + 1)) }
+    ensures learnt { OnOk result (node.new.state.learnt ≡ node.old.state.learnt) }
     ensures near { IfOk result (λ fs. AllToNeighbours node.old.place fs.items) }
     ensures few { IfOk result (λ fs. length fs.items ≤ 2 ^ 40) }
     ensures same { OnErr result (node.new ≡ node.old) }
@@ -216,30 +223,37 @@ fn take_frame(
     maker: &mut FrameMaker,
     node: &mut Node,
     adjacencies: &mut [Adjacency],
+    flood: &mut Flood,
     from: NodeId,
     bytes: &[u8],
 ) -> Result<Vec<Frame>, OutOfMemory>
     requires ready { IsReady node.old.place adjacencies.old }
+    requires fits { FloodFits node.old.place node.old.state flood.old }
     requires from { IsTrue (is_neighbour node.old.place from) }
-    ensures packet { (p : Packet) → IsFrame bytes.now p →
-        IfOk result (λ fs. IsMade node.old node.new adjacencies.old adjacencies.new
-        (packet_step node.old adjacencies.old from p) fs.items) }
+    ensures content { (c : Content) → IsFrame bytes.now c →
+        IfOk result (λ fs. AreMade (parts node.old adjacencies.old flood.old)
+        (parts node.new adjacencies.new flood.new)
+        (frame_step node.old adjacencies.old flood.old from c)
+        (flood_after flood.old from c) fs.items) }
     ensures noise { SpellsNothing bytes.now →
-        IfOk result (λ fs. IsMade node.old node.new adjacencies.old adjacencies.new
-        (idle_step node.old adjacencies.old) fs.items) }
+        IfOk result (λ fs. AreMade (parts node.old adjacencies.old flood.old)
+        (parts node.new adjacencies.new flood.new)
+        (idle_step node.old adjacencies.old) flood.old fs.items) }
     ensures place { node.new.place ≡ node.old.place }
     ensures kept { (k : ℕ) → IsKept node.old.place adjacencies.old k →
         OnOk result (IsKept node.new.place adjacencies.new (k + 1)) }
+    ensures fits { OnOk result (FloodFits node.new.place node.new.state flood.new) }
     ensures near { IfOk result (λ fs. AllToNeighbours node.old.place fs.items) }
     ensures few { IfOk result (λ fs. length fs.items ≤ 2 ^ 40) }
     ensures same { OnErr result (node.new ≡ node.old) }
     ensures err { OnErr result (adjacencies.new ≡ adjacencies.old) }
+    ensures err_flood { OnErr result (flood.new ≡ flood.old) }
 {
-    // A frame that begins with the byte of a flood would go to the flood here.
-    match packet_of(maker.alloc, bytes) {
-        Ok(Some(packet)) => taken(maker, node, adjacencies, from, packet),
-        Ok(None) => Ok(Vec::new(maker.alloc)),
-        Err(e) => Err(e),
+    match read_frame(maker.alloc, bytes) {
+        Ok(Content::Message(packet)) => taken(maker, node, adjacencies, from, packet),
+        Ok(Content::Flood(m)) => take_flood(maker, node, flood, from, &m),
+        Err(DecodeError::NotMessage) => Ok(Vec::new(maker.alloc)),
+        Err(DecodeError::OutOfMemory) => Err(OutOfMemory),
     }
 }
 
@@ -256,6 +270,7 @@ fn handle(
     ensures place { node.new.place ≡ node.old.place }
     ensures kept { (k : ℕ) → IsKept node.old.place adjacencies.old k →
         OnOk result (IsKept node.new.place adjacencies.new (k + 1)) }
+    ensures learnt { OnOk result (node.new.state.learnt ≡ node.old.state.learnt) }
     ensures near { IfOk result (λ fs. AllToNeighbours node.old.place fs.items) }
     ensures few { IfOk result (λ fs. length fs.items ≤ 2 ^ 40) }
     ensures same { OnErr result (node.new ≡ node.old) }
@@ -269,57 +284,71 @@ fn handle(
     Ok(frames)
 }
 
-// Messages go again, then floods would, then what the rule of a tick sends.
+// Messages go again, then rows, then what the rule of a tick sends.
 fn tick(
     maker: &mut FrameMaker,
     node: &mut Node,
     adjacencies: &mut [Adjacency],
+    flood: &mut Flood,
 ) -> Result<Vec<Frame>, OutOfMemory>
     requires ready { IsReady node.old.place adjacencies.old }
+    requires fits { FloodFits node.old.place node.old.state flood.old }
     ensures made { IfOk result
         (λ fs. IsMade node.old node.new adjacencies.old adjacencies.new
-        (tick_step node.old adjacencies.old) fs.items) }
+        (tick_step node.old adjacencies.old flood.old) fs.items) }
+    ensures flood { OnOk result (flood.new ≡ ticked flood.old) }
     ensures place { node.new.place ≡ node.old.place }
     ensures kept { (k : ℕ) → IsKept node.old.place adjacencies.old k →
         OnOk result (IsKept node.new.place adjacencies.new (k + 1)) }
+    ensures fits { OnOk result (FloodFits node.new.place node.new.state flood.new) }
     ensures near { IfOk result (λ fs. AllToNeighbours node.old.place fs.items) }
     ensures few { IfOk result (λ fs. length fs.items ≤ 2 ^ 40) }
     ensures same { OnErr result (node.new ≡ node.old) }
     ensures err { OnErr result (adjacencies.new ≡ adjacencies.old) }
+    ensures err_flood { OnErr result (flood.new ≡ flood.old) }
 {
     node.fits();
+    flood.counts();
+    let me = node.id();
     let mut frames = Vec::new(maker.alloc);
-    frame_due(maker, node.id(), adjacencies, &mut frames)?;
+    frame_due(maker, me, adjacencies, &mut frames)?;
+    frame_floods_due(maker, me, flood, &mut frames)?;
     give(maker, node, adjacencies, &mut frames, &Input::Tick)?;
     age_all(adjacencies);
     commit_all(adjacencies);
+    flood.age();
     Ok(frames)
 }
 
-/// What an input does, and the frames that go out. After want of memory the node and its hops are unchanged.
+/// What an input does, and the frames that go out. After want of memory the node, its hops and its flood are unchanged.
 pub(crate) fn react(
     maker: &mut FrameMaker,
     node: &mut Node,
     adjacencies: &mut [Adjacency],
+    flood: &mut Flood,
     input: &CoreInput,
 ) -> Result<Vec<Frame>, OutOfMemory>
     requires ready { IsReady node.old.place adjacencies.old }
+    requires fits { FloodFits node.old.place node.old.state flood.old }
     requires from { IsFromNeighbour node.old.place input.now }
     ensures reaction { IfOk result
-        (λ fs. IsReaction node.old node.new adjacencies.old adjacencies.new input.now fs.items) }
+        (λ fs. IsReaction (parts node.old adjacencies.old flood.old)
+        (parts node.new adjacencies.new flood.new) input.now fs.items) }
     ensures place { node.new.place ≡ node.old.place }
     ensures kept { (k : ℕ) → IsKept node.old.place adjacencies.old k →
         OnOk result (IsKept node.new.place adjacencies.new (k + 1)) }
+    ensures fits { OnOk result (FloodFits node.new.place node.new.state flood.new) }
     ensures near { IfOk result (λ fs. AllToNeighbours node.old.place fs.items) }
     ensures few { IfOk result (λ fs. length fs.items ≤ 2 ^ 40) }
     ensures same { OnErr result (node.new ≡ node.old) }
     ensures err { OnErr result (adjacencies.new ≡ adjacencies.old) }
+    ensures err_flood { OnErr result (flood.new ≡ flood.old) }
 {
     match input {
         CoreInput::Frame { from, bytes } => {
-            take_frame(maker, node, adjacencies, *from, bytes.items())
+            take_frame(maker, node, adjacencies, flood, *from, bytes.items())
         }
-        CoreInput::Tick => tick(maker, node, adjacencies),
+        CoreInput::Tick => tick(maker, node, adjacencies, flood),
         CoreInput::Desk(item) => handle(maker, node, adjacencies, item),
     }
 }

@@ -39,6 +39,7 @@ untouched_twice : (u v w : World) (m : ℕ) → IsUntouched u v m → IsUntouche
 untouched_twice u v w m f g = record {
   nodes = g.nodes ∙ f.nodes;
   ends = λ d. g.ends d ∙ f.ends d;
+  floods = g.floods ∙ f.floods;
   channels = λ d. g.channels d ∙ f.channels d;
 }
 
@@ -174,7 +175,7 @@ pub turn-elsewhere : (t : Network) (tick : Bool) (n : NodeId) → is_node_id t.n
     IsElsewhere t n h (turn t tick n h)
 turn-elsewhere t tick n known h = turn_keeps t (IsElsewhere t n h) tick n (elsewhere_is_kept t n h) known h (record {
   left = record {
-    others = λ m other. record { nodes = refl; ends = λ d. refl; channels = λ d. refl };
+    others = λ m other. record { nodes = refl; ends = λ d. refl; floods = refl; channels = λ d. refl };
     desks = λ m other. refl;
     made = λ m other. refl;
     items = same_count (length ((world_after t h).desks n.0));

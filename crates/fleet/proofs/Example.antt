@@ -9,7 +9,7 @@ use Rattle.ason_base.specs.declared.commands.Event.TheVariants.{Deliver, Desk, P
 use Rattle.ason_base.specs.Labels.{numbers_from}
 use Rattle.ason_base.specs.Network.{Network}
 use Rattle.station.specs.Histories.{History, new_history, with_event, world_after}
-use Rattle.fleet.specs.Rounds.{is_quiet, settled, unacked_waiting}
+use Rattle.fleet.specs.Rounds.{is_quiet, rows_waiting, settled, unacked_waiting}
 
 a : NodeId
 a = record { 0 = 1 }
@@ -33,24 +33,30 @@ setup = Setup (record { 0 = 0 }) a b false false (Some (record { node = a; link 
 posted : History
 posted = with_event network new_history (Post setup)
 
--- two rounds bring the call up, and what went again in the second is still in the rings
+-- Two rounds bring the call up and flood the row of the link, which both nodes know. What went again in the second is
+-- still in the rings.
 is_settled : (settled network 3 posted).events
     ≡ Post setup
     ∷ Tick a
     ∷ Desk a
     ∷ Tick b
-    ∷ Deliver b a 1  -- the Path
+    ∷ Deliver b a 1  -- the row
+    ∷ Deliver b a 2  -- the Path
     ∷ Tick a
-    ∷ Deliver a b 1  -- its acknowledgement
-    ∷ Deliver a b 2  -- the Resv
+    ∷ Deliver a b 1  -- the row
+    ∷ Deliver a b 2  -- the acknowledgement of the row
+    ∷ Deliver a b 3  -- the acknowledgement of the Path
+    ∷ Deliver a b 4  -- the Resv
     ∷ Tick b
-    ∷ Deliver b a 2  -- the Path again
-    ∷ Deliver b a 3  -- the acknowledgement of the Resv
+    ∷ Deliver b a 3  -- the Path again
+    ∷ Deliver b a 4  -- the row again
+    ∷ Deliver b a 5  -- the acknowledgement of the row
+    ∷ Deliver b a 6  -- the acknowledgement of the Resv
     ∷ []
 unfolding settled network setup posted a b link numbers_from
 is_settled = refl
 
-still_wait : (settled network 3 posted).waiting 2 1 ≡ 3 ∷ 4 ∷ []
+still_wait : (settled network 3 posted).waiting 2 1 ≡ 5 ∷ 6 ∷ 7 ∷ 8 ∷ []
 unfolding settled network setup posted a b link numbers_from
 still_wait = refl
 
@@ -58,7 +64,16 @@ is_quiet_then : is_quiet network (world_after network (settled network 3 posted)
 unfolding settled network setup posted a b link numbers_from
 is_quiet_then = refl
 
--- after one round three messages and acknowledgements are on their way, and two messages are unacknowledged
+-- after one round two messages are unacknowledged, and a row at each node
 not_yet : unacked_waiting network (world_after network (settled network 1 posted)) ≡ 2
 unfolding settled network setup posted a b link numbers_from
 not_yet = refl
+
+rows_not_yet : rows_waiting network (world_after network (settled network 1 posted)) ≡ 2
+unfolding settled network setup posted a b link numbers_from
+rows_not_yet = refl
+
+-- own rows are due from the start
+not_at_once : is_quiet network (world_after network new_history) ≡ false
+unfolding settled network setup posted a b link numbers_from
+not_at_once = refl

@@ -10,6 +10,11 @@ use Rattle.ason_base.specs.declared.commands.Event.TheVariants.{Deliver, Noise, 
 use Rattle.ason_base.specs.declared.messages.Msg.{Msg}
 use Rattle.ason_base.specs.declared.messages.Packet.{Packet}
 use Rattle.ason_base.specs.Network.{Network}
+use Rattle.flood.specs.declared.frames.Content.{Content}
+use Rattle.flood.specs.declared.frames.Content.TheVariants.{Message, Flood}
+use Rattle.flood.specs.declared.messages.FloodMsg.{FloodMsg}
+use Rattle.flood.specs.Networks.{sent_to_node}
+use Rattle.flood.specs.State.{sends_after, sent_at_tick}
 use Rattle.hop_reliable.specs.Hop.{answers_to, heard_as, resent}
 use Rattle.mesh_rules.specs.Changes.{Answer}
 use Rattle.mesh_rules.specs.Events.{on_first_item}
@@ -17,8 +22,7 @@ use Rattle.mesh_rules.specs.LocalNodes.{local_node}
 use Rattle.mesh_rules.specs.Machine.{sent_to}
 use Rattle.mesh_rules.specs.Messages.{on_message}
 use Rattle.mesh_rules.specs.Orders.{on_tick}
-use Rattle.world_core.specs.Frames.{Content, Message}
-use Rattle.world_core.specs.Worlds.{World, commit, delivered, frame_at, handed_up, handled, hops_ticked, numbered_after, taken, with_event, with_packets}
+use Rattle.world_core.specs.Worlds.{World, commit, delivered, floods_ticked, frame_at, handed_up, handled, hops_ticked, numbered_after, taken, with_event, with_floods, with_packets}
 use Rattle.world_core.specs.Runs.{posted, step, without_item}
 use Rattle.station.specs.Histories.{count_of}
 
@@ -40,6 +44,10 @@ if_sent : (b : Bool) (cs : List Content) (packets : List Packet) → Grows cs (c
 if_sent true cs packets = record { more = map Message packets; whole = refl }
 if_sent false cs packets = same cs
 
+if_flooded : (b : Bool) (cs : List Content) (floods : List FloodMsg) → Grows cs (cond b (with_floods cs floods) cs)
+if_flooded true cs floods = record { more = map Flood floods; whole = refl }
+if_flooded false cs floods = same cs
+
 grows_commit : (w : World) (n : ℕ) (a : Answer) (u d : ℕ) → Grows (w.channels u d) ((commit w n a).channels u d)
 grows_commit w n a u d = if_sent (nat_eq u n) (w.channels u d) (numbered_after (w.ends u d).hop.sent (sent_to d a.sent))
 
@@ -56,6 +64,8 @@ grows_delivered t w d u (Some (Message p)) a b =
     ((handled t (taken w d u p) d u (handed_up w d u p)).channels a b)
     (if_sent (nat_eq a d.0 && nat_eq b u.0) (w.channels a b) (answers_to (heard_as (w.ends a b).hop p) p))
     (grows_handled t (taken w d u p) d u (handed_up w d u p) a b)
+grows_delivered t w d u (Some (Flood m)) a b =
+    if_flooded (nat_eq a d.0) (w.channels a b) (sent_to_node b (sends_after (w.floods a) u m))
 
 grows_posted : (w : World) (c : Command) (a b : ℕ) → Grows (w.channels a b) ((posted w c).channels a b)
 grows_posted w (Setup n from to protected both via backup) a b = same (w.channels a b)
@@ -71,10 +81,14 @@ pub channel-grows : (t : Network) (w : World) (e : Event) (a b : ℕ) →
 channel-grows t w (Deliver d u k) a b = grows_delivered t (with_event w d.0) d u (frame_at w u d k) a b
 channel-grows t w (Noise d u bytes) a b = same (w.channels a b)
 channel-grows t w (Tick n) a b =
-    then_grows (w.channels a b) ((hops_ticked (with_event w n.0) n.0).channels a b)
-    ((commit (hops_ticked (with_event w n.0) n.0) n.0 (on_tick (local_node t n) (w.nodes n.0))).channels a b)
+    let hops : World = hops_ticked (with_event w n.0) n.0 in
+    let floods : World = floods_ticked hops n.0 in
+    let tick : Answer = on_tick (local_node t n) (w.nodes n.0) in
+    then_grows (w.channels a b) (floods.channels a b) ((commit floods n.0 tick).channels a b)
+    (then_grows (w.channels a b) (hops.channels a b) (floods.channels a b)
     (if_sent (nat_eq a n.0) (w.channels a b) (resent (w.ends a b).hop))
-    (grows_commit (hops_ticked (with_event w n.0) n.0) n.0 (on_tick (local_node t n) (w.nodes n.0)) a b)
+    (if_flooded (nat_eq a n.0) (hops.channels a b) (sent_to_node b (sent_at_tick (w.floods a)))))
+    (grows_commit floods n.0 tick a b)
 channel-grows t w (Desk n) a b =
     grows_commit (without_item (with_event w n.0) n.0) n.0 (on_first_item (local_node t n) (w.nodes n.0)
     (w.desks n.0)) a b

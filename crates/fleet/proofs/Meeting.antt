@@ -125,7 +125,8 @@ station-at t h f s n place at = there f.stations place
     below : (a b c d : ℕ) → a < b → b ≡ c → d ≡ c → a < d
     below a b c d p q r = omega arith
 
-pub differ : (t : Network) (n u : NodeId) (a b : ℕ) → slice_get (ids_of t) a ≡ Some n → slice_get (ids_of t) b ≡ Some u →
+pub differ : (t : Network) (n u : NodeId) (a b : ℕ) →
+    slice_get (ids_of t) a ≡ Some n → slice_get (ids_of t) b ≡ Some u →
     nat_eq n.0 u.0 ≡ false → nat_eq a b ≡ false
 differ t n u a b here there other = go (nat_eq a b) refl
   where

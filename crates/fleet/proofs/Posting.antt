@@ -101,6 +101,7 @@ posted-node t w c n x old items desk is = record {
     state = is.stands.state ∙ sym untouched.nodes;
     hops = λ d. is.stands.hops d ∙ ap (λ e. e.hop) (sym (untouched.ends d));
   };
+  flood = is.flood ∙ sym untouched.floods;
   hops = is.hops;
   desk = desk;
   made = is.made ∙ sym (made_posted w c n.0);

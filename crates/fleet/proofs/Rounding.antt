@@ -110,7 +110,8 @@ answered-few place mid new Starved n w = tt
 
 pub answered-stops : (place : ℕ) (old mid new : FleetState) (end : Turn) (n : NodeId) →
     ((seat : Seat) → slice_get old.seats place ≡ Some seat → n ≡ seat.id) → LooksAround place old mid →
-    HasWorked place mid new end → IfErr (answer_of end n) (λ e. (m : NodeId) → e ≡ fault.AtLimit m → IsCutAt place old m)
+    HasWorked place mid new end →
+    IfErr (answer_of end n) (λ e. (m : NodeId) → e ≡ fault.AtLimit m → IsCutAt place old m)
 answered-stops place old mid new (Worked k) n id looks w = tt
 answered-stops place old mid new Idle n id looks w = tt
 answered-stops place old mid new AtLimit n id looks w = λ m same.

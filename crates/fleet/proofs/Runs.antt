@@ -11,7 +11,7 @@ use Rattle.ason_base.specs.declared.commands.Event.{Event}
 use Rattle.ason_base.specs.declared.commands.Event.TheVariants.{Deliver, Tick, Desk, Post}
 use Rattle.ason_base.specs.Network.{Network, is_node_id}
 use Rattle.mesh_rules.specs.Events.{has_first}
-use Rattle.world_core.specs.Frames.{Content}
+use Rattle.flood.specs.declared.frames.Content.{Content}
 use Rattle.world_core.specs.Worlds.{World, frame_at, numbered_at, start, with_event as counted}
 use Rattle.world_core.specs.Runs.{IsEnabled, IsRun, after, posted, step}
 use Rattle.station.specs.Histories.{History, all_pushed, count_of, if_able, made_by, numbers_after, popped, pushed, refilled, sent_between, stopped_at, with_event_over, world_after}
@@ -144,7 +144,7 @@ runs_with :
     AreRings (world_after t h) rings → IsEnabled t (world_after t h) e →
     ((n : NodeId) → (step t (world_after t h) e).made n.0 ≤ 50000) → IsRunning t (with_event_over t h rings e)
 runs_with t h rings e is are on most = record {
-  run = run_more t h.events e start is.run on;
+  run = run_more t h.events e (start t) is.run on;
   rings = subst (λ w. AreRings w (refilled (world_after t h) (step t (world_after t h) e) rings))
       (sym (world-with t h rings e)) (rings_refilled t (world_after t h) e rings are);
   most = λ n. subst (λ (w : World). w.made n.0 ≤ 50000) (sym (world-with t h rings e)) (most n);

@@ -21,9 +21,10 @@ use Rattle.station.specs.Histories.{History, world_after}
 use Rattle.station.specs.Standing.{NodeStands, StationState}
 use Rattle.station.proofs.Doing.{self_test}
 use Rattle.station.proofs.Sending.{length-map}
-use Rattle.fleet.specs.Rounds.{is_quiet, items_waiting, unacked_at, unacked_waiting}
+use Rattle.flood.specs.State.{pending_count}
+use Rattle.fleet.specs.Rounds.{is_quiet, is_quiet_at, items_waiting, rows_due_at, rows_waiting, unacked_at, unacked_waiting}
 use Rattle.fleet.specs.Standing.{FleetState, IsStationOf, StandsFor, ids_of}
-use Rattle.fleet.specs.Waiting.{call_rows_of, has_nothing, leg_rows_of, unacked_of}
+use Rattle.fleet.specs.Waiting.{call_rows_of, has_nothing, leg_rows_of, rows_due_of, unacked_of}
 use Rattle.fleet.proofs.Places.{IsThere, all-places, get-map, same_number, there, within}
 
 -- Two lists side by side
@@ -151,11 +152,12 @@ pub quiet-stands : (t : Network) (h : History) (f : FleetState) → StandsFor t 
     list_all has_nothing f.stations ≡ is_quiet t (world_after t h)
 quiet-stands t h f s =
     all-along has_nothing _ f.stations t.nodes
-    (stations-along t h f (λ x n. has_nothing x ≡ (nat_eq (length ((world_after t h).desks n.id.0)) 0
-    && nat_eq (unacked_at t (world_after t h) n.id) 0)) s
-    (λ x n is. ap (λ items. nat_eq (length items) 0 && nat_eq (unacked_of x) 0) is.node.desk
-    ∙ ap (λ k. nat_eq (length ((world_after t h).desks n.id.0)) 0 && nat_eq k 0)
-    (unacked-node t (world_after t h) n.id x is.node)))
+    (stations-along t h f (λ x n. has_nothing x ≡ is_quiet_at t (world_after t h) n.id) s
+    (λ x n is. ap (λ items. nat_eq (length items) 0 && nat_eq (unacked_of x) 0 && nat_eq (rows_due_of x) 0) is.node.desk
+    ∙ ap (λ k. nat_eq (length ((world_after t h).desks n.id.0)) 0 && nat_eq k 0 && nat_eq (rows_due_of x) 0)
+    (unacked-node t (world_after t h) n.id x is.node)
+    ∙ ap (λ k. nat_eq (length ((world_after t h).desks n.id.0)) 0
+    && nat_eq (unacked_at t (world_after t h) n.id) 0 && nat_eq k 0) (ap pending_count is.node.flood)))
 
 pub items-stand : (t : Network) (h : History) (f : FleetState) → StandsFor t f h →
     sum_by (λ (x : StationState). length x.desk) f.stations ≡ items_waiting t (world_after t h)
@@ -170,6 +172,13 @@ unacked-stands t h f s =
     sum-along unacked_of _ f.stations t.nodes
     (stations-along t h f (λ x n. unacked_of x ≡ unacked_at t (world_after t h) n.id) s
     (λ x n is. unacked-node t (world_after t h) n.id x is.node))
+
+pub rows-stand : (t : Network) (h : History) (f : FleetState) → StandsFor t f h →
+    sum_by rows_due_of f.stations ≡ rows_waiting t (world_after t h)
+rows-stand t h f s =
+    sum-along rows_due_of _ f.stations t.nodes
+    (stations-along t h f (λ x n. rows_due_of x ≡ rows_due_at (world_after t h) n.id) s
+    (λ x n is. ap pending_count is.node.flood))
 
 pub calls-stand : (t : Network) (h : History) (f : FleetState) → StandsFor t f h →
     flat_map call_rows_of f.stations ≡ all_call_rows t (image (world_after t h))
@@ -254,26 +263,26 @@ sum-more f xs i so_far item next d below is one then fit =
     total : (a b c e : ℕ) → a ≡ c → b ≡ e → a + b ≡ c + e
     total a b c e p q = omega arith
 
-pub few-more : (xs : List StationState) (i : ℕ) (d : StationState) →
-    ((k : ℕ) (x : StationState) → k < i → slice_get xs k ≡ Some x → unacked_of x ≤ 2 ^ 40) →
-    d ≡ get_or xs i d → unacked_of d ≤ 2 ^ 40 → i < length xs →
-    (k : ℕ) (x : StationState) → k < i + 1 → slice_get xs k ≡ Some x → unacked_of x ≤ 2 ^ 40
-few-more xs i d each is few below k x under at = go (nat_eq k i) refl
+pub few-more : (f : StationState → ℕ) (xs : List StationState) (i : ℕ) (d : StationState) →
+    ((k : ℕ) (x : StationState) → k < i → slice_get xs k ≡ Some x → f x ≤ 2 ^ 40) →
+    d ≡ get_or xs i d → f d ≤ 2 ^ 40 → i < length xs →
+    (k : ℕ) (x : StationState) → k < i + 1 → slice_get xs k ≡ Some x → f x ≤ 2 ^ 40
+few-more f xs i d each is few below k x under at = go (nat_eq k i) refl
   where
     before : (a b : ℕ) → a < b + 1 → nat_eq a b ≡ false → a < b
     before a b p q = grind arith
 
-    go : (b : Bool) → nat_eq k i ≡ b → unacked_of x ≤ 2 ^ 40
+    go : (b : Bool) → nat_eq k i ≡ b → f x ≤ 2 ^ 40
     go true e =
         let same : x ≡ d = sym (get_or_from_slice_get xs k x d at) ∙ ap (λ j. get_or xs j d) (same_number k i e) ∙
         sym is in
-        subst (λ (y : StationState). unacked_of y ≤ 2 ^ 40) (sym same) few
+        subst (λ (y : StationState). f y ≤ 2 ^ 40) (sym same) few
     go false e = each k x (before k i under e) at
 
-pub few-all : (xs : List StationState) (i : ℕ) → length xs ≤ i →
-    ((k : ℕ) (x : StationState) → k < i → slice_get xs k ≡ Some x → unacked_of x ≤ 2 ^ 40) →
-    AllByRecursion (λ (x : StationState). unacked_of x ≤ 2 ^ 40) xs
-few-all xs i past each = all-places (λ (x : StationState). unacked_of x ≤ 2 ^ 40) xs
+pub few-all : (f : StationState → ℕ) (xs : List StationState) (i : ℕ) → length xs ≤ i →
+    ((k : ℕ) (x : StationState) → k < i → slice_get xs k ≡ Some x → f x ≤ 2 ^ 40) →
+    AllByRecursion (λ (x : StationState). f x ≤ 2 ^ 40) xs
+few-all f xs i past each = all-places (λ (x : StationState). f x ≤ 2 ^ 40) xs
     (λ k x at. each k x (less k (length xs) i (within xs k x at) past) at)
   where
     less : (a b c : ℕ) → a < b → b ≤ c → a < c

@@ -115,6 +115,7 @@ other-node t w v n m c items left other is = record {
     state = is.stands.state ∙ sym untouched.nodes;
     hops = λ d. is.stands.hops d ∙ ap (λ e. e.hop) (sym (untouched.ends d));
   };
+  flood = is.flood ∙ sym untouched.floods;
   hops = is.hops;
   desk = is.desk ∙ sym (left.desks m.0 other);
   made = is.made ∙ sym (left.made m.0 other);

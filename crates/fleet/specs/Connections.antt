@@ -1,5 +1,5 @@
--- What holds of the seats and stations of a fleet whatever was made of its run: after want of memory too, and where it was
--- stopped.
+-- What holds of the seats and stations of a fleet whatever was made of its run: after want of memory too, and where it
+-- was stopped.
 use Rattle.std.specs.Prelude.{◌≡◌, ◌≤◌, ◌+◌, ◌==◌, ℕ, List, length, Option, Some, None, false, slice_get}
 use Rattle.station.specs.Links.{LinkState}
 use Rattle.station.specs.Standing.{StationState}

@@ -10,6 +10,7 @@ use Rattle.mesh_laws.specs.Laws.{LawsHold}
 use Rattle.world_core.specs.Worlds.{start}
 use Rattle.world_core.specs.Runs.{IsEnabled}
 use Rattle.world_core.specs.Images.{mesh_events}
+use Rattle.world_core.specs.Laws.{EachIsFound}
 use Rattle.station.specs.Histories.{History, new_history, state_after, with_event, world_after}
 use Rattle.fleet.specs.Rounds.{settled}
 use Rattle.fleet.specs.Running.{IsRunning}
@@ -35,9 +36,10 @@ SettlingGoesOn = (t : Network) (rounds : ℕ) (h : History) → (left : List Eve
 
 -- the mesh that a run shows is where a run of the mesh leads, of which the laws of the mesh hold
 pub record IsShown (t : Network) (h : History) : Type 0 where
-  pub run : mesh_runs.IsRun t mesh.start (mesh_events t start h.events)
-  pub leads : mesh_runs.after t mesh.start (mesh_events t start h.events) ≡ state_after t h
-  pub laws : LawsHold t (mesh_events t start h.events)
+  pub run : mesh_runs.IsRun t mesh.start (mesh_events t (start t) h.events)
+  pub leads : mesh_runs.after t mesh.start (mesh_events t (start t) h.events) ≡ state_after t h
+  pub laws : LawsHold t (mesh_events t (start t) h.events)
 
+-- over every network where numbers tell links apart
 abbrev pub EveryRunIsShown : Type 0
-EveryRunIsShown = (t : Network) (h : History) → IsRunning t h → IsShown t h
+EveryRunIsShown = (t : Network) (h : History) → EachIsFound t → IsRunning t h → IsShown t h

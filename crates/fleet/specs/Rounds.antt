@@ -3,6 +3,7 @@ use Rattle.std.specs.Prelude.{ℕ, zero, suc, ◌==◌, ◌&&◌, Bool, true, le
 use Rattle.std.specs.List.{list_all}
 use Rattle.ason_base.specs.declared.ids.NodeId.{NodeId}
 use Rattle.ason_base.specs.Network.{Network}
+use Rattle.flood.specs.State.{pending_count}
 use Rattle.mesh_rules.specs.LocalNodes.{local_node}
 use Rattle.controller.specs.Adjacencies.{neighbours}
 use Rattle.world_core.specs.Worlds.{World}
@@ -25,11 +26,18 @@ unacked_at t w n = sum_by (λ u. length (w.ends n.0 u).hop.unacked) (neighbours 
 abbrev pub unacked_waiting : Network → World → ℕ
 unacked_waiting t w = sum_by (λ n. unacked_at t w n.id) t.nodes
 
+-- the rows that are due to the node's neighbours, each as often as there are neighbours that haven't acknowledged it
+abbrev pub rows_due_at : World → NodeId → ℕ
+rows_due_at w n = pending_count (w.floods n.0)
+
+abbrev pub rows_waiting : Network → World → ℕ
+rows_waiting t w = sum_by (λ n. rows_due_at w n.id) t.nodes
+
 -- Quiet
 
--- the node's desk is empty, and it has no unacknowledged message
+-- the node's desk is empty, and no message and no row that it sends is unacknowledged
 abbrev pub is_quiet_at : Network → World → NodeId → Bool
-is_quiet_at t w n = length (w.desks n.0) == 0 && unacked_at t w n == 0
+is_quiet_at t w n = length (w.desks n.0) == 0 && unacked_at t w n == 0 && rows_due_at w n == 0
 
 abbrev pub is_quiet : Network → World → Bool
 is_quiet t w = list_all (λ n. is_quiet_at t w n.id) t.nodes

@@ -21,7 +21,7 @@ pub record AreRings (w : World) (rings : ℕ → ℕ → List ℕ) : Type 0 wher
 -- has
 -- made as many.
 pub record IsRunning (t : Network) (h : History) : Type 0 where
-  pub run : IsRun t start h.events
+  pub run : IsRun t (start t) h.events
   pub rings : AreRings (world_after t h) h.waiting
   pub most : (n : NodeId) → made_by t h n ≤ 50000
   pub full : (n : NodeId) → h.stopped ≡ Some n → made_by t h n ≡ 50000

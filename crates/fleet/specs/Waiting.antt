@@ -2,6 +2,7 @@
 use Rattle.std.specs.Prelude.{◌==◌, ◌&&◌, ℕ, Bool, List, length}
 use Rattle.ason_base.specs.declared.calls.CallRow.{CallRow}
 use Rattle.ason_base.specs.declared.calls.LegRow.{LegRow}
+use Rattle.flood.specs.State.{pending_count}
 use Rattle.mesh_rules.specs.Rows.{call_rows, leg_rows}
 use Rattle.controller.specs.Kept.{unacknowledged}
 use Rattle.station.specs.Standing.{StationState}
@@ -9,9 +10,12 @@ use Rattle.station.specs.Standing.{StationState}
 abbrev pub unacked_of : StationState → ℕ
 unacked_of s = unacknowledged s.controller.adjacencies
 
--- its desk is empty, and each of its messages is acknowledged
+abbrev pub rows_due_of : StationState → ℕ
+rows_due_of s = pending_count s.controller.flood
+
+-- its desk is empty, and each message and each row that it sends is acknowledged
 abbrev pub has_nothing : StationState → Bool
-has_nothing s = length s.desk == 0 && unacked_of s == 0
+has_nothing s = length s.desk == 0 && unacked_of s == 0 && rows_due_of s == 0
 
 abbrev pub call_rows_of : StationState → List CallRow
 call_rows_of s = call_rows s.controller.node.place.id s.controller.node.state

@@ -11,13 +11,13 @@ ghost use Rattle.fleet.specs.declared.fleet.RoundFault.{RoundFault};
 ghost use Rattle.fleet.specs.Looks.{HasWorked, IsCountedAt, IsCutAt, LooksAround, LooksOver, TurnsAt, answer_of};
 ghost use Rattle.fleet.specs.NewFleets.{AreNew};
 ghost use Rattle.fleet.specs.Posts.{IsOrdered, Orders, Posts, is_seat};
-ghost use Rattle.fleet.specs.Rounds.{is_quiet, items_waiting, round, unacked_waiting};
+ghost use Rattle.fleet.specs.Rounds.{is_quiet, items_waiting, round, rows_waiting, unacked_waiting};
 ghost use Rattle.fleet.specs.Standing.{StandsFor};
 
 use crate::looks::look;
 use crate::posts::ingress;
 use crate::seats::{Seat, new_seats};
-use crate::waiting::{are_quiet, items_of, rows_of, unacked_of};
+use crate::waiting::{are_quiet, items_of, rows_due_of, rows_of, unacked_of};
 use ason_base::{Command, Copied, DeskItem, NodeId, OutOfMemory, TableRows, Topology};
 use station::{Station, Turn};
 use std::alloc::Global;
@@ -39,7 +39,7 @@ pub struct FleetPending {
     pub desk: usize,
     /// Messages that aren't acknowledged.
     pub hop: usize,
-    /// Rows of floods that aren't acknowledged.
+    /// Rows of links that aren't acknowledged, to each neighbour to which they are due.
     pub flood: usize,
 }
 
@@ -245,7 +245,7 @@ impl Fleet {
         }
     }
 
-    /// Whether every desk is empty and no message is unacknowledged.
+    /// Whether every desk is empty, and no message and no row of a link is unacknowledged.
     pub fn quiet(&self) -> bool
         ensures { (t : Network) (h : History) → StandsFor t self.now h →
             result ≡ is_quiet t (world_after t h) }
@@ -259,12 +259,13 @@ impl Fleet {
             result.desk ≡ items_waiting t (world_after t h) }
         ensures hop { (t : Network) (h : History) → StandsFor t self.now h →
             result.hop ≡ unacked_waiting t (world_after t h) }
-        ensures flood { result.flood ≡ 0 }
+        ensures flood { (t : Network) (h : History) → StandsFor t self.now h →
+            result.flood ≡ rows_waiting t (world_after t h) }
     {
         FleetPending {
             desk: items_of(&self.stations),
             hop: unacked_of(&self.stations),
-            flood: 0,
+            flood: rows_due_of(&self.stations),
         }
     }
 

@@ -5,8 +5,8 @@ ghost use Rattle.fleet.specs.Laws.{EveryRunIsShown, PostsAreRunning, SettlingGoe
 use world_core::laws::every_world_run;
 
 /// Whatever commands are posted and however many rounds are made, in any order: the events are a run of a world. In each ring
-/// wait at most 256 frames, and each of them was sent. No node makes more than 50,000 events. The mesh that such a run shows is
-/// where a run of the mesh leads, and the laws of the mesh hold of it.
+/// wait at most 256 frames, and each of them was sent. No node makes more than 50,000 events. Where numbers tell links apart,
+/// as in every topology, the mesh that such a run shows is where a run of the mesh leads, and the laws of the mesh hold of it.
 pub fn every_script()
     ensures start { TheStartIsRunning }
     ensures post { PostsAreRunning }

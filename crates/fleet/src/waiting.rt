@@ -2,20 +2,21 @@
 
 ghost use Rattle.std.specs.Prelude.{◌≡◌, ◌≤◌, ◌<◌, ◌*◌, ◌^◌, IfOk, flat_map, length, sum_by};
 ghost use Rattle.std.specs.List.{AllByRecursion, list_all};
-ghost use Rattle.fleet.specs.Waiting.{call_rows_of, has_nothing, leg_rows_of, unacked_of};
+ghost use Rattle.fleet.specs.Waiting.{call_rows_of, has_nothing, leg_rows_of, rows_due_of, unacked_of};
 
 use ason_base::{CallRows, LegRows, OutOfMemory, TableRows};
 use station::Station;
 use std::alloc::Global;
 
-// Whether its desk is empty and each of its messages is acknowledged.
+// Whether its desk is empty and all that it sent is acknowledged.
 fn has_nothing(station: &Station) -> bool
     ensures { result ≡ has_nothing station.now }
 {
-    station.desk_len() == 0 && station.controller().pending().hop == 0
+    let pending = station.controller().pending();
+    station.desk_len() == 0 && pending.hop == 0 && pending.flood == 0
 }
 
-/// Whether every desk is empty and each message is acknowledged.
+/// Whether every desk is empty and all that was sent is acknowledged.
 pub(crate) fn are_quiet(stations: &[Station]) -> bool
     ensures { result ≡ list_all has_nothing stations.now }
 {
@@ -43,6 +44,19 @@ pub(crate) fn unacked_of(stations: &[Station]) -> usize
     let mut sum: usize = 0;
     for station in stations {
         sum = sum.saturating_add(station.controller().pending().hop);
+    }
+    sum
+}
+
+/// How many rows aren't acknowledged, to each neighbour to which they are due. A sum that doesn't fit is the most that does.
+pub(crate) fn rows_due_of(stations: &[Station]) -> usize
+    ensures few { AllByRecursion (λ s. rows_due_of s ≤ 2 ^ 40) stations.now }
+    ensures sum { sum_by rows_due_of stations.now < 2 ^ 64 →
+        result ≡ sum_by rows_due_of stations.now }
+{
+    let mut sum: usize = 0;
+    for station in stations {
+        sum = sum.saturating_add(station.controller().pending().flood);
     }
     sum
 }

@@ -93,7 +93,7 @@ counted-fits rows ns c = λ k d within. let low : (get_or ns k d).sent ≤ rows 
 one_more : (head others count : ℕ) → head ≤ 256 → others ≤ 256 * count → head + others ≤ 256 * suc count
 one_more head others count low most = omega arith
 
-total-most : (rows : ℕ) (ns : List NeighbourState) → rows ≤ 256 → All (λ n. n.sent ≤ rows) ns →
+pub total-most : (rows : ℕ) (ns : List NeighbourState) → rows ≤ 256 → All (λ n. n.sent ≤ rows) ns →
     All (λ n. length n.due ≤ n.sent) ns → sum_by (λ n. length n.due) ns ≤ 256 * length ns
 total-most rows [] few sent due = omega arith
 total-most rows (n ∷ ns) few sent due =

@@ -192,7 +192,7 @@ few_ends rows known few truth =
 
 -- Room
 
-fold_last : (xs : List TeRow) (y : TeRow) (ends : List ℕ)
+pub fold_last : (xs : List TeRow) (y : TeRow) (ends : List ℕ)
     → fold with_ends ends (xs ++ y ∷ []) ≡ with_ends (fold with_ends ends xs) y
 fold_last [] y ends = refl
 fold_last (x ∷ xs) y ends = fold_last xs y (with_ends ends x)

@@ -2,5 +2,6 @@ pub mod Messages
 pub mod State
 pub mod Calls
 pub mod Ends
+pub mod Frames
 pub mod Networks
 pub mod NetworkLaws

@@ -30,3 +30,7 @@ CanBeWritten (Row number origin row) = IsWritable origin row
 abbrev pub FitsEnvelope : FloodMsg → Type 0
 FitsEnvelope (Ack number) = number < 2 ^ 32
 FitsEnvelope (Row number origin row) = (number < 2 ^ 32) × (origin.0 < 2 ^ 32) × HasNumbers row
+
+-- what bytes spell has a written form
+abbrev pub ReadIsWritable : Type 0
+ReadIsWritable = (bytes : List ℕ) (m : FloodMsg) → SpellsFlood bytes m → CanBeWritten m

@@ -1,7 +1,7 @@
 //! What a node knows of links, and what it still owes its neighbours.
 
 ghost use Rattle.std.specs.Prelude.{◌≡◌, ℕ, ◌<◌, length, Some, IfOk, OnErr, OnOk, IsTrue, false};
-ghost use Rattle.flood.specs.State.{IsStart, declared_row, has_room, is_end, is_known, is_new, learnt_of, pending_count, received, sends_after, sent_at_tick, ticked, with_row};
+ghost use Rattle.flood.specs.State.{IsCounted, IsStart, declared_row, has_room, is_end, is_known, is_new, learnt_of, pending_count, received, sends_after, sent_at_tick, ticked, with_row};
 
 use crate::known::KnownRows;
 use crate::messages::FloodMsg;
@@ -34,6 +34,13 @@ impl Model for Flood {
 }
 
 impl Flood {
+    /// Law: at most 256 rows are known, and no more are due to a neighbour than became due to it.
+    pub fn counts(&self)
+        ensures { IsCounted (length self.now.rows) self.now.neighbours }
+    {
+        let _known = &self.known;
+    }
+
     /// A node that knows nothing, with these neighbours.
     pub fn new(alloc: Global, me: NodeId, neighbours: &[NodeId]) -> Result<Flood, OutOfMemory>
         ensures { IfOk result (λ f. IsStart me neighbours.now f) }

@@ -4,13 +4,18 @@ ghost use Rattle.std.specs.Prelude.{◌≡◌};
 ghost use Rattle.flood.specs.declared.messages.FloodMsg.{FloodMsg};
 ghost use Rattle.flood.specs.Calls.{AcknowledgedIsOff, DueUntilAcknowledged, GoesToTheOthers, KnownStays, KnownWasBrought, NoneAfterwards};
 ghost use Rattle.flood.specs.Ends.{EndsAreListed, EndsStandOnce};
-ghost use Rattle.flood.specs.Messages.{CanBeWritten, FitsEnvelope, SpellsFlood, flood_bytes};
+ghost use Rattle.flood.specs.Messages.{CanBeWritten, FitsEnvelope, ReadIsWritable, SpellsFlood, flood_bytes};
 ghost use Rattle.flood.specs.NetworkLaws.{DueRises, InEveryRun, JoinedKnowTheLinks, JoinedKnowTheSame, KnownCanBeSearched, KnownIsTrue};
 ghost use Rattle.flood.specs.NetworkLaws.{LinksOfATopology, OneNumberIsOneRow, OwnCanBeDeclared, SentIsKnown, StartIsNew, UnknownIsNew};
 
 /// What is written of a flood message spells that message.
 pub fn floods_come_back()
     ensures { (m : FloodMsg) → CanBeWritten m → FitsEnvelope m → SpellsFlood (flood_bytes m) m }
+{}
+
+/// What bytes spell can be written again, by whichever node.
+pub fn floods_go_on()
+    ensures { ReadIsWritable }
 {}
 
 /// After every list of calls at a node: what was known stays known, each known row is one that was declared or received, and

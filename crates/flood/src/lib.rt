@@ -1,8 +1,9 @@
-//! Flooding of rows of links between neighbours.
+//! Flooding of rows of links between neighbours, and the frames of control channels.
 #![tactic(auto)]
 
 pub mod due;
 pub mod flood;
+pub mod frames;
 pub mod known;
 pub mod laws;
 pub mod messages;
@@ -10,5 +11,6 @@ pub mod neighbours;
 pub mod sends;
 
 pub use flood::Flood;
+pub use frames::{Content, read_frame, write_frame};
 pub use messages::{FloodMsg, decode_flood, encode_flood};
 pub use sends::{FloodOut, FloodSends};

@@ -28,7 +28,10 @@ impl Model for Hop {
 
     ghost Value = { PreparedHop };
 
-    ghost view = { λ h. record { state = record { sent = h.sent; handed_up = h.handed_up; unacked = h.unacked.items }; prepared = h.prepared.items } };
+    ghost view = { λ h. record {
+      state = record { sent = h.sent; handed_up = h.handed_up; unacked = h.unacked.items };
+      prepared = h.prepared.items;
+    } };
 
     ghost invariant = { λ h. HasRoom h.sent (vec_len h.unacked) (vec_len h.prepared) (vec_capacity h.unacked) };
 }

@@ -28,7 +28,14 @@ impl Model for Change {
 
     ghost Value = { Answer };
 
-    ghost view = { λ c. record { legs = c.legs.items; calls = c.calls.items; numbers = c.numbers; down = None; rows = option_to_list c.row; sent = c.sent } };
+    ghost view = { λ c. record {
+      legs = c.legs.items;
+      calls = c.calls.items;
+      numbers = c.numbers;
+      down = None;
+      rows = option_to_list c.row;
+      sent = c.sent;
+    } };
 }
 
 impl Change {

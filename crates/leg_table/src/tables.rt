@@ -1,6 +1,6 @@
 //! The tables of one node: its links, what it knows of others', and its legs.
 
-ghost use Rattle.std.specs.Prelude.{◌≡◌, ◌≤◌, ◌<◌, [], IfErr, IfOk, IsSome, IsTrue, None, OnErr, OnOk, Some, filter, length, map, slice_get};
+ghost use Rattle.std.specs.Prelude.{◌≡◌, ◌≤◌, ◌<◌, ◌-◌, [], IfErr, IfOk, IsSome, IsTrue, None, OnErr, OnOk, Some, filter, length, map, slice_get, take};
 ghost use Rattle.std.specs.Option.{option_copied};
 ghost use Rattle.ason_base.specs.Lsps.{has_fibre, without_fibre};
 ghost use Rattle.ason_base.specs.Network.{find_node, row_of, touches};
@@ -46,7 +46,14 @@ impl Model for NodeTables {
 
     ghost Value = { LegTable };
 
-    ghost view = { λ t. record { node = t.node; wait = t.wait; own = t.own.items; rows = t.rows.items; down = t.down; legs = t.legs.items } };
+    ghost view = { λ t. record {
+      node = t.node;
+      wait = t.wait;
+      own = t.own.items;
+      rows = t.rows.items;
+      down = t.down;
+      legs = t.legs.items;
+    } };
 
     ghost invariant = { λ t. LegsRise t.legs.items × (length t.legs.items ≤ 4096) };
 }
@@ -193,6 +200,15 @@ impl NodeTables {
             self.rows.push(row)?;
         }
         Ok(())
+    }
+
+    /// Forgets the row that came last.
+    pub fn forget(&mut self)
+        ensures { self.new ≡ record self.old {
+          rows = take (length self.old.rows - 1) self.old.rows;
+        } }
+    {
+        let _ = self.rows.pop();
     }
 
     /// Whether the fibre is known to be down.

@@ -66,7 +66,12 @@ impl Model for MeshState {
 
     ghost Value = { Kept };
 
-    ghost view = { λ s. record { seats = s.nodes; desks = s.desks.items; mail = s.mail.items; posted = s.posted.items } };
+    ghost view = { λ s. record {
+      seats = s.nodes;
+      desks = s.desks.items;
+      mail = s.mail.items;
+      posted = s.posted.items;
+    } };
 }
 
 impl MeshState {

@@ -51,8 +51,8 @@ both a b this that = rw (this, that) refl
 
 -- Path
 
-at_egress-none : (p : LocalNode) (m : PathRequest) (link : LinkSpec) (risks : List Risk) (offered : List ℕ) (o : Option ℕ) →
-    LearnsNothing (at_egress p m link risks offered o)
+at_egress-none : (p : LocalNode) (m : PathRequest) (link : LinkSpec) (risks : List Risk) (offered : List ℕ)
+    (o : Option ℕ) → LearnsNothing (at_egress p m link risks offered o)
 at_egress-none p m link risks offered None = refl
 at_egress-none p m link risks offered (Some x) = refl
 
@@ -117,7 +117,8 @@ call_refused-none code None = refl
 call_refused-none code (Some c) =
     either-one (is_asking c.state) (changes_calls (call.Put (blocked c (Code code)) ∷ [])) nothing refl refl
 
-err_passed-none : (s : NodeState) (g : Leg) (e : PathFailure) (o : Option Neighbour) → LearnsNothing (err_passed s g e o)
+err_passed-none : (s : NodeState) (g : Leg) (e : PathFailure) (o : Option Neighbour) →
+    LearnsNothing (err_passed s g e o)
 err_passed-none s g e None =
     both (removes g.lsp []) (call_refused e.code (call_of g.lsp s.calls)) refl
     (call_refused-none e.code (call_of g.lsp s.calls))
@@ -152,7 +153,8 @@ tear-none p a (Some g) =
 admitted_setup-none : (p : LocalNode) (s : NodeState) (w : SetupRequest) (out : LinkSpec) (route : List Step) →
     LearnsNothing (admitted_setup p s w out route)
 admitted_setup-none p s w out route =
-    either-one (is_spent s) (refused_setup w Spent) (cond (is_full s) (refused_setup w Full) (begins p s w out route)) refl
+    either-one (is_spent s) (refused_setup w Spent)
+    (cond (is_full s) (refused_setup w Full) (begins p s w out route)) refl
     (either-one (is_full s) (refused_setup w Full) (begins p s w out route) refl refl)
 
 over_first-none : (p : LocalNode) (s : NodeState) (w : SetupRequest) (route : List Step) (o : Option LinkSpec) →
@@ -160,7 +162,8 @@ over_first-none : (p : LocalNode) (s : NodeState) (w : SetupRequest) (route : Li
 over_first-none p s w route None = refl
 over_first-none p s w route (Some out) = admitted_setup-none p s w out (drop 1 route)
 
-over_found-none : (p : LocalNode) (s : NodeState) (w : SetupRequest) (o : Option Trip) → LearnsNothing (over_found p s w o)
+over_found-none : (p : LocalNode) (s : NodeState) (w : SetupRequest) (o : Option Trip) →
+    LearnsNothing (over_found p s w o)
 over_found-none p s w None = refl
 over_found-none p s w (Some r) = over_first-none p s w r.steps (first_link p r.steps)
 
@@ -169,7 +172,8 @@ new_call-none : (p : LocalNode) (s : NodeState) (w : SetupRequest) (via : Option
 new_call-none p s w None = over_found-none p s w (least_trip (known_rows p s) p.id w.egress)
 new_call-none p s w (Some route) = over_first-none p s w route (first_link p route)
 
-setup-none : (p : LocalNode) (s : NodeState) (w : SetupRequest) (o : Option CallRec) → LearnsNothing (setup_with p s w o)
+setup-none : (p : LocalNode) (s : NodeState) (w : SetupRequest) (o : Option CallRec) →
+    LearnsNothing (setup_with p s w o)
 setup-none p s w (Some c) = refl
 setup-none p s w None = either-one (is_order_here p w) (new_call p s w w.via) nothing (new_call-none p s w w.via) refl
 

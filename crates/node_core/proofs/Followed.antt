@@ -66,12 +66,13 @@ module _ (t : LegTable) (c : CallTable) where
       go true true (Some h) = refl
 
 pub resv-follows : (t : LegTable) (c : CallTable) (u : NodeId) (l : Lsp) (e : NodeId) (k : LinkId) (x : ℕ) →
-    on_message (local_of t) (state_of t c) u (Resv l e k x) ≡ resv_followed t c u (Resv l e k x) l
+    on_message (local_of t) (state_of t c) u (Resv l e k x) ≡
+    resv_followed t (call_of l c.calls) u (Resv l e k x)
 resv-follows t c u l e k x = resv-leg t c (arrival l e u k) x (find_leg l t.legs) refl
 
 pub err-follows : (t : LegTable) (c : CallTable) (u : NodeId) (l : Lsp) (e at : NodeId) (gone : Bool) (code : ErrCode) →
-    on_message (local_of t) (state_of t c) u (PathErr l e at gone code) ≡ err_followed t c u
-    (PathErr l e at gone code) l code
+    on_message (local_of t) (state_of t c) u (PathErr l e at gone code) ≡
+    err_followed t (call_of l c.calls) u (PathErr l e at gone code) code
 err-follows t c u l e at gone code =
     err-leg t c u (record { lsp = l; msg = PathErr l e at gone code; removed = gone; code = code })
     (find_leg l t.legs) refl

@@ -3,3 +3,4 @@ pub mod Followed
 mod LegRows
 pub mod LeastRoute
 pub mod RowOrder
+pub mod Forgetting

@@ -1,5 +1,5 @@
 -- One node: what it knows of itself, and what it keeps.
-use Rattle.std.specs.Prelude.{◌≡◌}
+use Rattle.std.specs.Prelude.{◌≡◌, ◌-◌, length, take}
 use Rattle.node_core.specs.declared.inputs.Input.{Input}
 use Rattle.node_core.specs.declared.inputs.Input.TheVariants.{Message, Desk, Tick, Learn}
 use Rattle.mesh_rules.specs.Changes.{Answer, changed}
@@ -40,6 +40,13 @@ answer_to n (Learn row) = on_row n.place n.state row
 -- the node after it
 abbrev pub stepped : NodeView → Input → NodeView
 stepped n i = record { place = n.place; state = changed n.state (answer_to n i) }
+
+-- the node without the row that it learnt last
+abbrev pub without_last : NodeView → NodeView
+without_last n = record {
+  place = n.place;
+  state = record n.state { learnt = take (length n.state.learnt - 1) n.state.learnt };
+}
 
 -- an input that may come to the node: any, but of rows those alone that it may learn
 abbrev pub MayTake : NodeView → Input → Type 0

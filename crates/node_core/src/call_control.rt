@@ -142,7 +142,15 @@ impl<'a> Model for SetupRequest<'a> {
 
     ghost Value = { setups.SetupRequest };
 
-    ghost view = { λ r. record { call = r.call; from = r.from; egress = r.egress; protected = r.protected; both = r.both; via = r.via.now; backup = r.backup.now } };
+    ghost view = { λ r. record {
+      call = r.call;
+      from = r.from;
+      egress = r.egress;
+      protected = r.protected;
+      both = r.both;
+      via = r.via.now;
+      backup = r.backup.now;
+    } };
 }
 
 fn call_record(

@@ -11,7 +11,7 @@ ghost use Rattle.mesh_nodes.specs.LocalNodes.{LocalNodeFits};
 ghost use Rattle.mesh_nodes.specs.Order.{CallRowsRise, LegRowsRise};
 ghost use Rattle.mesh_nodes.specs.Routes.{RowsFit};
 ghost use Rattle.mesh_nodes.specs.Sent.{AllToNeighbours, AllWritable};
-ghost use Rattle.node_core.specs.Nodes.{IsAnswerOf, IsWritableInput, MayTake, answer_to, stepped};
+ghost use Rattle.node_core.specs.Nodes.{IsAnswerOf, IsNode, IsWritableInput, MayTake, answer_to, stepped, without_last};
 
 use crate::inputs::Input;
 use crate::rows::{call_rows, leg_rows};
@@ -117,6 +117,15 @@ impl Node {
     {
         let change = self.answer(alloc, input)?;
         self.carry_out(change)
+    }
+
+    /// Forgets the row that it learnt last.
+    pub fn forget(&mut self)
+        requires learnt { 1 ≤ length self.old.state.learnt }
+        requires fits { IsNode (without_last self.old) }
+        ensures { self.new ≡ without_last self.old }
+    {
+        self.tables.forget();
     }
 
     /// What a table shows of the node: its calls in order of number, its legs in order of LSP.

@@ -1,6 +1,7 @@
 //! The rule of each input: messages, orders, desk items, ticks and rows that are learnt.
 
 ghost use Rattle.std.specs.Prelude.{◌≡◌, IfOk};
+ghost use Rattle.std.specs.Option.{option_copied};
 ghost use Rattle.mesh_rules.specs.Orders.{on_tick};
 ghost use Rattle.mesh_nodes.specs.LocalNodes.{LocalNodeFits};
 ghost use Rattle.leg_table.specs.Fits.{TablesFit};
@@ -11,7 +12,7 @@ ghost use Rattle.node_core.specs.Rules.{CanSearch, item_here, message_here, orde
 
 use crate::call_control::{SetupRequest, call_connected, call_refused, release, set_up};
 use crate::inputs::Input;
-use ason_base::{Command, Copied, DeskItem, ErrCode, Lsp, Msg, NodeId, OutOfMemory, TeRow};
+use ason_base::{CallRec, Command, Copied, DeskItem, ErrCode, Msg, NodeId, OutOfMemory, TeRow};
 use leg_table::{Calls, Change, NodeTables};
 use link_owner::Owner;
 use path_state::{path_change, tear_change};
@@ -20,41 +21,41 @@ use std::alloc::Global;
 
 // Messages
 
-// A Resv: at the ingress the call follows.
+// A Resv: at the ingress the call whose working LSP it is follows, if there is one.
 fn resv(
     alloc: Global,
     tables: &NodeTables,
     owner: &Owner,
-    calls: &Calls,
+    call: Option<&CallRec>,
     from: NodeId,
     msg: &Msg,
-    lsp: Lsp,
 ) -> Result<Change, OutOfMemory>
     requires { TablesFit tables.now owner.now }
-    ensures { IfOk result (λ c. c ≡ resv_followed tables.now calls.now from msg.now lsp) }
+    ensures { IfOk result
+        (λ c. c ≡ resv_followed tables.now (option_copied call.entry) from msg.now) }
 {
     let mut change = resv_change(alloc, tables, owner, from, msg)?;
     if connects(tables, from, msg) {
-        call_connected(alloc, &mut change, calls.working(lsp))?;
+        call_connected(alloc, &mut change, call)?;
     }
     Ok(change)
 }
 
-// A PathErr: at the ingress the call follows.
+// A PathErr: at the ingress the call whose working LSP it is follows, if there is one.
 fn path_err(
     alloc: Global,
     tables: &NodeTables,
-    calls: &Calls,
+    call: Option<&CallRec>,
     from: NodeId,
     msg: &Msg,
-    lsp: Lsp,
     code: ErrCode,
 ) -> Result<Change, OutOfMemory>
-    ensures { IfOk result (λ c. c ≡ err_followed tables.now calls.now from msg.now lsp code) }
+    ensures { IfOk result
+        (λ c. c ≡ err_followed tables.now (option_copied call.entry) from msg.now code) }
 {
     let mut change = path_err_change(alloc, tables, from, msg)?;
     if refuses(tables, from, msg) {
-        call_refused(alloc, &mut change, code, calls.working(lsp))?;
+        call_refused(alloc, &mut change, code, call)?;
     }
     Ok(change)
 }
@@ -73,9 +74,11 @@ fn on_message(
 {
     match msg {
         Msg::Path { .. } => path_change(alloc, tables, owner, from, msg),
-        Msg::Resv { lsp, .. } => resv(alloc, tables, owner, calls, from, msg, *lsp),
+        Msg::Resv { lsp, .. } => resv(alloc, tables, owner, calls.working(*lsp), from, msg),
         Msg::PathTear { .. } => tear_change(alloc, tables, from, msg),
-        Msg::PathErr { lsp, code, .. } => path_err(alloc, tables, calls, from, msg, *lsp, *code),
+        Msg::PathErr { lsp, code, .. } => {
+            path_err(alloc, tables, calls.working(*lsp), from, msg, *code)
+        }
         Msg::Notify { .. } => Ok(Change::nothing(alloc)),
     }
 }

@@ -4,8 +4,6 @@
 #[cfg(test)]
 mod call_tables;
 #[cfg(test)]
-mod controllers;
-#[cfg(test)]
 mod leg_tables;
 #[cfg(test)]
 mod meshes;

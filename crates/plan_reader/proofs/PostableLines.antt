@@ -7,14 +7,15 @@ use Rattle.std.proofs.lemmas.List.Elements.{All-cons, All-nil}
 use Rattle.std.proofs.lemmas.List.Folds.{list_all-append}
 use Rattle.std.proofs.lemmas.List.Sums.{fold-append}
 use Rattle.toml.specs.Data.{Data, table}
-use Rattle.ason_base.specs.Network.{Network, is_node_id}
+use Rattle.ason_base.specs.Network.{IsTopology, Network, is_node_id}
 use Rattle.ason_base.specs.declared.commands.Command.{Command}
 use Rattle.ason_base.specs.declared.commands.Command.TheVariants.{Release}
 use Rattle.ason_base.specs.declared.ids.CallNo.{CallNo}
 use Rattle.ason_base.specs.declared.ids.NodeId.{NodeId}
 use Rattle.ason_base.specs.declared.network.LinkSpec.{LinkSpec}
-use Rattle.ason_base.specs.Routes.{makes_route}
-use Rattle.mesh_rules.specs.Commands.{is_again, is_valid}
+use Rattle.ason_base.specs.declared.steps.Step.{Step}
+use Rattle.mesh_rules.specs.Commands.{has_way, is_again, is_searchable, is_valid}
+use Rattle.mesh_rules.proofs.Topologies.{topology_searchable}
 use Rattle.plan_reader.specs.Names.{has_name, is_name, place_of}
 use Rattle.plan_reader.specs.declared.lines.Line.{Line}
 use Rattle.plan_reader.specs.declared.lines.Line.TheVariants.{Post, Settle, Show}
@@ -22,14 +23,16 @@ use Rattle.plan_reader.specs.declared.limits.TheConstants.{MOST_CALLS, MOST_ROUN
 use Rattle.plan_reader.specs.declared.plan.Plan.{Plan}
 use Rattle.plan_reader.specs.declared.script.Script.{Script}
 use Rattle.plan_reader.specs.PlanCalls.{CallList, call_at, calls_with, with_call}
-use Rattle.plan_reader.specs.PlanScript.{calls_with_line, is_given_setup, is_release, is_settle, is_show, is_unbuilt, line_of, next_setup, no_script, node_at, posted, put_behind, release_call, release_of, settle_for, settle_of, setup_between, setup_of, setup_over, setup_with, steps_over, with_line, by_words}
-use Rattle.plan_reader.specs.PlanTables.{NodeList, elements_at, text_of, top_kind}
+use Rattle.plan_reader.specs.PlanScript.{calls_with_line, given_setup_of, is_given_setup, is_release, is_searched_setup, is_settle, is_show, is_unbuilt, line_of, leads, next_setup, no_script, node_at, posted, put_behind, release_call, release_of, searched_setup_of, settle_for, settle_of, setup_between, setup_by, setup_over, setup_with, steps_given, with_line, by_words}
+use Rattle.plan_reader.specs.PlanTables.{NodeList, elements_at, has_strange, has_top_counts, has_top_kinds, lacks, text_of, top_kind}
+use Rattle.plan_reader.specs.declared.values.Shape.TheVariants.{OfTop}
 use Rattle.plan_reader.specs.PlanTexts.{link_ids, number_up_to, word_at, words_of}
 use Rattle.plan_reader.specs.Plans.{ArePostable, HasNames, IsPostable, PlanOf, calls_after, calls_after_line, calls_after_lines, links_of, network_of, nodes_of, plan_of, plan_with, script_of, unless_fault, with_links, with_nodes, with_script}
 use Rattle.plan_reader.specs.declared.faults.PlanKind.{PlanKind}
 use Rattle.plan_reader.specs.declared.faults.PlanKind.TheVariants as kinds
 use Rattle.plan_reader.proofs.Entries.{both_read, kept, passed}
 use Rattle.plan_reader.proofs.KnownNodes.{place_is_known}
+use Rattle.plan_reader.proofs.SoundLinks.{is_topology}
 use Rattle.plan_reader.proofs.SoundNodes.{nodes_fit, not_false}
 
 -- The calls so far
@@ -101,46 +104,59 @@ all_pass :
     → (from && to && not same && route && true) ≡ true
 all_pass from to same route a b c d = rw (a, b, c, d) refl
 
+-- a route that is given leads there; where none is given, the ingress can search for one
+way :
+    (t : Network) (from to : NodeId) (via : Option (List Step)) → is_searchable t ≡ true → leads t from to via ≡ true
+    → has_way t from to via ≡ true
+way t from to None searchable h = searchable
+way t from to (Some route) searchable h = h
+
 setup_posts :
-    (t : Network) (names : List (List ℕ)) (calls : CallList) (before : List CallNo) (ws : List (List ℕ)) (c : Command)
-    → AreFitting t calls before → setup_of t names calls ws ≡ Ok c → CanPost t calls before ws c
-setup_posts t names calls before ws c fit h = with_ids (link_ids (word_at ws 6)) h
+    (t : Network) (names : List (List ℕ)) (calls : CallList) (before : List CallNo) (ws : List (List ℕ))
+    (ids : Option (List ℕ)) (c : Command) → is_searchable t ≡ true → AreFitting t calls before
+    → setup_by t names calls ws ids ≡ Ok c → CanPost t calls before ws c
+setup_posts t names calls before ws ids c searchable fit h =
+    let named = passed (not (is_name name)) _ _ _ h in
+    between (node_at t names ws 2) (node_at t names ws 3) refl refl named.1
   where
     name : List ℕ
     name = word_at ws 1
 
     over :
-        (from to : NodeId) (ids : List ℕ) → node_at t names ws 2 ≡ Some from → node_at t names ws 3 ≡ Some to
-        → setup_over t calls ws from to (steps_over t from ids) ≡ Ok c → CanPost t calls before ws c
-    over from to ids e f k =
-        let route = steps_over t from ids in
+        (from to : NodeId) → node_at t names ws 2 ≡ Some from → node_at t names ws 3 ≡ Some to
+        → setup_over t calls ws from to (steps_given t from ids) ≡ Ok c → CanPost t calls before ws c
+    over from to e f k =
+        let via = steps_given t from ids in
         let other = passed (from.0 == to.0) _ _ _ k in
         let new = passed (has_name calls.names name) _ _ _ other.1 in
         let few = passed (nat_le MOST_CALLS (length calls.names)) _ _ _ new.1 in
-        let leads = passed (not (makes_route t from to route)) _ _ _ few.1 in
-        let same : next_setup calls from to route ≡ c = cc (leads.1) in
+        let led = passed (not (leads t from to via)) _ _ _ few.1 in
+        let same : next_setup calls from to via ≡ c = cc (led.1) in
         let from_known = place_is_known t.nodes (place_of names (word_at ws 2)) from e in
         let to_known = place_is_known t.nodes (place_of names (word_at ws 3)) to f in
         subst (CanPost t calls before ws) same (
-          all_pass (is_node_id t.nodes from) (is_node_id t.nodes to) (from.0 == to.0) (makes_route t from to route)
-              from_known to_known other.0 (not_false _ leads.0),
+          all_pass (is_node_id t.nodes from) (is_node_id t.nodes to) (from.0 == to.0) (has_way t from to via)
+              from_known to_known other.0 (way t from to via searchable (not_false _ led.0)),
           fresh (length calls.names) before fit.below,
           call_fits t calls before name from from_known fit,
         )
 
     between :
-        (ids : List ℕ) (from to : Option NodeId) → node_at t names ws 2 ≡ from → node_at t names ws 3 ≡ to
+        (from to : Option NodeId) → node_at t names ws 2 ≡ from → node_at t names ws 3 ≡ to
         → setup_between t calls ws ids from to ≡ Ok c → CanPost t calls before ws c
-    between ids None to e f k = absurd (cc (k))
-    between ids (Some from) None e f k = absurd (cc (k))
-    between ids (Some from) (Some to) e f k = over from to ids e f k
+    between None to e f k = absurd (cc (k))
+    between (Some from) None e f k = absurd (cc (k))
+    between (Some from) (Some to) e f k = over from to e f k
 
-    with_ids :
-        (ids : Option (List ℕ)) → setup_with t names calls ws ids ≡ Ok c → CanPost t calls before ws c
-    with_ids None k = absurd (cc (k))
-    with_ids (Some ids) k =
-        let named = passed (not (is_name name)) _ _ _ k in
-        between ids (node_at t names ws 2) (node_at t names ws 3) refl refl named.1
+given_posts :
+    (t : Network) (names : List (List ℕ)) (calls : CallList) (before : List CallNo) (ws : List (List ℕ)) (c : Command)
+    → is_searchable t ≡ true → AreFitting t calls before → given_setup_of t names calls ws ≡ Ok c
+    → CanPost t calls before ws c
+given_posts t names calls before ws c searchable fit h = go (link_ids (word_at ws 6)) h
+  where
+    go : (ids : Option (List ℕ)) → setup_with t names calls ws ids ≡ Ok c → CanPost t calls before ws c
+    go None k = absurd (cc (k))
+    go (Some ids) k = setup_posts t names calls before ws (Some ids) c searchable fit k
 
 all_at :
     {X : Type 0} (q : X → Bool) (xs : List X) (k : ℕ) (x : X) → list_all q xs ≡ true → slice_get xs k ≡ Some x
@@ -199,8 +215,10 @@ settle_stands t calls before ws line (Some r) fit h = go (nat_le 1 r) h
 
 line_stands :
     (t : Network) (names : List (List ℕ)) (calls : CallList) (before : List CallNo) (ws : List (List ℕ)) (line : Line)
-    → AreFitting t calls before → line_of t names calls ws ≡ Ok line → CanStand t calls before ws line
-line_stands t names calls before ws line fit h = go (is_given_setup ws) (is_release ws) (is_settle ws) (is_show ws) h
+    → is_searchable t ≡ true → AreFitting t calls before → line_of t names calls ws ≡ Ok line
+    → CanStand t calls before ws line
+line_stands t names calls before ws line searchable fit h =
+    go (is_given_setup ws) (is_searched_setup ws) (is_release ws) (is_settle ws) (is_show ws) h
   where
     Stands : Type 0
     Stands = CanStand t calls before ws line
@@ -213,18 +231,23 @@ line_stands t names calls before ws line fit h = go (is_given_setup ws) (is_rele
     none false k = absurd (cc (k))
 
     go :
-        (g r s w : Bool)
-        → cond g (posted (setup_of t names calls ws))
-        (cond r (posted (release_of calls ws)) (cond s (settle_of ws) (cond w (Ok Show) other))) ≡ Ok line
+        (g f r s w : Bool)
+        → cond g (posted (given_setup_of t names calls ws))
+        (cond f (posted (searched_setup_of t names calls ws))
+        (cond r (posted (release_of calls ws)) (cond s (settle_of ws) (cond w (Ok Show) other)))) ≡ Ok line
         → Stands
-    go true r s w k =
-        posts t calls before ws line (setup_of t names calls ws) (λ c. setup_posts t names calls before ws c fit) k
-    go false true s w k =
+    go true f r s w k =
+        posts t calls before ws line (given_setup_of t names calls ws)
+        (λ c. given_posts t names calls before ws c searchable fit) k
+    go false true r s w k =
+        posts t calls before ws line (searched_setup_of t names calls ws)
+        (λ c. setup_posts t names calls before ws None c searchable fit) k
+    go false false true s w k =
         posts t calls before ws line (release_of calls ws) (λ c. release_posts t calls before ws c fit) k
-    go false false true w k = settle_stands t calls before ws line (number_up_to MOST_ROUNDS (word_at ws 1)) fit k
-    go false false false true k =
+    go false false false true w k = settle_stands t calls before ws line (number_up_to MOST_ROUNDS (word_at ws 1)) fit k
+    go false false false false true k =
         let same : Show ≡ line = cc (k) in subst (CanStand t calls before ws) same (tt, fit)
-    go false false false false k = none (is_unbuilt ws) k
+    go false false false false false k = none (is_unbuilt ws) k
 
 -- Scripts
 
@@ -240,15 +263,16 @@ postable_more t before (l ∷ lines) line are is =
     (are.0, postable_more t (calls_after_line before l) lines line are.1 is)
 
 line_kept :
-    (t : Network) (names : List (List ℕ)) (before after : Script) (ws : List (List ℕ))
+    (t : Network) (names : List (List ℕ)) (before after : Script) (ws : List (List ℕ)) → is_searchable t ≡ true
     → by_words t names before ws ≡ Ok after → ScriptFits t before → ScriptFits t after
-line_kept t names before after ws h fit = go (line_of t names before.calls ws) refl h
+line_kept t names before after ws searchable h fit = go (line_of t names before.calls ws) refl h
   where
     go :
         (r : Result Line PlanKind) → line_of t names before.calls ws ≡ r → put_behind before ws r ≡ Ok after
         → ScriptFits t after
     go (Ok line) e k =
-        let stands = line_stands t names before.calls (calls_after_lines [] before.lines) ws line fit.fits e in
+        let stands =
+        line_stands t names before.calls (calls_after_lines [] before.lines) ws line searchable fit.fits e in
         let script : Script = record {
           calls = calls_with_line before.calls ws line;
           lines = before.lines ++ line ∷ [];
@@ -263,11 +287,11 @@ line_kept t names before after ws h fit = go (line_of t names before.calls ws) r
     go (Err fault) e k = absurd (cc (k))
 
 script_fits :
-    (t : Network) (names : List (List ℕ)) (ds : List Data) (script : Script) → script_of t names ds ≡ Ok script
-    → ScriptFits t script
-script_fits t names ds script h =
+    (t : Network) (names : List (List ℕ)) (ds : List Data) (script : Script) → is_searchable t ≡ true
+    → script_of t names ds ≡ Ok script → ScriptFits t script
+script_fits t names ds script searchable h =
     kept (ScriptFits t) _ (with_line t names)
-    (λ before after d. line_kept t names before after (words_of (text_of d))) 1 no_script ds script h nothing
+    (λ before after d. line_kept t names before after (words_of (text_of d)) searchable) 1 no_script ds script h nothing
   where
     nothing : ScriptFits t no_script
     nothing = record { postable = tt; fits = record { below = refl; known = refl; counted = refl } }
@@ -285,15 +309,32 @@ record HasParts (d : Data) (p : Plan) : Type 0 where
   pub known : NodeList
   pub links : List LinkSpec
   pub script : Script
+  pub counts : has_top_counts d ≡ true
   pub nodes_read : nodes_of (elements_at (codes "node") d) ≡ Ok known
+  pub links_read : links_of known (elements_at (codes "link") d) ≡ Ok links
   pub script_read : script_of (network_of known links) known.names (elements_at (codes "script") d) ≡ Ok script
   pub plan : plan_with known links script ≡ p
 
-parts_of_plan : (d : Data) (p : Plan) → plan_of d ≡ Ok p → HasParts d p
-parts_of_plan d p h = go (top_kind d) h
+counts_pass : (d : Data) → top_kind d ≡ None → has_top_counts d ≡ true
+counts_pass d h =
+    go (has_strange OfTop d) (lacks (codes "node") d) (not (has_top_kinds d)) (has_top_counts d) _ h
   where
-    go : (o : Option PlanKind) → unless_fault o (with_nodes d) ≡ Ok p → HasParts d p
-    go None k =
+    go :
+        (a b c e : Bool) (rest : Option PlanKind)
+        → cond a (Some kinds.Key)
+        (cond b (Some kinds.Missing) (cond c (Some kinds.Kind) (cond (not e) (Some kinds.Count) rest))) ≡ None
+        → e ≡ true
+    go true b c e rest k = absurd (cc (k))
+    go false true c e rest k = absurd (cc (k))
+    go false false true e rest k = absurd (cc (k))
+    go false false false true rest k = refl
+    go false false false false rest k = absurd (cc (k))
+
+parts_of_plan : (d : Data) (p : Plan) → plan_of d ≡ Ok p → HasParts d p
+parts_of_plan d p h = go (top_kind d) refl h
+  where
+    go : (o : Option PlanKind) → top_kind d ≡ o → unless_fault o (with_nodes d) ≡ Ok p → HasParts d p
+    go None top k =
         let nodes = both_read (nodes_of (elements_at (codes "node") d)) (λ known. with_links d known) p k in
         let known = nodes.0 in
         let links =
@@ -306,17 +347,22 @@ parts_of_plan d p h = go (top_kind d) h
           known = known;
           links = links.0;
           script = script.0;
+          counts = counts_pass d top;
           nodes_read = nodes.1;
+          links_read = links.1;
           script_read = script.1;
           plan = cc (script.2);
         }
-    go (Some fault) k = absurd (cc (k))
+    go (Some fault) top k = absurd (cc (k))
 
 script_of_parts :
     (d : Data) (p : Plan) (parts : HasParts d p) → ScriptFits (network_of parts.known parts.links) parts.script
 script_of_parts d p parts =
     script_fits (network_of parts.known parts.links) parts.known.names (elements_at (codes "script") d) parts.script
-    parts.script_read
+    (topology_searchable (network_of parts.known parts.links) topology) parts.script_read
+  where
+    topology : IsTopology (network_of parts.known parts.links)
+    topology = is_topology d parts.known parts.links parts.counts parts.nodes_read parts.links_read
 
 pub plan_is_postable : (d : Data) (p : Plan) → plan_of d ≡ Ok p → ArePostable p.topology [] p.lines
 plan_is_postable d p h =

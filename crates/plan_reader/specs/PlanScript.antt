@@ -1,5 +1,5 @@
 -- The script of a plan: which lines there are, and what each says or its first fault.
-use Rattle.std.specs.Prelude.{ℕ, ◌==◌, ◌&&◌, ◌||◌, ◌++◌, nat_le, Bool, false, not, List, [], ◌∷◌, length, codes, Option, Some, None, Result, Ok, Err, unwrap_or, if◌then◌else◌}
+use Rattle.std.specs.Prelude.{ℕ, ◌==◌, ◌&&◌, ◌||◌, ◌++◌, nat_le, Bool, false, true, not, List, [], ◌∷◌, length, codes, Option, Some, None, Result, Ok, Err, option_map, unwrap_or, if◌then◌else◌}
 use Rattle.toml.specs.Data.{Data}
 use Rattle.ason_base.specs.Network.{Network, find_link}
 use Rattle.ason_base.specs.declared.ids.NodeId.{NodeId}
@@ -40,6 +40,10 @@ is_given_setup ws =
     begins ws (codes "setup") 7
     && (is_word ws 4 (codes "unprotected") && (is_word ws 5 (codes "via") && are_numbers_word ws 6))
 
+-- `setup NAME FROM TO unprotected`
+abbrev pub is_searched_setup : List (List ℕ) → Bool
+is_searched_setup ws = begins ws (codes "setup") 5 && is_word ws 4 (codes "unprotected")
+
 -- `release NAME`
 abbrev pub is_release : List (List ℕ) → Bool
 is_release ws = begins ws (codes "release") 2
@@ -54,9 +58,9 @@ is_show ws = begins ws (codes "show") 1
 
 -- Forms that a plan may have and that aren't built
 
--- `setup NAME FROM TO`, `setup NAME FROM TO unprotected`
-abbrev pub is_bare_setup : List (List ℕ) → Bool
-is_bare_setup ws = begins ws (codes "setup") 4 || (begins ws (codes "setup") 5 && is_word ws 4 (codes "unprotected"))
+-- `setup NAME FROM TO`
+abbrev pub is_plain_setup : List (List ℕ) → Bool
+is_plain_setup ws = begins ws (codes "setup") 4
 
 -- `setup NAME FROM TO via L,..`
 abbrev pub is_protected_setup : List (List ℕ) → Bool
@@ -70,7 +74,7 @@ is_backed_setup ws =
     && (are_numbers_word ws 5 && (is_word ws 6 (codes "backup") && are_numbers_word ws 7)))
 
 abbrev pub is_other_setup : List (List ℕ) → Bool
-is_other_setup ws = is_bare_setup ws || (is_protected_setup ws || is_backed_setup ws)
+is_other_setup ws = is_plain_setup ws || (is_protected_setup ws || is_backed_setup ws)
 
 -- `protect NAME`, `retry NAME`, `revert NAME`
 abbrev pub is_other_command : List (List ℕ) → Bool
@@ -113,34 +117,52 @@ steps_over t n (k ∷ ks) = record { node = n; link = record { 0 = k } } ∷ ste
 abbrev pub node_at : Network → List (List ℕ) → List (List ℕ) → ℕ → Option NodeId
 node_at t names ws k = node_named names t.nodes (word_at ws k)
 
--- the setup of the next call over this route
-abbrev pub next_setup : CallList → NodeId → NodeId → List Step → Command
-next_setup calls from to route =
-    Setup (record { 0 = length calls.names }) from to false false (Some route) None
+-- the steps over these links from a node, where links are given
+abbrev pub steps_given : Network → NodeId → Option (List ℕ) → Option (List Step)
+steps_given t from ids = option_map (λ ks. steps_over t from ks) ids
 
-abbrev pub setup_over : Network → CallList → List (List ℕ) → NodeId → NodeId → List Step → Result Command PlanKind
-setup_over t calls ws from to route =
+-- a route that is given leads from one node to the other with no node twice
+abbrev pub leads : Network → NodeId → NodeId → Option (List Step) → Bool
+leads t from to None = true
+leads t from to (Some route) = makes_route t from to route
+
+-- the setup of the next call, over this route where one is given
+abbrev pub next_setup : CallList → NodeId → NodeId → Option (List Step) → Command
+next_setup calls from to via = Setup (record { 0 = length calls.names }) from to false false via None
+
+abbrev pub setup_over :
+    Network → CallList → List (List ℕ) → NodeId → NodeId → Option (List Step) → Result Command PlanKind
+setup_over t calls ws from to via =
     if from.0 == to.0 then Err kinds.Same
     else if has_name calls.names (word_at ws 1) then Err kinds.Call
     else if nat_le MOST_CALLS (length calls.names) then Err kinds.Count
-    else if not (makes_route t from to route) then Err kinds.Route
-    else Ok (next_setup calls from to route)
+    else if not (leads t from to via) then Err kinds.Route
+    else Ok (next_setup calls from to via)
 
 abbrev pub setup_between :
-    Network → CallList → List (List ℕ) → List ℕ → Option NodeId → Option NodeId → Result Command PlanKind
+    Network → CallList → List (List ℕ) → Option (List ℕ) → Option NodeId → Option NodeId → Result Command PlanKind
 setup_between t calls ws ids None to = Err kinds.Node
 setup_between t calls ws ids (Some from) None = Err kinds.Node
-setup_between t calls ws ids (Some from) (Some to) = setup_over t calls ws from to (steps_over t from ids)
+setup_between t calls ws ids (Some from) (Some to) = setup_over t calls ws from to (steps_given t from ids)
 
-abbrev pub setup_with : Network → List (List ℕ) → CallList → List (List ℕ) → Option (List ℕ) → Result Command PlanKind
-setup_with t names calls ws None = Err kinds.Range
-setup_with t names calls ws (Some ids) =
+-- a setup over these links, where links are given, or its first fault
+abbrev pub setup_by : Network → List (List ℕ) → CallList → List (List ℕ) → Option (List ℕ) → Result Command PlanKind
+setup_by t names calls ws ids =
     if not (is_name (word_at ws 1)) then Err kinds.Name
     else setup_between t calls ws ids (node_at t names ws 2) (node_at t names ws 3)
 
+-- .. where a link's id is out of reach, that is the first fault
+abbrev pub setup_with : Network → List (List ℕ) → CallList → List (List ℕ) → Option (List ℕ) → Result Command PlanKind
+setup_with t names calls ws None = Err kinds.Range
+setup_with t names calls ws (Some ids) = setup_by t names calls ws (Some ids)
+
 -- a setup over a given route, or its first fault
-abbrev pub setup_of : Network → List (List ℕ) → CallList → List (List ℕ) → Result Command PlanKind
-setup_of t names calls ws = setup_with t names calls ws (link_ids (word_at ws 6))
+abbrev pub given_setup_of : Network → List (List ℕ) → CallList → List (List ℕ) → Result Command PlanKind
+given_setup_of t names calls ws = setup_with t names calls ws (link_ids (word_at ws 6))
+
+-- a setup without a given route, or its first fault
+abbrev pub searched_setup_of : Network → List (List ℕ) → CallList → List (List ℕ) → Result Command PlanKind
+searched_setup_of t names calls ws = setup_by t names calls ws None
 
 -- Other lines
 
@@ -170,7 +192,8 @@ posted (Err kind) = Err kind
 -- what a line says, or its first fault
 abbrev pub line_of : Network → List (List ℕ) → CallList → List (List ℕ) → Result Line PlanKind
 line_of t names calls ws =
-    if is_given_setup ws then posted (setup_of t names calls ws)
+    if is_given_setup ws then posted (given_setup_of t names calls ws)
+    else if is_searched_setup ws then posted (searched_setup_of t names calls ws)
     else if is_release ws then posted (release_of calls ws)
     else if is_settle ws then settle_of ws
     else if is_show ws then Ok Show

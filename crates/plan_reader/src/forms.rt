@@ -2,7 +2,7 @@
 
 ghost use Rattle.std.specs.Prelude.{◌≡◌};
 ghost use Rattle.plan_reader.specs.PlanTexts.{texts};
-ghost use Rattle.plan_reader.specs.PlanScript.{are_numbers_word, begins, is_backed_setup, is_bare_setup, is_channel_line, is_frame_line, is_given_setup, is_group_line, is_number_word, is_other_command, is_other_setup, is_protected_setup, is_release, is_settle, is_show, is_unbuilt, is_wait, is_word};
+ghost use Rattle.plan_reader.specs.PlanScript.{are_numbers_word, begins, is_backed_setup, is_channel_line, is_frame_line, is_given_setup, is_group_line, is_number_word, is_other_command, is_other_setup, is_plain_setup, is_protected_setup, is_release, is_searched_setup, is_settle, is_show, is_unbuilt, is_wait, is_word};
 
 use crate::words::{are_numbers, is_number, word};
 
@@ -41,6 +41,13 @@ pub fn is_given_setup(words: &[&[u8]]) -> bool
         && are_numbers_word(words, 6)
 }
 
+/// Whether the line is `setup NAME FROM TO unprotected`.
+pub fn is_searched_setup(words: &[&[u8]]) -> bool
+    ensures { result ≡ is_searched_setup (texts words.now) }
+{
+    begins(words, "setup", 5) && is_word(words, 4, "unprotected")
+}
+
 /// Whether the line is `release NAME`.
 pub fn is_release(words: &[&[u8]]) -> bool
     ensures { result ≡ is_release (texts words.now) }
@@ -62,10 +69,10 @@ pub fn is_show(words: &[&[u8]]) -> bool
     begins(words, "show", 1)
 }
 
-fn is_bare_setup(words: &[&[u8]]) -> bool
-    ensures { result ≡ is_bare_setup (texts words.now) }
+fn is_plain_setup(words: &[&[u8]]) -> bool
+    ensures { result ≡ is_plain_setup (texts words.now) }
 {
-    begins(words, "setup", 4) || begins(words, "setup", 5) && is_word(words, 4, "unprotected")
+    begins(words, "setup", 4)
 }
 
 fn is_backed_setup(words: &[&[u8]]) -> bool
@@ -87,7 +94,7 @@ fn is_protected_setup(words: &[&[u8]]) -> bool
 fn is_other_setup(words: &[&[u8]]) -> bool
     ensures { result ≡ is_other_setup (texts words.now) }
 {
-    is_bare_setup(words) || is_protected_setup(words) || is_backed_setup(words)
+    is_plain_setup(words) || is_protected_setup(words) || is_backed_setup(words)
 }
 
 fn is_other_command(words: &[&[u8]]) -> bool

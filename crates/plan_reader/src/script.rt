@@ -1,12 +1,13 @@
 //! The script of a plan.
 
 ghost use Rattle.std.specs.Prelude.{◌≡◌, ◌≤◌, Err, IfOk, Ok, OnOk, length};
+ghost use Rattle.std.specs.Option.{option_copied};
 ghost use Rattle.toml.specs.View.{view};
 ghost use Rattle.plan_reader.specs.Entries.{FailsBy, FailsFirst};
 ghost use Rattle.plan_reader.specs.PlanCalls.{calls_with};
 ghost use Rattle.plan_reader.specs.PlanTables.{views};
 ghost use Rattle.plan_reader.specs.PlanTexts.{texts, words_of};
-ghost use Rattle.plan_reader.specs.PlanScript.{calls_with_line, line_of, next_node, no_script, node_at, release_of, settle_of, setup_of, steps_over, with_line, by_words};
+ghost use Rattle.plan_reader.specs.PlanScript.{by_words, calls_with_line, given_setup_of, leads, line_of, next_node, no_script, node_at, release_of, searched_setup_of, settle_of, setup_by, steps_given, steps_over, with_line};
 ghost use Rattle.plan_reader.specs.Plans.{script_of};
 ghost use Rattle.plan_reader.specs.declared.faults.PlanError.{PlanError};
 ghost use Rattle.plan_reader.specs.declared.faults.PlanFault.{PlanFault};
@@ -14,7 +15,7 @@ ghost use Rattle.plan_reader.specs.declared.faults.PlanKind.{PlanKind};
 
 use crate::calls::Calls;
 use crate::faults::{EntryError, PlanEntry, PlanError, PlanKind, error_at};
-use crate::forms::{is_given_setup, is_release, is_settle, is_show, is_unbuilt};
+use crate::forms::{is_given_setup, is_release, is_searched_setup, is_settle, is_show, is_unbuilt};
 use crate::limits::{MOST_CALLS, MOST_LINES, MOST_ROUNDS};
 use crate::lines::{Line, Lines};
 use crate::names::{Name, Names, is_name};
@@ -60,27 +61,55 @@ fn steps_over(alloc: Global, t: &Topology, from: NodeId, ids: &[u32]) -> Result<
     Ok(steps)
 }
 
+// The steps over these links from a node, where links are given.
+fn steps_given(
+    alloc: Global,
+    t: &Topology,
+    from: NodeId,
+    ids: Option<&[u32]>,
+) -> Result<Option<Steps>, OutOfMemory>
+    ensures { IfOk result (λ via. via ≡ steps_given t.now from (option_copied ids.entry)) }
+{
+    match ids {
+        None => Ok(None),
+        Some(ids) => {
+            let steps = steps_over(alloc, t, from, ids)?;
+            Ok(Some(steps))
+        }
+    }
+}
+
+// Whether a route that is given leads from one node to the other with no node twice.
+fn leads(t: &Topology, from: NodeId, to: NodeId, via: Option<&Steps>) -> bool
+    ensures { result ≡ leads t.now from to (option_copied via.entry) }
+{
+    match via {
+        None => true,
+        Some(route) => makes_route(t, from, to, route.items()),
+    }
+}
+
 fn node_at(t: &Topology, names: &Names, words: &[&[u8]], k: usize) -> Option<NodeId>
     ensures { result ≡ node_at t.now names.now (texts words.now) k }
 {
     node_named(names, t.nodes(), word(words, k))
 }
 
-// A setup over a given route, or its first fault. The call is added to the calls.
+// A setup over these links, where links are given, or its first fault. The call is added to the calls.
 fn read_setup(
     alloc: Global,
     t: &Topology,
     names: &Names,
     calls: &mut Calls,
     words: &[&[u8]],
+    ids: Option<&[u32]>,
 ) -> Result<Command, EntryError>
-    ensures says { IfOk result (λ c. setup_of t.now names.now calls.old (texts words.now) ≡ Ok c) }
+    ensures says { IfOk result
+        (λ c. setup_by t.now names.now calls.old (texts words.now) (option_copied ids.entry) ≡ Ok c) }
     ensures calls { IfOk result (λ c. calls.new ≡ calls_with calls.old (texts words.now) c) }
-    ensures fault { FailsBy result (setup_of t.now names.now calls.old (texts words.now)) }
+    ensures fault { FailsBy result
+        (setup_by t.now names.now calls.old (texts words.now) (option_copied ids.entry)) }
 {
-    let Some(ids) = link_ids(alloc, word(words, 6))? else {
-        return Err(EntryError::Fault(PlanKind::Range));
-    };
     if !is_name(word(words, 1)) {
         return Err(EntryError::Fault(PlanKind::Name));
     }
@@ -97,8 +126,8 @@ fn read_setup(
     if calls.count() >= MOST_CALLS {
         return Err(EntryError::Fault(PlanKind::Count));
     }
-    let route = steps_over(alloc, t, from, &ids)?;
-    if !makes_route(t, from, to, route.items()) {
+    let via = steps_given(alloc, t, from, ids)?;
+    if !leads(t, from, to, via.as_ref()) {
         return Err(EntryError::Fault(PlanKind::Route));
     }
     let call = CallNo(calls.count() as u16);
@@ -109,9 +138,44 @@ fn read_setup(
         to,
         protected: false,
         both: false,
-        via: Some(route),
+        via,
         backup: None,
     })
+}
+
+// A setup over a given route, or its first fault. The call is added to the calls.
+fn read_given_setup(
+    alloc: Global,
+    t: &Topology,
+    names: &Names,
+    calls: &mut Calls,
+    words: &[&[u8]],
+) -> Result<Command, EntryError>
+    ensures says { IfOk result
+        (λ c. given_setup_of t.now names.now calls.old (texts words.now) ≡ Ok c) }
+    ensures calls { IfOk result (λ c. calls.new ≡ calls_with calls.old (texts words.now) c) }
+    ensures fault { FailsBy result (given_setup_of t.now names.now calls.old (texts words.now)) }
+{
+    let Some(ids) = link_ids(alloc, word(words, 6))? else {
+        return Err(EntryError::Fault(PlanKind::Range));
+    };
+    read_setup(alloc, t, names, calls, words, Some(&ids))
+}
+
+// A setup without a given route, or its first fault. The call is added to the calls.
+fn read_searched_setup(
+    alloc: Global,
+    t: &Topology,
+    names: &Names,
+    calls: &mut Calls,
+    words: &[&[u8]],
+) -> Result<Command, EntryError>
+    ensures says { IfOk result
+        (λ c. searched_setup_of t.now names.now calls.old (texts words.now) ≡ Ok c) }
+    ensures calls { IfOk result (λ c. calls.new ≡ calls_with calls.old (texts words.now) c) }
+    ensures fault { FailsBy result (searched_setup_of t.now names.now calls.old (texts words.now)) }
+{
+    read_setup(alloc, t, names, calls, words, None)
 }
 
 // Other lines
@@ -158,7 +222,11 @@ fn read_line(
     ensures fault { FailsBy result (line_of t.now names.now calls.old (texts words.now)) }
 {
     if is_given_setup(words) {
-        let command = read_setup(alloc, t, names, calls, words)?;
+        let command = read_given_setup(alloc, t, names, calls, words)?;
+        return Ok(Line::Post(command));
+    }
+    if is_searched_setup(words) {
+        let command = read_searched_setup(alloc, t, names, calls, words)?;
         return Ok(Line::Post(command));
     }
     if is_release(words) {

@@ -8,14 +8,17 @@ use Rattle.ason_base.specs.declared.commands.Event.{Event}
 use Rattle.ason_base.specs.declared.commands.Event.TheVariants.{Deliver, Desk, Tick}
 use Rattle.ason_base.specs.declared.messages.Msg.{Msg}
 use Rattle.ason_base.specs.Network.{Network}
-use Rattle.rsvp_messages.specs.Written.{written}
-use Rattle.mesh_rules.specs.LocalNodes.{LocalNode}
+use Rattle.flood.specs.declared.frames.Content.{Content}
+use Rattle.flood.specs.declared.frames.Content.TheVariants.{Message, Flood}
+use Rattle.flood.specs.Frames.{IsFrame as spells, frame_bytes}
+use Rattle.flood.specs.State as flood
+use Rattle.flood.specs.State.{FloodState}
+use Rattle.mesh_rules.specs.LocalNodes.{LocalNode, local_node}
 use Rattle.controller.specs.declared.frames.Frame.{Frame}
 use Rattle.controller.specs.declared.inputs.CoreInput.TheVariants as input
-use Rattle.controller.specs.Controllers.{ControllerState, IsMade, Stepped, after_tick, meaning, took as taken_by}
+use Rattle.controller.specs.Controllers.{AreMade, ControllerState, Stepped, after_tick, flood_after, meaning, parts_of, took_frame}
 use Rattle.controller.specs.Controllers as controllers
-use Rattle.controller.specs.Frames.{IsFrame as spells, Sending, frames_to}
-use Rattle.world_core.specs.Frames.{Content, Message}
+use Rattle.controller.specs.Frames.{Sending, frames_to}
 use Rattle.world_core.specs.Runs.{after, is_event_of, step}
 use Rattle.world_core.specs.Standing.{IsStepOf, IsUntouched}
 use Rattle.world_core.specs.Worlds.{World, delivered, handed_up, handled as carried_out, numbered_at, start, taken, with_event as counted}
@@ -24,7 +27,7 @@ use Rattle.world_core.proofs.Untouched.{others-are-untouched}
 use Rattle.station.specs.declared.parcels.Parcel.{Parcel}
 use Rattle.station.specs.Histories.{History, popped, refilled, with_event_over, world_after}
 use Rattle.station.specs.Links.{LinkState, after_frames, is_to, with_popped}
-use Rattle.station.specs.Standing.{AreParcelsOf, Bears, IsParcelOf, LinkStands, NodeStands, Stands, numbers_of}
+use Rattle.station.specs.Standing.{AreParcelsOf, IsParcelOf, LinkStands, NodeStands, Stands, numbers_of}
 use Rattle.station.specs.Steps.{HasReacted}
 use Rattle.station.specs.Turns.{neighbours}
 use Rattle.station.proofs.Linking.{if_to}
@@ -47,37 +50,39 @@ after_more t (x ∷ es) e w = after_more t es e (step t w x)
 
 pub world-with : (t : Network) (h : History) (rings : ℕ → ℕ → List ℕ) (e : Event) →
     world_after t (with_event_over t h rings e) ≡ step t (world_after t h) e
-world-with t h rings e = after_more t h.events e start
+world-with t h rings e = after_more t h.events e (start t)
 
 -- what one event of the node makes of its controller, its desk and the world
 record IsDone (w new : World) (n : NodeId) (c d : ControllerState) (desk : List DeskItem) (s : Stepped)
-    (frames : List Frame) : Type 0 where
-  made : IsMade c.node d.node c.adjacencies d.adjacencies s frames
+    (f : FloodState) (frames : List Frame) : Type 0 where
+  are : AreMade (parts_of c) (parts_of d) s f frames
   steps : d.steps ≡ c.steps + 1
-  world : IsStepOf w new n.0 s
+  world : IsStepOf w new n.0 s f
   others : (u : ℕ) → nat_eq u n.0 ≡ false → IsUntouched w new u
   items : desk ≡ new.desks n.0
   count : new.made n.0 ≡ w.made n.0 + 1
 
 node-done : (t : Network) (w new : World) (n : NodeId) (c d : ControllerState) (old desk : List DeskItem)
-    (s : Stepped) (frames : List Frame) → NodeStands t w n c old → IsDone w new n c d desk s frames →
+    (s : Stepped) (f : FloodState) (frames : List Frame) → NodeStands t w n c old → IsDone w new n c d desk s f frames →
     NodeStands t new n d desk
-node-done t w new n c d old desk s frames stands done = record {
-  place = done.made.becomes.place ∙ stands.place;
+node-done t w new n c d old desk s f frames stands done = record {
+  place = done.are.made.becomes.place ∙ stands.place;
   stands = record {
-    state = done.made.becomes.state ∙ done.world.stands.state;
-    hops = λ e. done.made.becomes.hops e ∙ done.world.stands.hops e;
+    state = done.are.made.becomes.state ∙ done.world.stands.state;
+    hops = λ e. done.are.made.becomes.hops e ∙ done.world.stands.hops e;
   };
-  hops = done.made.becomes.peers ∙ stands.hops;
+  flood = done.are.flood ∙ done.world.flood;
+  hops = done.are.made.becomes.peers ∙ stands.hops;
   desk = done.items;
   made = done.steps ∙ ap (λ k. k + 1) stands.made ∙ sym done.count;
 }
 
 links-done : (t : Network) (w new : World) (rings : ℕ → ℕ → List ℕ) (n : NodeId) (there : ℕ → List ℕ)
-    (c d : ControllerState) (old desk : List DeskItem) (s : Stepped) (frames : List Frame) (links : List LinkState) →
-    NodeStands t w n c old → IsDone w new n c d desk s frames → AllByRecursion (LinkStands w rings n there) links →
+    (c d : ControllerState) (old desk : List DeskItem) (s : Stepped) (f : FloodState) (frames : List Frame)
+    (links : List LinkState) →
+    NodeStands t w n c old → IsDone w new n c d desk s f frames → AllByRecursion (LinkStands w rings n there) links →
     AllByRecursion (LinkStands new (refilled w new rings) n there) (map (after_frames frames) links)
-links-done t w new rings n there c d old desk s frames links stands done all = go links all
+links-done t w new rings n there c d old desk s f frames links stands done all = go links all
   where
     id : c.node.place.id ≡ n
     id = ap (λ (p : LocalNode). p.id) stands.place
@@ -85,15 +90,15 @@ links-done t w new rings n there c d old desk s frames links stands done all = g
     sends : IsSending w new n s.sendings
     sends = record { own = done.world.channels; others = λ u e other. (done.others u other).channels e }
 
-    spelled : AllByRecursion (λ (x : Sending). spells (46 ∷ written n x.packet) x.packet) s.sendings
+    spelled : AllByRecursion (λ (x : Sending). spells (frame_bytes n x.content) x.content) s.sendings
     spelled = subst (λ (m : NodeId). AllByRecursion (λ (x : Sending). spells
-        (46 ∷ written m x.packet) x.packet) s.sendings) id done.made.spelled
+        (frame_bytes m x.content) x.content) s.sendings) id done.are.made.spelled
 
     one : (l : LinkState) → LinkStands w rings n there l → LinkStands new (refilled w new rings) n there
         (after_frames frames l)
     one l is =
         subst (λ fs. LinkStands new (refilled w new rings) n there (after_frames fs l))
-        (sym (done.made.frames ∙ ap (λ (m : NodeId). frames_to m s.sendings) id))
+        (sym (done.are.made.frames ∙ ap (λ (m : NodeId). frames_to m s.sendings) id))
         (link-sends w new rings n s.sendings there l sends spelled is)
 
     go : (ls : List LinkState) → AllByRecursion (LinkStands w rings n there) ls →
@@ -109,14 +114,14 @@ pub record AreReady (t : Network) (h : History) (rings : ℕ → ℕ → List �
   pub links : AllByRecursion (LinkStands (world_after t h) rings n there) ends
 
 all-done : (t : Network) (h : History) (rings : ℕ → ℕ → List ℕ) (n : NodeId) (there : ℕ → List ℕ) (e : Event)
-    (c d : ControllerState) (old desk : List DeskItem) (s : Stepped) (frames : List Frame)
+    (c d : ControllerState) (old desk : List DeskItem) (s : Stepped) (f : FloodState) (frames : List Frame)
     (before after : List LinkState) →
     after ≡ map (after_frames frames) before → AreReady t h rings n there c old before → IsDone (world_after t h)
-    (step t (world_after t h) e) n c d desk s frames →
+    (step t (world_after t h) e) n c d desk s f frames →
     Stands t (with_event_over t h rings e) n there (record { controller = d; desk = desk; links = after })
-all-done t h rings n there e c d old desk s frames before after is ready done = record {
+all-done t h rings n there e c d old desk s f frames before after is ready done = record {
   node = subst (λ w. NodeStands t w n d desk) (sym (world-with t h rings e))
-      (node-done t (world_after t h) (step t (world_after t h) e) n c d old desk s frames ready.node done);
+      (node-done t (world_after t h) (step t (world_after t h) e) n c d old desk s f frames ready.node done);
   peers = ap (map (λ (l : LinkState). l.peer)) is ∙ peers-kept frames before ∙ ready.peers;
   links =
       subst (AllByRecursion (LinkStands (world_after t (with_event_over t h rings e))
@@ -124,7 +129,7 @@ all-done t h rings n there e c d old desk s frames before after is ready done = 
       (subst (λ w. AllByRecursion (LinkStands w (with_event_over t h rings e).waiting n there)
       (map (after_frames frames) before)) (sym (world-with t h rings e))
       (links-done t (world_after t h)
-      (step t (world_after t h) e) rings n there c d old desk s frames before ready.node done ready.links));
+      (step t (world_after t h) e) rings n there c d old desk s f frames before ready.node done ready.links));
   unstopped = refl;
 }
 
@@ -144,15 +149,19 @@ pub tick-done : (t : Network) (h : History) (n : NodeId) (there : ℕ → List �
     (record { controller = d; desk = desk; links = after })
 tick-done t h n there c d desk before after reacted stands =
     all-done t h h.waiting n there (Tick n) c d desk desk
-    (after_tick c.node.place c.node.state c.adjacencies) reacted.frames before after reacted.links
+    (after_tick c.node.place c.node.state c.adjacencies c.flood) (flood.ticked c.flood) reacted.frames before after
+    reacted.links
     (record { node = stands.node; peers = stands.peers; links = stands.links })
     (record {
-      made = reacted.step.reaction;
+      are = reacted.step.reaction;
       steps = reacted.step.steps;
       world =
           subst (λ (p : LocalNode). IsStepOf (world_after t h)
-          (step t (world_after t h) (Tick n)) n.0 (after_tick p c.node.state c.adjacencies)) (sym stands.node.place)
-          (ticks-are-ticked t (world_after t h) n c.node.state c.adjacencies stands.node.stands stands.node.hops);
+          (step t (world_after t h) (Tick n)) n.0 (after_tick p c.node.state c.adjacencies c.flood)
+          (flood.ticked c.flood)) (sym stands.node.place)
+          (subst (λ (f : FloodState). IsStepOf (world_after t h) (step t (world_after t h) (Tick n)) n.0
+          (after_tick (local_node t n) c.node.state c.adjacencies f) (flood.ticked f)) (sym stands.node.flood)
+          (ticks-are-ticked t (world_after t h) n c.node.state c.adjacencies stands.node.stands stands.node.hops));
       others = untouched t (world_after t h) (Tick n) n (λ m. refl);
       items = stands.node.desk;
       count = made_once (world_after t h) n;
@@ -167,17 +176,20 @@ pub item-done : (t : Network) (h : History) (n : NodeId) (there : ℕ → List �
     (record { controller = d; desk = desk; links = after })
 item-done t h n there c d i desk before after reacted stands =
     all-done t h h.waiting n there (Desk n) c d (i ∷ desk) desk
-    (controllers.handled c.node.place (meaning c.node c.adjacencies) i) reacted.frames before after reacted.links
+    (controllers.handled c.node.place (meaning c.node c.adjacencies) i) c.flood reacted.frames before after
+    reacted.links
     (record { node = stands.node; peers = stands.peers; links = stands.links })
     (record {
-      made = reacted.step.reaction;
+      are = reacted.step.reaction;
       steps = reacted.step.steps;
       world =
           subst (λ (p : LocalNode). IsStepOf (world_after t h)
-          (step t (world_after t h) (Desk n)) n.0 (controllers.handled p (meaning c.node c.adjacencies) i))
+          (step t (world_after t h) (Desk n)) n.0 (controllers.handled p (meaning c.node c.adjacencies) i) c.flood)
           (sym stands.node.place)
+          (subst (λ (f : FloodState). IsStepOf (world_after t h) (step t (world_after t h) (Desk n)) n.0
+          (controllers.handled (local_node t n) (meaning c.node c.adjacencies) i) f) (sym stands.node.flood)
           (items-are-handled t (world_after t h) n i desk (meaning c.node c.adjacencies) stands.node.stands
-          (sym stands.node.desk));
+          (sym stands.node.desk)));
       others = untouched t (world_after t h) (Desk n) n (λ m. refl);
       items = ap (drop 1) stands.node.desk ∙ sym (ap (λ b. cond b (drop 1 ((world_after t h).desks n.0))
           ((world_after t h).desks n.0)) (self_test n.0));
@@ -194,6 +206,7 @@ desk_kept t w d u (Some (Message p)) n = go (handed_up w d u p)
     go : (ms : List Msg) → (carried_out t (taken w d u p) d u ms).desks n ≡ w.desks n
     go [] = refl
     go (m ∷ ms) = refl
+desk_kept t w d u (Some (Flood m)) n = refl
 
 pub made_kept : (t : Network) (w : World) (d u : NodeId) (o : Option Content) (n : ℕ) →
     (delivered t w d u o).made n ≡ w.made n
@@ -203,6 +216,7 @@ made_kept t w d u (Some (Message p)) n = go (handed_up w d u p)
     go : (ms : List Msg) → (carried_out t (taken w d u p) d u ms).made n ≡ w.made n
     go [] = refl
     go (m ∷ ms) = refl
+made_kept t w d u (Some (Flood m)) n = refl
 
 pub frame-done : (t : Network) (h : History) (rings : ℕ → ℕ → List ℕ) (n u : NodeId) (there : ℕ → List ℕ)
     (c d : ControllerState) (desk : List DeskItem) (before after : List LinkState) (p : Parcel) →
@@ -216,19 +230,24 @@ frame-done t h rings n u there c d desk before after p reacted parcel ready =
     w : World
     w = world_after t h
 
-    go : (content : Content) → numbered_at (w.channels u.0 n.0) p.number ≡ Some content → Bears p.frame content →
+    go : (x : Content) → numbered_at (w.channels u.0 n.0) p.number ≡ Some x → spells p.frame x →
         Stands t (with_event_over t h rings (Deliver n u p.number)) n there
         (record { controller = d; desk = desk; links = after })
-    go (Message q) at is =
+    go x at is =
         all-done t h rings n there (Deliver n u p.number) c d desk desk
-        (taken_by c.node.place (meaning c.node c.adjacencies) u q) reacted.frames before after reacted.links ready
+        (took_frame c.node.place (meaning c.node c.adjacencies) c.flood u x) (flood_after c.flood u x) reacted.frames
+        before after reacted.links ready
         (record {
-          made = reacted.step.reaction.0 q is;
+          are = reacted.step.reaction.0 x is;
           steps = reacted.step.steps;
           world =
-              subst (λ (x : LocalNode). IsStepOf w (step t w (Deliver n u p.number)) n.0
-              (taken_by x (meaning c.node c.adjacencies) u q)) (sym ready.node.place)
-              (deliveries-are-taken t w n u p.number q (meaning c.node c.adjacencies) ready.node.stands at);
+              subst (λ (place : LocalNode). IsStepOf w (step t w (Deliver n u p.number)) n.0
+              (took_frame place (meaning c.node c.adjacencies) c.flood u x) (flood_after c.flood u x))
+              (sym ready.node.place)
+              (subst (λ (f : FloodState). IsStepOf w (step t w (Deliver n u p.number)) n.0
+              (took_frame (local_node t n) (meaning c.node c.adjacencies) f u x) (flood_after f u x))
+              (sym ready.node.flood)
+              (deliveries-are-taken t w n u p.number x (meaning c.node c.adjacencies) ready.node.stands at));
           others = untouched t w (Deliver n u p.number) n (λ m. refl);
           items = ready.node.desk ∙ sym (desk_kept t (counted w n.0) n u
               (numbered_at (w.channels u.0 n.0) p.number) n.0);

@@ -164,12 +164,13 @@ new-stands t n = record {
   node = record {
     place = refl;
     stands = record { state = refl; hops = new_hops (hop_neighbours (local_node t n)) };
+    flood = refl;
     hops = new_peers (hop_neighbours (local_node t n));
     desk = refl;
     made = refl;
   };
   peers = same (neighbours t n);
-  links = all_map (λ (u : NodeId). is_channel t u n ≡ true) (LinkStands start (λ u d. []) n (λ d. [])) one
+  links = all_map (λ (u : NodeId). is_channel t u n ≡ true) (LinkStands (start t) (λ u d. []) n (λ d. [])) one
       (neighbours t n) (channels t n);
   unstopped = refl;
 }
@@ -178,7 +179,7 @@ new-stands t n = record {
     same [] = refl
     same (u ∷ us) = ap (λ vs. u ∷ vs) (same us)
 
-    one : (u : NodeId) → is_channel t u n ≡ true → LinkStands start (λ u d. []) n (λ d. []) (new_link u)
+    one : (u : NodeId) → is_channel t u n ≡ true → LinkStands (start t) (λ u d. []) n (λ d. []) (new_link u)
     one u on = record {
       other = not_itself (is_node_id t.nodes u) (is_node_id t.nodes n) (nat_eq u.0 n.0)
           (list_any (λ l. are_ends l.low l.high u n) t.links) on;

@@ -31,7 +31,11 @@ one-twice l m k first then = record {
     more a b c x y z p q = omega arith
 
 one-parcel : (frame : List ℕ) (l : LinkState) → KeepsRoom l (with_parcel frame l)
-one-parcel frame l = record { early = omega arith; standing = go (nat_lt l.standing 256); most = few (nat_lt l.standing 256) refl }
+one-parcel frame l = record {
+  early = omega arith;
+  standing = go (nat_lt l.standing 256);
+  most = few (nat_lt l.standing 256) refl;
+}
   where
     more : (a b c : ℕ) → c ≡ b + 1 → (a + 1) + b ≡ a + c
     more a b c h = omega arith

@@ -4,12 +4,11 @@ use Rattle.std.specs.Prelude.{slice_get, Some}
 use Rattle.std.specs.List.{AllByRecursion}
 use Rattle.std.proofs.lemmas.List.{length-append, map-append}
 use Rattle.ason_base.specs.declared.ids.NodeId.{NodeId}
-use Rattle.ason_base.specs.declared.messages.Packet.{Packet}
-use Rattle.rsvp_messages.specs.Written.{written}
-use Rattle.controller.specs.Frames.{IsFrame as spells, Sending, frames_to}
-use Rattle.world_core.specs.Frames.{Content, Message}
-use Rattle.world_core.specs.Standing.{packets_to}
-use Rattle.world_core.specs.Worlds.{World, numbered_at, with_packets}
+use Rattle.flood.specs.declared.frames.Content.{Content}
+use Rattle.flood.specs.Frames.{IsFrame as spells, frame_bytes}
+use Rattle.controller.specs.Frames.{Sending, frames_to}
+use Rattle.world_core.specs.Standing.{contents_to}
+use Rattle.world_core.specs.Worlds.{World, numbered_at}
 use Rattle.station.specs.declared.parcels.Parcel.{Parcel}
 use Rattle.station.specs.Histories.{all_pushed, count_of, numbers_after, pushed, refilled}
 use Rattle.station.specs.Links.{LinkState, after_frames, is_to, with_parcel}
@@ -19,42 +18,42 @@ turned : (a b : ℕ) (c : Bool) → nat_eq a b ≡ c → nat_eq b a ≡ c
 turned a b true e = grind arith
 turned a b false e = grind arith
 
--- Frames are parcels of the packets to the neighbour.
+-- Frames are parcels of what goes to the neighbour.
 
-abbrev with_all : NodeId → List Packet → LinkState → LinkState
+abbrev with_all : NodeId → List Content → LinkState → LinkState
 with_all me [] l = l
-with_all me (p ∷ ps) l = with_all me ps (with_parcel (46 ∷ written me p) l)
+with_all me (p ∷ ps) l = with_all me ps (with_parcel (frame_bytes me p) l)
 
 all-sent : (me : NodeId) (ss : List Sending) (l : LinkState) →
-    after_frames (frames_to me ss) l ≡ with_all me (packets_to l.peer.0 ss) l
+    after_frames (frames_to me ss) l ≡ with_all me (contents_to l.peer.0 ss) l
 all-sent me [] l = refl
 all-sent me (s ∷ ss) l = go (is_to s.to l) refl (all-sent me ss)
   where
-    packets : (b : Bool) → nat_eq s.to.0 l.peer.0 ≡ b → packets_to l.peer.0 (s ∷ ss) ≡ cond b
-        (s.packet ∷ packets_to l.peer.0 ss) (packets_to l.peer.0 ss)
+    packets : (b : Bool) → nat_eq s.to.0 l.peer.0 ≡ b → contents_to l.peer.0 (s ∷ ss) ≡ cond b
+        (s.content ∷ contents_to l.peer.0 ss) (contents_to l.peer.0 ss)
     packets true h = rw h refl
     packets false h = rw h refl
 
     go : (b : Bool) → is_to s.to l ≡ b → ((k : LinkState) → after_frames (frames_to me ss) k ≡ with_all me
-        (packets_to k.peer.0 ss) k) →
-        after_frames (frames_to me ss) (cond b (with_parcel (46 ∷ written me s.packet) l) l) ≡ with_all me
-        (packets_to l.peer.0 (s ∷ ss)) l
+        (contents_to k.peer.0 ss) k) →
+        after_frames (frames_to me ss) (cond b (with_parcel (frame_bytes me s.content) l) l) ≡ with_all me
+        (contents_to l.peer.0 (s ∷ ss)) l
     go true e rest =
-        rest (with_parcel (46 ∷ written me s.packet) l) ∙ sym
+        rest (with_parcel (frame_bytes me s.content) l) ∙ sym
         (ap (λ ps. with_all me ps l) (packets true (turned l.peer.0 s.to.0 true e)))
     go false e rest = rest l ∙ sym (ap (λ ps. with_all me ps l) (packets false (turned l.peer.0 s.to.0 false e)))
 
--- each of these packets is spelled by its frame
-abbrev pub AreSpelled : NodeId → List Packet → Type 0
-AreSpelled me ps = AllByRecursion (λ p. spells (46 ∷ written me p) p) ps
+-- each of these is spelled by its frame
+abbrev pub AreSpelled : NodeId → List Content → Type 0
+AreSpelled me ps = AllByRecursion (λ p. spells (frame_bytes me p) p) ps
 
 pub spelled-to : (me : NodeId) (d : ℕ) (ss : List Sending) →
-    AllByRecursion (λ (s : Sending). spells (46 ∷ written me s.packet) s.packet) ss → AreSpelled me (packets_to d ss)
+    AllByRecursion (λ (s : Sending). spells (frame_bytes me s.content) s.content) ss → AreSpelled me (contents_to d ss)
 spelled-to me d [] all = tt
 spelled-to me d (s ∷ ss) all = go (nat_eq s.to.0 d) (spelled-to me d ss all.1)
   where
-    go : (b : Bool) → AreSpelled me (packets_to d ss) → AreSpelled me
-        (map (λ (r : Sending). r.packet) (cond b (s ∷ filter (λ (r : Sending). nat_eq r.to.0 d) ss)
+    go : (b : Bool) → AreSpelled me (contents_to d ss) → AreSpelled me
+        (map (λ (r : Sending). r.content) (cond b (s ∷ filter (λ (r : Sending). nat_eq r.to.0 d) ss)
         (filter (λ (r : Sending). nat_eq r.to.0 d) ss)))
     go true rest = (all.0, rest)
     go false rest = rest
@@ -123,8 +122,8 @@ numbered-end base rest c n same =
     let next : suc (length base) ≡ n + 1 = omega arith in
     subst (λ k. numbered_at (base ++ c ∷ rest) k ≡ Some c) next (at_end base rest c)
 
-sent-all : (me : NodeId) (ps : List Packet) (n : ℕ) (base contents : List Content) (there ring : List ℕ)
-    (l : LinkState) → length base ≡ n → contents ≡ with_packets base ps → AreSpelled me ps →
+sent-all : (me : NodeId) (ps : List Content) (n : ℕ) (base contents : List Content) (there ring : List ℕ)
+    (l : LinkState) → length base ≡ n → contents ≡ base ++ ps → AreSpelled me ps →
     IsSentBy n contents there ring l → IsSentBy (n + length ps) contents there
     (all_pushed ring (numbers_after n (length ps))) (with_all me ps l)
 sent-all me [] n base contents there ring l same whole spelled is =
@@ -134,30 +133,30 @@ sent-all me [] n base contents there ring l same whole spelled is =
     none = omega arith
 sent-all me (p ∷ ps) n base contents there ring l same whole spelled is =
     subst (λ k. IsSentBy k contents there (all_pushed (pushed ring (n + 1)) (numbers_after (n + 1) (length ps)))
-    (with_all me ps (with_parcel (46 ∷ written me p) l))) counted
-    (sent-all me ps (n + 1) (base ++ Message p ∷ []) contents there (pushed ring (n + 1))
-    (with_parcel (46 ∷ written me p) l)
-    (rw length-append (ap (λ k. k + 1) same)) (whole ∙ sym (append_assoc base (Message p ∷ [])
-    (map Message ps))) spelled.1
-    (sent-more n contents there ring (46 ∷ written me p) l parcel is))
+    (with_all me ps (with_parcel (frame_bytes me p) l))) counted
+    (sent-all me ps (n + 1) (base ++ p ∷ []) contents there (pushed ring (n + 1))
+    (with_parcel (frame_bytes me p) l)
+    (rw length-append (ap (λ k. k + 1) same)) (whole ∙ sym (append_assoc base (p ∷ [])
+    ps)) spelled.1
+    (sent-more n contents there ring (frame_bytes me p) l parcel is))
   where
     counted : (n + 1) + length ps ≡ n + suc (length ps)
     counted = omega arith
 
-    parcel : IsParcelOf contents (record { number = n + 1; frame = 46 ∷ written me p })
+    parcel : IsParcelOf contents (record { number = n + 1; frame = frame_bytes me p })
     parcel = record {
-      content = Message p;
-      there = ap (λ cs. numbered_at cs (n + 1)) whole ∙ numbered-end base (map Message ps) (Message p) n same;
+      content = p;
+      there = ap (λ cs. numbered_at cs (n + 1)) whole ∙ numbered-end base ps p n same;
       spells = spelled.0;
     }
 
-with_all-early : (me : NodeId) (ps : List Packet) (l : LinkState) → (with_all me ps l).early ≡ l.early
+with_all-early : (me : NodeId) (ps : List Content) (l : LinkState) → (with_all me ps l).early ≡ l.early
 with_all-early me [] l = refl
-with_all-early me (p ∷ ps) l = with_all-early me ps (with_parcel (46 ∷ written me p) l)
+with_all-early me (p ∷ ps) l = with_all-early me ps (with_parcel (frame_bytes me p) l)
 
-with_all-peer : (me : NodeId) (ps : List Packet) (l : LinkState) → (with_all me ps l).peer ≡ l.peer
+with_all-peer : (me : NodeId) (ps : List Content) (l : LinkState) → (with_all me ps l).peer ≡ l.peer
 with_all-peer me [] l = refl
-with_all-peer me (p ∷ ps) l = with_all-peer me ps (with_parcel (46 ∷ written me p) l)
+with_all-peer me (p ∷ ps) l = with_all-peer me ps (with_parcel (frame_bytes me p) l)
 
 -- Parcels stay parcels of a channel that grows.
 
@@ -184,9 +183,9 @@ still-parcels cs ds (p ∷ ps) all = (
   still-parcels cs ds ps all.1,
 )
 
--- From one world to the next the node n sends these packets, and no other node sends any.
+-- From one world to the next the node n sends this, and no other node sends any.
 pub record IsSending (old new : World) (n : NodeId) (ss : List Sending) : Type 0 where
-  pub own : (d : ℕ) → new.channels n.0 d ≡ with_packets (old.channels n.0 d) (packets_to d ss)
+  pub own : (d : ℕ) → new.channels n.0 d ≡ old.channels n.0 d ++ contents_to d ss
   pub others : (u d : ℕ) → nat_eq u n.0 ≡ false → new.channels u d ≡ old.channels u d
 
 pub length-map : {X Y : Type 0} (f : X → Y) (xs : List X) → length (map f xs) ≡ length xs
@@ -195,7 +194,7 @@ length-map f (x ∷ xs) = ap suc (length-map f xs)
 
 pub link-sends : (old new : World) (rings : ℕ → ℕ → List ℕ) (n : NodeId) (ss : List Sending) (there : ℕ → List ℕ)
     (l : LinkState) → IsSending old new n ss →
-    AllByRecursion (λ (s : Sending). spells (46 ∷ written n s.packet) s.packet) ss → LinkStands old rings n there l →
+    AllByRecursion (λ (s : Sending). spells (frame_bytes n s.content) s.content) ss → LinkStands old rings n there l →
     LinkStands new (refilled old new rings) n there (after_frames (frames_to n ss) l)
 link-sends old new rings n ss there l is spelled stands = subst (LinkStands new (refilled old new rings) n there)
     (sym (all-sent n ss l)) now
@@ -203,12 +202,11 @@ link-sends old new rings n ss there l is spelled stands = subst (LinkStands new 
     d : ℕ
     d = l.peer.0
 
-    ps : List Packet
-    ps = packets_to d ss
+    ps : List Content
+    ps = contents_to d ss
 
     count : count_of new n.0 d ≡ count_of old n.0 d + length ps
-    count = ap length (is.own d) ∙ length-append (old.channels n.0 d) (map Message ps)
-        ∙ ap (λ k. count_of old n.0 d + k) (length-map Message ps)
+    count = ap length (is.own d) ∙ length-append (old.channels n.0 d) ps
 
     more : (a b k : ℕ) → a ≡ b + k → a - b ≡ k
     more a b k h = omega arith
@@ -219,7 +217,7 @@ link-sends old new rings n ss there l is spelled stands = subst (LinkStands new 
       standing = stands.standing;
       goes = stands.goes;
       going = subst (λ cs. AreParcelsOf cs l.backlog) (sym (is.own d))
-          (still-parcels (old.channels n.0 d) (map Message ps) l.backlog stands.going);
+          (still-parcels (old.channels n.0 d) ps l.backlog stands.going);
     }
 
     last : IsSentBy (count_of old n.0 d + length ps) (new.channels n.0 d) (there d)

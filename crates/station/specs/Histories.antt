@@ -22,7 +22,7 @@ new_history = record { events = []; waiting = λ u d. []; stopped = None }
 
 -- the world to which its events lead from the start, and the mesh that this world shows
 abbrev pub world_after : Network → History → World
-world_after t h = after t start h.events
+world_after t h = after t (start t) h.events
 
 abbrev pub state_after : Network → History → Mesh
 state_after t h = image (world_after t h)

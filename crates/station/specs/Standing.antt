@@ -5,8 +5,8 @@ use Rattle.ason_base.specs.declared.ids.NodeId.{NodeId}
 use Rattle.ason_base.specs.declared.commands.DeskItem.{DeskItem}
 use Rattle.ason_base.specs.Network.{Network}
 use Rattle.mesh_rules.specs.LocalNodes.{local_node}
-use Rattle.controller.specs.Frames.{IsFrame}
-use Rattle.world_core.specs.Frames.{Content, Message}
+use Rattle.flood.specs.declared.frames.Content.{Content}
+use Rattle.flood.specs.Frames.{IsFrame}
 use Rattle.world_core.specs.Standing.{StandsAt}
 use Rattle.world_core.specs.Worlds.{World, numbered_at}
 use Rattle.controller.specs.Adjacencies.{neighbours as hop_neighbours, peer_numbers}
@@ -26,15 +26,11 @@ pub record StationState : Type 0 where
 abbrev pub numbers_of : List Parcel → List ℕ
 numbers_of parcels = map (λ p. p.number) parcels
 
--- the bytes spell what the frame bears
-abbrev pub Bears : List ℕ → Content → Type 0
-Bears bytes (Message packet) = IsFrame bytes packet
-
 -- the parcel is the frame of its number among all that was sent on the channel: its bytes spell what that frame bears
 pub record IsParcelOf (contents : List Content) (p : Parcel) : Type 0 where
   pub content : Content
   pub there : numbered_at contents p.number ≡ Some content
-  pub spells : Bears p.frame content
+  pub spells : IsFrame p.frame content
 
 abbrev pub AreParcelsOf : List Content → List Parcel → Type 0
 AreParcelsOf contents parcels = AllByRecursion (IsParcelOf contents) parcels
@@ -61,6 +57,7 @@ pub record NodeStands (t : Network) (w : World) (n : NodeId) (c : ControllerStat
     (items : List DeskItem) : Type 0 where
   pub place : c.node.place ≡ local_node t n
   pub stands : StandsAt w n.0 (meaning c.node c.adjacencies)
+  pub flood : c.flood ≡ w.floods n.0
   pub hops : peer_numbers c.adjacencies ≡ hop_neighbours (local_node t n)
   pub desk : items ≡ w.desks n.0
   pub made : c.steps ≡ w.made n.0

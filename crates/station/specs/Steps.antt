@@ -8,7 +8,8 @@ use Rattle.controller.specs.declared.inputs.CoreInput.{CoreInput}
 use Rattle.controller.specs.Controllers.{ControllerState, IsStep}
 use Rattle.station.specs.Links.{ArePeersApart, LinkState, after_frames}
 
--- Each link leads to a neighbour of its own. After so many steps its frames have numbers left. No node makes more than 50,000.
+-- Each link leads to a neighbour of its own. After so many steps its frames have numbers left. No node makes more than
+-- 50,000.
 pub record LinksFit (p : LocalNode) (steps : ℕ) (links : List LinkState) : Type 0 where
   pub most : steps ≤ 50000
   pub apart : ArePeersApart links

@@ -27,7 +27,13 @@ impl Model for Link {
 
     ghost Value = { LinkState };
 
-    ghost view = { λ l. record { peer = l.peer; sent = l.sent; standing = l.standing; backlog = l.backlog; early = l.early } };
+    ghost view = { λ l. record {
+      peer = l.peer;
+      sent = l.sent;
+      standing = l.standing;
+      backlog = l.backlog;
+      early = l.early;
+    } };
 }
 
 impl Link {

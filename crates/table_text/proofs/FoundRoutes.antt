@@ -113,7 +113,8 @@ trip_of found = record { steps = found.route; cost = found.cost }
 module _ (p : Plan) (valid : AreSearchable (plan_rows p)) (from to : NodeId) where
   told : (pair : List ℕ) (o : Option Trip) (entries : List Entry) → pair ≡ pair_text p from to o →
       least_trip (plan_rows p) from to ≡ o →
-      ArePotentials (IsWalk (plan_rows p) NoLink NoNode from) entries → found_text p pair entries ≡ routes_text p from to
+      ArePotentials (IsWalk (plan_rows p) NoLink NoNode from) entries →
+      found_text p pair entries ≡ routes_text p from to
   told pair o entries is least are =
       let same : potential_in entries ≡ potential_from p from =
       (λ i n. potential-is (plan_rows p) valid from entries are n i) in

@@ -7,15 +7,17 @@ use Rattle.ason_base.specs.declared.commands.Event.{Event}
 use Rattle.ason_base.specs.declared.commands.Event.TheVariants as world
 use Rattle.ason_base.specs.declared.messages.Msg.{Msg}
 use Rattle.ason_base.specs.Network.{Network, are_ends, is_distinct, is_node_id}
+use Rattle.flood.specs.declared.frames.Content.{Content}
+use Rattle.flood.specs.declared.frames.Content.TheVariants.{Message, Flood}
 use Rattle.hop_reliable.specs.Schedules.{HopEnd}
 use Rattle.mesh_nodes.specs.LocalNodes.{is_neighbour}
 use Rattle.mesh_rules.specs.Events.{has_first}
 use Rattle.mesh_rules.specs.LocalNodes.{LocalNode, local_node}
-use Rattle.controller.specs.Frames.{SpellsNothing}
+use Rattle.flood.specs.Frames.{SpellsNothing}
+use Rattle.flood.specs.State.{pending_count}
 use Rattle.world_core.specs.declared.acts.Act.{Act}
 use Rattle.world_core.specs.declared.acts.Act.TheVariants as act
 use Rattle.world_core.specs.Channels.{ChannelState, channel_to, frame_on}
-use Rattle.world_core.specs.Frames.{Content, Message}
 use Rattle.world_core.specs.Replays.{HasActed, HasStepped, IsDisabled, IsNowhere, IsUnable, StandsFor, WorldState}
 use Rattle.world_core.specs.Runs.{is_channel, is_event_of, may_act, step}
 use Rattle.world_core.specs.Seats.{HasDoneAt, SeatStands, SeatState, can_do, channel_of, frame_there, is_able, is_at, is_channel_there}
@@ -67,6 +69,7 @@ posted_kept t w d u (Some (Message p)) = go (handed_up w d u p)
     go : (ms : List Msg) → (worlds.handled t (taken w d u p) d u ms).posted ≡ w.posted
     go [] = refl
     go (m ∷ ms) = refl
+posted_kept t w d u (Some (Flood m)) = refl
 
 posted-left : (t : Network) (w : World) (e : Event) (n : ℕ) → is_event_of n e ≡ true → (step t w e).posted ≡ w.posted
 posted-left t w (world.Deliver d u k) n of = posted_kept t (with_event w d.0) d u (frame_at w u d k)
@@ -92,6 +95,7 @@ still-nowhere t w e n m of there none is =
     record {
       desk = left.desk ∙ is.desk;
       hops = λ d. ap (λ (x : HopEnd). x.hop.unacked) (same.ends d) ∙ is.hops d;
+      flood = ap pending_count same.floods ∙ is.flood;
     }
   where
     not_same : (b : Bool) → nat_eq m.0 n.0 ≡ b → b ≡ false

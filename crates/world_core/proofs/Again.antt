@@ -9,31 +9,33 @@ use Rattle.ason_base.specs.declared.messages.Packet.{Packet}
 use Rattle.ason_base.specs.Network.{other_end}
 use Rattle.ason_base.proofs.Ordered.{Rises, in_order-rises}
 use Rattle.ason_base.proofs.RisingNumbers.{nat_order}
+use Rattle.flood.specs.declared.frames.Content.TheVariants.{Message}
 use Rattle.hop_reliable.specs.Hop.{resent}
 use Rattle.mesh_rules.specs.LocalNodes.{LocalNode}
 use Rattle.controller.specs.declared.adjacencies.Adjacency.{Adjacency}
 use Rattle.controller.specs.Adjacencies.{adjacency_at, again_to, hop_at, hop_of, is_to, neighbours, peer_numbers, sendings_to}
 use Rattle.controller.specs.Frames.{Sending}
-use Rattle.world_core.specs.Standing.{packets_to}
+use Rattle.world_core.specs.Standing.{contents_to}
 
 -- no neighbour has two adjacencies
 pub AreApart : List Adjacency → Type 0
 AreApart [] = Unit {0}
 AreApart (x ∷ xs) = (list_any (λ (y : Adjacency). nat_eq y.peer.0 x.peer.0) xs ≡ false) × AreApart xs
 
-packets_here : (e : ℕ) (n : NodeId) (ps : List Packet) → nat_eq n.0 e ≡ true → packets_to e (sendings_to n ps) ≡ ps
+packets_here : (e : ℕ) (n : NodeId) (ps : List Packet) → nat_eq n.0 e ≡ true →
+    contents_to e (sendings_to n ps) ≡ map Message ps
 packets_here e n [] h = refl
-packets_here e n (p ∷ ps) h = rw h (ap (λ qs. p ∷ qs) (packets_here e n ps h))
+packets_here e n (p ∷ ps) h = rw h (ap (λ cs. Message p ∷ cs) (packets_here e n ps h))
 
 packets_elsewhere : (e : ℕ) (n : NodeId) (ps : List Packet) → nat_eq n.0 e ≡ false →
-    packets_to e (sendings_to n ps) ≡ []
+    contents_to e (sendings_to n ps) ≡ []
 packets_elsewhere e n [] h = refl
 packets_elsewhere e n (p ∷ ps) h = rw h (packets_elsewhere e n ps h)
 
-pub packets-append : (e : ℕ) (xs ys : List Sending) → packets_to e (xs ++ ys) ≡ packets_to e xs ++ packets_to e ys
-packets-append e xs ys =
-    ap (map (λ (s : Sending). s.packet)) (filter-append (λ (s : Sending). nat_eq s.to.0 e) xs ys)
-    ∙ map-append (λ (s : Sending). s.packet) (filter (λ (s : Sending). nat_eq s.to.0 e) xs)
+pub contents-append : (e : ℕ) (xs ys : List Sending) → contents_to e (xs ++ ys) ≡ contents_to e xs ++ contents_to e ys
+contents-append e xs ys =
+    ap (map (λ (s : Sending). s.content)) (filter-append (λ (s : Sending). nat_eq s.to.0 e) xs ys)
+    ∙ map-append (λ (s : Sending). s.content) (filter (λ (s : Sending). nat_eq s.to.0 e) xs)
     (filter (λ (s : Sending). nat_eq s.to.0 e) ys)
 
 both_false : (b c : Bool) → (b || c) ≡ false → (b ≡ false) × (c ≡ false)
@@ -51,22 +53,24 @@ no_adjacency (x ∷ xs) k e h none =
     other a b c p q = grind arith
 
 pub again-packets : (e : ℕ) (xs : List Adjacency) → AreApart xs →
-    packets_to e (flat_map again_to xs) ≡ resent (hop_at xs e)
+    contents_to e (flat_map again_to xs) ≡ map Message (resent (hop_at xs e))
 unfolding AreApart
 again-packets e [] apart = refl
 again-packets e (x ∷ xs) apart =
-    packets-append e (again_to x) (flat_map again_to xs) ∙ by_peer (nat_eq x.peer.0 e) refl (again-packets e xs apart.1)
+    contents-append e (again_to x) (flat_map again_to xs)
+    ∙ by_peer (nat_eq x.peer.0 e) refl (again-packets e xs apart.1)
   where
-    by_peer : (b : Bool) → nat_eq x.peer.0 e ≡ b → packets_to e (flat_map again_to xs) ≡ resent (hop_at xs e) →
-        packets_to e (again_to x) ++ packets_to e (flat_map again_to xs) ≡ resent
-        (hop_of (cond b (Some x) (find (is_to e) xs))).state
+    by_peer : (b : Bool) → nat_eq x.peer.0 e ≡ b →
+        contents_to e (flat_map again_to xs) ≡ map Message (resent (hop_at xs e)) →
+        contents_to e (again_to x) ++ contents_to e (flat_map again_to xs) ≡ map Message
+        (resent (hop_of (cond b (Some x) (find (is_to e) xs))).state)
     by_peer true h rest =
-        ap (λ ps. ps ++ packets_to e (flat_map again_to xs)) (packets_here e x.peer (resent x.hop.state) h)
-        ∙ ap (λ ps. resent x.hop.state ++ ps) (rest ∙
-        ap (λ o. resent (hop_of o).state) (no_adjacency xs x.peer.0 e h apart.0))
-        ∙ append-nil (resent x.hop.state)
+        ap (λ ps. ps ++ contents_to e (flat_map again_to xs)) (packets_here e x.peer (resent x.hop.state) h)
+        ∙ ap (λ ps. map Message (resent x.hop.state) ++ ps) (rest ∙
+        ap (λ o. map Message (resent (hop_of o).state)) (no_adjacency xs x.peer.0 e h apart.0))
+        ∙ append-nil (map Message (resent x.hop.state))
     by_peer false h rest =
-        ap (λ ps. ps ++ packets_to e (flat_map again_to xs)) (packets_elsewhere e x.peer (resent x.hop.state) h) ∙ rest
+        ap (λ ps. ps ++ contents_to e (flat_map again_to xs)) (packets_elsewhere e x.peer (resent x.hop.state) h) ∙ rest
 
 -- Neighbours stand in order, each once.
 

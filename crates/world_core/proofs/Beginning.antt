@@ -1,10 +1,17 @@
 -- New seats stand for the start of a world.
-use Rattle.std.proofs.Common.{◌≡◌, ◌<◌, ◌-◌, ℕ, zero, suc, true, false, cond, nat_eq, nat_lt, List, [], ◌∷◌, get_or, length, map, refl, sym, ap, ◌∙◌, subst, arith}
-use Rattle.std.specs.Prelude.{IsTrue, is_some, slice_get}
+use Rattle.std.proofs.Common.{◌≡◌, ◌<◌, ◌-◌, ℕ, zero, suc, Bool, true, false, cond, nat_eq, nat_lt, List, [], ◌∷◌, get_or, length, map, refl, sym, ap, ◌∙◌, subst, arith}
+use Rattle.std.specs.Prelude.{◌||◌, IsTrue, filter, is_some, slice_get}
 use Rattle.std.specs.List.{AllByRecursion, list_any}
 use Rattle.std.proofs.lemmas.Option.{slice_get-get_or}
+use Rattle.ason_base.specs.declared.ids.NodeId.{NodeId}
+use Rattle.ason_base.specs.declared.network.LinkSpec.{LinkSpec}
 use Rattle.ason_base.specs.declared.network.NodeSpec.{NodeSpec}
-use Rattle.ason_base.specs.Network.{IsTopology, Network, find_node, is_distinct, node_number}
+use Rattle.ason_base.specs.declared.network.TeRow.{TeRow}
+use Rattle.ason_base.specs.Network.{IsTopology, Network, end_beside, find_node, is_distinct, is_link, is_node_id, node_number, row_of, touches}
+use Rattle.flood.specs.Networks.{declared_rows, new_flood, own_rows}
+use Rattle.flood.specs.State.{pending_count}
+use Rattle.mesh_rules.proofs.Topologies.{each-link}
+use Rattle.controller.proofs.Beginning.{link-ends, own-are}
 use Rattle.world_core.specs.Replays.{StandsFor}
 use Rattle.world_core.specs.Seats.{SeatStands, SeatState, new_seat}
 use Rattle.world_core.specs.Worlds.{start}
@@ -83,17 +90,58 @@ numbers-new t [] = refl
 numbers-new t (m ∷ ms) = ap (λ ns. m.id.0 ∷ ns) (numbers-new t ms)
 
 all-new : (t : Network) (nodes : List NodeSpec) →
-    AllByRecursion (SeatStands t start) (map (λ (m : NodeSpec). new_seat t m.id) nodes)
+    AllByRecursion (SeatStands t (start t)) (map (λ (m : NodeSpec). new_seat t m.id) nodes)
 all-new t [] = tt
 all-new t (m ∷ ms) = (new-stands t m.id, all-new t ms)
 
+-- at a number that is no node's nothing is due
+
+no-end : (nodes : List NodeSpec) (l : LinkSpec) (n : NodeId) → is_link nodes l ≡ true → is_node_id nodes n ≡ false →
+    touches n l ≡ false
+no-end nodes l n link none = go (touches n l) refl
+  where
+    low : is_node_id nodes l.low ≡ true
+    low = (link-ends nodes l link).0
+
+    high : is_node_id nodes l.high ≡ true
+    high = (link-ends nodes l link).1
+
+    same : (a b : ℕ) → nat_eq a b ≡ true → a ≡ b
+    same a b h = grind arith
+
+    here : (m : NodeId) → nat_eq m.0 n.0 ≡ true → is_node_id nodes m ≡ true → ⊥
+    here m e there =
+        absurd (cc (none, subst (λ k. is_node_id nodes (record { 0 = k }) ≡ true) (same m.0 n.0 e) there))
+
+    either : (b c : Bool) → (b || c) ≡ true → (b ≡ true → ⊥) → (c ≡ true → ⊥) → ⊥
+    either true c h f g = f refl
+    either false c h f g = g h
+
+    go : (b : Bool) → touches n l ≡ b → touches n l ≡ false
+    go false h = h
+    go true h = absurd (either (nat_eq l.low.0 n.0) (nat_eq l.high.0 n.0) h (λ e. here l.low e low)
+        (λ e. here l.high e high))
+
+no-own : (nodes : List NodeSpec) (n : NodeId) (ls : List LinkSpec) →
+    AllByRecursion (λ l. is_link nodes l ≡ true) ls → is_node_id nodes n ≡ false → filter (touches n) ls ≡ []
+no-own nodes n [] all none = refl
+no-own nodes n (l ∷ ls) all none = rw (no-end nodes l n all.0 none) (no-own nodes n ls all.1 none)
+
+nothing-due : (t : Network) (n : NodeId) → IsTopology t → is_node_id t.nodes n ≡ false →
+    pending_count ((start t).floods n.0) ≡ 0
+nothing-due t n is none =
+    let own : own_rows (map row_of t.links) n ≡ [] =
+    own-are n t.links ∙ ap (map row_of) (no-own t.nodes n t.links (each-link t is) none) in
+    subst (λ rows. pending_count
+    (declared_rows (new_flood n (map (λ (r : TeRow). end_beside r.low r.high n) rows)) rows) ≡ 0) (sym own) refl
+
 pub new-world : (t : Network) → IsTopology t →
-    StandsFor t (record { seats = map (λ (m : NodeSpec). new_seat t m.id) t.nodes; posted = [] }) start
+    StandsFor t (record { seats = map (λ (m : NodeSpec). new_seat t m.id) t.nodes; posted = [] }) (start t)
 new-world t is = record {
   nodes = nodes-new t t.nodes;
   apart = ap is_distinct (numbers-new t t.nodes) ∙ distinct 0 t.nodes (rises t is);
   seats = all-new t t.nodes;
-  nowhere = λ n none. record { desk = refl; hops = λ d. refl };
+  nowhere = λ n none. record { desk = refl; hops = λ d. refl; flood = nothing-due t n is none };
   posted = refl;
 }
 

@@ -10,7 +10,8 @@ use Rattle.ason_base.specs.declared.commands.Event.TheVariants.{Deliver, Noise, 
 use Rattle.ason_base.specs.declared.messages.Msg.{Msg}
 use Rattle.ason_base.specs.Network.{Network, is_node_id}
 use Rattle.mesh_rules.specs.Events.{has_first}
-use Rattle.world_core.specs.Frames.{Content, Message}
+use Rattle.flood.specs.declared.frames.Content.{Content}
+use Rattle.flood.specs.declared.frames.Content.TheVariants.{Message, Flood}
 use Rattle.world_core.specs.Worlds.{World, delivered, frame_at, handed_up, handled, start, taken, with_event}
 use Rattle.world_core.specs.Runs.{IsEnabled, IsRun, after, events_of, is_channel, is_event_of, may_act, posted, step}
 use Rattle.world_core.specs.Laws.{EventsAreCounted}
@@ -22,6 +23,7 @@ made_handled t w d u (m ∷ ms) = refl
 made_delivered : (t : Network) (w : World) (d u : NodeId) (o : Option Content) → (delivered t w d u o).made ≡ w.made
 made_delivered t w d u None = refl
 made_delivered t w d u (Some (Message p)) = made_handled t (taken w d u p) d u (handed_up w d u p)
+made_delivered t w d u (Some (Flood m)) = refl
 
 pub made_posted : (w : World) (c : Command) → (posted w c).made ≡ w.made
 made_posted w (Setup n from to protected both via backup) = refl
@@ -97,6 +99,6 @@ within t (e ∷ es) w n run most = within t es (step t w e) n run.1 (by_test (is
 
 pub events-are-counted : EventsAreCounted
 events-are-counted t events run n =
-    let all : (after t start events).made n ≡ 0 + events_of n events = counted t events start n in
-    let most : (after t start events).made n ≤ 50000 = within t events start n run (omega arith) in
+    let all : (after t (start t) events).made n ≡ 0 + events_of n events = counted t events (start t) n in
+    let most : (after t (start t) events).made n ≤ 50000 = within t events (start t) n run (omega arith) in
     record { made = omega arith; most = omega arith }

@@ -14,8 +14,10 @@ use Rattle.ason_base.specs.Labels.{numbers_from}
 use Rattle.ason_base.specs.Network.{Network}
 use Rattle.mesh_rules.specs.declared.events.MeshEvent.TheVariants.{Take, Desk, Post}
 use Rattle.rsvp_messages.specs.Packets.{Spells}
-use Rattle.controller.specs.Frames.{SpellsNothing}
-use Rattle.world_core.specs.Frames.{Content, Message}
+use Rattle.flood.specs.declared.frames.Content.{Content}
+use Rattle.flood.specs.declared.frames.Content.TheVariants.{Message, Flood}
+use Rattle.flood.specs.Frames.{SpellsNothing}
+use Rattle.world_core.specs.Frames.{packets_of}
 use Rattle.world_core.specs.Worlds.{World, start}
 use Rattle.world_core.specs.Runs.{IsEnabled, IsRun, after, step}
 use Rattle.world_core.specs.Images.{mesh_events}
@@ -54,13 +56,13 @@ events =
     ∷ []
 
 last : World
-last = after network start events
+last = after network (start network) events
 
-is_run : IsRun network start events
+is_run : IsRun network (start network) events
 unfolding network events setup a b link numbers_from
 is_run = (refl, (refl, (refl, (refl, (refl, (refl, (refl, tt)))))))
 
-is_shown : mesh_events network start events ≡ Post setup ∷ Desk a ∷ Take b a ∷ Take a b ∷ []
+is_shown : mesh_events network (start network) events ≡ Post setup ∷ Desk a ∷ Take b a ∷ Take a b ∷ []
 unfolding network events setup a b link numbers_from
 is_shown = refl
 
@@ -72,6 +74,7 @@ is_settled = refl
 
 acks_of : Content → List ℕ
 acks_of (Message p) = map (λ ack. ack.number) p.acks
+acks_of (Flood m) = []
 
 acknowledged : map acks_of (last.channels 2 1) ≡ (1 ∷ []) ∷ [] ∷ (1 ∷ []) ∷ []
 unfolding network events setup a b link numbers_from last acks_of
@@ -90,17 +93,17 @@ all_counted = refl
 -- What is acknowledged doesn't go again, and what isn't does, as it was.
 
 before_the_acks : World
-before_the_acks = after network start (world.Post setup ∷ world.Desk a ∷ [])
+before_the_acks = after network (start network) (world.Post setup ∷ world.Desk a ∷ [])
 
-numbers_of : Content → List (Option MsgId)
-numbers_of (Message p) = p.id ∷ []
+numbers_of : Packet → Option MsgId
+numbers_of p = p.id
 
-again : map numbers_of ((step network before_the_acks (world.Tick a)).channels 1 2) ≡ (Some first ∷ []) ∷
-    (Some first ∷ []) ∷ []
+again : map numbers_of (packets_of ((step network before_the_acks (world.Tick a)).channels 1 2)) ≡ Some first ∷
+    Some first ∷ []
 unfolding network setup a b link numbers_from before_the_acks numbers_of first
 again = refl
 
-not_again : (step network last (world.Tick a)).channels 1 2 ≡ last.channels 1 2
+not_again : packets_of ((step network last (world.Tick a)).channels 1 2) ≡ packets_of (last.channels 1 2)
 unfolding network events setup a b link numbers_from last
 not_again = refl
 
@@ -128,7 +131,7 @@ no_channel e = absurd (cc (e))
 
 no_noise : (body : List ℕ) (p : Packet) → Spells body p → IsRefused last (world.Noise b a (46 ∷ body))
 unfolding IsRefused
-no_noise body p spelled e = e.1 p (body, refl, spelled)
+no_noise body p spelled e = e.1 (Message p) (body, refl, spelled)
 
 no_node : IsRefused last (world.Tick c)
 unfolding network events setup a b c link numbers_from last IsRefused
@@ -155,11 +158,12 @@ below_the_limit : IsEnabled network (with_made 49999) (world.Tick a)
 unfolding network events setup a b link numbers_from last with_made
 below_the_limit = refl
 
--- Bytes that don't begin with 46 spell nothing.
+-- Bytes that begin with neither 46 nor 89 spell nothing.
 
 noise : IsEnabled network last (world.Noise b a (7 ∷ []))
 unfolding network events setup a b link numbers_from last
 noise = (refl, other)
   where
     other : SpellsNothing (7 ∷ [])
-    other p (body, e, spelled) = absurd (cc (e))
+    other (Message p) (body, e, spelled) = absurd (cc (e))
+    other (Flood m) (body, e, spelled) = absurd (cc (e))

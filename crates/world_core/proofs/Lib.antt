@@ -7,6 +7,9 @@ pub mod Ends
 pub mod EveryRun
 pub mod Example
 pub mod Finding
+pub mod FloodExample
+pub mod Flooded
+pub mod Learnt
 pub mod Places
 pub mod Posting
 pub mod Reached
@@ -17,5 +20,7 @@ pub mod Sent
 pub mod Shown
 pub mod Stepping
 pub mod Tabled
+pub mod Told
+pub mod Twice
 pub mod Untouched
 pub mod Ways

@@ -9,6 +9,7 @@ use Rattle.ason_base.specs.declared.commands.DeskItem.{DeskItem}
 use Rattle.ason_base.specs.declared.commands.DeskItem.TheVariants.{Order}
 use Rattle.ason_base.specs.declared.commands.Event.TheVariants.{Post}
 use Rattle.ason_base.specs.Network.{Network, is_distinct, is_node_id}
+use Rattle.flood.specs.State.{pending_count}
 use Rattle.hop_reliable.specs.Schedules.{HopEnd}
 use Rattle.mesh_rules.specs.Commands.{has_way, is_again, is_given_backup, is_valid}
 use Rattle.world_core.specs.Replays.{HasStepped, IsDisabled, IsForNobody, IsGiven, IsNowhere, IsPut, IsPutIf, StandsFor, WorldState, ingress_of, numbers_of}
@@ -87,6 +88,7 @@ nowhere_left : (t : Network) (w : World) (c : Command) (m : ℕ) → desk_after 
 nowhere_left t w c m same is = record {
   desk = desks-posted w c m ∙ same ∙ is.desk;
   hops = λ d. ap (λ (x : HopEnd). x.hop.unacked) ((posted_elsewhere w c m).ends d) ∙ is.hops d;
+  flood = ap pending_count (posted_elsewhere w c m).floods ∙ is.flood;
 }
 
 given-stands : (t : Network) (k after : WorldState) (w : World) (c : Command) → is_valid t c ≡ true → StandsFor t k w →

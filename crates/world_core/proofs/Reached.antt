@@ -10,6 +10,11 @@ use Rattle.ason_base.specs.declared.commands.Event.TheVariants.{Deliver, Noise, 
 use Rattle.ason_base.specs.declared.messages.Msg.{Msg}
 use Rattle.ason_base.specs.declared.messages.Packet.{Packet}
 use Rattle.ason_base.specs.Network.{Network}
+use Rattle.flood.specs.declared.frames.Content.{Content}
+use Rattle.flood.specs.declared.frames.Content.TheVariants.{Message, Flood}
+use Rattle.flood.specs.declared.messages.FloodMsg.{FloodMsg}
+use Rattle.flood.specs.Networks.{sent_to_node}
+use Rattle.flood.specs.State.{sends_after, sent_at_tick}
 use Rattle.hop_reliable.specs.Schedules.{HopEnd, BothWays, HandedUpInOrder, IsInOrder, idle, takes, ticks}
 use Rattle.mesh_rules.specs.Changes.{Answer}
 use Rattle.mesh_rules.specs.Events.{on_first_item}
@@ -17,10 +22,9 @@ use Rattle.mesh_rules.specs.LocalNodes.{local_node}
 use Rattle.mesh_rules.specs.Machine.{sent_to}
 use Rattle.mesh_rules.specs.Messages.{on_message}
 use Rattle.mesh_rules.specs.Orders.{on_tick}
-use Rattle.world_core.specs.Frames.{Content, Message}
-use Rattle.world_core.specs.Worlds.{World, commit, delivered, frame_at, handed_up, handled, hops_ticked, sends_all, start, taken, with_event}
+use Rattle.world_core.specs.Worlds.{World, commit, delivered, flooded, floods_ticked, frame_at, handed_up, handled, hops_ticked, sends_all, start, taken, with_event}
 use Rattle.world_core.specs.Runs.{IsEnabled, IsRun, after, is_channel, may_act, posted, step, without_item}
-use Rattle.world_core.proofs.Channels.{HasPackets, IsMade, has-sent, has-taken, has-ticked, is-made}
+use Rattle.world_core.proofs.Channels.{HasPackets, IsMade, has-flooded, has-sent, has-taken, has-ticked, is-made}
 use Rattle.world_core.proofs.Ends.{IsReached, pair, reached-east, reached-sends, reached-start, reached-ticks, reached-west}
 use Rattle.world_core.proofs.Ways.{up-sends}
 
@@ -36,8 +40,8 @@ pub record AreReached (w : World) : Type 0 where
   pub alone : (a : ℕ) → IsAlone (w.ends a a)
   pub channels : (a b : ℕ) → HasPackets (w.channels a b) (w.ends a b)
 
-pub are-reached-start : AreReached start
-are-reached-start = record {
+pub are-reached-start : (t : Network) → AreReached (start t)
+are-reached-start t = record {
   apart = λ a b e. reached-start;
   alone = λ a. record { up = refl; reached = reached-start };
   channels = λ a b. refl;
@@ -75,6 +79,25 @@ reached-hops w n r = record {
   apart = λ u d e. reached-ticks (nat_eq u n) (nat_eq d n) (w.ends u d) (w.ends d u) (r.apart u d e);
   alone = λ u. alone_ticks (nat_eq u n) (w.ends u u) (r.alone u);
   channels = λ u d. has-ticked (nat_eq u n) (w.channels u d) (w.ends u d) (r.channels u d);
+}
+
+-- Floods
+
+pub reached-flooded : (t : Network) (w : World) (d u : NodeId) (m : FloodMsg) → AreReached w →
+    AreReached (flooded t w d u m)
+reached-flooded t w d u m r = record {
+  apart = r.apart;
+  alone = r.alone;
+  channels = λ a b. has-flooded (nat_eq a d.0) (sent_to_node b (sends_after (w.floods a) u m)) (w.channels a b)
+      (w.ends a b) (r.channels a b);
+}
+
+pub reached-floods : (w : World) (n : ℕ) → AreReached w → AreReached (floods_ticked w n)
+reached-floods w n r = record {
+  apart = r.apart;
+  alone = r.alone;
+  channels = λ a b. has-flooded (nat_eq a n) (sent_to_node b (sent_at_tick (w.floods a))) (w.channels a b) (w.ends a b)
+      (r.channels a b);
 }
 
 -- A packet is taken
@@ -137,6 +160,7 @@ reached_delivered : (t : Network) (w : World) (d u : NodeId) (k : ℕ) (o : Opti
 reached_delivered t w d u k None other e r = r
 reached_delivered t w d u k (Some (Message p)) other e r =
     reached_handled t (taken w d u p) d u (handed_up w d u p) (reached-frame w d u k p other e r)
+reached_delivered t w d u k (Some (Flood m)) other e r = reached-flooded t w d u m r
 
 reached_posted : (w : World) (c : Command) → AreReached w → AreReached (posted w c)
 reached_posted w (Setup n from to protected both via backup) r =
@@ -161,8 +185,10 @@ are-reached-step t w (Deliver d u k) on r =
     (is-other t u d (may_act t w d) (is_some (frame_at w u d k)) on) refl (reached-event w d.0 r)
 are-reached-step t w (Noise d u bytes) on r = reached-event w d.0 r
 are-reached-step t w (Tick n) on r =
-    reached-commit (hops_ticked (with_event w n.0) n.0) n.0 (on_tick (local_node t n) (w.nodes n.0))
-    (reached-hops (with_event w n.0) n.0 (reached-event w n.0 r))
+    reached-commit (floods_ticked (hops_ticked (with_event w n.0) n.0) n.0) n.0
+    (on_tick (local_node t n) (w.nodes n.0))
+    (reached-floods (hops_ticked (with_event w n.0) n.0) n.0
+    (reached-hops (with_event w n.0) n.0 (reached-event w n.0 r)))
 are-reached-step t w (Desk n) on r =
     reached-commit (without_item (with_event w n.0) n.0) n.0
     (on_first_item (local_node t n) (w.nodes n.0) (w.desks n.0))

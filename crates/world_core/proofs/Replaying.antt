@@ -19,16 +19,16 @@ run-more t (x ∷ es) e w run on = (run.0, run-more t es e (step t w x) run.1 on
 
 -- these events are a run, and what is kept stands for the world to which they lead
 pub record HasRun (t : Network) (events : List Event) (k : WorldState) : Type 0 where
-  pub run : IsRun t start events
-  pub stands : StandsFor t k (after t start events)
+  pub run : IsRun t (start t) events
+  pub stands : StandsFor t k (after t (start t) events)
 
 pub has-run-more : (t : Network) (events : List Event) (e : Event) (k next : WorldState) → HasRun t events k →
     HasStepped t k e next → HasRun t (events ++ e ∷ []) next
 has-run-more t events e k next is stepped =
-    let made = stepped (after t start events) is.stands in
+    let made = stepped (after t (start t) events) is.stands in
     record {
-      run = run-more t events e start is.run made.0;
-      stands = subst (StandsFor t next) (sym (after-more t events e start)) made.1;
+      run = run-more t events e (start t) is.run made.0;
+      stands = subst (StandsFor t next) (sym (after-more t events e (start t))) made.1;
     }
 
 pub run-next : (t : Network) (events : List Event) (i : ℕ) (e : Event) (k next : WorldState) → i < length events →
@@ -58,5 +58,5 @@ first-disabled t events i e k number within at counted is disabled = record {
   all = parts events i e within ∙ ap (λ x. take i events ++ x ∷ drop (i + 1) events) (sym at);
   counted = sym counted ∙ ap (λ n. n + 1) (sym (length-take-le i events (omega arith)));
   run = is.run;
-  disabled = disabled (after t start (take i events)) is.stands;
+  disabled = disabled (after t (start t) (take i events)) is.stands;
 }

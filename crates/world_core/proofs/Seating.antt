@@ -7,52 +7,57 @@ use Rattle.ason_base.specs.declared.commands.DeskItem.{DeskItem}
 use Rattle.ason_base.specs.declared.commands.Event.TheVariants as world
 use Rattle.ason_base.specs.declared.messages.Msg.{Msg}
 use Rattle.ason_base.specs.Network.{Network}
-use Rattle.ason_base.specs.declared.messages.Packet.{Packet}
+use Rattle.flood.specs.declared.frames.Content.{Content}
+use Rattle.flood.specs.declared.frames.Content.TheVariants.{Message, Flood}
+use Rattle.flood.specs.Frames.{IsFrame, SpellsNothing}
+use Rattle.flood.specs.State as flood
+use Rattle.flood.specs.State.{FloodState}
 use Rattle.hop_reliable.specs.Schedules.{HopEnd}
 use Rattle.mesh_rules.specs.LocalNodes.{LocalNode, local_node}
 use Rattle.controller.specs.declared.frames.Frame.{Frame}
 use Rattle.controller.specs.declared.inputs.CoreInput.{CoreInput}
 use Rattle.controller.specs.Adjacencies.{neighbours}
-use Rattle.controller.specs.Controllers.{ControllerState, IsMade, IsStep, Stepped, after_tick, handled, meaning, took, unmoved}
-use Rattle.controller.specs.Frames.{AllSpelled, SpellsNothing, frames_to}
+use Rattle.controller.specs.Controllers.{AreMade, ControllerState, IsStep, Stepped, after_tick, flood_after, handled, meaning, parts_of, took_frame, unmoved}
+use Rattle.controller.specs.Frames.{AllSpelled, frames_to}
 use Rattle.controller.proofs.Reaching.{hop-new, peers-new}
 use Rattle.world_core.specs.declared.acts.Act.TheVariants as act
-use Rattle.world_core.specs.Channels.{AreSent, Bears, ChannelState, HasFrames, after_frames, channel_to, receivers}
-use Rattle.world_core.specs.Frames.{Content, Message}
+use Rattle.world_core.specs.Channels.{AreSent, ChannelState, HasFrames, after_frames, channel_to, receivers}
 use Rattle.world_core.specs.Runs.{step}
 use Rattle.world_core.specs.Seats.{HasDone, HasReacted, SeatStands, SeatState, new_seat, with_item}
-use Rattle.world_core.specs.Standing.{IsStepOf, IsUntouched, packets_to}
-use Rattle.world_core.specs.Worlds.{World, delivered, frame_at, handed_up, start, taken, with_event, with_packets}
+use Rattle.world_core.specs.Standing.{IsStepOf, IsUntouched, contents_to}
+use Rattle.world_core.specs.Worlds.{World, delivered, frame_at, handed_up, start, taken, with_event}
 use Rattle.world_core.specs.Worlds as worlds
 use Rattle.world_core.proofs.Finding.{found-passes, same_number, self_test}
 use Rattle.world_core.proofs.Sending.{has-sent, new-frames, new-there, still-there}
 use Rattle.world_core.proofs.Stepping.{deliveries-are-taken, items-are-handled, noise-moves-nothing, ticks-are-ticked}
 
 -- what an event of its node makes of a seat and of the world
-record IsStepped (w new : World) (s after : SeatState) (x : Stepped) (frames : List Frame) : Type 0 where
-  made : IsMade s.controller.node after.controller.node s.controller.adjacencies after.controller.adjacencies x frames
+record IsStepped (w new : World) (s after : SeatState) (x : Stepped) (f : FloodState)
+    (frames : List Frame) : Type 0 where
+  are : AreMade (parts_of s.controller) (parts_of after.controller) x f frames
   steps : after.controller.steps ≡ s.controller.steps + 1
   sent : AreSent frames s.channels after.channels
   node : after.node ≡ s.node
-  world : IsStepOf w new s.node.0 x
+  world : IsStepOf w new s.node.0 x f
   desk : after.desk ≡ new.desks s.node.0
   count : new.made s.node.0 ≡ w.made s.node.0 + 1
 
-stepped : (t : Network) (w new : World) (s after : SeatState) (x : Stepped) (frames : List Frame) → SeatStands t w s →
-    IsStepped w new s after x frames → SeatStands t new after
-stepped t w new s after x frames stands is =
+stepped : (t : Network) (w new : World) (s after : SeatState) (x : Stepped) (f : FloodState) (frames : List Frame) →
+    SeatStands t w s → IsStepped w new s after x f frames → SeatStands t new after
+stepped t w new s after x f frames stands is =
     subst (λ (n : NodeId). SeatStands t new (record {
       node = n;
       controller = after.controller;
       desk = after.desk;
       channels = after.channels;
     })) (sym is.node) (record {
-      place = is.made.becomes.place ∙ stands.place;
+      place = is.are.made.becomes.place ∙ stands.place;
       stands = record {
-        state = is.made.becomes.state ∙ is.world.stands.state;
-        hops = λ d. is.made.becomes.hops d ∙ is.world.stands.hops d;
+        state = is.are.made.becomes.state ∙ is.world.stands.state;
+        hops = λ d. is.are.made.becomes.hops d ∙ is.world.stands.hops d;
       };
-      hops = is.made.becomes.peers ∙ stands.hops;
+      flood = is.are.flood ∙ is.world.flood;
+      hops = is.are.made.becomes.peers ∙ stands.hops;
       made = is.steps ∙ ap (λ k. k + 1) stands.made ∙ sym is.count;
       desk = is.desk;
       channels = λ d. still-there frames s.channels after.channels is.sent d.0 ∙ stands.channels d;
@@ -63,10 +68,10 @@ stepped t w new s after x frames stands is =
     id = ap (λ (p : LocalNode). p.id) stands.place
 
     sent : frames ≡ frames_to s.node x.sendings
-    sent = is.made.frames ∙ ap (λ (n : NodeId). frames_to n x.sendings) id
+    sent = is.are.made.frames ∙ ap (λ (n : NodeId). frames_to n x.sendings) id
 
     spelled : AllSpelled s.node x.sendings
-    spelled = subst (λ (n : NodeId). AllSpelled n x.sendings) id is.made.spelled
+    spelled = subst (λ (n : NodeId). AllSpelled n x.sendings) id is.are.made.spelled
 
     go : (d : NodeId) (c : ChannelState) (o : Option ChannelState) → channel_to s.channels d.0 ≡ o →
         option_map (after_frames frames) o ≡ Some c → HasFrames s.node (new.channels s.node.0 d.0) c.frames
@@ -77,12 +82,12 @@ stepped t w new s after x frames stands is =
         (found-passes (λ (y : ChannelState). nat_eq y.to.0 d.0) s.channels k there) in
         subst (λ (y : ChannelState). HasFrames s.node (new.channels s.node.0 d.0) y.frames) same
         (subst (λ contents. HasFrames s.node contents (after_frames frames k).frames) (sym (is.world.channels d.0))
-        (subst (λ fs. HasFrames s.node (with_packets (w.channels s.node.0 d.0) (packets d))
+        (subst (λ fs. HasFrames s.node (w.channels s.node.0 d.0 ++ contents d)
         (after_frames fs k).frames) (sym sent)
         (has-sent s.node (w.channels s.node.0 d.0) k d.0 x.sendings to spelled (stands.frames d k there))))
       where
-        packets : NodeId → List Packet
-        packets n = packets_to n.0 x.sendings
+        contents : NodeId → List Content
+        contents n = contents_to n.0 x.sendings
 
 made_once : (w : World) (n : NodeId) → (with_event w n.0).made n.0 ≡ w.made n.0 + 1
 made_once w n = ap (λ b. cond b (w.made n.0 + 1) (w.made n.0)) (self_test n.0)
@@ -103,15 +108,20 @@ pub tick-stands : (t : Network) (w : World) (s after : SeatState) → SeatStands
     SeatStands t (step t w (world.Tick s.node)) after
 tick-stands t w s after stands done =
     stepped t w (step t w (world.Tick s.node)) s after
-    (after_tick s.controller.node.place s.controller.node.state s.controller.adjacencies) done.0.frames stands
+    (after_tick s.controller.node.place s.controller.node.state s.controller.adjacencies s.controller.flood)
+    (flood.ticked s.controller.flood) done.0.frames stands
     (record {
-      made = done.0.step.reaction;
+      are = done.0.step.reaction;
       steps = done.0.step.steps;
       sent = done.0.sent;
       node = done.0.node;
       world = subst (λ (p : LocalNode). IsStepOf w (step t w (world.Tick s.node)) s.node.0
-          (after_tick p s.controller.node.state s.controller.adjacencies)) (sym stands.place)
-          (ticks-are-ticked t w s.node s.controller.node.state s.controller.adjacencies stands.stands stands.hops);
+          (after_tick p s.controller.node.state s.controller.adjacencies s.controller.flood)
+          (flood.ticked s.controller.flood)) (sym stands.place)
+          (subst (λ (f : FloodState). IsStepOf w (step t w (world.Tick s.node)) s.node.0
+          (after_tick (local_node t s.node) s.controller.node.state s.controller.adjacencies f) (flood.ticked f))
+          (sym stands.flood)
+          (ticks-are-ticked t w s.node s.controller.node.state s.controller.adjacencies stands.stands stands.hops));
       desk = done.1 ∙ stands.desk;
       count = made_once w s.node;
     })
@@ -122,17 +132,21 @@ pub handle-stands : (t : Network) (w : World) (s after : SeatState) → SeatStan
     SeatStands t (step t w (world.Desk s.node)) after
 handle-stands t w s after stands done =
     stepped t w (step t w (world.Desk s.node)) s after
-    (handled s.controller.node.place (meaning s.controller.node s.controller.adjacencies) done.0) done.2.frames stands
+    (handled s.controller.node.place (meaning s.controller.node s.controller.adjacencies) done.0) s.controller.flood
+    done.2.frames stands
     (record {
-      made = done.2.step.reaction;
+      are = done.2.step.reaction;
       steps = done.2.step.steps;
       sent = done.2.sent;
       node = done.2.node;
       world = subst (λ (p : LocalNode). IsStepOf w (step t w (world.Desk s.node)) s.node.0
-          (handled p (meaning s.controller.node s.controller.adjacencies) done.0)) (sym stands.place)
+          (handled p (meaning s.controller.node s.controller.adjacencies) done.0) s.controller.flood) (sym stands.place)
+          (subst (λ (f : FloodState). IsStepOf w (step t w (world.Desk s.node)) s.node.0
+          (handled (local_node t s.node) (meaning s.controller.node s.controller.adjacencies) done.0) f)
+          (sym stands.flood)
           (items-are-handled t w s.node done.0 after.desk
           (meaning s.controller.node s.controller.adjacencies) stands.stands
-          (sym stands.desk ∙ done.1));
+          (sym stands.desk ∙ done.1)));
       desk = ap (drop 1) (sym done.1 ∙ stands.desk)
           ∙ sym (ap (λ b. cond b (drop 1 (w.desks s.node.0)) (w.desks s.node.0)) (self_test s.node.0));
       count = made_once w s.node;
@@ -148,6 +162,7 @@ desk_kept t w d u (Some (Message p)) n = go (handed_up w d u p)
     go : (ms : List Msg) → (worlds.handled t (taken w d u p) d u ms).desks n ≡ w.desks n
     go [] = refl
     go (m ∷ ms) = refl
+desk_kept t w d u (Some (Flood m)) n = refl
 
 pub made_kept : (t : Network) (w : World) (d u : NodeId) (o : Option Content) (n : ℕ) →
     (delivered t w d u o).made n ≡ w.made n
@@ -157,22 +172,28 @@ made_kept t w d u (Some (Message p)) n = go (handed_up w d u p)
     go : (ms : List Msg) → (worlds.handled t (taken w d u p) d u ms).made n ≡ w.made n
     go [] = refl
     go (m ∷ ms) = refl
+made_kept t w d u (Some (Flood m)) n = refl
 
 pub frame-stands : (t : Network) (w : World) (s after : SeatState) (u : NodeId) (k : ℕ) (bytes : List ℕ)
-    (content : Content) → frame_at w u s.node k ≡ Some content → Bears bytes content → SeatStands t w s →
+    (x : Content) → frame_at w u s.node k ≡ Some x → IsFrame bytes x → SeatStands t w s →
     HasDone s (act.Take u bytes) after → SeatStands t (step t w (world.Deliver s.node u k)) after
-frame-stands t w s after u k bytes (Message p) there bears stands done =
+frame-stands t w s after u k bytes x there bears stands done =
     stepped t w (step t w (world.Deliver s.node u k)) s after
-    (took s.controller.node.place (meaning s.controller.node s.controller.adjacencies) u p) done.0.frames stands
+    (took_frame s.controller.node.place (meaning s.controller.node s.controller.adjacencies) s.controller.flood u x)
+    (flood_after s.controller.flood u x) done.0.frames stands
     (record {
-      made = done.0.step.reaction.0 p bears;
+      are = done.0.step.reaction.0 x bears;
       steps = done.0.step.steps;
       sent = done.0.sent;
       node = done.0.node;
       world = subst (λ (m : LocalNode). IsStepOf w (step t w (world.Deliver s.node u k)) s.node.0
-          (took m (meaning s.controller.node s.controller.adjacencies) u p)) (sym stands.place)
-          (deliveries-are-taken t w s.node u k p (meaning s.controller.node s.controller.adjacencies) stands.stands
-          there);
+          (took_frame m (meaning s.controller.node s.controller.adjacencies) s.controller.flood u x)
+          (flood_after s.controller.flood u x)) (sym stands.place)
+          (subst (λ (f : FloodState). IsStepOf w (step t w (world.Deliver s.node u k)) s.node.0
+          (took_frame (local_node t s.node) (meaning s.controller.node s.controller.adjacencies) f u x)
+          (flood_after f u x)) (sym stands.flood)
+          (deliveries-are-taken t w s.node u k x (meaning s.controller.node s.controller.adjacencies) stands.stands
+          there));
       desk = done.1 ∙ stands.desk ∙ sym (desk_kept t (with_event w s.node.0) s.node u (frame_at w u s.node k) s.node.0);
       count = made_kept t (with_event w s.node.0) s.node u (frame_at w u s.node k) s.node.0 ∙ made_once w s.node;
     })
@@ -181,13 +202,15 @@ pub noise-stands : (t : Network) (w : World) (s after : SeatState) (u : NodeId) 
     SeatStands t w s → HasDone s (act.Take u bytes) after → SeatStands t (step t w (world.Noise s.node u bytes)) after
 noise-stands t w s after u bytes nothing stands done =
     stepped t w (step t w (world.Noise s.node u bytes)) s after
-    (unmoved (meaning s.controller.node s.controller.adjacencies)) done.0.frames stands
+    (unmoved (meaning s.controller.node s.controller.adjacencies)) s.controller.flood done.0.frames stands
     (record {
-      made = done.0.step.reaction.1 nothing;
+      are = done.0.step.reaction.1 nothing;
       steps = done.0.step.steps;
       sent = done.0.sent;
       node = done.0.node;
-      world = noise-moves-nothing t w s.node u bytes (meaning s.controller.node s.controller.adjacencies) stands.stands;
+      world = subst (λ (f : FloodState). IsStepOf w (step t w (world.Noise s.node u bytes)) s.node.0
+          (unmoved (meaning s.controller.node s.controller.adjacencies)) f) (sym stands.flood)
+          (noise-moves-nothing t w s.node u bytes (meaning s.controller.node s.controller.adjacencies) stands.stands);
       desk = done.1 ∙ stands.desk;
       count = made_once w s.node;
     })
@@ -202,6 +225,7 @@ still-stands t w new s same desks made stands = record {
     state = stands.stands.state ∙ sym same.nodes;
     hops = λ d. stands.stands.hops d ∙ sym (ap (λ (x : HopEnd). x.hop) (same.ends d));
   };
+  flood = stands.flood ∙ sym same.floods;
   hops = stands.hops;
   made = stands.made ∙ sym made;
   desk = stands.desk ∙ sym desks;
@@ -220,6 +244,7 @@ put-stands t w new s i same desks made stands = record {
     state = stands.stands.state ∙ sym same.nodes;
     hops = λ d. stands.stands.hops d ∙ sym (ap (λ (x : HopEnd). x.hop) (same.ends d));
   };
+  flood = stands.flood ∙ sym same.floods;
   hops = stands.hops;
   made = stands.made ∙ sym made;
   desk = ap (λ items. items ++ i ∷ []) stands.desk ∙ sym desks;
@@ -230,10 +255,11 @@ put-stands t w new s i same desks made stands = record {
 
 -- A new seat
 
-pub new-stands : (t : Network) (n : NodeId) → SeatStands t start (new_seat t n)
+pub new-stands : (t : Network) (n : NodeId) → SeatStands t (start t) (new_seat t n)
 new-stands t n = record {
   place = refl;
   stands = record { state = refl; hops = hop-new (neighbours (local_node t n)) };
+  flood = refl;
   hops = peers-new (neighbours (local_node t n));
   made = refl;
   desk = refl;

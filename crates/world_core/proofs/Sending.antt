@@ -7,17 +7,16 @@ use Rattle.std.proofs.lemmas.List.{map-append}
 use Rattle.std.proofs.lemmas.List.Folds.{find-set, find_past}
 use Rattle.std.proofs.lemmas.Option.{get_or_from_slice_get, slice_get-map}
 use Rattle.ason_base.specs.declared.ids.NodeId.{NodeId}
-use Rattle.ason_base.specs.declared.messages.Packet.{Packet}
 use Rattle.ason_base.specs.declared.network.NodeSpec.{NodeSpec}
 use Rattle.ason_base.specs.Network.{Network, are_ends, is_node_id}
+use Rattle.flood.specs.declared.frames.Content.{Content}
+use Rattle.flood.specs.Frames.{IsFrame, frame_bytes}
 use Rattle.controller.specs.declared.frames.Frame.{Frame}
 use Rattle.controller.specs.Frames.{AllSpelled, Sending, frames_to}
-use Rattle.rsvp_messages.specs.Written.{written}
-use Rattle.world_core.specs.Channels.{AreSent, Bears, ChannelState, HasFrames, IsChangedAt, after_frame, after_frames, bytes_of, channel_to, frame_numbered, leads_to, new_channel, receivers, with_frame}
-use Rattle.world_core.specs.Frames.{Content, Message}
+use Rattle.world_core.specs.Channels.{AreSent, ChannelState, HasFrames, IsChangedAt, after_frame, after_frames, channel_to, frame_numbered, leads_to, new_channel, receivers, with_frame}
 use Rattle.world_core.specs.Runs.{is_channel}
-use Rattle.world_core.specs.Standing.{packets_to}
-use Rattle.world_core.specs.Worlds.{numbered_at, with_packets}
+use Rattle.world_core.specs.Standing.{contents_to}
+use Rattle.world_core.specs.Worlds.{numbered_at}
 use Rattle.world_core.proofs.Finding.{IsFirst, also-found, found-passes, is-first, not-found, same_number}
 
 turned : (a b : ℕ) (c : Bool) → nat_eq a b ≡ c → nat_eq b a ≡ c
@@ -109,33 +108,32 @@ still-there fs before after sent d = ap is_some (sent d) ∙ go (channel_to befo
     go None = refl
     go (Some c) = refl
 
--- The frames of packets
+-- What frames bear
 
--- the bytes of packets from u
-abbrev bytes_from : NodeId → List Packet → List (List ℕ)
-bytes_from u ps = map (bytes_of u) (map Message ps)
+abbrev bytes_from : NodeId → List Content → List (List ℕ)
+bytes_from u cs = map (frame_bytes u) cs
 
 frames-sent : (u : NodeId) (ss : List Sending) (c : ChannelState) →
-    (after_frames (frames_to u ss) c).frames ≡ c.frames ++ bytes_from u (packets_to c.to.0 ss)
+    (after_frames (frames_to u ss) c).frames ≡ c.frames ++ bytes_from u (contents_to c.to.0 ss)
 frames-sent u [] c = sym (append-nil c.frames)
 frames-sent u (s ∷ ss) c = go (nat_eq s.to.0 c.to.0) refl (frames-sent u ss)
   where
     bytes : List ℕ
-    bytes = 46 ∷ written u s.packet
+    bytes = frame_bytes u s.content
 
     packets : (b : Bool) → nat_eq s.to.0 c.to.0 ≡ b →
-        packets_to c.to.0 (s ∷ ss) ≡ cond b (s.packet ∷ packets_to c.to.0 ss) (packets_to c.to.0 ss)
+        contents_to c.to.0 (s ∷ ss) ≡ cond b (s.content ∷ contents_to c.to.0 ss) (contents_to c.to.0 ss)
     packets true h = rw h refl
     packets false h = rw h refl
 
     go : (b : Bool) → nat_eq s.to.0 c.to.0 ≡ b →
         ((k : ChannelState) → (after_frames (frames_to u ss) k).frames ≡ k.frames ++
-        bytes_from u (packets_to k.to.0 ss)) →
+        bytes_from u (contents_to k.to.0 ss)) →
         (after_frames (frames_to u ss) (cond (nat_eq c.to.0 s.to.0) (with_frame bytes c) c)).frames
-        ≡ c.frames ++ bytes_from u (packets_to c.to.0 (s ∷ ss))
+        ≡ c.frames ++ bytes_from u (contents_to c.to.0 (s ∷ ss))
     go true e rest =
         ap (λ b. (after_frames (frames_to u ss) (cond b (with_frame bytes c) c)).frames) (turned s.to.0 c.to.0 true e)
-        ∙ rest (with_frame bytes c) ∙ append_assoc c.frames (bytes ∷ []) (bytes_from u (packets_to c.to.0 ss))
+        ∙ rest (with_frame bytes c) ∙ append_assoc c.frames (bytes ∷ []) (bytes_from u (contents_to c.to.0 ss))
         ∙ sym (ap (λ ps. c.frames ++ bytes_from u ps) (packets true e))
     go false e rest =
         ap (λ b. (after_frames (frames_to u ss) (cond b (with_frame bytes c) c)).frames) (turned s.to.0 c.to.0 false e)
@@ -148,25 +146,25 @@ both P (x ∷ xs) ys all more = (all.0, both P xs ys all.1 more)
 
 -- each spells what it bears
 spelled-to : (u : NodeId) (d : ℕ) (ss : List Sending) → AllSpelled u ss →
-    AllByRecursion (λ (c : Content). Bears (bytes_of u c) c) (map Message (packets_to d ss))
+    AllByRecursion (λ (c : Content). IsFrame (frame_bytes u c) c) (contents_to d ss)
 spelled-to u d [] all = tt
 spelled-to u d (s ∷ ss) all = go (nat_eq s.to.0 d) (spelled-to u d ss all.1)
   where
-    go : (b : Bool) → AllByRecursion (λ (c : Content). Bears (bytes_of u c) c) (map Message (packets_to d ss)) →
-        AllByRecursion (λ (c : Content). Bears (bytes_of u c) c)
-        (map Message (map (λ (x : Sending). x.packet)
-        (cond b (s ∷ filter (λ (x : Sending). nat_eq x.to.0 d) ss) (filter (λ (x : Sending). nat_eq x.to.0 d) ss))))
+    go : (b : Bool) → AllByRecursion (λ (c : Content). IsFrame (frame_bytes u c) c) (contents_to d ss) →
+        AllByRecursion (λ (c : Content). IsFrame (frame_bytes u c) c)
+        (map (λ (x : Sending). x.content)
+        (cond b (s ∷ filter (λ (x : Sending). nat_eq x.to.0 d) ss) (filter (λ (x : Sending). nat_eq x.to.0 d) ss)))
     go true rest = (all.0, rest)
     go false rest = rest
 
 pub has-sent : (u : NodeId) (contents : List Content) (c : ChannelState) (d : ℕ) (ss : List Sending) → c.to.0 ≡ d →
     AllSpelled u ss → HasFrames u contents c.frames →
-    HasFrames u (with_packets contents (packets_to d ss)) (after_frames (frames_to u ss) c).frames
+    HasFrames u (contents ++ contents_to d ss) (after_frames (frames_to u ss) c).frames
 has-sent u contents c d ss to all is = record {
-  bytes = frames-sent u ss c ∙ ap (λ n. c.frames ++ bytes_from u (packets_to n ss)) to
-      ∙ ap (λ fs. fs ++ bytes_from u (packets_to d ss)) is.bytes
-      ∙ sym (map-append (bytes_of u) contents (map Message (packets_to d ss)));
-  spelled = both (λ (x : Content). Bears (bytes_of u x) x) contents (map Message (packets_to d ss)) is.spelled
+  bytes = frames-sent u ss c ∙ ap (λ n. c.frames ++ bytes_from u (contents_to n ss)) to
+      ∙ ap (λ fs. fs ++ bytes_from u (contents_to d ss)) is.bytes
+      ∙ sym (map-append (frame_bytes u) contents (contents_to d ss));
+  spelled = both (λ (x : Content). IsFrame (frame_bytes u x) x) contents (contents_to d ss) is.spelled
       (spelled-to u d ss all);
 }
 
@@ -176,7 +174,7 @@ has-sent u contents c d ss to all is = record {
 pub record IsNumbered (contents : List Content) (k : ℕ) (bytes : List ℕ) : Type 0 where
   pub content : Content
   pub there : numbered_at contents k ≡ Some content
-  pub bears : Bears bytes content
+  pub bears : IsFrame bytes content
 
 later_number : (frames : List (List ℕ)) (k : ℕ) → frame_numbered frames (suc k) ≡ slice_get frames k
 later_number frames k =
@@ -195,18 +193,18 @@ pub is-numbered : (u : NodeId) (contents : List Content) (frames : List (List �
 is-numbered u contents frames zero bytes is e = absurd (cc (e))
 is-numbered u contents frames (suc k) bytes is e =
     go (slice_get contents k) refl
-    (sym (slice_get-map (bytes_of u) contents k) ∙ ap (λ fs. slice_get fs k) (sym is.bytes) ∙
+    (sym (slice_get-map (frame_bytes u) contents k) ∙ ap (λ fs. slice_get fs k) (sym is.bytes) ∙
     sym (later_number frames k) ∙ e)
   where
-    go : (o : Option Content) → slice_get contents k ≡ o → option_map (bytes_of u) o ≡ Some bytes →
+    go : (o : Option Content) → slice_get contents k ≡ o → option_map (frame_bytes u) o ≡ Some bytes →
         IsNumbered contents (suc k) bytes
     go None at h = absurd (cc (h))
     go (Some x) at h =
-        let same : bytes_of u x ≡ bytes = cc (h) in
+        let same : frame_bytes u x ≡ bytes = cc (h) in
         record {
           content = x;
           there = at;
-          bears = subst (λ b. Bears b x) same (all-at (λ (y : Content). Bears (bytes_of u y) y) contents k x
+          bears = subst (λ b. IsFrame b x) same (all-at (λ (y : Content). IsFrame (frame_bytes u y) y) contents k x
               is.spelled at);
         }
 
@@ -217,10 +215,10 @@ pub not-numbered : (u : NodeId) (contents : List Content) (frames : List (List �
 not-numbered u contents frames zero is e = refl
 not-numbered u contents frames (suc k) is e =
     go (slice_get contents k)
-    (sym (slice_get-map (bytes_of u) contents k) ∙ ap (λ fs. slice_get fs k) (sym is.bytes) ∙
+    (sym (slice_get-map (frame_bytes u) contents k) ∙ ap (λ fs. slice_get fs k) (sym is.bytes) ∙
     sym (later_number frames k) ∙ e)
   where
-    go : (o : Option Content) → option_map (bytes_of u) o ≡ None → is_some o ≡ false
+    go : (o : Option Content) → option_map (frame_bytes u) o ≡ None → is_some o ≡ false
     go None h = refl
     go (Some x) h = absurd (cc (h))
 

@@ -1,13 +1,14 @@
 -- What a controller sends is what the ends of a world send.
-use Rattle.std.proofs.Common.{◌≡◌, ℕ, ◌+◌, Bool, true, false, cond, nat_eq, List, [], ◌∷◌, refl, sym, ap, ◌∙◌, arith}
+use Rattle.std.proofs.Common.{◌≡◌, ℕ, ◌+◌, Bool, true, false, cond, nat_eq, List, [], ◌∷◌, map, refl, sym, ap, ◌∙◌, arith}
 use Rattle.ason_base.specs.declared.tables.Out.{Out}
+use Rattle.flood.specs.declared.frames.Content.TheVariants.{Message}
 use Rattle.hop_reliable.specs.Hop.{HopState, numbered, sent_message}
 use Rattle.hop_reliable.specs.Schedules.{HopEnd, sends}
 use Rattle.mesh_rules.specs.Machine.{sent_to}
 use Rattle.controller.specs.Adjacencies.{packets_on, sent_on, sent_one}
 use Rattle.controller.specs.Frames.{Sending}
 use Rattle.world_core.specs.Worlds.{numbered_after, sends_all}
-use Rattle.world_core.specs.Standing.{packets_to}
+use Rattle.world_core.specs.Standing.{contents_to}
 
 pub turned : (a b : ℕ) (c : Bool) → nat_eq a b ≡ c → nat_eq b a ≡ c
 turned a b true e = grind arith
@@ -16,7 +17,7 @@ turned a b false e = grind arith
 -- the hop of an end from which these messages are sent, and the packets in which they go
 pub record IsSent (e : ℕ) (hops : ℕ → HopState) (outs : List Out) (x : HopEnd) : Type 0 where
   pub hop : sent_on hops outs e ≡ (sends_all (sent_to e outs) x).hop
-  pub packets : numbered_after x.hop.sent (sent_to e outs) ≡ packets_to e (packets_on hops outs)
+  pub packets : map Message (numbered_after x.hop.sent (sent_to e outs)) ≡ contents_to e (packets_on hops outs)
 
 pub is-sent : (e : ℕ) (outs : List Out) (hops : ℕ → HopState) (x : HopEnd) → hops e ≡ x.hop → IsSent e hops outs x
 is-sent e [] hops x same = record { hop = same; packets = refl }
@@ -28,12 +29,12 @@ is-sent e (o ∷ outs) hops x same = by_test (nat_eq o.to.0 e) refl (is-sent e o
     messages false h = rw h refl
 
     packet : Sending
-    packet = record { to = o.to; packet = numbered ((hops o.to.0).sent + 1) o.msg }
+    packet = record { to = o.to; content = Message (numbered ((hops o.to.0).sent + 1) o.msg) }
 
     packets : (b : Bool) → nat_eq o.to.0 e ≡ b →
-        packets_to e (packets_on hops (o ∷ outs))
-        ≡ cond b (numbered ((hops o.to.0).sent + 1) o.msg ∷ packets_to e (packets_on (sent_one hops o) outs))
-        (packets_to e (packets_on (sent_one hops o) outs))
+        contents_to e (packets_on hops (o ∷ outs))
+        ≡ cond b (Message (numbered ((hops o.to.0).sent + 1) o.msg) ∷ contents_to e (packets_on (sent_one hops o) outs))
+        (contents_to e (packets_on (sent_one hops o) outs))
     packets true h = rw h refl
     packets false h = rw h refl
 
@@ -49,9 +50,10 @@ is-sent e (o ∷ outs) hops x same = by_test (nat_eq o.to.0 e) refl (is-sent e o
         ap (λ (s : HopState). s.sent) same in
         record {
           hop = rest.hop ∙ sym (ap (λ ms. (sends_all ms x).hop) (messages true h));
-          packets = ap (numbered_after x.hop.sent) (messages true h)
-              ∙ ap (λ ps. numbered (x.hop.sent + 1) o.msg ∷ ps) rest.packets
-              ∙ ap (λ n. numbered (n + 1) o.msg ∷ packets_to e (packets_on (sent_one hops o) outs)) (sym number)
+          packets = ap (λ ms. map Message (numbered_after x.hop.sent ms)) (messages true h)
+              ∙ ap (λ cs. Message (numbered (x.hop.sent + 1) o.msg) ∷ cs) rest.packets
+              ∙ ap (λ n. Message (numbered (n + 1) o.msg) ∷ contents_to e (packets_on (sent_one hops o) outs))
+              (sym number)
               ∙ sym (packets true h);
         }
     by_test false h later =
@@ -60,5 +62,6 @@ is-sent e (o ∷ outs) hops x same = by_test (nat_eq o.to.0 e) refl (is-sent e o
         let rest : IsSent e (sent_one hops o) outs x = later x step in
         record {
           hop = rest.hop ∙ sym (ap (λ ms. (sends_all ms x).hop) (messages false h));
-          packets = ap (numbered_after x.hop.sent) (messages false h) ∙ rest.packets ∙ sym (packets false h);
+          packets = ap (λ ms. map Message (numbered_after x.hop.sent ms)) (messages false h) ∙ rest.packets
+              ∙ sym (packets false h);
         }

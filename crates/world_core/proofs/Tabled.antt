@@ -5,6 +5,7 @@ use Rattle.std.specs.List.{AllByRecursion, list_all}
 use Rattle.ason_base.specs.declared.ids.NodeId.{NodeId}
 use Rattle.ason_base.specs.declared.network.NodeSpec.{NodeSpec}
 use Rattle.ason_base.specs.Network.{Network}
+use Rattle.flood.specs.State.{pending_count}
 use Rattle.hop_reliable.specs.Hop.{HopState}
 use Rattle.mesh_rules.specs.LocalNodes.{LocalNode, local_node}
 use Rattle.mesh_rules.specs.State.{NodeState}
@@ -87,14 +88,20 @@ zero_is n h = grind arith
 record IsStill (w : World) (n : ℕ) : Type 0 where
   desk : w.desks n ≡ []
   hops : (d : ℕ) → (w.ends n d).hop.unacked ≡ []
+  flood : pending_count (w.floods n) ≡ 0
 
 seat_still : (t : Network) (w : World) (s : SeatState) → is_quiet s ≡ true → SeatStands t w s → IsStill w s.node.0
 seat_still t w s quiet stands =
-    let parts = both_of (nat_eq (length s.desk) 0) (nat_eq (unacknowledged s.controller.adjacencies) 0) quiet in
+    let desk = nat_eq (length s.desk) 0 in
+    let hops = nat_eq (unacknowledged s.controller.adjacencies) 0 in
+    let rows = nat_eq (pending_count s.controller.flood) 0 in
+    let whole = both_of (desk && hops) rows quiet in
+    let parts = both_of desk hops whole.0 in
     record {
       desk = sym stands.desk ∙ none_left s.desk (zero_is (length s.desk) parts.0);
       hops = λ d. ap (λ (h : HopState). h.unacked) (sym (stands.stands.hops d))
           ∙ no-unacked s.controller.adjacencies (zero_is (unacknowledged s.controller.adjacencies) parts.1) d;
+      flood = ap pending_count (sym stands.flood) ∙ zero_is (pending_count s.controller.flood) whole.1;
     }
   where
     both_of : (b c : Bool) → (b && c) ≡ true → (b ≡ true) × (c ≡ true)
@@ -109,7 +116,7 @@ still_at t k w stands quiet n = go (find (is_at n.0) k.seats) refl
     go : (o : Option SeatState) → find (is_at n.0) k.seats ≡ o → IsStill w n.0
     go None e =
         let is = stands.nowhere n (sym (seat-there k.seats t.nodes n stands.nodes) ∙ ap is_some e) in
-        record { desk = is.desk; hops = is.hops }
+        record { desk = is.desk; hops = is.hops; flood = is.flood }
     go (Some s) e =
         let sits = found-has (is_at n.0) (SeatStands t w) k.seats s stands.seats e in
         let rests = found-has (is_at n.0) (λ (x : SeatState). is_quiet x ≡ true) k.seats s
@@ -121,13 +128,17 @@ pub quiet-is : (t : Network) (k : WorldState) (w : World) → StandsFor t k w �
 quiet-is t k w stands quiet = record {
   desks = λ n. (still_at t k w stands quiet (record { 0 = n })).desk;
   hops = λ u d. (still_at t k w stands quiet (record { 0 = u })).hops d;
+  floods = λ n. (still_at t k w stands quiet (record { 0 = n })).flood;
 }
 
 seat_quiet : (t : Network) (w : World) (s : SeatState) → IsQuiet w → SeatStands t w s → is_quiet s ≡ true
 seat_quiet t w s quiet stands =
-    both (nat_eq (length s.desk) 0) (nat_eq (unacknowledged s.controller.adjacencies) 0)
+    both (nat_eq (length s.desk) 0 && nat_eq (unacknowledged s.controller.adjacencies) 0)
+    (nat_eq (pending_count s.controller.flood) 0)
+    (both (nat_eq (length s.desk) 0) (nat_eq (unacknowledged s.controller.adjacencies) 0)
     (ap (λ items. nat_eq (length items) 0) (stands.desk ∙ quiet.desks s.node.0))
-    (ap (λ n. nat_eq n 0) (all-acked s.controller.adjacencies acked))
+    (ap (λ n. nat_eq n 0) (all-acked s.controller.adjacencies acked)))
+    (ap (λ n. nat_eq n 0) (ap pending_count stands.flood ∙ quiet.floods s.node.0))
   where
     both : (b c : Bool) → b ≡ true → c ≡ true → (b && c) ≡ true
     both b c p q = grind arith

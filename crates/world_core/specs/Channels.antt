@@ -4,10 +4,9 @@ use Rattle.std.specs.List.{AllByRecursion}
 use Rattle.std.specs.Option.{option_map}
 use Rattle.ason_base.specs.declared.ids.NodeId.{NodeId}
 use Rattle.ason_base.specs.Network.{Network}
-use Rattle.rsvp_messages.specs.Written.{written}
+use Rattle.flood.specs.declared.frames.Content.{Content}
+use Rattle.flood.specs.Frames.{IsFrame, frame_bytes}
 use Rattle.controller.specs.declared.frames.Frame.{Frame}
-use Rattle.controller.specs.Frames.{IsFrame}
-use Rattle.world_core.specs.Frames.{Content, Message}
 use Rattle.world_core.specs.Runs.{is_channel}
 
 -- the node to which it leads, and the frames, the oldest first
@@ -62,15 +61,7 @@ AreSent frames before after = (d : ℕ) → channel_to after d ≡ option_map (a
 
 -- The frames of a world
 
--- the bytes of what a node sends
-abbrev pub bytes_of : NodeId → Content → List ℕ
-bytes_of u (Message p) = 46 ∷ written u p
-
--- the bytes spell what a frame bears
-abbrev pub Bears : List ℕ → Content → Type 0
-Bears bytes (Message p) = IsFrame bytes p
-
 -- the frames are those of what a world has on a channel from u, and each spells it
 pub record HasFrames (u : NodeId) (contents : List Content) (frames : List (List ℕ)) : Type 0 where
-  pub bytes : frames ≡ map (bytes_of u) contents
-  pub spelled : AllByRecursion (λ c. Bears (bytes_of u c) c) contents
+  pub bytes : frames ≡ map (frame_bytes u) contents
+  pub spelled : AllByRecursion (λ c. IsFrame (frame_bytes u c) c) contents

@@ -11,6 +11,7 @@ use Rattle.ason_base.specs.declared.commands.DeskItem.{DeskItem}
 use Rattle.ason_base.specs.declared.commands.DeskItem.TheVariants.{Order}
 use Rattle.ason_base.specs.declared.commands.Event.{Event}
 use Rattle.ason_base.specs.Network.{Network, is_distinct, is_node_id}
+use Rattle.flood.specs.State.{pending_count}
 use Rattle.mesh_rules.specs.Rows.{all_call_rows, all_leg_rows}
 use Rattle.world_core.specs.declared.acts.Act.{Act}
 use Rattle.world_core.specs.declared.faults.Fault.{Fault}
@@ -29,6 +30,7 @@ pub record WorldState : Type 0 where
 pub record IsNowhere (w : World) (n : ℕ) : Type 0 where
   pub desk : w.desks n ≡ []
   pub hops : (d : ℕ) → (w.ends n d).hop.unacked ≡ []
+  pub flood : pending_count (w.floods n) ≡ 0
 
 -- each node of the topology has one seat, which is what the world has of it
 pub record StandsFor (t : Network) (k : WorldState) (w : World) : Type 0 where
@@ -133,5 +135,5 @@ pub record IsFirstDisabled (t : Network) (events : List Event) (number : ℕ) : 
   pub later : List Event
   pub all : events ≡ before ++ event ∷ later
   pub counted : number ≡ length before + 1
-  pub run : IsRun t start before
-  pub disabled : ¬ IsEnabled t (after t start before) event
+  pub run : IsRun t (start t) before
+  pub disabled : ¬ IsEnabled t (after t (start t) before) event

@@ -13,7 +13,7 @@ use Rattle.ason_base.specs.Network.{Network, are_ends, is_node_id}
 use Rattle.mesh_rules.specs.Commands.{is_valid, is_again}
 use Rattle.mesh_rules.specs.Events.{has_first, on_first_item}
 use Rattle.mesh_rules.specs.LocalNodes.{local_node}
-use Rattle.controller.specs.Frames.{SpellsNothing}
+use Rattle.flood.specs.Frames.{SpellsNothing}
 use Rattle.world_core.specs.Worlds.{World, commit, delivered, frame_at, ticked, with_event}
 
 -- What is enabled

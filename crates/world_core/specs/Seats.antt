@@ -3,6 +3,7 @@ use Rattle.std.specs.Prelude.{◌≡◌, ℕ, ◌==◌, ◌&&◌, nat_lt, Bool, 
 use Rattle.ason_base.specs.declared.ids.NodeId.{NodeId}
 use Rattle.ason_base.specs.declared.commands.DeskItem.{DeskItem}
 use Rattle.ason_base.specs.Network.{Network}
+use Rattle.flood.specs.State.{pending_count}
 use Rattle.mesh_nodes.specs.LocalNodes.{is_neighbour}
 use Rattle.mesh_rules.specs.Events.{has_first}
 use Rattle.mesh_rules.specs.LocalNodes.{local_node}
@@ -89,9 +90,10 @@ pub record HasDoneAt (before : List SeatState) (place : ℕ) (seat : SeatState) 
 abbrev pub with_item : DeskItem → SeatState → SeatState
 with_item i s = record s { desk = s.desk ++ i ∷ [] }
 
--- nothing waits on the desk, and each message of the node is acknowledged
+-- nothing waits on the desk, and each message and each row that the node sends is acknowledged
 abbrev pub is_quiet : SeatState → Bool
-is_quiet s = length s.desk == 0 && unacknowledged s.controller.adjacencies == 0
+is_quiet s =
+    length s.desk == 0 && unacknowledged s.controller.adjacencies == 0 && pending_count s.controller.flood == 0
 
 -- The node of a world
 
@@ -99,6 +101,7 @@ is_quiet s = length s.desk == 0 && unacknowledged s.controller.adjacencies == 0
 pub record SeatStands (t : Network) (w : World) (s : SeatState) : Type 0 where
   pub place : s.controller.node.place ≡ local_node t s.node
   pub stands : StandsAt w s.node.0 (meaning s.controller.node s.controller.adjacencies)
+  pub flood : s.controller.flood ≡ w.floods s.node.0
   pub hops : peer_numbers s.controller.adjacencies ≡ neighbours (local_node t s.node)
   pub made : s.controller.steps ≡ w.made s.node.0
   pub desk : s.desk ≡ w.desks s.node.0

@@ -5,7 +5,13 @@ use Rattle.ason_base.specs.declared.ids.CallNo.{CallNo}
 use Rattle.ason_base.specs.declared.commands.DeskItem.{DeskItem}
 use Rattle.ason_base.specs.declared.messages.Msg.{Msg}
 use Rattle.ason_base.specs.declared.messages.Packet.{Packet}
-use Rattle.ason_base.specs.Network.{Network}
+use Rattle.ason_base.specs.Network.{Network, row_of}
+use Rattle.flood.specs.declared.frames.Content.{Content}
+use Rattle.flood.specs.declared.frames.Content.TheVariants.{Message, Flood}
+use Rattle.flood.specs.declared.messages.FloodMsg.{FloodMsg}
+use Rattle.flood.specs.Networks.{begun_node, sent_to_node}
+use Rattle.flood.specs.State as flood
+use Rattle.flood.specs.State.{FloodState, learnt_of, sends_after, sent_at_tick}
 use Rattle.hop_reliable.specs.declared.heard.Heard.{Heard}
 use Rattle.hop_reliable.specs.Hop.{answers_to, handed_up_of, heard_as, numbered, resent}
 use Rattle.hop_reliable.specs.Schedules.{HopEnd, idle, sends, takes, ticks}
@@ -15,13 +21,14 @@ use Rattle.mesh_rules.specs.Machine.{sent_to}
 use Rattle.mesh_rules.specs.Messages.{on_message}
 use Rattle.mesh_rules.specs.Orders.{on_tick}
 use Rattle.mesh_rules.specs.State.{NodeState, new_node}
-use Rattle.world_core.specs.Frames.{Content, Message}
+use Rattle.controller.specs.Controllers.{with_learnt}
 
 pub record World : Type 0 where
   pub nodes : ℕ → NodeState
   pub desks : ℕ → List DeskItem
   -- at the first node, the end of its hop to the second
   pub ends : ℕ → ℕ → HopEnd
+  pub floods : ℕ → FloodState
   -- all that was ever sent from the first node to the second, the oldest first
   pub channels : ℕ → ℕ → List Content
   -- the call numbers of all setups that were posted
@@ -29,12 +36,13 @@ pub record World : Type 0 where
   -- how many events each node made
   pub made : ℕ → ℕ
 
--- nothing stands, and nothing was sent
-abbrev pub start : World
-start = record {
+-- nothing stands, and nothing was sent; the rows of a node's own links are due to each of its neighbours
+abbrev pub start : Network → World
+start t = record {
   nodes = λ n. new_node;
   desks = λ n. [];
   ends = λ u d. idle;
+  floods = λ n. begun_node (map row_of t.links) (record { 0 = n });
   channels = λ u d. [];
   posted = [];
   made = λ n. 0;
@@ -47,6 +55,10 @@ with_event w n = record w { made = λ m. if m == n then w.made m + 1 else w.made
 -- these packets were sent too
 abbrev pub with_packets : List Content → List Packet → List Content
 with_packets contents packets = contents ++ map Message packets
+
+-- these flood messages were sent too
+abbrev pub with_floods : List Content → List FloodMsg → List Content
+with_floods contents floods = contents ++ map Flood floods
 
 -- What a rule sends
 
@@ -71,7 +83,7 @@ commit w n a = record w {
       else w.channels u d;
 }
 
--- A frame is delivered: its acknowledgement leaves first, then what the rule of its message sends.
+-- A frame is delivered. The acknowledgement of a packet leaves first, then what the rule of its message sends.
 
 -- what is at this number of a list that begins with number 1
 abbrev pub numbered_at : List Content → ℕ → Option Content
@@ -105,14 +117,26 @@ abbrev pub handled : Network → World → NodeId → NodeId → List Msg → Wo
 handled t w d u [] = w
 handled t w d u (m ∷ ms) = commit w d.0 (on_message (local_node t d) (w.nodes d.0) u m)
 
+-- The acknowledgement of a row leaves first, then the row to d's other neighbours, where it is new. The node learns it.
+abbrev pub flooded : Network → World → NodeId → NodeId → FloodMsg → World
+flooded t w d u m = record w {
+  nodes = λ n. if n == d.0 then with_learnt (local_node t d) (w.nodes n) (learnt_of (w.floods d.0) m) else w.nodes n;
+  floods = λ n. if n == d.0 then flood.received (w.floods n) u m else w.floods n;
+  channels = λ a b.
+      if a == d.0
+      then with_floods (w.channels a b) (sent_to_node b (sends_after (w.floods a) u m))
+      else w.channels a b;
+}
+
 abbrev pub with_content : Network → World → NodeId → NodeId → Content → World
 with_content t w d u (Message p) = handled t (taken w d u p) d u (handed_up w d u p)
+with_content t w d u (Flood m) = flooded t w d u m
 
 abbrev pub delivered : Network → World → NodeId → NodeId → Option Content → World
 delivered t w d u None = w
 delivered t w d u (Some c) = with_content t w d u c
 
--- A tick: messages that are due go again, then goes what the calls send.
+-- A tick: messages that are due go again, then go rows that are due, then what the calls send.
 
 abbrev pub hops_ticked : World → ℕ → World
 hops_ticked w n = record w {
@@ -120,5 +144,12 @@ hops_ticked w n = record w {
   channels = λ a b. if a == n then with_packets (w.channels a b) (resent (w.ends a b).hop) else w.channels a b;
 }
 
+abbrev pub floods_ticked : World → ℕ → World
+floods_ticked w n = record w {
+  floods = λ m. if m == n then flood.ticked (w.floods m) else w.floods m;
+  channels = λ a b.
+      if a == n then with_floods (w.channels a b) (sent_to_node b (sent_at_tick (w.floods a))) else w.channels a b;
+}
+
 abbrev pub ticked : Network → World → NodeId → World
-ticked t w n = commit (hops_ticked w n.0) n.0 (on_tick (local_node t n) (w.nodes n.0))
+ticked t w n = commit (floods_ticked (hops_ticked w n.0) n.0) n.0 (on_tick (local_node t n) (w.nodes n.0))

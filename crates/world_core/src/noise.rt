@@ -1,10 +1,10 @@
 //! Bytes that spell nothing.
 
 ghost use Rattle.std.specs.Prelude.{◌≡◌, IfOk, false, true};
-ghost use Rattle.controller.specs.Frames.{SpellsNothing};
+ghost use Rattle.flood.specs.Frames.{SpellsNothing};
 
-use ason_base::OutOfMemory;
-use controller::packet_of;
+use ason_base::{DecodeError, OutOfMemory};
+use flood::read_frame;
 use std::alloc::Global;
 
 /// Whether these bytes spell nothing.
@@ -12,9 +12,9 @@ pub(crate) fn spells_nothing(alloc: Global, bytes: &[u8]) -> Result<bool, OutOfM
     ensures nothing { IfOk result (λ b. b ≡ true → SpellsNothing bytes.now) }
     ensures something { IfOk result (λ b. b ≡ false → ¬ SpellsNothing bytes.now) }
 {
-    match packet_of(alloc, bytes) {
-        Ok(None) => Ok(true),
-        Ok(Some(_)) => Ok(false),
-        Err(e) => Err(e),
+    match read_frame(alloc, bytes) {
+        Ok(_) => Ok(false),
+        Err(DecodeError::NotMessage) => Ok(true),
+        Err(DecodeError::OutOfMemory) => Err(OutOfMemory),
     }
 }

@@ -29,8 +29,8 @@ impl From<OutOfMemory> for ReplayError {
 
 /// The world to which these events lead, one after the other from the start, if they are a run.
 pub fn replay(alloc: Global, t: &Topology, events: &[Event]) -> Result<World, ReplayError>
-    ensures run { IfOk result (λ w. IsRun t.now start events.now) }
-    ensures last { IfOk result (λ w. StandsFor t.now w (after t.now start events.now)) }
+    ensures run { IfOk result (λ w. IsRun t.now (start t.now) events.now) }
+    ensures last { IfOk result (λ w. StandsFor t.now w (after t.now (start t.now) events.now)) }
     ensures not_run { IfErr result
         (λ e. (i : ℕ) → e ≡ ReplayError.NotRun i → IsFirstDisabled t.now events.now i) }
 {

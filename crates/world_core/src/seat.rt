@@ -34,7 +34,12 @@ impl Model for Seat {
 
     ghost Value = { SeatState };
 
-    ghost view = { λ s. record { node = s.node; controller = s.controller; desk = s.desk.items; channels = s.channels.items } };
+    ghost view = { λ s. record {
+      node = s.node;
+      controller = s.controller;
+      desk = s.desk.items;
+      channels = s.channels.items;
+    } };
 }
 
 impl Seat {
@@ -169,10 +174,11 @@ impl Seat {
         self.controller.rows(alloc)
     }
 
-    /// Whether nothing waits on the desk, and no message of the node isn't acknowledged.
+    /// Whether nothing waits on the desk, and nothing that the node sent isn't acknowledged.
     pub(crate) fn is_quiet(&self) -> bool
         ensures { result ≡ is_quiet self.now }
     {
-        self.desk.is_empty() && self.controller.pending().hop == 0
+        let pending = self.controller.pending();
+        self.desk.is_empty() && pending.hop == 0 && pending.flood == 0
     }
 }

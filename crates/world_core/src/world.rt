@@ -56,9 +56,9 @@ fn ingress_of(command: &Command) -> Option<NodeId>
 }
 
 impl World {
-    /// Nothing stands, and nothing was sent.
+    /// Nothing stands, and nothing was sent. The rows of a node's own links are due to each of its neighbours.
     pub(crate) fn new(alloc: Global, t: &Topology) -> Result<World, OutOfMemory>
-        ensures { IfOk result (λ w. StandsFor t.now w start) }
+        ensures { IfOk result (λ w. StandsFor t.now w (start t.now)) }
     {
         let _nodes = t.nodes();
         let seats = new_seats(alloc, t)?;
@@ -234,7 +234,7 @@ impl World {
         rows_of(alloc, &self.seats)
     }
 
-    /// Whether every desk is empty, and each message is acknowledged.
+    /// Whether every desk is empty, and each message and each row of a link is acknowledged.
     pub fn quiet(&self) -> bool
         ensures { TellsQuiet self.now result }
     {

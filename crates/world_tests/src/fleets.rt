@@ -64,14 +64,10 @@ fn settle(fleet: &mut Fleet) -> Result<(), Fail> {
     Ok(())
 }
 
-// So much waits, and no row of a flood.
-fn waits(fleet: &Fleet, desk: usize, hop: usize) -> bool {
-    let most = FleetPending {
-        desk,
-        hop,
-        flood: 0,
-    };
-    fleet.pending() == most && fleet.quiet() == (desk == 0 && hop == 0)
+// So much waits.
+fn waits(fleet: &Fleet, desk: usize, hop: usize, flood: usize) -> bool {
+    let most = FleetPending { desk, hop, flood };
+    fleet.pending() == most && fleet.quiet() == (desk == 0 && hop == 0 && flood == 0)
 }
 
 // The leg is Live, has no fibre in at a and none out at b, and label 1 of the link elsewhere.
@@ -105,20 +101,20 @@ fn is_bare(alloc: Global, fleet: &Fleet) -> Result<bool, Fail> {
     Ok(rows.calls.items().is_empty() && rows.legs.items().is_empty())
 }
 
-// After the first round the Path and the Resv aren't acknowledged; the second brings both acknowledgements. The events are those
-// that proofs/Example works out.
+// After the first round the Path, the Resv and the rows of both nodes aren't acknowledged; the second brings all
+// acknowledgements. The events are those that proofs/Example works out.
 #[test]
 fn a_call_is_set_up_in_two_rounds(rt: HostRuntime) -> Result<(), Fail> {
     let alloc = rt.alloc();
     let mut fleet = new_fleet(alloc)?;
-    assert!(rt; waits(&fleet, 0, 0));
+    assert!(rt; waits(&fleet, 0, 0, 2));
     assert!(rt; is_bare(alloc, &fleet)?);
     fleet.post(&setup(alloc, 0)?)?;
-    assert!(rt; waits(&fleet, 1, 0));
-    assert!(rt; fleet.round() == Ok(4));
-    assert!(rt; waits(&fleet, 0, 2));
-    assert!(rt; fleet.round() == Ok(6));
-    assert!(rt; waits(&fleet, 0, 0));
+    assert!(rt; waits(&fleet, 1, 0, 2));
+    assert!(rt; fleet.round() == Ok(5));
+    assert!(rt; waits(&fleet, 0, 2, 2));
+    assert!(rt; fleet.round() == Ok(10));
+    assert!(rt; waits(&fleet, 0, 0, 0));
     assert!(rt; stands(alloc, &fleet)?);
     Ok(())
 }
@@ -131,10 +127,10 @@ fn a_call_that_is_released_leaves_nothing(rt: HostRuntime) -> Result<(), Fail> {
     fleet.post(&setup(alloc, 0)?)?;
     settle(&mut fleet)?;
     fleet.post(&release())?;
-    assert!(rt; waits(&fleet, 1, 0));
+    assert!(rt; waits(&fleet, 1, 0, 0));
     assert!(rt; stands(alloc, &fleet)?);
     settle(&mut fleet)?;
-    assert!(rt; waits(&fleet, 0, 0));
+    assert!(rt; waits(&fleet, 0, 0, 0));
     assert!(rt; is_bare(alloc, &fleet)?);
     fleet.post(&setup(alloc, 1)?)?;
     settle(&mut fleet)?;
@@ -142,7 +138,8 @@ fn a_call_that_is_released_leaves_nothing(rt: HostRuntime) -> Result<(), Fail> {
     Ok(())
 }
 
-// A command of a group goes to no desk. A quiet fleet's round is a tick of each node.
+// A command of a group goes to no desk. In two rounds each node has the other's row and its acknowledgement; in the third
+// come those that were sent again, and from then on a round is a tick of each node.
 #[test]
 fn a_group_goes_to_no_desk(rt: HostRuntime) -> Result<(), Fail> {
     let alloc = rt.alloc();
@@ -150,7 +147,11 @@ fn a_group_goes_to_no_desk(rt: HostRuntime) -> Result<(), Fail> {
     fleet.post(&Command::Fail {
         group: Group::Link(LINK),
     })?;
-    assert!(rt; waits(&fleet, 0, 0));
+    assert!(rt; waits(&fleet, 0, 0, 2));
+    assert!(rt; fleet.round() == Ok(3));
+    assert!(rt; fleet.round() == Ok(6));
+    assert!(rt; waits(&fleet, 0, 0, 0));
+    assert!(rt; fleet.round() == Ok(5));
     assert!(rt; fleet.round() == Ok(2));
     Ok(())
 }

@@ -52,21 +52,25 @@ enum Act {
     // The call of this number is asked for at a.
     SetUp(u16),
     // a ticks.
-    Tick,
+    TickA,
+    // b ticks.
+    TickB,
     // a takes this frame of b.
     ToA(u64),
     // b takes this frame of a.
     ToB(u64),
 }
 
-// Three Paths leave. The first is lost, and all go again at the tick. Numbers 1, 1, 3, 2, 3 come to b, which takes 1, knows 1
-// again, leaves 3, and takes 2 and 3. Its frames are acknowledgements and Resvs by turns, but that frame 3 acknowledges
-// number 1 again. At a the second Resv comes before the first, and the first comes twice.
+// Three Paths leave. The first is lost, and all go again at the tick, before the row of the link. Numbers 1, 1, 3, 2, 3 come to
+// b, which takes 1, knows 1 again, leaves 3, and takes 2 and 3. Its frames are acknowledgements and Resvs by turns, but that
+// frame 3 acknowledges number 1 again. At a the second Resv comes before the first, and the first comes twice. Then b takes a's
+// row, and a the one that b sends at its tick, behind the third Resv, which isn't acknowledged yet. The last acknowledgement is
+// that Resv's.
 const ACTS: &[Act] = &[
     Act::SetUp(0),
     Act::SetUp(1),
     Act::SetUp(2),
-    Act::Tick,
+    Act::TickA,
     Act::ToB(4),
     Act::ToB(4),
     Act::ToB(3),
@@ -81,9 +85,14 @@ const ACTS: &[Act] = &[
     Act::ToA(3),
     Act::ToA(4),
     Act::ToA(6),
-    Act::ToB(7),
-    Act::ToB(9),
+    Act::ToB(8),
     Act::ToB(10),
+    Act::ToB(7),
+    Act::ToA(8),
+    Act::TickB,
+    Act::ToA(10),
+    Act::ToB(12),
+    Act::ToB(11),
 ];
 
 // In a replay
@@ -95,7 +104,8 @@ fn add_events(alloc: Global, events: &mut Vec<Event>, act: Act) -> Result<(), Fa
             events.push(Event::Post { command })?;
             events.push(Event::Desk { node: A })?;
         }
-        Act::Tick => events.push(Event::Tick { node: A })?,
+        Act::TickA => events.push(Event::Tick { node: A })?,
+        Act::TickB => events.push(Event::Tick { node: B })?,
         Act::ToA(number) => events.push(Event::Deliver {
             to: A,
             from: B,
@@ -188,7 +198,8 @@ fn carry_out(alloc: Global, driven: &mut Driven, act: Act) -> Result<(), Fail> {
     } = driven;
     match act {
         Act::SetUp(call) => keep(from_a, set_up(alloc, a, call)?),
-        Act::Tick => keep(from_a, give(a, &CoreInput::Tick)?),
+        Act::TickA => keep(from_a, give(a, &CoreInput::Tick)?),
+        Act::TickB => keep(from_b, give(b, &CoreInput::Tick)?),
         Act::ToA(number) => keep(from_a, take(alloc, a, B, from_b, number)?),
         Act::ToB(number) => keep(from_b, take(alloc, b, A, from_a, number)?),
     }
@@ -247,7 +258,7 @@ fn a_replay_is_what_its_controllers_do(rt: HostRuntime) -> Result<(), Fail> {
 #[test]
 fn a_world_waits_for_the_last_acknowledgement(rt: HostRuntime) -> Result<(), Fail> {
     let alloc = rt.alloc();
-    let world = replayed(alloc, &ACTS[..20])?;
+    let world = replayed(alloc, &ACTS[..25])?;
     assert!(rt; are_live(&world.rows(alloc)?));
     assert!(rt; !world.quiet());
     Ok(())
@@ -269,7 +280,15 @@ fn bytes(alloc: Global, bytes: &[u8]) -> Result<Bytes, Fail> {
     Ok(Bytes::from_vec(Vec::from_slice(alloc, bytes)?))
 }
 
-// Bytes that spell nothing: none, a byte alone, an unfinished message, and the first byte of a flood.
+// No message is unacknowledged, and the rows are.
+#[test]
+fn a_world_waits_for_its_rows(rt: HostRuntime) -> Result<(), Fail> {
+    let world = replayed(rt.alloc(), &[])?;
+    assert!(rt; !world.quiet());
+    Ok(())
+}
+
+// Bytes that spell nothing: none, a byte alone, an unfinished message, and an unfinished flood.
 #[test]
 fn noise_changes_nothing(rt: HostRuntime) -> Result<(), Fail> {
     let alloc = rt.alloc();
@@ -284,7 +303,6 @@ fn noise_changes_nothing(rt: HostRuntime) -> Result<(), Fail> {
         })?;
     }
     let world = replay(alloc, &t, &events)?;
-    assert!(rt; world.quiet());
     assert!(rt; world.rows(alloc)?.legs.items().is_empty());
     Ok(())
 }

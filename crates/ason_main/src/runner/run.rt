@@ -2,6 +2,7 @@
 
 ghost use Rattle.std.specs.Prelude.{◌∷◌, [], IfErr, OnOk};
 ghost use Rattle.plan_reader.specs.Plans.{ArePostable};
+ghost use Rattle.ason_main.specs.Laws.{WorldLaws};
 ghost use Rattle.ason_main.specs.Outputs.{settling_script};
 ghost use Rattle.ason_main.specs.Running.{DoesAll, IsRan, StopsAll, at};
 
@@ -93,6 +94,14 @@ fn run_script<K: Sink>(
     run_lines(alloc, plan, fleet, out, &[Line::Settle(rounds), Line::Show])
 }
 
+// The laws of worlds, and of posts and rounds.
+fn every_law()
+    ensures { WorldLaws }
+{
+    every_world_run();
+    every_script();
+}
+
 /// Runs the plan: the network settles, the script is run, the network settles again, and the table comes last. What a
 /// line prints is written as soon as the line is done. The events that the lines make, one after the other, are a run
 /// of a world, and the laws of the machine hold of the mesh that it shows.
@@ -100,8 +109,9 @@ pub fn run_plan<K: Sink>(alloc: Global, plan: &Plan, out: &mut K) -> Ran
     requires { ArePostable plan.now.topology [] plan.now.lines }
     ensures { IsRan K.written K.faults plan.now out.old out.new result }
 {
-    every_world_run();
-    every_script();
+    every_law();
+    // So that it is known that the plan's network is a topology.
+    let _links = plan.topology.links();
     let mut fleet = match Fleet::new(alloc, &plan.topology) {
         Ok(fleet) => fleet,
         Err(OutOfMemory) => return Ran::OutOfMemory,

@@ -34,8 +34,8 @@ same_number a b e = let n : a.0 ≡ b.0 = ap (λ (k : LinkId). k.0) e in grind a
 abbrev stands_again : LinkSpec → List LinkSpec → Bool
 stands_again m links = list_any (λ y. nat_eq y m.id.0) (map (λ k. k.id.0) links)
 
-found-link : (links : List LinkSpec) (l : LinkSpec) → is_distinct (map (λ m. m.id.0) links) ≡ true → Contains links l →
-    find (λ m. nat_eq m.id.0 l.id.0) links ≡ Some l
+pub found-link : (links : List LinkSpec) (l : LinkSpec) → is_distinct (map (λ m. m.id.0) links) ≡ true →
+    Contains links l → find (λ m. nat_eq m.id.0 l.id.0) links ≡ Some l
 found-link [] l once there = absurd (contains-none l there)
 found-link (m ∷ links) l once there =
     go (nat_eq m.id.0 l.id.0) refl (contains-cases m l links there)

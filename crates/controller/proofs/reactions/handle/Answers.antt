@@ -1,7 +1,10 @@
-use Rattle.std.proofs.Common.{[], refl, arith}
+use Rattle.std.proofs.Common.{[], ap, refl, arith}
 use Rattle.mesh_rules.specs.Orders.{on_item}
 use Rattle.controller.specs.Adjacencies.{hop_at}
 use Rattle.controller.proofs.Counting.{frames-few}
+use Rattle.mesh_nodes.proofs.LearnsNothing.{nothing-else}
+use Rattle.node_core.specs.Nodes.{NodeView}
+use Rattle.controller.proofs.Flooding.{same-learnt}
 use Rattle.controller.proofs.Keeping.{item-sent, made-kept, made-to_neighbours}
 use Rattle.controller.proofs.Taking.{handled-made}
 use Rattle.controller.proofs.reactions.handle.Goals as goal
@@ -46,3 +49,9 @@ returns-clause-few c =
     c.new-frames.result.items c.give.new.frames.items (omega arith)
     (item-sent n.place n.state c.in_ok-item.item c.fits.ensures.place c.fits.ensures.state)
     c.new-frames.ensures.items c.in_ok-give.ensures.frames
+
+pub returns-clause-learnt : goal.returns-clause-learnt
+returns-clause-learnt c =
+    let n = c.args.node.now in
+    same-learnt n.state c.give.new.node.state (on_item n.place n.state c.in_ok-item.item)
+    (nothing-else.1 n.place n.state c.in_ok-item.item) (ap (λ (m : NodeView). m.state) c.in_ok-give.ensures.node)

@@ -5,6 +5,7 @@ use Rattle.controller.specs.Adjacencies.{hop_at}
 use Rattle.controller.specs.Controllers.{acks_to, heard_hops}
 use Rattle.controller.specs.Kept.{IsKept}
 use Rattle.controller.proofs.Counting.{acks-few, frames-few, heard-waits}
+use Rattle.controller.proofs.Flooding.{first-learns_nothing, same-learnt}
 use Rattle.controller.proofs.Keeping.{acks-near, heard-again, heard-answered, heard-sent, kept-next, made-near}
 use Rattle.controller.proofs.reactions.taken.Goals as goal
 
@@ -54,3 +55,12 @@ returns-clause-few c =
     (heard-answered n.place n.state c.args.from heard c.args.packet c.fits.ensures.place c.fits.ensures.state
     c.requires.body)
     c.new-frames.ensures.items c.in_ok-take_packet.ensures.frames
+
+pub returns-clause-learnt : goal.returns-clause-learnt
+returns-clause-learnt c =
+    let n = c.args.node.now in
+    let heard = heard_as (hop_at c.args.adjacencies.now c.args.from.0) c.args.packet in
+    same-learnt n.state c.take_packet.new.node.state
+    (on_first n.place n.state c.args.from (handed_up_of heard c.args.packet))
+    (first-learns_nothing n.place n.state c.args.from (handed_up_of heard c.args.packet))
+    c.in_ok-take_packet.ensures.becomes.state

@@ -7,7 +7,7 @@ returns c = record {
   post = posts_are_running;
   settle = settling_is_running;
   goes_on = settling_goes_on;
-  shown = λ t h is.
-      let shown = c.every_world_run.ensures.image t h.events is.run in
-      record { run = shown.run; leads = shown.leads; laws = c.every_world_run.ensures.laws t h.events is.run };
+  shown = λ t h each is.
+      let shown = c.every_world_run.ensures.image t h.events each is.run in
+      record { run = shown.run; leads = shown.leads; laws = c.every_world_run.ensures.laws t h.events each is.run };
 }

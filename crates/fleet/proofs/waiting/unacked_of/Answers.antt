@@ -16,11 +16,11 @@ loop-station-preserved c =
       sum = sum-more unacked_of xs i c.loop-station.sum c.pending.result.hop c.saturating_add-sum.result s
           c.loop-station-test.true c.loop-station.invariant.sum (is ∙ ap unacked_of c.station-item.is)
           c.saturating_add-sum.ensures;
-      few = few-more xs i s c.loop-station.invariant.few c.station-item.is
-          (subst (λ k. k ≤ 2 ^ 40) is c.pending.ensures.few) c.loop-station-test.true;
+      few = few-more unacked_of xs i s c.loop-station.invariant.few c.station-item.is
+          (subst (λ k. k ≤ 2 ^ 40) is c.pending.ensures.few_hop) c.loop-station-test.true;
     }
 
 pub returns-clause-few : goal.returns-clause-few
-returns-clause-few c = few-all c.args.stations.now c.loop-station.station-index
+returns-clause-few c = few-all unacked_of c.args.stations.now c.loop-station.station-index
     (omega (arith, c.loop-station-test.false))
     c.loop-station.invariant.few

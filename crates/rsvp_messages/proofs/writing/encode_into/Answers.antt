@@ -45,8 +45,8 @@ returns-clause-written c =
       length-append old tail,
       c.deref_mut.ensures.len,
     ))
-    ∙ put ∙ ap (λ (l : List ℕ). old ++ l) (sealed _ c.seal.new.out c.kind_of.result c.args.sender p is_tail c.seal.ensures
-    c.kind_of.ensures)
+    ∙ put ∙ ap (λ (l : List ℕ). old ++ l)
+    (sealed _ c.seal.new.out c.kind_of.result c.args.sender p is_tail c.seal.ensures c.kind_of.ensures)
 
 pub returns-clause-spelled : goal.returns-clause-spelled
 returns-clause-spelled c =

@@ -49,7 +49,8 @@ module _ (p : Plan) (valid : IsTopology p.topology) (rows : List TeRow) (same : 
       (subst (λ rs. IsPrimary rs from to a) same is) (subst (λ rs. IsBackupFound rs a.route from to b) same second)
 
   primary : (a : Found) (text : List ℕ) → IsPrimary rows from to a × HasNoBackup rows a.route from to →
-      text ≡ found_text p (primary_line a.route a.cost ++ codes "no backup\n") a.potential → text ≡ routes_text p from to
+      text ≡ found_text p (primary_line a.route a.cost ++ codes "no backup\n") a.potential →
+      text ≡ routes_text p from to
   primary a text is told = told ∙ primary_told p can_be_asked from to a
       (subst (λ rs. IsPrimary rs from to a) same is.0) (subst (λ rs. HasNoBackup rs a.route from to) same is.1)
 

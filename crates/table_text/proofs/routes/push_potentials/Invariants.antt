@@ -6,4 +6,5 @@ use Rattle.table_text.proofs.routes.push_potentials.Given as goal
 
 abbrev pub invariant-loop-node : goal.invariant-loop-node
 invariant-loop-node l =
-    Appends l.initial.text l.text (flat_map (node_line l.plan (potential_in l.potentials)) (take l.node-index l.node-items))
+    Appends l.initial.text l.text
+    (flat_map (node_line l.plan (potential_in l.potentials)) (take l.node-index l.node-items))

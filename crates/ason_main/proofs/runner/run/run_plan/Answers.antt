@@ -2,24 +2,17 @@ use Rattle.std.proofs.Common.{subst}
 use Rattle.ason_main.specs.Outputs.{script_of}
 use Rattle.ason_main.specs.Running.{CutsAll, FailsIn, StopsAll, at}
 use Rattle.ason_main.proofs.PlanRuns.{run_ended, run_failed, run_not_begun, run_stopped, run_unfinished}
-use Rattle.ason_main.proofs.ScriptRuns.{world_laws}
 use Rattle.ason_main.proofs.runner.run.run_plan.Goals as goal
 
 pub returns-in-Err : goal.returns-in-Err
 returns-in-Err g c =
     run_not_begun
-    (world_laws c.every_world_run.ensures.image c.every_world_run.ensures.laws c.every_world_run.ensures.counts
-    c.every_script.ensures.start c.every_script.ensures.post c.every_script.ensures.settle
-    c.every_script.ensures.goes_on)
-    c.args.plan.now (g.K.Sink.written c.args.out.now) c.requires
+    c.every_law.ensures c.args.plan.now (g.K.Sink.written c.args.out.now) c.links-links.ensures.valid c.requires
 
 pub returns-in-Ok-run_script : goal.returns-in-Ok-run_script
 returns-in-Ok-run_script g c =
     run_ended
-    (world_laws c.every_world_run.ensures.image c.every_world_run.ensures.laws c.every_world_run.ensures.counts
-    c.every_script.ensures.start c.every_script.ensures.post c.every_script.ensures.settle
-    c.every_script.ensures.goes_on)
-    c.args.plan.now
+    c.every_law.ensures c.args.plan.now
     (at c.in-Ok.fleet (g.K.Sink.written c.args.out.now) (g.K.Sink.faults c.args.out.now))
     (at c.run_script.new.fleet (g.K.Sink.written c.run_script.new.out) (g.K.Sink.faults c.run_script.new.out))
     c.requires c.in-Ok.ensures c.in-Ok-run_script.ensures.done
@@ -36,10 +29,7 @@ returns-in-Err-AtLimit g c =
     c.in-Err-AtLimit.field-0-is c.in-Err-AtLimit.ensures.stops) in (
       cuts.rises,
       run_stopped
-          (world_laws c.every_world_run.ensures.image c.every_world_run.ensures.laws c.every_world_run.ensures.counts
-          c.every_script.ensures.start c.every_script.ensures.post c.every_script.ensures.settle
-          c.every_script.ensures.goes_on)
-          c.args.plan.now
+          c.every_law.ensures c.args.plan.now
           (at c.in-Ok.fleet (g.K.Sink.written c.args.out.now) (g.K.Sink.faults c.args.out.now))
           (at c.run_script.new.fleet (g.K.Sink.written c.run_script.new.out) (g.K.Sink.faults c.run_script.new.out))
           c.in-Err-AtLimit.node c.requires c.in-Ok.ensures cuts,
@@ -56,10 +46,7 @@ returns-in-Err-Failed g c =
     c.in-Err-Failed.field-0-is c.in-Err-Failed.ensures.stops) in (
       fails.rose,
       run_failed
-          (world_laws c.every_world_run.ensures.image c.every_world_run.ensures.laws c.every_world_run.ensures.counts
-          c.every_script.ensures.start c.every_script.ensures.post c.every_script.ensures.settle
-          c.every_script.ensures.goes_on)
-          c.args.plan.now
+          c.every_law.ensures c.args.plan.now
           (at c.in-Ok.fleet (g.K.Sink.written c.args.out.now) (g.K.Sink.faults c.args.out.now))
           (at c.run_script.new.fleet (g.K.Sink.written c.run_script.new.out) (g.K.Sink.faults c.run_script.new.out))
           c.requires c.in-Ok.ensures fails,
@@ -68,10 +55,7 @@ returns-in-Err-Failed g c =
 pub returns : goal.returns
 returns g c =
     run_unfinished
-    (world_laws c.every_world_run.ensures.image c.every_world_run.ensures.laws c.every_world_run.ensures.counts
-    c.every_script.ensures.start c.every_script.ensures.post c.every_script.ensures.settle
-    c.every_script.ensures.goes_on)
-    c.args.plan.now
+    c.every_law.ensures c.args.plan.now
     (at c.in-Ok.fleet (g.K.Sink.written c.args.out.now) (g.K.Sink.faults c.args.out.now))
     (at c.run_script.new.fleet (g.K.Sink.written c.run_script.new.out) (g.K.Sink.faults c.run_script.new.out))
     c.requires c.in-Ok.ensures

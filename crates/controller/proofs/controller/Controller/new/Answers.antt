@@ -1,10 +1,13 @@
 use Rattle.std.proofs.Common.{sym, ap, subst}
 use Rattle.mesh_rules.specs.LocalNodes.{LocalNode}
 use Rattle.node_core.specs.Nodes.{NodeView}
-use Rattle.controller.specs.Kept.{IsKept}
+use Rattle.controller.specs.Kept.{FloodFits, IsKept}
 use Rattle.controller.proofs.controller.Controller.new.Goals as goal
 
 pub invariant_of-result : goal.invariant_of-result
-invariant_of-result c =
-    subst (λ (p : LocalNode). IsKept p c.in_ok-adjacencies.adjacencies.items 0)
-    (sym (ap (λ (n : NodeView). n.place) c.in_ok-node.ensures)) c.in_ok-adjacencies.ensures.kept
+invariant_of-result c = (
+  subst (λ (p : LocalNode). IsKept p c.in_ok-adjacencies.adjacencies.items 0)
+      (sym (ap (λ (n : NodeView). n.place) c.in_ok-node.ensures)) c.in_ok-adjacencies.ensures.kept,
+  subst (λ (n : NodeView). FloodFits n.place n.state c.in_ok-flood.flood) (sym c.in_ok-node.ensures)
+      c.in_ok-flood.ensures.fits,
+)

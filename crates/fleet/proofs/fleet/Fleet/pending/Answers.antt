@@ -2,8 +2,8 @@ use Rattle.std.proofs.Common.{◌≡◌, ◌<◌, ◌^◌, length, sym, ap, ◌�
 use Rattle.std.specs.Prelude.{sum_by}
 use Rattle.station.specs.Standing.{StationState}
 use Rattle.fleet.specs.Standing.{FleetState}
-use Rattle.fleet.specs.Waiting.{unacked_of}
-use Rattle.fleet.proofs.Sums.{AllFit, fits, items-fit, items-stand, unacked-stands}
+use Rattle.fleet.specs.Waiting.{rows_due_of, unacked_of}
+use Rattle.fleet.proofs.Sums.{AllFit, fits, items-fit, items-stand, rows-stand, unacked-stands}
 use Rattle.fleet.proofs.fleet.Fleet.pending.Goals as goal
 
 pub returns-clause-desk : goal.returns-clause-desk
@@ -25,3 +25,13 @@ returns-clause-hop c t h s =
     (fits t h f s unacked_of (subst (λ xs. AllFit unacked_of xs) same c.unacked_of.ensures.few)))
     ∙ ap (sum_by unacked_of) same
     ∙ unacked-stands t h f s
+
+pub returns-clause-flood : goal.returns-clause-flood
+returns-clause-flood c t h s =
+    let f = c.args.self.now in
+    let same : c.deref-3.result.now ≡ f.stations = c.deref-3.ensures.value
+    ∙ ap (λ (x : FleetState). x.stations) c.self.view_is in
+    c.rows_due_of.ensures.sum (subst (λ xs. sum_by rows_due_of xs < 2 ^ 64) (sym same)
+    (fits t h f s rows_due_of (subst (λ xs. AllFit rows_due_of xs) same c.rows_due_of.ensures.few)))
+    ∙ ap (sum_by rows_due_of) same
+    ∙ rows-stand t h f s

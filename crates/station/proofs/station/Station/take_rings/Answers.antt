@@ -19,8 +19,8 @@ loop-place-preserved c =
     record {
       within = omega arith;
       grows = omega (arith, c.take_ring.ensures.grows, c.loop-place.invariant.grows);
-      rings = twice c.args.self.now.links c.loop-place.self.links c.take_ring.new.self.links c.loop-place.invariant.rings
-          c.take_ring.ensures.rings;
+      rings = twice c.args.self.now.links c.loop-place.self.links c.take_ring.new.self.links
+          c.loop-place.invariant.rings c.take_ring.ensures.rings;
       on = λ t h n there stands.
           fold-next (λ g. Stands t g n there c.take_ring.new.self)
           (ring_done t n) h peers c.loop-place.place c.peer-from.result at

@@ -13,8 +13,6 @@ const A: NodeId = NodeId(1);
 
 const B: NodeId = NodeId(2);
 
-const DONE: Pending = Pending { hop: 0, flood: 0 };
-
 // Two nodes that convert, and one link of two labels.
 fn two_nodes(alloc: Global) -> Result<Topology, Fail> {
     let node = |id: NodeId| NodeSpec { id, convert: true };
@@ -30,7 +28,7 @@ fn two_nodes(alloc: Global) -> Result<Topology, Fail> {
     Ok(t.ok_or("no topology")?)
 }
 
-fn controller(alloc: Global, t: &Topology, id: NodeId) -> Result<Controller, Fail> {
+pub(crate) fn controller(alloc: Global, t: &Topology, id: NodeId) -> Result<Controller, Fail> {
     match t.node(id) {
         Some(_) => Ok(Controller::new(alloc, t, id)?),
         None => Ok(None.ok_or("no such node")?),
@@ -60,7 +58,7 @@ fn set_up(alloc: Global, a: &mut Controller, call: u16) -> Result<Frames, Fail> 
     }
 }
 
-fn tick(c: &mut Controller) -> Result<Frames, Fail> {
+pub(crate) fn tick(c: &mut Controller) -> Result<Frames, Fail> {
     if c.steps() < MOST_STEPS {
         Ok(c.step(&CoreInput::Tick)?)
     } else {
@@ -102,7 +100,7 @@ fn take(
     take_bytes(c, from, bytes)
 }
 
-fn take_bytes(c: &mut Controller, from: NodeId, bytes: Bytes) -> Result<Frames, Fail> {
+pub(crate) fn take_bytes(c: &mut Controller, from: NodeId, bytes: Bytes) -> Result<Frames, Fail> {
     if c.steps() < MOST_STEPS && c.has_neighbour(from) {
         Ok(c.step(&CoreInput::Frame { from, bytes })?)
     } else {
@@ -143,9 +141,9 @@ fn sent_each(driven: &Driven, counts: &[usize]) -> bool {
     sent.eq(counts.iter().copied())
 }
 
-// Nothing waits for an acknowledgement.
+// No message waits for an acknowledgement.
 fn is_done(driven: &Driven) -> bool {
-    driven.a.pending() == DONE && driven.b.pending() == DONE
+    driven.a.pending().hop == 0 && driven.b.pending().hop == 0
 }
 
 // The legs are Live, and come in and go out on these labels.
@@ -158,7 +156,8 @@ fn are_live(rows: &TableRows, labels_in: &[Option<Label>], labels_out: &[Option<
         && leave.eq(labels_out.iter().copied())
 }
 
-// The first Path is lost and goes again at the tick; it comes twice; the Resv overtakes the acknowledgement.
+// The first Path is lost and goes again at the tick, before the row of the link; it comes twice; the Resv overtakes the
+// acknowledgement.
 const LOST: &[Act] = &[
     Act::SetUp(0),
     Act::Tick,
@@ -173,7 +172,7 @@ const LOST: &[Act] = &[
 fn a_path_that_is_lost_goes_again(rt: HostRuntime) -> Result<(), Fail> {
     let alloc = rt.alloc();
     let driven = drive(alloc, LOST)?;
-    assert!(rt; sent_each(&driven, &[1, 1, 2, 1, 1, 0, 0]));
+    assert!(rt; sent_each(&driven, &[1, 2, 2, 1, 1, 0, 0]));
     assert!(rt; is_done(&driven));
     let rows = driven.a.rows(alloc)?;
     assert!(rt; are_live(&rows, &[None], &[Label::new(1)]));
@@ -212,7 +211,44 @@ fn a_newer_frame_waits_for_the_older(rt: HostRuntime) -> Result<(), Fail> {
     Ok(())
 }
 
-// Bytes that spell nothing: none, a byte alone, an unfinished message, and the first byte of a flood.
+// Whether just so many frames are sent by these acts.
+fn sends(alloc: Global, acts: &[Act], counts: &[usize]) -> Result<bool, Fail> {
+    let driven = drive(alloc, acts)?;
+    Ok(sent_each(&driven, counts))
+}
+
+// How many rows of a aren't acknowledged after these acts.
+fn rows_due(alloc: Global, acts: &[Act]) -> Result<usize, Fail> {
+    let driven = drive(alloc, acts)?;
+    Ok(driven.a.pending().flood)
+}
+
+// The row of its link is due to a neighbour from the start, goes first at the first tick, and is due until it is
+// acknowledged.
+const SENT: &[Act] = &[Act::Tick, Act::ToB(0, 0)];
+
+const ACKNOWLEDGED: &[Act] = &[Act::Tick, Act::ToB(0, 0), Act::ToA(1, 0), Act::Tick];
+
+#[test]
+fn a_row_is_due_until_it_is_acknowledged(rt: HostRuntime) -> Result<(), Fail> {
+    let alloc = rt.alloc();
+    assert_eq!(rt; rows_due(alloc, &[])?, 1);
+    assert_eq!(rt; rows_due(alloc, SENT)?, 1);
+    assert_eq!(rt; rows_due(alloc, ACKNOWLEDGED)?, 0);
+    assert!(rt; sends(alloc, SENT, &[1, 1])?);
+    assert!(rt; sends(alloc, ACKNOWLEDGED, &[1, 1, 0, 0])?);
+    Ok(())
+}
+
+// A row that isn't acknowledged goes again 1, 3 and 7 ticks after its first sending.
+#[test]
+fn a_row_that_is_lost_goes_again(rt: HostRuntime) -> Result<(), Fail> {
+    let alloc = rt.alloc();
+    assert!(rt; sends(alloc, &[Act::Tick; 9], &[1, 1, 0, 1, 0, 0, 0, 1, 0])?);
+    Ok(())
+}
+
+// Bytes that spell nothing: none, a byte alone, an unfinished message, and an unfinished flood.
 #[test]
 fn noise_is_not_answered(rt: HostRuntime) -> Result<(), Fail> {
     let alloc = rt.alloc();
@@ -222,6 +258,6 @@ fn noise_is_not_answered(rt: HostRuntime) -> Result<(), Fail> {
         let bytes = Bytes::from_vec(Vec::from_slice(alloc, noise)?);
         assert!(rt; take_bytes(&mut b, A, bytes)?.items().is_empty());
     }
-    assert_eq!(rt; (b.steps(), b.pending()), (4, DONE));
+    assert_eq!(rt; (b.steps(), b.pending()), (4, Pending { hop: 0, flood: 1 }));
     Ok(())
 }

@@ -1,0 +1,13 @@
+use Rattle.ason_main.proofs.runner.run.every_law.Goals as goal
+
+pub returns : goal.returns
+returns c = record {
+  topology = c.every_world_run.ensures.topology;
+  shown = c.every_world_run.ensures.image;
+  laws = c.every_world_run.ensures.laws;
+  counts = c.every_world_run.ensures.counts;
+  begin = c.every_script.ensures.start;
+  post = c.every_script.ensures.post;
+  settle = c.every_script.ensures.settle;
+  goes_on = c.every_script.ensures.goes_on;
+}

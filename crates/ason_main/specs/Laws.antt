@@ -1,0 +1,14 @@
+-- The laws on which a run rests.
+use Rattle.world_core.specs.Laws.{EventsAreCounted, EveryImageHasTheLaws, EveryRunIsShown, TopologiesFindEach}
+use Rattle.fleet.specs.Laws.{PostsAreRunning, SettlingGoesOn, SettlingIsRunning, TheStartIsRunning}
+
+-- the laws of worlds, and of posts and rounds
+pub record WorldLaws : Type 0 where
+  pub topology : TopologiesFindEach
+  pub shown : EveryRunIsShown
+  pub laws : EveryImageHasTheLaws
+  pub counts : EventsAreCounted
+  pub begin : TheStartIsRunning
+  pub post : PostsAreRunning
+  pub settle : SettlingIsRunning
+  pub goes_on : SettlingGoesOn

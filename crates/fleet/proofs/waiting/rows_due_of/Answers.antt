@@ -1,0 +1,26 @@
+use Rattle.std.proofs.Common.{◌≡◌, ◌≤◌, ◌^◌, ap, ◌∙◌, subst, arith}
+use Rattle.controller.specs.Controllers.{ControllerState}
+use Rattle.flood.specs.State.{pending_count}
+use Rattle.fleet.specs.Waiting.{rows_due_of}
+use Rattle.fleet.proofs.Sums.{few-all, few-more, sum-more}
+use Rattle.fleet.proofs.waiting.rows_due_of.Goals as goal
+
+pub loop-station-preserved : goal.loop-station-preserved
+loop-station-preserved c =
+    let xs = c.args.stations.now in
+    let i = c.loop-station.station-index in
+    let s = c.station-item.result in
+    let is : c.pending.result.flood ≡ rows_due_of s = c.pending.ensures.flood
+    ∙ ap (λ (x : ControllerState). pending_count x.flood) c.controller.ensures in
+    record {
+      sum = sum-more rows_due_of xs i c.loop-station.sum c.pending.result.flood c.saturating_add-sum.result s
+          c.loop-station-test.true c.loop-station.invariant.sum (is ∙ ap rows_due_of c.station-item.is)
+          c.saturating_add-sum.ensures;
+      few = few-more rows_due_of xs i s c.loop-station.invariant.few c.station-item.is
+          (subst (λ k. k ≤ 2 ^ 40) is c.pending.ensures.few_flood) c.loop-station-test.true;
+    }
+
+pub returns-clause-few : goal.returns-clause-few
+returns-clause-few c = few-all rows_due_of c.args.stations.now c.loop-station.station-index
+    (omega (arith, c.loop-station-test.false))
+    c.loop-station.invariant.few

@@ -1,0 +1,11 @@
+use Rattle.std.proofs.Common.{◌≡◌, ◌≤◌, ◌<◌, ◌^◌, ℕ, take}
+use Rattle.std.specs.Prelude.{Some, slice_get, sum_by}
+use Rattle.station.specs.Standing.{StationState}
+use Rattle.fleet.specs.Waiting.{rows_due_of}
+use Rattle.fleet.proofs.waiting.rows_due_of.Given as goal
+
+abbrev pub invariant-loop-station : goal.invariant-loop-station
+invariant-loop-station l = record {
+  sum : sum_by rows_due_of l.stations < 2 ^ 64 → l.sum ≡ sum_by rows_due_of (take l.station-index l.stations);
+  few : (k : ℕ) (x : StationState) → k < l.station-index → slice_get l.stations k ≡ Some x → rows_due_of x ≤ 2 ^ 40;
+}

@@ -1,0 +1,107 @@
+//! Frames on a control channel: one byte, which tells what follows, and a body.
+
+ghost use Rattle.std.specs.Prelude.{◌≡◌, ◌∷◌, ◌++◌, OnOk};
+ghost use Rattle.wire_buf.specs.Codecs.{Decodes};
+ghost use Rattle.rsvp_messages.specs.Writable.{IsWritable};
+ghost use Rattle.rsvp_messages.specs.Written.{written};
+ghost use Rattle.flood.specs.Frames.{CanBeWritten, IsFrame, frame_bytes};
+ghost use Rattle.flood.specs.declared.frames.Content.{Content};
+ghost use Rattle.flood.specs.Messages as floods;
+ghost use Rattle.flood.specs.Messages.{flood_bytes};
+
+use crate::messages::{FloodMsg, decode_flood, encode_flood};
+use ason_base::{DecodeError, NodeId, OutOfMemory, Packet};
+use rsvp_messages::{decode, encode_into, room_for};
+use std::alloc::Global;
+
+/// The first byte of a frame that bears an RSVP message: RSVP's number among the protocols over IP.
+pub const RSVP: u8 = 46;
+
+/// The first byte of a frame that bears a flood message: OSPF's number among the protocols over IP.
+pub const FLOOD: u8 = 89;
+
+/// What one frame bears.
+#[derive(Debug, Drop)]
+pub enum Content {
+    /// A packet of a hop: an RSVP message with its number, or acknowledgements alone.
+    Message(Packet),
+    /// A row of a link, or its acknowledgement.
+    Flood(FloodMsg),
+}
+
+// The packet that the body of a frame spells.
+fn read_message(alloc: Global, body: &[u8]) -> Result<Content, DecodeError>
+    ensures { Decodes (IsFrame (46 ∷ body.now)) result }
+{
+    match decode(alloc, body) {
+        Ok(packet) => Ok(Content::Message(packet)),
+        Err(error) => Err(error),
+    }
+}
+
+// The flood message that the body of a frame spells.
+fn read_flood(alloc: Global, body: &[u8]) -> Result<Content, DecodeError>
+    ensures { Decodes (IsFrame (89 ∷ body.now)) result }
+{
+    match decode_flood(alloc, body) {
+        Ok(m) => Ok(Content::Flood(m)),
+        Err(error) => Err(error),
+    }
+}
+
+/// What the bytes of a frame spell.
+pub fn read_frame(alloc: Global, bytes: &[u8]) -> Result<Content, DecodeError>
+    ensures { Decodes (IsFrame bytes.now) result }
+{
+    let Some((first, body)) = bytes.split_first() else {
+        return Err(DecodeError::NotMessage);
+    };
+    if *first == RSVP {
+        read_message(alloc, body)
+    } else if *first == FLOOD {
+        read_flood(alloc, body)
+    } else {
+        Err(DecodeError::NotMessage)
+    }
+}
+
+// Appends the frame of a packet.
+fn write_message(out: &mut Vec<u8>, me: NodeId, p: &Packet) -> Result<(), OutOfMemory>
+    requires { IsWritable p.now }
+    ensures written { OnOk result (out.new.items ≡ out.old.items ++ 46 ∷ written me p.now) }
+    ensures spelled { OnOk result (IsFrame (46 ∷ written me p.now) (Content.Message p.now)) }
+{
+    out.reserve(1 + room_for(p))?;
+    out.push(RSVP)?;
+    encode_into(out, me, p)
+}
+
+// Appends the frame of a flood message.
+fn write_flood(alloc: Global, out: &mut Vec<u8>, m: &FloodMsg) -> Result<(), OutOfMemory>
+    requires { floods.CanBeWritten m.now }
+    ensures written { OnOk result (out.new.items ≡ out.old.items ++ 89 ∷ flood_bytes m.now) }
+    ensures spelled { OnOk result (IsFrame (89 ∷ flood_bytes m.now) (Content.Flood m.now)) }
+{
+    let body = encode_flood(alloc, m)?;
+    out.push(FLOOD)?;
+    out.extend_from_slice(&body)?;
+    Ok(())
+}
+
+/// Appends the frame that a node sends. After want of memory there may be a part of it.
+pub fn write_frame(
+    alloc: Global,
+    out: &mut Vec<u8>,
+    me: NodeId,
+    content: &Content,
+) -> Result<(), OutOfMemory>
+    requires { CanBeWritten content.now }
+    ensures written { OnOk result (out.new.items ≡ out.old.items ++ frame_bytes me content.now) }
+    // What is written is read as the same again.
+    ensures spelled { OnOk result (IsFrame (frame_bytes me content.now) content.now) }
+{
+    match content {
+        Content::Message(p) => write_message(out, me, p),
+        Content::Flood(m) => write_flood(alloc, out, m),
+    }
+}

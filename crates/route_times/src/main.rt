@@ -1,0 +1,166 @@
+//! Searches the route pairs of all two nodes of a network, for who takes the time. The network is read, a line
+//! `LINK LOW HIGH METRIC SRLG` for each link in order of number; nodes are 1 to 64. The first word is how often all pairs are
+//! searched before the last time; with `each` as the second word a network is prepared for each pair, else one for all. Printed
+//! are the number of pairs and the sum of the costs of their primary routes.
+#![tactic(auto)]
+
+ghost use Rattle.ason_base.specs.Walks.{HaveDistinctLinks, HaveFewEnds, HaveMetrics};
+ghost use Rattle.route_least.specs.Network.{IsNetworkOf};
+
+mod graph;
+
+use ason_base::{NodeId, OutOfMemory, TeRow};
+use route_least::RouteNetwork;
+use route_pair::{PairFault, pair_in};
+use std::alloc::Global;
+use std::{env, io};
+
+/// What the words ask for.
+#[derive(Clone, Copy, Debug, Drop)]
+struct Request {
+    times: u32,
+    each: bool,
+}
+
+fn request_of(words: &[String]) -> Request {
+    Request {
+        times: words
+            .first()
+            .and_then(|word| word.parse::<u32>().ok())
+            .unwrap_or(0),
+        each: words.get(1).is_some_and(|word| word.as_str() == "each"),
+    }
+}
+
+// Each two nodes of 1 to the last.
+fn pairs_to(alloc: Global, last: u32) -> Result<Vec<(NodeId, NodeId)>, OutOfMemory> {
+    let mut pairs = Vec::new(alloc);
+    for from in 1..=last {
+        push_from(&mut pairs, from, last)?;
+    }
+    Ok(pairs)
+}
+
+fn push_from(pairs: &mut Vec<(NodeId, NodeId)>, from: u32, last: u32) -> Result<(), OutOfMemory> {
+    for to in 1..=last {
+        if from != to {
+            pairs.push((NodeId(from), NodeId(to)))?;
+        }
+    }
+    Ok(())
+}
+
+// The cost of the primary route, or 0 where there is none. Its backup is searched too.
+fn cost_in(
+    alloc: Global,
+    network: &RouteNetwork,
+    rows: &[TeRow],
+    pair: (NodeId, NodeId),
+) -> Result<u32, OutOfMemory>
+    requires { IsNetworkOf rows.now network.now }
+{
+    match pair_in(alloc, network, rows, pair.0, pair.1) {
+        Ok(found) => Ok(found.primary.cost),
+        Err(PairFault::NoBackup(primary)) => Ok(primary.cost),
+        Err(PairFault::NoPrimary(_)) => Ok(0),
+        Err(PairFault::OutOfMemory) => Err(OutOfMemory),
+    }
+}
+
+fn sum_in_one(alloc: Global, rows: &[TeRow], pairs: &[(NodeId, NodeId)]) -> Result<u64, OutOfMemory>
+    requires ends { HaveFewEnds rows.now }
+    requires metrics { HaveMetrics rows.now }
+    requires links { HaveDistinctLinks rows.now }
+{
+    let network = RouteNetwork::new(alloc, rows)?;
+    let mut sum: u64 = 0;
+    for pair in pairs {
+        let cost = cost_in(alloc, &network, rows, *pair)?;
+        sum = sum.wrapping_add(u64::from(cost));
+    }
+    Ok(sum)
+}
+
+fn sum_in_each(
+    alloc: Global,
+    rows: &[TeRow],
+    pairs: &[(NodeId, NodeId)],
+) -> Result<u64, OutOfMemory>
+    requires ends { HaveFewEnds rows.now }
+    requires metrics { HaveMetrics rows.now }
+    requires links { HaveDistinctLinks rows.now }
+{
+    let mut sum: u64 = 0;
+    for pair in pairs {
+        let network = RouteNetwork::new(alloc, rows)?;
+        let cost = cost_in(alloc, &network, rows, *pair)?;
+        sum = sum.wrapping_add(u64::from(cost));
+    }
+    Ok(sum)
+}
+
+fn search_all(
+    alloc: Global,
+    rows: &[TeRow],
+    pairs: &[(NodeId, NodeId)],
+    each: bool,
+) -> Result<u64, OutOfMemory>
+    requires ends { HaveFewEnds rows.now }
+    requires metrics { HaveMetrics rows.now }
+    requires links { HaveDistinctLinks rows.now }
+{
+    if each {
+        sum_in_each(alloc, rows, pairs)
+    } else {
+        sum_in_one(alloc, rows, pairs)
+    }
+}
+
+fn search_often(
+    alloc: Global,
+    rows: &[TeRow],
+    pairs: &[(NodeId, NodeId)],
+    request: Request,
+) -> Result<u64, OutOfMemory>
+    requires ends { HaveFewEnds rows.now }
+    requires metrics { HaveMetrics rows.now }
+    requires links { HaveDistinctLinks rows.now }
+{
+    for _ in 0..request.times {
+        let _ = search_all(alloc, rows, pairs, request.each)?;
+    }
+    search_all(alloc, rows, pairs, request.each)
+}
+
+fn search_network(
+    rt: &HostRuntime,
+    alloc: Global,
+    rows: &[TeRow],
+    request: Request,
+) -> io::Result<()> {
+    if !graph::is_graph(rows) {
+        return println!(rt; "not a network");
+    }
+    let last = rows.iter().map(|row| row.high.0).max().unwrap_or(0);
+    let Ok(pairs) = pairs_to(alloc, last) else {
+        return println!(rt; "out of memory");
+    };
+    let count = pairs.len();
+    match search_often(alloc, rows, &pairs, request) {
+        Ok(sum) => println!(rt; "pairs {count} cost {sum}"),
+        Err(_) => println!(rt; "out of memory"),
+    }
+}
+
+fn main(rt: HostRuntime) -> io::Result<()> {
+    let alloc = rt.alloc();
+    let words: Vec<String> = env::args(&rt)?.skip(1).collect(alloc)?;
+    let mut rows = Vec::new(alloc);
+    for line in rt.lines(alloc) {
+        match graph::row(alloc, line?.as_str()) {
+            None => return println!(rt; "not a link"),
+            Some(row) => rows.push(row)?,
+        }
+    }
+    search_network(&rt, alloc, &rows, request_of(&words))
+}
