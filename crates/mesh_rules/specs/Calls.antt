@@ -1,9 +1,9 @@
 -- The calls of one ingress, in order of number.
-use Rattle.std.specs.Prelude.{◌==◌, nat_lt, nat_le, Bool, true, false, not, List, [], ◌∷◌, find, filter, Option, Some, None, if◌then◌else◌}
+use Rattle.std.specs.Prelude.{◌==◌, ◌||◌, nat_lt, nat_le, Bool, true, false, not, List, [], ◌∷◌, find, filter, Option, Some, None, if◌then◌else◌}
 use Rattle.ason_base.specs.declared.ids.CallNo.{CallNo}
 use Rattle.ason_base.specs.declared.ids.Lsp.{Lsp}
 use Rattle.ason_base.specs.declared.calls.CallState.{CallState}
-use Rattle.ason_base.specs.declared.calls.CallState.TheVariants.{Asking, Bare, Blocked}
+use Rattle.ason_base.specs.declared.calls.CallState.TheVariants.{Asking, Bare, Blocked, Guarded, Pairing}
 use Rattle.ason_base.specs.declared.calls.Cause.{Cause}
 use Rattle.ason_base.specs.declared.calls.Cause.TheVariants.{Unset}
 use Rattle.ason_base.specs.declared.tables.CallRec.{CallRec}
@@ -14,9 +14,13 @@ use Rattle.mesh_rules.specs.declared.changes.CallChange.TheVariants.{Goes, Put}
 abbrev pub find_call : CallNo → List CallRec → Option CallRec
 find_call n calls = find (λ c. c.call.0 == n.0) calls
 
--- the call whose working LSP this is
-abbrev pub call_of : Lsp → List CallRec → Option CallRec
-call_of l calls = find (λ c. is_lsp c.work l) calls
+-- the call has this LSP, as its working or as its backup LSP
+abbrev pub names : Lsp → CallRec → Bool
+names l c = is_lsp c.work l || is_lsp c.back l
+
+-- the call that has this LSP
+abbrev pub call_with : Lsp → List CallRec → Option CallRec
+call_with l calls = find (names l) calls
 
 abbrev pub without_call : CallNo → List CallRec → List CallRec
 without_call n calls = filter (λ c. not (c.call.0 == n.0)) calls
@@ -45,13 +49,36 @@ abbrev pub calls_changed : List CallChange → List CallRec → List CallRec
 calls_changed [] calls = calls
 calls_changed (c ∷ cs) calls = calls_changed cs (call_changed c calls)
 
+-- States
+
 abbrev pub is_asking : CallState → Bool
 is_asking Asking = true
 is_asking _ = false
+
+abbrev pub is_bare : CallState → Bool
+is_bare Bare = true
+is_bare _ = false
+
+abbrev pub is_pairing : CallState → Bool
+is_pairing Pairing = true
+is_pairing _ = false
 
 -- a call whose working LSP is gone
 abbrev pub blocked : CallRec → Cause → CallRec
 blocked c cause = record c { state = Blocked; work = None; work_reports = []; cause = cause; ticks = 0 }
 
+-- a call whose working LSP stands, without a backup
 abbrev pub bare : CallRec → CallRec
 bare c = record c { state = Bare; cause = Unset; ticks = 0 }
+
+-- a call that got no backup, for this cause
+abbrev pub unbacked : CallRec → Cause → CallRec
+unbacked c cause = record c { state = Bare; back = None; back_reports = []; cause = cause; ticks = 0 }
+
+-- a call whose backup is asked for
+abbrev pub pairing : CallRec → Lsp → CallRec
+pairing c l = record c { state = Pairing; back = Some l; back_reports = []; cause = Unset; ticks = 0 }
+
+-- a call whose backup is reserved
+abbrev pub guarded : CallRec → CallRec
+guarded c = record c { state = Guarded; cause = Unset; ticks = 0 }

@@ -1,5 +1,5 @@
 -- Which commands are valid for a topology.
-use Rattle.std.specs.Prelude.{◌==◌, ◌&&◌, nat_le, Bool, true, false, not, List, map, Option, Some, None}
+use Rattle.std.specs.Prelude.{◌==◌, ◌&&◌, ◌||◌, nat_le, Bool, true, false, not, List, map, Option, Some, None}
 use Rattle.std.specs.List.{list_all, list_any}
 use Rattle.ason_base.specs.declared.ids.NodeId.{NodeId}
 use Rattle.ason_base.specs.declared.ids.CallNo.{CallNo}
@@ -26,9 +26,11 @@ abbrev pub has_way : Network → NodeId → NodeId → Option (List Step) → Bo
 has_way t from to None = is_searchable t
 has_way t from to (Some route) = makes_route t from to route
 
-abbrev pub is_given_backup : Network → NodeId → NodeId → Bool → Option (List Step) → Option (List Step) → Bool
-is_given_backup t from to protected via None = true
-is_given_backup t from to protected via (Some backup) = protected && is_beside t from to via backup
+-- a backup that is given is that of a protected call and stands beside the working route; else the ingress of a protected
+-- call searches for one
+abbrev pub has_backup_way : Network → NodeId → NodeId → Bool → Option (List Step) → Option (List Step) → Bool
+has_backup_way t from to protected via None = not protected || is_searchable t
+has_backup_way t from to protected via (Some backup) = protected && is_beside t from to via backup
 
 -- Commands
 
@@ -39,9 +41,9 @@ is_group t (Srlg s) = list_any (λ l. list_any (λ r. r == s) l.srlgs) t.links
 abbrev pub is_valid : Network → Command → Bool
 is_valid t (Setup n from to protected both via backup) =
     is_node_id t.nodes from && is_node_id t.nodes to && not (from.0 == to.0)
-    && has_way t from to via && is_given_backup t from to protected via backup
+    && has_way t from to via && has_backup_way t from to protected via backup
 is_valid t (Release n from) = is_node_id t.nodes from
-is_valid t (Protect n from) = is_node_id t.nodes from
+is_valid t (Protect n from) = is_node_id t.nodes from && is_searchable t
 is_valid t (Retry n from) = is_node_id t.nodes from
 is_valid t (Revert n from) = is_node_id t.nodes from
 is_valid t (Fail g) = is_group t g

@@ -1,7 +1,9 @@
+pub mod CallSteps
 pub mod Calls
 pub mod Changes
 pub mod Commands
 pub mod Events
+pub mod FirstLegs
 pub mod KnownRows
 pub mod Learnt
 pub mod LeastRoutes
@@ -11,7 +13,9 @@ pub mod Machine
 pub mod Messages
 pub mod Orders
 pub mod PathErrs
+pub mod Pairs
 pub mod Paths
+pub mod Protects
 pub mod Quiet
 pub mod Releases
 pub mod Resvs

@@ -7,6 +7,7 @@ use Rattle.ason_base.specs.declared.commands.DeskItem.TheVariants.{Order, Alarm,
 use Rattle.mesh_rules.specs.State.{NodeState}
 use Rattle.mesh_rules.specs.Changes.{Answer, nothing}
 use Rattle.mesh_rules.specs.LocalNodes.{LocalNode}
+use Rattle.mesh_rules.specs.Protects.{on_protect}
 use Rattle.mesh_rules.specs.Setups.{on_setup}
 use Rattle.mesh_rules.specs.Releases.{on_release}
 
@@ -15,7 +16,7 @@ on_order p s (Setup n from to protected both via backup) =
     on_setup p s
     (record { call = n; from = from; egress = to; protected = protected; both = both; via = via; backup = backup })
 on_order p s (Release n from) = on_release p s n from
-on_order p s (Protect n from) = nothing
+on_order p s (Protect n from) = on_protect p s n from
 on_order p s (Retry n from) = nothing
 on_order p s (Revert n from) = nothing
 on_order p s (Fail g) = nothing

@@ -4,15 +4,13 @@ use Rattle.ason_base.specs.declared.ids.Lsp.{Lsp}
 use Rattle.ason_base.specs.declared.ids.NodeId.{NodeId}
 use Rattle.ason_base.specs.declared.codes.ErrCode.{ErrCode}
 use Rattle.ason_base.specs.declared.messages.Msg.{Msg}
-use Rattle.ason_base.specs.declared.calls.Cause.TheVariants.{Code}
-use Rattle.ason_base.specs.declared.tables.CallRec.{CallRec}
 use Rattle.ason_base.specs.declared.tables.Leg.{Leg}
-use Rattle.mesh_rules.specs.declared.changes.CallChange.TheVariants as call
 use Rattle.mesh_rules.specs.declared.neighbours.Neighbour.{Neighbour}
 use Rattle.mesh_rules.specs.State.{NodeState}
-use Rattle.mesh_rules.specs.Changes.{Answer, nothing, removes, changes_calls, followed_by, to_node}
+use Rattle.mesh_rules.specs.Changes.{Answer, nothing, removes, followed_by, to_node}
 use Rattle.mesh_rules.specs.Legs.{find_leg, is_asked, is_closing, previous, following, is_node}
-use Rattle.mesh_rules.specs.Calls.{call_of, is_asking, blocked}
+use Rattle.mesh_rules.specs.Calls.{call_with}
+use Rattle.mesh_rules.specs.CallSteps.{call_refused}
 
 -- a PathErr: its LSP, the message, whether it removes the leg, and why it came
 pub record PathFailure : Type 0 where
@@ -21,15 +19,9 @@ pub record PathFailure : Type 0 where
   pub removed : Bool
   pub code : ErrCode
 
--- a call that was asked for is refused; no other call is touched
-abbrev pub call_refused : ErrCode → Option CallRec → Answer
-call_refused code None = nothing
-call_refused code (Some c) = if is_asking c.state then changes_calls (call.Put (blocked c (Code code)) ∷ [])
-    else nothing
-
 -- at the ingress the call follows, elsewhere it is passed back unchanged
 abbrev pub refused_here : NodeState → Leg → ErrCode → Answer
-refused_here s g code = followed_by (removes g.lsp []) (call_refused code (call_of g.lsp s.calls))
+refused_here s g code = followed_by (removes g.lsp []) (call_refused code g (call_with g.lsp s.calls))
 
 abbrev pub err_passed : NodeState → Leg → PathFailure → Option Neighbour → Answer
 err_passed s g e None = refused_here s g e.code

@@ -1,28 +1,21 @@
 -- A Resv (RFC 2205, section 3.1.4; RFC 3473, section 2).
-use Rattle.std.specs.Prelude.{ℕ, ◌&&◌, Bool, true, false, not, List, [], ◌∷◌, Option, Some, None, if◌then◌else◌}
+use Rattle.std.specs.Prelude.{ℕ, ◌&&◌, Bool, true, false, List, [], ◌∷◌, Option, Some, None, if◌then◌else◌}
 use Rattle.ason_base.specs.Codes.{label_code}
 use Rattle.ason_base.specs.Labels.{has, meet, least}
 use Rattle.ason_base.specs.declared.messages.Msg.TheVariants.{Resv, PathTear, PathErr}
-use Rattle.ason_base.specs.declared.tables.CallRec.{CallRec}
 use Rattle.ason_base.specs.declared.tables.Leg.{Leg}
 use Rattle.mesh_rules.specs.declared.arrivals.Arrival.{Arrival}
-use Rattle.mesh_rules.specs.declared.changes.CallChange.TheVariants as call
 use Rattle.mesh_rules.specs.declared.neighbours.Neighbour.{Neighbour}
 use Rattle.mesh_rules.specs.State.{NodeState}
-use Rattle.mesh_rules.specs.Changes.{Answer, nothing, puts, changes_calls, followed_by, to_node}
+use Rattle.mesh_rules.specs.Changes.{Answer, nothing, puts, followed_by, to_node}
 use Rattle.mesh_rules.specs.LocalNodes.{LocalNode}
 use Rattle.mesh_rules.specs.Legs.{find_leg, is_asked, closed, connected, previous, following, is_over, usable}
-use Rattle.mesh_rules.specs.Calls.{call_of, is_asking, bare}
+use Rattle.mesh_rules.specs.Calls.{call_with}
+use Rattle.mesh_rules.specs.CallSteps.{call_answered}
 
 -- a Resv is taken by an Asked leg, from its next node, over its outgoing link, with a label of the set that was sent on
 abbrev pub is_expected : Arrival → ℕ → Leg → Bool
 is_expected a x g = is_asked g.phase && (is_over (following g) a.from a.link && has g.sent x)
-
--- a call without protection that was asked for stands; no other call is touched
-abbrev pub call_connected : Option CallRec → Answer
-call_connected None = nothing
-call_connected (Some c) = if is_asking c.state && not c.protected then changes_calls (call.Put (bare c) ∷ [])
-    else nothing
 
 -- this label, if it is one of them
 abbrev pub only : ℕ → Bool → Option ℕ
@@ -50,15 +43,15 @@ passed_back p a g h x None = torn_both_ways p a g h
 passed_back p a g h x (Some y) = label_passed g h x y
 
 -- at the ingress the call follows
-abbrev pub connected_here : NodeState → ℕ → Leg → Answer
-connected_here s x g = followed_by (puts (connected g None x) []) (call_connected (call_of g.lsp s.calls))
+abbrev pub connected_here : LocalNode → NodeState → ℕ → Leg → Answer
+connected_here p s x g = followed_by (puts (connected g None x) []) (call_answered p s g (call_with g.lsp s.calls))
 
 -- the labels that may go back: those that were offered and are usable now
 abbrev pub labels_left : LocalNode → NodeState → Leg → Neighbour → List ℕ
 labels_left p s g h = meet g.offered (usable p s.legs g.role g.risks h.fibre)
 
 abbrev pub answered : LocalNode → NodeState → Arrival → ℕ → Leg → Option Neighbour → Answer
-answered p s a x g None = connected_here s x g
+answered p s a x g None = connected_here p s x g
 answered p s a x g (Some h) = passed_back p a g h x (label_back p (labels_left p s g h) x)
 
 abbrev pub resv_with : LocalNode → NodeState → Arrival → ℕ → Option Leg → Answer

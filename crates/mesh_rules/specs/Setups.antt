@@ -1,31 +1,25 @@
 -- A setup at its ingress (ITU-T G.8080, call control). p is the node; s is what it keeps.
-use Rattle.std.specs.Prelude.{◌+◌, ◌==◌, ◌&&◌, ◌||◌, nat_lt, nat_le, Bool, true, false, not, List, [], ◌∷◌, length, drop, Option, Some, None, if◌then◌else◌}
-use Rattle.ason_base.specs.Labels.{up_to}
+use Rattle.std.specs.Prelude.{◌+◌, ◌==◌, ◌&&◌, ◌||◌, nat_lt, Bool, true, not, List, [], ◌∷◌, drop, Option, Some, None, if◌then◌else◌}
 use Rattle.ason_base.specs.declared.ids.NodeId.{NodeId}
 use Rattle.ason_base.specs.declared.ids.CallNo.{CallNo}
 use Rattle.ason_base.specs.declared.ids.Lsp.{Lsp}
 use Rattle.ason_base.specs.declared.steps.Step.{Step}
 use Rattle.ason_base.specs.declared.network.LinkSpec.{LinkSpec}
-use Rattle.ason_base.specs.declared.messages.PathRole.TheVariants as path_role
-use Rattle.ason_base.specs.declared.messages.Msg.TheVariants.{Path}
+use Rattle.ason_base.specs.declared.messages.PathRole.TheVariants.{Work}
 use Rattle.ason_base.specs.declared.calls.CallState.{CallState}
 use Rattle.ason_base.specs.declared.calls.CallState.TheVariants.{Asking, Blocked}
 use Rattle.ason_base.specs.declared.calls.Cause.{Cause}
 use Rattle.ason_base.specs.declared.calls.Cause.TheVariants.{Unset, NoRoute, Spent, Full}
-use Rattle.ason_base.specs.declared.calls.Phase.TheVariants.{Asked}
-use Rattle.ason_base.specs.declared.calls.Role.TheVariants as role
 use Rattle.ason_base.specs.declared.tables.CallRec.{CallRec}
-use Rattle.ason_base.specs.declared.tables.Leg.{Leg}
-use Rattle.mesh_rules.specs.declared.limits.TheConstants.{LAST_NUMBER, MOST_LEGS, MOST_LINKS_OF_ROUTE}
+use Rattle.mesh_rules.specs.declared.limits.TheConstants.{LAST_NUMBER}
 use Rattle.mesh_rules.specs.declared.changes.CallChange.TheVariants as call
-use Rattle.mesh_rules.specs.declared.changes.LegChange.TheVariants as leg
 use Rattle.mesh_rules.specs.State.{NodeState}
-use Rattle.mesh_rules.specs.Changes.{Answer, nothing, changes_calls, to_node}
+use Rattle.mesh_rules.specs.Changes.{Answer, nothing, changes_calls}
 use Rattle.mesh_rules.specs.Calls.{find_call}
+use Rattle.mesh_rules.specs.FirstLegs.{NewLsp, asks_for, first_link, is_full}
 use Rattle.mesh_rules.specs.KnownRows.{known_rows}
 use Rattle.mesh_rules.specs.LeastRoutes.{Trip, least_trip}
-use Rattle.ason_base.specs.Network.{other_end}
-use Rattle.mesh_rules.specs.LocalNodes.{LocalNode, own_link, is_link_there, fibre_out}
+use Rattle.mesh_rules.specs.LocalNodes.{LocalNode, is_link_there}
 
 -- what a setup asks for
 pub record SetupRequest : Type 0 where
@@ -41,7 +35,7 @@ abbrev pub call_record : SetupRequest → CallState → Option Lsp → Cause →
 call_record w state work cause = record {
   call = w.call;
   egress = w.egress;
-  protected = false;
+  protected = w.protected;
   backup = w.backup;
   state = state;
   work = work;
@@ -56,56 +50,27 @@ call_record w state work cause = record {
 abbrev pub refused_setup : SetupRequest → Cause → Answer
 refused_setup w cause = changes_calls (call.Put (call_record w Blocked None cause) ∷ [])
 
-abbrev pub first_leg : LocalNode → Lsp → NodeId → LinkSpec → List Step → Leg
-first_leg p l e out route = record {
-  lsp = l;
-  egress = e;
-  role = role.Work;
-  prev = None;
-  next = Some (other_end out p.id);
-  in_fibre = None;
-  out_fibre = Some (fibre_out out p.id);
-  offered = [];
-  sent = up_to out.labels;
-  route = route;
-  path_role = path_role.Work false;
-  risks = [];
-  phase = Asked;
-  in_label = None;
-  out_label = None;
-  back_in = None;
-  back_out = None;
-}
-
 abbrev pub next_lsp : LocalNode → NodeState → Lsp
 next_lsp p s = record { ingress = p.id; tunnel = s.tunnel; lsp = s.lsp }
 
--- a new LSP is asked for: a leg, a Path with every label of the first link, and a call that waits
+-- the working LSP that a setup asks for
+abbrev pub working_lsp : LocalNode → NodeState → SetupRequest → LinkSpec → List Step → NewLsp
+working_lsp p s w out route =
+    record { lsp = next_lsp p s; egress = w.egress; out = out; route = route; role = Work w.protected }
+
+-- it is asked for, in a tunnel of its own, and the call waits
 abbrev pub begins : LocalNode → NodeState → SetupRequest → LinkSpec → List Step → Answer
-begins p s w out route = record nothing {
-  legs = leg.Put (first_leg p (next_lsp p s) w.egress out route) ∷ [];
-  calls = call.Put (call_record w Asking (Some (next_lsp p s)) Unset) ∷ [];
-  numbers = Some (record { tunnel = s.tunnel + 1; lsp = s.lsp + 1 });
-  sent = to_node (other_end out p.id) (Path (next_lsp p s) w.egress out.id route (up_to out.labels) None
-      (path_role.Work false)) ∷ [];
-}
+begins p s w out route =
+    asks_for p s (working_lsp p s w out route) (call_record w Asking (Some (next_lsp p s)) Unset)
+    (record { tunnel = s.tunnel + 1; lsp = s.lsp + 1 })
 
 -- no number is left: a tunnel's number is never above the LSP's
 abbrev pub is_spent : NodeState → Bool
 is_spent s = nat_lt LAST_NUMBER s.lsp || nat_lt LAST_NUMBER s.tunnel
 
-abbrev pub is_full : NodeState → Bool
-is_full s = nat_le MOST_LEGS (length s.legs)
-
 abbrev pub admitted_setup : LocalNode → NodeState → SetupRequest → LinkSpec → List Step → Answer
 admitted_setup p s w out route =
     if is_spent s then refused_setup w Spent else (if is_full s then refused_setup w Full else begins p s w out route)
-
--- a given route has 1 to 63 links, and its first step names this node and a link of it
-abbrev pub first_link : LocalNode → List Step → Option LinkSpec
-first_link p [] = None
-first_link p (hop ∷ route) =
-    if hop.node.0 == p.id.0 && nat_lt (length route) MOST_LINKS_OF_ROUTE then own_link p hop.link else None
 
 -- a route that is given may be followed from here
 abbrev pub is_followable : LocalNode → Option (List Step) → Bool
@@ -125,11 +90,10 @@ abbrev pub new_call : LocalNode → NodeState → SetupRequest → Option (List 
 new_call p s w None = over_found p s w (least_trip (known_rows p s) p.id w.egress)
 new_call p s w (Some route) = over_first p s w route (first_link p route)
 
--- it comes from this ingress to another node, is neither protected nor two-way, and its backup route can be followed
--- from here
+-- it comes from this ingress to another node, isn't two-way, and its backup route can be followed from here
 abbrev pub is_order_here : LocalNode → SetupRequest → Bool
 is_order_here p w =
-    w.from.0 == p.id.0 && (not (w.egress.0 == p.id.0) && (not w.protected && (not w.both && is_followable p w.backup)))
+    w.from.0 == p.id.0 && (not (w.egress.0 == p.id.0) && (not w.both && is_followable p w.backup))
 
 -- a setup whose call number is known changes nothing, nor does one that isn't an order for this node
 abbrev pub setup_with : LocalNode → NodeState → SetupRequest → Option CallRec → Answer

@@ -1,11 +1,11 @@
 //! Which commands are valid for a topology.
 
-ghost use Rattle.std.specs.Prelude.{◌≡◌, ◌==◌};
+ghost use Rattle.std.specs.Prelude.{◌≡◌, ◌==◌, ◌&&◌};
 ghost use Rattle.std.specs.List.{list_any};
 ghost use Rattle.std.specs.Option.{option_copied};
 ghost use Rattle.ason_base.specs.Network.{is_node_id};
 ghost use Rattle.ason_base.specs.Routes.{is_beside, makes_route};
-ghost use Rattle.mesh_rules.specs.Commands.{has_way, is_again, is_given_backup, is_group, is_searchable, is_valid};
+ghost use Rattle.mesh_rules.specs.Commands.{has_way, is_again, has_backup_way, is_group, is_searchable, is_valid};
 
 use ason_base::routes::{is_beside, makes_route};
 use ason_base::{CallNo, Command, Group, LinkId, LinkSpec, NodeId, Steps, Topology};
@@ -24,7 +24,10 @@ fn has_way(t: &Topology, from: NodeId, to: NodeId, via: Option<&Steps>) -> bool
     }
 }
 
-fn is_given_backup(
+// A backup that is given is that of a protected call and stands beside the working route. Where none is given the ingress of a
+// protected call searches for one, as it can in every topology.
+#[tactic(auto, using(crate::proofs::Topologies::topology_searchable))]
+fn has_backup_way(
     t: &Topology,
     from: NodeId,
     to: NodeId,
@@ -32,8 +35,9 @@ fn is_given_backup(
     via: Option<&Steps>,
     backup: Option<&Steps>,
 ) -> bool
-    ensures { result ≡ is_given_backup t.now from to protected (option_copied via.entry) (option_copied backup.entry) }
+    ensures { result ≡ has_backup_way t.now from to protected (option_copied via.entry) (option_copied backup.entry) }
 {
+    let _links = t.links();
     match backup {
         None => true,
         Some(backup) => protected && is_beside(t, from, to, via, backup.items()),
@@ -77,6 +81,15 @@ pub fn has_group(t: &Topology, group: Group) -> bool
     }
 }
 
+// Whether the topology has the node that is to protect a call. It may search for the backup, as it can in every topology.
+#[tactic(auto, using(crate::proofs::Topologies::topology_searchable))]
+fn can_protect(t: &Topology, from: NodeId) -> bool
+    ensures { result ≡ (is_node_id t.now.nodes from && is_searchable t.now) }
+{
+    let _links = t.links();
+    has_node(t, from)
+}
+
 /// Whether the command is valid: its nodes, links and groups are of the topology, and its routes are good.
 pub fn is_valid(t: &Topology, command: &Command) -> bool
     ensures { result ≡ is_valid t.now command.now }
@@ -94,10 +107,10 @@ pub fn is_valid(t: &Topology, command: &Command) -> bool
                 && has_node(t, *to)
                 && from != to
                 && has_way(t, *from, *to, via.as_ref())
-                && is_given_backup(t, *from, *to, *protected, via.as_ref(), backup.as_ref())
+                && has_backup_way(t, *from, *to, *protected, via.as_ref(), backup.as_ref())
         }
         Command::Release { from, .. } => has_node(t, *from),
-        Command::Protect { from, .. } => has_node(t, *from),
+        Command::Protect { from, .. } => can_protect(t, *from),
         Command::Retry { from, .. } => has_node(t, *from),
         Command::Revert { from, .. } => has_node(t, *from),
         Command::Fail { group } => has_group(t, *group),

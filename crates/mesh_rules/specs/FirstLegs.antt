@@ -1,0 +1,78 @@
+-- An LSP at the node where it begins: its leg, and the Path that asks for it (RFC 2205, section 3.1.3). p is the node; s
+-- is what it keeps.
+use Rattle.std.specs.Prelude.{◌==◌, ◌&&◌, nat_lt, nat_le, Bool, List, [], ◌∷◌, length, Option, Some, None, if◌then◌else◌}
+use Rattle.ason_base.specs.Labels.{up_to}
+use Rattle.ason_base.specs.declared.ids.Lsp.{Lsp}
+use Rattle.ason_base.specs.declared.ids.NodeId.{NodeId}
+use Rattle.ason_base.specs.declared.steps.Step.{Step}
+use Rattle.ason_base.specs.declared.network.LinkSpec.{LinkSpec}
+use Rattle.ason_base.specs.declared.network.TeRow.{TeRow}
+use Rattle.ason_base.specs.declared.messages.PathRole.{PathRole}
+use Rattle.ason_base.specs.declared.messages.Msg.TheVariants.{Path}
+use Rattle.ason_base.specs.declared.calls.Phase.TheVariants.{Asked}
+use Rattle.ason_base.specs.declared.tables.CallRec.{CallRec}
+use Rattle.ason_base.specs.declared.tables.Leg.{Leg}
+use Rattle.ason_base.specs.declared.tables.Out.{Out}
+use Rattle.ason_base.specs.Network.{other_end}
+use Rattle.mesh_rules.specs.declared.limits.TheConstants.{MOST_LEGS, MOST_LINKS_OF_ROUTE}
+use Rattle.mesh_rules.specs.declared.changes.CallChange.TheVariants as call
+use Rattle.mesh_rules.specs.declared.changes.LegChange.TheVariants as leg
+use Rattle.mesh_rules.specs.declared.changes.NextNumbers.{NextNumbers}
+use Rattle.mesh_rules.specs.State.{NodeState}
+use Rattle.mesh_rules.specs.Changes.{Answer, nothing, to_node}
+use Rattle.mesh_rules.specs.KnownRows.{known_rows}
+use Rattle.mesh_rules.specs.LocalNodes.{LocalNode, own_link, fibre_out}
+use Rattle.mesh_rules.specs.Paths.{recorded, role_of}
+
+-- an LSP that is asked for: over which link it leaves, over which steps it goes on from there, and for what
+pub record NewLsp : Type 0 where
+  pub lsp : Lsp
+  pub egress : NodeId
+  pub out : LinkSpec
+  pub route : List Step
+  pub role : PathRole
+
+-- its leg here; a backup's records the risks of its primary
+abbrev pub first_leg : LocalNode → List TeRow → NewLsp → Leg
+first_leg p rows n = record {
+  lsp = n.lsp;
+  egress = n.egress;
+  role = role_of n.role;
+  prev = None;
+  next = Some (other_end n.out p.id);
+  in_fibre = None;
+  out_fibre = Some (fibre_out n.out p.id);
+  offered = [];
+  sent = up_to n.out.labels;
+  route = n.route;
+  path_role = n.role;
+  risks = recorded rows n.role;
+  phase = Asked;
+  in_label = None;
+  out_label = None;
+  back_in = None;
+  back_out = None;
+}
+
+-- a Path with every label of the first link
+abbrev pub first_path : LocalNode → NewLsp → Out
+first_path p n =
+    to_node (other_end n.out p.id) (Path n.lsp n.egress n.out.id n.route (up_to n.out.labels) None n.role)
+
+-- the LSP is asked for: a leg and a Path; its call is put in place, and these numbers are given out next
+abbrev pub asks_for : LocalNode → NodeState → NewLsp → CallRec → NextNumbers → Answer
+asks_for p s n c next = record nothing {
+  legs = leg.Put (first_leg p (known_rows p s) n) ∷ [];
+  calls = call.Put c ∷ [];
+  numbers = Some next;
+  sent = first_path p n ∷ [];
+}
+
+abbrev pub is_full : NodeState → Bool
+is_full s = nat_le MOST_LEGS (length s.legs)
+
+-- a given route has 1 to 63 links, and its first step names this node and a link of it
+abbrev pub first_link : LocalNode → List Step → Option LinkSpec
+first_link p [] = None
+first_link p (hop ∷ route) =
+    if hop.node.0 == p.id.0 && nat_lt (length route) MOST_LINKS_OF_ROUTE then own_link p hop.link else None
