@@ -1,7 +1,9 @@
 pub mod Entries
 pub mod Names
 pub mod PlanCalls
+pub mod PlanForms
 pub mod PlanScript
+pub mod PlanSetups
 pub mod PlanTables
 pub mod PlanTexts
 pub mod Plans

@@ -2,7 +2,7 @@
 
 ghost use Rattle.std.specs.Prelude.{◌≡◌};
 ghost use Rattle.plan_reader.specs.PlanTexts.{texts};
-ghost use Rattle.plan_reader.specs.PlanScript.{are_numbers_word, begins, is_backed_setup, is_channel_line, is_frame_line, is_given_setup, is_group_line, is_number_word, is_other_command, is_other_setup, is_plain_setup, is_protected_setup, is_release, is_searched_setup, is_settle, is_show, is_unbuilt, is_wait, is_word};
+ghost use Rattle.plan_reader.specs.PlanForms.{are_numbers_word, begins, form, is_backed_setup, is_channel_line, is_frame_line, is_group_line, is_number_word, is_other_command, is_protect, is_protected_setup, is_protected_via, is_release, is_settle, is_show, is_unbuilt, is_unprotected_setup, is_unprotected_via, is_wait, is_word, setup_form};
 
 use crate::words::{are_numbers, is_number, word};
 
@@ -31,9 +31,18 @@ fn are_numbers_word(words: &[&[u8]], k: usize) -> bool
     are_numbers(word(words, k))
 }
 
-/// Whether the line is `setup NAME FROM TO unprotected via L,..`.
-pub fn is_given_setup(words: &[&[u8]]) -> bool
-    ensures { result ≡ is_given_setup (texts words.now) }
+// Setups
+
+// `setup NAME FROM TO unprotected`
+fn is_unprotected_setup(words: &[&[u8]]) -> bool
+    ensures { result ≡ is_unprotected_setup (texts words.now) }
+{
+    begins(words, "setup", 5) && is_word(words, 4, "unprotected")
+}
+
+// `setup NAME FROM TO unprotected via L,..`
+fn is_unprotected_via(words: &[&[u8]]) -> bool
+    ensures { result ≡ is_unprotected_via (texts words.now) }
 {
     begins(words, "setup", 7)
         && is_word(words, 4, "unprotected")
@@ -41,18 +50,82 @@ pub fn is_given_setup(words: &[&[u8]]) -> bool
         && are_numbers_word(words, 6)
 }
 
-/// Whether the line is `setup NAME FROM TO unprotected`.
-pub fn is_searched_setup(words: &[&[u8]]) -> bool
-    ensures { result ≡ is_searched_setup (texts words.now) }
+// `setup NAME FROM TO`
+fn is_protected_setup(words: &[&[u8]]) -> bool
+    ensures { result ≡ is_protected_setup (texts words.now) }
 {
-    begins(words, "setup", 5) && is_word(words, 4, "unprotected")
+    begins(words, "setup", 4)
 }
+
+// `setup NAME FROM TO via L,..`
+fn is_protected_via(words: &[&[u8]]) -> bool
+    ensures { result ≡ is_protected_via (texts words.now) }
+{
+    begins(words, "setup", 6) && is_word(words, 4, "via") && are_numbers_word(words, 5)
+}
+
+// `setup NAME FROM TO via L,.. backup L,..`
+fn is_backed_setup(words: &[&[u8]]) -> bool
+    ensures { result ≡ is_backed_setup (texts words.now) }
+{
+    begins(words, "setup", 8)
+        && is_word(words, 4, "via")
+        && are_numbers_word(words, 5)
+        && is_word(words, 6, "backup")
+        && are_numbers_word(words, 7)
+}
+
+/// A setup: whether its call is protected, and the places of the words that give its routes, from 0, where these are given.
+#[derive(Clone, Copy)]
+pub struct SetupForm {
+    pub protected: bool,
+    pub via: Option<usize>,
+    pub backup: Option<usize>,
+}
+
+fn form(protected: bool, via: Option<usize>, backup: Option<usize>) -> SetupForm
+    ensures { result ≡ form protected via backup }
+{
+    SetupForm {
+        protected,
+        via,
+        backup,
+    }
+}
+
+/// The form of a setup; none of another line.
+pub fn setup_form(words: &[&[u8]]) -> Option<SetupForm>
+    ensures { result ≡ setup_form (texts words.now) }
+{
+    if is_unprotected_setup(words) {
+        Some(form(false, None, None))
+    } else if is_unprotected_via(words) {
+        Some(form(false, Some(6), None))
+    } else if is_protected_setup(words) {
+        Some(form(true, None, None))
+    } else if is_protected_via(words) {
+        Some(form(true, Some(5), None))
+    } else if is_backed_setup(words) {
+        Some(form(true, Some(5), Some(7)))
+    } else {
+        None
+    }
+}
+
+// Other lines
 
 /// Whether the line is `release NAME`.
 pub fn is_release(words: &[&[u8]]) -> bool
     ensures { result ≡ is_release (texts words.now) }
 {
     begins(words, "release", 2)
+}
+
+/// Whether the line is `protect NAME`.
+pub fn is_protect(words: &[&[u8]]) -> bool
+    ensures { result ≡ is_protect (texts words.now) }
+{
+    begins(words, "protect", 2)
 }
 
 /// Whether the line is `settle R`.
@@ -69,38 +142,12 @@ pub fn is_show(words: &[&[u8]]) -> bool
     begins(words, "show", 1)
 }
 
-fn is_plain_setup(words: &[&[u8]]) -> bool
-    ensures { result ≡ is_plain_setup (texts words.now) }
-{
-    begins(words, "setup", 4)
-}
-
-fn is_backed_setup(words: &[&[u8]]) -> bool
-    ensures { result ≡ is_backed_setup (texts words.now) }
-{
-    begins(words, "setup", 8)
-        && is_word(words, 4, "via")
-        && are_numbers_word(words, 5)
-        && is_word(words, 6, "backup")
-        && are_numbers_word(words, 7)
-}
-
-fn is_protected_setup(words: &[&[u8]]) -> bool
-    ensures { result ≡ is_protected_setup (texts words.now) }
-{
-    begins(words, "setup", 6) && is_word(words, 4, "via") && are_numbers_word(words, 5)
-}
-
-fn is_other_setup(words: &[&[u8]]) -> bool
-    ensures { result ≡ is_other_setup (texts words.now) }
-{
-    is_plain_setup(words) || is_protected_setup(words) || is_backed_setup(words)
-}
+// Forms that aren't built
 
 fn is_other_command(words: &[&[u8]]) -> bool
     ensures { result ≡ is_other_command (texts words.now) }
 {
-    begins(words, "protect", 2) || begins(words, "retry", 2) || begins(words, "revert", 2)
+    begins(words, "retry", 2) || begins(words, "revert", 2)
 }
 
 fn is_group_line(words: &[&[u8]]) -> bool
@@ -134,9 +181,5 @@ fn is_wait(words: &[&[u8]]) -> bool
 pub fn is_unbuilt(words: &[&[u8]]) -> bool
     ensures { result ≡ is_unbuilt (texts words.now) }
 {
-    is_other_setup(words)
-        || is_other_command(words)
-        || is_group_line(words)
-        || is_channel_line(words)
-        || is_wait(words)
+    is_other_command(words) || is_group_line(words) || is_channel_line(words) || is_wait(words)
 }

@@ -12,6 +12,9 @@ mod nodes;
 pub mod plan;
 pub mod reader;
 mod script;
+mod setups;
+#[cfg(test)]
+mod tests;
 mod top;
 mod values;
 mod words;

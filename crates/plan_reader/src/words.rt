@@ -1,10 +1,10 @@
 //! Words and numbers in texts.
 
-ghost use Rattle.std.specs.Prelude.{◌≡◌, filter_map, option_map, IsTrue, IfOk};
+ghost use Rattle.std.specs.Prelude.{◌≡◌, filter_map, IsTrue, IfOk};
 ghost use Rattle.plan_reader.specs.PlanTexts.{are_digits, are_link_ids, are_numbers, is_number, link_id, link_ids, number_up_to, parts_of, texts, value_up_to, word_at, words_of};
 
 use crate::limits::MOST_NUMBER;
-use ason_base::OutOfMemory;
+use ason_base::{Numbers, OutOfMemory};
 use std::alloc::{AllocError, Global};
 
 fn collect_words(alloc: Global, line: &[u8]) -> Result<Vec<&[u8]>, AllocError>
@@ -106,12 +106,12 @@ fn collect_ids(alloc: Global, word: &[u8]) -> Result<Vec<u32>, AllocError>
 }
 
 /// The link ids of the word, which has commas between them: none where one is out of reach.
-pub fn link_ids(alloc: Global, word: &[u8]) -> Result<Option<Vec<u32>>, OutOfMemory>
-    ensures { IfOk result (λ ids. option_map (λ v. v.items) ids ≡ link_ids word.now) }
+pub fn link_ids(alloc: Global, word: &[u8]) -> Result<Option<Numbers>, OutOfMemory>
+    ensures { IfOk result (λ ids. ids ≡ link_ids word.now) }
 {
     if !are_link_ids(word) {
         return Ok(None);
     }
     let ids = collect_ids(alloc, word)?;
-    Ok(Some(ids))
+    Ok(Some(Numbers::from_vec(ids)))
 }

@@ -1,0 +1,105 @@
+-- Which words make a line of a script.
+use Rattle.std.specs.Prelude.{ℕ, ◌==◌, ◌&&◌, ◌||◌, Bool, false, true, List, length, codes, Option, Some, None, if◌then◌else◌}
+use Rattle.plan_reader.specs.declared.forms.SetupForm.{SetupForm}
+use Rattle.plan_reader.specs.PlanTexts.{word_at, is_number, are_numbers}
+use Rattle.plan_reader.specs.Names.{same_text}
+
+abbrev pub is_word : List (List ℕ) → ℕ → List ℕ → Bool
+is_word ws k text = same_text (word_at ws k) text
+
+-- so many words, of which the first is this
+abbrev pub begins : List (List ℕ) → List ℕ → ℕ → Bool
+begins ws text n = length ws == n && is_word ws 0 text
+
+abbrev pub is_number_word : List (List ℕ) → ℕ → Bool
+is_number_word ws k = is_number (word_at ws k)
+
+-- `L,..`
+abbrev pub are_numbers_word : List (List ℕ) → ℕ → Bool
+are_numbers_word ws k = are_numbers (word_at ws k)
+
+-- Setups
+
+-- `setup NAME FROM TO unprotected`
+abbrev pub is_unprotected_setup : List (List ℕ) → Bool
+is_unprotected_setup ws = begins ws (codes "setup") 5 && is_word ws 4 (codes "unprotected")
+
+-- `setup NAME FROM TO unprotected via L,..`
+abbrev pub is_unprotected_via : List (List ℕ) → Bool
+is_unprotected_via ws =
+    begins ws (codes "setup") 7
+    && (is_word ws 4 (codes "unprotected") && (is_word ws 5 (codes "via") && are_numbers_word ws 6))
+
+-- `setup NAME FROM TO`
+abbrev pub is_protected_setup : List (List ℕ) → Bool
+is_protected_setup ws = begins ws (codes "setup") 4
+
+-- `setup NAME FROM TO via L,..`
+abbrev pub is_protected_via : List (List ℕ) → Bool
+is_protected_via ws = begins ws (codes "setup") 6 && (is_word ws 4 (codes "via") && are_numbers_word ws 5)
+
+-- `setup NAME FROM TO via L,.. backup L,..`
+abbrev pub is_backed_setup : List (List ℕ) → Bool
+is_backed_setup ws =
+    begins ws (codes "setup") 8
+    && (is_word ws 4 (codes "via")
+    && (are_numbers_word ws 5 && (is_word ws 6 (codes "backup") && are_numbers_word ws 7)))
+
+abbrev pub form : Bool → Option ℕ → Option ℕ → SetupForm
+form protected via backup = record { protected = protected; via = via; backup = backup }
+
+-- whether a setup's call is protected, and the places of the words that give its routes; none of another line
+abbrev pub setup_form : List (List ℕ) → Option SetupForm
+setup_form ws =
+    if is_unprotected_setup ws then Some (form false None None)
+    else if is_unprotected_via ws then Some (form false (Some 6) None)
+    else if is_protected_setup ws then Some (form true None None)
+    else if is_protected_via ws then Some (form true (Some 5) None)
+    else if is_backed_setup ws then Some (form true (Some 5) (Some 7))
+    else None
+
+-- Other lines
+
+-- `release NAME`
+abbrev pub is_release : List (List ℕ) → Bool
+is_release ws = begins ws (codes "release") 2
+
+-- `protect NAME`
+abbrev pub is_protect : List (List ℕ) → Bool
+is_protect ws = begins ws (codes "protect") 2
+
+-- `settle R`
+abbrev pub is_settle : List (List ℕ) → Bool
+is_settle ws = begins ws (codes "settle") 2 && is_number_word ws 1
+
+-- `show`
+abbrev pub is_show : List (List ℕ) → Bool
+is_show ws = begins ws (codes "show") 1
+
+-- Forms that a plan may have and that aren't built
+
+-- `retry NAME`, `revert NAME`
+abbrev pub is_other_command : List (List ℕ) → Bool
+is_other_command ws = begins ws (codes "retry") 2 || begins ws (codes "revert") 2
+
+-- `fail srlg N`, `fail link N`, `repair srlg N`, `repair link N`
+abbrev pub is_group_line : List (List ℕ) → Bool
+is_group_line ws =
+    (begins ws (codes "fail") 3 || begins ws (codes "repair") 3)
+    && ((is_word ws 1 (codes "srlg") || is_word ws 1 (codes "link")) && is_number_word ws 2)
+
+-- `lose A B K`, `repeat A B K`, `hold A B K`
+abbrev pub is_frame_line : List (List ℕ) → Bool
+is_frame_line ws =
+    (begins ws (codes "lose") 4 || (begins ws (codes "repeat") 4 || begins ws (codes "hold") 4)) && is_number_word ws 3
+
+-- .. and `noise A B HEX`
+abbrev pub is_channel_line : List (List ℕ) → Bool
+is_channel_line ws = is_frame_line ws || begins ws (codes "noise") 4
+
+-- `wait N`
+abbrev pub is_wait : List (List ℕ) → Bool
+is_wait ws = begins ws (codes "wait") 2 && is_number_word ws 1
+
+abbrev pub is_unbuilt : List (List ℕ) → Bool
+is_unbuilt ws = is_other_command ws || (is_group_line ws || (is_channel_line ws || is_wait ws))

@@ -1,0 +1,214 @@
+//! The setups of a script.
+
+ghost use Rattle.std.specs.Prelude.{◌≡◌, Err, IfOk, Ok};
+ghost use Rattle.std.specs.Option.{option_copied};
+ghost use Rattle.plan_reader.specs.Entries.{FailsBy, and_then};
+ghost use Rattle.plan_reader.specs.PlanCalls.{calls_with};
+ghost use Rattle.plan_reader.specs.PlanSetups.{good_routes, ids_at, in_reach, is_backed, leads, next_node, next_setup, node_at, route_ids, routes_over, setup_between, setup_of, setup_over, setup_with, steps_given, steps_over};
+ghost use Rattle.plan_reader.specs.PlanTexts.{texts};
+
+use crate::calls::Calls;
+use crate::faults::{EntryError, PlanKind};
+use crate::forms::SetupForm;
+use crate::limits::MOST_CALLS;
+use crate::names::{Name, Names, is_name};
+use crate::nodes::node_named;
+use crate::words::{link_ids, word};
+use ason_base::routes::{is_beside, makes_route};
+use ason_base::{CallNo, Command, LinkId, NodeId, Numbers, OutOfMemory, Step, Steps, Topology};
+use std::alloc::Global;
+
+// Link ids
+
+/// The link ids of a setup's routes, where these are given.
+#[derive(Drop)]
+pub struct RouteIds {
+    via: Option<Numbers>,
+    backup: Option<Numbers>,
+}
+
+// The link ids that the word at this place writes, where a place is given.
+fn ids_at(
+    alloc: Global,
+    words: &[&[u8]],
+    place: Option<usize>,
+) -> Result<Option<Numbers>, EntryError>
+    ensures ids { IfOk result (λ ids. ids_at (texts words.now) place ≡ Ok ids) }
+    ensures fault { FailsBy result (ids_at (texts words.now) place) }
+{
+    let Some(place) = place else {
+        return Ok(None);
+    };
+    match link_ids(alloc, word(words, place))? {
+        Some(ids) => Ok(Some(ids)),
+        None => Err(EntryError::Fault(PlanKind::Range)),
+    }
+}
+
+fn route_ids(alloc: Global, words: &[&[u8]], form: SetupForm) -> Result<RouteIds, EntryError>
+    ensures ids { IfOk result (λ ids. route_ids (texts words.now) form ≡ Ok ids) }
+    ensures fault { FailsBy result (route_ids (texts words.now) form) }
+{
+    let via = ids_at(alloc, words, form.via)?;
+    let backup = ids_at(alloc, words, form.backup)?;
+    Ok(RouteIds { via, backup })
+}
+
+// Routes
+
+fn next_node(t: &Topology, n: NodeId, k: u32) -> NodeId
+    ensures { result ≡ next_node t.now n k }
+{
+    match t.link(LinkId(k)) {
+        None => n,
+        Some(link) => {
+            if link.low == n {
+                link.high
+            } else if link.high == n {
+                link.low
+            } else {
+                n
+            }
+        }
+    }
+}
+
+// The steps over these links from a node.
+fn steps_over(alloc: Global, t: &Topology, from: NodeId, ids: &[u32]) -> Result<Steps, OutOfMemory>
+    ensures { IfOk result (λ s. s ≡ steps_over t.now from ids.now) }
+{
+    let mut steps = Steps::new(alloc);
+    let mut node = from;
+    'going: for i in 0..ids.len() {
+        let id = ids[i];
+        let link = LinkId(id);
+        steps.push(Step { node, link })?;
+        node = next_node(t, node, id);
+    }
+    Ok(steps)
+}
+
+// The steps over these links from a node, where links are given.
+fn steps_given(
+    alloc: Global,
+    t: &Topology,
+    from: NodeId,
+    ids: Option<&Numbers>,
+) -> Result<Option<Steps>, OutOfMemory>
+    ensures { IfOk result (λ route. route ≡ steps_given t.now from (option_copied ids.entry)) }
+{
+    match ids {
+        None => Ok(None),
+        Some(ids) => {
+            let steps = steps_over(alloc, t, from, ids.items())?;
+            Ok(Some(steps))
+        }
+    }
+}
+
+// Whether a route that is given leads from one node to the other with no node twice.
+fn leads(t: &Topology, from: NodeId, to: NodeId, route: Option<&Steps>) -> bool
+    ensures { result ≡ leads t.now from to (option_copied route.entry) }
+{
+    match route {
+        None => true,
+        Some(route) => makes_route(t, from, to, route.items()),
+    }
+}
+
+// Whether a backup route that is given stands beside the working route.
+fn is_backed(
+    t: &Topology,
+    from: NodeId,
+    to: NodeId,
+    via: Option<&Steps>,
+    backup: Option<&Steps>,
+) -> bool
+    ensures { result ≡ is_backed t.now from to (option_copied via.entry) (option_copied backup.entry) }
+{
+    match backup {
+        None => true,
+        Some(backup) => is_beside(t, from, to, via, backup.items()),
+    }
+}
+
+/// The routes of a setup, where these are given.
+#[derive(Drop)]
+pub struct Routes {
+    via: Option<Steps>,
+    backup: Option<Steps>,
+}
+
+// The routes over these links, or their first fault.
+fn routes_over(
+    alloc: Global,
+    t: &Topology,
+    from: NodeId,
+    to: NodeId,
+    ids: &RouteIds,
+) -> Result<Routes, EntryError>
+    ensures routes { IfOk result (λ r. routes_over t.now from to ids.now ≡ Ok r) }
+    ensures fault { FailsBy result (routes_over t.now from to ids.now) }
+{
+    let via = steps_given(alloc, t, from, ids.via.as_ref())?;
+    let backup = steps_given(alloc, t, from, ids.backup.as_ref())?;
+    if !leads(t, from, to, via.as_ref()) || !leads(t, from, to, backup.as_ref()) {
+        return Err(EntryError::Fault(PlanKind::Route));
+    }
+    if !is_backed(t, from, to, via.as_ref(), backup.as_ref()) {
+        return Err(EntryError::Fault(PlanKind::Backup));
+    }
+    Ok(Routes { via, backup })
+}
+
+// Setups
+
+fn node_at(t: &Topology, names: &Names, words: &[&[u8]], k: usize) -> Option<NodeId>
+    ensures { result ≡ node_at t.now names.now (texts words.now) k }
+{
+    node_named(names, t.nodes(), word(words, k))
+}
+
+/// A setup of this form, or its first fault. Its call is added to the calls.
+pub fn read_setup(
+    alloc: Global,
+    t: &Topology,
+    names: &Names,
+    calls: &mut Calls,
+    words: &[&[u8]],
+    form: SetupForm,
+) -> Result<Command, EntryError>
+    ensures says { IfOk result (λ c. setup_of t.now names.now calls.old (texts words.now) form ≡ Ok c) }
+    ensures calls { IfOk result (λ c. calls.new ≡ calls_with calls.old (texts words.now) c) }
+    ensures fault { FailsBy result (setup_of t.now names.now calls.old (texts words.now) form) }
+{
+    let ids = route_ids(alloc, words, form)?;
+    if !is_name(word(words, 1)) {
+        return Err(EntryError::Fault(PlanKind::Name));
+    }
+    let name = Name::new(alloc, word(words, 1))?;
+    let (Some(from), Some(to)) = (node_at(t, names, words, 2), node_at(t, names, words, 3)) else {
+        return Err(EntryError::Fault(PlanKind::Node));
+    };
+    if from == to {
+        return Err(EntryError::Fault(PlanKind::Same));
+    }
+    if calls.has(&name) {
+        return Err(EntryError::Fault(PlanKind::Call));
+    }
+    if calls.count() >= MOST_CALLS {
+        return Err(EntryError::Fault(PlanKind::Count));
+    }
+    let routes = routes_over(alloc, t, from, to, &ids)?;
+    let call = CallNo(calls.count() as u16);
+    calls.push(alloc, name, from)?;
+    Ok(Command::Setup {
+        call,
+        from,
+        to,
+        protected: form.protected,
+        both: false,
+        via: routes.via,
+        backup: routes.backup,
+    })
+}

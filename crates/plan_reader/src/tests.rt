@@ -1,0 +1,185 @@
+//! Lines of scripts, each with what it says.
+
+use crate::faults::{PlanEntry, PlanError, PlanFault, PlanKind};
+use crate::lines::Line;
+use crate::reader::read_plan;
+use ason_base::{CallNo, Command, LinkId, NodeId, Step};
+use std::alloc::Global;
+use std::test::Fail;
+
+// Three ways from a to d: over b, over c, and straight on; the links a-b and c-d have SRLG 7.
+const NETWORK: &str = "[[node]]
+name = \"a\"
+id = 1
+[[node]]
+name = \"b\"
+id = 2
+[[node]]
+name = \"c\"
+id = 3
+[[node]]
+name = \"d\"
+id = 4
+[[link]]
+id = 1
+ends = [\"a\", \"b\"]
+labels = 2
+srlg = [7]
+[[link]]
+id = 2
+ends = [\"b\", \"d\"]
+labels = 2
+[[link]]
+id = 3
+ends = [\"a\", \"c\"]
+labels = 2
+[[link]]
+id = 4
+ends = [\"c\", \"d\"]
+labels = 2
+srlg = [7]
+[[link]]
+id = 5
+ends = [\"a\", \"d\"]
+labels = 2
+[[link]]
+id = 6
+ends = [\"b\", \"d\"]
+labels = 2
+";
+
+// Script lines, of which the last has this fault or none.
+const LINES: [(&[&str], Option<PlanKind>); 31] = [
+    (&["setup c1 a d"], None),
+    (&["setup c1 a d via 1,2"], None),
+    (&["setup c1 a d via 1,2 backup 5"], None),
+    (&["setup c1 a d via 5 backup 3,4"], None),
+    (&["  setup   c1 a d  via 1,2   backup 5 "], None),
+    (&["setup c1 a d", "protect c1"], None),
+    (&["setup c1 a d unprotected", "protect c1"], None),
+    (&["setup c1 a d", "release c1", "protect c1"], None),
+    // a backup that shares an SRLG, a link, an inner node
+    (&["setup c1 a d via 1,2 backup 3,4"], Some(PlanKind::Backup)),
+    (&["setup c1 a d via 5 backup 5"], Some(PlanKind::Backup)),
+    (&["setup c1 b d via 2 backup 6"], None),
+    (&["setup c1 a d via 1,2 backup 1,6"], Some(PlanKind::Backup)),
+    // routes that lead elsewhere, or whose links are unknown
+    (&["setup c1 a d via 1 backup 5"], Some(PlanKind::Route)),
+    (&["setup c1 a d via 5 backup 3"], Some(PlanKind::Route)),
+    (&["setup c1 a d via 5 backup 9"], Some(PlanKind::Route)),
+    (
+        &["setup c1 a d via 5 backup 1,2,6,2"],
+        Some(PlanKind::Route),
+    ),
+    (&["setup c1 a d via 1"], Some(PlanKind::Route)),
+    // the kinds in their order
+    (
+        &["setup 1c a a via 5 backup 4294967296"],
+        Some(PlanKind::Range),
+    ),
+    (
+        &["setup c1 a x via 4294967296 backup 3,4"],
+        Some(PlanKind::Range),
+    ),
+    (&["setup 1c a x via 5 backup 5"], Some(PlanKind::Name)),
+    (&["setup c1 a x via 5 backup 5"], Some(PlanKind::Node)),
+    (&["setup c1 a a"], Some(PlanKind::Same)),
+    (
+        &["setup c1 a d", "setup c1 a d via 5 backup 5"],
+        Some(PlanKind::Call),
+    ),
+    (&["protect 9x"], Some(PlanKind::Name)),
+    (&["protect c1"], Some(PlanKind::Call)),
+    // no lines
+    (
+        &["setup c1 a d unprotected via 1,2 backup 5"],
+        Some(PlanKind::Words),
+    ),
+    (
+        &["setup c1 a d unprotected backup 5"],
+        Some(PlanKind::Words),
+    ),
+    (&["setup c1 a d backup 5"], Some(PlanKind::Words)),
+    (&["setup c1 a d via 1,2 backup 5,"], Some(PlanKind::Words)),
+    (&["protect c1 c2"], Some(PlanKind::Words)),
+    (&["setup c1 a d", "retry c1"], Some(PlanKind::Unbuilt)),
+];
+
+// The bytes of a plan with these lines.
+fn plan_bytes(alloc: Global, lines: &[&str]) -> Result<Vec<u8>, Fail> {
+    let mut text = String::new(alloc);
+    text.push_str("script = [")?;
+    for line in lines {
+        text.push_str("\"")?;
+        text.push_str(line)?;
+        text.push_str("\",")?;
+    }
+    text.push_str("]\n")?;
+    text.push_str(NETWORK)?;
+    Ok(text.into_bytes())
+}
+
+#[test]
+fn each_line_is_read_or_has_its_fault(rt: HostRuntime) -> Result<(), Fail> {
+    let alloc = rt.alloc();
+    for (lines, kind) in LINES {
+        let bytes = plan_bytes(alloc, lines)?;
+        let entry = PlanEntry::Script(lines.len() as u32);
+        let fault = kind.map(|kind| PlanError::Fault(PlanFault { entry, kind }));
+        assert_eq!(rt;
+            read_plan(alloc, &bytes).err(),
+            fault,
+            "{}",
+            lines[lines.len() - 1]
+        );
+    }
+    Ok(())
+}
+
+fn step(node: u32, link: u32) -> Step {
+    Step {
+        node: NodeId(node),
+        link: LinkId(link),
+    }
+}
+
+#[test]
+fn a_setup_has_its_routes(rt: HostRuntime) -> Result<(), Fail> {
+    let alloc = rt.alloc();
+    let lines = [
+        "setup c1 a d",
+        "setup c2 d a via 4,3 backup 5",
+        "protect c2",
+    ];
+    let plan = read_plan(alloc, &plan_bytes(alloc, &lines)?)?;
+    let [
+        Line::Post(
+            Command::Setup {
+                protected: true,
+                via: None,
+                backup: None,
+                ..
+            },
+        ),
+        Line::Post(
+            Command::Setup {
+                protected: true,
+                via: Some(via),
+                backup: Some(backup),
+                ..
+            },
+        ),
+        Line::Post(
+            Command::Protect {
+                call: CallNo(1),
+                from: NodeId(4),
+            },
+        ),
+    ] = plan.lines.items()
+    else {
+        return Err(Fail::new("other lines"));
+    };
+    assert_eq!(rt; via.items(), [step(4, 4), step(3, 3)].as_slice());
+    assert_eq!(rt; backup.items(), [step(4, 5)].as_slice());
+    Ok(())
+}
