@@ -1,7 +1,8 @@
 -- The lines of a plan can be posted one after the other, and its nodes and calls have their names.
-use Rattle.std.proofs.Common.{◌≡◌, ◌<◌, All, codes, inl, inr, ℕ, zero, suc, Bool, true, false, ◌&&◌, ◌==◌, ◌+◌, ◌++◌, cond, not, nat_le, nat_lt, arith, length, length-append, List, [], ◌∷◌, Ok, Err, refl, sym, ap, ◌∙◌, subst}
+use Rattle.std.proofs.Common.{◌≡◌, ◌<◌, ◌⊎◌, All, codes, inl, inr, ℕ, zero, suc, Bool, true, false, ◌&&◌, ◌||◌, ◌==◌, ◌+◌, ◌++◌, cond, not, nat_le, nat_lt, arith, length, length-append, List, [], ◌∷◌, Ok, Err, refl, sym, ap, ◌∙◌, subst}
 use Rattle.std.specs.Prelude.{Option, Some, None, Result, option_map, slice_get}
 use Rattle.std.specs.List.{list_all, list_any}
+use Rattle.std.proofs.Math.Bool.{or-true}
 use Rattle.std.proofs.lemmas.Bool.{and_parts, ltb-true}
 use Rattle.std.proofs.lemmas.List.Elements.{All-cons, All-nil}
 use Rattle.std.proofs.lemmas.List.Folds.{list_all-append}
@@ -9,24 +10,29 @@ use Rattle.std.proofs.lemmas.List.Sums.{fold-append}
 use Rattle.toml.specs.Data.{Data, table}
 use Rattle.ason_base.specs.Network.{IsTopology, Network, is_node_id}
 use Rattle.ason_base.specs.declared.commands.Command.{Command}
-use Rattle.ason_base.specs.declared.commands.Command.TheVariants.{Release}
+use Rattle.ason_base.specs.declared.commands.Command.TheVariants.{Protect, Release}
 use Rattle.ason_base.specs.declared.ids.CallNo.{CallNo}
 use Rattle.ason_base.specs.declared.ids.NodeId.{NodeId}
 use Rattle.ason_base.specs.declared.network.LinkSpec.{LinkSpec}
 use Rattle.ason_base.specs.declared.steps.Step.{Step}
-use Rattle.mesh_rules.specs.Commands.{has_way, is_again, is_searchable, is_valid}
+use Rattle.mesh_rules.specs.Commands.{has_backup_way, has_way, is_again, is_searchable, is_valid}
 use Rattle.mesh_rules.proofs.Topologies.{topology_searchable}
 use Rattle.plan_reader.specs.Names.{has_name, is_name, place_of}
+use Rattle.plan_reader.specs.declared.forms.SetupForm.{SetupForm}
 use Rattle.plan_reader.specs.declared.lines.Line.{Line}
 use Rattle.plan_reader.specs.declared.lines.Line.TheVariants.{Post, Settle, Show}
 use Rattle.plan_reader.specs.declared.limits.TheConstants.{MOST_CALLS, MOST_ROUNDS}
 use Rattle.plan_reader.specs.declared.plan.Plan.{Plan}
 use Rattle.plan_reader.specs.declared.script.Script.{Script}
+use Rattle.plan_reader.specs.declared.setups.RouteIds.{RouteIds}
+use Rattle.plan_reader.specs.declared.setups.Routes.{Routes}
 use Rattle.plan_reader.specs.PlanCalls.{CallList, call_at, calls_with, with_call}
-use Rattle.plan_reader.specs.PlanScript.{calls_with_line, given_setup_of, is_given_setup, is_release, is_searched_setup, is_settle, is_show, is_unbuilt, line_of, leads, next_setup, no_script, node_at, posted, put_behind, release_call, release_of, searched_setup_of, settle_for, settle_of, setup_between, setup_by, setup_over, setup_with, steps_given, with_line, by_words}
+use Rattle.plan_reader.specs.PlanForms.{form, is_backed_setup, is_protect, is_protected_setup, is_protected_via, is_release, is_settle, is_show, is_unbuilt, is_unprotected_setup, is_unprotected_via, setup_form}
+use Rattle.plan_reader.specs.PlanScript.{call_of, calls_with_line, known_call, line_as, line_of, no_script, other_line, posted, protect_of, put_behind, release_of, settle_for, settle_of, with_line, by_words}
+use Rattle.plan_reader.specs.PlanSetups.{good_routes, ids_at, is_backed, leads, next_setup, node_at, route_ids, routes_over, setup_between, setup_of, setup_over, setup_with, steps_given}
 use Rattle.plan_reader.specs.PlanTables.{NodeList, elements_at, has_strange, has_top_counts, has_top_kinds, lacks, text_of, top_kind}
 use Rattle.plan_reader.specs.declared.values.Shape.TheVariants.{OfTop}
-use Rattle.plan_reader.specs.PlanTexts.{link_ids, number_up_to, word_at, words_of}
+use Rattle.plan_reader.specs.PlanTexts.{number_up_to, word_at, words_of}
 use Rattle.plan_reader.specs.Plans.{ArePostable, HasNames, IsPostable, PlanOf, calls_after, calls_after_line, calls_after_lines, links_of, network_of, nodes_of, plan_of, plan_with, script_of, unless_fault, with_links, with_nodes, with_script}
 use Rattle.plan_reader.specs.declared.faults.PlanKind.{PlanKind}
 use Rattle.plan_reader.specs.declared.faults.PlanKind.TheVariants as kinds
@@ -92,17 +98,59 @@ call_fits t calls before name from is fit = record {
     last : (n : ℕ) → (nat_lt n (n + 1) && true) ≡ true
     last n = grind arith
 
--- Commands
+-- Routes of a setup
 
--- a command that can be posted, and the calls after it
-abbrev CanPost : Network → CallList → List CallNo → List (List ℕ) → Command → Type 0
-CanPost t calls before ws c =
-    (is_valid t c ≡ true) × (is_again before c ≡ false) × AreFitting t (calls_with calls ws c) (calls_after before c)
+-- a backup route is that of a protected call
+abbrev BacksProtected : {A : Type 0} → Bool → Option A → Type 0
+BacksProtected protected backup = (protected ≡ true) ⊎ (backup ≡ None)
 
-all_pass :
-    (from to same route : Bool) → from ≡ true → to ≡ true → same ≡ false → route ≡ true
-    → (from && to && not same && route && true) ≡ true
-all_pass from to same route a b c d = rw (a, b, c, d) refl
+form_backs_protected :
+    (ws : List (List ℕ)) (f : SetupForm) → setup_form ws ≡ Some f → BacksProtected f.protected f.backup
+form_backs_protected ws f h =
+    go (is_unprotected_setup ws) (is_unprotected_via ws) (is_protected_setup ws) (is_protected_via ws)
+    (is_backed_setup ws) h
+  where
+    Backs : SetupForm → Type 0
+    Backs g = BacksProtected g.protected g.backup
+
+    go :
+        (a b c d e : Bool)
+        → cond a (Some (form false None None))
+        (cond b (Some (form false (Some 6) None))
+        (cond c (Some (form true None None))
+        (cond d (Some (form true (Some 5) None)) (cond e (Some (form true (Some 5) (Some 7))) None)))) ≡ Some f
+        → Backs f
+    go true b c d e k = let same : form false None None ≡ f = cc (k) in subst Backs same (inr refl)
+    go false true c d e k = let same : form false (Some 6) None ≡ f = cc (k) in subst Backs same (inr refl)
+    go false false true d e k = let same : form true None None ≡ f = cc (k) in subst Backs same (inr refl)
+    go false false false true e k = let same : form true (Some 5) None ≡ f = cc (k) in subst Backs same (inr refl)
+    go false false false false true k =
+        let same : form true (Some 5) (Some 7) ≡ f = cc (k) in subst Backs same (inl refl)
+    go false false false false false k = absurd (cc (k))
+
+backup_ids :
+    (ws : List (List ℕ)) (f : SetupForm) (ids : RouteIds) → route_ids ws f ≡ Ok ids
+    → ids_at ws f.backup ≡ Ok ids.backup
+backup_ids ws f ids h =
+    let via = both_read (ids_at ws f.via) _ ids h in
+    let backup = both_read (ids_at ws f.backup) _ ids via.2 in
+    let same : ids ≡ record { via = via.0; backup = backup.0 } = cc (backup.2) in
+    backup.1 ∙ ap (λ (i : RouteIds). Ok i.backup) (sym same)
+
+none_given :
+    (t : Network) (from : NodeId) (ws : List (List ℕ)) (place : Option ℕ) (ids : Option (List ℕ))
+    → ids_at ws place ≡ Ok ids → place ≡ None → steps_given t from ids ≡ None
+none_given t from ws None ids h e =
+    let same : None ≡ ids = cc (h) in subst (λ (i : Option (List ℕ)). steps_given t from i ≡ None) same refl
+none_given t from ws (Some k) ids h e = absurd (cc (e))
+
+steps_back_protected :
+    (t : Network) (from : NodeId) (ws : List (List ℕ)) (f : SetupForm) (ids : RouteIds)
+    → BacksProtected f.protected f.backup → route_ids ws f ≡ Ok ids
+    → BacksProtected f.protected (steps_given t from ids.backup)
+steps_back_protected t from ws f ids (inl protected) h = inl protected
+steps_back_protected t from ws f ids (inr none) h =
+    inr (none_given t from ws f.backup ids.backup (backup_ids ws f ids h) none)
 
 -- a route that is given leads there; where none is given, the ingress can search for one
 way :
@@ -111,52 +159,93 @@ way :
 way t from to None searchable h = searchable
 way t from to (Some route) searchable h = h
 
+-- the same of a backup route, which stands beside the working route
+backup_way :
+    (t : Network) (from to : NodeId) (protected : Bool) (via backup : Option (List Step)) → is_searchable t ≡ true
+    → BacksProtected protected backup → is_backed t from to via backup ≡ true
+    → has_backup_way t from to protected via backup ≡ true
+backup_way t from to protected via None searchable backs h = rw searchable (or-true (not protected))
+backup_way t from to protected via (Some route) searchable (inl is) h = rw (is, h) refl
+backup_way t from to protected via (Some route) searchable (inr none) h = absurd (cc (none))
+
+first_leads : (a b : Bool) → (not a || not b) ≡ false → a ≡ true
+first_leads true b h = refl
+first_leads false b h = absurd (cc (h))
+
+record AreGood (t : Network) (from to : NodeId) (via backup : Option (List Step)) (routes : Routes) : Type 0 where
+  pub led : leads t from to via ≡ true
+  pub backed : is_backed t from to via backup ≡ true
+  pub same : record { via = via; backup = backup } ≡ routes
+
+good_are :
+    (t : Network) (from to : NodeId) (via backup : Option (List Step)) (routes : Routes)
+    → good_routes t from to via backup ≡ Ok routes → AreGood t from to via backup routes
+good_are t from to via backup routes h =
+    let led = passed (not (leads t from to via) || not (leads t from to backup)) _ _ _ h in
+    let backed = passed (not (is_backed t from to via backup)) _ _ _ led.1 in
+    record {
+      led = first_leads _ _ led.0;
+      backed = not_false _ backed.0;
+      same = cc (backed.1);
+    }
+
+-- Commands
+
+-- a command that can be posted, and the calls after it
+abbrev CanPost : Network → CallList → List CallNo → List (List ℕ) → Command → Type 0
+CanPost t calls before ws c =
+    (is_valid t c ≡ true) × (is_again before c ≡ false) × AreFitting t (calls_with calls ws c) (calls_after before c)
+
+all_pass :
+    (from to same route backup : Bool) → from ≡ true → to ≡ true → same ≡ false → route ≡ true → backup ≡ true
+    → (from && to && not same && route && backup) ≡ true
+all_pass from to same route backup a b c d e = rw (a, b, c, d, e) refl
+
+over_posts :
+    (t : Network) (calls : CallList) (before : List CallNo) (ws : List (List ℕ)) (protected : Bool) (ids : RouteIds)
+    (from to : NodeId) (c : Command) → is_searchable t ≡ true → AreFitting t calls before
+    → is_node_id t.nodes from ≡ true → is_node_id t.nodes to ≡ true
+    → BacksProtected protected (steps_given t from ids.backup)
+    → setup_over t calls ws protected ids from to ≡ Ok c → CanPost t calls before ws c
+over_posts t calls before ws protected ids from to c searchable fit from_known to_known backs h =
+    let via = steps_given t from ids.via in
+    let backup = steps_given t from ids.backup in
+    let other = passed (from.0 == to.0) _ _ _ h in
+    let new = passed (has_name calls.names (word_at ws 1)) _ _ _ other.1 in
+    let few = passed (nat_le MOST_CALLS (length calls.names)) _ _ _ new.1 in
+    let routes = both_read (routes_over t from to ids) _ c few.1 in
+    let good = good_are t from to via backup routes.0 routes.1 in
+    let same : next_setup calls from to protected routes.0 ≡ c = cc (routes.2) in
+    subst (CanPost t calls before ws) (ap (λ (r : Routes). next_setup calls from to protected r) good.same ∙ same) (
+      all_pass (is_node_id t.nodes from) (is_node_id t.nodes to) (from.0 == to.0) (has_way t from to via)
+          (has_backup_way t from to protected via backup) from_known to_known other.0
+          (way t from to via searchable good.led)
+          (backup_way t from to protected via backup searchable backs good.backed),
+      fresh (length calls.names) before fit.below,
+      call_fits t calls before (word_at ws 1) from from_known fit,
+    )
+
 setup_posts :
     (t : Network) (names : List (List ℕ)) (calls : CallList) (before : List CallNo) (ws : List (List ℕ))
-    (ids : Option (List ℕ)) (c : Command) → is_searchable t ≡ true → AreFitting t calls before
-    → setup_by t names calls ws ids ≡ Ok c → CanPost t calls before ws c
-setup_posts t names calls before ws ids c searchable fit h =
-    let named = passed (not (is_name name)) _ _ _ h in
-    between (node_at t names ws 2) (node_at t names ws 3) refl refl named.1
+    (f : SetupForm) (c : Command) → is_searchable t ≡ true → AreFitting t calls before
+    → BacksProtected f.protected f.backup → setup_of t names calls ws f ≡ Ok c → CanPost t calls before ws c
+setup_posts t names calls before ws f c searchable fit backs h =
+    let read = both_read (route_ids ws f) _ c h in
+    let ids = read.0 in
+    let named = passed (not (is_name (word_at ws 1))) _ _ _ read.2 in
+    between ids read.1 (node_at t names ws 2) (node_at t names ws 3) refl refl named.1
   where
-    name : List ℕ
-    name = word_at ws 1
-
-    over :
-        (from to : NodeId) → node_at t names ws 2 ≡ Some from → node_at t names ws 3 ≡ Some to
-        → setup_over t calls ws from to (steps_given t from ids) ≡ Ok c → CanPost t calls before ws c
-    over from to e f k =
-        let via = steps_given t from ids in
-        let other = passed (from.0 == to.0) _ _ _ k in
-        let new = passed (has_name calls.names name) _ _ _ other.1 in
-        let few = passed (nat_le MOST_CALLS (length calls.names)) _ _ _ new.1 in
-        let led = passed (not (leads t from to via)) _ _ _ few.1 in
-        let same : next_setup calls from to via ≡ c = cc (led.1) in
-        let from_known = place_is_known t.nodes (place_of names (word_at ws 2)) from e in
-        let to_known = place_is_known t.nodes (place_of names (word_at ws 3)) to f in
-        subst (CanPost t calls before ws) same (
-          all_pass (is_node_id t.nodes from) (is_node_id t.nodes to) (from.0 == to.0) (has_way t from to via)
-              from_known to_known other.0 (way t from to via searchable (not_false _ led.0)),
-          fresh (length calls.names) before fit.below,
-          call_fits t calls before name from from_known fit,
-        )
-
     between :
-        (from to : Option NodeId) → node_at t names ws 2 ≡ from → node_at t names ws 3 ≡ to
-        → setup_between t calls ws ids from to ≡ Ok c → CanPost t calls before ws c
-    between None to e f k = absurd (cc (k))
-    between (Some from) None e f k = absurd (cc (k))
-    between (Some from) (Some to) e f k = over from to e f k
-
-given_posts :
-    (t : Network) (names : List (List ℕ)) (calls : CallList) (before : List CallNo) (ws : List (List ℕ)) (c : Command)
-    → is_searchable t ≡ true → AreFitting t calls before → given_setup_of t names calls ws ≡ Ok c
-    → CanPost t calls before ws c
-given_posts t names calls before ws c searchable fit h = go (link_ids (word_at ws 6)) h
-  where
-    go : (ids : Option (List ℕ)) → setup_with t names calls ws ids ≡ Ok c → CanPost t calls before ws c
-    go None k = absurd (cc (k))
-    go (Some ids) k = setup_posts t names calls before ws (Some ids) c searchable fit k
+        (ids : RouteIds) → route_ids ws f ≡ Ok ids → (from to : Option NodeId) → node_at t names ws 2 ≡ from
+        → node_at t names ws 3 ≡ to → setup_between t calls ws f.protected ids from to ≡ Ok c
+        → CanPost t calls before ws c
+    between ids i None to e g k = absurd (cc (k))
+    between ids i (Some from) None e g k = absurd (cc (k))
+    between ids i (Some from) (Some to) e g k =
+        over_posts t calls before ws f.protected ids from to c searchable fit
+        (place_is_known t.nodes (place_of names (word_at ws 2)) from e)
+        (place_is_known t.nodes (place_of names (word_at ws 3)) to g)
+        (steps_back_protected t from ws f ids backs i) k
 
 all_at :
     {X : Type 0} (q : X → Bool) (xs : List X) (k : ℕ) (x : X) → list_all q xs ≡ true → slice_get xs k ≡ Some x
@@ -167,24 +256,41 @@ all_at q (y ∷ xs) zero x all h =
     subst (λ z. q z ≡ true) same (and_parts (q y) (list_all q xs) all).0
 all_at q (y ∷ xs) (suc k) x all h = all_at q xs k x (and_parts (q y) (list_all q xs) all).1 h
 
-release_posts :
-    (t : Network) (calls : CallList) (before : List CallNo) (ws : List (List ℕ)) (c : Command)
-    → AreFitting t calls before → release_of calls ws ≡ Ok c → CanPost t calls before ws c
-release_posts t calls before ws c fit h =
+call_is_known :
+    (t : Network) (calls : CallList) (before : List CallNo) (ws : List (List ℕ)) (call : CallNo × NodeId)
+    → AreFitting t calls before → call_of calls ws ≡ Ok call → is_node_id t.nodes call.1 ≡ true
+call_is_known t calls before ws call fit h =
     go (place_of calls.names (word_at ws 1)) (passed (not (is_name (word_at ws 1))) _ _ _ h).1
   where
     known :
         (k : ℕ) (o : Option NodeId) → slice_get calls.ingresses k ≡ o
-        → release_call (option_map (λ from. (k, from)) o) ≡ Ok c → CanPost t calls before ws c
+        → known_call (option_map (λ from. (k, from)) o) ≡ Ok call → is_node_id t.nodes call.1 ≡ true
     known k None e r = absurd (cc (r))
     known k (Some from) e r =
-        let same : Release (record { 0 = k }) from ≡ c = cc (r) in
-        subst (CanPost t calls before ws) same
-        (all_at (λ i. is_node_id t.nodes i) calls.ingresses k from fit.known e, refl, fit)
+        let same : (record { 0 = k }, from) ≡ call = cc (r) in
+        subst (λ (c : CallNo × NodeId). is_node_id t.nodes c.1 ≡ true) same
+        (all_at (λ i. is_node_id t.nodes i) calls.ingresses k from fit.known e)
 
-    go : (o : Option ℕ) → release_call (call_at calls o) ≡ Ok c → CanPost t calls before ws c
+    go : (o : Option ℕ) → known_call (call_at calls o) ≡ Ok call → is_node_id t.nodes call.1 ≡ true
     go None r = absurd (cc (r))
     go (Some k) r = known k (slice_get calls.ingresses k) refl r
+
+release_posts :
+    (t : Network) (calls : CallList) (before : List CallNo) (ws : List (List ℕ)) (c : Command)
+    → AreFitting t calls before → release_of calls ws ≡ Ok c → CanPost t calls before ws c
+release_posts t calls before ws c fit h =
+    let call = both_read (call_of calls ws) _ c h in
+    let same : Release call.0.0 call.0.1 ≡ c = cc (call.2) in
+    subst (CanPost t calls before ws) same (call_is_known t calls before ws call.0 fit call.1, refl, fit)
+
+protect_posts :
+    (t : Network) (calls : CallList) (before : List CallNo) (ws : List (List ℕ)) (c : Command)
+    → is_searchable t ≡ true → AreFitting t calls before → protect_of calls ws ≡ Ok c → CanPost t calls before ws c
+protect_posts t calls before ws c searchable fit h =
+    let call = both_read (call_of calls ws) _ c h in
+    let same : Protect call.0.0 call.0.1 ≡ c = cc (call.2) in
+    subst (CanPost t calls before ws) same
+    (and_true _ _ (call_is_known t calls before ws call.0 fit call.1) searchable, refl, fit)
 
 -- Lines
 
@@ -213,12 +319,12 @@ settle_stands t calls before ws line (Some r) fit h = go (nat_le 1 r) h
     go true k = let same : Settle r ≡ line = cc (k) in subst (CanStand t calls before ws) same (tt, fit)
     go false k = absurd (cc (k))
 
-line_stands :
-    (t : Network) (names : List (List ℕ)) (calls : CallList) (before : List CallNo) (ws : List (List ℕ)) (line : Line)
-    → is_searchable t ≡ true → AreFitting t calls before → line_of t names calls ws ≡ Ok line
+other_stands :
+    (t : Network) (calls : CallList) (before : List CallNo) (ws : List (List ℕ)) (line : Line)
+    → is_searchable t ≡ true → AreFitting t calls before → other_line calls ws ≡ Ok line
     → CanStand t calls before ws line
-line_stands t names calls before ws line searchable fit h =
-    go (is_given_setup ws) (is_searched_setup ws) (is_release ws) (is_settle ws) (is_show ws) h
+other_stands t calls before ws line searchable fit h =
+    go (is_release ws) (is_protect ws) (is_settle ws) (is_show ws) h
   where
     Stands : Type 0
     Stands = CanStand t calls before ws line
@@ -231,23 +337,31 @@ line_stands t names calls before ws line searchable fit h =
     none false k = absurd (cc (k))
 
     go :
-        (g f r s w : Bool)
-        → cond g (posted (given_setup_of t names calls ws))
-        (cond f (posted (searched_setup_of t names calls ws))
-        (cond r (posted (release_of calls ws)) (cond s (settle_of ws) (cond w (Ok Show) other)))) ≡ Ok line
-        → Stands
-    go true f r s w k =
-        posts t calls before ws line (given_setup_of t names calls ws)
-        (λ c. given_posts t names calls before ws c searchable fit) k
-    go false true r s w k =
-        posts t calls before ws line (searched_setup_of t names calls ws)
-        (λ c. setup_posts t names calls before ws None c searchable fit) k
-    go false false true s w k =
+        (r p s w : Bool)
+        → cond r (posted (release_of calls ws))
+        (cond p (posted (protect_of calls ws)) (cond s (settle_of ws) (cond w (Ok Show) other))) ≡ Ok line → Stands
+    go true p s w k =
         posts t calls before ws line (release_of calls ws) (λ c. release_posts t calls before ws c fit) k
-    go false false false true w k = settle_stands t calls before ws line (number_up_to MOST_ROUNDS (word_at ws 1)) fit k
-    go false false false false true k =
+    go false true s w k =
+        posts t calls before ws line (protect_of calls ws) (λ c. protect_posts t calls before ws c searchable fit) k
+    go false false true w k = settle_stands t calls before ws line (number_up_to MOST_ROUNDS (word_at ws 1)) fit k
+    go false false false true k =
         let same : Show ≡ line = cc (k) in subst (CanStand t calls before ws) same (tt, fit)
-    go false false false false false k = none (is_unbuilt ws) k
+    go false false false false k = none (is_unbuilt ws) k
+
+line_stands :
+    (t : Network) (names : List (List ℕ)) (calls : CallList) (before : List CallNo) (ws : List (List ℕ)) (line : Line)
+    → is_searchable t ≡ true → AreFitting t calls before → line_of t names calls ws ≡ Ok line
+    → CanStand t calls before ws line
+line_stands t names calls before ws line searchable fit h = go (setup_form ws) refl h
+  where
+    go :
+        (o : Option SetupForm) → setup_form ws ≡ o → line_as t names calls ws o ≡ Ok line
+        → CanStand t calls before ws line
+    go None e k = other_stands t calls before ws line searchable fit k
+    go (Some f) e k =
+        posts t calls before ws line (setup_of t names calls ws f)
+        (λ c. setup_posts t names calls before ws f c searchable fit (form_backs_protected ws f e)) k
 
 -- Scripts
 
