@@ -97,6 +97,9 @@ FAULTS: list[tuple[str, str, str | None]] = [
     (plan_text(["setup c1 a d unprotected via 1,3"]), "script 1 route", '"setup c1 a d unprotected via 1,3",'),
     (plan_text(["setup c1 a d unprotected via 1,2"]), "script 1 route", '"setup c1 a d unprotected via 1,2",'),
     (plan_text(["setup c1 b d unprotected via 1,4,2,2,3"]), "script 1 route", '"setup c1 b d unprotected via 1,4,2,2,3",'),
+    (plan_text(["setup c1 a c via 4 backup 1"]), "script 1 route", '"setup c1 a c via 4 backup 1",'),
+    (plan_text(["setup c1 a c via 4 backup 4"]), "script 1 backup", '"setup c1 a c via 4 backup 4",'),
+    (plan_text(["protect c1"]), "script 1 call", '"protect c1",'),
 ]
 
 # The plan, and words of the sentence where it tells more than the kind.
@@ -109,6 +112,8 @@ DETAILS: list[tuple[str, str]] = [
     (plan_text(["setup c1 a d unprotected via 1,3"]), "link 3 joins c and d, and the route has come to b"),
     (plan_text(["setup c1 a d unprotected via 1,2"]), "the route ends at c, and the call at d"),
     (plan_text(["setup c1 b d unprotected via 1,4,2,2,3"]), "the route comes to b twice"),
+    (plan_text(["setup via a c via 4 backup 1"]), "the route ends at b, and the call at c"),
+    (plan_text(["setup c1 a c via 4 backup 4"]), "both routes go over link 4"),
     (plan_text(["settle 1001"]), "the R of settle is 1 to 1,000"),
     ("wait = 1\nwait = 2\n", "cannot overwrite a value"),
 ]

@@ -4,6 +4,7 @@ import re
 import tomllib
 from collections.abc import Callable, Iterator
 from dataclasses import dataclass
+from itertools import pairwise
 
 from . import toml_places
 from .files import MARK, place_of
@@ -217,6 +218,7 @@ def _in_line(top: Placed, row: Placed, number: int, refused: Refused) -> str:
         "same": lambda: f"the call begins and ends at {_quoted(words[2])}",
         "call": lambda: _call_fault(words),
         "route": lambda: _route_fault(top, words),
+        "backup": lambda: _backup_fault(top, words),
         "range": lambda: _RANGES[words[0]],
     }
     try:
@@ -250,13 +252,22 @@ def _call_fault(words: list[str]) -> str:
     return f"no setup before has the name {_quoted(words[1])}"
 
 
+def _routes(words: list[str]) -> dict[str, list[int]]:
+    """The link ids of a setup's routes, by the words before them."""
+    return {word: [int(link) for link in ids.split(",")] for word, ids in pairwise(words[4:]) if word in ("via", "backup")}
+
+
 def _route_fault(top: Placed, words: list[str]) -> str | None:
-    """The first link of the route that doesn't lead on."""
-    source, target, via = words[2], words[3], words[words.index("via") + 1]
-    links = {link.value["id"].value: [end.value for end in link.value["ends"].items()] for link in _rows(top, "link")}
+    """The first link of a route that doesn't lead on."""
+    faults = (_leading_fault(top, words[2], words[3], route) for route in _routes(words).values())
+    return next((fault for fault in faults if fault), None)
+
+
+def _leading_fault(top: Placed, source: str, target: str, route: list[int]) -> str | None:
+    ends_of = {link.value["id"].value: [end.value for end in link.value["ends"].items()] for link in _rows(top, "link")}
     node, visited = source, {source}
-    for link in map(int, via.split(",")):
-        ends = links.get(link)
+    for link in route:
+        ends = ends_of.get(link)
         if ends is None:
             return f"the plan has no link {link}"
         if node not in ends:
@@ -266,6 +277,18 @@ def _route_fault(top: Placed, words: list[str]) -> str | None:
             return f"the route comes to {node} twice"
         visited.add(node)
     return f"the route ends at {node}, and the call at {target}" if node != target else None
+
+
+def _backup_fault(top: Placed, words: list[str]) -> str | None:
+    """What the backup route shares with the working route: a link, else an SRLG."""
+    work, backup = _routes(words)["via"], _routes(words)["backup"]
+    links = {link.value["id"].value: link for link in _rows(top, "link")}
+    srlgs = {number: {srlg.value for srlg in link.get("srlg").items()} if link.get("srlg") else set() for number, link in links.items()}
+    both = next((link for link in backup if link in work), None)
+    if both is not None:
+        return f"both routes go over link {both}"
+    shared = ((a, b, srlg) for a in work for b in backup for srlg in sorted(srlgs[a] & srlgs[b]))
+    return next((f"link {a} of the working route and link {b} of the backup route have SRLG {srlg}" for a, b, srlg in shared), None)
 
 
 def _node_names(top: Placed) -> set[str]:
