@@ -29,7 +29,7 @@ use Rattle.plan_reader.specs.declared.setups.Routes.{Routes}
 use Rattle.plan_reader.specs.PlanCalls.{CallList, call_at, calls_with, with_call}
 use Rattle.plan_reader.specs.PlanForms.{form, is_backed_setup, is_protect, is_protected_setup, is_protected_via, is_release, is_settle, is_show, is_unbuilt, is_unprotected_setup, is_unprotected_via, setup_form}
 use Rattle.plan_reader.specs.PlanScript.{call_of, calls_with_line, known_call, line_as, line_of, no_script, other_line, posted, protect_of, put_behind, release_of, settle_for, settle_of, with_line, by_words}
-use Rattle.plan_reader.specs.PlanSetups.{good_routes, ids_at, is_backed, leads, next_setup, node_at, route_ids, routes_over, setup_between, setup_of, setup_over, setup_with, steps_given}
+use Rattle.plan_reader.specs.PlanSetups.{good_routes, ids_at, is_backed, leads, next_setup, node_at, route_ids, routes_over, setup_between, setup_of, setup_over, steps_given}
 use Rattle.plan_reader.specs.PlanTables.{NodeList, elements_at, has_strange, has_top_counts, has_top_kinds, lacks, text_of, top_kind}
 use Rattle.plan_reader.specs.declared.values.Shape.TheVariants.{OfTop}
 use Rattle.plan_reader.specs.PlanTexts.{number_up_to, word_at, words_of}
