@@ -7,6 +7,7 @@ pub mod Numbers
 pub mod Places
 pub mod PostableLines
 pub mod Rising
+pub mod SetupRoutes
 pub mod SoundLinks
 pub mod SoundNodes
 pub mod SrlgLists

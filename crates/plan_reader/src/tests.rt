@@ -7,7 +7,7 @@ use ason_base::{CallNo, Command, LinkId, NodeId, Step};
 use std::alloc::Global;
 use std::test::Fail;
 
-// Three ways from a to d: over b, over c, and straight on; the links a-b and c-d have SRLG 7.
+// Ways from a to d over b, over c and straight on. Links 1 and 4 have an SRLG in common; 7 is beside 1, and 6 beside 2.
 const NETWORK: &str = "[[node]]
 name = \"a\"
 id = 1
@@ -46,63 +46,79 @@ labels = 2
 id = 6
 ends = [\"b\", \"d\"]
 labels = 2
+[[link]]
+id = 7
+ends = [\"a\", \"b\"]
+labels = 2
 ";
 
-// Script lines, of which the last has this fault or none.
-const LINES: [(&[&str], Option<PlanKind>); 31] = [
+// Script lines, and the first fault of them, if any: the number of its line and its kind.
+const LINES: [(&[&str], Option<(u32, PlanKind)>); 31] = [
     (&["setup c1 a d"], None),
     (&["setup c1 a d via 1,2"], None),
     (&["setup c1 a d via 1,2 backup 5"], None),
     (&["setup c1 a d via 5 backup 3,4"], None),
+    (&["setup c1 b d via 2 backup 6"], None),
     (&["  setup   c1 a d  via 1,2   backup 5 "], None),
     (&["setup c1 a d", "protect c1"], None),
     (&["setup c1 a d unprotected", "protect c1"], None),
     (&["setup c1 a d", "release c1", "protect c1"], None),
     // a backup that shares an SRLG, a link, an inner node
-    (&["setup c1 a d via 1,2 backup 3,4"], Some(PlanKind::Backup)),
-    (&["setup c1 a d via 5 backup 5"], Some(PlanKind::Backup)),
-    (&["setup c1 b d via 2 backup 6"], None),
-    (&["setup c1 a d via 1,2 backup 1,6"], Some(PlanKind::Backup)),
+    (
+        &["setup c1 a d via 1,2 backup 3,4"],
+        Some((1, PlanKind::Backup)),
+    ),
+    (
+        &["setup c1 a d via 5 backup 5"],
+        Some((1, PlanKind::Backup)),
+    ),
+    (
+        &["setup c1 a d via 1,2 backup 7,6"],
+        Some((1, PlanKind::Backup)),
+    ),
     // routes that lead elsewhere, or whose links are unknown
-    (&["setup c1 a d via 1 backup 5"], Some(PlanKind::Route)),
-    (&["setup c1 a d via 5 backup 3"], Some(PlanKind::Route)),
-    (&["setup c1 a d via 5 backup 9"], Some(PlanKind::Route)),
+    (&["setup c1 a d via 1 backup 5"], Some((1, PlanKind::Route))),
+    (&["setup c1 a d via 5 backup 3"], Some((1, PlanKind::Route))),
+    (&["setup c1 a d via 5 backup 9"], Some((1, PlanKind::Route))),
     (
         &["setup c1 a d via 5 backup 1,2,6,2"],
-        Some(PlanKind::Route),
+        Some((1, PlanKind::Route)),
     ),
-    (&["setup c1 a d via 1"], Some(PlanKind::Route)),
+    (&["setup c1 a d via 1"], Some((1, PlanKind::Route))),
     // the kinds in their order
     (
         &["setup 1c a a via 5 backup 4294967296"],
-        Some(PlanKind::Range),
+        Some((1, PlanKind::Range)),
     ),
     (
         &["setup c1 a x via 4294967296 backup 3,4"],
-        Some(PlanKind::Range),
+        Some((1, PlanKind::Range)),
     ),
-    (&["setup 1c a x via 5 backup 5"], Some(PlanKind::Name)),
-    (&["setup c1 a x via 5 backup 5"], Some(PlanKind::Node)),
-    (&["setup c1 a a"], Some(PlanKind::Same)),
+    (&["setup 1c a x via 5 backup 5"], Some((1, PlanKind::Name))),
+    (&["setup c1 a x via 5 backup 5"], Some((1, PlanKind::Node))),
+    (&["setup c1 a a"], Some((1, PlanKind::Same))),
     (
         &["setup c1 a d", "setup c1 a d via 5 backup 5"],
-        Some(PlanKind::Call),
+        Some((2, PlanKind::Call)),
     ),
-    (&["protect 9x"], Some(PlanKind::Name)),
-    (&["protect c1"], Some(PlanKind::Call)),
+    (&["protect 9x"], Some((1, PlanKind::Name))),
+    (&["protect c1"], Some((1, PlanKind::Call))),
     // no lines
     (
         &["setup c1 a d unprotected via 1,2 backup 5"],
-        Some(PlanKind::Words),
+        Some((1, PlanKind::Words)),
     ),
     (
         &["setup c1 a d unprotected backup 5"],
-        Some(PlanKind::Words),
+        Some((1, PlanKind::Words)),
     ),
-    (&["setup c1 a d backup 5"], Some(PlanKind::Words)),
-    (&["setup c1 a d via 1,2 backup 5,"], Some(PlanKind::Words)),
-    (&["protect c1 c2"], Some(PlanKind::Words)),
-    (&["setup c1 a d", "retry c1"], Some(PlanKind::Unbuilt)),
+    (&["setup c1 a d backup 5"], Some((1, PlanKind::Words))),
+    (
+        &["setup c1 a d via 1,2 backup 5,"],
+        Some((1, PlanKind::Words)),
+    ),
+    (&["protect c1 c2"], Some((1, PlanKind::Words))),
+    (&["setup c1 a d", "retry c1"], Some((2, PlanKind::Unbuilt))),
 ];
 
 // The bytes of a plan with these lines.
@@ -122,16 +138,13 @@ fn plan_bytes(alloc: Global, lines: &[&str]) -> Result<Vec<u8>, Fail> {
 #[test]
 fn each_line_is_read_or_has_its_fault(rt: HostRuntime) -> Result<(), Fail> {
     let alloc = rt.alloc();
-    for (lines, kind) in LINES {
+    for (lines, fault) in LINES {
         let bytes = plan_bytes(alloc, lines)?;
-        let entry = PlanEntry::Script(lines.len() as u32);
-        let fault = kind.map(|kind| PlanError::Fault(PlanFault { entry, kind }));
-        assert_eq!(rt;
-            read_plan(alloc, &bytes).err(),
-            fault,
-            "{}",
-            lines[lines.len() - 1]
-        );
+        let error = fault.map(|(number, kind)| {
+            let entry = PlanEntry::Script(number);
+            PlanError::Fault(PlanFault { entry, kind })
+        });
+        assert_eq!(rt; read_plan(alloc, &bytes).err(), error, "{lines:?}");
     }
     Ok(())
 }

@@ -1,0 +1,104 @@
+-- The routes of a setup: a backup route is that of a protected call, and routes without a fault lead as commands ask.
+use Rattle.std.proofs.Common.{◌≡◌, ◌⊎◌, inl, inr, ℕ, Bool, true, false, ◌||◌, cond, not, List, Ok, refl, sym, ap, ◌∙◌, subst}
+use Rattle.std.specs.Prelude.{Option, Some, None}
+use Rattle.std.proofs.Math.Bool.{or-true}
+use Rattle.ason_base.specs.Network.{Network}
+use Rattle.ason_base.specs.declared.ids.NodeId.{NodeId}
+use Rattle.ason_base.specs.declared.steps.Step.{Step}
+use Rattle.mesh_rules.specs.Commands.{has_backup_way, has_way, is_searchable}
+use Rattle.plan_reader.specs.declared.forms.SetupForm.{SetupForm}
+use Rattle.plan_reader.specs.declared.setups.RouteIds.{RouteIds}
+use Rattle.plan_reader.specs.declared.setups.Routes.{Routes}
+use Rattle.plan_reader.specs.PlanForms.{form, is_backed_setup, is_protected_setup, is_protected_via, is_unprotected_setup, is_unprotected_via, setup_form}
+use Rattle.plan_reader.specs.PlanSetups.{good_routes, ids_at, is_backed, leads, route_ids, steps_given}
+use Rattle.plan_reader.proofs.Entries.{both_read, passed}
+use Rattle.plan_reader.proofs.SoundNodes.{not_false}
+
+-- a backup route is that of a protected call
+abbrev pub BacksProtected : {A : Type 0} → Bool → Option A → Type 0
+BacksProtected protected backup = (protected ≡ true) ⊎ (backup ≡ None)
+
+pub form_backs_protected :
+    (ws : List (List ℕ)) (f : SetupForm) → setup_form ws ≡ Some f → BacksProtected f.protected f.backup
+form_backs_protected ws f h =
+    go (is_unprotected_setup ws) (is_unprotected_via ws) (is_protected_setup ws) (is_protected_via ws)
+    (is_backed_setup ws) h
+  where
+    Backs : SetupForm → Type 0
+    Backs g = BacksProtected g.protected g.backup
+
+    go :
+        (a b c d e : Bool)
+        → cond a (Some (form false None None))
+        (cond b (Some (form false (Some 6) None))
+        (cond c (Some (form true None None))
+        (cond d (Some (form true (Some 5) None)) (cond e (Some (form true (Some 5) (Some 7))) None)))) ≡ Some f
+        → Backs f
+    go true b c d e k = let same : form false None None ≡ f = cc (k) in subst Backs same (inr refl)
+    go false true c d e k = let same : form false (Some 6) None ≡ f = cc (k) in subst Backs same (inr refl)
+    go false false true d e k = let same : form true None None ≡ f = cc (k) in subst Backs same (inr refl)
+    go false false false true e k = let same : form true (Some 5) None ≡ f = cc (k) in subst Backs same (inr refl)
+    go false false false false true k =
+        let same : form true (Some 5) (Some 7) ≡ f = cc (k) in subst Backs same (inl refl)
+    go false false false false false k = absurd (cc (k))
+
+backup_ids :
+    (ws : List (List ℕ)) (f : SetupForm) (ids : RouteIds) → route_ids ws f ≡ Ok ids
+    → ids_at ws f.backup ≡ Ok ids.backup
+backup_ids ws f ids h =
+    let via = both_read (ids_at ws f.via) _ ids h in
+    let backup = both_read (ids_at ws f.backup) _ ids via.2 in
+    let same : ids ≡ record { via = via.0; backup = backup.0 } = cc (backup.2) in
+    backup.1 ∙ ap (λ (i : RouteIds). Ok i.backup) (sym same)
+
+none_given :
+    (t : Network) (from : NodeId) (ws : List (List ℕ)) (place : Option ℕ) (ids : Option (List ℕ))
+    → ids_at ws place ≡ Ok ids → place ≡ None → steps_given t from ids ≡ None
+none_given t from ws None ids h e =
+    let same : None ≡ ids = cc (h) in subst (λ (i : Option (List ℕ)). steps_given t from i ≡ None) same refl
+none_given t from ws (Some k) ids h e = absurd (cc (e))
+
+pub steps_back_protected :
+    (t : Network) (from : NodeId) (ws : List (List ℕ)) (f : SetupForm) (ids : RouteIds)
+    → BacksProtected f.protected f.backup → route_ids ws f ≡ Ok ids
+    → BacksProtected f.protected (steps_given t from ids.backup)
+steps_back_protected t from ws f ids (inl protected) h = inl protected
+steps_back_protected t from ws f ids (inr none) h =
+    inr (none_given t from ws f.backup ids.backup (backup_ids ws f ids h) none)
+
+-- a route that is given leads there; where none is given, the ingress can search for one
+pub way :
+    (t : Network) (from to : NodeId) (via : Option (List Step)) → is_searchable t ≡ true → leads t from to via ≡ true
+    → has_way t from to via ≡ true
+way t from to None searchable h = searchable
+way t from to (Some route) searchable h = h
+
+-- the same of a backup route, which stands beside the working route
+pub backup_way :
+    (t : Network) (from to : NodeId) (protected : Bool) (via backup : Option (List Step)) → is_searchable t ≡ true
+    → BacksProtected protected backup → is_backed t from to via backup ≡ true
+    → has_backup_way t from to protected via backup ≡ true
+backup_way t from to protected via None searchable backs h = rw searchable (or-true (not protected))
+backup_way t from to protected via (Some route) searchable (inl is) h = rw (is, h) refl
+backup_way t from to protected via (Some route) searchable (inr none) h = absurd (cc (none))
+
+first_leads : (a b : Bool) → (not a || not b) ≡ false → a ≡ true
+first_leads true b h = refl
+first_leads false b h = absurd (cc (h))
+
+pub record AreGood (t : Network) (from to : NodeId) (via backup : Option (List Step)) (routes : Routes) : Type 0 where
+  pub led : leads t from to via ≡ true
+  pub backed : is_backed t from to via backup ≡ true
+  pub same : record { via = via; backup = backup } ≡ routes
+
+pub good_are :
+    (t : Network) (from to : NodeId) (via backup : Option (List Step)) (routes : Routes)
+    → good_routes t from to via backup ≡ Ok routes → AreGood t from to via backup routes
+good_are t from to via backup routes h =
+    let led = passed (not (leads t from to via) || not (leads t from to backup)) _ _ _ h in
+    let backed = passed (not (is_backed t from to via backup)) _ _ _ led.1 in
+    record {
+      led = first_leads _ _ led.0;
+      backed = not_false _ backed.0;
+      same = cc (backed.1);
+    }
