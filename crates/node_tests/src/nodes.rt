@@ -4,3 +4,4 @@ mod cases;
 mod inputs;
 mod one_call;
 mod outs;
+mod protected;

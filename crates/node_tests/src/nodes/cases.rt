@@ -13,18 +13,18 @@ use std::process::Abort;
 use std::test::Fail;
 
 /// What is given, for each number from the first to the last.
-type Given = (u16, u16, &'static [Said]);
+pub(super) type Given = (u16, u16, &'static [Said]);
 
 /// A message: the node that it goes to, and what it tells.
-type Sent = (NodeId, Told);
+pub(super) type Sent = (NodeId, Told);
 
 /// What a table shows of a node: how many legs, the phase of the last one, and the state of the last call.
-type Shown = (usize, Option<Phase>, Option<(CallState, Cause)>);
+pub(super) type Shown = (usize, Option<Phase>, Option<(CallState, Cause)>);
 
 /// A node, what it is given, what it sends at last, and what is shown of it then.
-type Case = (NodeId, &'static [Given], &'static [Sent], Shown);
+pub(super) type Case = (NodeId, &'static [Given], &'static [Sent], Shown);
 
-const NOTHING: Shown = (0, None, None);
+pub(super) const NOTHING: Shown = (0, None, None);
 
 const ASKED_LEG: Shown = (1, Some(Phase::Asked), None);
 
@@ -372,7 +372,12 @@ fn outcome(
 }
 
 // Each case over this line ends as it must.
-fn go_through(rt: &impl Abort, alloc: Global, t: &Topology, cases: &[Case]) -> Result<(), Fail> {
+pub(super) fn go_through(
+    rt: &impl Abort,
+    alloc: Global,
+    t: &Topology,
+    cases: &[Case],
+) -> Result<(), Fail> {
     for (id, given, sent, shown) in cases {
         let answer = outcome(alloc, t, *id, given)?;
         assert_eq!(rt; answer.0.as_slice(), *sent);

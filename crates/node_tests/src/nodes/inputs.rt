@@ -21,13 +21,25 @@ pub(super) enum Said {
     Setup,
     /// A call is set up from a to this node, without a given route.
     SetupTo(NodeId),
+    /// The same, and it is to be protected.
+    ProtectedTo(NodeId),
+    /// A protected call is set up from a to b over this link, with this one for its backup.
+    Guarded(u32, u32),
+    /// The call of this number is to be protected.
+    Protect(u16),
     Release,
     /// A Path from a over link 1: its egress, its steps, and how many labels it has.
     Path(NodeId, &'static [(u32, u32)], u8),
+    /// A Path of a backup from a over link 1 to b, with one label: the route of its primary.
+    BackupPath(&'static [(u32, u32)]),
     /// A Resv from this node over this link with this label.
     Resv(NodeId, u32, u8),
+    /// The same for the backup in the tunnel of the first call.
+    BackupResv(NodeId, u32, u8),
     /// A PathErr with Path_State_Removed that this node made.
     PathErr(NodeId, ErrCode),
+    /// The same for the backup in the tunnel of the first call.
+    BackupErr(NodeId, ErrCode),
     /// A PathTear from a over link 1.
     Tear,
 }
@@ -51,21 +63,49 @@ fn lsp(number: u16) -> Lsp {
     }
 }
 
-fn setup(number: u16, to: NodeId, via: Option<Steps>) -> Input {
+// The backup of this number in the tunnel of the first call.
+fn backup_lsp(number: u16) -> Lsp {
+    Lsp {
+        ingress: A,
+        tunnel: 1,
+        lsp: number,
+    }
+}
+
+fn setup(
+    number: u16,
+    to: NodeId,
+    protected: bool,
+    via: Option<Steps>,
+    backup: Option<Steps>,
+) -> Input {
     Input::Desk(DeskItem::Order(Command::Setup {
         call: CallNo(number),
         from: A,
         to,
-        protected: false,
+        protected,
         both: false,
         via,
-        backup: None,
+        backup,
     }))
 }
 
 fn setup_over_b(alloc: Global, number: u16) -> Result<Input, Fail> {
     let via = steps(alloc, &[(1, 1), (2, 2)])?;
-    Ok(setup(number, C, Some(via)))
+    Ok(setup(number, C, false, Some(via), None))
+}
+
+fn guarded(alloc: Global, number: u16, via: u32, backup: u32) -> Result<Input, Fail> {
+    let via = steps(alloc, &[(1, via)])?;
+    let backup = steps(alloc, &[(1, backup)])?;
+    Ok(setup(number, B, true, Some(via), Some(backup)))
+}
+
+fn protect(number: u16) -> Input {
+    Input::Desk(DeskItem::Order(Command::Protect {
+        call: CallNo(number),
+        from: A,
+    }))
 }
 
 fn release(number: u16) -> Input {
@@ -103,10 +143,28 @@ fn path(
     Ok(Input::Message { from: A, msg })
 }
 
-fn resv(number: u16, from: NodeId, link: u32, label: u8) -> Result<Input, Fail> {
+fn backup_path(alloc: Global, number: u16, primary: &[(u32, u32)]) -> Result<Input, Fail> {
+    let primary = steps(alloc, primary)?;
+    let msg = Msg::Path {
+        lsp: lsp(number),
+        egress: B,
+        link: LinkId(1),
+        route: Steps::new(alloc),
+        set: labels(1),
+        upstream: None,
+        role: PathRole::Back {
+            active: false,
+            work: 1,
+            primary,
+        },
+    };
+    Ok(Input::Message { from: A, msg })
+}
+
+fn resv(lsp: Lsp, from: NodeId, link: u32, label: u8) -> Result<Input, Fail> {
     let label = Label::new(label).ok_or("a label")?;
     let msg = Msg::Resv {
-        lsp: lsp(number),
+        lsp,
         egress: C,
         link: LinkId(link),
         label,
@@ -114,9 +172,9 @@ fn resv(number: u16, from: NodeId, link: u32, label: u8) -> Result<Input, Fail> 
     Ok(Input::Message { from, msg })
 }
 
-fn path_err(number: u16, from: NodeId, code: ErrCode) -> Input {
+fn path_err(lsp: Lsp, from: NodeId, code: ErrCode) -> Input {
     let msg = Msg::PathErr {
-        lsp: lsp(number),
+        lsp,
         egress: C,
         at: from,
         removed: true,
@@ -138,11 +196,17 @@ fn tear(number: u16) -> Input {
 pub(super) fn input(alloc: Global, number: u16, said: Said) -> Result<Input, Fail> {
     match said {
         Said::Setup => setup_over_b(alloc, number),
-        Said::SetupTo(to) => Ok(setup(number, to, None)),
+        Said::SetupTo(to) => Ok(setup(number, to, false, None, None)),
+        Said::ProtectedTo(to) => Ok(setup(number, to, true, None, None)),
+        Said::Guarded(via, backup) => guarded(alloc, number, via, backup),
+        Said::Protect(call) => Ok(protect(call)),
         Said::Release => Ok(release(number)),
         Said::Path(egress, hops, count) => path(alloc, number, egress, hops, count),
-        Said::Resv(from, link, label) => resv(number, from, link, label),
-        Said::PathErr(from, code) => Ok(path_err(number, from, code)),
+        Said::BackupPath(primary) => backup_path(alloc, number, primary),
+        Said::Resv(from, link, label) => resv(lsp(number), from, link, label),
+        Said::BackupResv(from, link, label) => resv(backup_lsp(number), from, link, label),
+        Said::PathErr(from, code) => Ok(path_err(lsp(number), from, code)),
+        Said::BackupErr(from, code) => Ok(path_err(backup_lsp(number), from, code)),
         Said::Tear => Ok(tear(number)),
     }
 }
