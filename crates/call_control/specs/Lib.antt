@@ -1,3 +1,4 @@
+pub mod PairRules
 pub mod Requests
 pub mod Rules
 pub mod Searches

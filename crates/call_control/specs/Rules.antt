@@ -1,11 +1,10 @@
 -- The rules of calls at an ingress of these tables.
-use Rattle.std.specs.Prelude.{false, [], ◌∷◌, List, Option, Some, None}
+use Rattle.std.specs.Prelude.{[], ◌∷◌, List, Option, Some, None}
 use Rattle.ason_base.specs.Labels.{up_to}
 use Rattle.ason_base.specs.declared.codes.ErrCode.{ErrCode}
 use Rattle.ason_base.specs.declared.ids.CallNo.{CallNo}
 use Rattle.ason_base.specs.declared.ids.Lsp.{Lsp}
 use Rattle.ason_base.specs.declared.ids.NodeId.{NodeId}
-use Rattle.ason_base.specs.declared.messages.PathRole.TheVariants.{Back}
 use Rattle.ason_base.specs.declared.messages.Msg.{Msg}
 use Rattle.ason_base.specs.declared.messages.Msg.TheVariants.{Path}
 use Rattle.ason_base.specs.declared.network.LinkSpec.{LinkSpec}
@@ -17,7 +16,6 @@ use Rattle.mesh_rules.specs.CallSteps.{call_answered, call_refused}
 use Rattle.mesh_rules.specs.Changes.{Answer, nothing, puts}
 use Rattle.mesh_rules.specs.FirstLegs.{NewLsp, first_leg, first_link, first_path}
 use Rattle.mesh_rules.specs.Legs.{find_leg}
-use Rattle.mesh_rules.specs.Pairs.{admitted_backup, begins_backup, beside_lsp, pair, pair_over}
 use Rattle.mesh_rules.specs.Protects.{on_protect}
 use Rattle.mesh_rules.specs.Releases.{on_release}
 use Rattle.mesh_rules.specs.Setups.{SetupRequest, admitted_setup, begins, new_call, on_setup, over_first}
@@ -55,29 +53,7 @@ admitted_here t c w out route = admitted_setup (local_of t) (state_of t c) w out
 abbrev pub begins_here : LegTable → CallTable → SetupRequest → LinkSpec → List Step → Answer
 begins_here t c w out route = begins (local_of t) (state_of t c) w out route
 
--- Pairs
-
--- the backup LSP of the next number over this link and then these steps, whose primary has this route
-abbrev pub backup_over : CallTable → Leg → LinkSpec → List Step → List Step → NewLsp
-backup_over c w out route primary = record {
-  lsp = beside_lsp w.lsp c.lsp;
-  egress = w.egress;
-  out = out;
-  route = route;
-  role = Back false w.lsp.lsp primary;
-}
-
-abbrev pub pair_here : LegTable → CallTable → CallRec → Leg → Answer
-pair_here t c call w = pair (local_of t) (state_of t c) call w
-
-abbrev pub pair_over_here : LegTable → CallTable → CallRec → Leg → Option (List Step) → Answer
-pair_over_here t c call w route = pair_over (local_of t) (state_of t c) call w route
-
-abbrev pub admitted_backup_here : LegTable → CallTable → CallRec → Leg → LinkSpec → List Step → Answer
-admitted_backup_here t c call w out route = admitted_backup (local_of t) (state_of t c) call w out route
-
-abbrev pub begins_backup_here : LegTable → CallTable → CallRec → Leg → LinkSpec → List Step → Answer
-begins_backup_here t c call w out route = begins_backup (local_of t) (state_of t c) call w out route
+-- Protect
 
 abbrev pub protect_here : LegTable → CallTable → CallNo → NodeId → Answer
 protect_here t c n from = on_protect (local_of t) (state_of t c) n from

@@ -55,7 +55,7 @@ pub fn answer_resv(
     requires links { LocalNodeFits (local_of tables.now) }
     requires rows { RowsAreKnown tables.now }
     requires backup { IsBackupFor tables.now
-        (sought_by_resv tables.now calls.now lsp) (option_copied backup.entry) }
+        (sought_by_resv tables.now calls.now lsp) (option_copied backup) }
     ensures { OnOk result
         (change.new ≡ followed_by change.old (answered_here tables.now calls.now lsp)) }
 {

@@ -63,7 +63,7 @@ fn path_for(alloc: Global, new: &NewLsp<'_>) -> Result<Msg, OutOfMemory>
 fn first_leg(tables: &NodeTables, new: NewLsp<'_>, risks: RiskSet) -> Leg
     requires narrow { new.out.labels ≤ 80 }
     requires risks { risks ≡ recorded tables.now.rows new.role }
-    ensures { result ≡ first_leg (local_of tables.now) tables.now.rows new }
+    ensures { result ≡ first_leg (local_of tables.now) tables.now.rows new.entry }
 {
     let NewLsp {
         lsp,
@@ -104,7 +104,7 @@ pub(crate) fn ask_for(
 ) -> Result<(), OutOfMemory>
     requires narrow { new.out.labels ≤ 80 }
     requires risks { risks ≡ recorded tables.now.rows new.role }
-    ensures { OnOk result (change.new ≡ followed_by change.old (asked_here tables.now new)) }
+    ensures { OnOk result (change.new ≡ followed_by change.old (asked_here tables.now new.entry)) }
 {
     let path = path_for(alloc, &new)?;
     change.send(other_end(new.out, id_of(tables)), path)?;

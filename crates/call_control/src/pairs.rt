@@ -5,8 +5,7 @@ ghost use Rattle.mesh_rules.specs.Changes.{followed_by};
 ghost use Rattle.mesh_rules.specs.Pairs.{leaves_bare, route_from};
 ghost use Rattle.mesh_nodes.specs.LocalNodes.{LocalNodeFits};
 ghost use Rattle.leg_table.specs.States.{local_of};
-ghost use Rattle.call_control.specs.Requests.{IsFoundFor, IsPrimaryOf, given_or};
-ghost use Rattle.call_control.specs.Rules.{admitted_backup_here, backup_over, begins_backup_here, pair_here, pair_over_here};
+ghost use Rattle.call_control.specs.PairRules.{IsFoundFor, IsPrimaryOf, admitted_here, backup_over, begins_here, over_here, pair_here};
 ghost use Rattle.call_control.specs.Searches.{RowsAreKnown};
 
 use crate::call_states::{pairing, unbacked};
@@ -136,7 +135,7 @@ fn begin_backup(
     requires primary { IsPrimaryOf tables.now request.now.work route.primary route.risks }
     ensures { OnOk result
         (change.new ≡ followed_by change.old
-        (begins_backup_here tables.now calls.now request.now.call request.now.work route.out route.rest)) }
+        (begins_here tables.now calls.now request.now route.entry)) }
 {
     let BackupRoute { out, rest, primary } = route;
     let new = backup_lsp(calls, request.work, out, rest, primary.route);
@@ -162,7 +161,7 @@ fn admit_backup(
     requires primary { IsPrimaryOf tables.now request.now.work route.primary route.risks }
     ensures { OnOk result
         (change.new ≡ followed_by change.old
-        (admitted_backup_here tables.now calls.now request.now.call request.now.work route.out route.rest)) }
+        (admitted_here tables.now calls.now request.now route.entry)) }
 {
     if calls.next_lsp() > LAST_NUMBER {
         leave_bare(alloc, change, request.call, Cause::Spent)
@@ -186,8 +185,7 @@ fn pair_over(
     requires primary { IsPrimaryOf tables.now request.now.work primary.route primary.risks }
     ensures { OnOk result
         (change.new ≡ followed_by change.old
-        (pair_over_here tables.now calls.now request.now.call request.now.work
-        (given_or request.now.call request.now.found))) }
+        (over_here tables.now calls.now request.now)) }
 {
     let Some(route) = request.call.backup.as_ref().or(request.found) else {
         return leave_bare(alloc, change, request.call, Cause::NoBackup);
@@ -214,7 +212,7 @@ pub(crate) fn pair(
     requires found { IsFoundFor tables.now request.now }
     ensures { OnOk result
         (change.new ≡ followed_by change.old
-        (pair_here tables.now calls.now request.now.call request.now.work)) }
+        (pair_here tables.now calls.now request.now)) }
 {
     let route = route_from(alloc, tables, request.work)?;
     match RiskSet::of(alloc, tables.rows(), &route) {

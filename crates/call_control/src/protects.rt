@@ -59,7 +59,7 @@ pub fn protect(
     requires links { LocalNodeFits (local_of tables.now) }
     requires rows { RowsAreKnown tables.now }
     requires backup { IsBackupFor tables.now
-        (sought_by_protect tables.now calls.now number from) (option_copied backup.entry) }
+        (sought_by_protect tables.now calls.now number from) (option_copied backup) }
     ensures { IfOk result (λ c. c ≡ protect_here tables.now calls.now number from) }
 {
     let mut change = Change::nothing(alloc);

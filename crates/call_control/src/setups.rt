@@ -210,7 +210,7 @@ fn call_searched(
 ) -> Result<Change, OutOfMemory>
     requires links { LocalNodeFits (local_of tables.now) }
     requires rows { RowsAreKnown tables.now }
-    requires route { option_copied route.entry ≡ found_route tables.now request.now.egress }
+    requires route { option_copied route ≡ found_route tables.now request.now.egress }
     ensures { IfOk result (λ c. c ≡ searched_here tables.now calls.now request.now) }
 {
     match route {
@@ -237,7 +237,7 @@ pub fn set_up(
 ) -> Result<Change, OutOfMemory>
     requires links { LocalNodeFits (local_of tables.now) }
     requires rows { RowsAreKnown tables.now }
-    requires route { IsRouteFor tables.now calls.now request.now (option_copied route.entry) }
+    requires route { IsRouteFor tables.now calls.now request.now (option_copied route) }
     ensures { IfOk result (λ c. c ≡ setup_here tables.now calls.now request.now) }
 {
     if calls.get(request.call).is_some() || !is_order_here(tables, request) {

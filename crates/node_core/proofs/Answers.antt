@@ -110,9 +110,3 @@ new-is t n s c is calls =
     let here = at_start-is t n s is in
     let state : state_of s c ≡ new_node = ap (state_of s) calls ∙ here.1 in
     λ i. record { place = here.0 i; state = state i }
-
--- A link that is found has 80 labels at most.
-pub own-narrow : (p : LocalNode) (k : LinkId) (o : Option LinkSpec) → LocalNodeFits p → o ≡ own_link p k →
-    IfSome o (λ l. l.labels ≤ 80)
-own-narrow p k None fits is = tt
-own-narrow p k (Some l) fits is = (own-is p k l fits (sym is)).narrow
