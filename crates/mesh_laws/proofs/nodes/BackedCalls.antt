@@ -2,12 +2,9 @@
 use Rattle.std.proofs.Common.{◌≡◌, ℕ, Bool, true, false, not, nat_eq, List, [], ◌∷◌, refl, subst}
 use Rattle.std.specs.Prelude.{◌&&◌, Option, Some, None, IsTrue, IfSome, is_some, nat_lt, drop}
 use Rattle.std.specs.List.{AllByRecursion}
-use Rattle.ason_base.specs.declared.calls.CallState.{CallState}
 use Rattle.ason_base.specs.declared.calls.Cause.{Cause}
-use Rattle.ason_base.specs.declared.calls.CallState.TheVariants.{Asking, Blocked}
-use Rattle.ason_base.specs.declared.calls.Cause.TheVariants.{Code, Full, NoBackup, NoRoute, Spent}
+use Rattle.ason_base.specs.declared.calls.Cause.TheVariants.{Code, Full, NoBackup, Spent}
 use Rattle.ason_base.specs.declared.codes.ErrCode.{ErrCode}
-use Rattle.ason_base.specs.declared.commands.Command.{Command}
 use Rattle.ason_base.specs.declared.commands.Command.TheVariants.{Setup, Release, Protect, Retry, Revert, Fail, Repair}
 use Rattle.ason_base.specs.declared.commands.DeskItem.{DeskItem}
 use Rattle.ason_base.specs.declared.commands.DeskItem.TheVariants.{Order, Alarm, Clear}
@@ -33,20 +30,20 @@ use Rattle.mesh_rules.specs.declared.limits.TheConstants.{LAST_NUMBER}
 use Rattle.mesh_rules.specs.declared.neighbours.Neighbour.{Neighbour}
 use Rattle.mesh_rules.specs.CallSteps.{call_answered, call_refused}
 use Rattle.mesh_rules.specs.Calls.{call_changed, call_with, calls_changed, find_call, is_asking, is_bare, is_pairing, with_call, without_call}
-use Rattle.mesh_rules.specs.Changes.{Answer, nothing}
-use Rattle.mesh_rules.specs.Commands.{has_backup_way, has_way, is_searchable, is_valid}
+use Rattle.mesh_rules.specs.Changes.{Answer}
+use Rattle.mesh_rules.specs.Commands.{has_backup_way, is_searchable}
 use Rattle.mesh_rules.specs.FirstLegs.{first_link, is_full}
 use Rattle.mesh_rules.specs.KnownRows.{known_rows}
 use Rattle.mesh_rules.specs.LeastRoutes.{Trip, least_trip}
 use Rattle.mesh_rules.specs.Legs.{find_leg, following, is_asked, is_closing, is_node, is_over, is_work, leg_of, previous}
 use Rattle.mesh_rules.specs.LocalNodes.{LocalNode, leads, own_link}
 use Rattle.mesh_rules.specs.Messages.{arrival, on_message}
-use Rattle.mesh_rules.specs.Orders.{on_item, on_order}
-use Rattle.mesh_rules.specs.Pairs.{admitted_backup, backup_route, over_backup, pair, pair_over, route_from}
+use Rattle.mesh_rules.specs.Orders.{on_item}
+use Rattle.mesh_rules.specs.Pairs.{admitted_backup, backup_route, leaves_bare, over_backup, pair, pair_over, route_from}
 use Rattle.mesh_rules.specs.PathErrs.{PathFailure, err_passed, path_err_with, removed}
 use Rattle.mesh_rules.specs.Paths.{PathRequest, admitted, at_egress, checks, first_failure, first_path, in_transit, is_active, judged, offered_labels, path_with, risks_here}
 use Rattle.mesh_rules.specs.Protects.{protect_with, protects}
-use Rattle.mesh_rules.specs.Releases.{release_with, releases, tears}
+use Rattle.mesh_rules.specs.Releases.{release_with, tears}
 use Rattle.mesh_rules.specs.Resvs.{answered, is_expected, label_back, labels_left, passed_back, resv_with}
 use Rattle.mesh_rules.specs.Setups.{SetupRequest, admitted_setup, is_order_here, is_spent, new_call, over_first, over_found, setup_with}
 use Rattle.mesh_rules.specs.State.{NodeState}
@@ -93,26 +90,29 @@ module _ (t : Network) (n : NodeId) (p : LocalNode) (s : NodeState) (rise : Call
 
   -- A backup is asked for
 
+  backs-leaves_bare : (c : CallRec) (cause : Cause) → CanBeBacked t n c → Backs (leaves_bare c cause)
+  backs-leaves_bare c cause here = (record { given = here.given; searched = here.searched }, tt)
+
   backs-admitted : (c : CallRec) (w : Leg) (out : LinkSpec) (route : List Step) → CanBeBacked t n c →
       Backs (admitted_backup p s c w out route)
   backs-admitted c w out route here =
-      if_cases Backs (nat_lt LAST_NUMBER s.lsp) _ _ (λ e. (record { given = here.given; searched = here.searched }, tt))
-      (λ e. if_cases Backs (is_full s) _ _ (λ f. (record { given = here.given; searched = here.searched }, tt))
+      if_cases Backs (nat_lt LAST_NUMBER s.lsp) _ _ (λ e. backs-leaves_bare c Spent here)
+      (λ e. if_cases Backs (is_full s) _ _ (λ f. backs-leaves_bare c Full here)
       (λ f. (record { given = here.given; searched = here.searched }, tt)))
 
   backs-over : (c : CallRec) (w : Leg) (route : List Step) (o : Option LinkSpec) → CanBeBacked t n c →
       Backs (over_backup p s c w route o)
-  backs-over c w route None here = (record { given = here.given; searched = here.searched }, tt)
+  backs-over c w route None here = backs-leaves_bare c NoBackup here
   backs-over c w route (Some out) here = backs-admitted c w out (drop 1 route) here
 
   backs-pair_over : (c : CallRec) (w : Leg) (o : Option (List Step)) → CanBeBacked t n c → Backs (pair_over p s c w o)
-  backs-pair_over c w None here = (record { given = here.given; searched = here.searched }, tt)
+  backs-pair_over c w None here = backs-leaves_bare c NoBackup here
   backs-pair_over c w (Some route) here = backs-over c w route (first_link p route) here
 
   backs-pair : (c : CallRec) (w : Leg) → CanBeBacked t n c → Backs (pair p s c w)
   backs-pair c w here =
       if_cases Backs (is_some (unknown_link (known_rows p s) (route_from p w))) _ _
-      (λ e. (record { given = here.given; searched = here.searched }, tt))
+      (λ e. backs-leaves_bare c NoBackup here)
       (λ e. backs-pair_over c w (backup_route p s c w) here)
 
   -- Messages
@@ -139,7 +139,7 @@ module _ (t : Network) (n : NodeId) (p : LocalNode) (s : NodeState) (rise : Call
       if_cases Backs (is_work g.role) _ _
       (λ e. if_cases Backs (is_asking c.state) _ _ (λ e. (record { given = here.given; searched = here.searched }, tt))
       (λ e. tt))
-      (λ e. if_cases Backs (is_pairing c.state) _ _ (λ e. (record { given = here.given; searched = here.searched }, tt))
+      (λ e. if_cases Backs (is_pairing c.state) _ _ (λ e. backs-leaves_bare c (Code code) here)
       (λ e. tt))
 
   backs-passed_back : (a : Arrival) (g : Leg) (h : Neighbour) (x : ℕ) (o : Option ℕ) → Backs (passed_back p a g h x o)

@@ -1,12 +1,11 @@
 -- A call changes together with its leg at the ingress, when the Resv or the PathErr comes.
-use Rattle.std.proofs.Common.{◌≡◌, ℕ, Bool, true, false, nat_eq, List, refl, sym, ap, subst, ◌∙◌, arith, inl, inr}
+use Rattle.std.proofs.Common.{◌≡◌, ℕ, Bool, true, false, nat_eq, List, refl, sym, ap, subst, arith, inl, inr}
 use Rattle.std.specs.Prelude.{Option, Some, None, IfSome}
 use Rattle.ason_base.specs.declared.ids.CallNo.{CallNo}
 use Rattle.ason_base.specs.declared.ids.Lsp.{Lsp}
 use Rattle.ason_base.specs.declared.ids.NodeId.{NodeId}
 use Rattle.ason_base.specs.declared.calls.CallState.TheVariants.{Asking, Pairing}
 use Rattle.ason_base.specs.declared.calls.Cause.{Cause}
-use Rattle.ason_base.specs.declared.calls.Phase.{Phase}
 use Rattle.ason_base.specs.declared.calls.Phase.TheVariants.{Asked, Held, Live}
 use Rattle.ason_base.specs.declared.calls.Role.{Role}
 use Rattle.ason_base.specs.declared.calls.Role.TheVariants.{Work, Back}
@@ -32,8 +31,8 @@ must_have_call n s g facts here asked ingress none =
     not_called g.lsp s.calls has.call.call has.call none has.found has.named
 
 -- an LSP that a call names has a leg, so where no leg is found it names none
-pub no_leg : (n next : ℕ) (legs : List Leg) (r : Role) (e : NodeId) (o : Option Lsp) → IfSome o (IsNamed n next legs r e) →
-    phase_of (leg_of o legs) ≡ None → o ≡ None
+pub no_leg : (n next : ℕ) (legs : List Leg) (r : Role) (e : NodeId) (o : Option Lsp) →
+    IfSome o (IsNamed n next legs r e) → phase_of (leg_of o legs) ≡ None → o ≡ None
 no_leg n next legs r e None named none = refl
 no_leg n next legs r e (Some l) named none =
     let found : find_leg l legs ≡ Some named.leg.0 = named.leg.1 in
@@ -162,7 +161,8 @@ module _ (n : ℕ) (s : NodeState) (facts : NodeFacts n s) (g : Leg) (here : fin
       go false t = refl
       go true t =
           let name = named-lsp n s.lsp s.legs Work c.egress c.work m fit.work work in
-          let found : find_leg m s.legs ≡ Some g = subst (λ k. find_leg k s.legs ≡ Some g) (same_lsp-eq g.lsp m t) here in
+          let found : find_leg m s.legs ≡ Some g =
+          subst (λ k. find_leg k s.legs ≡ Some g) (same_lsp-eq g.lsp m t) here in
           let no : is_work g.role ≡ true = ap is_work (named-leg n s.lsp s.legs Work c.egress m g name found).0 in
           absurd (cc (no, e))
 

@@ -266,7 +266,8 @@ lone-part n next c legs calls calls' rise replaced unknown work back facts part 
     (record {
       stay = λ m never. refl;
       apart = λ m d l other there named. refl;
-      only = λ d l is named. absurd (no_name l (let one : c ≡ d = cc is in subst (λ x. names l x ≡ true) (sym one) named));
+      only = λ d l is named.
+          absurd (no_name l (let one : c ≡ d = cc is in subst (λ x. names l x ≡ true) (sym one) named));
       kept = λ d l there named never. absurd (cc (unknown, there));
       facts = λ d is. (let one : c ≡ d = cc is in subst (FitsLegs n next legs) one facts);
       number = λ d is. (let one : c ≡ d = cc is in ap (λ x. x.call) (sym one));

@@ -69,8 +69,8 @@ LabelsFit legs =
 
 -- A call
 
--- A backup can be asked for beside the call's working LSP: a route that was given for it leads to the egress, and where a
--- protected call was given none, the links can be searched.
+-- A backup can be asked for beside the call's working LSP: a route that was given for it leads to the egress, and
+-- where a protected call was given none, the links can be searched.
 pub record CanBeBacked (t : Network) (n : NodeId) (c : CallRec) : Type 0 where
   pub given : IfSome c.backup (λ route. IsTrue (makes_route t n c.egress route))
   pub searched : IsTrue c.protected → c.backup ≡ None → IsTrue (is_searchable t)

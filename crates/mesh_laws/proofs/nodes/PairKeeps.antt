@@ -1,5 +1,5 @@
 -- Asking for a backup beside a call's working LSP keeps the facts of a node.
-use Rattle.std.proofs.Common.{◌≡◌, ◌+◌, true, false, nat_lt, List, [], ◌∷◌, drop, refl, sym, ap, subst, ◌∙◌, arith, inl, inr}
+use Rattle.std.proofs.Common.{◌≡◌, ◌+◌, true, false, nat_lt, List, drop, refl, sym, ap, subst, ◌∙◌, arith, inl, inr}
 use Rattle.std.specs.Prelude.{◌⊎◌, Option, Some, None, is_some}
 use Rattle.ason_base.specs.Lsps.{same_lsp}
 use Rattle.ason_base.specs.Risks.{unknown_link}
@@ -43,8 +43,8 @@ pub record IsBareCall (legs : List Leg) (calls : List CallRec) (c : CallRec) (w 
   pub work : c.work ≡ Some w.lsp
   pub leg : find_leg w.lsp legs ≡ Some w
 
--- These legs and calls stand when the rule is carried out. s is what it reads; a call that it puts in its place there is
--- in the same place among these calls.
+-- These legs and calls stand when the rule is carried out; s is what it reads. A call that is put in its place among
+-- those of s is then found as if it were put among these.
 module _ (p : LocalNode) (s : NodeState) (legs : List Leg) (calls : List CallRec) (c : CallRec) (w : Leg)
     (leg_part : LegPart p.id.0 s.lsp legs) (call_part : CallPart p.id.0 s.lsp legs calls)
     (bare : IsBareCall legs calls c w) (rise : CallsRise s.calls)
@@ -84,7 +84,8 @@ module _ (p : LocalNode) (s : NodeState) (legs : List Leg) (calls : List CallRec
         stay = λ m never. refl;
         apart = λ m e l other there named. refl;
         only = λ e l is named. inr
-            (let one : d ≡ e = cc is in (c, bare.found, (elim (named-by d l (subst (λ y. names l y ≡ true) (sym one) named)) [
+            (let one : d ≡ e = cc is in
+            (c, bare.found, (elim (named-by d l (subst (λ y. names l y ≡ true) (sym one) named)) [
               | inl work ↦ names-work c l work
               | inr back ↦ absurd (cc back)
             ])));
@@ -126,7 +127,8 @@ module _ (p : LocalNode) (s : NodeState) (legs : List Leg) (calls : List CallRec
     found : find_leg l legs' ≡ Some g
     found = rw (becomes l, same_lsp-refl l) refl
 
-    unnamed : (m : CallNo) (e : CallRec) (x : Lsp) → find_call m calls ≡ Some e → names x e ≡ true → same_lsp l x ≡ false
+    unnamed : (m : CallNo) (e : CallRec) (x : Lsp) → find_call m calls ≡ Some e → names x e ≡ true →
+        same_lsp l x ≡ false
     unnamed = new-unnamed p.id.0 s.lsp legs calls l refl call_part
 
     work-stays : (m : Lsp) → c.work ≡ Some m → find_leg m legs' ≡ find_leg m legs

@@ -220,7 +220,8 @@ facts-step t s (Take d u) enabled facts =
 facts-step t s (Desk n) enabled facts =
     keeps-commit t (without_item s n.0) n (on_first_item (local_node t n) (s.nodes n.0) (s.desks n.0))
     (keeps-first_item (local_node t n) (s.nodes n.0) (s.desks n.0) (facts.node n.0))
-    (backs-first_item t n (local_node t n) (s.nodes n.0) (facts.node n.0) (facts.backed n) (s.desks n.0) (facts.desk n.0))
+    (backs-first_item t n (local_node t n) (s.nodes n.0) (facts.node n.0) (facts.backed n) (s.desks n.0)
+    (facts.desk n.0))
     (same-rows_true t (s.nodes n.0) (on_first_item (local_node t n) (s.nodes n.0) (s.desks n.0))
     (first_item-learns_nothing (local_node t n) (s.nodes n.0) (s.desks n.0)) (facts.learnt n.0))
     (without_item-facts t s n.0 facts)

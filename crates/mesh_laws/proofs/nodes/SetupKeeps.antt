@@ -119,8 +119,8 @@ module _ (p : LocalNode) (s : NodeState) (w : SetupRequest) (away : nat_eq w.egr
   keeps-new_call None = keeps-over_found (least_trip (known_rows p s) p.id w.egress)
   keeps-new_call (Some route) = keeps-over_first route (first_link p route)
 
-pub keeps-setup : (p : LocalNode) (s : NodeState) (w : SetupRequest) (o : Option CallRec) → find_call w.call s.calls ≡ o →
-    NodeFacts p.id.0 s → Keeps p s (setup_with p s w o)
+pub keeps-setup : (p : LocalNode) (s : NodeState) (w : SetupRequest) (o : Option CallRec) →
+    find_call w.call s.calls ≡ o → NodeFacts p.id.0 s → Keeps p s (setup_with p s w o)
 keeps-setup p s w (Some c) is facts = facts
 keeps-setup p s w None is facts =
     if_cases (Keeps p s) (is_order_here p w) _ _
