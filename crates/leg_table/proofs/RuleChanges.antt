@@ -29,7 +29,7 @@ use Rattle.mesh_rules.specs.declared.changes.CallChange.TheVariants as call
 use Rattle.mesh_rules.specs.declared.neighbours.Neighbour.{Neighbour}
 use Rattle.mesh_rules.specs.CallSteps.{call_answered, call_refused}
 use Rattle.mesh_rules.specs.Calls.{call_with, find_call, is_asking, is_bare, is_pairing}
-use Rattle.mesh_rules.specs.Changes.{Answer, changes_calls, followed_by, nothing, puts, removes}
+use Rattle.mesh_rules.specs.Changes.{Answer, changes_calls, followed_by, nothing, puts}
 use Rattle.mesh_rules.specs.Legs.{connected, find_leg, following, is_asked, is_closing, is_node, is_over, is_work, leg_of, neighbour_over, previous, reserved}
 use Rattle.mesh_rules.specs.LocalNodes.{LocalNode, fibre_in, leads, own_link}
 use Rattle.mesh_rules.specs.Messages.{arrival, on_message}
@@ -48,7 +48,7 @@ use Rattle.mesh_rules.specs.State.{NodeState}
 use Rattle.mesh_rules.specs.Tears.{on_tear, tear_with, torn}
 use Rattle.mesh_nodes.specs.Kept.{LegFits}
 use Rattle.mesh_nodes.specs.LocalNodes.{is_upstream}
-use Rattle.mesh_nodes.proofs.Cases.{both_left, both_right, if_cases}
+use Rattle.mesh_nodes.proofs.Cases.{both_left, if_cases}
 use Rattle.mesh_nodes.proofs.LegList.{found-all, found-lsp}
 use Rattle.mesh_nodes.proofs.Links.{any-found}
 use Rattle.leg_table.specs.LegClaims.{MayBeMade, MayBePut, MayTake, TakesNone, claim_kind, first_kind, is_fibre_in, taken, taken_of, taken_over}

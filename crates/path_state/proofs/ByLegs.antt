@@ -1,6 +1,6 @@
 -- Of what a node keeps a Path asks for the legs and the rows that it learnt alone.
-use Rattle.std.proofs.Common.{◌≡◌, Bool, true, false, List, refl}
-use Rattle.std.specs.Prelude.{◌&&◌, not, ◌==◌, Option, Some, None}
+use Rattle.std.proofs.Common.{◌≡◌, List, refl}
+use Rattle.std.specs.Prelude.{Option, Some, None}
 use Rattle.ason_base.specs.declared.codes.ErrCode.{ErrCode}
 use Rattle.ason_base.specs.declared.network.LinkSpec.{LinkSpec}
 use Rattle.ason_base.specs.declared.network.TeRow.{TeRow}

@@ -1,5 +1,4 @@
 -- What a Path and a PathTear do to the legs may be carried out.
-use Rattle.std.proofs.Common.{[]}
 use Rattle.ason_base.specs.declared.ids.NodeId.{NodeId}
 use Rattle.ason_base.specs.declared.messages.Msg.{Msg}
 use Rattle.ason_base.specs.declared.messages.Msg.TheVariants.{Path, Resv, PathTear, PathErr, Notify}

@@ -1,5 +1,4 @@
 use Rattle.std.proofs.Common.{◌∙◌, ap, sym}
-use Rattle.std.specs.Prelude.{Some}
 use Rattle.mesh_rules.specs.Calls.{find_call, names}
 use Rattle.leg_table.proofs.CallsByLsp.{numbered-find, unnumbered-find}
 use Rattle.leg_table.proofs.LegOrder.{calls-to}
