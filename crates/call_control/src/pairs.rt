@@ -132,6 +132,7 @@ fn begin_backup(
 ) -> Result<(), OutOfMemory>
     requires narrow { route.out.labels ≤ 80 }
     requires lsp { calls.now.lsp ≤ 65535 }
+    requires rows { RowsAreKnown tables.now }
     requires primary { IsPrimaryOf tables.now request.now.work route.primary route.risks }
     ensures { OnOk result
         (change.new ≡ followed_by change.old
@@ -158,6 +159,7 @@ fn admit_backup(
     route: BackupRoute<'_>,
 ) -> Result<(), OutOfMemory>
     requires narrow { route.out.labels ≤ 80 }
+    requires rows { RowsAreKnown tables.now }
     requires primary { IsPrimaryOf tables.now request.now.work route.primary route.risks }
     ensures { OnOk result
         (change.new ≡ followed_by change.old
@@ -182,6 +184,7 @@ fn pair_over(
     primary: Primary,
 ) -> Result<(), OutOfMemory>
     requires links { LocalNodeFits (local_of tables.now) }
+    requires rows { RowsAreKnown tables.now }
     requires primary { IsPrimaryOf tables.now request.now.work primary.route primary.risks }
     ensures { OnOk result
         (change.new ≡ followed_by change.old

@@ -99,7 +99,6 @@ fn begin(
     requires narrow { out.now.labels ≤ 80 }
     requires tunnel { calls.now.tunnel ≤ 65535 }
     requires lsp { calls.now.lsp ≤ 65535 }
-    requires rows { RowsAreKnown tables.now }
     ensures { IfOk result (λ c. c ≡ begins_here tables.now calls.now request.now out.now route) }
 {
     let next = NextNumbers {
@@ -146,8 +145,7 @@ fn admit(
     out: &LinkSpec,
     route: Steps,
 ) -> Result<Change, OutOfMemory>
-    requires narrow { out.now.labels ≤ 80 }
-    requires rows { RowsAreKnown tables.now }
+    requires { out.now.labels ≤ 80 }
     ensures { IfOk result (λ c. c ≡ admitted_here tables.now calls.now request.now out.now route) }
 {
     if is_spent(tables, calls) {
@@ -187,8 +185,7 @@ fn call_over(
     request: &SetupRequest<'_>,
     route: &Steps,
 ) -> Result<Change, OutOfMemory>
-    requires links { LocalNodeFits (local_of tables.now) }
-    requires rows { RowsAreKnown tables.now }
+    requires { LocalNodeFits (local_of tables.now) }
     ensures { IfOk result (λ c. c ≡ over_here tables.now calls.now request.now route.now) }
 {
     match first_link(tables, route) {
@@ -201,6 +198,7 @@ fn call_over(
 }
 
 // The call over the least route, or refused where there is none.
+#[tactic(auto, using(crate::proofs::Searched::found_over, crate::proofs::Searched::none_found))]
 fn call_searched(
     alloc: Global,
     tables: &NodeTables,

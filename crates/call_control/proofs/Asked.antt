@@ -1,0 +1,66 @@
+-- An LSP is asked for, piece by piece.
+use Rattle.std.proofs.Common.{◌≡◌, ◌∙◌, ◌+◌, List, [], ◌∷◌, ◌++◌, ap}
+use Rattle.std.specs.Prelude.{Some}
+use Rattle.std.proofs.lemmas.List.{append-nil}
+use Rattle.ason_base.specs.declared.network.TeRow.{TeRow}
+use Rattle.ason_base.specs.declared.steps.Step.{Step}
+use Rattle.ason_base.specs.declared.tables.CallRec.{CallRec}
+use Rattle.ason_base.specs.declared.tables.Leg.{Leg}
+use Rattle.ason_base.specs.declared.tables.Out.{Out}
+use Rattle.mesh_rules.specs.declared.changes.CallChange.TheVariants as call
+use Rattle.mesh_rules.specs.declared.changes.LegChange.TheVariants as leg
+use Rattle.mesh_rules.specs.declared.changes.NextNumbers.{NextNumbers}
+use Rattle.mesh_rules.specs.Calls.{pairing}
+use Rattle.mesh_rules.specs.Changes.{Answer, changes_calls, followed_by, nothing, puts}
+use Rattle.mesh_rules.specs.FirstLegs.{first_leg, first_path}
+use Rattle.mesh_rules.specs.KnownRows.{known_rows}
+use Rattle.mesh_rules.specs.Pairs.{beside_lsp, route_from}
+use Rattle.leg_table.specs.States.{legs_state, local_of}
+use Rattle.leg_table.specs.Tables.{CallTable, LegTable}
+use Rattle.call_control.specs.PairRules.{backup_over, begins_here}
+use Rattle.call_control.specs.Requests.{BackupRoute, PairRequest}
+use Rattle.call_control.specs.Rules.{asked_here}
+use Rattle.call_control.specs.Searches.{RowsAreKnown}
+
+-- a leg with its Path, then its call, then the next numbers
+abbrev in_pieces : Answer → Answer → CallRec → NextNumbers → Answer
+in_pieces old asked c next =
+    record (followed_by (followed_by old asked) (changes_calls (call.Put c ∷ []))) { numbers = Some next }
+
+together : (old : Answer) (g : Leg) (out : Out) (c : CallRec) (next : NextNumbers) →
+    in_pieces old (puts g (out ∷ [])) c next
+    ≡ followed_by old (record nothing {
+      legs = leg.Put g ∷ [];
+      calls = call.Put c ∷ [];
+      numbers = Some next;
+      sent = out ∷ [];
+    })
+together old g out c next = λ i. record {
+  legs = append-nil (old.legs ++ leg.Put g ∷ []) i;
+  calls = ap (λ cs. cs ++ call.Put c ∷ []) (append-nil old.calls) i;
+  numbers = Some next;
+  down = old.down;
+  rows = append-nil (old.rows ++ []) i;
+  sent = append-nil (old.sent ++ out ∷ []) i;
+}
+
+pub backup-begins : (t : LegTable) (c : CallTable) (r : PairRequest) (b : BackupRoute) (old : Answer) → RowsAreKnown t →
+    b.primary ≡ route_from (local_of t) r.work →
+    in_pieces old (asked_here t (backup_over c r.work b.out b.rest b.primary)) (pairing r.call (beside_lsp r.work.lsp c.lsp))
+    (record { tunnel = c.tunnel; lsp = c.lsp + 1 })
+    ≡ followed_by old (begins_here t c r b)
+backup-begins t c r b old known primary =
+    let p = local_of t in
+    let back = pairing r.call (beside_lsp r.work.lsp c.lsp) in
+    let next : NextNumbers = record { tunnel = c.tunnel; lsp = c.lsp + 1 } in
+    together old _ _ back next
+    ∙ ap (λ rows. followed_by old (asked rows b.primary)) known
+    ∙ ap (λ route. followed_by old (asked (known_rows p (legs_state t)) route)) primary
+  where
+    asked : List TeRow → List Step → Answer
+    asked rows primary = record nothing {
+      legs = leg.Put (first_leg (local_of t) rows (backup_over c r.work b.out b.rest primary)) ∷ [];
+      calls = call.Put (pairing r.call (beside_lsp r.work.lsp c.lsp)) ∷ [];
+      numbers = Some (record { tunnel = c.tunnel; lsp = c.lsp + 1 });
+      sent = first_path (local_of t) (backup_over c r.work b.out b.rest primary) ∷ [];
+    }
