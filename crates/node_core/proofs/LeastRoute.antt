@@ -2,10 +2,8 @@
 use Rattle.std.proofs.Common.{◌≡◌, ◌↔◌, ℕ, zero, suc, Bool, true, false, List, [], length, replicate, refl, sym, ap, subst, Contains}
 use Rattle.std.specs.Prelude.{Option, Some, None}
 use Rattle.ason_base.specs.Walks.{NoLink, NoNode}
-use Rattle.ason_base.specs.declared.calls.Cause.TheVariants.{NoRoute as NoWay}
 use Rattle.ason_base.specs.declared.ids.NodeId.{NodeId}
 use Rattle.ason_base.specs.declared.network.TeRow.{TeRow}
-use Rattle.ason_base.specs.declared.steps.Step.{Step}
 use Rattle.ason_base.proofs.Ordered.{contains-none}
 use Rattle.route_least.specs.Answers.{IsLeastFound, IsRefusal}
 use Rattle.route_least.specs.Costs.{is_marked}
@@ -14,14 +12,10 @@ use Rattle.route_least.specs.declared.answers.Found.{Found}
 use Rattle.route_least.specs.declared.answers.RouteFault.{RouteFault}
 use Rattle.route_least.specs.declared.answers.RouteFault.TheVariants.{NoRoute}
 use Rattle.route_least.proofs.Bans.{same_none, same_walks}
-use Rattle.mesh_rules.specs.KnownRows.{known_rows}
-use Rattle.mesh_rules.specs.LeastRoutes.{Trip, least_trip}
-use Rattle.mesh_rules.specs.Setups.{SetupRequest, over_found, refused_setup}
+use Rattle.mesh_rules.specs.LeastRoutes.{least_trip}
 use Rattle.mesh_nodes.specs.Routes.{AreSearchable}
 use Rattle.mesh_nodes.proofs.routes.Found.{least_trip-least, no_trip-none}
-use Rattle.leg_table.specs.States.{local_of, state_of}
-use Rattle.leg_table.specs.Tables.{CallTable, LegTable}
-use Rattle.node_core.specs.Rules.{found_here, over_here, searched_here, steps_of}
+use Rattle.call_control.specs.Searches.{steps_of}
 
 none_marked : (n k : ℕ) → is_marked (replicate n false) k ≡ false
 none_marked zero k = refl
@@ -57,27 +51,3 @@ module _ (rows : List TeRow) (closed : List Bool) (no_rows : closed ≡ replicat
       let none = same_none rows (IsClosed rows closed) NoLink
       (Contains []) NoNode none_closed no_node from to potentials joins in
       sym (ap steps_of ((no_trip-none rows from to searchable).1 none.none))
-
--- What becomes of a setup over the route that is found
-
-over-found : (t : LegTable) (c : CallTable) (w : SetupRequest) (o : Option Trip) (route : List Step) →
-    Some route ≡ steps_of o →
-    over_here t c w route ≡ over_found (local_of t) (state_of t c) w o
-over-found t c w None route e = absurd (cc e)
-over-found t c w (Some r) route e = let is : route ≡ r.steps = cc e in ap (over_here t c w) is
-
-pub found-over : (t : LegTable) (c : CallTable) (w : SetupRequest) (route : List Step) →
-    Some route ≡ found_here t c w.egress →
-    over_here t c w route ≡ searched_here t c w
-found-over t c w route e = over-found t c w (least_trip (known_rows (local_of t) (state_of t c))
-    (local_of t).id w.egress) route e
-
-refused-found : (t : LegTable) (c : CallTable) (w : SetupRequest) (o : Option Trip) → None ≡ steps_of o →
-    refused_setup w NoWay ≡ over_found (local_of t) (state_of t c) w o
-refused-found t c w None e = refl
-refused-found t c w (Some r) e = absurd (cc e)
-
-pub none-found : (t : LegTable) (c : CallTable) (w : SetupRequest) → None ≡ found_here t c w.egress →
-    refused_setup w NoWay ≡ searched_here t c w
-none-found t c w e = refused-found t c w (least_trip (known_rows (local_of t) (state_of t c))
-    (local_of t).id w.egress) e

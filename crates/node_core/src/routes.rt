@@ -50,7 +50,8 @@ pub(crate) fn least_backup(
 {
     match backup_for(alloc, rows, primary, from, to) {
         Ok(found) => Ok(Some(found.route)),
-        Err(BackupFault::Unknown(_) | BackupFault::NoBackup) => Ok(None),
+        Err(BackupFault::Unknown(_)) => Ok(None),
+        Err(BackupFault::NoBackup) => Ok(None),
         Err(BackupFault::OutOfMemory) => Err(OutOfMemory),
     }
 }
