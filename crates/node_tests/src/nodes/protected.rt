@@ -4,9 +4,7 @@ use crate::nodes::cases::{Case, NOTHING, go_through};
 use crate::nodes::inputs::{A, B, Said};
 use crate::nodes::outs::Told;
 use ason_base::codes::{PRIMARY, SET, TORN};
-use ason_base::{
-    CallState, Cause, LinkId, LinkSpec, NodeId, NodeSpec, Numbers, Phase, Topology,
-};
+use ason_base::{CallState, Cause, LinkId, LinkSpec, NodeId, NodeSpec, Numbers, Phase, Topology};
 use std::alloc::Global;
 use std::test::Fail;
 
@@ -66,11 +64,7 @@ const CASES: &[Case] = &[
         &[(
             1,
             1,
-            &[
-                Said::ProtectedTo(B),
-                Said::Resv(B, 1, 1),
-                Said::Protect(1),
-            ],
+            &[Said::ProtectedTo(B), Said::Resv(B, 1, 1), Said::Protect(1)],
         )],
         &[],
         (
@@ -164,27 +158,21 @@ const CASES: &[Case] = &[
             (1, 1, &[Said::Protect(1)]),
         ],
         &[],
-        (
-            1,
-            Some(Phase::Live),
-            Some((CallState::Bare, Cause::Spent)),
-        ),
+        (1, Some(Phase::Live), Some((CallState::Bare, Cause::Spent))),
     ),
 ];
 
 /// Of two nodes that one link joins: no route beside the working one leads there.
-const ALONE: &[Case] = &[
+const ALONE: &[Case] = &[(
+    A,
+    &[(1, 1, &[Said::ProtectedTo(B), Said::Resv(B, 1, 1)])],
+    &[],
     (
-        A,
-        &[(1, 1, &[Said::ProtectedTo(B), Said::Resv(B, 1, 1)])],
-        &[],
-        (
-            1,
-            Some(Phase::Live),
-            Some((CallState::Bare, Cause::NoBackup)),
-        ),
+        1,
+        Some(Phase::Live),
+        Some((CallState::Bare, Cause::NoBackup)),
     ),
-];
+)];
 
 // Two nodes that so many links of one label join.
 fn joined(alloc: Global, links: &[u32]) -> Result<Topology, Fail> {
