@@ -2,6 +2,7 @@
 use Rattle.std.proofs.Common.{◌≡◌, ◌∙◌, ◌+◌, List, [], ◌∷◌, ◌++◌, ap}
 use Rattle.std.specs.Prelude.{Some}
 use Rattle.std.proofs.lemmas.List.{append-nil}
+use Rattle.ason_base.specs.declared.ids.Lsp.{Lsp}
 use Rattle.ason_base.specs.declared.network.TeRow.{TeRow}
 use Rattle.ason_base.specs.declared.steps.Step.{Step}
 use Rattle.ason_base.specs.declared.tables.CallRec.{CallRec}
@@ -12,7 +13,7 @@ use Rattle.mesh_rules.specs.declared.changes.LegChange.TheVariants as leg
 use Rattle.mesh_rules.specs.declared.changes.NextNumbers.{NextNumbers}
 use Rattle.mesh_rules.specs.Calls.{pairing}
 use Rattle.mesh_rules.specs.Changes.{Answer, changes_calls, followed_by, nothing, puts}
-use Rattle.mesh_rules.specs.FirstLegs.{first_leg, first_path}
+use Rattle.mesh_rules.specs.FirstLegs.{NewLsp, first_leg, first_path}
 use Rattle.mesh_rules.specs.KnownRows.{known_rows}
 use Rattle.mesh_rules.specs.Pairs.{beside_lsp, route_from}
 use Rattle.leg_table.specs.States.{legs_state, local_of}
@@ -64,3 +65,35 @@ backup-begins t c r b old known primary =
       numbers = Some (record { tunnel = c.tunnel; lsp = c.lsp + 1 });
       sent = first_path (local_of t) (backup_over c r.work b.out b.rest primary) ∷ [];
     }
+
+-- the same of the parts that a body has at hand
+pub backup-begun : (t : LegTable) (c : CallTable) (old : Answer) {r ri : PairRequest} {b bi : BackupRoute}
+    {asked called used : Answer} {new : NewLsp} {lsp : Lsp} {paired : CallRec} {next : NextNumbers} → RowsAreKnown t →
+    b.primary ≡ route_from (local_of t) r.work → ri ≡ r → bi ≡ b →
+    new ≡ backup_over c ri.work bi.out bi.rest bi.primary → asked ≡ followed_by old (asked_here t new) →
+    lsp ≡ new.lsp → paired ≡ pairing ri.call lsp →
+    called ≡ followed_by asked (changes_calls (call.Put paired ∷ [])) →
+    next ≡ record { tunnel = c.tunnel; lsp = c.lsp + 1 } → used ≡ record called { numbers = Some next } →
+    used ≡ followed_by old (begins_here t c r b)
+backup-begun t c old {r} {ri} {b} {bi} {asked} {called} {used} {new} {lsp} {paired} {next} known primary same_r same_b
+    new_is asked_is lsp_is paired_is called_is next_is used_is =
+    used_is
+    ∙ ap (λ n. with_next called n) next_is
+    ∙ ap (λ a. with_next a next_here) (called_is
+    ∙ ap (λ a. followed_by a (changes_calls (call.Put paired ∷ []))) (asked_is ∙ ap (λ n. followed_by old (asked_here t n)) is)
+    ∙ ap (λ p. followed_by (followed_by old (asked_here t new_here)) (changes_calls (call.Put p ∷ [])))
+    (paired_is ∙ ap (pairing ri.call) (lsp_is ∙ ap (λ n. n.lsp) is) ∙ ap (λ q. pairing q.call (beside_lsp r.work.lsp c.lsp)) same_r))
+    ∙ backup-begins t c r b old known primary
+  where
+    with_next : Answer → NextNumbers → Answer
+    with_next a n = record a { numbers = Some n }
+
+    next_here : NextNumbers
+    next_here = record { tunnel = c.tunnel; lsp = c.lsp + 1 }
+
+    new_here : NewLsp
+    new_here = backup_over c r.work b.out b.rest b.primary
+
+    is : new ≡ new_here
+    is = new_is ∙ ap (λ q. backup_over c q.work bi.out bi.rest bi.primary) same_r
+        ∙ ap (λ q. backup_over c r.work q.out q.rest q.primary) same_b
