@@ -8,6 +8,7 @@ use Rattle.ason_base.specs.declared.tables.Leg.{Leg}
 use Rattle.ason_base.specs.Lsps.{same_fibre}
 use Rattle.ason_base.specs.Network.{other_end}
 use Rattle.link_owner.specs.Claims.{FibreClaims}
+use Rattle.mesh_rules.specs.declared.limits.TheConstants.{MOST_LINKS_OF_ROUTE}
 use Rattle.mesh_rules.specs.Legs.{find_leg, is_beyond_asked, is_work, with_leg}
 use Rattle.mesh_rules.specs.LocalNodes.{LocalNode, fibre_in, fibre_out, own_link}
 use Rattle.mesh_rules.specs.Paths.{is_for_work}
@@ -63,6 +64,9 @@ passing-fits p k j back on g here there passes next =
       in_label = λ beyond. absurd (cc (beyond, waits));
       out_label = λ beyond. absurd (cc (beyond, waits));
       number = λ e. begins_elsewhere g.lsp.ingress.0 p.id.0 (g.lsp.lsp < next) passes.ingress e;
+      leaves = λ e. passes.egress;
+      short =
+          λ e. begins_elsewhere g.lsp.ingress.0 p.id.0 (length g.route < MOST_LINKS_OF_ROUTE) passes.ingress e;
     }
   where
     begins_elsewhere : (a b : ℕ) (P : Type 0) → nat_eq a b ≡ false → a ≡ b → P
