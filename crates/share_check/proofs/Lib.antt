@@ -1,0 +1,4 @@
+pub mod Fitting
+mod LeastLsps
+mod LspOrder
+mod Places
