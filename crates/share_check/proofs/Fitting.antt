@@ -1,5 +1,5 @@
 -- The labels that fit, guard by guard and risk by risk.
-use Rattle.std.proofs.Common.{◌≡◌, ◌<◌, ◌+◌, ℕ, Bool, true, false, not, nat_eq, List, [], ◌∷◌, ◌++◌, length, get_or, take, refl, sym, ap, subst, ◌∙◌, arith, Contains}
+use Rattle.std.proofs.Common.{◌≡◌, ◌<◌, ◌≤◌, ◌+◌, ℕ, Bool, true, false, not, nat_eq, List, [], ◌∷◌, ◌++◌, length, get_or, take, refl, sym, ap, subst, ◌∙◌, arith, Contains}
 use Rattle.std.specs.Prelude.{◌&&◌, ◌||◌, filter}
 use Rattle.std.specs.List.{list_any}
 use Rattle.std.proofs.lemmas.List.{take_more}
@@ -14,6 +14,7 @@ use Rattle.ason_base.proofs.Ordered.{any-there, there-any}
 use Rattle.ason_base.proofs.RiskOrder.{common-there, contains-has_risk, has_risk-contains, there-common}
 use Rattle.share_check.specs.declared.guards.Guard.{Guard}
 use Rattle.share_check.specs.Guards.{fits, fitting, has_on, is_guarded, is_met, is_on}
+use Rattle.share_check.proofs.LeastLsps.{FirstFree}
 use Rattle.share_check.proofs.LspOrder.{same_lsp-refl}
 use Rattle.share_check.proofs.Places.{any-more, both_left, both_right, or_none}
 
@@ -66,49 +67,61 @@ module _ (f : Fibre) (r : List Risk) (s : List Guard) (c : Guard) where
 abbrev pub NoneGuards : List Guard → Fibre → List Risk → ℕ → Type 0
 NoneGuards s f r x = (l : Lsp) (q : Risk) → Contains r q → is_guarded s f x l q ≡ false
 
--- a guard with one of the risks tells its LSP and the risk
-guard-met : (s : List Guard) (f : Fibre) (r : List Risk) (x : ℕ) →
-    list_any (λ g. is_met f r g && nat_eq g.label x) s ≡ true →
-    (l : Lsp) × (q : Risk) × Contains r q × (is_guarded s f x l q ≡ true)
-guard-met s f r x h =
-    let there = any-there (λ g. is_met f r g && nat_eq g.label x) s h in
-    let g = there.0 in
-    let met : is_met f r g ≡ true = both_left (is_met f r g) (nat_eq g.label x) there.2 in
-    let label : nat_eq g.label x ≡ true = both_right (is_met f r g) (nat_eq g.label x) there.2 in
+-- a guard's LSP guards each of its risks
+guards-own : (g : Guard) (f : Fibre) (x : ℕ) (q : Risk) → same_fibre g.fibre f ≡ true → nat_eq g.label x ≡ true →
+    has_risk g.risks q ≡ true → (has_on f x q g && same_lsp g.lsp g.lsp) ≡ true
+guards-own g f x q fibre label risk = rw (fibre, label, risk) (same_lsp-refl g.lsp)
+
+met-guards : (g : Guard) (f : Fibre) (r : List Risk) (x : ℕ) → (is_met f r g && nat_eq g.label x) ≡ true →
+    (q : Risk) × Contains r q × ((has_on f x q g && same_lsp g.lsp g.lsp) ≡ true)
+met-guards g f r x h =
+    let met : is_met f r g ≡ true = both_left (is_met f r g) (nat_eq g.label x) h in
+    let label : nat_eq g.label x ≡ true = both_right (is_met f r g) (nat_eq g.label x) h in
     let fibre : same_fibre g.fibre f ≡ true = both_left (same_fibre g.fibre f) (have_common r g.risks) met in
     let common = common-there r g.risks (both_right (same_fibre g.fibre f) (have_common r g.risks) met) in
-    (
-      g.lsp,
-      common.0,
-      common.1,
-      there-any (λ c. has_on f x common.0 c && same_lsp c.lsp g.lsp) s g there.1
-          (rw (fibre, label, contains-has_risk g.risks common.0 common.2) (same_lsp-refl g.lsp)),
-    )
+    (common.0, common.1, guards-own g f x common.0 fibre label (contains-has_risk g.risks common.0 common.2))
 
--- an LSP that guards one of the risks has a guard with it
-met-guard : (s : List Guard) (f : Fibre) (r : List Risk) (x : ℕ) (l : Lsp) (q : Risk) → Contains r q →
-    is_guarded s f x l q ≡ true → list_any (λ g. is_met f r g && nat_eq g.label x) s ≡ true
-met-guard s f r x l q asked h =
-    let there = any-there (λ c. has_on f x q c && same_lsp c.lsp l) s h in
-    let g = there.0 in
-    let has : has_on f x q g ≡ true = both_left (has_on f x q g) (same_lsp g.lsp l) there.2 in
+guards-met : (g : Guard) (f : Fibre) (r : List Risk) (x : ℕ) (l : Lsp) (q : Risk) → Contains r q →
+    (has_on f x q g && same_lsp g.lsp l) ≡ true → (is_met f r g && nat_eq g.label x) ≡ true
+guards-met g f r x l q asked h =
+    let has : has_on f x q g ≡ true = both_left (has_on f x q g) (same_lsp g.lsp l) h in
     let on : is_on f x g ≡ true = both_left (is_on f x g) (has_risk g.risks q) has in
     let risk = has_risk-contains g.risks q (both_right (is_on f x g) (has_risk g.risks q) has) in
     let fibre : same_fibre g.fibre f ≡ true = both_left (same_fibre g.fibre f) (nat_eq g.label x) on in
     let label : nat_eq g.label x ≡ true = both_right (same_fibre g.fibre f) (nat_eq g.label x) on in
-    there-any (λ g. is_met f r g && nat_eq g.label x) s g there.1
-    (rw (fibre, there-common r g.risks q asked risk) label)
+    rw (fibre, there-common r g.risks q asked risk) label
 
 pub none-fits : (s : List Guard) (f : Fibre) (r : List Risk) (x : ℕ) → NoneGuards s f r x → fits s f r x ≡ true
 none-fits s f r x none = go (list_any (λ g. is_met f r g && nat_eq g.label x) s) refl
   where
+    never : list_any (λ g. is_met f r g && nat_eq g.label x) s ≡ true → ⊥
+    never e =
+        let there = any-there (λ g. is_met f r g && nat_eq g.label x) s e in
+        let met = met-guards there.0 f r x there.2 in
+        cc (
+          none there.0.lsp met.0 met.1,
+          there-any (λ c. has_on f x met.0 c && same_lsp c.lsp there.0.lsp) s there.0 there.1 met.2,
+        )
+
     go : (b : Bool) → list_any (λ g. is_met f r g && nat_eq g.label x) s ≡ b → not b ≡ true
-    go true e = let met = guard-met s f r x e in absurd (cc (met.3, none met.0 met.1 met.2))
+    go true e = absurd (never e)
     go false e = refl
 
 pub fits-none : (s : List Guard) (f : Fibre) (r : List Risk) (x : ℕ) → fits s f r x ≡ true → NoneGuards s f r x
 fits-none s f r x h l q asked = go (is_guarded s f x l q) refl
   where
+    met : is_guarded s f x l q ≡ true → list_any (λ g. is_met f r g && nat_eq g.label x) s ≡ true
+    met e =
+        let there = any-there (λ c. has_on f x q c && same_lsp c.lsp l) s e in
+        there-any (λ g. is_met f r g && nat_eq g.label x) s there.0 there.1 (guards-met there.0 f r x l q asked there.2)
+
     go : (b : Bool) → is_guarded s f x l q ≡ b → b ≡ false
-    go true e = absurd (cc (h, met-guard s f r x l q asked e))
+    go true e = absurd (cc (h, met e))
     go false e = refl
+
+-- none of the risks is guarded
+pub first-fits : (s : List Guard) (f : Fibre) (r : List Risk) (x : ℕ) (i : ℕ) → length r ≤ i → FirstFree s f x r i →
+    fits s f r x ≡ true
+first-fits s f r x i all free =
+    none-fits s f r x (λ l q there.
+    subst (λ p. is_guarded s f x l p ≡ false) there.2 (free l there.0 q (let h = there.1 in omega arith)))

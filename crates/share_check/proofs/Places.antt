@@ -71,10 +71,13 @@ moved P f g x y l m same p =
 
 -- A guard is added
 
+abbrev pub guard_of : Fibre → ℕ → Lsp → List Risk → Guard
+guard_of f x l r = record { fibre = f; label = x; lsp = l; risks = r }
+
 pub guard-added : (f : Fibre) (x : ℕ) (l : Lsp) (r : List Risk) (s : List Guard) → GuardsNone s f x l →
-    GuardsJust f x l r s (s ++ record { fibre = f; label = x; lsp = l; risks = r } ∷ [])
+    GuardsJust f x l r s (s ++ guard_of f x l r ∷ [])
 guard-added f x l r s none g y m q =
-    any-more (λ c. has_on g y q c && same_lsp c.lsp m) s (record { fibre = f; label = x; lsp = l; risks = r })
+    any-more (λ c. has_on g y q c && same_lsp c.lsp m) s (guard_of f x l r)
     ∙ go (same_fibre f g && nat_eq x y) (same_lsp l m) refl refl
   where
     old : Bool
