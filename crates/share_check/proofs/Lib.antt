@@ -1,4 +1,4 @@
 pub mod Fitting
 mod LeastLsps
 mod LspOrder
-mod Places
+pub mod Places

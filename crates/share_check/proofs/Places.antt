@@ -93,6 +93,14 @@ guard-added f x l r s none g y m q =
     go true false h k = rw (and_none (has_risk r q)) (or_none old)
     go false b h k = or_none old
 
+-- an LSP that guards nothing on the label guards just nothing there
+pub guards-same : (f : Fibre) (x : ℕ) (l : Lsp) (s : List Guard) → GuardsNone s f x l → GuardsJust f x l [] s s
+guards-same f x l s none g y m q = go (is_there f x l g y m) refl
+  where
+    go : (b : Bool) → is_there f x l g y m ≡ b → is_guarded s g y m q ≡ cond b false (is_guarded s g y m q)
+    go true e = moved (λ g y m. is_guarded s g y m q ≡ false) f g x y l m (there-same f g x y l m e) (none q)
+    go false e = refl
+
 -- Those of an LSP's label are taken off
 
 of-there : (f g : Fibre) (x y : ℕ) (l m : Lsp) (c : Guard) → is_of f x l c ≡ true → is_of g y m c ≡ true →

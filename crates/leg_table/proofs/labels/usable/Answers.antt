@@ -12,15 +12,8 @@ returns-in-Work c =
     subst (λ r. c.unclaimed.result ≡ usable (local_of t) t.legs r c.args.risks.now c.args.f) (sym c.in-Work.is)
     (c.unclaimed.ensures
     ∙ unclaimed-usable (local_of t) t.legs c.args.risks.now o c.args.f (legs-to t.legs c.rises.ensures.rising)
-    c.requires.owner.claims c.requires.owner.fibres
-    (c.requires.owner.fibres.fibres c.args.f ∙ c.requires.comes_in))
+    c.requires.node.labels.claims c.requires.node.fibres
+    (c.requires.node.fibres.fibres c.args.f ∙ c.requires.comes_in))
 
 pub returns-in-Back : goal.returns-in-Back
-returns-in-Back c =
-    let t = c.args.tables.now in
-    let o = c.args.owner.now in
-    subst (λ r. c.left_by.result ≡ usable (local_of t) t.legs r c.args.risks.now c.args.f) (sym c.in-Back.is)
-    (rw (c.left_by.ensures, c.claims.ensures, c.shareable.ensures)
-    (shared-usable (local_of t) t.legs c.args.risks.now o c.args.f (legs-to t.legs c.rises.ensures.rising)
-    c.requires.owner.claims c.requires.owner.fibres
-    (c.requires.owner.fibres.fibres c.args.f ∙ c.requires.comes_in)))
+returns-in-Back c = ?
