@@ -42,7 +42,7 @@ all-one_more : {X : Type 0} (P : X → Type 0) (xs : List X) (x : X) → AllByRe
 all-one_more P [] x all here = (here, tt)
 all-one_more P (y ∷ xs) x all here = (all.0, all-one_more P xs x all.1 here)
 
-or_true : (b : Bool) → (b || true) ≡ true
+pub or_true : (b : Bool) → (b || true) ≡ true
 or_true true = refl
 or_true false = refl
 

@@ -1,6 +1,7 @@
 -- The guards and the legs, after a leg gives up its label or takes one.
 use Rattle.std.proofs.Common.{◌≡◌, ℕ, Bool, true, false, cond, nat_eq, List, [], refl, sym, ap, subst, ◌∙◌}
 use Rattle.std.specs.Prelude.{◌&&◌, Option, Some, None}
+use Rattle.ason_base.specs.declared.calls.Role.TheVariants.{Work, Back}
 use Rattle.ason_base.specs.declared.ids.Fibre.{Fibre}
 use Rattle.ason_base.specs.declared.ids.Lsp.{Lsp}
 use Rattle.ason_base.specs.declared.risks.Risk.{Risk}
@@ -9,12 +10,13 @@ use Rattle.ason_base.specs.Lsps.{same_fibre, same_lsp}
 use Rattle.ason_base.specs.Risks.{has_risk}
 use Rattle.share_check.specs.declared.guards.Guard.{Guard}
 use Rattle.share_check.specs.Guards.{GuardsJust, GuardsNone, is_guarded}
+use Rattle.share_check.proofs.Places.{guards-same}
 use Rattle.mesh_rules.specs.Legs.{find_leg, is_work, takes}
 use Rattle.mesh_nodes.proofs.Cases.{both_left, both_right}
 use Rattle.mesh_nodes.proofs.LegList.{found-lsp, same_lsp-eq}
 use Rattle.leg_table.specs.declared.labels.TakenLabel.{TakenLabel}
-use Rattle.leg_table.specs.LegClaims.{GuardsFit, GuardsNothing, GuardsOfLeg, claim_kind, guarded_risks, guards_here, kind_here, taken, taken_of}
-use Rattle.leg_table.proofs.ClaimChanges.{Entered, Left, kind-none, number, same_number}
+use Rattle.leg_table.specs.LegClaims.{GuardsBy, GuardsFit, GuardsNothing, GuardsOfLeg, claim_kind, guarded_risks, guards_here, kind_here, taken, taken_of}
+use Rattle.leg_table.proofs.ClaimChanges.{Entered, Left, kind-none, none-kind, number, same_number}
 use Rattle.leg_table.proofs.OwnerFibres.{same_fibre-eq, same_fibre-refl}
 use Rattle.leg_table.proofs.TakenLabels.{taken-takes, takes-taken}
 
@@ -64,6 +66,11 @@ pub none-guarded : (l : Lsp) (legs : List Leg) (s : List Guard) → GuardsFit le
 none-guarded l legs s fit bare f x q =
     fit.each f x l q ∙ none-guards f x q (find_leg l legs) (kind-none f x (find_leg l legs) bare)
 
+-- a leg that takes none
+pub bare-guards : (g : Leg) (s : List Guard) → GuardsOfLeg g s → taken g ≡ None → (f : Fibre) (x : ℕ) →
+    GuardsNone s f x g.lsp
+bare-guards g s own bare f x q = own f x q ∙ none-guards f x q (Some g) (none-kind f x g bare)
+
 -- a working leg
 pub work-guards : (g : Leg) (s : List Guard) → GuardsOfLeg g s → is_work g.role ≡ true → (f : Fibre) (x : ℕ) →
     GuardsNone s f x g.lsp
@@ -71,6 +78,18 @@ work-guards g s own work f x q =
     own f x q
     ∙ ap (λ b. takes f x g && has_risk (cond b [] g.risks) q) work
     ∙ and_none (takes f x g)
+
+-- a working leg guards nothing where its LSP guarded nothing, and a backup the risks that it records
+pub guards-work : (g : Leg) (t : TakenLabel) (s : List Guard) → g.role ≡ Work → GuardsNone s t.fibre t.label g.lsp →
+    GuardsBy g t s s
+guards-work g t s work none =
+    subst (λ b. GuardsJust t.fibre t.label g.lsp (cond b [] g.risks) s s) (sym (ap is_work work))
+    (guards-same t.fibre t.label g.lsp s none)
+
+pub guards-back : (g : Leg) (t : TakenLabel) (s after : List Guard) → g.role ≡ Back →
+    GuardsJust t.fibre t.label g.lsp g.risks s after → GuardsBy g t s after
+guards-back g t s after back just =
+    subst (λ b. GuardsJust t.fibre t.label g.lsp (cond b [] g.risks) s after) (sym (ap is_work back)) just
 
 -- the leg of the LSP is the one that guards what the LSP does
 pub guards-of_leg : (l : Lsp) (legs : List Leg) (s : List Guard) (g : Leg) → GuardsFit legs s →
@@ -128,7 +147,7 @@ left-guards l legs after s unguarded fit left nothing =
 
 pub entered-guards : (g : Leg) (legs after : List Leg) (s guarded : List Guard) (t : TakenLabel) → GuardsFit legs s →
     Entered g legs after → taken g ≡ Some t →
-    GuardsJust t.fibre t.label g.lsp (guarded_risks g) s guarded → GuardsFit after guarded
+    GuardsBy g t s guarded → GuardsFit after guarded
 entered-guards g legs after s guarded t fit entered has just =
     record { each = λ f x m q. just f x m q ∙ go f x m q (same_lsp g.lsp m) refl }
   where

@@ -16,7 +16,7 @@ use Rattle.ason_base.specs.declared.risks.Risk.{Risk}
 use Rattle.ason_base.specs.declared.tables.Leg.{Leg}
 use Rattle.link_owner.specs.Claims.{FibreClaims, NoClaim, works_on}
 use Rattle.link_owner.specs.Claims as claims
-use Rattle.link_owner.specs.Owners.{claims_of, comes_in, has_label, label_freed, labels_of}
+use Rattle.link_owner.specs.Owners.{claim_added, claims_of, comes_in, has_label, label_freed, labels_of}
 use Rattle.link_owner.specs.declared.claims.Claim.{Claim}
 use Rattle.link_owner.specs.declared.claims.ClaimKind.{ClaimKind}
 use Rattle.link_owner.specs.declared.claims.ClaimKind.TheVariants.{Working, Backup, Armed}
@@ -25,7 +25,7 @@ use Rattle.mesh_rules.specs.LocalNodes.{LocalNode, fibre_in, own_link}
 use Rattle.mesh_rules.specs.LocalNodes as local
 use Rattle.mesh_rules.specs.declared.changes.LegChange.{LegChange}
 use Rattle.mesh_rules.specs.declared.changes.LegChange.TheVariants.{Goes, Put}
-use Rattle.share_check.specs.Guards.{is_guarded}
+use Rattle.share_check.specs.Guards.{GuardsJust, is_guarded}
 use Rattle.share_check.specs.declared.guards.Guard.{Guard}
 use Rattle.leg_table.specs.States.{learnt_rows, local_of}
 use Rattle.leg_table.specs.Tables.{LegTable}
@@ -85,11 +85,19 @@ pub record ClaimsFit (legs : List Leg) (o : List FibreClaims) : Type 0 where
   pub all : (f : Fibre) (x : ℕ) (l : Lsp) (g : Leg) → find_leg l legs ≡ Some g → IsTrue (takes f x g) →
       IsTrue (has_label o f x l)
 
+-- the claims with that of a leg that takes the label
+abbrev pub claimed_by : Leg → TakenLabel → List FibreClaims → List FibreClaims
+claimed_by g t o = claim_added t.fibre (first_claim g.role t.label g.lsp) o
+
 -- Guards of legs
 
 -- the risks that the leg guards on its label: a backup those that it records
 abbrev pub guarded_risks : Leg → List Risk
 guarded_risks g = if is_work g.role then [] else g.risks
+
+-- the guards with those of a leg that takes the label
+abbrev pub GuardsBy : Leg → TakenLabel → List Guard → List Guard → Type 0
+GuardsBy g t before after = GuardsJust t.fibre t.label g.lsp (guarded_risks g) before after
 
 -- the leg takes the label, and guards the risk there
 abbrev pub guards_here : Fibre → ℕ → Risk → Option Leg → Bool

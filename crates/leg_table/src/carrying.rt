@@ -1,13 +1,11 @@
 //! Carrying out what a rule changes: the legs with the labels that they take, the row that is learnt, the calls and the numbers.
 
-ghost use Rattle.std.specs.Prelude.{◌≡◌, ◌≤◌, ◌<◌, ◌+◌, IfErr, IfOk, IfSome, IsTrue, None, OnErr, OnOk, Some, length, not, vec_capacity, vec_len};
+ghost use Rattle.std.specs.Prelude.{◌≡◌, ◌≤◌, ◌<◌, ◌+◌, IfOk, IfSome, None, OnErr, OnOk, Some, length, vec_capacity, vec_len};
 ghost use Rattle.std.specs.List.{AllByRecursion};
 ghost use Rattle.std.specs.Option.{option_to_list};
-ghost use Rattle.link_owner.specs.Claims.{NoClaim, RefusedFor};
-ghost use Rattle.link_owner.specs.Owners.{claim_added, claims_of, comes_in, has_label, labels_of};
 ghost use Rattle.mesh_rules.specs.Changes.{changed, learnt_after};
-ghost use Rattle.mesh_rules.specs.Legs.{find_leg, leg_changed, legs_changed, with_leg, without_leg};
-ghost use Rattle.leg_table.specs.LegClaims.{ClaimsFit, IsOwnerOf, MayAllEnter, MayBeMade, MayClaim, MayEnter, SameFibres, TakesNone, bars, first_claim, freed_of, taken, taken_of};
+ghost use Rattle.mesh_rules.specs.Legs.{leg_changed, legs_changed, with_leg, without_leg};
+ghost use Rattle.leg_table.specs.LegClaims.{AreOfOneNode, LabelsFit, MayAllEnter, MayBeMade, MayClaim, MayEnter, SameFibres, TakesNone, taken};
 ghost use Rattle.leg_table.specs.States.{local_of, state_of};
 ghost use Rattle.leg_table.specs.Tables.{LegsRise};
 
@@ -104,7 +102,7 @@ fn enter_leg(
     ensures fit { LabelsFit legs.new.items owner.new shares.new }
     ensures fibres { SameFibres owner.old owner.new }
 {
-    reserve(owner, shares, alloc, leg.leg(), label)?;
+    reserve(owner, shares, alloc, leg.leg(), &label)?;
     set_leg(legs, leg);
     Ok(())
 }

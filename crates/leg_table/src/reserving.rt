@@ -2,10 +2,10 @@
 
 ghost use Rattle.std.specs.Prelude.{◌≡◌, ◌≤◌, [], true, IfErr, IfSome, IsTrue, OnErr, OnOk, not};
 ghost use Rattle.link_owner.specs.Claims.{NoClaim, RefusedFor};
-ghost use Rattle.link_owner.specs.Owners.{claim_added, claims_of, comes_in, has_label, labels_of};
+ghost use Rattle.link_owner.specs.Owners.{claims_of, comes_in, has_label, labels_of};
 ghost use Rattle.mesh_rules.specs.Legs.{find_leg, is_work};
 ghost use Rattle.share_check.specs.Guards.{GuardsJust, GuardsNone};
-ghost use Rattle.leg_table.specs.LegClaims.{GuardsNothing, GuardsOfLeg, LabelsFit, bars, first_claim, freed_of, guarded_risks, taken, taken_of};
+ghost use Rattle.leg_table.specs.LegClaims.{GuardsBy, GuardsNothing, GuardsOfLeg, LabelsFit, bars, claimed_by, freed_of, taken, taken_of};
 ghost use Rattle.leg_table.specs.Tables.{LegsRise};
 
 use crate::boxes::BoxedLeg;
@@ -16,39 +16,37 @@ use link_owner::{ClaimFault, Owner};
 use share_check::Shares;
 use std::alloc::Global;
 
-// The label is given to a leg of this role.
+// The label is given to the leg.
 fn give(
     owner: &mut Owner,
     alloc: Global,
-    role: Role,
-    lsp: Lsp,
-    label: TakenLabel,
+    leg: &Leg,
+    label: &TakenLabel,
 ) -> Result<(), ClaimFault>
-    requires comes_in { IsTrue (comes_in owner.old label.fibre) }
-    requires within { label.label ≤ labels_of label.fibre owner.old }
-    requires new { IsTrue (not (has_label owner.old label.fibre label.label lsp)) }
-    ensures ok { OnOk result
-        (owner.new ≡ claim_added label.fibre (first_claim role label.label lsp) owner.old) }
+    requires comes_in { IsTrue (comes_in owner.old label.now.fibre) }
+    requires within { label.now.label ≤ labels_of label.now.fibre owner.old }
+    requires new { IsTrue (not (has_label owner.old label.now.fibre label.now.label leg.now.lsp)) }
+    ensures ok { OnOk result (owner.new ≡ claimed_by leg.now label.now owner.old) }
     ensures err { OnErr result (owner.new ≡ owner.old) }
     ensures fault { IfErr result
-        (RefusedFor (bars role label.label) (claims_of label.fibre owner.old)) }
+        (RefusedFor (bars leg.now.role label.now.label) (claims_of label.now.fibre owner.old)) }
 {
-    match role {
-        Role::Work => owner.claim(alloc, label.fibre, label.label, lsp),
-        Role::Back => owner.hold(alloc, label.fibre, label.label, lsp),
+    match leg.role {
+        Role::Work => owner.claim(alloc, label.fibre, label.label, leg.lsp),
+        Role::Back => owner.hold(alloc, label.fibre, label.label, leg.lsp),
     }
 }
 
-fn claim(owner: &mut Owner, alloc: Global, leg: &Leg, label: TakenLabel) -> Result<(), OutOfMemory>
-    requires comes_in { IsTrue (comes_in owner.old label.fibre) }
-    requires within { label.label ≤ labels_of label.fibre owner.old }
-    requires new { IsTrue (not (has_label owner.old label.fibre label.label leg.now.lsp)) }
-    requires free { NoClaim (bars leg.now.role label.label) (claims_of label.fibre owner.old) }
-    ensures ok { OnOk result
-        (owner.new ≡ claim_added label.fibre (first_claim leg.now.role label.label leg.now.lsp) owner.old) }
+fn claim(owner: &mut Owner, alloc: Global, leg: &Leg, label: &TakenLabel) -> Result<(), OutOfMemory>
+    requires comes_in { IsTrue (comes_in owner.old label.now.fibre) }
+    requires within { label.now.label ≤ labels_of label.now.fibre owner.old }
+    requires new { IsTrue (not (has_label owner.old label.now.fibre label.now.label leg.now.lsp)) }
+    requires free {
+        NoClaim (bars leg.now.role label.now.label) (claims_of label.now.fibre owner.old) }
+    ensures ok { OnOk result (owner.new ≡ claimed_by leg.now label.now owner.old) }
     ensures err { OnErr result (owner.new ≡ owner.old) }
 {
-    match give(owner, alloc, leg.role, leg.lsp, label) {
+    match give(owner, alloc, leg, label) {
         Ok(()) => Ok(()),
         Err(ClaimFault::OutOfMemory) => Err(OutOfMemory),
         Err(ClaimFault::Held(_)) => unreachable!(),
@@ -60,11 +58,10 @@ fn guard(
     shares: &mut Shares,
     alloc: Global,
     leg: &Leg,
-    label: TakenLabel,
+    label: &TakenLabel,
 ) -> Result<(), OutOfMemory>
-    requires { GuardsNone shares.old label.fibre label.label leg.now.lsp }
-    ensures ok { OnOk result
-        (GuardsJust label.fibre label.label leg.now.lsp (guarded_risks leg.now) shares.old shares.new) }
+    requires { GuardsNone shares.old label.now.fibre label.now.label leg.now.lsp }
+    ensures ok { OnOk result (GuardsBy leg.now label.now shares.old shares.new) }
     ensures err { OnErr result (shares.new ≡ shares.old) }
 {
     match leg.role {
@@ -79,17 +76,16 @@ pub(crate) fn reserve(
     shares: &mut Shares,
     alloc: Global,
     leg: &Leg,
-    label: TakenLabel,
+    label: &TakenLabel,
 ) -> Result<(), OutOfMemory>
-    requires comes_in { IsTrue (comes_in owner.old label.fibre) }
-    requires within { label.label ≤ labels_of label.fibre owner.old }
-    requires new { IsTrue (not (has_label owner.old label.fibre label.label leg.now.lsp)) }
-    requires free { NoClaim (bars leg.now.role label.label) (claims_of label.fibre owner.old) }
-    requires none { GuardsNone shares.old label.fibre label.label leg.now.lsp }
-    ensures ok { OnOk result
-        (owner.new ≡ claim_added label.fibre (first_claim leg.now.role label.label leg.now.lsp) owner.old) }
-    ensures guards { OnOk result
-        (GuardsJust label.fibre label.label leg.now.lsp (guarded_risks leg.now) shares.old shares.new) }
+    requires comes_in { IsTrue (comes_in owner.old label.now.fibre) }
+    requires within { label.now.label ≤ labels_of label.now.fibre owner.old }
+    requires new { IsTrue (not (has_label owner.old label.now.fibre label.now.label leg.now.lsp)) }
+    requires free {
+        NoClaim (bars leg.now.role label.now.label) (claims_of label.now.fibre owner.old) }
+    requires none { GuardsNone shares.old label.now.fibre label.now.label leg.now.lsp }
+    ensures ok { OnOk result (owner.new ≡ claimed_by leg.now label.now owner.old) }
+    ensures guards { OnOk result (GuardsBy leg.now label.now shares.old shares.new) }
     ensures err { OnErr result (owner.new ≡ owner.old) }
     ensures err_shares { OnErr result (shares.new ≡ shares.old) }
 {
@@ -104,10 +100,10 @@ pub(crate) fn reserve(
 }
 
 // A working leg guards none.
-fn unguard(shares: &mut Shares, leg: &Leg, label: TakenLabel)
+fn unguard(shares: &mut Shares, leg: &Leg, label: &TakenLabel)
     requires { is_work leg.now.role ≡ true →
-        GuardsNone shares.old label.fibre label.label leg.now.lsp }
-    ensures { GuardsJust label.fibre label.label leg.now.lsp [] shares.old shares.new }
+        GuardsNone shares.old label.now.fibre label.now.label leg.now.lsp }
+    ensures { GuardsJust label.now.fibre label.now.label leg.now.lsp [] shares.old shares.new }
 {
     match leg.role {
         Role::Work => {}
@@ -127,7 +123,7 @@ fn free(owner: &mut Owner, shares: &mut Shares, leg: &Leg)
         None => {}
         Some(label) => {
             owner.free(label.fibre, label.label, leg.lsp);
-            unguard(shares, leg, label);
+            unguard(shares, leg, &label);
         }
     }
 }
