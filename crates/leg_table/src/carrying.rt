@@ -1,4 +1,5 @@
-//! Carrying out what a rule changes: the legs with the labels that they take, the row that is learnt, the calls and the numbers.
+//! Carrying out what a rule changes: the legs with the labels that they take, the row that is learnt, the calls and the
+//! numbers.
 
 ghost use Rattle.std.specs.Prelude.{◌≡◌, ◌≤◌, ◌<◌, ◌+◌, IfOk, IfSome, None, OnErr, OnOk, Some, length, vec_capacity, vec_len};
 ghost use Rattle.std.specs.List.{AllByRecursion};

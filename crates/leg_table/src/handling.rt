@@ -13,8 +13,8 @@ use link_owner::Owner;
 use share_check::Shares;
 use std::alloc::Global;
 
-/// Carries out what a change does to the legs, and hands back what is to be sent, in order. The owner's claims and the guards of
-/// the shares follow the legs. After want of memory nothing has changed.
+/// Carries out what a change does to the legs, and hands back what is to be sent, in order. The owner's claims and the
+/// guards of the shares follow the legs. After want of memory nothing has changed.
 pub fn handle(
     alloc: Global,
     tables: &mut NodeTables,

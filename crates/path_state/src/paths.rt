@@ -97,7 +97,8 @@ fn offered_labels(
 {
     let fibre = fibre_in(link, tables.node().id);
     let role = role_of(request.role);
-    request.set.meet(&usable(tables, owner, shares, role, risks, fibre))
+    let labels = usable(tables, owner, shares, role, risks, fibre);
+    request.set.meet(&labels)
 }
 
 fn refuse(

@@ -9,8 +9,8 @@ use ason_base::{Copied, Fibre, Label, LabelSet, Lsp, OutOfMemory, RiskSet, copy_
 use std::alloc::Global;
 use std::marker::Model;
 
-/// The risks that keep backups off labels. Backups may share a label where their primaries have no risk in common, so that
-/// no failure of one of these needs the label for both.
+/// The risks that keep backups off labels. Backups may share a label where their primaries have no risk in common, so
+/// that no failure of one risk needs the label for both.
 #[derive(Debug, Drop)]
 pub struct Shares {
     guards: Vec<Guard>,
@@ -65,8 +65,8 @@ impl Shares {
         self.guards.retain(|guard| !is_of(guard, f, l, lsp));
     }
 
-    /// Whether a backup whose primary has these risks may have the label. It meets the least of them that an LSP guards there,
-    /// and the least such LSP is told.
+    /// Whether a backup whose primary has these risks may have the label. If not, it meets the least of them that an LSP
+    /// guards there, and the least such LSP is told.
     pub fn fits(&self, f: Fibre, l: Label, r: &RiskSet) -> Result<(), Meets>
         ensures fits { OnOk result (IsTrue (fits self.now f r.now l)) }
         ensures meets { IfErr result (IsLeastMet self.now f l r.now) }
@@ -79,8 +79,8 @@ impl Shares {
         Ok(())
     }
 
-    /// The labels that a backup whose primary has these risks may have: those from 1 to 80 on which no LSP guards one of
-    /// them.
+    /// The labels that a backup whose primary has these risks may have: those from 1 to 80 on which no LSP guards one
+    /// of them.
     pub fn fitting(&self, f: Fibre, r: &RiskSet) -> LabelSet
         ensures { result ≡ fitting self.now f r.now }
     {

@@ -30,7 +30,6 @@ returns-clause-fit c =
 pub returns-clause-fibres : goal.returns-clause-fibres
 returns-clause-fibres c =
     ?
-
-old c = 
+old c =
     let claim = first_claim c.args.leg.role c.args.label.label c.args.leg.lsp in
     rw (c.in_ok-reserve.ensures.ok, c.leg.ensures) (claimed-fibres c.args.label.fibre claim c.args.owner.now)
