@@ -131,6 +131,43 @@ least-number p calls (Some n) rise least =
     (ap number_of (find-least p calls n least.0.0 rise least.0.1 least.0.2 least.1)
     ∙ ap Some (found-number n calls least.0.0 least.0.1))
 
+-- The first, by its number
+
+number-some : (o : Option CallRec) (n : CallNo) → Some n ≡ number_of o → (c : CallRec) × (o ≡ Some c) × (c.call ≡ n)
+number-some None n e = absurd (cc e)
+number-some (Some c) n e = (c, refl, cc e)
+
+pub unnumbered-find : (p : CallRec → Bool) (calls : List CallRec) → None ≡ number_of (find p calls) →
+    find p calls ≡ None
+unnumbered-find p calls e = go (find p calls) e
+  where
+    go : (o : Option CallRec) → None ≡ number_of o → o ≡ None
+    go None e = refl
+    go (Some c) e = absurd (cc e)
+
+first-stands : (p : CallRec → Bool) (calls : List CallRec) (c : CallRec) → CallsRise calls → find p calls ≡ Some c →
+    find_call c.call calls ≡ Some c
+first-stands p [] c rise found = absurd (cc found)
+first-stands p (d ∷ calls) c rise found = go (p d) found (λ f. first-stands p calls c rise.1 f)
+  where
+    here : find_call d.call (d ∷ calls) ≡ Some d
+    here = let same : nat_eq d.call.0 d.call.0 ≡ true = grind arith in rw same refl
+
+    go : (b : Bool) → cond b (Some d) (find p calls) ≡ Some c →
+        (find p calls ≡ Some c → find_call c.call calls ≡ Some c) → find_call c.call (d ∷ calls) ≡ Some c
+    go true f later = let is : d ≡ c = cc f in subst (λ x. find_call x.call (d ∷ calls) ≡ Some x) is here
+    go false f later =
+        let below = later f in
+        let less : d.call.0 < c.call.0 = all-above d calls c.call c rise.0 below in
+        let apart : nat_eq d.call.0 c.call.0 ≡ false = grind arith in
+        rw apart below
+
+pub numbered-find : (p : CallRec → Bool) (calls : List CallRec) (n : CallNo) → CallsRise calls →
+    Some n ≡ number_of (find p calls) → find_call n calls ≡ find p calls
+numbered-find p calls n rise e =
+    let c = number-some (find p calls) n e in
+    subst (λ m. find_call m calls ≡ find p calls) c.2 (first-stands p calls c.0 rise c.1 ∙ sym c.1)
+
 -- One of two
 
 either : (a b : Bool) → (a || b) ≡ true → (a ≡ false → b ≡ true)

@@ -1,5 +1,5 @@
 -- What a node keeps in its tables.
-use Rattle.std.specs.Prelude.{ℕ, ◌≡◌, ◌<◌, length, ◌==◌, ◌||◌, ◌++◌, nat_lt, Bool, true, false, List, [], ◌∷◌, find, filter, map, Option, Some, None, IsTrue, if◌then◌else◌}
+use Rattle.std.specs.Prelude.{ℕ, ◌≡◌, ◌<◌, length, ◌==◌, ◌++◌, nat_lt, Bool, true, false, List, [], ◌∷◌, find, filter, map, Option, Some, None, IsTrue, if◌then◌else◌}
 use Rattle.std.specs.List.{AllPairs}
 use Rattle.ason_base.specs.declared.ids.CallNo.{CallNo}
 use Rattle.ason_base.specs.declared.ids.Fibre.{Fibre}
@@ -119,10 +119,6 @@ call_changed n change calls = first_changed (is_of_number n) change calls
 -- the table with this call changed
 abbrev pub with_call_changed : CallNo → (CallRec → CallRec) → CallTable → CallTable
 with_call_changed n change t = record t { calls = call_changed n change t.calls }
-
--- one of the call's two LSPs
-abbrev pub serves : Lsp → CallRec → Bool
-serves l c = is_lsp c.work l || is_lsp c.back l
 
 abbrev pub number_of : Option CallRec → Option CallNo
 number_of None = None

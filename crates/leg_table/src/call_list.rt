@@ -1,11 +1,11 @@
 //! The calls of an ingress in order of number, and by their LSPs.
 
-ghost use Rattle.std.specs.Prelude.{◌≡◌, ◌≤◌, ◌<◌, ◌+◌, [], IfOk, IfSome, IsSome, OnOk, find, vec_capacity, vec_len};
+ghost use Rattle.std.specs.Prelude.{◌≡◌, ◌≤◌, ◌<◌, ◌+◌, [], IfOk, IfSome, IsSome, OnOk, vec_capacity, vec_len};
 ghost use Rattle.std.specs.Option.{option_copied};
-ghost use Rattle.mesh_rules.specs.Calls.{call_of, calls_changed, find_call, with_call, without_call};
+ghost use Rattle.mesh_rules.specs.Calls.{call_with, calls_changed, find_call, with_call, without_call};
 ghost use Rattle.leg_table.specs.CallLists.{AreCalls, GrewBy, HasRoom, IsEntryOf, entry_of, lesser};
 ghost use Rattle.leg_table.specs.LspIndexes.{HasJust, IndexRises, IsSet, IsTakenOff, back_of, work_of};
-ghost use Rattle.leg_table.specs.Tables.{call_changed, number_of, serves, with_lsps};
+ghost use Rattle.leg_table.specs.Tables.{call_changed, number_of, with_lsps};
 
 use crate::calls::{find_call, set_call, set_lsps, take_call};
 use crate::lsp_index::{LspOfCall, add, first_call, remove, replace};
@@ -227,22 +227,22 @@ impl CallList {
         set_lsps(&mut self.calls, alloc, number, work, back);
     }
 
-    /// The first call whose working LSP this is.
-    pub(crate) fn working(&self, lsp: Lsp) -> Option<&CallRec>
+    /// The number of the first call that has this LSP, as its working or as its backup LSP.
+    pub(crate) fn of_lsp(&self, lsp: Lsp) -> Option<CallNo>
         requires { AreCalls self.now }
-        ensures { option_copied result ≡ call_of lsp self.now.calls.items }
+        ensures { result ≡ number_of (call_with lsp self.now.calls.items) }
     {
-        match first_call(&self.works, lsp) {
+        lesser(first_call(&self.works, lsp), first_call(&self.backs, lsp))
+    }
+
+    /// The first call that has this LSP, as its working or as its backup LSP.
+    pub(crate) fn with_lsp(&self, lsp: Lsp) -> Option<&CallRec>
+        requires { AreCalls self.now }
+        ensures { option_copied result ≡ call_with lsp self.now.calls.items }
+    {
+        match self.of_lsp(lsp) {
             None => None,
             Some(number) => find_call(&self.calls, number),
         }
-    }
-
-    /// The number of the first call whose working or backup LSP this is.
-    pub(crate) fn of_lsp(&self, lsp: Lsp) -> Option<CallNo>
-        requires { AreCalls self.now }
-        ensures { result ≡ number_of (find (serves lsp) self.now.calls.items) }
-    {
-        lesser(first_call(&self.works, lsp), first_call(&self.backs, lsp))
     }
 }

@@ -1,9 +1,9 @@
 //! The calls of an ingress, in order of number, and the tunnel and LSP numbers that come next.
 
-ghost use Rattle.std.specs.Prelude.{◌≡◌, [], IfOk, IsSome, None, OnErr, OnOk, find, length, slice_get};
+ghost use Rattle.std.specs.Prelude.{◌≡◌, [], IfOk, IsSome, None, OnErr, OnOk, length, slice_get};
 ghost use Rattle.std.specs.Option.{option_copied};
-ghost use Rattle.mesh_rules.specs.Calls.{call_of, find_call, with_call, without_call};
-ghost use Rattle.leg_table.specs.Tables.{in_state, number_of, reported, serves, unreported, with_call_changed, with_lsps};
+ghost use Rattle.mesh_rules.specs.Calls.{call_with, find_call, with_call, without_call};
+ghost use Rattle.leg_table.specs.Tables.{in_state, number_of, reported, unreported, with_call_changed, with_lsps};
 
 use crate::call_list::CallList;
 use crate::calls::{find_call, report, set_state, unreport};
@@ -63,18 +63,18 @@ impl Calls {
         find_call(&self.list.calls, call)
     }
 
-    /// The first call whose working or backup LSP this is.
+    /// The number of the first call that has this LSP, as its working or as its backup LSP.
     pub fn of_lsp(&self, lsp: &Lsp) -> Option<CallNo>
-        ensures { result ≡ number_of (find (serves lsp.now) self.now.calls) }
+        ensures { result ≡ number_of (call_with lsp.now self.now.calls) }
     {
         self.list.of_lsp(*lsp)
     }
 
-    /// The first call whose working LSP this is: none exactly where there is none.
-    pub fn working(&self, lsp: Lsp) -> Option<&CallRec>
-        ensures { option_copied result ≡ call_of lsp self.now.calls }
+    /// The first call that has this LSP, as its working or as its backup LSP: none exactly where none has it.
+    pub fn with_lsp(&self, lsp: Lsp) -> Option<&CallRec>
+        ensures { option_copied result ≡ call_with lsp self.now.calls }
     {
-        self.list.working(lsp)
+        self.list.with_lsp(lsp)
     }
 
     /// The calls, in order of number.

@@ -1,7 +1,7 @@
 use Rattle.std.proofs.Common.{◌∙◌, subst}
 use Rattle.ason_base.specs.Lsps.{is_lsp}
+use Rattle.mesh_rules.specs.Calls.{names}
 use Rattle.leg_table.specs.LspIndexes.{IsFirstCall, back_of, work_of}
-use Rattle.leg_table.specs.Tables.{serves}
 use Rattle.leg_table.proofs.CallsByLsp.{least-first, least-number, least-or}
 use Rattle.leg_table.proofs.LegOrder.{calls-to}
 use Rattle.leg_table.proofs.call_list.CallList.of_lsp.Goals as goal
@@ -18,5 +18,5 @@ returns c =
     let back = least-first back_of l calls backs c.first_call-2.result rise c.requires.of_backs
     (subst (λ es. IsFirstCall l es c.first_call-2.result) c.deref-2.ensures.value c.first_call-2.ensures) in
     c.lesser.ensures
-    ∙ least-number (serves l) calls _ rise
+    ∙ least-number (names l) calls _ rise
     (least-or (λ d. is_lsp d.work l) (λ d. is_lsp d.back l) calls c.first_call.result c.first_call-2.result work back)
