@@ -1,7 +1,6 @@
 //! One node of an optical network: its connection and call controllers over the tables of its legs and calls (ITU-T G.8080).
 #![tactic(auto)]
 
-mod call_control;
 pub mod inputs;
 pub mod node;
 mod routes;

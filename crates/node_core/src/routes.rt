@@ -1,12 +1,13 @@
-//! The route that a node finds over the links that it knows.
+//! The routes that a node finds over the links that it knows.
 
 ghost use Rattle.std.specs.Prelude.{◌≡◌, false, IfOk, length, replicate};
 ghost use Rattle.mesh_nodes.specs.Routes.{AreSearchable};
 ghost use Rattle.mesh_rules.specs.LeastRoutes.{least_trip};
-ghost use Rattle.node_core.specs.Rules.{steps_of};
+ghost use Rattle.call_control.specs.Searches.{route_beside, steps_of};
 
 use ason_base::{NodeId, OutOfMemory, Steps, TeRow};
 use route_least::{RouteFault, RouteNetwork};
+use route_pair::{BackupFault, backup_for};
 use std::alloc::Global;
 
 fn no_rows(alloc: Global, count: usize) -> Result<Vec<bool>, OutOfMemory>
@@ -32,5 +33,24 @@ pub(crate) fn least_route(
         Ok(found) => Ok(Some(found.route)),
         Err(RouteFault::NoRoute(_)) => Ok(None),
         Err(RouteFault::OutOfMemory) => Err(OutOfMemory),
+    }
+}
+
+/// The least route over these rows that is risk-disjoint from the primary one and shares no inner node with it: none exactly where
+/// there is none, or a link of the primary route has no row.
+pub(crate) fn least_backup(
+    alloc: Global,
+    rows: &[TeRow],
+    primary: &Steps,
+    from: NodeId,
+    to: NodeId,
+) -> Result<Option<Steps>, OutOfMemory>
+    requires { AreSearchable rows.now }
+    ensures { IfOk result (λ route. route ≡ route_beside rows.now primary.now from to) }
+{
+    match backup_for(alloc, rows, primary, from, to) {
+        Ok(found) => Ok(Some(found.route)),
+        Err(BackupFault::Unknown(_) | BackupFault::NoBackup) => Ok(None),
+        Err(BackupFault::OutOfMemory) => Err(OutOfMemory),
     }
 }

@@ -1,18 +1,27 @@
 //! The rule of each input: messages, orders, desk items, ticks and rows that are learnt.
 
-ghost use Rattle.std.specs.Prelude.{◌≡◌, IfOk};
+ghost use Rattle.std.specs.Prelude.{◌≡◌, IfOk, OnOk};
 ghost use Rattle.std.specs.Option.{option_copied};
+ghost use Rattle.mesh_rules.specs.Changes.{followed_by};
 ghost use Rattle.mesh_rules.specs.Orders.{on_tick};
 ghost use Rattle.mesh_nodes.specs.LocalNodes.{LocalNodeFits};
+ghost use Rattle.mesh_nodes.specs.Routes.{AreSearchable};
 ghost use Rattle.leg_table.specs.Fits.{TablesFit};
 ghost use Rattle.leg_table.specs.States.{local_of, state_of};
-ghost use Rattle.node_core.specs.Followed.{err_followed, resv_followed};
+ghost use Rattle.call_control.specs.Rules.{answered_here, protect_here, setup_here};
+ghost use Rattle.call_control.specs.Searches.{IsBackupFor};
 ghost use Rattle.node_core.specs.Nodes.{answer_to, node_of};
 ghost use Rattle.node_core.specs.Rules.{CanSearch, item_here, message_here, order_here, row_here};
 
-use crate::call_control::{SetupRequest, call_connected, call_refused, release, set_up};
 use crate::inputs::Input;
-use ason_base::{CallRec, Command, Copied, DeskItem, ErrCode, Msg, NodeId, OutOfMemory, TeRow};
+use crate::routes::{least_backup, least_route};
+use ason_base::{
+    CallNo, Command, Copied, DeskItem, Leg, Lsp, Msg, NodeId, OutOfMemory, Steps, TeRow,
+};
+use call_control::{
+    SetupRequest, answer_resv, protect, refuse_lsp, release, route_from, seeks_route, set_up,
+    sought_by_protect, sought_by_resv,
+};
 use leg_table::{Calls, Change, NodeTables};
 use link_owner::Owner;
 use path_state::{path_change, tear_change};
@@ -21,46 +30,41 @@ use std::alloc::Global;
 
 // Messages
 
-// A Resv: at the ingress the call whose working LSP it is follows, if there is one.
-fn resv(
+// The least backup route beside the LSP of this leg, where one is sought.
+fn backup_beside(
     alloc: Global,
     tables: &NodeTables,
-    owner: &Owner,
-    call: Option<&CallRec>,
-    from: NodeId,
-    msg: &Msg,
-) -> Result<Change, OutOfMemory>
-    requires { TablesFit tables.now owner.now }
+    sought: Option<&Leg>,
+) -> Result<Option<Steps>, OutOfMemory>
+    requires { AreSearchable tables.now.rows }
     ensures { IfOk result
-        (λ c. c ≡ resv_followed tables.now (option_copied call.entry) from msg.now) }
+        (λ route. IsBackupFor tables.now (option_copied sought.entry) route) }
 {
-    let mut change = resv_change(alloc, tables, owner, from, msg)?;
-    if connects(tables, from, msg) {
-        call_connected(alloc, &mut change, call)?;
-    }
-    Ok(change)
+    let Some(leg) = sought else {
+        return Ok(None);
+    };
+    let primary = route_from(alloc, tables, leg)?;
+    least_backup(alloc, tables.rows(), &primary, tables.node().id, leg.egress)
 }
 
-// A PathErr: at the ingress the call whose working LSP it is follows, if there is one.
-fn path_err(
+// The call of an LSP that begins here and has its labels now.
+fn follow_resv(
     alloc: Global,
+    change: &mut Change,
     tables: &NodeTables,
-    call: Option<&CallRec>,
-    from: NodeId,
-    msg: &Msg,
-    code: ErrCode,
-) -> Result<Change, OutOfMemory>
-    ensures { IfOk result
-        (λ c. c ≡ err_followed tables.now (option_copied call.entry) from msg.now code) }
+    calls: &Calls,
+    lsp: Lsp,
+) -> Result<(), OutOfMemory>
+    requires links { LocalNodeFits (local_of tables.now) }
+    requires rows { CanSearch tables.now }
+    ensures { OnOk result
+        (change.new ≡ followed_by change.old (answered_here tables.now calls.now lsp)) }
 {
-    let mut change = path_err_change(alloc, tables, from, msg)?;
-    if refuses(tables, from, msg) {
-        call_refused(alloc, &mut change, code, call)?;
-    }
-    Ok(change)
+    let backup = backup_beside(alloc, tables, sought_by_resv(tables, calls, lsp))?;
+    answer_resv(alloc, change, tables, calls, lsp, backup.as_ref())
 }
 
-// What a message from a neighbour does.
+// What a message from a neighbour does. At the ingress its call follows the leg.
 fn on_message(
     alloc: Global,
     tables: &NodeTables,
@@ -69,21 +73,67 @@ fn on_message(
     from: NodeId,
     msg: &Msg,
 ) -> Result<Change, OutOfMemory>
-    requires { TablesFit tables.now owner.now }
+    requires tables { TablesFit tables.now owner.now }
+    requires rows { CanSearch tables.now }
     ensures { IfOk result (λ c. c ≡ message_here tables.now calls.now from msg.now) }
 {
     match msg {
         Msg::Path { .. } => path_change(alloc, tables, owner, from, msg),
-        Msg::Resv { lsp, .. } => resv(alloc, tables, owner, calls.working(*lsp), from, msg),
+        Msg::Resv { lsp, .. } => {
+            let mut change = resv_change(alloc, tables, owner, from, msg)?;
+            if connects(tables, from, msg) {
+                follow_resv(alloc, &mut change, tables, calls, *lsp)?;
+            }
+            Ok(change)
+        }
         Msg::PathTear { .. } => tear_change(alloc, tables, from, msg),
         Msg::PathErr { lsp, code, .. } => {
-            path_err(alloc, tables, calls.working(*lsp), from, msg, *code)
+            let mut change = path_err_change(alloc, tables, from, msg)?;
+            if refuses(tables, from, msg) {
+                refuse_lsp(alloc, &mut change, tables, calls, *lsp, *code)?;
+            }
+            Ok(change)
         }
         Msg::Notify { .. } => Ok(Change::nothing(alloc)),
     }
 }
 
 // Orders
+
+// A setup, over the least route from here where none is given.
+fn on_setup(
+    alloc: Global,
+    tables: &NodeTables,
+    calls: &Calls,
+    request: &SetupRequest<'_>,
+) -> Result<Change, OutOfMemory>
+    requires links { LocalNodeFits (local_of tables.now) }
+    requires rows { CanSearch tables.now }
+    ensures { IfOk result (λ c. c ≡ setup_here tables.now calls.now request.now) }
+{
+    let route = if seeks_route(tables, calls, request) {
+        least_route(alloc, tables.rows(), tables.node().id, request.egress)?
+    } else {
+        None
+    };
+    set_up(alloc, tables, calls, request, route.as_ref())
+}
+
+fn on_protect(
+    alloc: Global,
+    tables: &NodeTables,
+    calls: &Calls,
+    number: CallNo,
+    from: NodeId,
+) -> Result<Change, OutOfMemory>
+    requires links { LocalNodeFits (local_of tables.now) }
+    requires rows { CanSearch tables.now }
+    ensures { IfOk result (λ c. c ≡ protect_here tables.now calls.now number from) }
+{
+    let sought = sought_by_protect(tables, calls, number, from);
+    let backup = backup_beside(alloc, tables, sought)?;
+    protect(alloc, tables, calls, number, from, backup.as_ref())
+}
 
 fn on_order(
     alloc: Global,
@@ -92,7 +142,7 @@ fn on_order(
     command: &Command,
 ) -> Result<Change, OutOfMemory>
     requires links { LocalNodeFits (local_of tables.now) }
-    requires rows { CanSearch tables.now calls.now }
+    requires rows { CanSearch tables.now }
     ensures { IfOk result (λ c. c ≡ order_here tables.now calls.now command.now) }
 {
     match command {
@@ -114,11 +164,11 @@ fn on_order(
                 via,
                 backup,
             };
-            set_up(alloc, tables, calls, &request)
+            on_setup(alloc, tables, calls, &request)
         }
         Command::Release { call, from } => release(alloc, tables, calls, *call, *from),
-        Command::Protect { .. }
-        | Command::Retry { .. }
+        Command::Protect { call, from } => on_protect(alloc, tables, calls, *call, *from),
+        Command::Retry { .. }
         | Command::Revert { .. }
         | Command::Fail { .. }
         | Command::Repair { .. } => Ok(Change::nothing(alloc)),
@@ -133,7 +183,7 @@ fn on_item(
     item: &DeskItem,
 ) -> Result<Change, OutOfMemory>
     requires links { LocalNodeFits (local_of tables.now) }
-    requires rows { CanSearch tables.now calls.now }
+    requires rows { CanSearch tables.now }
     ensures { IfOk result (λ c. c ≡ item_here tables.now calls.now item.now) }
 {
     match item {
@@ -156,7 +206,7 @@ fn on_row(
     calls: &Calls,
     row: &TeRow,
 ) -> Result<Change, OutOfMemory>
-    requires { CanSearch tables.now calls.now }
+    requires { CanSearch tables.now }
     ensures { IfOk result (λ c. c ≡ row_here tables.now calls.now row.now) }
 {
     if tables.knows(row.link) {
@@ -175,7 +225,7 @@ pub(crate) fn on_input(
     input: &Input,
 ) -> Result<Change, OutOfMemory>
     requires tables { TablesFit tables.now owner.now }
-    requires rows { CanSearch tables.now calls.now }
+    requires rows { CanSearch tables.now }
     ensures { IfOk result (λ c. c ≡ answer_to (node_of tables.now calls.now) input.now) }
 {
     match input {

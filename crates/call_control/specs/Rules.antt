@@ -1,0 +1,106 @@
+-- The rules of calls at an ingress of these tables.
+use Rattle.std.specs.Prelude.{false, [], ◌∷◌, List, Option, Some, None}
+use Rattle.ason_base.specs.Labels.{up_to}
+use Rattle.ason_base.specs.declared.codes.ErrCode.{ErrCode}
+use Rattle.ason_base.specs.declared.ids.CallNo.{CallNo}
+use Rattle.ason_base.specs.declared.ids.Lsp.{Lsp}
+use Rattle.ason_base.specs.declared.ids.NodeId.{NodeId}
+use Rattle.ason_base.specs.declared.messages.PathRole.TheVariants.{Back}
+use Rattle.ason_base.specs.declared.messages.Msg.{Msg}
+use Rattle.ason_base.specs.declared.messages.Msg.TheVariants.{Path}
+use Rattle.ason_base.specs.declared.network.LinkSpec.{LinkSpec}
+use Rattle.ason_base.specs.declared.steps.Step.{Step}
+use Rattle.ason_base.specs.declared.tables.CallRec.{CallRec}
+use Rattle.ason_base.specs.declared.tables.Leg.{Leg}
+use Rattle.mesh_rules.specs.Calls.{call_with}
+use Rattle.mesh_rules.specs.CallSteps.{call_answered, call_refused}
+use Rattle.mesh_rules.specs.Changes.{Answer, nothing, puts}
+use Rattle.mesh_rules.specs.FirstLegs.{NewLsp, first_leg, first_link, first_path}
+use Rattle.mesh_rules.specs.Legs.{find_leg}
+use Rattle.mesh_rules.specs.Pairs.{admitted_backup, begins_backup, beside_lsp, pair, pair_over}
+use Rattle.mesh_rules.specs.Protects.{on_protect}
+use Rattle.mesh_rules.specs.Releases.{on_release}
+use Rattle.mesh_rules.specs.Setups.{SetupRequest, admitted_setup, begins, new_call, on_setup, over_first}
+use Rattle.leg_table.specs.States.{local_of, state_of}
+use Rattle.leg_table.specs.Tables.{CallTable, LegTable}
+
+-- First legs
+
+-- the Path that asks for an LSP
+abbrev pub path_for : NewLsp → Msg
+path_for n = Path n.lsp n.egress n.out.id n.route (up_to n.out.labels) None n.role
+
+-- its leg is put in its place, and the Path is sent
+abbrev pub asked_here : LegTable → NewLsp → Answer
+asked_here t n = puts (first_leg (local_of t) t.rows n) (first_path (local_of t) n ∷ [])
+
+-- Setups
+
+abbrev pub setup_here : LegTable → CallTable → SetupRequest → Answer
+setup_here t c w = on_setup (local_of t) (state_of t c) w
+
+abbrev pub call_here : LegTable → CallTable → SetupRequest → Answer
+call_here t c w = new_call (local_of t) (state_of t c) w w.via
+
+-- the call without a given route
+abbrev pub searched_here : LegTable → CallTable → SetupRequest → Answer
+searched_here t c w = new_call (local_of t) (state_of t c) w None
+
+abbrev pub over_here : LegTable → CallTable → SetupRequest → List Step → Answer
+over_here t c w route = over_first (local_of t) (state_of t c) w route (first_link (local_of t) route)
+
+abbrev pub admitted_here : LegTable → CallTable → SetupRequest → LinkSpec → List Step → Answer
+admitted_here t c w out route = admitted_setup (local_of t) (state_of t c) w out route
+
+abbrev pub begins_here : LegTable → CallTable → SetupRequest → LinkSpec → List Step → Answer
+begins_here t c w out route = begins (local_of t) (state_of t c) w out route
+
+-- Pairs
+
+-- the backup LSP of the next number over this link and then these steps, whose primary has this route
+abbrev pub backup_over : CallTable → Leg → LinkSpec → List Step → List Step → NewLsp
+backup_over c w out route primary = record {
+  lsp = beside_lsp w.lsp c.lsp;
+  egress = w.egress;
+  out = out;
+  route = route;
+  role = Back false w.lsp.lsp primary;
+}
+
+abbrev pub pair_here : LegTable → CallTable → CallRec → Leg → Answer
+pair_here t c call w = pair (local_of t) (state_of t c) call w
+
+abbrev pub pair_over_here : LegTable → CallTable → CallRec → Leg → Option (List Step) → Answer
+pair_over_here t c call w route = pair_over (local_of t) (state_of t c) call w route
+
+abbrev pub admitted_backup_here : LegTable → CallTable → CallRec → Leg → LinkSpec → List Step → Answer
+admitted_backup_here t c call w out route = admitted_backup (local_of t) (state_of t c) call w out route
+
+abbrev pub begins_backup_here : LegTable → CallTable → CallRec → Leg → LinkSpec → List Step → Answer
+begins_backup_here t c call w out route = begins_backup (local_of t) (state_of t c) call w out route
+
+abbrev pub protect_here : LegTable → CallTable → CallNo → NodeId → Answer
+protect_here t c n from = on_protect (local_of t) (state_of t c) n from
+
+-- After a Resv and a PathErr
+
+abbrev pub answered_for : LegTable → CallTable → Option CallRec → Option Leg → Answer
+answered_for t c call None = nothing
+answered_for t c call (Some g) = call_answered (local_of t) (state_of t c) g call
+
+-- the call of an LSP that has its labels
+abbrev pub answered_here : LegTable → CallTable → Lsp → Answer
+answered_here t c l = answered_for t c (call_with l c.calls) (find_leg l t.legs)
+
+abbrev pub refused_for : ErrCode → Option CallRec → Option Leg → Answer
+refused_for code call None = nothing
+refused_for code call (Some g) = call_refused code g call
+
+-- the call of an LSP that is refused
+abbrev pub refused_here : LegTable → CallTable → Lsp → ErrCode → Answer
+refused_here t c l code = refused_for code (call_with l c.calls) (find_leg l t.legs)
+
+-- Release
+
+abbrev pub release_here : LegTable → CallTable → CallNo → NodeId → Answer
+release_here t c n from = on_release (local_of t) (state_of t c) n from

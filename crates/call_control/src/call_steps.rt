@@ -1,0 +1,104 @@
+//! What becomes of a call after a Resv or a PathErr at its ingress (ITU-T G.8080, call control).
+
+ghost use Rattle.std.specs.Prelude.{◌≡◌, OnOk};
+ghost use Rattle.std.specs.Option.{option_copied};
+ghost use Rattle.mesh_rules.specs.Changes.{followed_by};
+ghost use Rattle.mesh_nodes.specs.LocalNodes.{LocalNodeFits};
+ghost use Rattle.leg_table.specs.States.{local_of};
+ghost use Rattle.call_control.specs.Rules.{answered_here, refused_here};
+ghost use Rattle.call_control.specs.Searches.{IsBackupFor, RowsAreKnown, has_no_backup, is_paired_by_resv, sought_by_resv};
+
+use crate::call_states::{bare, blocked, guarded, is_asking};
+use crate::pairs::{PairRequest, leave_bare, pair};
+use ason_base::{CallRec, CallState, Cause, ErrCode, Leg, Lsp, OutOfMemory, Role, Steps};
+use leg_table::one_leg::is_work;
+use leg_table::{Calls, Change, NodeTables};
+use std::alloc::Global;
+
+// A Resv
+
+fn is_paired_by_resv(call: &CallRec, leg: &Leg) -> bool
+    ensures { result ≡ is_paired_by_resv call.now leg.now }
+{
+    is_work(leg.role) && is_asking(call.state) && call.protected
+}
+
+/// Whether the call was given no backup route.
+pub(crate) fn has_no_backup(call: &CallRec) -> bool
+    ensures { result ≡ has_no_backup call.now }
+{
+    call.backup.is_none()
+}
+
+/// The leg beside whose LSP a backup route is to be searched for once this LSP, which begins here, has its labels: that of a
+/// protected call that was asked for and was given no backup route.
+pub fn sought_by_resv<'a>(tables: &'a NodeTables, calls: &Calls, lsp: Lsp) -> Option<&'a Leg>
+    ensures { option_copied result ≡ sought_by_resv tables.now calls.now lsp }
+{
+    match (calls.with_lsp(lsp), tables.get(&lsp)) {
+        (Some(call), Some(leg)) if is_paired_by_resv(call, leg) && has_no_backup(call) => Some(leg),
+        _ => None,
+    }
+}
+
+/// What becomes of the call of this LSP, which begins here and has its labels now: a call that was asked for stands, and a backup
+/// is asked for if it is to be protected; a call whose backup was asked for is guarded. The backup route is the least one that is
+/// found where one is sought.
+pub fn answer_resv(
+    alloc: Global,
+    change: &mut Change,
+    tables: &NodeTables,
+    calls: &Calls,
+    lsp: Lsp,
+    backup: Option<&Steps>,
+) -> Result<(), OutOfMemory>
+    requires links { LocalNodeFits (local_of tables.now) }
+    requires rows { RowsAreKnown tables.now }
+    requires backup { IsBackupFor tables.now
+        (sought_by_resv tables.now calls.now lsp) (option_copied backup.entry) }
+    ensures { OnOk result
+        (change.new ≡ followed_by change.old (answered_here tables.now calls.now lsp)) }
+{
+    let (Some(call), Some(leg)) = (calls.with_lsp(lsp), tables.get(&lsp)) else {
+        return Ok(());
+    };
+    if is_paired_by_resv(call, leg) {
+        let request = PairRequest {
+            call,
+            work: leg,
+            found: backup,
+        };
+        return pair(alloc, change, tables, calls, &request);
+    }
+    match (leg.role, call.state) {
+        (Role::Work, CallState::Asking) => change.put_call(bare(alloc, call)?),
+        (Role::Back, CallState::Pairing) => change.put_call(guarded(alloc, call)?),
+        _ => Ok(()),
+    }
+}
+
+// A PathErr
+
+/// What becomes of the call of this LSP, which begins here and is refused with this code: a call that was asked for is blocked,
+/// and one whose backup was asked for stands without it.
+pub fn refuse_lsp(
+    alloc: Global,
+    change: &mut Change,
+    tables: &NodeTables,
+    calls: &Calls,
+    lsp: Lsp,
+    code: ErrCode,
+) -> Result<(), OutOfMemory>
+    ensures { OnOk result
+        (change.new ≡ followed_by change.old (refused_here tables.now calls.now lsp code)) }
+{
+    let (Some(call), Some(leg)) = (calls.with_lsp(lsp), tables.get(&lsp)) else {
+        return Ok(());
+    };
+    let cause = Cause::Code(code);
+    match (leg.role, call.state) {
+        (Role::Work, CallState::Asking) => change.put_call(blocked(alloc, call, cause)?),
+        (Role::Back, CallState::Pairing) => leave_bare(alloc, change, call, cause),
+        _ => Ok(()),
+    }
+}

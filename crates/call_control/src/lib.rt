@@ -1,0 +1,18 @@
+//! Call control at an ingress (ITU-T G.8080): setups and releases, the backups of protected calls, and what becomes of a call
+//! after its LSPs. Routes that are searched for are handed in.
+#![tactic(auto)]
+
+mod call_states;
+mod call_steps;
+mod first_legs;
+mod ingress;
+mod pairs;
+mod protects;
+mod releases;
+mod setups;
+
+pub use call_steps::{answer_resv, refuse_lsp, sought_by_resv};
+pub use pairs::route_from;
+pub use protects::{protect, sought_by_protect};
+pub use releases::release;
+pub use setups::{SetupRequest, seeks_route, set_up};

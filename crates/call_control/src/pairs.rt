@@ -1,0 +1,228 @@
+//! A backup LSP that is asked for beside a call's working LSP (RFC 4872, section 8).
+
+ghost use Rattle.std.specs.Prelude.{◌≡◌, ◌≤◌, IfOk, OnOk};
+ghost use Rattle.mesh_rules.specs.Changes.{followed_by};
+ghost use Rattle.mesh_rules.specs.Pairs.{leaves_bare, route_from};
+ghost use Rattle.mesh_nodes.specs.LocalNodes.{LocalNodeFits};
+ghost use Rattle.leg_table.specs.States.{local_of};
+ghost use Rattle.call_control.specs.Requests.{IsFoundFor, IsPrimaryOf, given_or};
+ghost use Rattle.call_control.specs.Rules.{admitted_backup_here, backup_over, begins_backup_here, pair_here, pair_over_here};
+ghost use Rattle.call_control.specs.Searches.{RowsAreKnown};
+
+use crate::call_states::{pairing, unbacked};
+use crate::first_legs::{NewLsp, ask_for};
+use crate::ingress::{first_link, id_of, is_full};
+use ason_base::{
+    CallRec, Cause, Copied, Leg, LinkSpec, Lsp, OutOfMemory, PathRole, RiskFault, RiskSet, Step,
+    Steps,
+};
+use leg_table::{Calls, Change, NodeTables};
+use mesh_rules::NextNumbers;
+use mesh_rules::limits::LAST_NUMBER;
+use std::alloc::Global;
+use std::marker::Model;
+
+/// The whole route of an LSP whose leg begins here.
+pub fn route_from(alloc: Global, tables: &NodeTables, leg: &Leg) -> Result<Steps, OutOfMemory>
+    ensures { IfOk result (λ r. r ≡ route_from (local_of tables.now) leg.now) }
+{
+    let mut route = Vec::new(alloc);
+    if let Some(fibre) = leg.out_fibre {
+        route.push(Step {
+            node: id_of(tables),
+            link: fibre.link,
+        })?;
+    }
+    route.extend_from_slice(leg.route.items())?;
+    Ok(Steps::from_vec(route))
+}
+
+/// A call whose working LSP stands, that LSP's leg here, and the backup route that was found, if any.
+#[derive(Drop)]
+pub(crate) struct PairRequest<'a> {
+    pub(crate) call: &'a CallRec,
+    pub(crate) work: &'a Leg,
+    pub(crate) found: Option<&'a Steps>,
+}
+
+impl<'a> Model for PairRequest<'a> {
+    ghost use Rattle.std.specs.Option.{option_copied};
+    ghost use Rattle.call_control.specs.Requests as requests;
+
+    ghost Value = { requests.PairRequest };
+
+    ghost view = { λ r. record { call = r.call.now; work = r.work.now; found = option_copied r.found } };
+}
+
+/// The route of the working LSP, and its risks.
+#[derive(Drop)]
+struct Primary {
+    route: Steps,
+    risks: RiskSet,
+}
+
+/// Where a backup goes, over this link and then these steps, and its primary.
+#[derive(Drop)]
+struct BackupRoute<'a> {
+    out: &'a LinkSpec,
+    rest: Steps,
+    primary: Primary,
+}
+
+impl<'a> Model for BackupRoute<'a> {
+    ghost use Rattle.call_control.specs.Requests as requests;
+
+    ghost Value = { requests.BackupRoute };
+
+    ghost view = { λ r. record {
+      out = r.out.now;
+      rest = r.rest;
+      primary = r.primary.route;
+      risks = r.primary.risks;
+    } };
+}
+
+// The call stands without a backup, for this cause.
+pub(crate) fn leave_bare(
+    alloc: Global,
+    change: &mut Change,
+    call: &CallRec,
+    cause: Cause,
+) -> Result<(), OutOfMemory>
+    ensures { OnOk result (change.new ≡ followed_by change.old (leaves_bare call.now cause)) }
+{
+    change.put_call(unbacked(alloc, call, cause)?)
+}
+
+// The backup, in the tunnel of the working LSP. Its Path names that one and bears its route.
+fn backup_lsp<'a>(
+    calls: &Calls,
+    work: &Leg,
+    out: &'a LinkSpec,
+    rest: Steps,
+    primary: Steps,
+) -> NewLsp<'a>
+    requires { calls.now.lsp ≤ 65535 }
+    ensures { result ≡ backup_over calls.now work.now out.now rest primary }
+{
+    NewLsp {
+        lsp: Lsp {
+            ingress: work.lsp.ingress,
+            tunnel: work.lsp.tunnel,
+            lsp: calls.next_lsp() as u16,
+        },
+        egress: work.egress,
+        out,
+        route: rest,
+        role: PathRole::Back {
+            active: false,
+            work: work.lsp.lsp,
+            primary,
+        },
+    }
+}
+
+// The backup is asked for: an LSP number is left.
+fn begin_backup(
+    alloc: Global,
+    change: &mut Change,
+    tables: &NodeTables,
+    calls: &Calls,
+    request: &PairRequest<'_>,
+    route: BackupRoute<'_>,
+) -> Result<(), OutOfMemory>
+    requires narrow { route.out.labels ≤ 80 }
+    requires lsp { calls.now.lsp ≤ 65535 }
+    requires primary { IsPrimaryOf tables.now request.now.work route.primary route.risks }
+    ensures { OnOk result
+        (change.new ≡ followed_by change.old
+        (begins_backup_here tables.now calls.now request.now.call request.now.work route.out route.rest)) }
+{
+    let BackupRoute { out, rest, primary } = route;
+    let new = backup_lsp(calls, request.work, out, rest, primary.route);
+    let lsp = new.lsp;
+    ask_for(alloc, change, tables, new, primary.risks)?;
+    change.put_call(pairing(alloc, request.call, lsp)?)?;
+    change.use_numbers(NextNumbers {
+        tunnel: calls.next_tunnel(),
+        lsp: calls.next_lsp() + 1,
+    });
+    Ok(())
+}
+
+fn admit_backup(
+    alloc: Global,
+    change: &mut Change,
+    tables: &NodeTables,
+    calls: &Calls,
+    request: &PairRequest<'_>,
+    route: BackupRoute<'_>,
+) -> Result<(), OutOfMemory>
+    requires narrow { route.out.labels ≤ 80 }
+    requires primary { IsPrimaryOf tables.now request.now.work route.primary route.risks }
+    ensures { OnOk result
+        (change.new ≡ followed_by change.old
+        (admitted_backup_here tables.now calls.now request.now.call request.now.work route.out route.rest)) }
+{
+    if calls.next_lsp() > LAST_NUMBER {
+        leave_bare(alloc, change, request.call, Cause::Spent)
+    } else if is_full(tables) {
+        leave_bare(alloc, change, request.call, Cause::Full)
+    } else {
+        begin_backup(alloc, change, tables, calls, request, route)
+    }
+}
+
+// The backup over this route, if it may be followed from here.
+fn pair_over(
+    alloc: Global,
+    change: &mut Change,
+    tables: &NodeTables,
+    calls: &Calls,
+    request: &PairRequest<'_>,
+    primary: Primary,
+) -> Result<(), OutOfMemory>
+    requires links { LocalNodeFits (local_of tables.now) }
+    requires primary { IsPrimaryOf tables.now request.now.work primary.route primary.risks }
+    ensures { OnOk result
+        (change.new ≡ followed_by change.old
+        (pair_over_here tables.now calls.now request.now.call request.now.work
+        (given_or request.now.call request.now.found))) }
+{
+    let Some(route) = request.call.backup.as_ref().or(request.found) else {
+        return leave_bare(alloc, change, request.call, Cause::NoBackup);
+    };
+    let Some(out) = first_link(tables, route) else {
+        return leave_bare(alloc, change, request.call, Cause::NoBackup);
+    };
+    let rest = route.copy_from(alloc, 1)?;
+    let route = BackupRoute { out, rest, primary };
+    admit_backup(alloc, change, tables, calls, request, route)
+}
+
+/// A backup is asked for beside the call's working LSP, over the route that was given, else over the least one that was found;
+/// or the call stands without one. None is asked for where a link of the working route isn't known.
+pub(crate) fn pair(
+    alloc: Global,
+    change: &mut Change,
+    tables: &NodeTables,
+    calls: &Calls,
+    request: &PairRequest<'_>,
+) -> Result<(), OutOfMemory>
+    requires links { LocalNodeFits (local_of tables.now) }
+    requires rows { RowsAreKnown tables.now }
+    requires found { IsFoundFor tables.now request.now }
+    ensures { OnOk result
+        (change.new ≡ followed_by change.old
+        (pair_here tables.now calls.now request.now.call request.now.work)) }
+{
+    let route = route_from(alloc, tables, request.work)?;
+    match RiskSet::of(alloc, tables.rows(), &route) {
+        Ok(risks) => {
+            let primary = Primary { route, risks };
+            pair_over(alloc, change, tables, calls, request, primary)
+        }
+        Err(RiskFault::Unknown(_)) => leave_bare(alloc, change, request.call, Cause::NoBackup),
+        Err(RiskFault::OutOfMemory) => Err(OutOfMemory),
+    }
+}

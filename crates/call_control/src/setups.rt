@@ -1,0 +1,250 @@
+//! A setup at its ingress (ITU-T G.8080, call control).
+
+ghost use Rattle.std.specs.Prelude.{◌≡◌, ◌≤◌, IfOk, true};
+ghost use Rattle.std.specs.Option.{option_copied};
+ghost use Rattle.mesh_rules.specs.Setups.{call_record, is_followable, is_order_here, is_spent, refused_setup};
+ghost use Rattle.mesh_nodes.specs.LocalNodes.{LocalNodeFits};
+ghost use Rattle.leg_table.specs.States.{local_of, state_of};
+ghost use Rattle.call_control.specs.Rules.{admitted_here, begins_here, call_here, over_here, searched_here, setup_here};
+ghost use Rattle.call_control.specs.Searches.{IsRouteFor, RowsAreKnown, found_route, seeks_route};
+
+use crate::first_legs::{NewLsp, ask_for};
+use crate::ingress::{first_link, id_of, is_full};
+use ason_base::{
+    CallNo, CallRec, CallState, Cause, Copied, Fibres, LinkSpec, Lsp, NodeId, OutOfMemory,
+    PathRole, RiskSet, Steps,
+};
+use leg_table::{Calls, Change, NodeTables};
+use mesh_rules::NextNumbers;
+use mesh_rules::limits::LAST_NUMBER;
+use std::alloc::Global;
+use std::marker::Model;
+
+/// What a setup asks for.
+#[derive(Drop)]
+pub struct SetupRequest<'a> {
+    pub call: CallNo,
+    pub from: NodeId,
+    pub egress: NodeId,
+    pub protected: bool,
+    pub both: bool,
+    /// The working route that was given.
+    pub via: &'a Option<Steps>,
+    /// The backup route that was given.
+    pub backup: &'a Option<Steps>,
+}
+
+impl<'a> Model for SetupRequest<'a> {
+    ghost use Rattle.mesh_rules.specs.Setups as setups;
+
+    ghost Value = { setups.SetupRequest };
+
+    ghost view = { λ r. record {
+      call = r.call;
+      from = r.from;
+      egress = r.egress;
+      protected = r.protected;
+      both = r.both;
+      via = r.via.now;
+      backup = r.backup.now;
+    } };
+}
+
+fn call_record(
+    alloc: Global,
+    request: &SetupRequest<'_>,
+    state: CallState,
+    work: Option<Lsp>,
+    cause: Cause,
+) -> Result<CallRec, OutOfMemory>
+    ensures { IfOk result (λ c. c ≡ call_record request.now state work cause) }
+{
+    let backup = request.backup.copy(alloc)?;
+    Ok(CallRec {
+        call: request.call,
+        egress: request.egress,
+        protected: request.protected,
+        backup,
+        state,
+        work,
+        back: None,
+        work_reports: Fibres::new(alloc),
+        back_reports: Fibres::new(alloc),
+        cause,
+        ticks: 0,
+    })
+}
+
+fn refuse_setup(
+    alloc: Global,
+    request: &SetupRequest<'_>,
+    cause: Cause,
+) -> Result<Change, OutOfMemory>
+    ensures { IfOk result (λ c. c ≡ refused_setup request.now cause) }
+{
+    let mut change = Change::nothing(alloc);
+    change.put_call(call_record(alloc, request, CallState::Blocked, None, cause)?)?;
+    Ok(change)
+}
+
+// The LSP begins: a tunnel and an LSP number are left.
+fn begin(
+    alloc: Global,
+    tables: &NodeTables,
+    calls: &Calls,
+    request: &SetupRequest<'_>,
+    out: &LinkSpec,
+    route: Steps,
+) -> Result<Change, OutOfMemory>
+    requires narrow { out.now.labels ≤ 80 }
+    requires tunnel { calls.now.tunnel ≤ 65535 }
+    requires lsp { calls.now.lsp ≤ 65535 }
+    requires rows { RowsAreKnown tables.now }
+    ensures { IfOk result (λ c. c ≡ begins_here tables.now calls.now request.now out.now route) }
+{
+    let next = NextNumbers {
+        tunnel: calls.next_tunnel(),
+        lsp: calls.next_lsp(),
+    };
+    let lsp = Lsp {
+        ingress: id_of(tables),
+        tunnel: next.tunnel as u16,
+        lsp: next.lsp as u16,
+    };
+    let new = NewLsp {
+        lsp,
+        egress: request.egress,
+        out,
+        route,
+        role: PathRole::Work {
+            guard: request.protected,
+        },
+    };
+    let mut change = Change::nothing(alloc);
+    ask_for(alloc, &mut change, tables, new, RiskSet::new(alloc))?;
+    let call = call_record(alloc, request, CallState::Asking, Some(lsp), Cause::Unset)?;
+    change.put_call(call)?;
+    change.use_numbers(NextNumbers {
+        tunnel: next.tunnel + 1,
+        lsp: next.lsp + 1,
+    });
+    Ok(change)
+}
+
+fn is_spent(tables: &NodeTables, calls: &Calls) -> bool
+    ensures { result ≡ is_spent (state_of tables.now calls.now) }
+{
+    let _tables = tables;
+    calls.next_lsp() > LAST_NUMBER || calls.next_tunnel() > LAST_NUMBER
+}
+
+fn admit(
+    alloc: Global,
+    tables: &NodeTables,
+    calls: &Calls,
+    request: &SetupRequest<'_>,
+    out: &LinkSpec,
+    route: Steps,
+) -> Result<Change, OutOfMemory>
+    requires narrow { out.now.labels ≤ 80 }
+    requires rows { RowsAreKnown tables.now }
+    ensures { IfOk result (λ c. c ≡ admitted_here tables.now calls.now request.now out.now route) }
+{
+    if is_spent(tables, calls) {
+        refuse_setup(alloc, request, Cause::Spent)
+    } else if is_full(tables) {
+        refuse_setup(alloc, request, Cause::Full)
+    } else {
+        begin(alloc, tables, calls, request, out, route)
+    }
+}
+
+fn is_followable(tables: &NodeTables, route: &Option<Steps>) -> bool
+    requires { LocalNodeFits (local_of tables.now) }
+    ensures { result ≡ is_followable (local_of tables.now) route.now }
+{
+    match route {
+        None => true,
+        Some(route) => first_link(tables, route).is_some(),
+    }
+}
+
+fn is_order_here(tables: &NodeTables, request: &SetupRequest<'_>) -> bool
+    requires { LocalNodeFits (local_of tables.now) }
+    ensures { result ≡ is_order_here (local_of tables.now) request.now }
+{
+    request.from == id_of(tables)
+        && request.egress != id_of(tables)
+        && !request.both
+        && is_followable(tables, request.backup)
+}
+
+// The call over this route, if it may be followed from here.
+fn call_over(
+    alloc: Global,
+    tables: &NodeTables,
+    calls: &Calls,
+    request: &SetupRequest<'_>,
+    route: &Steps,
+) -> Result<Change, OutOfMemory>
+    requires links { LocalNodeFits (local_of tables.now) }
+    requires rows { RowsAreKnown tables.now }
+    ensures { IfOk result (λ c. c ≡ over_here tables.now calls.now request.now route.now) }
+{
+    match first_link(tables, route) {
+        None => Ok(Change::nothing(alloc)),
+        Some(out) => {
+            let rest = route.copy_from(alloc, 1)?;
+            admit(alloc, tables, calls, request, out, rest)
+        }
+    }
+}
+
+// The call over the least route, or refused where there is none.
+fn call_searched(
+    alloc: Global,
+    tables: &NodeTables,
+    calls: &Calls,
+    request: &SetupRequest<'_>,
+    route: Option<&Steps>,
+) -> Result<Change, OutOfMemory>
+    requires links { LocalNodeFits (local_of tables.now) }
+    requires rows { RowsAreKnown tables.now }
+    requires route { option_copied route.entry ≡ found_route tables.now request.now.egress }
+    ensures { IfOk result (λ c. c ≡ searched_here tables.now calls.now request.now) }
+{
+    match route {
+        None => refuse_setup(alloc, request, Cause::NoRoute),
+        Some(route) => call_over(alloc, tables, calls, request, route),
+    }
+}
+
+/// Whether the setup makes a call here that is given no route: then the least route is to be handed in.
+pub fn seeks_route(tables: &NodeTables, calls: &Calls, request: &SetupRequest<'_>) -> bool
+    requires { LocalNodeFits (local_of tables.now) }
+    ensures { result ≡ seeks_route tables.now calls.now request.now }
+{
+    calls.get(request.call).is_none() && is_order_here(tables, request) && request.via.is_none()
+}
+
+/// What a setup does: an LSP is asked for, or the call is refused. The route is the least one where one is sought.
+pub fn set_up(
+    alloc: Global,
+    tables: &NodeTables,
+    calls: &Calls,
+    request: &SetupRequest<'_>,
+    route: Option<&Steps>,
+) -> Result<Change, OutOfMemory>
+    requires links { LocalNodeFits (local_of tables.now) }
+    requires rows { RowsAreKnown tables.now }
+    requires route { IsRouteFor tables.now calls.now request.now (option_copied route.entry) }
+    ensures { IfOk result (λ c. c ≡ setup_here tables.now calls.now request.now) }
+{
+    if calls.get(request.call).is_some() || !is_order_here(tables, request) {
+        return Ok(Change::nothing(alloc));
+    }
+    match request.via {
+        None => call_searched(alloc, tables, calls, request, route),
+        Some(given) => call_over(alloc, tables, calls, request, given),
+    }
+}

@@ -1,6 +1,0 @@
-use Rattle.leg_table.specs.States.{local_of}
-use Rattle.node_core.proofs.Answers.{own-narrow}
-use Rattle.node_core.proofs.call_control.own_link.Goals as goal
-
-pub returns-clause-narrow : goal.returns-clause-narrow
-returns-clause-narrow c = own-narrow (local_of c.args.tables.now) c.args.link _ c.requires c.own.ensures
