@@ -1,9 +1,10 @@
 -- The legs that a rule changes may be changed so: just the first takes a label, and one that is usable.
-use Rattle.std.proofs.Common.{◌≡◌, ℕ, Bool, true, false, cond, not, nat_eq, List, [], ◌∷◌, refl, sym, ap, subst, ◌∙◌}
-use Rattle.std.specs.Prelude.{◌&&◌, Option, Some, None, IfSome}
+use Rattle.std.proofs.Common.{◌≡◌, ℕ, Bool, true, false, cond, not, nat_eq, nat_lt, List, [], ◌∷◌, refl, sym, ap, subst, ◌∙◌}
+use Rattle.std.specs.Prelude.{◌&&◌, Option, Some, None, IfSome, is_some}
 use Rattle.std.specs.List.{AllByRecursion}
 use Rattle.ason_base.specs.Labels.{has, least}
 use Rattle.ason_base.specs.Lsps.{same_fibre}
+use Rattle.ason_base.specs.Risks.{unknown_link}
 use Rattle.ason_base.specs.declared.codes.ErrCode.{ErrCode}
 use Rattle.ason_base.specs.declared.commands.DeskItem.{DeskItem}
 use Rattle.ason_base.specs.declared.commands.DeskItem.TheVariants.{Order, Alarm, Clear}
@@ -21,24 +22,28 @@ use Rattle.ason_base.specs.declared.tables.CallRec.{CallRec}
 use Rattle.ason_base.specs.declared.tables.Leg.{Leg}
 use Rattle.ason_base.specs.declared.tables.Out.{Out}
 use Rattle.mesh_rules.specs.declared.arrivals.Arrival.{Arrival}
-use Rattle.mesh_rules.specs.declared.changes.CallChange.{CallChange}
+use Rattle.mesh_rules.specs.declared.changes.LegChange.{LegChange}
+use Rattle.mesh_rules.specs.declared.changes.LegChange.TheVariants as leg
+use Rattle.mesh_rules.specs.declared.limits.TheConstants.{LAST_NUMBER}
 use Rattle.mesh_rules.specs.declared.changes.CallChange.TheVariants as call
 use Rattle.mesh_rules.specs.declared.neighbours.Neighbour.{Neighbour}
-use Rattle.ason_base.specs.declared.calls.Cause.TheVariants.{Code}
-use Rattle.mesh_rules.specs.Calls.{blocked, call_of, find_call, is_asking}
-use Rattle.mesh_rules.specs.Calls as calls
+use Rattle.mesh_rules.specs.CallSteps.{call_answered, call_refused}
+use Rattle.mesh_rules.specs.Calls.{call_with, find_call, is_asking, is_bare, is_pairing}
 use Rattle.mesh_rules.specs.Changes.{Answer, changes_calls, followed_by, nothing, puts, removes}
 use Rattle.mesh_rules.specs.Legs.{connected, find_leg, following, is_asked, is_closing, is_node, is_over, leg_of, neighbour_over, previous, reserved}
 use Rattle.mesh_rules.specs.LocalNodes.{LocalNode, fibre_in, leads, own_link}
 use Rattle.mesh_rules.specs.Messages.{arrival, on_message}
 use Rattle.mesh_rules.specs.Orders.{on_item}
-use Rattle.mesh_rules.specs.PathErrs.{PathFailure, call_refused, err_passed, on_path_err, path_err_with}
+use Rattle.mesh_rules.specs.PathErrs.{PathFailure, err_passed, on_path_err, path_err_with}
 use Rattle.mesh_rules.specs.Paths.{PathRequest, admitted, at_egress, checks, egress_leg, first_failure, first_path, in_transit, is_active, judged, offered_labels, on_path, path_with, risks_here, role_of}
+use Rattle.mesh_rules.specs.Pairs.{backup_route, over_backup, pair, pair_over, route_from}
+use Rattle.mesh_rules.specs.Protects.{protect_with, protects}
 use Rattle.mesh_rules.specs.Releases.{release_with, releases, tears}
-use Rattle.mesh_rules.specs.Resvs.{answered, call_connected, is_expected, label_back, labels_left, on_resv, only, passed_back, resv_with}
+use Rattle.mesh_rules.specs.Resvs.{answered, is_expected, label_back, labels_left, on_resv, only, passed_back, resv_with}
+use Rattle.mesh_rules.specs.FirstLegs.{first_link, is_full}
 use Rattle.mesh_rules.specs.KnownRows.{known_rows}
 use Rattle.mesh_rules.specs.LeastRoutes.{Trip, least_trip}
-use Rattle.mesh_rules.specs.Setups.{SetupRequest, first_link, is_full, is_order_here, is_spent, new_call, on_setup, over_first, over_found, setup_with}
+use Rattle.mesh_rules.specs.Setups.{SetupRequest, is_order_here, is_spent, new_call, on_setup, over_first, over_found, setup_with}
 use Rattle.mesh_rules.specs.State.{NodeState}
 use Rattle.mesh_rules.specs.Tears.{on_tear, tear_with, torn}
 use Rattle.mesh_nodes.specs.Kept.{LegFits}
@@ -46,7 +51,7 @@ use Rattle.mesh_nodes.specs.LocalNodes.{is_upstream}
 use Rattle.mesh_nodes.proofs.Cases.{both_left, both_right, if_cases}
 use Rattle.mesh_nodes.proofs.LegList.{found-all, found-lsp}
 use Rattle.mesh_nodes.proofs.Links.{any-found}
-use Rattle.leg_table.specs.LegClaims.{MayBeMade, MayBePut, MayTake, claim_kind, first_kind, is_fibre_in, taken, taken_of, taken_over}
+use Rattle.leg_table.specs.LegClaims.{MayBeMade, MayBePut, MayTake, TakesNone, claim_kind, first_kind, is_fibre_in, taken, taken_of, taken_over}
 use Rattle.leg_table.proofs.InFibres.{upstream-fibre_in}
 use Rattle.leg_table.proofs.MayPut.{asked-taken, closed-may, closed-taken, least-has, met-usable}
 use Rattle.leg_table.proofs.OwnerFibres.{same_fibre-refl}
@@ -75,6 +80,48 @@ bare p legs g e = subst (λ t. IfSome t (MayTake p legs g)) (sym e) tt
 reserved-kind : (r : Role) → claim_kind r (reserved r) ≡ first_kind r
 reserved-kind Work = refl
 reserved-kind Back = refl
+
+-- Backups that are asked for
+
+abbrev TakesNo : Answer → Type 0
+TakesNo a = AllByRecursion TakesNone a.legs
+
+-- legs that take no label may be put
+none-may : (p : LocalNode) (legs : List Leg) (cs : List LegChange) → AllByRecursion TakesNone cs →
+    MayBeMade p legs cs
+none-may p legs [] none = tt
+none-may p legs (leg.Goes l ∷ cs) none = (tt, none.1)
+none-may p legs (leg.Put g ∷ cs) none = (bare p legs g none.0, none.1)
+
+-- a backup that is asked for takes none
+pair-none : (p : LocalNode) (s : NodeState) (c : CallRec) (w : Leg) → TakesNo (pair p s c w)
+pair-none p s c w =
+    if_cases TakesNo (is_some (unknown_link (known_rows p s) (route_from p w))) _ _ (λ e. tt)
+    (λ e. along (backup_route p s c w))
+  where
+    over : (route : List Step) (o : Option LinkSpec) → TakesNo (over_backup p s c w route o)
+    over route None = tt
+    over route (Some out) =
+        if_cases TakesNo (nat_lt LAST_NUMBER s.lsp) _ _ (λ e. tt)
+        (λ e. if_cases TakesNo (is_full s) _ _ (λ e. tt) (λ e. (refl, tt)))
+
+    along : (o : Option (List Step)) → TakesNo (pair_over p s c w o)
+    along None = tt
+    along (Some route) = over route (first_link p route)
+
+answered-none : (p : LocalNode) (s : NodeState) (g : Leg) (o : Option CallRec) → TakesNo (call_answered p s g o)
+answered-none p s g None = tt
+answered-none p s g (Some c) =
+    if_cases TakesNo (is_work g.role) _ _
+    (λ e. if_cases TakesNo (is_asking c.state) _ _
+    (λ e. if_cases TakesNo c.protected _ _ (λ e. pair-none p s c g) (λ e. tt)) (λ e. tt))
+    (λ e. if_cases TakesNo (is_pairing c.state) _ _ (λ e. tt) (λ e. tt))
+
+refused-none : (code : ErrCode) (g : Leg) (o : Option CallRec) → TakesNo (call_refused code g o)
+refused-none code g None = tt
+refused-none code g (Some c) =
+    if_cases TakesNo (is_work g.role) _ _ (λ e. if_cases TakesNo (is_asking c.state) _ _ (λ e. tt) (λ e. tt))
+    (λ e. if_cases TakesNo (is_pairing c.state) _ _ (λ e. tt) (λ e. tt))
 
 -- Labels
 
@@ -170,19 +217,9 @@ tear-may p s a = go (find_leg a.lsp s.legs)
 
 -- Resv
 
--- changes of calls alone come after
-alone : (p : LocalNode) (legs : List Leg) (a : Answer) (b : Bool) (cs : List CallChange) →
-    Fine p legs (followed_by a (changes_calls [])) →
-    Fine p legs (followed_by a (cond b (changes_calls cs) nothing))
-alone p legs a true cs may = may
-alone p legs a false cs may = may
-
-connected-may : (p : LocalNode) (legs : List Leg) (g : Leg) (x : ℕ) (o : Option CallRec) →
-    MayBeMade p legs (followed_by (puts (connected g None x) []) (call_connected o)).legs
-connected-may p legs g x None = (bare p legs (connected g None x) (begun-none g x), tt)
-connected-may p legs g x (Some c) =
-    alone p legs (puts (connected g None x) []) (is_asking c.state && not c.protected) (call.Put (calls.bare c) ∷ [])
-    (bare p legs (connected g None x) (begun-none g x), tt)
+connected-may : (p : LocalNode) (s : NodeState) (g : Leg) (x : ℕ) (o : Option CallRec) →
+    MayBeMade p s.legs (followed_by (puts (connected g None x) []) (call_answered p s g o)).legs
+connected-may p s g x o = (bare p s.legs (connected g None x) (begun-none g x), answered-none p s g o)
 
 beside : (n : Option NodeId) (f : Option Fibre) (h : Neighbour) → neighbour_over n f ≡ Some h → f ≡ Some h.fibre
 beside None f h e = absurd (cc e)
@@ -220,7 +257,7 @@ module _ (p : LocalNode) (s : NodeState) (a : Arrival) (x : ℕ) (g : Leg) (foun
       }
 
   answered-may : (o : Option Neighbour) → previous g ≡ o → MayBeMade p s.legs (answered p s a x g o).legs
-  answered-may None before = connected-may p s.legs g x (call_of g.lsp s.calls)
+  answered-may None before = connected-may p s g x (call_with g.lsp s.calls)
   answered-may (Some h) before = passed-may h (label_back p (labels_left p s g h) x) before refl
 
 -- the legs come from neighbours
@@ -243,12 +280,7 @@ resv-may p s next a x each = go (find_leg a.lsp s.legs) refl
 passed_err-may : (p : LocalNode) (s : NodeState) (g : Leg) (e : PathFailure) (o : Option Neighbour) →
     MayBeMade p s.legs (err_passed s g e o).legs
 passed_err-may p s g e (Some h) = (tt, tt)
-passed_err-may p s g e None = go (call_of g.lsp s.calls)
-  where
-    go : (o : Option CallRec) → MayBeMade p s.legs (followed_by (removes g.lsp []) (call_refused e.code o)).legs
-    go None = (tt, tt)
-    go (Some c) =
-        alone p s.legs (removes g.lsp []) (is_asking c.state) (call.Put (blocked c (Code e.code)) ∷ []) (tt, tt)
+passed_err-may p s g e None = (tt, refused-none e.code g (call_with g.lsp s.calls))
 
 pub err-may : (p : LocalNode) (s : NodeState) (u : NodeId) (e : PathFailure) →
     MayBeMade p s.legs (on_path_err s u e).legs
@@ -284,6 +316,19 @@ setup-may p s w = go (find_call w.call s.calls)
     go : (o : Option CallRec) → MayBeMade p s.legs (setup_with p s w o).legs
     go None = if_cases (Fine p s.legs) (is_order_here p w) _ _ (λ e. new w.via) (λ e. tt)
     go (Some c) = tt
+
+-- Protect
+
+pub protect-may : (p : LocalNode) (s : NodeState) (from : NodeId) (o : Option CallRec) →
+    MayBeMade p s.legs (protect_with p s from o).legs
+protect-may p s from None = tt
+protect-may p s from (Some c) =
+    if_cases (Fine p s.legs) (nat_eq from.0 p.id.0 && is_bare c.state) _ _
+    (λ e. asked (leg_of c.work s.legs)) (λ e. tt)
+  where
+    asked : (o : Option Leg) → MayBeMade p s.legs (protects p s c o).legs
+    asked None = tt
+    asked (Some w) = none-may p s.legs (pair p s c w).legs (pair-none p s c w)
 
 -- Release
 
@@ -327,7 +372,7 @@ item-may p s (Order (Setup n from to protected both via backup)) =
       backup = backup;
     })
 item-may p s (Order (Release n from)) = release-may p s from (find_call n s.calls)
-item-may p s (Order (Protect n from)) = tt
+item-may p s (Order (Protect n from)) = protect-may p s from (find_call n s.calls)
 item-may p s (Order (Retry n from)) = tt
 item-may p s (Order (Revert n from)) = tt
 item-may p s (Order (Fail g)) = tt

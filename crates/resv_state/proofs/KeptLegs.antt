@@ -17,7 +17,7 @@ pub resv-legs : (t : LegTable) (u : NodeId) (m : Msg) → LocalNodeFits (local_o
 resv-legs t u (Path l e k route set up r) links fits = fits
 resv-legs t u (Resv l e k x) links fits =
     legs-after t u (Resv l e k x) (resv_answer t u (Resv l e k x)).legs links fits
-    (λ next. ap (λ a. a.legs) (on_resv-by (local_of t) t.legs [] (legs_state t) (next_state t next)
+    (λ next. ap (λ a. a.legs) (on_resv-by (local_of t) t.legs (legs_state t) (next_state t next)
     (arrival l e u k) x))
 resv-legs t u (PathTear l e k) links fits = fits
 resv-legs t u (PathErr l e at gone code) links fits = fits
@@ -30,6 +30,6 @@ err-legs t u (Resv l e k x) links fits = fits
 err-legs t u (PathTear l e k) links fits = fits
 err-legs t u (PathErr l e at gone code) links fits =
     legs-after t u (PathErr l e at gone code) (path_err_answer t u (PathErr l e at gone code)).legs links fits
-    (λ next. ap (λ a. a.legs) (on_path_err-by t.legs [] (legs_state t) (next_state t next) u
+    (λ next. ap (λ a. a.legs) (on_path_err-by t.legs (legs_state t) (next_state t next) u
     (record { lsp = l; msg = PathErr l e at gone code; removed = gone; code = code })))
 err-legs t u (Notify l e at k code) links fits = fits
