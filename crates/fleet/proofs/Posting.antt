@@ -10,7 +10,7 @@ use Rattle.ason_base.specs.declared.commands.DeskItem.TheVariants.{Order}
 use Rattle.ason_base.specs.declared.commands.Event.TheVariants.{Post}
 use Rattle.ason_base.specs.Network.{Network, is_node_id}
 use Rattle.controller.specs.Controllers.{ControllerState}
-use Rattle.mesh_rules.specs.Commands.{has_way, is_again, is_given_backup, is_valid}
+use Rattle.mesh_rules.specs.Commands.{has_backup_way, has_way, is_again, is_searchable, is_valid}
 use Rattle.world_core.specs.Runs.{IsEnabled, posted}
 use Rattle.world_core.specs.Standing.{IsUntouched}
 use Rattle.world_core.specs.Worlds.{World}
@@ -78,11 +78,12 @@ valid_ingress t (Setup k from to protected both via backup) n e h = let same : f
     subst (λ (x : NodeId). is_node_id t.nodes x ≡ true) same
     (first_of (is_node_id t.nodes from) (is_node_id t.nodes to) (not (nat_eq from.0 to.0))
     (has_way t from to via)
-    (is_given_backup t from to protected via backup) h)
+    (has_backup_way t from to protected via backup) h)
 valid_ingress t (Release k from) n e h = let same : from ≡ n = cc (e) in
     subst (λ (x : NodeId). is_node_id t.nodes x ≡ true) same h
 valid_ingress t (Protect k from) n e h = let same : from ≡ n = cc (e) in
-    subst (λ (x : NodeId). is_node_id t.nodes x ≡ true) same h
+    subst (λ (x : NodeId). is_node_id t.nodes x ≡ true) same
+    (first_and (is_node_id t.nodes from) (is_searchable t) h)
 valid_ingress t (Retry k from) n e h = let same : from ≡ n = cc (e) in
     subst (λ (x : NodeId). is_node_id t.nodes x ≡ true) same h
 valid_ingress t (Revert k from) n e h = let same : from ≡ n = cc (e) in

@@ -11,7 +11,8 @@ use Rattle.ason_base.specs.declared.commands.Event.TheVariants.{Post}
 use Rattle.ason_base.specs.Network.{Network, is_distinct, is_node_id}
 use Rattle.flood.specs.State.{pending_count}
 use Rattle.hop_reliable.specs.Schedules.{HopEnd}
-use Rattle.mesh_rules.specs.Commands.{has_way, is_again, is_given_backup, is_valid}
+use Rattle.mesh_rules.specs.Commands.{has_backup_way, has_way, is_again, is_searchable, is_valid}
+use Rattle.mesh_nodes.proofs.Cases.{both_left}
 use Rattle.world_core.specs.Replays.{HasStepped, IsDisabled, IsForNobody, IsGiven, IsNowhere, IsPut, IsPutIf, StandsFor, WorldState, ingress_of, numbers_of}
 use Rattle.world_core.specs.Runs.{posted}
 use Rattle.world_core.specs.Seats.{SeatStands, SeatState, is_at, with_item}
@@ -53,7 +54,7 @@ ingress-is-node t (Setup k from to protected both via backup) n valid e =
     let same : from ≡ n = cc (e) in
     subst (λ m. is_node_id t.nodes m ≡ true) same
     (first (is_node_id t.nodes from) (is_node_id t.nodes to) (not (nat_eq from.0 to.0))
-    (has_way t from to via) (is_given_backup t from to protected via backup) valid)
+    (has_way t from to via) (has_backup_way t from to protected via backup) valid)
   where
     first : (a b c d f : Bool) → (a && b && c && d && f) ≡ true → a ≡ true
     first true b c d f h = refl
@@ -61,7 +62,8 @@ ingress-is-node t (Setup k from to protected both via backup) n valid e =
 ingress-is-node t (Release k from) n valid e =
     let same : from ≡ n = cc (e) in subst (λ m. is_node_id t.nodes m ≡ true) same valid
 ingress-is-node t (Protect k from) n valid e =
-    let same : from ≡ n = cc (e) in subst (λ m. is_node_id t.nodes m ≡ true) same valid
+    let same : from ≡ n = cc (e) in
+    subst (λ m. is_node_id t.nodes m ≡ true) same (both_left (is_node_id t.nodes from) (is_searchable t) valid)
 ingress-is-node t (Retry k from) n valid e =
     let same : from ≡ n = cc (e) in subst (λ m. is_node_id t.nodes m ≡ true) same valid
 ingress-is-node t (Revert k from) n valid e =
