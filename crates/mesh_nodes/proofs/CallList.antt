@@ -6,8 +6,7 @@ use Rattle.std.specs.List.{AllByRecursion, count_by}
 use Rattle.ason_base.specs.declared.ids.CallNo.{CallNo}
 use Rattle.ason_base.specs.declared.ids.Lsp.{Lsp}
 use Rattle.ason_base.specs.declared.tables.CallRec.{CallRec}
-use Rattle.ason_base.specs.Lsps.{is_lsp}
-use Rattle.mesh_rules.specs.Calls.{find_call, call_of, with_call, without_call}
+use Rattle.mesh_rules.specs.Calls.{call_with, find_call, names, with_call, without_call}
 use Rattle.mesh_nodes.specs.Order.{CallsRise}
 use Rattle.mesh_nodes.proofs.LegList.{all-then, all-filter}
 
@@ -143,39 +142,38 @@ all-calls_found P (d ∷ calls) rise each = (
 
 -- The call of an LSP
 
--- the call of a working LSP is found by its number
-pub called-found : (l : Lsp) (calls : List CallRec) (c : CallRec) → CallsRise calls → call_of l calls ≡ Some c →
+-- the call of an LSP is found by its number
+pub called-found : (l : Lsp) (calls : List CallRec) (c : CallRec) → CallsRise calls → call_with l calls ≡ Some c →
     find_call c.call calls ≡ Some c
 called-found l [] c rise called = cc
 called-found l (d ∷ calls) c rise called =
-    elim (is_lsp d.work l) as (λ b. cond b (Some d) (call_of l calls) ≡ Some c →
+    elim (names l d) as (λ b. cond b (Some d) (call_with l calls) ≡ Some c →
     find_call c.call (d ∷ calls) ≡ Some c) [
       | true ↦ λ e. let is : d ≡ c = cc in subst (λ x. find_call x.call (d ∷ calls) ≡ Some x) is
           (rw (same d.call.0) refl)
       | false ↦ λ e. found-below d calls c.call c rise.0 (called-found l calls c rise.1 e)
     ] called
 
-pub called-work : (l : Lsp) (calls : List CallRec) (c : CallRec) → call_of l calls ≡ Some c → is_lsp c.work l ≡ true
-called-work l [] c called = cc
-called-work l (d ∷ calls) c called =
-    elim (is_lsp d.work l) as (λ b. is_lsp d.work l ≡ b → cond b (Some d) (call_of l calls) ≡ Some c →
-    is_lsp c.work l ≡ true) [
-      | true ↦ λ e f. let is : d ≡ c = cc in subst (λ x. is_lsp x.work l ≡ true) is e
-      | false ↦ λ e f. called-work l calls c f
+pub called-names : (l : Lsp) (calls : List CallRec) (c : CallRec) → call_with l calls ≡ Some c → names l c ≡ true
+called-names l [] c called = cc
+called-names l (d ∷ calls) c called =
+    elim (names l d) as (λ b. names l d ≡ b → cond b (Some d) (call_with l calls) ≡ Some c → names l c ≡ true) [
+      | true ↦ λ e f. let is : d ≡ c = cc in subst (λ x. names l x ≡ true) is e
+      | false ↦ λ e f. called-names l calls c f
     ] refl called
 
-pub not_called : (l : Lsp) (calls : List CallRec) (k : CallNo) (c : CallRec) → call_of l calls ≡ None →
-    find_call k calls ≡ Some c → is_lsp c.work l ≡ true → ⊥
-not_called l [] k c called found work = cc
-not_called l (d ∷ calls) k c called found work =
-    go (λ f g. not_called l calls k c f g work) (is_lsp d.work l) (nat_eq d.call.0 k.0) refl called found
+pub not_called : (l : Lsp) (calls : List CallRec) (k : CallNo) (c : CallRec) → call_with l calls ≡ None →
+    find_call k calls ≡ Some c → names l c ≡ true → ⊥
+not_called l [] k c called found named = cc
+not_called l (d ∷ calls) k c called found named =
+    go (λ f g. not_called l calls k c f g named) (names l d) (nat_eq d.call.0 k.0) refl called found
   where
-    go : (call_of l calls ≡ None → find_call k calls ≡ Some c → ⊥) → (a b : Bool) → is_lsp d.work l ≡ a →
-        cond a (Some d) (call_of l calls) ≡ None → cond b (Some d) (find_call k calls) ≡ Some c → ⊥
+    go : (call_with l calls ≡ None → find_call k calls ≡ Some c → ⊥) → (a b : Bool) → names l d ≡ a →
+        cond a (Some d) (call_with l calls) ≡ None → cond b (Some d) (find_call k calls) ≡ Some c → ⊥
     go later true b e f g = cc f
     go later false true e f g =
-        let is : d ≡ c = cc g in let work' : is_lsp d.work l ≡ true =
-        subst (λ x. is_lsp x.work l ≡ true) (sym is) work in cc (e, work')
+        let is : d ≡ c = cc g in let named' : names l d ≡ true = subst (λ x. names l x ≡ true) (sym is) named in
+        cc (e, named')
     go later false false e f g = later f g
 
 -- How many calls have the LSP

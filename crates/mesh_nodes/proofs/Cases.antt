@@ -23,6 +23,10 @@ pub not-true : (b : Bool) → not b ≡ true → b ≡ false
 not-true true e = absurd (cc e)
 not-true false e = refl
 
+pub not-false : (b : Bool) → not b ≡ false → b ≡ true
+not-false true e = refl
+not-false false e = absurd (cc e)
+
 pub neither_right : (a b : Bool) → (a || b) ≡ false → b ≡ false
 neither_right true b e = absurd (cc e)
 neither_right false b e = e

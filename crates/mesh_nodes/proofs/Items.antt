@@ -1,9 +1,10 @@
 -- What the items of a desk do fits.
 use Rattle.std.proofs.Common.{◌≡◌, ◌≤◌, ◌<◌, ◌+◌, ℕ, Bool, true, false, cond, not, nat_eq, nat_lt, List, [], ◌∷◌, ◌++◌, length, refl, ap, ◌∙◌, arith}
-use Rattle.std.specs.Prelude.{◌&&◌, Option, Some, None}
+use Rattle.std.specs.Prelude.{◌&&◌, Option, Some, None, IfSome}
 use Rattle.std.specs.List.{AllByRecursion}
 use Rattle.ason_base.specs.declared.calls.Cause.{Cause}
-use Rattle.ason_base.specs.declared.calls.Cause.TheVariants.{NoRoute, Spent, Full}
+use Rattle.ason_base.specs.declared.calls.Cause.TheVariants.{NoRoute, Spent, Full, Unset}
+use Rattle.ason_base.specs.declared.calls.CallState.TheVariants.{Asking}
 use Rattle.ason_base.specs.declared.commands.Command.TheVariants.{Setup, Release, Protect, Retry, Revert, Fail, Repair}
 use Rattle.ason_base.specs.declared.commands.DeskItem.TheVariants.{Order, Alarm, Clear}
 use Rattle.ason_base.specs.declared.ids.CallNo.{CallNo}
@@ -16,27 +17,32 @@ use Rattle.ason_base.specs.declared.tables.Leg.{Leg}
 use Rattle.ason_base.specs.declared.tables.Out.{Out}
 use Rattle.ason_base.specs.Lsps.{same_lsp}
 use Rattle.mesh_rules.specs.declared.changes.CallChange.TheVariants as call
-use Rattle.mesh_rules.specs.declared.limits.TheConstants.{MOST_LEGS, MOST_LINKS_OF_ROUTE}
+use Rattle.mesh_rules.specs.declared.limits.TheConstants.{MOST_LEGS}
 use Rattle.mesh_rules.specs.declared.neighbours.Neighbour.{Neighbour}
-use Rattle.mesh_rules.specs.Calls.{find_call, without_call}
+use Rattle.mesh_rules.specs.Calls.{find_call, is_bare, without_call}
 use Rattle.mesh_rules.specs.Changes.{changes_calls, followed_by, nothing}
+use Rattle.mesh_rules.specs.FirstLegs.{first_link, is_full}
 use Rattle.mesh_rules.specs.KnownRows.{known_rows}
 use Rattle.mesh_rules.specs.LeastRoutes.{Trip, least_trip}
 use Rattle.mesh_rules.specs.Legs.{closed, find_leg, following, leg_of, with_leg}
+use Rattle.mesh_rules.specs.Pairs.{pair}
+use Rattle.mesh_rules.specs.Protects.{protect_with, protects}
 use Rattle.mesh_rules.specs.Releases.{release_with, releases, tear_to, tears}
-use Rattle.mesh_rules.specs.Setups.{SetupRequest, admitted_setup, begins, first_leg, first_link, is_followable, is_full, is_order_here, is_spent, new_call, next_lsp, over_first, over_found, refused_setup, setup_with}
+use Rattle.mesh_rules.specs.Setups.{SetupRequest, admitted_setup, begins, call_record, is_followable, is_order_here, is_spent, new_call, next_lsp, over_first, over_found, refused_setup, setup_with, working_lsp}
 use Rattle.mesh_rules.specs.LocalNodes.{LocalNode, own_link}
 use Rattle.mesh_rules.specs.State.{NodeState}
-use Rattle.mesh_nodes.specs.Kept.{LegFits, LegsFit, NodeFits}
+use Rattle.mesh_nodes.specs.Kept.{CallFits, LegFits, LegsFit, NodeFits}
 use Rattle.mesh_nodes.specs.Laws.{ItemsFit}
 use Rattle.mesh_nodes.specs.LocalNodes.{LocalNodeFits}
 use Rattle.mesh_nodes.specs.Sent.{AllToNeighbours, AllWritable, AnswerFits}
 use Rattle.mesh_nodes.proofs.Cases.{both_left, both_right, if_cases, not-true}
-use Rattle.mesh_nodes.proofs.Kept.{calls-less, calls-put, closed-fits, legs-changed, legs-more}
-use Rattle.mesh_nodes.proofs.LegList.{find-with_leg}
-use Rattle.mesh_nodes.proofs.Links.{end-downstream, end-near, own-is}
+use Rattle.mesh_nodes.proofs.FirstLegs.{IsFirst, asks-fit, first-is}
+use Rattle.mesh_nodes.proofs.Kept.{calls-less, calls-put, closed-fits, legs-changed}
+use Rattle.mesh_nodes.proofs.LegList.{find-with_leg, found-lsp}
+use Rattle.mesh_nodes.proofs.Links.{found-one}
 use Rattle.mesh_nodes.proofs.Messages.{Stands, following-is_near, leg-stands}
-use Rattle.mesh_nodes.proofs.Paths.{below, nothing-fits, some_labels}
+use Rattle.mesh_nodes.proofs.Pairs.{pair-fits}
+use Rattle.mesh_nodes.proofs.Paths.{below, nothing-fits}
 
 -- Setup
 
@@ -45,9 +51,8 @@ module _ (p : LocalNode) (s : NodeState) (w : SetupRequest) (W : Type 0) (place 
   refused-fits : (cause : Cause) → AnswerFits p s W (refused_setup w cause)
   refused-fits cause = record {
     kept = record {
-      legs =
-          fits.legs;
-      calls = calls-put p _ s.calls fits.calls followable;
+      legs = fits.legs;
+      calls = calls-put p _ s.calls fits.calls (record { backup = followable; work = tt });
       first = fits.first;
       numbers = fits.numbers;
     };
@@ -56,58 +61,38 @@ module _ (p : LocalNode) (s : NodeState) (w : SetupRequest) (W : Type 0) (place 
     few = omega arith;
   }
 
-  first-leg-fits : (hop : Step) (out : LinkSpec) (route : List Step) → own_link p hop.link ≡ Some out →
-      LegFits p (s.lsp + 1) (first_leg p (next_lsp p s) w.egress out route)
-  first-leg-fits hop out route found = record {
-    prev = (let here : nat_eq p.id.0 p.id.0 ≡ true = grind arith in rw here refl);
-    in_fibre = refl;
-    next_node = rw away refl;
-    out_fibre = refl;
-    upstream = tt;
-    downstream = end-downstream p hop.link out found;
-    role = refl;
-    in_label = λ beyond. absurd (cc beyond);
-    out_label = λ beyond. absurd (cc beyond);
-    number = λ e. omega arith;
-  }
-
-  begins-fits : (hop : Step) (out : LinkSpec) (route : List Step) → own_link p hop.link ≡ Some out → length route ≤ 64 →
+  begins-fits : (hop : Step) (out : LinkSpec) (route : List Step) → IsFirst p hop route out →
       length s.legs < MOST_LEGS → AnswerFits p s W (begins p s w out route)
-  begins-fits hop out route found short room = record {
-    kept = record {
-      legs =
-          legs-more p s.lsp (s.lsp + 1) (first_leg p (next_lsp p s) w.egress out route) s.legs
-          (omega arith) fits.legs room (first-leg-fits hop out route found);
-      calls = calls-put p _ s.calls fits.calls followable;
-      first = (let first = fits.first in omega arith);
-      numbers = (let numbers = fits.numbers in omega arith);
-    };
-    near = (end-near p hop.link out found, tt);
-    written = λ x. ((some_labels out.labels (own-is p hop.link out place found).labelled, short, tt), tt);
-    few = omega arith;
-  }
+  begins-fits hop out route first room =
+      asks-fit p s s.legs W place fits (working_lsp p s w out route)
+      (call_record w Asking (Some (next_lsp p s)) Unset) (record { tunnel = s.tunnel + 1; lsp = s.lsp + 1 })
+      (record {
+        link = hop.link;
+        own = first.own;
+        ingress = refl;
+        away = away;
+        short = first.short;
+        written = tt;
+      })
+      (record {
+        number = omega arith;
+        later = omega arith;
+        first = omega arith;
+        numbers = (let numbers = fits.numbers in omega arith);
+      })
+      (record { backup = followable; work = refl }) room
 
-  admitted-fits : (hop : Step) (out : LinkSpec) (route : List Step) → own_link p hop.link ≡ Some out →
-      length route ≤ 64 →
+  admitted-fits : (hop : Step) (out : LinkSpec) (route : List Step) → IsFirst p hop route out →
       AnswerFits p s W (admitted_setup p s w out route)
-  admitted-fits hop out route found short =
+  admitted-fits hop out route first =
       if_cases (AnswerFits p s W) (is_spent s) _ _ (λ e. refused-fits Spent)
       (λ e. if_cases (AnswerFits p s W) (is_full s) _ _ (λ f. refused-fits Full)
-      (λ f. begins-fits hop out route found short (below (length s.legs) f)))
-
-  few-steps : (n : ℕ) → nat_lt n MOST_LINKS_OF_ROUTE ≡ true → n ≤ 64
-  few-steps n e = grind arith
+      (λ f. begins-fits hop out route first (below (length s.legs) f)))
 
   over-fits : (hop : Step) (route : List Step) (o : Option LinkSpec) → first_link p (hop ∷ route) ≡ o →
       AnswerFits p s W (over_first p s w (hop ∷ route) o)
   over-fits hop route None found = nothing-fits p s W fits
-  over-fits hop route (Some out) found = go (nat_eq hop.node.0 p.id.0
-      && nat_lt (length route) MOST_LINKS_OF_ROUTE) refl found
-    where
-      go : (b : Bool) → (nat_eq hop.node.0 p.id.0 && nat_lt (length route) MOST_LINKS_OF_ROUTE) ≡ b →
-          cond b (own_link p hop.link) None ≡ Some out → AnswerFits p s W (admitted_setup p s w out route)
-      go true e f = admitted-fits hop out route f (few-steps (length route) (both_right (nat_eq hop.node.0 p.id.0) _ e))
-      go false e f = absurd (cc f)
+  over-fits hop route (Some out) found = admitted-fits hop out route (first-is p hop route out found)
 
   route-fits : (route : List Step) → AnswerFits p s W (over_first p s w route (first_link p route))
   route-fits [] = nothing-fits p s W fits
@@ -130,8 +115,7 @@ setup-fits p s w W None place fits =
     (λ e.
     let to_other = both_right (nat_eq w.from.0 p.id.0) _ e in
     let rest = both_right (not (nat_eq w.egress.0 p.id.0)) _ to_other in
-    let rest' = both_right (not w.protected) _ rest in
-    new_call-fits p s w W place fits (not-true _ (both_left _ _ to_other)) (both_right (not w.both) _ rest') w.via)
+    new_call-fits p s w W place fits (not-true _ (both_left _ _ to_other)) (both_right (not w.both) _ rest) w.via)
     (λ e. nothing-fits p s W fits)
 
 -- Release
@@ -255,6 +239,30 @@ release-fits p s from W (Some c) fits =
     (λ g. leg_of-stands p s c.work g fits) (λ g. leg_of-stands p s c.back g fits))
     (λ e. nothing-fits p s W fits)
 
+-- Protect
+
+protects-fit : (p : LocalNode) (s : NodeState) (c : CallRec) (W : Type 0) (o : Option Leg) → LocalNodeFits p →
+    NodeFits p s → CallFits p c → leg_of c.work s.legs ≡ o → AnswerFits p s W (protects p s c o)
+protects-fit p s c W None place fits here found = nothing-fits p s W fits
+protects-fit p s c W (Some w) place fits here found = go c.work here.work found
+  where
+    go : (o : Option Lsp) → IfSome o (λ l. l.ingress.0 ≡ p.id.0) → leg_of o s.legs ≡ Some w →
+        AnswerFits p s W (pair p s c w)
+    go None begins found = absurd (cc found)
+    go (Some l) begins found =
+        let is : w.lsp ≡ l = found-lsp l s.legs w found in
+        pair-fits p s s.legs c w W place fits refl (leg-stands p s l w fits found).fits
+        (ap (λ (k : Lsp). k.ingress.0) is ∙ begins) here
+
+protect-fits : (p : LocalNode) (s : NodeState) (n : CallNo) (from : NodeId) (W : Type 0) (o : Option CallRec) →
+    LocalNodeFits p → NodeFits p s → find_call n s.calls ≡ o → AnswerFits p s W (protect_with p s from o)
+protect-fits p s n from W None place fits found = nothing-fits p s W fits
+protect-fits p s n from W (Some c) place fits found =
+    if_cases (AnswerFits p s W) (nat_eq from.0 p.id.0 && is_bare c.state) _ _
+    (λ e. protects-fit p s c W (leg_of c.work s.legs) place fits
+    (found-one (CallFits p) (λ b. nat_eq b.call.0 n.0) s.calls c found fits.calls.each) refl)
+    (λ e. nothing-fits p s W fits)
+
 -- Every item
 
 pub items-fit : ItemsFit
@@ -270,7 +278,8 @@ items-fit p s (Order (Setup n from to protected both via backup)) place fits =
       backup = backup;
     }) (Unit {0}) (find_call n s.calls) place fits
 items-fit p s (Order (Release n from)) place fits = release-fits p s from (Unit {0}) (find_call n s.calls) fits
-items-fit p s (Order (Protect n from)) place fits = nothing-fits p s (Unit {0}) fits
+items-fit p s (Order (Protect n from)) place fits =
+    protect-fits p s n from (Unit {0}) (find_call n s.calls) place fits refl
 items-fit p s (Order (Retry n from)) place fits = nothing-fits p s (Unit {0}) fits
 items-fit p s (Order (Revert n from)) place fits = nothing-fits p s (Unit {0}) fits
 items-fit p s (Order (Fail g)) place fits = nothing-fits p s (Unit {0}) fits

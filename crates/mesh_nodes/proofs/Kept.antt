@@ -36,7 +36,7 @@ length-with_leg g (h ∷ legs) = go (same_lsp h.lsp g.lsp) (lsp_before g.lsp h.l
     go false false below = omega arith
 
 -- a leg in the place of one that stands
-length-replaced : (g k : Leg) (legs : List Leg) → LegsRise legs → find_leg g.lsp legs ≡ Some k →
+pub length-replaced : (g k : Leg) (legs : List Leg) → LegsRise legs → find_leg g.lsp legs ≡ Some k →
     length (with_leg g legs) ≡ length legs
 length-replaced g k [] rise found = absurd (cc found)
 length-replaced g k (h ∷ legs) rise found =
@@ -79,6 +79,8 @@ later-fits p a b g le fits = record {
   in_label = fits.in_label;
   out_label = fits.out_label;
   number = λ e. let small : g.lsp.lsp < a = fits.number e in omega arith;
+  leaves = fits.leaves;
+  short = fits.short;
 }
 
 -- a leg more, where there is room
@@ -139,6 +141,8 @@ closed-fits p next g fits = record {
   in_label = λ beyond. let torn = closed-phase g.phase g.role in absurd (cc (beyond, torn));
   out_label = λ beyond. let torn = closed-phase g.phase g.role in absurd (cc (beyond, torn));
   number = fits.number;
+  leaves = fits.leaves;
+  short = fits.short;
 }
 
 -- the label in as it should be, and a fibre out
@@ -155,6 +159,8 @@ connected-fits p next g label x fits labelled out = record {
   in_label = λ beyond. labelled;
   out_label = λ beyond. sym out;
   number = fits.number;
+  leaves = fits.leaves;
+  short = fits.short;
 }
 
 -- Fibres of a leg

@@ -1,9 +1,10 @@
 -- By no message, and by no item of its desk, does a node learn of a link.
-use Rattle.std.proofs.Common.{◌≡◌, Bool, true, cond, nat_eq, not, List, [], ◌∷◌, drop, refl}
-use Rattle.std.specs.Prelude.{◌&&◌, ℕ, Option, Some, None}
+use Rattle.std.proofs.Common.{◌≡◌, Bool, true, cond, nat_eq, nat_lt, not, List, [], ◌∷◌, drop, refl}
+use Rattle.std.specs.Prelude.{◌&&◌, ℕ, Option, Some, None, is_some}
 use Rattle.ason_base.specs.Codes.{torn_code}
 use Rattle.ason_base.specs.Labels.{least}
-use Rattle.ason_base.specs.declared.calls.Cause.TheVariants.{Code, Spent, Full}
+use Rattle.ason_base.specs.Risks.{unknown_link}
+use Rattle.ason_base.specs.declared.calls.Cause.TheVariants.{Spent, Full}
 use Rattle.ason_base.specs.declared.codes.ErrCode.{ErrCode}
 use Rattle.ason_base.specs.declared.commands.Command.TheVariants.{Setup, Release, Protect, Retry, Revert, Fail, Repair}
 use Rattle.ason_base.specs.declared.commands.DeskItem.{DeskItem}
@@ -19,20 +20,25 @@ use Rattle.ason_base.specs.declared.tables.Leg.{Leg}
 use Rattle.ason_base.specs.declared.tables.Out.{Out}
 use Rattle.mesh_rules.specs.declared.arrivals.Arrival.{Arrival}
 use Rattle.mesh_rules.specs.declared.changes.CallChange.TheVariants as call
+use Rattle.mesh_rules.specs.declared.limits.TheConstants.{LAST_NUMBER}
 use Rattle.mesh_rules.specs.declared.neighbours.Neighbour.{Neighbour}
-use Rattle.mesh_rules.specs.Calls.{bare, blocked, call_of, find_call, is_asking}
+use Rattle.mesh_rules.specs.CallSteps.{call_answered, call_refused}
+use Rattle.mesh_rules.specs.Calls.{call_with, find_call, is_asking, is_bare, is_pairing}
 use Rattle.mesh_rules.specs.Changes.{Answer, changes_calls, followed_by, nothing, puts, removes, to_node}
+use Rattle.mesh_rules.specs.FirstLegs.{first_link, is_full}
 use Rattle.mesh_rules.specs.KnownRows.{known_rows}
 use Rattle.mesh_rules.specs.LeastRoutes.{Trip, least_trip}
-use Rattle.mesh_rules.specs.Legs.{connected, find_leg, following, is_asked, is_closing, is_node, is_over, leg_of, previous}
+use Rattle.mesh_rules.specs.Legs.{connected, find_leg, following, is_asked, is_closing, is_node, is_over, is_work, leg_of, previous}
 use Rattle.mesh_rules.specs.LocalNodes.{LocalNode, leads, own_link}
 use Rattle.mesh_rules.specs.Messages.{arrival, on_message}
 use Rattle.mesh_rules.specs.Orders.{on_item}
-use Rattle.mesh_rules.specs.PathErrs.{PathFailure, call_refused, err_passed, path_err_with, removed}
+use Rattle.mesh_rules.specs.PathErrs.{PathFailure, err_passed, path_err_with, removed}
 use Rattle.mesh_rules.specs.Paths.{PathRequest, admitted, at_egress, checks, first_failure, first_path, in_transit, is_active, judged, path_with}
+use Rattle.mesh_rules.specs.Pairs.{backup_route, over_backup, pair, pair_over, route_from}
+use Rattle.mesh_rules.specs.Protects.{protect_with, protects}
 use Rattle.mesh_rules.specs.Releases.{release_with, releases, tears}
-use Rattle.mesh_rules.specs.Resvs.{answered, call_connected, is_expected, label_back, labels_left, passed_back, resv_with}
-use Rattle.mesh_rules.specs.Setups.{SetupRequest, admitted_setup, begins, first_link, is_full, is_order_here, is_spent, new_call, over_first, over_found, refused_setup, setup_with}
+use Rattle.mesh_rules.specs.Resvs.{answered, is_expected, label_back, labels_left, passed_back, resv_with}
+use Rattle.mesh_rules.specs.Setups.{SetupRequest, admitted_setup, begins, is_order_here, is_spent, new_call, over_first, over_found, refused_setup, setup_with}
 use Rattle.mesh_rules.specs.State.{NodeState}
 use Rattle.mesh_rules.specs.Tears.{tear_with, torn}
 use Rattle.mesh_nodes.specs.Learnt.{NothingElseIsLearnt}
@@ -88,10 +94,29 @@ path-none p s m (Some g) = refl
 
 -- Resv
 
-call_connected-none : (o : Option CallRec) → LearnsNothing (call_connected o)
-call_connected-none None = refl
-call_connected-none (Some c) =
-    either-one (is_asking c.state && not c.protected) (changes_calls (call.Put (bare c) ∷ [])) nothing refl refl
+pair-none : (p : LocalNode) (s : NodeState) (c : CallRec) (w : Leg) → LearnsNothing (pair p s c w)
+pair-none p s c w =
+    if_cases LearnsNothing (is_some (unknown_link (known_rows p s) (route_from p w))) _ _ (λ e. refl)
+    (λ e. along (backup_route p s c w))
+  where
+    over : (route : List Step) (o : Option LinkSpec) → LearnsNothing (over_backup p s c w route o)
+    over route None = refl
+    over route (Some out) =
+        if_cases LearnsNothing (nat_lt LAST_NUMBER s.lsp) _ _ (λ e. refl)
+        (λ e. if_cases LearnsNothing (is_full s) _ _ (λ e. refl) (λ e. refl))
+
+    along : (o : Option (List Step)) → LearnsNothing (pair_over p s c w o)
+    along None = refl
+    along (Some route) = over route (first_link p route)
+
+call_answered-none : (p : LocalNode) (s : NodeState) (g : Leg) (o : Option CallRec) →
+    LearnsNothing (call_answered p s g o)
+call_answered-none p s g None = refl
+call_answered-none p s g (Some c) =
+    if_cases LearnsNothing (is_work g.role) _ _
+    (λ e. if_cases LearnsNothing (is_asking c.state) _ _
+    (λ e. if_cases LearnsNothing c.protected _ _ (λ e. pair-none p s c g) (λ e. refl)) (λ e. refl))
+    (λ e. if_cases LearnsNothing (is_pairing c.state) _ _ (λ e. refl) (λ e. refl))
 
 passed_back-none : (p : LocalNode) (a : Arrival) (g : Leg) (h : Neighbour) (x : ℕ) (o : Option ℕ) →
     LearnsNothing (passed_back p a g h x o)
@@ -101,8 +126,8 @@ passed_back-none p a g h x (Some y) = refl
 answered-none : (p : LocalNode) (s : NodeState) (a : Arrival) (x : ℕ) (g : Leg) (o : Option Neighbour) →
     LearnsNothing (answered p s a x g o)
 answered-none p s a x g None =
-    both (puts (connected g None x) []) (call_connected (call_of g.lsp s.calls)) refl
-    (call_connected-none (call_of g.lsp s.calls))
+    both (puts (connected g None x) []) (call_answered p s g (call_with g.lsp s.calls)) refl
+    (call_answered-none p s g (call_with g.lsp s.calls))
 answered-none p s a x g (Some h) = passed_back-none p a g h x (label_back p (labels_left p s g h) x)
 
 resv-none : (p : LocalNode) (s : NodeState) (a : Arrival) (x : ℕ) (o : Option Leg) → LearnsNothing (resv_with p s a x o)
@@ -112,16 +137,18 @@ resv-none p s a x (Some g) =
 
 -- PathErr
 
-call_refused-none : (code : ErrCode) (o : Option CallRec) → LearnsNothing (call_refused code o)
-call_refused-none code None = refl
-call_refused-none code (Some c) =
-    either-one (is_asking c.state) (changes_calls (call.Put (blocked c (Code code)) ∷ [])) nothing refl refl
+call_refused-none : (code : ErrCode) (g : Leg) (o : Option CallRec) → LearnsNothing (call_refused code g o)
+call_refused-none code g None = refl
+call_refused-none code g (Some c) =
+    if_cases LearnsNothing (is_work g.role) _ _
+    (λ e. if_cases LearnsNothing (is_asking c.state) _ _ (λ e. refl) (λ e. refl))
+    (λ e. if_cases LearnsNothing (is_pairing c.state) _ _ (λ e. refl) (λ e. refl))
 
 err_passed-none : (s : NodeState) (g : Leg) (e : PathFailure) (o : Option Neighbour) →
     LearnsNothing (err_passed s g e o)
 err_passed-none s g e None =
-    both (removes g.lsp []) (call_refused e.code (call_of g.lsp s.calls)) refl
-    (call_refused-none e.code (call_of g.lsp s.calls))
+    both (removes g.lsp []) (call_refused e.code g (call_with g.lsp s.calls)) refl
+    (call_refused-none e.code g (call_with g.lsp s.calls))
 err_passed-none s g e (Some h) = refl
 
 removed-none : (s : NodeState) (g : Leg) (e : PathFailure) → LearnsNothing (removed s g e)
@@ -177,6 +204,19 @@ setup-none : (p : LocalNode) (s : NodeState) (w : SetupRequest) (o : Option Call
 setup-none p s w (Some c) = refl
 setup-none p s w None = either-one (is_order_here p w) (new_call p s w w.via) nothing (new_call-none p s w w.via) refl
 
+-- Protect
+
+protects-none : (p : LocalNode) (s : NodeState) (c : CallRec) (o : Option Leg) → LearnsNothing (protects p s c o)
+protects-none p s c None = refl
+protects-none p s c (Some w) = pair-none p s c w
+
+protect-none : (p : LocalNode) (s : NodeState) (from : NodeId) (o : Option CallRec) →
+    LearnsNothing (protect_with p s from o)
+protect-none p s from None = refl
+protect-none p s from (Some c) =
+    either-one (nat_eq from.0 p.id.0 && is_bare c.state) (protects p s c (leg_of c.work s.legs)) nothing
+    (protects-none p s c (leg_of c.work s.legs)) refl
+
 -- Release
 
 tears-none : (o : Option Leg) → LearnsNothing (tears o)
@@ -211,7 +251,7 @@ item-learns_nothing p s (Order (Setup n from to protected both via backup)) =
     (record { call = n; from = from; egress = to; protected = protected; both = both; via = via; backup = backup })
     (find_call n s.calls)
 item-learns_nothing p s (Order (Release n from)) = release-none p s from (find_call n s.calls)
-item-learns_nothing p s (Order (Protect n from)) = refl
+item-learns_nothing p s (Order (Protect n from)) = protect-none p s from (find_call n s.calls)
 item-learns_nothing p s (Order (Retry n from)) = refl
 item-learns_nothing p s (Order (Revert n from)) = refl
 item-learns_nothing p s (Order (Fail g)) = refl

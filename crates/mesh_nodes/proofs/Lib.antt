@@ -1,5 +1,8 @@
 pub mod CallList
+pub mod CallSteps
 pub mod Cases
+pub mod FirstLegs
+pub mod Followed
 pub mod Items
 pub mod Kept
 pub mod LearnsNothing
@@ -7,5 +10,6 @@ pub mod LegList
 pub mod Links
 pub mod Messages
 pub mod NewNodes
+pub mod Pairs
 pub mod Paths
 pub mod routes

@@ -1,36 +1,35 @@
 -- What a Resv, a PathErr, a PathTear and every message do fits.
-use Rattle.std.proofs.Common.{◌≡◌, ℕ, true, not, [], ◌∷◌, refl, sym, subst, arith}
+use Rattle.std.proofs.Common.{◌≡◌, ℕ, true, false, not, nat_eq, [], ◌∷◌, refl, sym, subst, ◌∙◌, arith}
 use Rattle.std.specs.Prelude.{◌&&◌, Option, Some, None, IfSome, is_some}
 use Rattle.ason_base.specs.Codes.{torn_code}
 use Rattle.ason_base.specs.Labels.{has}
 use Rattle.ason_base.specs.Writable.{IsWritableMsg}
-use Rattle.ason_base.specs.declared.calls.Cause.TheVariants.{Code}
 use Rattle.ason_base.specs.declared.ids.Lsp.{Lsp}
 use Rattle.ason_base.specs.declared.ids.NodeId.{NodeId}
 use Rattle.ason_base.specs.declared.messages.Msg.TheVariants.{Path, Resv, PathTear, PathErr, Notify}
-use Rattle.ason_base.specs.declared.tables.CallRec.{CallRec}
 use Rattle.ason_base.specs.declared.tables.Leg.{Leg}
-use Rattle.ason_base.specs.Lsps.{is_lsp}
 use Rattle.mesh_rules.specs.declared.arrivals.Arrival.{Arrival}
-use Rattle.mesh_rules.specs.declared.changes.CallChange.TheVariants as call
 use Rattle.mesh_rules.specs.declared.neighbours.Neighbour.{Neighbour}
-use Rattle.mesh_rules.specs.Calls.{bare, blocked, call_of, is_asking}
-use Rattle.mesh_rules.specs.Changes.{changes_calls, followed_by, nothing, puts, removes, to_node}
-use Rattle.mesh_rules.specs.Legs.{closed, connected, find_leg, following, is_asked, is_closing, is_node, is_over, previous, with_leg}
+use Rattle.mesh_rules.specs.CallSteps.{call_answered, call_refused}
+use Rattle.mesh_rules.specs.Calls.{call_with}
+use Rattle.mesh_rules.specs.Changes.{removes, to_node}
+use Rattle.mesh_rules.specs.Legs.{closed, connected, find_leg, following, is_asked, is_closing, is_node, is_over, previous, with_leg, without_leg}
 use Rattle.mesh_rules.specs.Messages.{arrival}
-use Rattle.mesh_rules.specs.PathErrs.{PathFailure, call_refused, err_passed, path_err_with, refused_here, removed}
-use Rattle.mesh_rules.specs.Resvs.{answered, call_connected, connected_here, is_expected, label_back, labels_left, passed_back, resv_with}
+use Rattle.mesh_rules.specs.PathErrs.{PathFailure, err_passed, path_err_with, refused_here, removed}
+use Rattle.mesh_rules.specs.Resvs.{answered, connected_here, is_expected, label_back, labels_left, passed_back, resv_with}
 use Rattle.mesh_rules.specs.LocalNodes.{LocalNode}
 use Rattle.mesh_rules.specs.State.{NodeState}
 use Rattle.mesh_rules.specs.Tears.{tear_with, torn}
-use Rattle.mesh_nodes.specs.Kept.{CallFits, LegFits, LegsFit, NodeFits}
+use Rattle.mesh_nodes.specs.Kept.{LegFits, LegsFit, NodeFits}
 use Rattle.mesh_nodes.specs.Laws.{MessagesFit}
-use Rattle.mesh_nodes.specs.LocalNodes.{is_downstream, is_neighbour, is_upstream}
+use Rattle.mesh_nodes.specs.LocalNodes.{LocalNodeFits, is_downstream, is_neighbour, is_upstream}
 use Rattle.mesh_nodes.specs.Sent.{AnswerFits, CanBePassedOn}
-use Rattle.mesh_nodes.proofs.Cases.{both_left, both_right, if_cases}
-use Rattle.mesh_nodes.proofs.Kept.{alone-fibre, beside-fibre, calls-put, closed-fits, connected-fits, legs-changed, legs-less, over-fibre}
+use Rattle.mesh_nodes.proofs.CallSteps.{answered-call-fits, refused-call-fits}
+use Rattle.mesh_nodes.proofs.Cases.{both_left, both_right, if_cases, not-false}
+use Rattle.mesh_nodes.proofs.Followed.{after-puts, after-removes}
+use Rattle.mesh_nodes.proofs.Kept.{alone-fibre, beside-fibre, closed-fits, connected-fits, legs-changed, legs-less, length-replaced, over-fibre}
 use Rattle.mesh_nodes.proofs.LegList.{found-all, found-lsp}
-use Rattle.mesh_nodes.proofs.Links.{downstream-near, found-one, over-near, upstream-near}
+use Rattle.mesh_nodes.proofs.Links.{downstream-near, over-near, upstream-near}
 use Rattle.mesh_nodes.proofs.Paths.{nothing-fits, on_path-fits}
 
 -- A leg that is found
@@ -77,8 +76,8 @@ following-is_near p next g h fits e = some-of (λ k. is_neighbour p k.node ≡ t
 
 -- Resv
 
-module _ (p : LocalNode) (s : NodeState) (a : Arrival) (x : ℕ) (g : Leg) (W : Type 0) (fits : NodeFits p s)
-    (stands : Stands p s g)
+module _ (p : LocalNode) (s : NodeState) (a : Arrival) (x : ℕ) (g : Leg) (W : Type 0) (place : LocalNodeFits p)
+    (fits : NodeFits p s) (stands : Stands p s g)
     (over : is_over (following g) a.from a.link ≡ true) where
   out : is_some g.out_fibre ≡ true
   out = over-fibre g.next g.out_fibre a.from a.link over
@@ -117,76 +116,42 @@ module _ (p : LocalNode) (s : NodeState) (a : Arrival) (x : ℕ) (g : Leg) (W : 
     few = omega arith;
   }
 
-  connected_here-fits : previous g ≡ None → AnswerFits p s W (connected_here s x g)
-  connected_here-fits is = go (call_of g.lsp s.calls) refl
+  connected_here-fits : previous g ≡ None → AnswerFits p s W (connected_here p s x g)
+  connected_here-fits is =
+      let alone : is_some g.in_fibre ≡ false = alone-fibre g.prev g.in_fibre stands.fits.in_fibre is in
+      let legs : LegsFit p s.lsp (with_leg (connected g None x) s.legs) = connected-legs None (sym alone) in
+      after-puts p s W (call_answered p s g (call_with g.lsp s.calls)) (connected g None x)
+      (answered-call-fits p s (with_leg (connected g None x) s.legs) g W place
+      (record { legs = legs; calls = fits.calls; first = fits.first; numbers = fits.numbers })
+      (call_with g.lsp s.calls) refl
+      (length-replaced (connected g None x) g s.legs fits.legs.rise stands.found) stands.fits (begins-here alone))
     where
-      legs : LegsFit p s.lsp (with_leg (connected g None x) s.legs)
-      legs = connected-legs None (sym (alone-fibre g.prev g.in_fibre stands.fits.in_fibre is))
-
-      go : (o : Option CallRec) → call_of g.lsp s.calls ≡ o →
-          AnswerFits p s W (followed_by (puts (connected g None x) []) (call_connected o))
-      go None called = record {
-        kept = record {
-          legs =
-              legs;
-          calls = fits.calls;
-          first = fits.first;
-          numbers = fits.numbers;
-        };
-        near = tt;
-        written = λ w. tt;
-        few = omega arith;
-      }
-      go (Some c) called =
-          if_cases (λ b. AnswerFits p s W (followed_by (puts (connected g None x) []) b))
-          (is_asking c.state && not c.protected) (changes_calls (call.Put (bare c) ∷ [])) nothing
-          (λ e. record {
-            kept = record {
-              legs =
-                  legs;
-              calls = calls-put p (bare c) s.calls fits.calls (call-fits c called);
-              first = fits.first;
-              numbers = fits.numbers;
-            };
-            near = tt;
-            written = λ w. tt;
-            few = omega arith;
-          })
-          (λ e. record {
-            kept = record {
-              legs = legs;
-              calls = fits.calls;
-              first = fits.first;
-              numbers =
-                  fits.numbers;
-            };
-            near = tt;
-            written = λ w. tt;
-            few = omega arith;
-          })
-        where
-          call-fits : (d : CallRec) → call_of g.lsp s.calls ≡ Some d → CallFits p d
-          call-fits d e = found-one (CallFits p) (λ b. is_lsp b.work g.lsp) s.calls d e fits.calls.each
+      begins-here : is_some g.in_fibre ≡ false → g.lsp.ingress.0 ≡ p.id.0
+      begins-here alone =
+          let far : not (nat_eq g.lsp.ingress.0 p.id.0) ≡ false =
+          sym stands.fits.prev ∙ sym stands.fits.in_fibre ∙ alone in
+          let here : nat_eq g.lsp.ingress.0 p.id.0 ≡ true = not-false (nat_eq g.lsp.ingress.0 p.id.0) far in
+          grind arith
 
   answered-fits : (o : Option Neighbour) → previous g ≡ o → AnswerFits p s W (answered p s a x g o)
   answered-fits None is = connected_here-fits is
   answered-fits (Some h) is = passed_back-fits h (label_back p (labels_left p s g h) x) is
 
-resv-fits : (p : LocalNode) (s : NodeState) (a : Arrival) (x : ℕ) (W : Type 0) (o : Option Leg) → NodeFits p s →
-    find_leg a.lsp s.legs ≡ o → AnswerFits p s W (resv_with p s a x o)
-resv-fits p s a x W None fits found = nothing-fits p s W fits
-resv-fits p s a x W (Some g) fits found =
+resv-fits : (p : LocalNode) (s : NodeState) (a : Arrival) (x : ℕ) (W : Type 0) (o : Option Leg) → LocalNodeFits p →
+    NodeFits p s → find_leg a.lsp s.legs ≡ o → AnswerFits p s W (resv_with p s a x o)
+resv-fits p s a x W None place fits found = nothing-fits p s W fits
+resv-fits p s a x W (Some g) place fits found =
     if_cases (AnswerFits p s W) (is_expected a x g) _ _
     (λ e.
     let rest : (is_over (following g) a.from a.link && has g.sent x) ≡ true = both_right (is_asked g.phase) _ e in
-    answered-fits p s a x g W fits (leg-stands p s a.lsp g fits found)
+    answered-fits p s a x g W place fits (leg-stands p s a.lsp g fits found)
     (both_left (is_over (following g) a.from a.link) _ rest) (previous g) refl)
     (λ e. nothing-fits p s W fits)
 
 -- PathErr
 
-module _ (p : LocalNode) (s : NodeState) (g : Leg) (e : PathFailure) (W : Type 0) (fits : NodeFits p s)
-    (stands : Stands p s g) (writable : W → IsWritableMsg e.msg) where
+module _ (p : LocalNode) (s : NodeState) (g : Leg) (e : PathFailure) (W : Type 0) (place : LocalNodeFits p)
+    (fits : NodeFits p s) (stands : Stands p s g) (writable : W → IsWritableMsg e.msg) where
   gone-fits : AnswerFits p s W (removes g.lsp [])
   gone-fits = record {
     kept = record {
@@ -202,28 +167,16 @@ module _ (p : LocalNode) (s : NodeState) (g : Leg) (e : PathFailure) (W : Type 0
   }
 
   refused_here-fits : AnswerFits p s W (refused_here s g e.code)
-  refused_here-fits = go (call_of g.lsp s.calls) refl
-    where
-      go : (o : Option CallRec) → call_of g.lsp s.calls ≡ o →
-          AnswerFits p s W (followed_by (removes g.lsp []) (call_refused e.code o))
-      go None called = gone-fits
-      go (Some c) called =
-          if_cases (λ b. AnswerFits p s W (followed_by (removes g.lsp []) b)) (is_asking c.state)
-          (changes_calls (call.Put (blocked c (Code e.code)) ∷ [])) nothing
-          (λ t. record {
-            kept = record {
-              legs = legs-less p s.lsp g.lsp s.legs fits.legs;
-              calls =
-                  calls-put p (blocked c (Code e.code)) s.calls fits.calls
-                  (found-one (CallFits p) (λ b. is_lsp b.work g.lsp) s.calls c called fits.calls.each);
-              first = fits.first;
-              numbers = fits.numbers;
-            };
-            near = tt;
-            written = λ w. tt;
-            few = omega arith;
-          })
-          (λ t. gone-fits)
+  refused_here-fits =
+      after-removes p s W (call_refused e.code g (call_with g.lsp s.calls)) g.lsp
+      (refused-call-fits p s (without_leg g.lsp s.legs) g W place
+      (record {
+        legs = legs-less p s.lsp g.lsp s.legs fits.legs;
+        calls = fits.calls;
+        first = fits.first;
+        numbers = fits.numbers;
+      })
+      e.code (call_with g.lsp s.calls) refl)
 
   passed-fits : (o : Option Neighbour) → previous g ≡ o → AnswerFits p s W (err_passed s g e o)
   passed-fits None is = refused_here-fits
@@ -245,12 +198,12 @@ module _ (p : LocalNode) (s : NodeState) (g : Leg) (e : PathFailure) (W : Type 0
       if_cases (AnswerFits p s W) (is_asked g.phase) _ _ (λ t. passed-fits (previous g) refl)
       (λ t. if_cases (AnswerFits p s W) (is_closing g.phase) _ _ (λ c. gone-fits) (λ c. nothing-fits p s W fits))
 
-err-fits : (p : LocalNode) (s : NodeState) (u : NodeId) (e : PathFailure) (W : Type 0) (o : Option Leg) → NodeFits p s →
-    find_leg e.lsp s.legs ≡ o → (W → IsWritableMsg e.msg) → AnswerFits p s W (path_err_with s u e o)
-err-fits p s u e W None fits found writable = nothing-fits p s W fits
-err-fits p s u e W (Some g) fits found writable =
+err-fits : (p : LocalNode) (s : NodeState) (u : NodeId) (e : PathFailure) (W : Type 0) (o : Option Leg) →
+    LocalNodeFits p → NodeFits p s → find_leg e.lsp s.legs ≡ o → (W → IsWritableMsg e.msg) → AnswerFits p s W (path_err_with s u e o)
+err-fits p s u e W None place fits found writable = nothing-fits p s W fits
+err-fits p s u e W (Some g) place fits found writable =
     if_cases (AnswerFits p s W) (e.removed && is_node (following g) u) _ _
-    (λ t. removed-fits p s g e W fits (leg-stands p s e.lsp g fits found) writable) (λ t. nothing-fits p s W fits)
+    (λ t. removed-fits p s g e W place fits (leg-stands p s e.lsp g fits found) writable) (λ t. nothing-fits p s W fits)
 
 -- PathTear
 
@@ -307,7 +260,7 @@ messages-fit p s u (Path l e k route set up r) place fits =
       role = r;
     }) (CanBePassedOn (Path l e k route set up r)) (λ w. w) place fits
 messages-fit p s u (Resv l e k x) place fits =
-    resv-fits p s (arrival l e u k) x (Unit {0}) (find_leg l s.legs) fits refl
+    resv-fits p s (arrival l e u k) x (Unit {0}) (find_leg l s.legs) place fits refl
 messages-fit p s u (PathTear l e k) place fits =
     tear-fits p s (arrival l e u k) (Unit {0}) (find_leg l s.legs) fits refl
 messages-fit p s u (PathErr l e at gone code) place fits =
@@ -317,5 +270,5 @@ messages-fit p s u (PathErr l e at gone code) place fits =
       msg = PathErr l e at gone code;
       removed = gone;
       code = code;
-    }) (Unit {0}) (find_leg l s.legs) fits refl (λ w. tt)
+    }) (Unit {0}) (find_leg l s.legs) place fits refl (λ w. tt)
 messages-fit p s u (Notify l e at k code) place fits = nothing-fits p s (Unit {0}) fits

@@ -11,7 +11,7 @@ use Rattle.ason_base.specs.declared.network.LinkSpec.{LinkSpec}
 use Rattle.ason_base.specs.declared.risks.Risk.{Risk}
 use Rattle.ason_base.specs.declared.steps.Step.{Step}
 use Rattle.ason_base.specs.declared.tables.Leg.{Leg}
-use Rattle.mesh_rules.specs.declared.limits.TheConstants.{MOST_LEGS}
+use Rattle.mesh_rules.specs.declared.limits.TheConstants.{MOST_LEGS, MOST_LINKS_OF_ROUTE}
 use Rattle.mesh_rules.specs.Changes.{nothing}
 use Rattle.mesh_rules.specs.Legs.{find_leg, is_work}
 use Rattle.mesh_rules.specs.Paths.{PathRequest, admitted, at_egress, checks, egress_leg, first_failure, first_path, in_transit, is_active, is_for_work, is_none, is_primary_unknown, judged, leads_on, offered_labels, on_path, path_with, risks_here, role_of, set_on, transit_leg}
@@ -49,7 +49,7 @@ pub below : (n : ℕ) → nat_le MOST_LEGS n ≡ false → n < MOST_LEGS
 below n e = grind arith
 
 -- the leg's role is the Path's
-role-fits : (r : PathRole) → is_work (role_of r) ≡ is_for_work r
+pub role-fits : (r : PathRole) → is_work (role_of r) ≡ is_for_work r
 role-fits (Work guard) = refl
 role-fits (Back active work primary) = refl
 
@@ -79,6 +79,8 @@ module _ (p : LocalNode) (s : NodeState) (m : PathRequest) (link : LinkSpec) (W 
     in_label = λ beyond. refl;
     out_label = λ beyond. refl;
     number = away m.arrival.lsp.ingress.0 p.id.0 (m.arrival.lsp.lsp < s.lsp) far;
+    leaves = away m.arrival.lsp.ingress.0 p.id.0 (nat_eq m.arrival.egress.0 p.id.0 ≡ false) far;
+    short = λ e. omega arith;
   }
 
   transit-leg-fits : (risks : List Risk) (k : LinkId) (out : LinkSpec) (route : List Step) (offered : List ℕ) →
@@ -95,6 +97,8 @@ module _ (p : LocalNode) (s : NodeState) (m : PathRequest) (link : LinkSpec) (W 
     in_label = λ beyond. absurd (cc beyond);
     out_label = λ beyond. absurd (cc beyond);
     number = away m.arrival.lsp.ingress.0 p.id.0 (m.arrival.lsp.lsp < s.lsp) far;
+    leaves = λ e. on;
+    short = away m.arrival.lsp.ingress.0 p.id.0 (length route < MOST_LINKS_OF_ROUTE) far;
   }
 
   at_egress-fits : (risks : List Risk) (offered : List ℕ) (o : Option ℕ) → length s.legs < MOST_LEGS →

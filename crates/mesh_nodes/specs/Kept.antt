@@ -1,9 +1,9 @@
 -- What a node keeps.
-use Rattle.std.specs.Prelude.{◌≡◌, ◌<◌, ◌≤◌, ◌==◌, ℕ, not, List, length, IfSome, IsTrue, is_some}
+use Rattle.std.specs.Prelude.{◌≡◌, ◌<◌, ◌≤◌, ◌==◌, ℕ, false, not, List, length, IfSome, IsTrue, is_some}
 use Rattle.std.specs.List.{AllByRecursion}
 use Rattle.ason_base.specs.declared.tables.CallRec.{CallRec}
 use Rattle.ason_base.specs.declared.tables.Leg.{Leg}
-use Rattle.mesh_rules.specs.declared.limits.TheConstants.{MOST_LEGS}
+use Rattle.mesh_rules.specs.declared.limits.TheConstants.{MOST_LEGS, MOST_LINKS_OF_ROUTE}
 use Rattle.mesh_rules.specs.Legs.{following, is_beyond_asked, is_work, previous}
 use Rattle.mesh_rules.specs.Paths.{is_for_work}
 use Rattle.mesh_rules.specs.Setups.{is_followable}
@@ -28,8 +28,10 @@ pub record LegFits (p : LocalNode) (next : ℕ) (g : Leg) : Type 0 where
   -- beyond Asked a label in where there is a fibre in, and a label out where there is a fibre out
   pub in_label : IsTrue (is_beyond_asked g.phase) → is_some g.in_label ≡ is_some g.in_fibre
   pub out_label : IsTrue (is_beyond_asked g.phase) → is_some g.out_label ≡ is_some g.out_fibre
-  -- an LSP that begins here has a number that was given out
+  -- an LSP that begins here has a number that was given out, ends elsewhere, and goes on over at most 62 links
   pub number : g.lsp.ingress.0 ≡ p.id.0 → g.lsp.lsp < next
+  pub leaves : g.lsp.ingress.0 ≡ p.id.0 → g.egress.0 == p.id.0 ≡ false
+  pub short : g.lsp.ingress.0 ≡ p.id.0 → length g.route < MOST_LINKS_OF_ROUTE
 
 -- in order of LSP, each of them at p, and no more than a node keeps
 pub record LegsFit (p : LocalNode) (next : ℕ) (legs : List Leg) : Type 0 where
@@ -37,9 +39,10 @@ pub record LegsFit (p : LocalNode) (next : ℕ) (legs : List Leg) : Type 0 where
   pub each : AllByRecursion (LegFits p next) legs
   pub few : length legs ≤ MOST_LEGS
 
--- the backup route that was given can be followed from p
-abbrev pub CallFits : LocalNode → CallRec → Type 0
-CallFits p c = IsTrue (is_followable p c.backup)
+-- the backup route that was given can be followed from p, and the working LSP begins there
+pub record CallFits (p : LocalNode) (c : CallRec) : Type 0 where
+  pub backup : IsTrue (is_followable p c.backup)
+  pub work : IfSome c.work (λ l. l.ingress.0 ≡ p.id.0)
 
 -- in order of number, each of them at p
 pub record CallsFit (p : LocalNode) (calls : List CallRec) : Type 0 where
