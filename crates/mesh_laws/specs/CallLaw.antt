@@ -4,9 +4,9 @@ use Rattle.std.specs.List.{AllPairs, count_by}
 use Rattle.ason_base.specs.declared.ids.NodeId.{NodeId}
 use Rattle.ason_base.specs.declared.ids.Lsp.{Lsp}
 use Rattle.ason_base.specs.declared.calls.CallState.{CallState}
-use Rattle.ason_base.specs.declared.calls.CallState.TheVariants.{Asking, Bare, Blocked}
+use Rattle.ason_base.specs.declared.calls.CallState.TheVariants.{Asking, Bare, Blocked, Guarded, Pairing}
 use Rattle.ason_base.specs.declared.calls.Phase.{Phase}
-use Rattle.ason_base.specs.declared.calls.Phase.TheVariants.{Asked, Live}
+use Rattle.ason_base.specs.declared.calls.Phase.TheVariants.{Asked, Held, Live}
 use Rattle.ason_base.specs.declared.calls.Role.{Role}
 use Rattle.ason_base.specs.declared.calls.Role.TheVariants.{Work, Back}
 use Rattle.ason_base.specs.declared.tables.CallRec.{CallRec}
@@ -27,10 +27,12 @@ phase_of None = None
 phase_of (Some g) = Some g.phase
 
 -- The state of a call with the phases of its working and its backup leg, none where no leg stands. These are all that
--- the rules give: no call has a backup leg, and none is in another state.
+-- the rules give: no backup is switched, and no call is in another state.
 abbrev pub fits : CallState → Option Phase → Option Phase → Bool
 fits Asking (Some Asked) None = true
 fits Bare (Some Live) None = true
+fits Pairing (Some Live) (Some Asked) = true
+fits Guarded (Some Live) (Some Held) = true
 fits Blocked None None = true
 fits state work back = false
 

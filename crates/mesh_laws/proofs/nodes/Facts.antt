@@ -9,6 +9,9 @@ use Rattle.ason_base.specs.declared.tables.CallRec.{CallRec}
 use Rattle.ason_base.specs.declared.tables.Leg.{Leg}
 use Rattle.ason_base.specs.Labels.{has}
 use Rattle.ason_base.specs.Network.{Network}
+use Rattle.ason_base.specs.Routes.{makes_route}
+use Rattle.ason_base.specs.declared.ids.NodeId.{NodeId}
+use Rattle.mesh_rules.specs.Commands.{is_searchable}
 use Rattle.mesh_rules.specs.Legs.{find_leg, is_closing, takes}
 use Rattle.mesh_rules.specs.Calls.{find_call}
 use Rattle.mesh_rules.specs.State.{NodeState}
@@ -63,12 +66,11 @@ LabelsFit legs =
 
 -- A call
 
--- no call is protected, and none has a backup
-pub record CallFacts (n : ℕ) (next : ℕ) (legs : List Leg) (c : CallRec) : Type 0 where
-  pub fits : FitsLegs n next legs c
-  pub protected : c.protected ≡ false
-  pub backup : c.backup ≡ None
-  pub back : c.back ≡ None
+-- A backup can be asked for beside the call's working LSP: a route that was given for it leads to the egress, and where a
+-- protected call was given none, the links can be searched.
+pub record CanBeBacked (t : Network) (n : NodeId) (c : CallRec) : Type 0 where
+  pub given : IfSome c.backup (λ route. IsTrue (makes_route t n c.egress route))
+  pub searched : IsTrue c.protected → c.backup ≡ None → IsTrue (is_searchable t)
 
 pub record HasCall (calls : List CallRec) (l : Lsp) : Type 0 where
   pub call : CallRec
@@ -82,7 +84,7 @@ pub record NodeFacts (n : ℕ) (s : NodeState) : Type 0 where
   pub leg : (l : Lsp) (g : Leg) → find_leg l s.legs ≡ Some g → LegFacts n s.lsp g
   pub labels : LabelsFit s.legs
   pub calls_rise : CallsRise s.calls
-  pub call : (k : CallNo) (c : CallRec) → find_call k s.calls ≡ Some c → CallFacts n s.lsp s.legs c
+  pub call : (k : CallNo) (c : CallRec) → find_call k s.calls ≡ Some c → FitsLegs n s.lsp s.legs c
   -- calls that name one LSP are one
   pub one_call : (l : Lsp) (k m : CallNo) (c d : CallRec) → find_call k s.calls ≡ Some c →
       find_call m s.calls ≡ Some d →
@@ -96,5 +98,6 @@ pub record NodeFacts (n : ℕ) (s : NodeState) : Type 0 where
 pub record MeshFacts (t : Network) (s : Mesh) : Type 0 where
   pub node : (n : ℕ) → NodeFacts n (s.nodes n)
   pub desk : (n : ℕ) → DeskFits t n (s.desks n)
+  pub backed : (n : NodeId) (k : CallNo) (c : CallRec) → find_call k (s.nodes n.0).calls ≡ Some c → CanBeBacked t n c
   -- what a node learnt are rows of the network
   pub learnt : (n : ℕ) → AreRowsOf t (s.nodes n).learnt
