@@ -1,4 +1,4 @@
 pub mod EveryRun
-mod Examples
+mod examples
 pub mod hops
 pub mod nodes

@@ -1,0 +1,146 @@
+-- What is looked at of a mesh of some nodes after a run: the legs and calls of each node, how many links each node knows,
+-- and how many messages are under way.
+use Rattle.std.proofs.Common.{ℕ, Bool, true, false, List, [], ◌∷◌}
+use Rattle.std.specs.Prelude.{◌&&◌, length, map, Option, Some}
+use Rattle.ason_base.specs.Network.{Network}
+use Rattle.ason_base.specs.declared.calls.CallState.{CallState}
+use Rattle.ason_base.specs.declared.calls.Cause.{Cause}
+use Rattle.ason_base.specs.declared.calls.Phase.{Phase}
+use Rattle.ason_base.specs.declared.commands.Command.TheVariants.{Protect, Release, Setup}
+use Rattle.ason_base.specs.declared.ids.CallNo.{CallNo}
+use Rattle.ason_base.specs.declared.ids.LinkId.{LinkId}
+use Rattle.ason_base.specs.declared.ids.Lsp.{Lsp}
+use Rattle.ason_base.specs.declared.ids.NodeId.{NodeId}
+use Rattle.ason_base.specs.declared.network.LinkSpec.{LinkSpec}
+use Rattle.ason_base.specs.declared.network.NodeSpec.{NodeSpec}
+use Rattle.ason_base.specs.declared.steps.Step.{Step}
+use Rattle.ason_base.specs.declared.tables.CallRec.{CallRec}
+use Rattle.ason_base.specs.declared.tables.Leg.{Leg}
+use Rattle.mesh_rules.specs.declared.events.MeshEvent.{MeshEvent}
+use Rattle.mesh_rules.specs.declared.events.MeshEvent.TheVariants.{Desk, Learn, Post, Take}
+use Rattle.mesh_rules.specs.Events.{is_enabled, step}
+use Rattle.mesh_rules.specs.KnownRows.{known_rows}
+use Rattle.mesh_rules.specs.LocalNodes.{local_node}
+use Rattle.mesh_rules.specs.Machine.{Mesh}
+
+-- Networks
+
+abbrev pub node : ℕ → NodeId
+node n = record { 0 = n }
+
+abbrev pub link : ℕ → LinkId
+link k = record { 0 = k }
+
+-- whether the node converts
+abbrev pub spec : ℕ → Bool → NodeSpec
+spec n convert = record { id = node n; convert = convert }
+
+-- a link between two nodes, with so many labels, and its SRLGs
+abbrev pub joins : ℕ → ℕ → ℕ → ℕ → List ℕ → LinkSpec
+joins k a b labels srlgs =
+    record { id = link k; low = node a; high = node b; labels = labels; metric = 1; srlgs = srlgs }
+
+-- an LSP of this ingress, in this tunnel
+abbrev pub lsp : ℕ → ℕ → ℕ → Lsp
+lsp n tunnel number = record { ingress = node n; tunnel = tunnel; lsp = number }
+
+-- Events
+
+abbrev pub call : ℕ → CallNo
+call k = record { 0 = k }
+
+abbrev pub over : ℕ → ℕ → Step
+over n k = record { node = node n; link = link k }
+
+-- the node learns of these links, one after the other
+abbrev pub learns : ℕ → List ℕ → List MeshEvent
+learns n links = map (λ k. Learn (node n) (link k)) links
+
+-- a protected call between two nodes, over this route, with this backup route
+abbrev pub sets_up : ℕ → ℕ → ℕ → List Step → List Step → MeshEvent
+sets_up k from to via backup = Post (Setup (call k) (node from) (node to) true false (Some via) (Some backup))
+
+abbrev pub protects : ℕ → ℕ → MeshEvent
+protects k from = Post (Protect (call k) (node from))
+
+abbrev pub releases : ℕ → ℕ → MeshEvent
+releases k from = Post (Release (call k) (node from))
+
+abbrev pub desk : ℕ → MeshEvent
+desk n = Desk (node n)
+
+-- the node takes the first message from this neighbour
+abbrev pub takes : ℕ → ℕ → MeshEvent
+takes n u = Take (node n) (node u)
+
+-- each event is enabled when its turn comes
+abbrev pub all_enabled : Network → Mesh → List MeshEvent → Bool
+all_enabled t s [] = true
+all_enabled t s (e ∷ es) = is_enabled t s e && all_enabled t (step t s e) es
+
+-- What is seen
+
+-- a leg: the ingress and the number of its LSP; how many labels were offered and sent on, and how many steps are left
+pub record SeenLeg : Type 0 where
+  pub ingress : ℕ
+  pub number : ℕ
+  pub phase : Phase
+  pub in_label : Option ℕ
+  pub out_label : Option ℕ
+  pub offered : ℕ
+  pub sent : ℕ
+  pub left : ℕ
+
+pub record SeenCall : Type 0 where
+  pub number : ℕ
+  pub state : CallState
+  pub cause : Cause
+  pub work_reports : ℕ
+  pub back_reports : ℕ
+  pub ticks : ℕ
+
+-- by node the legs, the calls and how many links are known; by link the messages to its high end, and to its low end
+pub record Seen : Type 0 where
+  pub legs : List (List SeenLeg)
+  pub calls : List (List SeenCall)
+  pub known : List ℕ
+  pub mail : List (ℕ × ℕ)
+
+abbrev pub leg : ℕ → ℕ → Phase → Option ℕ → Option ℕ → ℕ → ℕ → ℕ → SeenLeg
+leg ingress number phase in_label out_label offered sent left = record {
+  ingress = ingress;
+  number = number;
+  phase = phase;
+  in_label = in_label;
+  out_label = out_label;
+  offered = offered;
+  sent = sent;
+  left = left;
+}
+
+-- a call without reports
+abbrev pub called : ℕ → CallState → Cause → SeenCall
+called number state cause =
+    record { number = number; state = state; cause = cause; work_reports = 0; back_reports = 0; ticks = 0 }
+
+abbrev leg_seen : Leg → SeenLeg
+leg_seen g =
+    leg g.lsp.ingress.0 g.lsp.lsp g.phase g.in_label g.out_label (length g.offered) (length g.sent) (length g.route)
+
+abbrev call_seen : CallRec → SeenCall
+call_seen c = record {
+  number = c.call.0;
+  state = c.state;
+  cause = c.cause;
+  work_reports = length c.work_reports;
+  back_reports = length c.back_reports;
+  ticks = c.ticks;
+}
+
+abbrev pub seen : Network → Mesh → Seen
+seen t s = record {
+  legs = map (λ n. map leg_seen (s.nodes n.id.0).legs) t.nodes;
+  calls = map (λ n. map call_seen (s.nodes n.id.0).calls) t.nodes;
+  known = map (λ n. length (known_rows (local_node t n.id) (s.nodes n.id.0))) t.nodes;
+  mail = map (λ l. (length (s.mail l.low.0 l.high.0), length (s.mail l.high.0 l.low.0))) t.links;
+}
