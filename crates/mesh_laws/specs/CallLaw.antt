@@ -1,5 +1,5 @@
 -- In every state of every run the state of a call fits its legs at the ingress, and each leg there is of one call.
-use Rattle.std.specs.Prelude.{◌≡◌, ◌<◌, ◌==◌, ◌&&◌, ◌||◌, ℕ, Bool, true, false, not, List, [], Option, Some, None, IsTrue, All, IfSome}
+use Rattle.std.specs.Prelude.{◌≡◌, ◌<◌, ◌==◌, ◌&&◌, ℕ, Bool, true, false, not, List, [], Option, Some, None, IsTrue, All, IfSome}
 use Rattle.std.specs.List.{AllPairs, count_by}
 use Rattle.ason_base.specs.declared.ids.NodeId.{NodeId}
 use Rattle.ason_base.specs.declared.ids.Lsp.{Lsp}
@@ -11,9 +11,9 @@ use Rattle.ason_base.specs.declared.calls.Role.{Role}
 use Rattle.ason_base.specs.declared.calls.Role.TheVariants.{Work, Back}
 use Rattle.ason_base.specs.declared.tables.CallRec.{CallRec}
 use Rattle.ason_base.specs.declared.tables.Leg.{Leg}
-use Rattle.ason_base.specs.Lsps.{is_lsp}
 use Rattle.ason_base.specs.Network.{Network}
 use Rattle.mesh_rules.specs.declared.events.MeshEvent.{MeshEvent}
+use Rattle.mesh_rules.specs.Calls.{names}
 use Rattle.mesh_rules.specs.Legs.{find_leg, is_closing, leg_of}
 use Rattle.mesh_rules.specs.State.{NodeState}
 use Rattle.mesh_rules.specs.Machine.{start}
@@ -56,13 +56,9 @@ pub record FitsLegs (n : ℕ) (next : ℕ) (legs : List Leg) (c : CallRec) : Typ
 abbrev pub wants_call : ℕ → Leg → Bool
 wants_call n g = g.lsp.ingress.0 == n && not (is_closing g.phase)
 
--- the LSP is the call's working LSP or its backup
-abbrev pub names : CallRec → Lsp → Bool
-names c l = is_lsp c.work l || is_lsp c.back l
-
 -- just one call names the leg's LSP
 abbrev pub IsOfOneCall : List CallRec → Leg → Type 0
-IsOfOneCall calls g = count_by (λ c. names c g.lsp) calls ≡ 1
+IsOfOneCall calls g = count_by (names g.lsp) calls ≡ 1
 
 -- At one node: the calls stand in order of number, no number twice; each fits its legs; and each leg that begins here
 -- and isn't torn is of just one call.

@@ -13,12 +13,13 @@ use Rattle.ason_base.specs.Routes.{makes_route}
 use Rattle.ason_base.specs.declared.ids.NodeId.{NodeId}
 use Rattle.mesh_rules.specs.Commands.{is_searchable}
 use Rattle.mesh_rules.specs.Legs.{find_leg, is_closing, takes}
-use Rattle.mesh_rules.specs.Calls.{find_call}
+use Rattle.mesh_rules.specs.Calls.{find_call, names}
+use Rattle.mesh_rules.specs.Paths.{role_of}
 use Rattle.mesh_rules.specs.State.{NodeState}
 use Rattle.mesh_rules.specs.Machine.{Mesh}
 use Rattle.mesh_nodes.specs.Order.{CallsRise, LegsRise}
 use Rattle.mesh_nodes.specs.Routes.{AreRowsOf}
-use Rattle.mesh_laws.specs.CallLaw.{FitsLegs, names}
+use Rattle.mesh_laws.specs.CallLaw.{FitsLegs}
 use Rattle.mesh_laws.specs.LabelLaw.{MayShare}
 use Rattle.mesh_laws.specs.NodeLaw.{DeskFits}
 
@@ -51,6 +52,8 @@ pub record LegFacts (n : ℕ) (next : ℕ) (g : Leg) : Type 0 where
   pub out_fibre : is_some g.out_fibre ≡ is_some g.next
   pub one_end : IsTrue (is_some g.prev || is_some g.next)
   pub number : g.lsp.ingress.0 ≡ n → g.lsp.lsp < next
+  -- the leg's role is that of the Path that is sent or came
+  pub role : g.role ≡ role_of g.path_role
   pub phase : FitsPhase g.phase g
   -- the label in is one of those that were offered, the label out one of those that were sent on
   pub offered : IfSome g.in_label (λ x. IsTrue (has g.offered x))
@@ -75,7 +78,7 @@ pub record CanBeBacked (t : Network) (n : NodeId) (c : CallRec) : Type 0 where
 pub record HasCall (calls : List CallRec) (l : Lsp) : Type 0 where
   pub call : CallRec
   pub found : find_call call.call calls ≡ Some call
-  pub named : IsTrue (names call l)
+  pub named : IsTrue (names l call)
 
 -- A node
 
@@ -88,7 +91,7 @@ pub record NodeFacts (n : ℕ) (s : NodeState) : Type 0 where
   -- calls that name one LSP are one
   pub one_call : (l : Lsp) (k m : CallNo) (c d : CallRec) → find_call k s.calls ≡ Some c →
       find_call m s.calls ≡ Some d →
-      IsTrue (names c l) → IsTrue (names d l) → k ≡ m
+      IsTrue (names l c) → IsTrue (names l d) → k ≡ m
   -- the LSP of a leg that begins here and isn't torn has a call
   pub has_call : (l : Lsp) (g : Leg) → find_leg l s.legs ≡ Some g → l.ingress.0 ≡ n → is_closing g.phase ≡ false →
       HasCall s.calls l
