@@ -12,3 +12,4 @@ pub mod PathKeeps
 pub mod Runs
 pub mod Searches
 pub mod Sharing
+pub mod States

@@ -1,202 +1,289 @@
 -- A call changes together with its leg at the ingress, when the Resv or the PathErr comes.
-use Rattle.std.proofs.Common.{◌≡◌, ℕ, Bool, true, false, nat_eq, List, [], ◌∷◌, refl, sym, ap, subst, arith, inl}
+use Rattle.std.proofs.Common.{◌≡◌, ℕ, Bool, true, false, cond, nat_eq, List, refl, sym, ap, subst, ◌∙◌, arith, inl, inr}
 use Rattle.std.specs.Prelude.{Option, Some, None, IfSome}
+use Rattle.ason_base.specs.declared.ids.CallNo.{CallNo}
 use Rattle.ason_base.specs.declared.ids.Lsp.{Lsp}
-use Rattle.ason_base.specs.declared.calls.Phase.TheVariants.{Asked, Live}
-use Rattle.ason_base.specs.declared.calls.Role.TheVariants as role
-use Rattle.ason_base.specs.declared.calls.Role.TheVariants.{Work}
-use Rattle.ason_base.specs.declared.calls.CallState.{CallState}
-use Rattle.ason_base.specs.declared.calls.CallState.TheVariants.{Asking, Bare, Pairing, Guarded, Turning, Turned, Stuck, Blocked}
+use Rattle.ason_base.specs.declared.ids.NodeId.{NodeId}
 use Rattle.ason_base.specs.declared.calls.Cause.{Cause}
+use Rattle.ason_base.specs.declared.calls.Phase.{Phase}
+use Rattle.ason_base.specs.declared.calls.Phase.TheVariants.{Asked, Held, Live}
+use Rattle.ason_base.specs.declared.calls.Role.{Role}
+use Rattle.ason_base.specs.declared.calls.Role.TheVariants.{Work, Back}
 use Rattle.ason_base.specs.declared.tables.CallRec.{CallRec}
 use Rattle.ason_base.specs.declared.tables.Leg.{Leg}
 use Rattle.ason_base.specs.Lsps.{same_lsp}
-use Rattle.mesh_rules.specs.declared.changes.CallChange.TheVariants as call
-use Rattle.mesh_rules.specs.Legs.{find_leg, is_closing, connected, reserved, with_leg, without_leg, leg_of}
-use Rattle.ason_base.specs.declared.ids.CallNo.{CallNo}
-use Rattle.mesh_rules.specs.Calls.{find_call, call_of, bare, blocked, with_call}
+use Rattle.mesh_rules.specs.Legs.{find_leg, is_closing, is_work, connected, reserved, with_leg, without_leg, leg_of}
+use Rattle.mesh_rules.specs.Calls.{find_call, call_with, bare, blocked, guarded, names, unbacked, with_call}
 use Rattle.mesh_rules.specs.State.{NodeState}
-use Rattle.mesh_rules.specs.Changes.{puts, removes, changes_calls, followed_by, changed}
-use Rattle.mesh_laws.specs.CallLaw.{IsNamed, fits, names, phase_of}
-use Rattle.mesh_laws.proofs.nodes.Facts.{CallFacts, NodeFacts}
 use Rattle.mesh_nodes.proofs.LegList.{same_lsp-eq, same_lsp-refl, find-with_leg, find-without_leg}
-use Rattle.mesh_laws.proofs.nodes.LegParts.{MayStand, part-with_leg, part-without_leg}
-use Rattle.mesh_nodes.proofs.CallList.{called-found, called-work, not_called, find-with_call, rise-with_call}
-use Rattle.mesh_laws.proofs.nodes.CallParts.{Together, Becomes, lsp-is, is-lsp, names-work, named-work, other-stays, itself-became, together-part}
-use Rattle.mesh_laws.proofs.nodes.Parts.{leg_part, call_part, node_facts, named, state-fits}
-
--- The call of a leg that was asked for
-
--- the call of this LSP at its ingress, whose leg is Asked
-pub record AskingCall (n : ℕ) (s : NodeState) (l : Lsp) (c : CallRec) : Type 0 where
-  pub found : find_call c.call s.calls ≡ Some c
-  pub work : c.work ≡ Some l
-  pub state : c.state ≡ Asking
-
-asked-state : (state : CallState) → fits state (Some Asked) None ≡ true → state ≡ Asking
-asked-state Asking e = refl
-asked-state Bare e = absurd (cc e)
-asked-state Pairing e = absurd (cc e)
-asked-state Guarded e = absurd (cc e)
-asked-state Turning e = absurd (cc e)
-asked-state Turned e = absurd (cc e)
-asked-state Stuck e = absurd (cc e)
-asked-state Blocked e = absurd (cc e)
-
-pub asking_call : (n : ℕ) (s : NodeState) (g : Leg) (c : CallRec) → NodeFacts n s → find_leg g.lsp s.legs ≡ Some g →
-    g.phase ≡ Asked → call_of g.lsp s.calls ≡ Some c → AskingCall n s g.lsp c
-asking_call n s g c facts here asked called =
-    let found = called-found g.lsp s.calls c facts.calls_rise called in
-    let work = lsp-is c.work g.lsp (called-work g.lsp s.calls c called) in
-    let fit : fits c.state (Some g.phase) None ≡ true =
-    state-fits n s.lsp s.legs c g.lsp g (facts.call c.call c found) work here in
-    let fit' : fits c.state (Some Asked) None ≡ true = subst (λ f. fits c.state (Some f) None ≡ true) asked fit in
-    record { found = found; work = work; state = asked-state c.state fit' }
+use Rattle.mesh_nodes.proofs.CallList.{called-found, called-names, not_called, find-with_call, rise-with_call}
+use Rattle.mesh_laws.specs.CallLaw.{FitsLegs, IsNamed, phase_of}
+use Rattle.mesh_laws.proofs.nodes.Facts.{NodeFacts}
+use Rattle.mesh_laws.proofs.nodes.CallParts.{Becomes, CallPart, itself-became, leg_of-stays, named-by, named-lsp, named-stays, names-back, names-work, other-stays, together-part}
+use Rattle.mesh_laws.proofs.nodes.Parts.{back-row, call_part, work-row}
+use Rattle.mesh_laws.proofs.nodes.States.{Row, asked-back, asked-work}
 
 -- an Asked leg at its ingress has a call
 pub must_have_call : (n : ℕ) (s : NodeState) (g : Leg) → NodeFacts n s → find_leg g.lsp s.legs ≡ Some g →
-    g.phase ≡ Asked → g.lsp.ingress.0 ≡ n → call_of g.lsp s.calls ≡ None → ⊥
+    g.phase ≡ Asked → g.lsp.ingress.0 ≡ n → call_with g.lsp s.calls ≡ None → ⊥
 must_have_call n s g facts here asked ingress none =
     let has = facts.has_call g.lsp g here ingress (ap is_closing asked) in
-    let work = named-work has.call g.lsp (facts.call has.call.call has.call has.found).back has.named in
-    not_called g.lsp s.calls has.call.call has.call none has.found (is-lsp has.call.work g.lsp work)
+    not_called g.lsp s.calls has.call.call has.call none has.found has.named
 
--- the working LSP of a call is of no other one
-pub of-no-other : (n : ℕ) (s : NodeState) (k m : CallNo) (c d : CallRec) (l x : Lsp) → NodeFacts n s →
-    find_call k s.calls ≡ Some c →
-    c.work ≡ Some l → nat_eq k.0 m.0 ≡ false → find_call m s.calls ≡ Some d → names d x ≡ true → same_lsp l x ≡ false
-of-no-other n s k m c d l x facts found work other there named = go (same_lsp l x) refl
-  where
-    go : (b : Bool) → same_lsp l x ≡ b → b ≡ false
-    go false e = refl
-    go true e =
-        let is = same_lsp-eq l x e in
-        let named' = subst (λ y. names d y ≡ true) (sym is) named in
-        let one : k ≡ m = facts.one_call l k m c d found there (names-work c l work) named' in
-        let same : nat_eq k.0 m.0 ≡ true = (let q : k.0 ≡ m.0 = ap (λ y. y.0) one in grind arith) in
-        absurd (cc (same, other))
+-- an LSP that a call names has a leg, so where no leg is found it names none
+pub no_leg : (n next : ℕ) (legs : List Leg) (r : Role) (e : NodeId) (o : Option Lsp) → IfSome o (IsNamed n next legs r e) →
+    phase_of (leg_of o legs) ≡ None → o ≡ None
+no_leg n next legs r e None named none = refl
+no_leg n next legs r e (Some l) named none =
+    let found : find_leg l legs ≡ Some named.leg.0 = named.leg.1 in
+    let some : phase_of (find_leg l legs) ≡ Some named.leg.0.phase = ap phase_of found in
+    absurd (cc (none, some))
 
--- a call that has this working LSP, and no backup, names no other one
-pub names-only : (c : CallRec) (l x : Lsp) → c.work ≡ Some l → c.back ≡ None → names c x ≡ true → same_lsp l x ≡ true
-names-only c l x work alone named =
-    let other = named-work c x alone named in
-    let is : l ≡ x = cc (work, other) in
-    subst (λ y. same_lsp l y ≡ true) is (same_lsp-refl l)
+-- the leg of an LSP that is named has its role and its egress
+pub named-leg : (n next : ℕ) (legs : List Leg) (r : Role) (e : NodeId) (l : Lsp) (g : Leg) → IsNamed n next legs r e l →
+    find_leg l legs ≡ Some g → (g.role ≡ r) × (g.egress ≡ e)
+named-leg n next legs r e l g named found =
+    let there : find_leg l legs ≡ Some named.leg.0 = named.leg.1 in
+    let one : named.leg.0 ≡ g = cc (there, found) in
+    (subst (λ x. x.role ≡ r) one named.leg.2, subst (λ x. x.egress ≡ e) one named.leg.3)
 
--- the call changes together with the leg of its working LSP
-together : (n : ℕ) (s : NodeState) (l : Lsp) (c d : CallRec) (p : Option Leg) (legs' : List Leg) → NodeFacts n s →
-    Becomes l p s.legs legs' → find_call c.call s.calls ≡ Some c → c.work ≡ Some l → d.call ≡ c.call →
-    CallFacts n s.lsp legs' d →
-    ((x : Lsp) → names d x ≡ true → same_lsp l x ≡ true) →
-    ((g : Leg) → p ≡ Some g → l.ingress.0 ≡ n → is_closing g.phase ≡ false → names d l ≡ true) →
-    Together n s.lsp (same_lsp l) c.call (Some d) s.legs legs' s.calls
-together n s l c d p legs' facts becomes found work number fit only wanted = record {
-  stay = λ x other. other-stays l x p s.legs legs' becomes other;
-  apart = λ m e x other there named. of-no-other n s c.call m c e l x facts found work other there named;
-  only = λ e x is named. (let one : d ≡ e = cc is in inl (only x (subst (λ y. names y x ≡ true) (sym one) named)));
-  kept = λ e x there named never.
-      (let one : c ≡ e = cc (found, there) in
-      let same =
-      names-only c l x work (facts.call c.call c found).back (subst (λ y. names y x ≡ true) (sym one) named) in
-      absurd (cc (same, never)));
-  facts = λ e is. (let one : d ≡ e = cc is in subst (CallFacts n s.lsp legs') one fit);
-  number = λ e is. (let one : d ≡ e = cc is in subst (λ y. y.call ≡ c.call) one number);
-  wanted = λ x g same there here standing.
-      (let is = same_lsp-eq l x same in
-      let became = itself-became l x p g s.legs legs' becomes same there in
-      let named = wanted g became (subst (λ y. y.ingress.0 ≡ n) (sym is) here) standing in
-      (d, refl, subst (λ y. names d y ≡ true) is named));
-}
+work-is : (r : Role) → is_work r ≡ true → r ≡ Work
+work-is Work e = refl
+work-is Back e = absurd (cc e)
 
--- a call of which its state and its working LSP may have changed; it is unprotected and has no backup
-pub call-fits : (n next : ℕ) (legs : List Leg) (d : CallRec) → d.protected ≡ false → d.backup ≡ None → d.back ≡ None →
-    d.work_reports ≡ [] → d.back_reports ≡ [] → fits d.state (phase_of (leg_of d.work legs)) None ≡ true →
-    IfSome d.work (IsNamed n next legs Work d.egress) → CallFacts n next legs d
-call-fits n next legs d protected backup back work_reports back_reports state work = record {
-  fits = record {
-    state = subst (λ o. fits d.state (phase_of (leg_of d.work legs)) (phase_of (leg_of o legs)) ≡ true)
-        (sym back) state;
-    work = work;
-    back = subst (λ o. IfSome o (IsNamed n next legs role.Back d.egress)) (sym back) tt;
-    work_reports = work_reports;
-    back_reports = back_reports;
-  };
-  protected = protected;
-  backup = backup;
-  back = back;
-}
+back-is : (r : Role) → is_work r ≡ false → r ≡ Back
+back-is Work e = absurd (cc e)
+back-is Back e = refl
 
--- The Resv came: the leg becomes Live and its call is bare
+-- The call of a leg that begins here
 
-live-fits : (n next : ℕ) (legs legs' : List Leg) (c : CallRec) (l : Lsp) (g : Leg) → CallFacts n next legs c →
-    c.work ≡ Some l → find_leg l legs' ≡ Some g → g.phase ≡ Live → g.role ≡ Work → g.egress ≡ c.egress →
-    CallFacts n next legs' (bare c)
-live-fits n next legs legs' c l g facts work found live role egress =
-    let name = named n next legs c l facts work in
-    call-fits n next legs' (bare c) facts.protected facts.backup facts.back
-    facts.fits.work_reports facts.fits.back_reports
-    (subst (λ o. fits Bare (phase_of (leg_of o legs')) None ≡ true) (sym work)
-    (subst (λ o. fits Bare (phase_of o) None ≡ true) (sym found)
-    (subst (λ f. fits Bare (Some f) None ≡ true) (sym live) refl)))
-    (subst (λ o. IfSome o (IsNamed n next legs' Work c.egress)) (sym work)
-    (record { ingress = name.ingress; number = name.number; leg = (g, found, role, egress) }))
+module _ (n : ℕ) (s : NodeState) (facts : NodeFacts n s) (g : Leg) (here : find_leg g.lsp s.legs ≡ Some g) (c : CallRec)
+    (called : call_with g.lsp s.calls ≡ Some c) where
+  pub call-found : find_call c.call s.calls ≡ Some c
+  call-found = called-found g.lsp s.calls c facts.calls_rise called
 
-named-egress : (n next : ℕ) (legs : List Leg) (c : CallRec) (l : Lsp) (g : Leg) → CallFacts n next legs c →
-    c.work ≡ Some l → find_leg l legs ≡ Some g → g.egress ≡ c.egress
-named-egress n next legs c l g facts work found =
-    let leg = (named n next legs c l facts work).leg in
-    let there = leg.1 in
-    let one : leg.0 ≡ g = cc (there, found) in
-    subst (λ x. x.egress ≡ c.egress) one leg.3
+  fit : FitsLegs n s.lsp s.legs c
+  fit = facts.call c.call c call-found
 
--- the leg of a working LSP is a working leg
-named-role : (n next : ℕ) (legs : List Leg) (c : CallRec) (l : Lsp) (g : Leg) → CallFacts n next legs c →
-    c.work ≡ Some l → find_leg l legs ≡ Some g → g.role ≡ Work
-named-role n next legs c l g facts work found =
-    let leg = (named n next legs c l facts work).leg in
-    let there = leg.1 in
-    let one : leg.0 ≡ g = cc (there, found) in
-    subst (λ x. x.role ≡ Work) one leg.2
+  named : names g.lsp c ≡ true
+  named = called-names g.lsp s.calls c called
 
-pub keeps-bare : (n : ℕ) (s : NodeState) (g : Leg) (c : CallRec) (x : ℕ) → NodeFacts n s →
-    find_leg g.lsp s.legs ≡ Some g → AskingCall n s g.lsp c → MayStand n s.lsp s.legs (connected g None x) →
-    NodeFacts n (changed s (followed_by (puts (connected g None x) []) (changes_calls (call.Put (bare c) ∷ []))))
-keeps-bare n s g c x facts here asking may =
-    let legs' = with_leg (connected g None x) s.legs in
-    let old = facts.call c.call c asking.found in
-    let work = asking.work in
-    let role_is : g.role ≡ Work = named-role n s.lsp s.legs c g.lsp g old work here in
-    let found : find_leg g.lsp legs' ≡ Some (connected g None x) =
-    rw (find-with_leg (connected g None x) s.legs g.lsp, same_lsp-refl g.lsp) refl in
-    node_facts n (changed s (followed_by (puts (connected g None x) []) (changes_calls (call.Put (bare c) ∷ []))))
-    (part-with_leg n s.lsp s.lsp (connected g None x) s.legs (omega arith) (leg_part n s facts) may)
-    (together-part n s.lsp s.lsp (same_lsp g.lsp) c.call (Some (bare c)) s.legs legs' s.calls
-    (with_call (bare c) s.calls)
-    (omega arith) (rise-with_call (bare c) s.calls facts.calls_rise) (find-with_call (bare c) s.calls)
-    (together n s g.lsp c (bare c) (Some (connected g None x)) legs' facts (find-with_leg (connected g None x) s.legs)
-    asking.found work refl
-    (live-fits n s.lsp s.legs legs' c g.lsp (connected g None x) old work found (ap reserved role_is) role_is
-    (named-egress n s.lsp s.legs c g.lsp g old work here))
-    (λ m named. names-only (bare c) g.lsp m work old.back named)
-    (λ h is at_ingress standing. names-work (bare c) g.lsp work))
-    (call_part n s facts))
+  -- by its role a leg is the working one or the backup's
+  pub is-working : is_work g.role ≡ true → c.work ≡ Some g.lsp
+  is-working e = elim (named-by c g.lsp named) [
+    | inl work ↦ work
+    | inr back ↦
+        (let role : g.role ≡ Back = (named-leg n s.lsp s.legs Back c.egress g.lsp g
+        (named-lsp n s.lsp s.legs Back c.egress c.back g.lsp fit.back back) here).0 in
+        let no : is_work g.role ≡ false = ap is_work role in
+        absurd (cc (e, no)))
+  ]
 
--- The PathErr came: the leg goes and its call is blocked
+  pub is-backup : is_work g.role ≡ false → c.back ≡ Some g.lsp
+  is-backup e = elim (named-by c g.lsp named) [
+    | inl work ↦
+        (let role : g.role ≡ Work = (named-leg n s.lsp s.legs Work c.egress g.lsp g
+        (named-lsp n s.lsp s.legs Work c.egress c.work g.lsp fit.work work) here).0 in
+        let no : is_work g.role ≡ true = ap is_work role in
+        absurd (cc (e, no)))
+    | inr back ↦ back
+  ]
 
-pub keeps-blocked : (n : ℕ) (s : NodeState) (g : Leg) (c : CallRec) (cause : Cause) → NodeFacts n s →
-    AskingCall n s g.lsp c →
-    NodeFacts n (changed s (followed_by (removes g.lsp []) (changes_calls (call.Put (blocked c cause) ∷ []))))
-keeps-blocked n s g c cause facts asking =
-    let legs' = without_leg g.lsp s.legs in
-    let old = facts.call c.call c asking.found in
-    node_facts n (changed s (followed_by (removes g.lsp []) (changes_calls (call.Put (blocked c cause) ∷ []))))
-    (part-without_leg n s.lsp g.lsp s.legs (leg_part n s facts))
-    (together-part n s.lsp s.lsp (same_lsp g.lsp) c.call (Some (blocked c cause)) s.legs legs' s.calls
-    (with_call (blocked c cause) s.calls) (omega arith) (rise-with_call (blocked c cause) s.calls facts.calls_rise)
-    (find-with_call (blocked c cause) s.calls)
-    (together n s g.lsp c (blocked c cause) None legs' facts (find-without_leg g.lsp s.legs)
-    asking.found asking.work refl
-    (call-fits n s.lsp legs' (blocked c cause) old.protected old.backup old.back refl old.fits.back_reports refl tt)
-    (λ m named. (let some = named-work (blocked c cause) m old.back named in absurd (cc some)))
-    (λ h is at_ingress standing. absurd (cc is)))
-    (call_part n s facts))
+  -- its LSP is no other call's
+  of-no-other : (m : CallNo) (d : CallRec) (x : Lsp) → nat_eq c.call.0 m.0 ≡ false → find_call m s.calls ≡ Some d →
+      names x d ≡ true → same_lsp g.lsp x ≡ false
+  of-no-other m d x other there has = go (same_lsp g.lsp x) refl
+    where
+      go : (b : Bool) → same_lsp g.lsp x ≡ b → b ≡ false
+      go false e = refl
+      go true e =
+          let is = same_lsp-eq g.lsp x e in
+          let mine : names x c ≡ true = subst (λ y. names y c ≡ true) is named in
+          let one : c.call ≡ m = facts.one_call x c.call m c d call-found there mine has in
+          let same : nat_eq c.call.0 m.0 ≡ true = (let q : c.call.0 ≡ m.0 = ap (λ y. y.0) one in grind arith) in
+          absurd (cc (same, other))
+
+  -- its leg becomes o, and it becomes d, which names no other LSP than it did, and this one where a leg stands
+  call-changes : (d : CallRec) (o : Option Leg) (legs' : List Leg) → Becomes g.lsp o s.legs legs' → d.call ≡ c.call →
+      FitsLegs n s.lsp legs' d → ((x : Lsp) → names x d ≡ true → names x c ≡ true) →
+      ((x : Lsp) → names x c ≡ true → same_lsp g.lsp x ≡ false → names x d ≡ true) →
+      ((h : Leg) → o ≡ Some h → names g.lsp d ≡ true) → CallPart n s.lsp legs' (with_call d s.calls)
+  call-changes d o legs' becomes number fits had keeps stands =
+      together-part n s.lsp s.lsp (same_lsp g.lsp) c.call (Some d) s.legs legs' s.calls (with_call d s.calls)
+      (omega arith) (rise-with_call d s.calls facts.calls_rise)
+      (subst (λ k. (m : CallNo) → find_call m (with_call d s.calls) ≡ cond (nat_eq k.0 m.0) (Some d) (find_call m s.calls))
+      number (find-with_call d s.calls))
+      (record {
+        stay = λ x other. other-stays g.lsp x o s.legs legs' becomes other;
+        apart = of-no-other;
+        only = λ e x is has. inr
+            (let one : d ≡ e = cc is in
+            (c, call-found, had x (subst (λ y. names x y ≡ true) (sym one) has)));
+        kept = λ e x there has never.
+            (let mine = call-found in let one : e ≡ c = cc (mine, there) in
+            (d, refl, keeps x (subst (λ y. names x y ≡ true) one has) never));
+        facts = λ e is. (let one : d ≡ e = cc is in subst (FitsLegs n s.lsp legs') one fits);
+        number = λ e is. (let one : d ≡ e = cc is in subst (λ y. y.call ≡ c.call) one number);
+        wanted = λ x h same there ingress standing.
+            (let is = same_lsp-eq g.lsp x same in
+            let became = itself-became g.lsp x o h s.legs legs' becomes same there in
+            (d, refl, subst (λ y. names y d ≡ true) is (stands h became)));
+      })
+      (call_part n s facts)
+
+  asked-row : is_work g.role ≡ true → g.phase ≡ Asked → Row c.state (Some Asked) (phase_of (leg_of c.back s.legs))
+  asked-row e asked =
+      subst (λ f. Row c.state (Some f) (phase_of (leg_of c.back s.legs))) asked
+      (work-row n s.lsp s.legs c g.lsp g fit (is-working e) here)
+
+  -- where the working leg is Asked there is no backup
+  alone : is_work g.role ≡ true → g.phase ≡ Asked → c.back ≡ None
+  alone e asked = no_leg n s.lsp s.legs Back c.egress c.back fit.back (asked-work c.state _ (asked-row e asked)).1
+
+  -- where the backup's leg is Asked the working leg is Live
+  live : is_work g.role ≡ false → g.phase ≡ Asked → phase_of (leg_of c.work s.legs) ≡ Some Live
+  live e asked =
+      (asked-back c.state _ (subst (λ f. Row c.state (phase_of (leg_of c.work s.legs)) (Some f)) asked
+      (back-row n s.lsp s.legs c g.lsp g fit (is-backup e) here))).1
+
+  -- and stays as it is
+  work-stays : is_work g.role ≡ false → (o : Option Leg) (legs' : List Leg) → Becomes g.lsp o s.legs legs' →
+      (m : Lsp) → c.work ≡ Some m → find_leg m legs' ≡ find_leg m s.legs
+  work-stays e o legs' becomes m work = other-stays g.lsp m o s.legs legs' becomes (go (same_lsp g.lsp m) refl)
+    where
+      go : (b : Bool) → same_lsp g.lsp m ≡ b → b ≡ false
+      go false t = refl
+      go true t =
+          let name = named-lsp n s.lsp s.legs Work c.egress c.work m fit.work work in
+          let found : find_leg m s.legs ≡ Some g = subst (λ k. find_leg k s.legs ≡ Some g) (same_lsp-eq g.lsp m t) here in
+          let no : is_work g.role ≡ true = ap is_work (named-leg n s.lsp s.legs Work c.egress m g name found).0 in
+          absurd (cc (no, e))
+
+  -- The Resv came
+
+  module _ (x : ℕ) where
+    abbrev pub legs' : List Leg
+    legs' = with_leg (connected g None x) s.legs
+
+    becomes : Becomes g.lsp (Some (connected g None x)) s.legs legs'
+    becomes = find-with_leg (connected g None x) s.legs
+
+    pub connected-found : find_leg g.lsp legs' ≡ Some (connected g None x)
+    connected-found = rw (becomes g.lsp, same_lsp-refl g.lsp) refl
+
+    -- the LSP whose leg is connected stays named
+    named-still : (r : Role) → IsNamed n s.lsp s.legs r c.egress g.lsp → IsNamed n s.lsp legs' r c.egress g.lsp
+    named-still r name =
+        let is = named-leg n s.lsp s.legs r c.egress g.lsp g name here in
+        record {
+          ingress = name.ingress;
+          number = name.number;
+          leg = (connected g None x, connected-found, is.0, is.1);
+        }
+
+    -- of a working LSP: its call is bare
+    bare-fits : is_work g.role ≡ true → g.phase ≡ Asked → FitsLegs n s.lsp legs' (bare c)
+    bare-fits e asked =
+        let work = is-working e in
+        let alone : c.back ≡ None = alone e asked in
+        let found = connected-found in
+        let role : reserved g.role ≡ Live = ap reserved (work-is g.role e) in
+        record {
+          state = rw (work, alone, found, role) refl;
+          work = subst (λ o. IfSome o (IsNamed n s.lsp legs' Work c.egress)) (sym work)
+              (named-still Work (named-lsp n s.lsp s.legs Work c.egress c.work g.lsp fit.work work));
+          back = subst (λ o. IfSome o (IsNamed n s.lsp legs' Back c.egress)) (sym alone) tt;
+          work_reports = fit.work_reports;
+          back_reports = fit.back_reports;
+        }
+
+    pub call-bare : is_work g.role ≡ true → g.phase ≡ Asked → CallPart n s.lsp legs' (with_call (bare c) s.calls)
+    call-bare e asked =
+        call-changes (bare c) (Some (connected g None x)) legs' becomes refl (bare-fits e asked)
+        (λ y has. has) (λ y has never. has) (λ h is. named)
+
+    -- of a backup: its call is guarded
+    guarded-fits : is_work g.role ≡ false → g.phase ≡ Asked → FitsLegs n s.lsp legs' (guarded c)
+    guarded-fits e asked =
+        let stays = work-stays e (Some (connected g None x)) legs' becomes in
+        let back = is-backup e in
+        let found = connected-found in
+        let role : reserved g.role ≡ Held = ap reserved (back-is g.role e) in
+        let first = leg_of-stays c.work s.legs legs' stays in
+        let standing = live e asked in
+        record {
+          state = rw (first, standing, back, found, role) refl;
+          work = named-stays n s.lsp s.lsp Work c.egress c.work s.legs legs' (omega arith) stays fit.work;
+          back = subst (λ o. IfSome o (IsNamed n s.lsp legs' Back c.egress)) (sym back)
+              (named-still Back (named-lsp n s.lsp s.legs Back c.egress c.back g.lsp fit.back back));
+          work_reports = fit.work_reports;
+          back_reports = fit.back_reports;
+        }
+
+    pub call-guarded : is_work g.role ≡ false → g.phase ≡ Asked → CallPart n s.lsp legs' (with_call (guarded c) s.calls)
+    call-guarded e asked =
+        call-changes (guarded c) (Some (connected g None x)) legs' becomes refl (guarded-fits e asked)
+        (λ y has. has) (λ y has never. has) (λ h is. named)
+
+  -- The PathErr came
+
+  module _ (cause : Cause) where
+    abbrev pub legs_left : List Leg
+    legs_left = without_leg g.lsp s.legs
+
+    gone : Becomes g.lsp None s.legs legs_left
+    gone = find-without_leg g.lsp s.legs
+
+    same-lsp : (o : Option Lsp) (y : Lsp) → o ≡ Some g.lsp → o ≡ Some y → same_lsp g.lsp y ≡ false → ⊥
+    same-lsp o y mine is never =
+        let one : g.lsp ≡ y = cc (mine, is) in
+        let same : same_lsp g.lsp y ≡ true = subst (λ k. same_lsp g.lsp k ≡ true) one (same_lsp-refl g.lsp) in
+        cc (same, never)
+
+    -- of a working LSP: its call is blocked
+    pub call-blocked : is_work g.role ≡ true → g.phase ≡ Asked →
+        CallPart n s.lsp legs_left (with_call (blocked c cause) s.calls)
+    call-blocked e asked =
+        let none = alone e asked in
+        call-changes (blocked c cause) None legs_left gone refl
+        (record {
+          state = rw none refl;
+          work = tt;
+          back = subst (λ o. IfSome o (IsNamed n s.lsp legs_left Back c.egress)) (sym none) tt;
+          work_reports = refl;
+          back_reports = fit.back_reports;
+        })
+        (λ y has. elim (named-by (blocked c cause) y has) [
+          | inl work ↦ absurd (cc work)
+          | inr back ↦ names-back c y back
+        ])
+        (λ y has never. elim (named-by c y has) [
+          | inl work ↦ absurd (same-lsp c.work y (is-working e) work never)
+          | inr back ↦ names-back (blocked c cause) y back
+        ])
+        (λ h is. absurd (cc is))
+
+    -- of a backup: its call is bare
+    pub call-unbacked : is_work g.role ≡ false → g.phase ≡ Asked →
+        CallPart n s.lsp legs_left (with_call (unbacked c cause) s.calls)
+    call-unbacked e asked =
+        let stays = work-stays e None legs_left gone in
+        let first = leg_of-stays c.work s.legs legs_left stays in
+        let standing = live e asked in
+        call-changes (unbacked c cause) None legs_left gone refl
+        (record {
+          state = rw (first, standing) refl;
+          work = named-stays n s.lsp s.lsp Work c.egress c.work s.legs legs_left (omega arith) stays fit.work;
+          back = tt;
+          work_reports = fit.work_reports;
+          back_reports = refl;
+        })
+        (λ y has. elim (named-by (unbacked c cause) y has) [
+          | inl work ↦ names-work c y work
+          | inr back ↦ absurd (cc back)
+        ])
+        (λ y has never. elim (named-by c y has) [
+          | inl work ↦ names-work (unbacked c cause) y work
+          | inr back ↦ absurd (same-lsp c.back y (is-backup e) back never)
+        ])
+        (λ h is. absurd (cc is))

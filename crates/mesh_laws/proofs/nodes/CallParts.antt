@@ -9,17 +9,17 @@ use Rattle.ason_base.specs.declared.tables.CallRec.{CallRec}
 use Rattle.ason_base.specs.declared.tables.Leg.{Leg}
 use Rattle.ason_base.specs.Lsps.{is_lsp, same_lsp}
 use Rattle.mesh_rules.specs.Legs.{find_leg, is_closing, leg_of}
-use Rattle.mesh_rules.specs.Calls.{find_call}
-use Rattle.mesh_laws.specs.CallLaw.{IsNamed, names}
-use Rattle.mesh_laws.proofs.nodes.Facts.{CallFacts, HasCall}
+use Rattle.mesh_rules.specs.Calls.{find_call, names}
+use Rattle.mesh_laws.specs.CallLaw.{FitsLegs, IsNamed}
+use Rattle.mesh_laws.proofs.nodes.Facts.{HasCall}
 use Rattle.mesh_nodes.specs.Order.{CallsRise}
 use Rattle.mesh_nodes.proofs.LegList.{same_lsp-refl, same_lsp-eq}
 
 pub record CallPart (n : ℕ) (next : ℕ) (legs : List Leg) (calls : List CallRec) : Type 0 where
   pub rise : CallsRise calls
-  pub call : (k : CallNo) (c : CallRec) → find_call k calls ≡ Some c → CallFacts n next legs c
+  pub call : (k : CallNo) (c : CallRec) → find_call k calls ≡ Some c → FitsLegs n next legs c
   pub one_call : (l : Lsp) (k m : CallNo) (c d : CallRec) → find_call k calls ≡ Some c → find_call m calls ≡ Some d →
-      IsTrue (names c l) → IsTrue (names d l) → k ≡ m
+      IsTrue (names l c) → IsTrue (names l d) → k ≡ m
   pub has_call : (l : Lsp) (g : Leg) → find_leg l legs ≡ Some g → l.ingress.0 ≡ n → is_closing g.phase ≡ false →
       HasCall calls l
 
@@ -36,36 +36,37 @@ or-true : (b : Bool) → (b || true) ≡ true
 or-true true = refl
 or-true false = refl
 
-pub names-work : (c : CallRec) (l : Lsp) → c.work ≡ Some l → names c l ≡ true
+pub names-work : (c : CallRec) (l : Lsp) → c.work ≡ Some l → names l c ≡ true
 names-work c l e = rw (is-lsp c.work l e) refl
 
-names-back : (c : CallRec) (l : Lsp) → c.back ≡ Some l → names c l ≡ true
+pub names-back : (c : CallRec) (l : Lsp) → c.back ≡ Some l → names l c ≡ true
 names-back c l e = rw (is-lsp c.back l e) (or-true (is_lsp c.work l))
 
-named-by : (c : CallRec) (l : Lsp) → names c l ≡ true → (c.work ≡ Some l) ⊎ (c.back ≡ Some l)
+pub named-by : (c : CallRec) (l : Lsp) → names l c ≡ true → (c.work ≡ Some l) ⊎ (c.back ≡ Some l)
 named-by c l e = go (is_lsp c.work l) refl e
   where
     go : (b : Bool) → is_lsp c.work l ≡ b → (b || is_lsp c.back l) ≡ true → (c.work ≡ Some l) ⊎ (c.back ≡ Some l)
     go true work e = inl (lsp-is c.work l work)
     go false work e = inr (lsp-is c.back l e)
 
--- a call without a backup names its working LSP alone
-pub named-work : (c : CallRec) (l : Lsp) → c.back ≡ None → names c l ≡ true → c.work ≡ Some l
-named-work c l none named = elim (named-by c l named) [ inl work ↦ work | inr back ↦ absurd (cc (none, back)) ]
+-- what holds of the LSP that a call names
+pub named-lsp : (n next : ℕ) (legs : List Leg) (r : Role) (e : NodeId) (o : Option Lsp) (l : Lsp) →
+    IfSome o (IsNamed n next legs r e) → o ≡ Some l → IsNamed n next legs r e l
+named-lsp n next legs r e o l named is = subst (λ x. IfSome x (IsNamed n next legs r e)) is named
 
 -- A call whose legs stay
 
 -- the legs of the LSPs that the call names are as before
 abbrev pub Stay : CallRec → List Leg → List Leg → Type 0
-Stay c legs legs' = (m : Lsp) → names c m ≡ true → find_leg m legs' ≡ find_leg m legs
+Stay c legs legs' = (m : Lsp) → names m c ≡ true → find_leg m legs' ≡ find_leg m legs
 
-leg_of-stays : (o : Option Lsp) (legs legs' : List Leg) →
+pub leg_of-stays : (o : Option Lsp) (legs legs' : List Leg) →
     ((m : Lsp) → o ≡ Some m → find_leg m legs' ≡ find_leg m legs) →
     leg_of o legs' ≡ leg_of o legs
 leg_of-stays None legs legs' stay = refl
 leg_of-stays (Some l) legs legs' stay = stay l refl
 
-named-stays : (n a b : ℕ) (r : Role) (e : NodeId) (o : Option Lsp) (legs legs' : List Leg) → a ≤ b →
+pub named-stays : (n a b : ℕ) (r : Role) (e : NodeId) (o : Option Lsp) (legs legs' : List Leg) → a ≤ b →
     ((m : Lsp) → o ≡ Some m → find_leg m legs' ≡ find_leg m legs) → IfSome o (IsNamed n a legs r e) →
     IfSome o (IsNamed n b legs' r e)
 named-stays n a b r e None legs legs' le stay named = tt
@@ -75,19 +76,14 @@ named-stays n a b r e (Some l) legs legs' le stay named = record {
   leg = (named.leg.0, stay l refl ∙ named.leg.1, named.leg.2, named.leg.3);
 }
 
-pub call-stays : (n a b : ℕ) (legs legs' : List Leg) (c : CallRec) → a ≤ b → Stay c legs legs' → CallFacts n a legs c →
-    CallFacts n b legs' c
+pub call-stays : (n a b : ℕ) (legs legs' : List Leg) (c : CallRec) → a ≤ b → Stay c legs legs' → FitsLegs n a legs c →
+    FitsLegs n b legs' c
 call-stays n a b legs legs' c le stay facts = record {
-  fits = record {
-    state = rw (leg_of-stays c.work legs legs' work, leg_of-stays c.back legs legs' back) facts.fits.state;
-    work = named-stays n a b _ c.egress c.work legs legs' le work facts.fits.work;
-    back = named-stays n a b _ c.egress c.back legs legs' le back facts.fits.back;
-    work_reports = facts.fits.work_reports;
-    back_reports = facts.fits.back_reports;
-  };
-  protected = facts.protected;
-  backup = facts.backup;
-  back = facts.back;
+  state = rw (leg_of-stays c.work legs legs' work, leg_of-stays c.back legs legs' back) facts.state;
+  work = named-stays n a b _ c.egress c.work legs legs' le work facts.work;
+  back = named-stays n a b _ c.egress c.back legs legs' le back facts.back;
+  work_reports = facts.work_reports;
+  back_reports = facts.back_reports;
 }
   where
     work : (m : Lsp) → c.work ≡ Some m → find_leg m legs' ≡ find_leg m legs
@@ -116,7 +112,7 @@ itself-became l m p g legs legs' becomes same found =
 
 -- no call names this LSP
 abbrev pub Unnamed : List CallRec → Lsp → Type 0
-Unnamed calls l = (k : CallNo) (c : CallRec) → find_call k calls ≡ Some c → names c l ≡ true → ⊥
+Unnamed calls l = (k : CallNo) (c : CallRec) → find_call k calls ≡ Some c → names l c ≡ true → ⊥
 
 -- a leg that has no call: another node is its ingress, or it is torn
 abbrev pub NeedsNoCall : ℕ → Lsp → Option Leg → Type 0
@@ -138,7 +134,7 @@ unnamed-part n next l p legs legs' calls becomes unnamed needs_none part = recor
         go : (b : Bool) → same_lsp l m ≡ b → find_leg m legs' ≡ find_leg m legs
         go true same =
             let is = same_lsp-eq l m same in
-            absurd (unnamed k c found (subst (λ x. names c x ≡ true) (sym is) named))
+            absurd (unnamed k c found (subst (λ x. names x c ≡ true) (sym is) named))
         go false other = other-stays l m p legs legs' becomes other
 
     each : (m : Lsp) (g : Leg) → find_leg m legs' ≡ Some g → m.ingress.0 ≡ n → is_closing g.phase ≡ false →
@@ -170,19 +166,19 @@ found-call P k m o c calls calls' replaced found here there = go (nat_eq k.0 m.0
 
 -- the call k, after the change, names this LSP
 abbrev pub NamesNow : Option CallRec → Lsp → Type 0
-NamesNow o l = (c : CallRec) × (o ≡ Some c) × (names c l ≡ true)
+NamesNow o l = (c : CallRec) × (o ≡ Some c) × (names l c ≡ true)
 
 -- The legs of the touched LSPs alone change, and the call k becomes o. They are LSPs of no other call.
 pub record Together (n next : ℕ) (touched : Lsp → Bool) (k : CallNo) (o : Option CallRec) (legs legs' : List Leg)
     (calls : List CallRec) : Type 0 where
   pub stay : (m : Lsp) → touched m ≡ false → find_leg m legs' ≡ find_leg m legs
   pub apart : (m : CallNo) (d : CallRec) (l : Lsp) → nat_eq k.0 m.0 ≡ false → find_call m calls ≡ Some d →
-      names d l ≡ true → touched l ≡ false
+      names l d ≡ true → touched l ≡ false
   -- the call names touched LSPs, and of the others those that it named
-  pub only : (c : CallRec) (l : Lsp) → o ≡ Some c → names c l ≡ true →
-      (touched l ≡ true) ⊎ ((d : CallRec) × (find_call k calls ≡ Some d) × (names d l ≡ true))
-  pub kept : (d : CallRec) (l : Lsp) → find_call k calls ≡ Some d → names d l ≡ true → touched l ≡ false → NamesNow o l
-  pub facts : (c : CallRec) → o ≡ Some c → CallFacts n next legs' c
+  pub only : (c : CallRec) (l : Lsp) → o ≡ Some c → names l c ≡ true →
+      (touched l ≡ true) ⊎ ((d : CallRec) × (find_call k calls ≡ Some d) × (names l d ≡ true))
+  pub kept : (d : CallRec) (l : Lsp) → find_call k calls ≡ Some d → names l d ≡ true → touched l ≡ false → NamesNow o l
+  pub facts : (c : CallRec) → o ≡ Some c → FitsLegs n next legs' c
   pub number : (c : CallRec) → o ≡ Some c → c.call ≡ k
   -- where a touched leg wants a call, it has this one
   pub wanted : (l : Lsp) (g : Leg) → touched l ≡ true → find_leg l legs' ≡ Some g → l.ingress.0 ≡ n →
@@ -193,7 +189,7 @@ pub together-part : (n a b : ℕ) (touched : Lsp → Bool) (k : CallNo) (o : Opt
     Together n b touched k o legs legs' calls → CallPart n a legs calls → CallPart n b legs' calls'
 together-part n a b touched k o legs legs' calls calls' le rise replaced both part = record {
   rise = rise;
-  call = λ m c found. found-call (CallFacts n b legs' c) k m o c calls calls' replaced found
+  call = λ m c found. found-call (FitsLegs n b legs' c) k m o c calls calls' replaced found
       (λ e is. both.facts c is)
       (λ e there. call-stays n a b legs legs' c le
       (λ l named. both.stay l (both.apart m c l e there named)) (part.call m c there));
@@ -207,7 +203,7 @@ together-part n a b touched k o legs legs' calls calls' le rise replaced both pa
 }
   where
     clash : (l : Lsp) (j : CallNo) (c d : CallRec) → nat_eq k.0 j.0 ≡ false → o ≡ Some c → find_call j calls ≡ Some d →
-        names c l ≡ true → names d l ≡ true → ⊥
+        names l c ≡ true → names l d ≡ true → ⊥
     clash l j c d e is there c_has d_has = elim (both.only c l is c_has) [
       | inl t ↦ (let never = both.apart j d l e there d_has in cc (t, never))
       | inr was ↦
@@ -242,23 +238,40 @@ together-part n a b touched k o legs legs' calls calls' le rise replaced both pa
     each l g found here stands true t = now l (both.wanted l g t found here stands)
     each l g found here stands false t = still l t (part.has_call l g (sym (both.stay l t) ∙ found) here stands)
 
--- A call that names no LSP comes or goes
-
-pub lone-part : (n next : ℕ) (k : CallNo) (o : Option CallRec) (legs : List Leg) (calls calls' : List CallRec) →
-    CallsRise calls' → Replaced k o calls calls' → ((c : CallRec) → find_call k calls ≡ Some c → c.work ≡ None) →
-    ((c : CallRec) → o ≡ Some c → c.work ≡ None) → ((c : CallRec) → o ≡ Some c → CallFacts n next legs c) →
-    ((c : CallRec) → o ≡ Some c → c.call ≡ k) → CallPart n next legs calls → CallPart n next legs calls'
-lone-part n next k o legs calls calls' rise replaced had has facts number part =
-    together-part n next next (λ l. false) k o legs legs calls calls' (omega arith) rise replaced
+-- a call comes that names no LSP
+pub lone-part : (n next : ℕ) (c : CallRec) (legs : List Leg) (calls calls' : List CallRec) → CallsRise calls' →
+    Replaced c.call (Some c) calls calls' → find_call c.call calls ≡ None → c.work ≡ None → c.back ≡ None →
+    FitsLegs n next legs c → CallPart n next legs calls → CallPart n next legs calls'
+lone-part n next c legs calls calls' rise replaced unknown work back facts part =
+    together-part n next next (λ l. false) c.call (Some c) legs legs calls calls' (omega arith) rise replaced
     (record {
       stay = λ m never. refl;
       apart = λ m d l other there named. refl;
-      only = λ c l is named. absurd (no_name c l (has c is) (facts c is).back named);
-      kept = λ d l there named never. absurd (no_name d l (had d there) (part.call k d there).back named);
-      facts = facts;
-      number = number;
+      only = λ d l is named. absurd (no_name l (let one : c ≡ d = cc is in subst (λ x. names l x ≡ true) (sym one) named));
+      kept = λ d l there named never. absurd (cc (unknown, there));
+      facts = λ d is. (let one : c ≡ d = cc is in subst (FitsLegs n next legs) one facts);
+      number = λ d is. (let one : c ≡ d = cc is in ap (λ x. x.call) (sym one));
       wanted = λ l g t found here stands. absurd (cc t);
     }) part
   where
-    no_name : (c : CallRec) (l : Lsp) → c.work ≡ None → c.back ≡ None → names c l ≡ true → ⊥
-    no_name c l none alone named = let some = named-work c l alone named in cc (none, some)
+    no_name : (l : Lsp) → names l c ≡ true → ⊥
+    no_name l named = elim (named-by c l named) [ inl some ↦ cc (work, some) | inr some ↦ cc (back, some) ]
+
+-- A new LSP
+
+-- no call names an LSP whose number wasn't given out
+pub new-unnamed : (n next : ℕ) (legs : List Leg) (calls : List CallRec) (l : Lsp) → l.lsp ≡ next →
+    CallPart n next legs calls → (m : CallNo) (d : CallRec) (x : Lsp) → find_call m calls ≡ Some d →
+    names x d ≡ true → same_lsp l x ≡ false
+new-unnamed n next legs calls l new part m d x there named = go (same_lsp l x) refl
+  where
+    small : x.lsp < next
+    small = elim (named-by d x named) [
+      | inl work ↦ (named-lsp n next legs _ d.egress d.work x (part.call m d there).work work).number
+      | inr back ↦ (named-lsp n next legs _ d.egress d.back x (part.call m d there).back back).number
+    ]
+
+    go : (b : Bool) → same_lsp l x ≡ b → b ≡ false
+    go false e = refl
+    go true e =
+        let number : l.lsp ≡ x.lsp = ap (λ y. y.lsp) (same_lsp-eq l x e) in let less = small in absurd (omega arith)

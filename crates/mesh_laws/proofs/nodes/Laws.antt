@@ -12,6 +12,7 @@ use Rattle.ason_base.specs.declared.calls.Phase.TheVariants.{Asked, Held, Armed,
 use Rattle.ason_base.specs.declared.tables.CallRec.{CallRec}
 use Rattle.ason_base.specs.declared.tables.Leg.{Leg}
 use Rattle.ason_base.specs.Lsps.{lsp_before, same_lsp}
+use Rattle.mesh_rules.specs.Calls.{names}
 use Rattle.mesh_rules.specs.Legs.{find_leg, is_closing}
 use Rattle.ason_base.specs.Network.{Network}
 use Rattle.mesh_rules.specs.Changes.{changed}
@@ -20,7 +21,7 @@ use Rattle.mesh_rules.specs.State.{NodeState, new_node}
 use Rattle.mesh_laws.specs.LabelLaw.{EveryLabelIsShared, EveryLiveLegIsLabelled, IsLabelled, LabelsAreShared, ShareLawfully}
 use Rattle.mesh_laws.specs.LearntLaw.{EveryLearntRowIsTrue}
 use Rattle.mesh_laws.specs.NodeLaw.{EveryNodeSharesLawfully, MayCome, NodeInput, Item, Message, Row, after_inputs, answer}
-use Rattle.mesh_laws.specs.CallLaw.{CallsFit, EveryCallFitsItsLegs, FitsLegs, IsOfOneCall, names, wants_call}
+use Rattle.mesh_laws.specs.CallLaw.{CallsFit, EveryCallFitsItsLegs, FitsLegs, IsOfOneCall, wants_call}
 use Rattle.mesh_nodes.proofs.Cases.{both_left, both_right, not-true}
 use Rattle.mesh_laws.proofs.nodes.Facts.{FitsPhase, LabelsFit, NodeFacts}
 use Rattle.mesh_nodes.specs.Order.{CallsRise, LegsRise}
@@ -119,7 +120,7 @@ one_call n s facts l g found wants =
     let there : find_leg g.lsp s.legs ≡ Some g = subst (λ k. find_leg k s.legs ≡ Some g) (sym is) found in
     let stands : is_closing g.phase ≡ false = not-true _ (both_right (nat_eq g.lsp.ingress.0 n) _ wants) in
     let has = facts.has_call g.lsp g there here stands in
-    one-count (λ c. names c g.lsp) s.calls has.call.call has.call facts.calls_rise has.found has.named
+    one-count (names g.lsp) s.calls has.call.call has.call facts.calls_rise has.found has.named
     (λ m d at_m named.
     facts.one_call g.lsp m has.call.call d has.call at_m has.found named has.named)
 
@@ -127,7 +128,7 @@ pub calls_fit : (n : ℕ) (s : NodeState) → NodeFacts n s → CallsFit n s
 calls_fit n s facts = record {
   rising = calls-rise s.calls facts.calls_rise;
   calls = All-from_recursion (FitsLegs n s.lsp s.legs) s.calls
-      (all-calls_found (FitsLegs n s.lsp s.legs) s.calls facts.calls_rise (λ k c found. (facts.call k c found).fits));
+      (all-calls_found (FitsLegs n s.lsp s.legs) s.calls facts.calls_rise facts.call);
   legs = All-from_recursion (λ g. IsTrue (wants_call n g) → IsOfOneCall s.calls g) s.legs
       (all-found (λ g. IsTrue (wants_call n g) → IsOfOneCall s.calls g) s.legs facts.legs_rise
       (λ l g found. one_call n s facts l g found));

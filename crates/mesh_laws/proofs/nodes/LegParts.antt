@@ -83,6 +83,7 @@ later-facts n a b g le facts = record {
   out_fibre = facts.out_fibre;
   one_end = facts.one_end;
   number = λ e. let small : g.lsp.lsp < a = facts.number e in omega arith;
+  role = facts.role;
   phase = facts.phase;
   offered = facts.offered;
   sent = facts.sent;

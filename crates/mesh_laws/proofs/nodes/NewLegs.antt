@@ -6,8 +6,9 @@ use Rattle.ason_base.proofs.MaskMembers.{has-filter}
 use Rattle.ason_base.specs.declared.ids.Fibre.{Fibre}
 use Rattle.ason_base.specs.declared.ids.Lsp.{Lsp}
 use Rattle.ason_base.specs.declared.ids.NodeId.{NodeId}
-use Rattle.ason_base.specs.declared.steps.Step.{Step}
 use Rattle.ason_base.specs.declared.network.LinkSpec.{LinkSpec}
+use Rattle.ason_base.specs.declared.network.TeRow.{TeRow}
+use Rattle.ason_base.specs.declared.steps.Step.{Step}
 use Rattle.ason_base.specs.declared.calls.Phase.{Phase}
 use Rattle.ason_base.specs.declared.calls.Phase.TheVariants.{Asked, Held, Armed, Live, Closing, Falling}
 use Rattle.ason_base.specs.declared.calls.Role.{Role}
@@ -15,9 +16,9 @@ use Rattle.ason_base.specs.declared.calls.Role.TheVariants.{Work, Back}
 use Rattle.ason_base.specs.declared.risks.Risk.{Risk}
 use Rattle.ason_base.specs.declared.tables.Leg.{Leg}
 use Rattle.mesh_rules.specs.declared.neighbours.Neighbour.{Neighbour}
+use Rattle.mesh_rules.specs.FirstLegs.{NewLsp, first_leg}
 use Rattle.mesh_rules.specs.LocalNodes.{LocalNode, own_link, labels_of, fibre_in}
 use Rattle.mesh_rules.specs.Legs.{is_usable, usable, closed, closing_phase, connected, neighbour_over, reserved}
-use Rattle.mesh_rules.specs.Setups.{first_leg}
 use Rattle.mesh_rules.specs.State.{NodeState}
 use Rattle.mesh_rules.specs.Paths.{PathRequest, egress_leg, transit_leg, offered_labels, risks_here, role_of}
 use Rattle.mesh_rules.specs.Resvs.{label_back, only}
@@ -69,17 +70,18 @@ no_label n next legs g none facts =
 
 -- At the ingress
 
-pub first-stands : (p : LocalNode) (l : Lsp) (e : NodeId) (out : LinkSpec) (route : List Step) (next : ℕ)
-    (legs : List Leg) → nat_eq l.ingress.0 p.id.0 ≡ true → nat_eq e.0 p.id.0 ≡ false → l.lsp < next →
-    MayStand p.id.0 next legs (first_leg p l e out route)
-first-stands p l e out route next legs here away small =
-    no_label p.id.0 next legs (first_leg p l e out route) refl (record {
-      prev = rw here refl;
+pub first-stands : (p : LocalNode) (rows : List TeRow) (l : NewLsp) (next : ℕ) (legs : List Leg) →
+    l.lsp.ingress.0 ≡ p.id.0 → nat_eq l.egress.0 p.id.0 ≡ false → l.lsp.lsp < next →
+    MayStand p.id.0 next legs (first_leg p rows l)
+first-stands p rows l next legs here away small =
+    no_label p.id.0 next legs (first_leg p rows l) refl (record {
+      prev = (let test : nat_eq l.lsp.ingress.0 p.id.0 ≡ true = grind arith in rw test refl);
       in_fibre = refl;
       next_node = rw away refl;
       out_fibre = refl;
       one_end = refl;
       number = λ e. small;
+      role = refl;
       phase = (refl, refl, refl);
       offered = tt;
       sent = tt;
@@ -120,6 +122,7 @@ module _ (p : LocalNode) (s : NodeState) (m : PathRequest) (link : LinkSpec) (ne
         out_fibre = refl;
         one_end = refl;
         number = away m.arrival.lsp.ingress.0 p.id.0 (m.arrival.lsp.lsp < next) far;
+        role = refl;
         phase =
             phase_reserved (role_of m.role) (egress_leg p m link risks (offered_labels p s m link) x) (refl, refl);
         offered = offered;
@@ -147,6 +150,7 @@ module _ (p : LocalNode) (s : NodeState) (m : PathRequest) (link : LinkSpec) (ne
         out_fibre = refl;
         one_end = refl;
         number = away m.arrival.lsp.ingress.0 p.id.0 (m.arrival.lsp.lsp < next) far;
+        role = refl;
         phase = (refl, refl, refl);
         offered = tt;
         sent = tt;
@@ -175,6 +179,7 @@ closed-stands n next legs g goes_on facts = no_label n next legs (closed g) refl
   out_fibre = facts.out_fibre;
   one_end = facts.one_end;
   number = facts.number;
+  role = facts.role;
   phase = phase_closed g.phase g.role g goes_on;
   offered = tt;
   sent = facts.sent;
@@ -221,6 +226,7 @@ connected-facts n next g label x facts fits goes_on offered sent = record {
   out_fibre = facts.out_fibre;
   one_end = facts.one_end;
   number = facts.number;
+  role = facts.role;
   phase = phase_reserved g.role (connected g label x) (fits, sym (facts.out_fibre ∙ goes_on));
   offered = offered;
   sent = sent;

@@ -1,22 +1,18 @@
 -- The facts of a node after a rule changed one of its legs.
-use Rattle.std.proofs.Common.{◌≡◌, ℕ, true, false, nat_eq, List, [], subst, arith}
-use Rattle.std.specs.Prelude.{Some, None, IfSome}
+use Rattle.std.proofs.Common.{◌≡◌, ℕ, true, false, nat_eq, List, [], ap, subst, ◌∙◌, arith, inl, inr}
+use Rattle.std.specs.Prelude.{Some, None}
 use Rattle.ason_base.specs.declared.ids.Lsp.{Lsp}
-use Rattle.ason_base.specs.declared.calls.Phase.{Phase}
-use Rattle.ason_base.specs.declared.calls.Phase.TheVariants.{Asked, Held, Armed, Live, Closing, Falling}
-use Rattle.ason_base.specs.declared.calls.Role.TheVariants.{Work}
-use Rattle.ason_base.specs.declared.calls.CallState.{CallState}
-use Rattle.ason_base.specs.declared.calls.CallState.TheVariants.{Asking, Bare, Pairing, Guarded, Turning, Turned, Stuck, Blocked}
 use Rattle.ason_base.specs.declared.tables.CallRec.{CallRec}
 use Rattle.ason_base.specs.declared.tables.Leg.{Leg}
 use Rattle.mesh_rules.specs.Legs.{find_leg, is_closing, with_leg, without_leg, leg_of}
 use Rattle.mesh_rules.specs.State.{NodeState}
 use Rattle.mesh_rules.specs.Changes.{puts, removes, changed}
-use Rattle.mesh_laws.specs.CallLaw.{IsNamed, fits, phase_of}
-use Rattle.mesh_laws.proofs.nodes.Facts.{CallFacts, NodeFacts}
+use Rattle.mesh_laws.specs.CallLaw.{FitsLegs, fits, phase_of}
+use Rattle.mesh_laws.proofs.nodes.Facts.{NodeFacts}
 use Rattle.mesh_nodes.proofs.LegList.{find-with_leg, find-without_leg}
 use Rattle.mesh_laws.proofs.nodes.LegParts.{LegPart, MayStand, part-with_leg, part-without_leg}
-use Rattle.mesh_laws.proofs.nodes.CallParts.{CallPart, Unnamed, named-work, unnamed-part}
+use Rattle.mesh_laws.proofs.nodes.CallParts.{CallPart, Unnamed, named-by, named-lsp, unnamed-part}
+use Rattle.mesh_laws.proofs.nodes.States.{Row, row, work-stands, back-stands}
 
 pub leg_part : (n : ℕ) (s : NodeState) → NodeFacts n s → LegPart n s.lsp s.legs
 leg_part n s facts = record { rise = facts.legs_rise; leg = facts.leg; labels = facts.labels }
@@ -36,57 +32,32 @@ node_facts n s legs calls = record {
   has_call = calls.has_call;
 }
 
--- The LSP of a call
+-- The LSPs of a call
 
-pub named : (n next : ℕ) (legs : List Leg) (c : CallRec) (l : Lsp) → CallFacts n next legs c → c.work ≡ Some l →
-    IsNamed n next legs Work c.egress l
-named n next legs c l facts e = subst (λ o. IfSome o (IsNamed n next legs Work c.egress)) e facts.fits.work
+-- the row of a call by the leg of its working LSP, and by that of its backup
+pub work-row : (n next : ℕ) (legs : List Leg) (c : CallRec) (l : Lsp) (g : Leg) → FitsLegs n next legs c →
+    c.work ≡ Some l → find_leg l legs ≡ Some g → Row c.state (Some g.phase) (phase_of (leg_of c.back legs))
+work-row n next legs c l g fit work here =
+    let there : leg_of c.work legs ≡ Some g = ap (λ o. leg_of o legs) work ∙ here in
+    row c.state (Some g.phase) (phase_of (leg_of c.back legs))
+    (subst (λ o. fits c.state (phase_of o) (phase_of (leg_of c.back legs)) ≡ true) there fit.state)
 
--- the state of a call fits the phase of its working LSP's leg
-pub state-fits : (n next : ℕ) (legs : List Leg) (c : CallRec) (l : Lsp) (g : Leg) → CallFacts n next legs c →
-    c.work ≡ Some l → find_leg l legs ≡ Some g → fits c.state (Some g.phase) None ≡ true
-state-fits n next legs c l g facts work found =
-    let by_lsp : fits c.state (phase_of (find_leg l legs)) (phase_of (leg_of c.back legs)) ≡ true =
-    subst (λ o. fits c.state (phase_of (leg_of o legs)) (phase_of (leg_of c.back legs)) ≡ true) work
-    facts.fits.state in
-    let by_leg : fits c.state (Some g.phase) (phase_of (leg_of c.back legs)) ≡ true =
-    subst (λ o. fits c.state (phase_of o) (phase_of (leg_of c.back legs)) ≡ true) found by_lsp in
-    subst (λ o. fits c.state (Some g.phase) (phase_of (leg_of o legs)) ≡ true) facts.back by_leg
-
-fits-closing : (state : CallState) → fits state (Some Closing) None ≡ true → ⊥
-fits-closing Asking e = cc e
-fits-closing Bare e = cc e
-fits-closing Pairing e = cc e
-fits-closing Guarded e = cc e
-fits-closing Turning e = cc e
-fits-closing Turned e = cc e
-fits-closing Stuck e = cc e
-fits-closing Blocked e = cc e
-
-fits-falling : (state : CallState) → fits state (Some Falling) None ≡ true → ⊥
-fits-falling Asking e = cc e
-fits-falling Bare e = cc e
-fits-falling Pairing e = cc e
-fits-falling Guarded e = cc e
-fits-falling Turning e = cc e
-fits-falling Turned e = cc e
-fits-falling Stuck e = cc e
-fits-falling Blocked e = cc e
-
-fits-torn : (state : CallState) (phase : Phase) → fits state (Some phase) None ≡ true → is_closing phase ≡ true → ⊥
-fits-torn state Asked e torn = cc torn
-fits-torn state Held e torn = cc torn
-fits-torn state Armed e torn = cc torn
-fits-torn state Live e torn = cc torn
-fits-torn state Closing e torn = fits-closing state e
-fits-torn state Falling e torn = fits-falling state e
+pub back-row : (n next : ℕ) (legs : List Leg) (c : CallRec) (l : Lsp) (g : Leg) → FitsLegs n next legs c →
+    c.back ≡ Some l → find_leg l legs ≡ Some g → Row c.state (phase_of (leg_of c.work legs)) (Some g.phase)
+back-row n next legs c l g fit back here =
+    let there : leg_of c.back legs ≡ Some g = ap (λ o. leg_of o legs) back ∙ here in
+    row c.state (phase_of (leg_of c.work legs)) (Some g.phase)
+    (subst (λ o. fits c.state (phase_of (leg_of c.work legs)) (phase_of o) ≡ true) there fit.state)
 
 -- an LSP of another ingress has no call here
 pub unnamed-away : (n next : ℕ) (legs : List Leg) (calls : List CallRec) (l : Lsp) → nat_eq l.ingress.0 n ≡ false →
     CallPart n next legs calls → Unnamed calls l
 unnamed-away n next legs calls l away part k c found names =
-    let here : l.ingress.0 ≡ n = (named n next legs c l (part.call k c found)
-    (named-work c l (part.call k c found).back names)).ingress in
+    let fit = part.call k c found in
+    let here : l.ingress.0 ≡ n = elim (named-by c l names) [
+      | inl work ↦ (named-lsp n next legs _ c.egress c.work l fit.work work).ingress
+      | inr back ↦ (named-lsp n next legs _ c.egress c.back l fit.back back).ingress
+    ] in
     let same : nat_eq l.ingress.0 n ≡ true = grind arith in
     cc (away, same)
 
@@ -94,8 +65,13 @@ unnamed-away n next legs calls l away part k c found names =
 pub unnamed-torn : (n next : ℕ) (legs : List Leg) (calls : List CallRec) (l : Lsp) (g : Leg) →
     find_leg l legs ≡ Some g → is_closing g.phase ≡ true → CallPart n next legs calls → Unnamed calls l
 unnamed-torn n next legs calls l g here torn part k c found names =
-    fits-torn c.state g.phase (state-fits n next legs c l g (part.call k c found)
-    (named-work c l (part.call k c found).back names) here) torn
+    let fit = part.call k c found in
+    elim (named-by c l names) [
+      | inl work ↦ work-stands c.state g.phase (phase_of (leg_of c.back legs))
+          (work-row n next legs c l g fit work here) torn
+      | inr back ↦ back-stands c.state (phase_of (leg_of c.work legs)) g.phase
+          (back-row n next legs c l g fit back here) torn
+    ]
 
 -- One leg changes, and no call, whatever is sent
 
