@@ -1,12 +1,14 @@
 pub mod AnswerKeeps
 pub mod CallKeeps
 pub mod CallParts
+pub mod CallStepKeeps
 pub mod Facts
 pub mod Laws
 pub mod LegParts
 pub mod MessageKeeps
 pub mod NewLegs
 pub mod OrderKeeps
+pub mod PairKeeps
 pub mod Parts
 pub mod PathKeeps
 pub mod Runs

@@ -1,32 +1,28 @@
 -- A Resv, a PathErr and a PathTear keep the facts of a node.
-use Rattle.std.proofs.Common.{◌≡◌, ℕ, true, false, not, nat_eq, [], refl, sym, ap, subst, ◌∙◌, arith}
+use Rattle.std.proofs.Common.{◌≡◌, ℕ, true, false, not, nat_eq, refl, sym, ap, subst, ◌∙◌, arith}
 use Rattle.std.specs.Prelude.{◌&&◌, Option, Some, None, is_some}
-use Rattle.ason_base.specs.Labels.{has, meet}
+use Rattle.ason_base.specs.Labels.{has}
 use Rattle.ason_base.specs.declared.ids.LinkId.{LinkId}
 use Rattle.ason_base.specs.declared.ids.Lsp.{Lsp}
 use Rattle.ason_base.specs.declared.ids.Fibre.{Fibre}
 use Rattle.ason_base.specs.declared.ids.NodeId.{NodeId}
 use Rattle.ason_base.specs.declared.calls.Phase.{Phase}
 use Rattle.ason_base.specs.declared.calls.Phase.TheVariants.{Asked, Held, Armed, Live, Closing, Falling}
-use Rattle.ason_base.specs.declared.calls.Cause.TheVariants.{Code}
-use Rattle.ason_base.specs.declared.tables.CallRec.{CallRec}
 use Rattle.ason_base.specs.declared.tables.Leg.{Leg}
 use Rattle.ason_base.specs.declared.tables.Out.{Out}
 use Rattle.mesh_rules.specs.declared.arrivals.Arrival.{Arrival}
 use Rattle.mesh_rules.specs.declared.neighbours.Neighbour.{Neighbour}
 use Rattle.mesh_rules.specs.LocalNodes.{LocalNode}
-use Rattle.mesh_rules.specs.Legs.{find_leg, is_asked, is_closing, closed, connected, previous, following, neighbour_over, is_node, is_over, usable}
-use Rattle.mesh_rules.specs.Calls.{call_of, is_asking}
+use Rattle.mesh_rules.specs.Legs.{find_leg, is_asked, is_closing, closed, connected, previous, following, neighbour_over, is_node, is_over}
 use Rattle.mesh_rules.specs.State.{NodeState}
-use Rattle.mesh_rules.specs.Resvs.{is_expected, call_connected, label_back, passed_back, answered, resv_with}
-use Rattle.mesh_rules.specs.Changes.{puts, removes, followed_by}
-use Rattle.mesh_rules.specs.PathErrs.{PathFailure, call_refused, err_passed, removed, path_err_with}
+use Rattle.mesh_rules.specs.Resvs.{is_expected, label_back, labels_left, passed_back, answered, resv_with}
+use Rattle.mesh_rules.specs.PathErrs.{PathFailure, err_passed, removed, path_err_with}
 use Rattle.mesh_rules.specs.Tears.{torn, tear_with}
 use Rattle.mesh_nodes.proofs.Cases.{if_cases, both_left, both_right, not-true}
 use Rattle.mesh_laws.proofs.nodes.Facts.{LegFacts, NodeFacts}
 use Rattle.mesh_nodes.proofs.LegList.{found-lsp}
 use Rattle.mesh_laws.proofs.nodes.NewLegs.{beside, alone, alone_fibre, back-has, closed-stands, connected-stands, ingress-stands}
-use Rattle.mesh_laws.proofs.nodes.CallKeeps.{asking_call, must_have_call, keeps-bare, keeps-blocked}
+use Rattle.mesh_laws.proofs.nodes.CallStepKeeps.{keeps-connected_here, keeps-refused_here}
 use Rattle.mesh_laws.proofs.nodes.Parts.{call_part, unnamed-away, unnamed-torn, keeps-leg, keeps-gone}
 use Rattle.mesh_laws.proofs.nodes.PathKeeps.{Keeps}
 
@@ -70,35 +66,25 @@ phase_answered f e = ap is_closing (asked-is f e)
 
 keeps-passed_back : (p : LocalNode) (s : NodeState) (a : Arrival) (g : Leg) (h : Neighbour) (x : ℕ) (o : Option ℕ) →
     NodeFacts p.id.0 s → LegFacts p.id.0 s.lsp g → previous g ≡ Some h → is_some g.next ≡ true → has g.sent x ≡ true →
-    label_back p (meet g.offered (usable p s.legs g.role g.risks h.fibre)) x ≡ o → Keeps p s (passed_back p a g h x o)
+    label_back p (labels_left p s g h) x ≡ o → Keeps p s (passed_back p a g h x o)
 keeps-passed_back p s a g h x None facts leg is goes_on sent looked =
     keeps-leg p.id.0 s (closed g) (has_previous-away p.id.0 s.lsp g h leg is)
     (closed-stands p.id.0 s.lsp s.legs g goes_on leg) facts
 keeps-passed_back p s a g h x (Some y) facts leg is goes_on sent looked =
     keeps-leg p.id.0 s (connected g (Some y) x) (has_previous-away p.id.0 s.lsp g h leg is)
     (connected-stands p s.lsp s.legs g h x y leg (beside g.prev g.in_fibre h is).fibre goes_on sent
-    (back-has p (meet g.offered (usable p s.legs g.role g.risks h.fibre)) x y looked)) facts
+    (back-has p (labels_left p s g h) x y looked)) facts
 
 keeps-answered : (p : LocalNode) (s : NodeState) (a : Arrival) (x : ℕ) (g : Leg) (o : Option Neighbour) →
     NodeFacts p.id.0 s → find_leg g.lsp s.legs ≡ Some g → g.phase ≡ Asked → is_some g.next ≡ true →
     has g.sent x ≡ true → previous g ≡ o →
     Keeps p s (answered p s a x g o)
-keeps-answered p s a x g None facts here asked goes_on sent is = go (call_of g.lsp s.calls) refl
-  where
-    mine : LegFacts p.id.0 s.lsp g
-    mine = facts.leg g.lsp g here
-
-    go : (o : Option CallRec) → call_of g.lsp s.calls ≡ o →
-        Keeps p s (followed_by (puts (connected g None x) []) (call_connected o))
-    go None none = absurd (must_have_call p.id.0 s g facts here asked (no_previous-here p.id.0 s.lsp g mine is) none)
-    go (Some c) called =
-        let asking = asking_call p.id.0 s g c facts here asked called in
-        let old = facts.call c.call c asking.found in
-        let test : (is_asking c.state && not c.protected) ≡ true = rw (asking.state, old.protected) refl in
-        rw test (keeps-bare p.id.0 s g c x facts here asking
-        (ingress-stands p.id.0 s.lsp s.legs g x mine (alone_fibre g.prev g.in_fibre mine.in_fibre is) goes_on sent))
+keeps-answered p s a x g None facts here asked goes_on sent is =
+    let mine = facts.leg g.lsp g here in
+    keeps-connected_here p s g facts here asked (no_previous-here p.id.0 s.lsp g mine is) x
+    (ingress-stands p.id.0 s.lsp s.legs g x mine (alone_fibre g.prev g.in_fibre mine.in_fibre is) goes_on sent)
 keeps-answered p s a x g (Some h) facts here asked goes_on sent is =
-    keeps-passed_back p s a g h x (label_back p (meet g.offered (usable p s.legs g.role g.risks h.fibre)) x)
+    keeps-passed_back p s a g h x (label_back p (labels_left p s g h) x)
     facts (facts.leg g.lsp g here) is goes_on sent refl
 
 pub keeps-on_resv : (p : LocalNode) (s : NodeState) (a : Arrival) (x : ℕ) (o : Option Leg) → NodeFacts p.id.0 s →
@@ -120,17 +106,8 @@ keeps-on_resv p s a x (Some g) facts is =
 keeps-err_passed : (p : LocalNode) (s : NodeState) (g : Leg) (e : PathFailure) (o : Option Neighbour) →
     NodeFacts p.id.0 s →
     find_leg g.lsp s.legs ≡ Some g → g.phase ≡ Asked → previous g ≡ o → Keeps p s (err_passed s g e o)
-keeps-err_passed p s g e None facts here asked is = go (call_of g.lsp s.calls) refl
-  where
-    go : (o : Option CallRec) → call_of g.lsp s.calls ≡ o →
-        Keeps p s (followed_by (removes g.lsp []) (call_refused e.code o))
-    go None none =
-        absurd (must_have_call p.id.0 s g facts here asked
-        (no_previous-here p.id.0 s.lsp g (facts.leg g.lsp g here) is) none)
-    go (Some c) called =
-        let asking = asking_call p.id.0 s g c facts here asked called in
-        let test : is_asking c.state ≡ true = rw asking.state refl in
-        rw test (keeps-blocked p.id.0 s g c (Code e.code) facts asking)
+keeps-err_passed p s g e None facts here asked is =
+    keeps-refused_here p s g facts here asked (no_previous-here p.id.0 s.lsp g (facts.leg g.lsp g here) is) e.code
 keeps-err_passed p s g e (Some h) facts here asked is =
     keeps-gone p.id.0 s g.lsp
     (unnamed-away p.id.0 s.lsp s.legs s.calls g.lsp (has_previous-away p.id.0 s.lsp g h (facts.leg g.lsp g here) is)

@@ -4,6 +4,7 @@ use Rattle.std.specs.Prelude.{Option, Some, None, IfSome}
 use Rattle.ason_base.specs.declared.ids.CallNo.{CallNo}
 use Rattle.ason_base.specs.declared.ids.Lsp.{Lsp}
 use Rattle.ason_base.specs.declared.ids.NodeId.{NodeId}
+use Rattle.ason_base.specs.declared.calls.CallState.TheVariants.{Asking, Pairing}
 use Rattle.ason_base.specs.declared.calls.Cause.{Cause}
 use Rattle.ason_base.specs.declared.calls.Phase.{Phase}
 use Rattle.ason_base.specs.declared.calls.Phase.TheVariants.{Asked, Held, Live}
@@ -140,13 +141,20 @@ module _ (n : ℕ) (s : NodeState) (facts : NodeFacts n s) (g : Leg) (here : fin
   alone : is_work g.role ≡ true → g.phase ≡ Asked → c.back ≡ None
   alone e asked = no_leg n s.lsp s.legs Back c.egress c.back fit.back (asked-work c.state _ (asked-row e asked)).1
 
-  -- where the backup's leg is Asked the working leg is Live
-  live : is_work g.role ≡ false → g.phase ≡ Asked → phase_of (leg_of c.work s.legs) ≡ Some Live
-  live e asked =
-      (asked-back c.state _ (subst (λ f. Row c.state (phase_of (leg_of c.work s.legs)) (Some f)) asked
-      (back-row n s.lsp s.legs c g.lsp g fit (is-backup e) here))).1
+  pub is-asking : is_work g.role ≡ true → g.phase ≡ Asked → c.state ≡ Asking
+  is-asking e asked = (asked-work c.state _ (asked-row e asked)).0
 
-  -- and stays as it is
+  -- where the backup's leg is Asked the call waits for it, and the working leg is Live
+  waits : is_work g.role ≡ false → g.phase ≡ Asked →
+      (c.state ≡ Pairing) × (phase_of (leg_of c.work s.legs) ≡ Some Live)
+  waits e asked =
+      asked-back c.state _ (subst (λ f. Row c.state (phase_of (leg_of c.work s.legs)) (Some f)) asked
+      (back-row n s.lsp s.legs c g.lsp g fit (is-backup e) here))
+
+  pub is-pairing : is_work g.role ≡ false → g.phase ≡ Asked → c.state ≡ Pairing
+  is-pairing e asked = (waits e asked).0
+
+  -- beside a backup's leg the working leg stays as it is
   work-stays : is_work g.role ≡ false → (o : Option Leg) (legs' : List Leg) → Becomes g.lsp o s.legs legs' →
       (m : Lsp) → c.work ≡ Some m → find_leg m legs' ≡ find_leg m s.legs
   work-stays e o legs' becomes m work = other-stays g.lsp m o s.legs legs' becomes (go (same_lsp g.lsp m) refl)
@@ -210,7 +218,7 @@ module _ (n : ℕ) (s : NodeState) (facts : NodeFacts n s) (g : Leg) (here : fin
         let found = connected-found in
         let role : reserved g.role ≡ Held = ap reserved (back-is g.role e) in
         let first = leg_of-stays c.work s.legs legs' stays in
-        let standing = live e asked in
+        let standing = (waits e asked).1 in
         record {
           state = rw (first, standing, back, found, role) refl;
           work = named-stays n s.lsp s.lsp Work c.egress c.work s.legs legs' (omega arith) stays fit.work;
@@ -269,7 +277,7 @@ module _ (n : ℕ) (s : NodeState) (facts : NodeFacts n s) (g : Leg) (here : fin
     call-unbacked e asked =
         let stays = work-stays e None legs_left gone in
         let first = leg_of-stays c.work s.legs legs_left stays in
-        let standing = live e asked in
+        let standing = (waits e asked).1 in
         call-changes (unbacked c cause) None legs_left gone refl
         (record {
           state = rw (first, standing) refl;

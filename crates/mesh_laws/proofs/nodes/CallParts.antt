@@ -9,10 +9,11 @@ use Rattle.ason_base.specs.declared.tables.CallRec.{CallRec}
 use Rattle.ason_base.specs.declared.tables.Leg.{Leg}
 use Rattle.ason_base.specs.Lsps.{is_lsp, same_lsp}
 use Rattle.mesh_rules.specs.Legs.{find_leg, is_closing, leg_of}
-use Rattle.mesh_rules.specs.Calls.{find_call, names}
+use Rattle.mesh_rules.specs.Calls.{find_call, names, with_call}
 use Rattle.mesh_laws.specs.CallLaw.{FitsLegs, IsNamed}
 use Rattle.mesh_laws.proofs.nodes.Facts.{HasCall}
 use Rattle.mesh_nodes.specs.Order.{CallsRise}
+use Rattle.mesh_nodes.proofs.CallList.{find-with_call}
 use Rattle.mesh_nodes.proofs.LegList.{same_lsp-refl, same_lsp-eq}
 
 pub record CallPart (n : ℕ) (next : ℕ) (legs : List Leg) (calls : List CallRec) : Type 0 where
@@ -237,6 +238,18 @@ together-part n a b touched k o legs legs' calls calls' le rise replaced both pa
         (t : Bool) → touched l ≡ t → HasCall calls' l
     each l g found here stands true t = now l (both.wanted l g t found here stands)
     each l g found here stands false t = still l t (part.has_call l g (sym (both.stay l t) ∙ found) here stands)
+
+-- of a call that is put in its place twice, the second one counts
+pub put-twice : (c d : CallRec) (calls : List CallRec) → d.call ≡ c.call →
+    Replaced c.call (Some d) (with_call c calls) (with_call d calls)
+put-twice c d calls same m =
+    let number : nat_eq d.call.0 m.0 ≡ nat_eq c.call.0 m.0 = ap (λ k. nat_eq k.0 m.0) same in
+    let first = find-with_call c calls m in
+    find-with_call d calls m ∙ rw (number, first) (counts (nat_eq c.call.0 m.0))
+  where
+    counts : (b : Bool) → cond b (Some d) (find_call m calls) ≡ cond b (Some d) (cond b (Some c) (find_call m calls))
+    counts true = refl
+    counts false = refl
 
 -- a call comes that names no LSP
 pub lone-part : (n next : ℕ) (c : CallRec) (legs : List Leg) (calls calls' : List CallRec) → CallsRise calls' →
