@@ -1,4 +1,5 @@
 pub mod AnswerKeeps
+pub mod BackedCalls
 pub mod CallKeeps
 pub mod CallParts
 pub mod CallStepKeeps
@@ -11,7 +12,9 @@ pub mod OrderKeeps
 pub mod PairKeeps
 pub mod Parts
 pub mod PathKeeps
+pub mod ReleaseKeeps
 pub mod Runs
 pub mod Searches
+pub mod SetupKeeps
 pub mod Sharing
 pub mod States

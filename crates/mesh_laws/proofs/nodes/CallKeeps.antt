@@ -1,5 +1,5 @@
 -- A call changes together with its leg at the ingress, when the Resv or the PathErr comes.
-use Rattle.std.proofs.Common.{◌≡◌, ℕ, Bool, true, false, cond, nat_eq, List, refl, sym, ap, subst, ◌∙◌, arith, inl, inr}
+use Rattle.std.proofs.Common.{◌≡◌, ℕ, Bool, true, false, nat_eq, List, refl, sym, ap, subst, ◌∙◌, arith, inl, inr}
 use Rattle.std.specs.Prelude.{Option, Some, None, IfSome}
 use Rattle.ason_base.specs.declared.ids.CallNo.{CallNo}
 use Rattle.ason_base.specs.declared.ids.Lsp.{Lsp}
@@ -17,10 +17,10 @@ use Rattle.mesh_rules.specs.Legs.{find_leg, is_closing, is_work, connected, rese
 use Rattle.mesh_rules.specs.Calls.{find_call, call_with, bare, blocked, guarded, names, unbacked, with_call}
 use Rattle.mesh_rules.specs.State.{NodeState}
 use Rattle.mesh_nodes.proofs.LegList.{same_lsp-eq, same_lsp-refl, find-with_leg, find-without_leg}
-use Rattle.mesh_nodes.proofs.CallList.{called-found, called-names, not_called, find-with_call, rise-with_call}
+use Rattle.mesh_nodes.proofs.CallList.{called-found, called-names, not_called, rise-with_call}
 use Rattle.mesh_laws.specs.CallLaw.{FitsLegs, IsNamed, phase_of}
 use Rattle.mesh_laws.proofs.nodes.Facts.{NodeFacts}
-use Rattle.mesh_laws.proofs.nodes.CallParts.{Becomes, CallPart, itself-became, leg_of-stays, named-by, named-lsp, named-stays, names-back, names-work, other-stays, together-part}
+use Rattle.mesh_laws.proofs.nodes.CallParts.{Becomes, CallPart, itself-became, leg_of-stays, named-by, named-lsp, named-stays, names-back, names-work, other-stays, put-once, together-part}
 use Rattle.mesh_laws.proofs.nodes.Parts.{back-row, call_part, work-row}
 use Rattle.mesh_laws.proofs.nodes.States.{Row, asked-back, asked-work}
 
@@ -112,8 +112,7 @@ module _ (n : ℕ) (s : NodeState) (facts : NodeFacts n s) (g : Leg) (here : fin
   call-changes d o legs' becomes number fits had keeps stands =
       together-part n s.lsp s.lsp (same_lsp g.lsp) c.call (Some d) s.legs legs' s.calls (with_call d s.calls)
       (omega arith) (rise-with_call d s.calls facts.calls_rise)
-      (subst (λ k. (m : CallNo) → find_call m (with_call d s.calls) ≡ cond (nat_eq k.0 m.0) (Some d) (find_call m s.calls))
-      number (find-with_call d s.calls))
+      (put-once c.call d s.calls number)
       (record {
         stay = λ x other. other-stays g.lsp x o s.legs legs' becomes other;
         apart = of-no-other;

@@ -156,7 +156,7 @@ Replaced k o calls calls' = (m : CallNo) → find_call m calls' ≡ cond (nat_eq
 number-is : (k m : CallNo) → nat_eq k.0 m.0 ≡ true → k ≡ m
 number-is k m e = let p : k.0 ≡ m.0 = grind arith in λ i. record { 0 = p i }
 
-found-call : (P : Type 0) (k m : CallNo) (o : Option CallRec) (c : CallRec) (calls calls' : List CallRec) →
+pub found-call : (P : Type 0) (k m : CallNo) (o : Option CallRec) (c : CallRec) (calls calls' : List CallRec) →
     Replaced k o calls calls' → find_call m calls' ≡ Some c → (k ≡ m → o ≡ Some c → P) →
     (nat_eq k.0 m.0 ≡ false → find_call m calls ≡ Some c → P) → P
 found-call P k m o c calls calls' replaced found here there = go (nat_eq k.0 m.0) refl (sym (replaced m) ∙ found)
@@ -238,6 +238,12 @@ together-part n a b touched k o legs legs' calls calls' le rise replaced both pa
         (t : Bool) → touched l ≡ t → HasCall calls' l
     each l g found here stands true t = now l (both.wanted l g t found here stands)
     each l g found here stands false t = still l t (part.has_call l g (sym (both.stay l t) ∙ found) here stands)
+
+-- a call of this number is put in its place
+pub put-once : (k : CallNo) (d : CallRec) (calls : List CallRec) → d.call ≡ k →
+    Replaced k (Some d) calls (with_call d calls)
+put-once k d calls number =
+    subst (λ j. Replaced j (Some d) calls (with_call d calls)) number (find-with_call d calls)
 
 -- of a call that is put in its place twice, the second one counts
 pub put-twice : (c d : CallRec) (calls : List CallRec) → d.call ≡ c.call →

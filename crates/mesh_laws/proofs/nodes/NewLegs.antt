@@ -1,6 +1,6 @@
 -- The legs that rules make may stand: they have the facts of a leg, and their label in is usable for them.
-use Rattle.std.proofs.Common.{◌≡◌, ◌<◌, ℕ, Bool, true, false, cond, nat_eq, List, [], ◌∷◌, refl, sym, ap, subst, ◌∙◌, arith}
-use Rattle.std.specs.Prelude.{Option, Some, None, IsTrue, IfSome, is_some}
+use Rattle.std.proofs.Common.{◌≡◌, ◌<◌, ℕ, Bool, true, false, cond, not, nat_eq, List, [], ◌∷◌, refl, sym, ap, subst, ◌∙◌, arith}
+use Rattle.std.specs.Prelude.{◌||◌, Option, Some, None, IsTrue, IfSome, is_some}
 use Rattle.ason_base.specs.Labels.{has, meet, least, up_to}
 use Rattle.ason_base.proofs.MaskMembers.{has-filter}
 use Rattle.ason_base.specs.declared.ids.Fibre.{Fibre}
@@ -22,7 +22,7 @@ use Rattle.mesh_rules.specs.Legs.{is_usable, usable, closed, closing_phase, conn
 use Rattle.mesh_rules.specs.State.{NodeState}
 use Rattle.mesh_rules.specs.Paths.{PathRequest, egress_leg, transit_leg, offered_labels, risks_here, role_of}
 use Rattle.mesh_rules.specs.Resvs.{label_back, only}
-use Rattle.mesh_nodes.proofs.Cases.{both_left, both_right}
+use Rattle.mesh_nodes.proofs.Cases.{both_left, both_right, not-true}
 use Rattle.mesh_laws.specs.LabelLaw.{is_in_use}
 use Rattle.mesh_laws.proofs.nodes.Facts.{FitsPhase, HasItsLabels, LegFacts}
 use Rattle.mesh_laws.proofs.nodes.LegParts.{MayStand, taken, with_usable}
@@ -69,6 +69,18 @@ no_label n next legs g none facts =
     }
 
 -- At the ingress
+
+-- a leg that begins here has a next node
+pub ingress-goes_on : (n next : ℕ) (g : Leg) → LegFacts n next g → g.lsp.ingress.0 ≡ n → is_some g.next ≡ true
+ingress-goes_on n next g facts here =
+    let test : nat_eq g.lsp.ingress.0 n ≡ true = grind arith in
+    let first : is_some g.prev ≡ false = facts.prev ∙ ap not test in
+    subst (λ b. (b || is_some g.next) ≡ true) first facts.one_end
+
+-- and ends at another one
+pub ingress-leaves : (n next : ℕ) (g : Leg) → LegFacts n next g → g.lsp.ingress.0 ≡ n → nat_eq g.egress.0 n ≡ false
+ingress-leaves n next g facts here =
+    not-true (nat_eq g.egress.0 n) (sym facts.next_node ∙ ingress-goes_on n next g facts here)
 
 pub first-stands : (p : LocalNode) (rows : List TeRow) (l : NewLsp) (next : ℕ) (legs : List Leg) →
     l.lsp.ingress.0 ≡ p.id.0 → nat_eq l.egress.0 p.id.0 ≡ false → l.lsp.lsp < next →

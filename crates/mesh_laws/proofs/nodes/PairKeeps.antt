@@ -1,6 +1,6 @@
 -- Asking for a backup beside a call's working LSP keeps the facts of a node.
-use Rattle.std.proofs.Common.{◌≡◌, ◌<◌, ◌+◌, ℕ, Bool, true, false, cond, not, nat_eq, nat_lt, List, [], ◌∷◌, drop, refl, sym, ap, subst, ◌∙◌, arith, inl, inr}
-use Rattle.std.specs.Prelude.{◌⊎◌, ◌||◌, Option, Some, None, IfSome, is_some}
+use Rattle.std.proofs.Common.{◌≡◌, ◌+◌, true, false, nat_lt, List, [], ◌∷◌, drop, refl, sym, ap, subst, ◌∙◌, arith, inl, inr}
+use Rattle.std.specs.Prelude.{◌⊎◌, Option, Some, None, is_some}
 use Rattle.ason_base.specs.Lsps.{same_lsp}
 use Rattle.ason_base.specs.Risks.{unknown_link}
 use Rattle.ason_base.specs.declared.calls.CallState.TheVariants.{Bare}
@@ -10,7 +10,6 @@ use Rattle.ason_base.specs.declared.calls.Phase.TheVariants.{Live}
 use Rattle.ason_base.specs.declared.calls.Role.TheVariants.{Work, Back}
 use Rattle.ason_base.specs.declared.ids.CallNo.{CallNo}
 use Rattle.ason_base.specs.declared.ids.Lsp.{Lsp}
-use Rattle.ason_base.specs.declared.ids.NodeId.{NodeId}
 use Rattle.ason_base.specs.declared.network.LinkSpec.{LinkSpec}
 use Rattle.ason_base.specs.declared.steps.Step.{Step}
 use Rattle.ason_base.specs.declared.tables.CallRec.{CallRec}
@@ -25,15 +24,15 @@ use Rattle.mesh_rules.specs.LocalNodes.{LocalNode}
 use Rattle.mesh_rules.specs.Pairs.{admitted_backup, backup_lsp, backup_route, begins_backup, beside_lsp, leaves_bare, over_backup, pair, pair_over, route_from}
 use Rattle.mesh_rules.specs.State.{NodeState}
 use Rattle.mesh_nodes.specs.Order.{CallsRise}
-use Rattle.mesh_nodes.proofs.Cases.{if_cases, not-true}
+use Rattle.mesh_nodes.proofs.Cases.{if_cases}
 use Rattle.mesh_nodes.proofs.CallList.{rise-with_call}
 use Rattle.mesh_nodes.proofs.LegList.{find-with_leg, same_lsp-eq, same_lsp-refl}
 use Rattle.mesh_laws.specs.CallLaw.{FitsLegs, IsNamed, phase_of}
-use Rattle.mesh_laws.proofs.nodes.Facts.{LegFacts, NodeFacts}
+use Rattle.mesh_laws.proofs.nodes.Facts.{NodeFacts}
 use Rattle.mesh_laws.proofs.nodes.CallKeeps.{named-leg, no_leg}
 use Rattle.mesh_laws.proofs.nodes.CallParts.{Becomes, CallPart, Replaced, leg_of-stays, named-by, named-lsp, named-stays, names-back, names-work, new-unnamed, other-stays, together-part}
 use Rattle.mesh_laws.proofs.nodes.LegParts.{LegPart, part-with_leg}
-use Rattle.mesh_laws.proofs.nodes.NewLegs.{first-stands}
+use Rattle.mesh_laws.proofs.nodes.NewLegs.{first-stands, ingress-leaves}
 use Rattle.mesh_laws.proofs.nodes.Parts.{node_facts, work-row}
 use Rattle.mesh_laws.proofs.nodes.States.{Row, bare-legs}
 
@@ -159,7 +158,7 @@ module _ (p : LocalNode) (s : NodeState) (legs : List Leg) (calls : List CallRec
         node_facts p.id.0 (changed (record s { legs = legs }) (begins_backup p s c w out route))
         (part-with_leg p.id.0 s.lsp (s.lsp + 1) g legs (omega arith) leg_part
         (first-stands p (known_rows p s) (backup_lsp p s w out route) (s.lsp + 1) legs working.ingress
-        (leaves p.id.0 s.lsp w (leg_part.leg w.lsp w bare.leg) working.ingress) (omega arith)))
+        (ingress-leaves p.id.0 s.lsp w (leg_part.leg w.lsp w bare.leg) working.ingress) (omega arith)))
         (together-part p.id.0 s.lsp (s.lsp + 1) (same_lsp l) c.call (Some d) legs legs' calls (with_call d s.calls)
         (omega arith) (rise-with_call d s.calls rise) (put d refl)
         (record {
@@ -183,14 +182,6 @@ module _ (p : LocalNode) (s : NodeState) (legs : List Leg) (calls : List CallRec
           | inl work ↦ inr (c, bare.found, names-work c x work)
           | inr back ↦ inl (let one : l ≡ x = cc back in subst (λ y. same_lsp l y ≡ true) one (same_lsp-refl l))
         ]
-
-        -- a leg that begins here leads to another node
-        leaves : (n next : ℕ) (g : Leg) → LegFacts n next g → g.lsp.ingress.0 ≡ n → nat_eq g.egress.0 n ≡ false
-        leaves n next g facts here =
-            let test : nat_eq g.lsp.ingress.0 n ≡ true = grind arith in
-            let first : is_some g.prev ≡ false = facts.prev ∙ ap not test in
-            let goes_on : is_some g.next ≡ true = subst (λ b. (b || is_some g.next) ≡ true) first facts.one_end in
-            not-true (nat_eq g.egress.0 n) (sym facts.next_node ∙ goes_on)
 
   -- Either
 
