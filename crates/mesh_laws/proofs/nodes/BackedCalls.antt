@@ -1,6 +1,6 @@
 -- A backup can be asked for beside each call of a node, whatever rule is carried out there.
-use Rattle.std.proofs.Common.{◌≡◌, true, not, List, [], ◌∷◌, refl, subst}
-use Rattle.std.specs.Prelude.{◌&&◌, ◌||◌, Bool, Option, Some, None, IsTrue, IfSome, is_some, nat_lt, drop}
+use Rattle.std.proofs.Common.{◌≡◌, ℕ, Bool, true, false, not, nat_eq, List, [], ◌∷◌, refl, subst}
+use Rattle.std.specs.Prelude.{◌&&◌, Option, Some, None, IsTrue, IfSome, is_some, nat_lt, drop}
 use Rattle.std.specs.List.{AllByRecursion}
 use Rattle.ason_base.specs.declared.calls.CallState.{CallState}
 use Rattle.ason_base.specs.declared.calls.Cause.{Cause}
@@ -287,7 +287,7 @@ none-searched t from to protected via (Some route) way on none = absurd (cc none
 pub backs-item : (t : Network) (n : NodeId) (p : LocalNode) (s : NodeState) → CallsRise s.calls →
     CallsBacked t n s.calls → (i : DeskItem) → FitsDesk t n.0 i → AreBacked t n (on_item p s i).calls
 backs-item t n p s rise backed (Order (Setup k from to protected both via backup)) fits =
-    let way = both_right (has_way t from to via) _ (rest from to via _ fits.0) in
+    let way = both_right _ (has_backup_way t from to protected via backup) fits.0 in
     let is : from ≡ n = (let e = fits.1 in λ i. record { 0 = e i }) in
     backs-setup t n p s rise backed
     (record { call = k; from = from; egress = to; protected = protected; both = both; via = via; backup = backup })

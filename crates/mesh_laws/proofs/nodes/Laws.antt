@@ -79,7 +79,7 @@ facts-after t p s (i ∷ inputs) facts may =
   where
     one : (i : NodeInput) → NodeFacts p.id.0 s → MayCome t p.id.0 i → NodeFacts p.id.0 (changed s (answer p s i))
     one (Message u m) facts may = keeps-on_message p s u m facts
-    one (Item i) facts may = keeps-on_item t p s i may facts
+    one (Item i) facts may = keeps-on_item p s i facts
     one (Row row) facts may = keeps-row p s row facts
 
 pub every_node : EveryNodeSharesLawfully

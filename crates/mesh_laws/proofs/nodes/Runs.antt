@@ -29,6 +29,7 @@ use Rattle.mesh_nodes.proofs.LearnsNothing.{item-learns_nothing, message-learns_
 use Rattle.mesh_nodes.proofs.routes.Learnt.{found-row, learnt-stay_true, same-rows_true}
 use Rattle.mesh_laws.specs.NodeLaw.{DeskFits, FitsDesk}
 use Rattle.mesh_laws.proofs.nodes.Facts.{MeshFacts, NodeFacts}
+use Rattle.mesh_laws.proofs.nodes.BackedCalls.{AreBacked, CallsBacked, backed-after, backs-item, backs-message}
 use Rattle.mesh_laws.proofs.nodes.PathKeeps.{Keeps}
 use Rattle.mesh_laws.proofs.nodes.MessageKeeps.{keeps-on_message}
 use Rattle.mesh_laws.proofs.nodes.OrderKeeps.{keeps-on_item}
@@ -48,27 +49,38 @@ pub facts-start : (t : Network) → MeshFacts t start
 facts-start t = record {
   node = λ n. new-facts n;
   desk = λ n. tt;
-  learnt =
-      λ n row there. absurd (contains-none row there);
+  backed = λ n k c found. absurd (cc found);
+  learnt = λ n row there. absurd (contains-none row there);
 }
 
 -- A rule is carried out at a node
 
-keeps-commit : (t : Network) (s : Mesh) (n : ℕ) (a : Answer) → NodeFacts n (changed (s.nodes n) a) →
-    AreRowsOf t (changed (s.nodes n) a).learnt → MeshFacts t s → MeshFacts t (commit s n a)
-keeps-commit t s n a here rows facts = record {
-  node = λ m. each m (nat_eq m n) refl;
+keeps-commit : (t : Network) (s : Mesh) (n : NodeId) (a : Answer) → NodeFacts n.0 (changed (s.nodes n.0) a) →
+    AreBacked t n a.calls → AreRowsOf t (changed (s.nodes n.0) a).learnt → MeshFacts t s → MeshFacts t (commit s n.0 a)
+keeps-commit t s n a here calls rows facts = record {
+  node = λ m. each m (nat_eq m n.0) refl;
   desk = facts.desk;
-  learnt = λ m. learnt m (nat_eq m n) refl;
+  backed = λ m. backed m (nat_eq m.0 n.0) refl;
+  learnt = λ m. learnt m (nat_eq m n.0) refl;
 }
   where
-    learnt : (m : ℕ) (b : Bool) → nat_eq m n ≡ b → AreRowsOf t (cond b (changed (s.nodes m) a) (s.nodes m)).learnt
+    learnt : (m : ℕ) (b : Bool) → nat_eq m n.0 ≡ b → AreRowsOf t (cond b (changed (s.nodes m) a) (s.nodes m)).learnt
     learnt m true e =
-        let is : m ≡ n = grind arith in subst (λ k. AreRowsOf t (changed (s.nodes k) a).learnt) (sym is) rows
+        let is : m ≡ n.0 = grind arith in subst (λ k. AreRowsOf t (changed (s.nodes k) a).learnt) (sym is) rows
     learnt m false e = facts.learnt m
 
-    each : (m : ℕ) (b : Bool) → nat_eq m n ≡ b → NodeFacts m (cond b (changed (s.nodes m) a) (s.nodes m))
-    each m true e = let is : m ≡ n = grind arith in subst (λ k. NodeFacts k (changed (s.nodes k) a)) (sym is) here
+    same-node : (m : NodeId) → nat_eq m.0 n.0 ≡ true → n ≡ m
+    same-node m e = let is : n.0 ≡ m.0 = grind arith in λ i. record { 0 = is i }
+
+    backed : (m : NodeId) (b : Bool) → nat_eq m.0 n.0 ≡ b →
+        CallsBacked t m (cond b (changed (s.nodes m.0) a) (s.nodes m.0)).calls
+    backed m true e =
+        backed-after t m a.calls (s.nodes m.0).calls (subst (λ k. AreBacked t k a.calls) (same-node m e) calls)
+        (facts.backed m)
+    backed m false e = facts.backed m
+
+    each : (m : ℕ) (b : Bool) → nat_eq m n.0 ≡ b → NodeFacts m (cond b (changed (s.nodes m) a) (s.nodes m))
+    each m true e = let is : m ≡ n.0 = grind arith in subst (λ k. NodeFacts k (changed (s.nodes k) a)) (sym is) here
     each m false e = facts.node m
 
 keeps-first : (p : LocalNode) (s : NodeState) (u : NodeId) (ms : List Msg) → NodeFacts p.id.0 s →
@@ -85,10 +97,21 @@ pub first_item-learns_nothing : (p : LocalNode) (s : NodeState) (items : List De
 first_item-learns_nothing p s [] = refl
 first_item-learns_nothing p s (i ∷ items) = item-learns_nothing p s i
 
-keeps-first_item : (t : Network) (p : LocalNode) (s : NodeState) (items : List DeskItem) → DeskFits t p.id.0 items →
-    NodeFacts p.id.0 s → Keeps p s (on_first_item p s items)
-keeps-first_item t p s [] fits facts = facts
-keeps-first_item t p s (i ∷ items) fits facts = keeps-on_item t p s i fits.0 facts
+keeps-first_item : (p : LocalNode) (s : NodeState) (items : List DeskItem) → NodeFacts p.id.0 s →
+    Keeps p s (on_first_item p s items)
+keeps-first_item p s [] facts = facts
+keeps-first_item p s (i ∷ items) facts = keeps-on_item p s i facts
+
+-- the calls that these put in their places can be backed
+module _ (t : Network) (n : NodeId) (p : LocalNode) (s : NodeState) (facts : NodeFacts n.0 s)
+    (backed : CallsBacked t n s.calls) where
+  backs-first : (u : NodeId) (ms : List Msg) → AreBacked t n (on_first p s u ms).calls
+  backs-first u [] = tt
+  backs-first u (m ∷ ms) = backs-message t n p s facts.calls_rise backed u m
+
+  backs-first_item : (items : List DeskItem) → DeskFits t n.0 items → AreBacked t n (on_first_item p s items).calls
+  backs-first_item [] fits = tt
+  backs-first_item (i ∷ items) fits = backs-item t n p s facts.calls_rise backed i fits.0
 
 -- Desks
 
@@ -106,6 +129,7 @@ without_item-facts t s n facts = record {
   node = facts.node;
   desk = λ m. if_cases (DeskFits t m) (nat_eq m n) _ _ (λ e. fits-less t m (s.desks m) (facts.desk m))
       (λ e. facts.desk m);
+  backed = facts.backed;
   learnt = facts.learnt;
 }
 
@@ -119,41 +143,36 @@ more-facts t s n i here facts m =
     (λ e. facts.desk m)
 
 keeps-posted : (t : Network) (s : Mesh) (c : Command) → is_valid t c ≡ true → MeshFacts t s → MeshFacts t (posted s c)
-keeps-posted t s (Setup n from to protected both via backup) valid facts =
-    record {
-      node = facts.node;
-      desk = more-facts t s from.0 (Order (Setup n from to protected both via backup))
-          (valid, refl) facts;
-      learnt = facts.learnt;
-    }
-keeps-posted t s (Release n from) valid facts =
-    record {
-      node = facts.node;
-      desk = more-facts t s from.0 (Order (Release n from)) (valid, refl) facts;
-      learnt =
-          facts.learnt;
-    }
-keeps-posted t s (Protect n from) valid facts =
-    record {
-      node = facts.node;
-      desk = more-facts t s from.0 (Order (Protect n from)) (valid, refl) facts;
-      learnt =
-          facts.learnt;
-    }
-keeps-posted t s (Retry n from) valid facts =
-    record {
-      node = facts.node;
-      desk = more-facts t s from.0 (Order (Retry n from)) (valid, refl) facts;
-      learnt =
-          facts.learnt;
-    }
-keeps-posted t s (Revert n from) valid facts =
-    record {
-      node = facts.node;
-      desk = more-facts t s from.0 (Order (Revert n from)) (valid, refl) facts;
-      learnt =
-          facts.learnt;
-    }
+keeps-posted t s (Setup n from to protected both via backup) valid facts = record {
+  node = facts.node;
+  desk = more-facts t s from.0 (Order (Setup n from to protected both via backup)) (valid, refl) facts;
+  backed = facts.backed;
+  learnt = facts.learnt;
+}
+keeps-posted t s (Release n from) valid facts = record {
+  node = facts.node;
+  desk = more-facts t s from.0 (Order (Release n from)) (valid, refl) facts;
+  backed = facts.backed;
+  learnt = facts.learnt;
+}
+keeps-posted t s (Protect n from) valid facts = record {
+  node = facts.node;
+  desk = more-facts t s from.0 (Order (Protect n from)) (valid, refl) facts;
+  backed = facts.backed;
+  learnt = facts.learnt;
+}
+keeps-posted t s (Retry n from) valid facts = record {
+  node = facts.node;
+  desk = more-facts t s from.0 (Order (Retry n from)) (valid, refl) facts;
+  backed = facts.backed;
+  learnt = facts.learnt;
+}
+keeps-posted t s (Revert n from) valid facts = record {
+  node = facts.node;
+  desk = more-facts t s from.0 (Order (Revert n from)) (valid, refl) facts;
+  backed = facts.backed;
+  learnt = facts.learnt;
+}
 keeps-posted t s (Fail g) valid facts = facts
 keeps-posted t s (Repair g) valid facts = facts
 
@@ -175,6 +194,13 @@ keeps-link : (p : LocalNode) (s : NodeState) (o : Option LinkSpec) → NodeFacts
 keeps-link p s None facts = facts
 keeps-link p s (Some l) facts = keeps-row p s (row_of l) facts
 
+backs-link : (t : Network) (n : NodeId) (p : LocalNode) (s : NodeState) (o : Option LinkSpec) →
+    AreBacked t n (on_link p s o).calls
+backs-link t n p s None = tt
+backs-link t n p s (Some l) =
+    if_cases (λ a. AreBacked t n a.calls) (has_row (known_rows p s) l.id) nothing (learns (row_of l)) (λ known. tt)
+    (λ none. tt)
+
 true-link : (t : Network) (p : LocalNode) (s : NodeState) (k : LinkId) (o : Option LinkSpec) → find_link t k ≡ o →
     AreRowsOf t s.learnt → AreRowsOf t (changed s (on_link p s o)).learnt
 true-link t p s k None found rows = rows
@@ -185,22 +211,25 @@ true-link t p s k (Some l) found rows = learnt-stay_true t p s (row_of l) rows (
 pub facts-step : (t : Network) (s : Mesh) (e : MeshEvent) → is_enabled t s e ≡ true → MeshFacts t s →
     MeshFacts t (step t s e)
 facts-step t s (Take d u) enabled facts =
-    keeps-commit t (without_first s u.0 d.0) d.0 (on_first (local_node t d) (s.nodes d.0) u (s.mail u.0 d.0))
+    keeps-commit t (without_first s u.0 d.0) d (on_first (local_node t d) (s.nodes d.0) u (s.mail u.0 d.0))
     (keeps-first (local_node t d) (s.nodes d.0) u (s.mail u.0 d.0) (facts.node d.0))
+    (backs-first t d (local_node t d) (s.nodes d.0) (facts.node d.0) (facts.backed d) u (s.mail u.0 d.0))
     (same-rows_true t (s.nodes d.0) (on_first (local_node t d) (s.nodes d.0) u (s.mail u.0 d.0))
     (first-learns_nothing (local_node t d) (s.nodes d.0) u (s.mail u.0 d.0)) (facts.learnt d.0))
-    (record { node = facts.node; desk = facts.desk; learnt = facts.learnt })
+    (record { node = facts.node; desk = facts.desk; backed = facts.backed; learnt = facts.learnt })
 facts-step t s (Desk n) enabled facts =
-    keeps-commit t (without_item s n.0) n.0 (on_first_item (local_node t n) (s.nodes n.0) (s.desks n.0))
-    (keeps-first_item t (local_node t n) (s.nodes n.0) (s.desks n.0) (facts.desk n.0) (facts.node n.0))
+    keeps-commit t (without_item s n.0) n (on_first_item (local_node t n) (s.nodes n.0) (s.desks n.0))
+    (keeps-first_item (local_node t n) (s.nodes n.0) (s.desks n.0) (facts.node n.0))
+    (backs-first_item t n (local_node t n) (s.nodes n.0) (facts.node n.0) (facts.backed n) (s.desks n.0) (facts.desk n.0))
     (same-rows_true t (s.nodes n.0) (on_first_item (local_node t n) (s.nodes n.0) (s.desks n.0))
     (first_item-learns_nothing (local_node t n) (s.nodes n.0) (s.desks n.0)) (facts.learnt n.0))
     (without_item-facts t s n.0 facts)
 facts-step t s (Tick n) enabled facts =
-    keeps-commit t s n.0 (on_tick (local_node t n) (s.nodes n.0)) (facts.node n.0) (facts.learnt n.0) facts
+    keeps-commit t s n (on_tick (local_node t n) (s.nodes n.0)) (facts.node n.0) tt (facts.learnt n.0) facts
 facts-step t s (Learn n k) enabled facts =
-    keeps-commit t s n.0 (on_link (local_node t n) (s.nodes n.0) (find_link t k))
+    keeps-commit t s n (on_link (local_node t n) (s.nodes n.0) (find_link t k))
     (keeps-link (local_node t n) (s.nodes n.0) (find_link t k) (facts.node n.0))
+    (backs-link t n (local_node t n) (s.nodes n.0) (find_link t k))
     (true-link t (local_node t n) (s.nodes n.0) k (find_link t k) refl (facts.learnt n.0)) facts
 facts-step t s (Post c) enabled facts =
     keeps-posted t s c (both_left (is_valid t c) (not (is_again s.posted c)) enabled) facts
