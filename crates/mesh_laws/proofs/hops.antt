@@ -4,8 +4,10 @@ pub mod ErrRule
 pub mod Downstream
 pub mod Labels
 pub mod FollowedBy
+pub mod InParts
 pub mod LegChanges
 pub mod Rest
+pub mod Risks
 pub mod Notices
 pub mod Own
 pub mod PathRule

@@ -5,9 +5,7 @@ use Rattle.ason_base.specs.declared.ids.NodeId.{NodeId}
 use Rattle.ason_base.specs.declared.ids.Lsp.{Lsp}
 use Rattle.ason_base.specs.declared.steps.Step.{Step}
 use Rattle.ason_base.specs.declared.network.LinkSpec.{LinkSpec}
-use Rattle.ason_base.specs.declared.calls.Phase.TheVariants.{Live}
 use Rattle.ason_base.specs.declared.calls.Role.{Role}
-use Rattle.ason_base.specs.declared.calls.Role.TheVariants.{Work}
 use Rattle.ason_base.specs.declared.messages.Msg.{Msg}
 use Rattle.ason_base.specs.declared.messages.Msg.TheVariants.{Path, Resv, PathTear, PathErr, Notify}
 use Rattle.ason_base.specs.declared.tables.Leg.{Leg}
@@ -16,7 +14,7 @@ use Rattle.ason_base.specs.Lsps.{same_lsp}
 use Rattle.ason_base.specs.Network.{Network, find_link, other_end}
 use Rattle.mesh_rules.specs.declared.events.MeshEvent.{MeshEvent}
 use Rattle.mesh_rules.specs.LocalNodes.{fibre_in, fibre_out}
-use Rattle.mesh_rules.specs.Legs.{find_leg, is_beyond_asked}
+use Rattle.mesh_rules.specs.Legs.{find_leg, is_beyond_asked, reserved}
 use Rattle.ason_base.specs.Routes.{makes_route}
 use Rattle.mesh_rules.specs.Machine.{Mesh, start}
 use Rattle.mesh_rules.specs.Events.{IsRun, after, route_of}
@@ -116,8 +114,8 @@ pub record RouteFits (t : Network) (s : Mesh) (r : Role) (l : Lsp) (route : List
   pub long : 0 < length route
   pub leads : IsTrue (makes_route t l.ingress e route)
   pub hops : (i : ℕ) (hop : Step) → slice_get route i ≡ Some hop → StepFits t s r l hop
-  -- its leg at the egress is Live from the first
-  pub egress : (g : Leg) → leg_at s l e ≡ Some g → g.phase ≡ Live
+  -- its leg at the egress has from the first the phase that a leg gets with its label
+  pub egress : (g : Leg) → leg_at s l e ≡ Some g → g.phase ≡ reserved r
   -- legs stand at the nodes of the route alone, and messages are on its hops alone
   pub legs : (n : NodeId) (g : Leg) → leg_at s l n ≡ Some g → (n ≡ e) ⊎ IsOnRoute route n
   pub mail : (a b : NodeId) → (mail_between s l a b ≡ []) ⊎ IsHop t route a b
@@ -133,10 +131,10 @@ pub record IsBlank (s : Mesh) (l : Lsp) : Type 0 where
   pub mail : (a b : NodeId) → mail_between s l a b ≡ []
   pub notices : (a b : NodeId) → notices_between s l a b ≡ []
 
--- each LSP that was asked for is a working one
+-- each LSP that was asked for is a working one or a backup
 abbrev pub LspFits : Network → Mesh → Lsp → Option (List Step) → Type 0
 LspFits t s l None = IsBlank s l
-LspFits t s l (Some route) = (e : NodeId) × RouteFits t s Work l route e
+LspFits t s l (Some route) = (r : Role) × (e : NodeId) × RouteFits t s r l route e
 
 -- a node has at most one leg of an LSP: each of its legs is the one that is found
 abbrev pub HasOneLegEach : Mesh → Type 0

@@ -1,7 +1,7 @@
 -- All laws of one state of a run, in one word.
 use Rattle.std.specs.Prelude.{ℕ, List}
 use Rattle.ason_base.specs.declared.ids.Lsp.{Lsp}
-use Rattle.ason_base.specs.Network.{Network}
+use Rattle.ason_base.specs.Network.{IsTopology, Network}
 use Rattle.mesh_rules.specs.declared.events.MeshEvent.{MeshEvent}
 use Rattle.mesh_rules.specs.Machine.{start}
 use Rattle.mesh_rules.specs.Events.{IsRun, after, route_of}
@@ -10,13 +10,13 @@ use Rattle.mesh_laws.specs.HopLaw.{HasOneLegEach, LspFits}
 use Rattle.mesh_laws.specs.JoinedLaw.{CallsAreJoined}
 use Rattle.mesh_laws.specs.LabelLaw.{LabelsAreShared, LiveLegsAreLabelled}
 use Rattle.mesh_laws.specs.LearntLaw.{LearntRowsAreTrue}
+use Rattle.mesh_laws.specs.RiskLaw.{BackupsRecordRisks}
 use Rattle.mesh_laws.specs.SafeLaw.{IsSafe}
 
 -- what holds of the state to which these events lead from the start
 pub record LawsHold (t : Network) (events : List MeshEvent) : Type 0 where
   -- at each node: a label of a fibre is one LSP's, or backups share it whose primaries have no risk in common; a Live
-  -- leg
-  -- has its labels; and each call fits its legs
+  -- leg has its labels; and each call fits its legs
   pub labels : (n : ℕ) → LabelsAreShared ((after t start events).nodes n).legs
   pub labelled : (n : ℕ) → LiveLegsAreLabelled ((after t start events).nodes n).legs
   pub calls : (n : ℕ) → CallsFit n ((after t start events).nodes n)
@@ -29,6 +29,8 @@ pub record LawsHold (t : Network) (events : List MeshEvent) : Type 0 where
   pub joined : CallsAreJoined t events
   -- what a node learnt of links is true of the network
   pub learnt : LearntRowsAreTrue t (after t start events)
+  -- over a topology each backup's leg records the risks of the working LSP's route
+  pub risks : IsTopology t → BackupsRecordRisks t events
 
 -- over every network and every run
 abbrev pub EveryRunKeepsTheLaws : Type 0

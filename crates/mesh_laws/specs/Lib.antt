@@ -6,4 +6,5 @@ pub mod LabelLaw
 pub mod Laws
 pub mod LearntLaw
 pub mod NodeLaw
+pub mod RiskLaw
 pub mod SafeLaw

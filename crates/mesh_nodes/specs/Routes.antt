@@ -75,6 +75,13 @@ FoundRoutesLead =
     (t : Network) (n b : NodeId) (s : NodeState) (r : Trip) → IsTrue (is_searchable t) → AreRowsOf t s.learnt →
     least_trip (known_rows (local_node t n) s) n b ≡ Some r → IsTrue (makes_route t n b r.steps)
 
+-- so it is with a backup that the node finds beside a route
+abbrev pub FoundBackupsLead : Type 0
+FoundBackupsLead =
+    (t : Network) (n b : NodeId) (s : NodeState) (primary : List Step) (r : Trip) → IsTrue (is_searchable t) →
+    AreRowsOf t s.learnt → least_backup (known_rows (local_node t n) s) primary n b ≡ Some r →
+    IsTrue (makes_route t n b r.steps)
+
 -- What a node knows
 
 -- no end of the row is the node

@@ -2,14 +2,19 @@
 use Rattle.std.proofs.Common.{◌≡◌, ◌≢◌, ◌<◌, ◌≤◌, ℕ, zero, suc, true, false, nat_eq, nat_lt, List, [], drop, refl, arith, inl, inr}
 use Rattle.std.specs.Prelude.{◌⊎◌, map, Option, Some, None, if◌then◌else◌}
 use Rattle.ason_base.specs.Network.{Network}
+use Rattle.ason_base.specs.Risks.{route_risks}
 use Rattle.ason_base.specs.declared.ids.Fibre.{Fibre}
 use Rattle.ason_base.specs.declared.ids.Lsp.{Lsp}
 use Rattle.ason_base.specs.declared.ids.NodeId.{NodeId}
+use Rattle.ason_base.specs.declared.risks.Risk.{Risk}
 use Rattle.ason_base.specs.declared.calls.Phase.{Phase}
 use Rattle.ason_base.specs.declared.calls.Phase.TheVariants.{Asked, Held, Armed, Live, Closing, Falling}
 use Rattle.ason_base.specs.declared.messages.Msg.{Msg}
 use Rattle.ason_base.specs.declared.tables.Leg.{Leg}
+use Rattle.mesh_rules.specs.Commands.{is_searchable}
+use Rattle.mesh_rules.specs.Legs.{reserved}
 use Rattle.mesh_laws.specs.HopShapes.{Shape, leg_kind, msg_kind}
+use Rattle.mesh_laws.specs.RiskLaw.{rows_of}
 use Rattle.mesh_laws.proofs.hops.Plans.{Plan, hops, node_at, fibre_at}
 use Rattle.mesh_laws.proofs.hops.Rest.{Purpose, Carries, Guards, Rest, Tells, role_of, has_path}
 
@@ -38,23 +43,39 @@ abbrev pub HasOut : ℕ → ℕ → Option ℕ → Type 0
 HasOut i n label = i < n → (x : ℕ) × (label ≡ Some x)
 
 -- Which phases come up, for each purpose, at a place of n hops, and the labels in and out in each. A working leg is
--- never Held, Armed or Falling.
+-- never Held, a backup's never Live, and none is Armed or Falling: no backup is activated.
 abbrev pub PhaseFits : Purpose → Phase → ℕ → ℕ → Option ℕ → Option ℕ → Type 0
 PhaseFits q Asked i n enter leave = (i < n) × (enter ≡ None) × (leave ≡ None)
 PhaseFits Carries Held i n enter leave = ⊥
 PhaseFits (Guards w r) Held i n enter leave = HasIn i enter × HasOut i n leave
-PhaseFits Carries Armed i n enter leave = ⊥
-PhaseFits (Guards w r) Armed i n enter leave = (i < n) × HasIn i enter × HasOut i n leave
-PhaseFits q Live i n enter leave = HasIn i enter × HasOut i n leave
+PhaseFits q Armed i n enter leave = ⊥
+PhaseFits Carries Live i n enter leave = HasIn i enter × HasOut i n leave
+PhaseFits (Guards w r) Live i n enter leave = ⊥
 PhaseFits q Closing i n enter leave = (i < n) × (enter ≡ None)
-PhaseFits Carries Falling i n enter leave = ⊥
-PhaseFits (Guards w r) Falling i n enter leave = (i < n) × (enter ≡ None) × HasOut i n leave
+PhaseFits q Falling i n enter leave = ⊥
+
+pub asked_fits : (q : Purpose) (i n : ℕ) → i < n → PhaseFits q Asked i n None None
+asked_fits Carries i n small = (small, refl, refl)
+asked_fits (Guards w r) i n small = (small, refl, refl)
+
+-- a leg that has its label
+pub reserved_fits : (q : Purpose) (i n : ℕ) (enter leave : Option ℕ) → HasIn i enter → HasOut i n leave →
+    PhaseFits q (reserved (role_of q)) i n enter leave
+reserved_fits Carries i n enter leave has_in has_out = (has_in, has_out)
+reserved_fits (Guards w r) i n enter leave has_in has_out = (has_in, has_out)
+
+-- A working leg records no risk. A backup's records those of the working LSP's route, over the rows of all links, where
+-- these can be searched.
+abbrev pub RisksFit : Network → Purpose → List Risk → Type 0
+RisksFit t Carries risks = risks ≡ []
+RisksFit t (Guards w route) risks = is_searchable t ≡ true → risks ≡ route_risks (rows_of t) route
 
 pub record LegFits (t : Network) (q : Purpose) (l : Lsp) (p : Plan) (i : ℕ) (g : Leg) : Type 0 where
   pub own : g.lsp ≡ l
   pub egress : g.egress ≡ p.egress
   pub role : g.role ≡ role_of q
   pub tells : Tells q g.path_role
+  pub risks : RisksFit t q g.risks
   pub prev : g.prev ≡ prev_at p i
   pub in_fibre : g.in_fibre ≡ in_fibre_at t p i
   pub next : g.next ≡ next_at p i

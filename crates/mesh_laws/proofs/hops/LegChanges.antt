@@ -1,5 +1,5 @@
 -- A leg of a route that closes or is connected, its kind, and its neighbours.
-use Rattle.std.proofs.Common.{◌≡◌, ◌<◌, ◌≤◌, ℕ, zero, suc, true, false, refl, inl, inr}
+use Rattle.std.proofs.Common.{◌≡◌, ◌<◌, ◌≤◌, ℕ, zero, suc, true, false, refl, ap, ◌∙◌, inl, inr}
 use Rattle.std.specs.Prelude.{◌⊎◌, Option, Some, None}
 use Rattle.ason_base.specs.Lsps.{same_lsp}
 use Rattle.ason_base.specs.Network.{Network}
@@ -9,13 +9,13 @@ use Rattle.ason_base.specs.declared.calls.Phase.TheVariants.{Asked, Held, Armed,
 use Rattle.ason_base.specs.declared.calls.Role.{Role}
 use Rattle.ason_base.specs.declared.calls.Role.TheVariants as role
 use Rattle.ason_base.specs.declared.tables.Leg.{Leg}
-use Rattle.mesh_rules.specs.Legs.{closed, closing_phase, connected, previous, following, is_asked, is_closing}
-use Rattle.mesh_laws.specs.HopShapes.{NoLeg, AskedLeg, LiveLeg, IsTorn, Closes, Falls, leg_kind, phase_kind}
+use Rattle.mesh_rules.specs.Legs.{closed, closing_phase, connected, previous, following, is_asked, is_closing, reserved}
+use Rattle.mesh_laws.specs.HopShapes.{NoLeg, AskedLeg, ArmedLeg, LiveLeg, IsTorn, Closes, Falls, leg_kind, phase_kind}
 use Rattle.mesh_nodes.proofs.LegList.{same_lsp-refl}
 use Rattle.mesh_laws.proofs.hops.Plans.{Plan, hops, node_at, fibre_at, lt_true, lt_false}
 use Rattle.mesh_laws.proofs.hops.Rest.{Purpose, Carries, Guards, role_of}
-use Rattle.mesh_laws.proofs.hops.Rows.{Stands, AskedStands, HeldStands, ArmedStands, LiveStands, torn_leg}
-use Rattle.mesh_laws.proofs.hops.Chain.{LegFits, HasIn, PhaseFits}
+use Rattle.mesh_laws.proofs.hops.Rows.{Stands, AskedStands, HeldStands, ArmedStands, LiveStands, reserved_leg, torn_leg}
+use Rattle.mesh_laws.proofs.hops.Chain.{LegFits, Fits, HasIn, PhaseFits, reserved_fits}
 
 pub same_of : (k l : Lsp) → k ≡ l → same_lsp k l ≡ true
 same_of k l is = rw is (same_lsp-refl l)
@@ -80,6 +80,11 @@ torn_not_asked r Held torn = refl
 torn_not_asked r Armed torn = refl
 torn_not_asked r Live torn = refl
 
+-- the phase that a leg gets with its label
+pub reserved_kind : (r : Role) → phase_kind (reserved r) ≡ reserved_leg r
+reserved_kind role.Work = refl
+reserved_kind role.Back = refl
+
 closing_kind : (f : Phase) (r : Role) → phase_kind (closing_phase f r) ≡ torn_leg r (phase_kind f)
 closing_kind Asked role.Work = refl
 closing_kind Asked role.Back = refl
@@ -109,7 +114,7 @@ module _ (t : Network) (q : Purpose) (l : Lsp) (p : Plan) where
           IsTorn (role_of q) (phase_kind f)
       go q Closing phase e = Closes
       go Carries Falling phase e = absurd phase
-      go (Guards w r) Falling phase e = Falls
+      go (Guards w r) Falling phase e = absurd phase
       go q Asked phase e = absurd cc
       go q Held phase e = absurd cc
       go q Armed phase e = absurd cc
@@ -138,6 +143,7 @@ module _ (t : Network) (q : Purpose) (l : Lsp) (p : Plan) where
     egress = fits.egress;
     role = fits.role;
     tells = fits.tells;
+    risks = fits.risks;
     prev = fits.prev;
     in_fibre = fits.in_fibre;
     next = fits.next;
@@ -156,10 +162,10 @@ module _ (t : Network) (q : Purpose) (l : Lsp) (p : Plan) where
       go Carries Falling phase = absurd phase
       go (Guards w r) Asked phase = (small, refl)
       go (Guards w r) Held phase = (small, refl)
-      go (Guards w r) Armed phase = (small, refl, phase.2)
-      go (Guards w r) Live phase = (small, refl, phase.1)
+      go (Guards w r) Armed phase = absurd phase
+      go (Guards w r) Live phase = absurd phase
       go (Guards w r) Closing phase = (small, refl)
-      go (Guards w r) Falling phase = (small, refl)
+      go (Guards w r) Falling phase = absurd phase
 
   -- Neighbours
 
@@ -177,22 +183,61 @@ module _ (t : Network) (q : Purpose) (l : Lsp) (p : Plan) where
   pub following_none : (i : ℕ) (g : Leg) → LegFits t q l p i g → hops p ≤ i → following g ≡ None
   following_none i g fits end = rw (fits.next, lt_false end) refl
 
--- the working leg of a Resv
-pub connected_fits : (t : Network) (l : Lsp) (p : Plan) (i : ℕ) (g : Leg) (label : Option ℕ) (x : ℕ) →
-    LegFits t Carries l p i g →
-    HasIn i label → LegFits t Carries l p i (connected g label x)
-connected_fits t l p i g label x fits enters = record {
-  own = fits.own;
-  egress = fits.egress;
-  role = fits.role;
-  tells = fits.tells;
-  prev = fits.prev;
-  in_fibre = fits.in_fibre;
-  next = fits.next;
-  out_fibre = fits.out_fibre;
-  route = fits.route;
-  phase = rw fits.role (enters, λ small. (x, refl));
-}
+  -- the leg of a Resv
+  pub connected_fits : (i : ℕ) (g : Leg) (label : Option ℕ) (x : ℕ) → LegFits t q l p i g → HasIn i label →
+      LegFits t q l p i (connected g label x)
+  connected_fits i g label x fits enters = record {
+    own = fits.own;
+    egress = fits.egress;
+    role = fits.role;
+    tells = fits.tells;
+    risks = fits.risks;
+    prev = fits.prev;
+    in_fibre = fits.in_fibre;
+    next = fits.next;
+    out_fibre = fits.out_fibre;
+    route = fits.route;
+    phase = rw fits.role (reserved_fits q i (hops p) label (Some x) enters (λ small. (x, refl)));
+  }
+
+  -- it has its label
+  pub connected_kind : (i : ℕ) (g : Leg) (label : Option ℕ) (x : ℕ) → LegFits t q l p i g →
+      leg_kind (Some (connected g label x)) ≡ reserved_leg (role_of q)
+  connected_kind i g label x fits = ap (λ r. phase_kind (reserved r)) fits.role ∙ reserved_kind (role_of q)
+
+  -- Phases that don't come up: no backup is activated
+
+  pub never_armed : (i : ℕ) (g : Leg) → LegFits t q l p i g → leg_kind (Some g) ≡ ArmedLeg → ⊥
+  never_armed i g fits e = go q g.phase fits.phase e
+    where
+      go : (q : Purpose) (f : Phase) → PhaseFits q f i (hops p) g.in_label g.out_label → phase_kind f ≡ ArmedLeg → ⊥
+      go Carries Armed phase e = phase
+      go (Guards w r) Armed phase e = phase
+      go q Asked phase e = cc
+      go q Held phase e = cc
+      go q Live phase e = cc
+      go q Closing phase e = cc
+      go q Falling phase e = cc
+
+  -- the leg of a backup isn't Live
+  pub live_carries : (i : ℕ) (g : Leg) → LegFits t q l p i g → g.phase ≡ Live → q ≡ Carries
+  live_carries i g fits e = go q g.phase fits.phase e
+    where
+      go : (q : Purpose) (f : Phase) → PhaseFits q f i (hops p) g.in_label g.out_label → f ≡ Live → q ≡ Carries
+      go Carries f phase e = refl
+      go (Guards w r) Live phase e = absurd phase
+      go (Guards w r) Asked phase e = absurd cc
+      go (Guards w r) Held phase e = absurd cc
+      go (Guards w r) Armed phase e = absurd cc
+      go (Guards w r) Closing phase e = absurd cc
+      go (Guards w r) Falling phase e = absurd cc
+
+  pub never_live_backup : (i : ℕ) (o : Option Leg) → Fits t q l p i o → role_of q ≡ role.Back → leg_kind o ≡ LiveLeg → ⊥
+  never_live_backup i None fits back e = cc
+  never_live_backup i (Some g) fits back e =
+      let carries = live_carries i g fits (live_phase g.phase e) in
+      let work : role_of q ≡ role.Work = rw carries refl in
+      cc (back, work)
 
 -- the place before, if there is one
 abbrev pub Before : ℕ → Type 0

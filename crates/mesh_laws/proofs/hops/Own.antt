@@ -21,20 +21,20 @@ use Rattle.mesh_rules.specs.declared.changes.LegChange.{LegChange}
 use Rattle.mesh_rules.specs.declared.changes.LegChange.TheVariants.{Goes, Put}
 use Rattle.mesh_rules.specs.declared.neighbours.Neighbour.{Neighbour}
 use Rattle.mesh_rules.specs.State.{NodeState}
-use Rattle.mesh_rules.specs.Changes.{Answer, nothing, puts, removes, followed_by, to_node}
+use Rattle.mesh_rules.specs.Changes.{Answer, nothing, to_node}
 use Rattle.mesh_rules.specs.LocalNodes.{LocalNode, own_link, leads}
-use Rattle.mesh_rules.specs.Legs.{find_leg, is_asked, is_closing, connected, previous, following, is_node, is_over, usable}
-use Rattle.mesh_rules.specs.Calls.{call_of, is_asking}
+use Rattle.mesh_rules.specs.Legs.{find_leg, is_asked, is_closing, previous, following, is_node, is_over}
 use Rattle.mesh_rules.specs.Paths.{PathRequest, is_active, risks_here, first_failure, checks, offered_labels, at_egress, in_transit, admitted, judged, first_path, path_with}
-use Rattle.mesh_rules.specs.Resvs.{is_expected, call_connected, label_back, passed_back, answered, resv_with}
-use Rattle.mesh_rules.specs.PathErrs.{PathFailure, call_refused, err_passed, removed, path_err_with}
+use Rattle.mesh_rules.specs.Resvs.{is_expected, label_back, labels_left, passed_back}
+use Rattle.mesh_rules.specs.PathErrs.{PathFailure}
 use Rattle.mesh_rules.specs.Tears.{torn, tear_with}
-use Rattle.mesh_rules.specs.Messages.{arrival, on_message}
+use Rattle.mesh_rules.specs.Messages.{arrival}
 use Rattle.mesh_rules.specs.Machine.{Mesh, commit, sent_to}
 use Rattle.mesh_rules.specs.Events.{whole_route, first_route}
 use Rattle.mesh_laws.specs.HopLaw.{lsp_of, is_notice, is_message_of, messages_of, leg_at, mail_between}
 use Rattle.mesh_nodes.proofs.Cases.{both_right, if_cases, not-true}
 use Rattle.mesh_nodes.proofs.LegList.{found-lsp}
+use Rattle.mesh_laws.proofs.hops.InParts.{leg_answers, leg_of_resv, leg_refused, leg_removed, leg_of_err, leg_part}
 use Rattle.mesh_laws.proofs.hops.Tables.{leg_after}
 use Rattle.mesh_laws.proofs.hops.Views.{leg-here}
 use Rattle.mesh_laws.proofs.hops.Sending.{sent_by}
@@ -67,28 +67,6 @@ pub record IsQuiet (a : Answer) : Type 0 where
   pub sent : a.sent ≡ []
   pub numbers : a.numbers ≡ None
 
-pub quiet-connected : (c : Option CallRec) → IsQuiet (call_connected c)
-quiet-connected None = record { legs = refl; sent = refl; numbers = refl }
-quiet-connected (Some c) =
-    if_cases IsQuiet (is_asking c.state && not c.protected) _ _
-    (λ h. record {
-      legs =
-          refl;
-      sent = refl;
-      numbers = refl;
-    }) (λ h. record { legs = refl; sent = refl; numbers = refl })
-
-pub quiet-refused : (code : ErrCode) (c : Option CallRec) → IsQuiet (call_refused code c)
-quiet-refused code None = record { legs = refl; sent = refl; numbers = refl }
-quiet-refused code (Some c) =
-    if_cases IsQuiet (is_asking c.state) _ _
-    (λ h. record {
-      legs =
-          refl;
-      sent = refl;
-      numbers = refl;
-    }) (λ h. record { legs = refl; sent = refl; numbers = refl })
-
 abbrev pub IsLegOf : Lsp → Option Leg → Type 0
 IsLegOf l None = Unit {0}
 IsLegOf l (Some g) = g.lsp ≡ l
@@ -99,14 +77,6 @@ found-is l legs (Some g) e = found-lsp l legs g e
 
 own-nothing : (n : ℕ) (l : Lsp) → Own n l nothing
 own-nothing n l = record { legs = tt; sent = tt; numbers = refl; none_begins = λ k e. refl }
-
-own-then : (n : ℕ) (l : Lsp) (a b : Answer) → Own n l a → IsQuiet b → Own n l (followed_by a b)
-own-then n l a b own quiet = record {
-  legs = rw (quiet.legs, append-nil) own.legs;
-  sent = rw (quiet.sent, append-nil) own.sent;
-  numbers = rw quiet.numbers own.numbers;
-  none_begins = λ k e. rw (quiet.sent, append-nil) (own.none_begins k e);
-}
 
 -- Path
 
@@ -172,27 +142,21 @@ own-passed_back n l p a g h x None is =
 own-passed_back n l p a g h x (Some y) is =
     record { legs = (is, tt); sent = (is, refl, tt); numbers = refl; none_begins = λ k e. refl }
 
-own-answered : (n : ℕ) (l : Lsp) (p : LocalNode) (s : NodeState) (a : Arrival) (x : ℕ) (g : Leg)
+own-leg_answers : (n : ℕ) (l : Lsp) (p : LocalNode) (s : NodeState) (a : Arrival) (x : ℕ) (g : Leg)
     (o : Option Neighbour) →
     g.lsp ≡ l →
-    Own n l (answered p s a x g o)
-own-answered n l p s a x g None is =
-    own-then n l (puts (connected g None x) []) (call_connected (call_of g.lsp s.calls))
-    (record {
-      legs =
-          (is, tt);
-      sent = tt;
-      numbers = refl;
-      none_begins = λ k e. refl;
-    }) (quiet-connected (call_of g.lsp s.calls))
-own-answered n l p s a x g (Some h) is =
-    own-passed_back n l p a g h x (label_back p (meet g.offered (usable p s.legs g.role g.risks h.fibre)) x) is
+    Own n l (leg_answers p s a x g o)
+own-leg_answers n l p s a x g None is =
+    record { legs = (is, tt); sent = tt; numbers = refl; none_begins = λ k e. refl }
+own-leg_answers n l p s a x g (Some h) is =
+    own-passed_back n l p a g h x (label_back p (labels_left p s g h) x) is
 
-own-on_resv : (n : ℕ) (l : Lsp) (p : LocalNode) (s : NodeState) (a : Arrival) (x : ℕ) (o : Option Leg) → IsLegOf l o →
-    Own n l (resv_with p s a x o)
-own-on_resv n l p s a x None is = own-nothing n l
-own-on_resv n l p s a x (Some g) is =
-    if_cases (Own n l) (is_expected a x g) _ _ (λ h. own-answered n l p s a x g (previous g) is) (λ h. own-nothing n l)
+own-leg_of_resv : (n : ℕ) (l : Lsp) (p : LocalNode) (s : NodeState) (a : Arrival) (x : ℕ) (o : Option Leg) →
+    IsLegOf l o → Own n l (leg_of_resv p s a x o)
+own-leg_of_resv n l p s a x None is = own-nothing n l
+own-leg_of_resv n l p s a x (Some g) is =
+    if_cases (Own n l) (is_expected a x g) _ _ (λ h. own-leg_answers n l p s a x g (previous g) is)
+    (λ h. own-nothing n l)
 
 -- PathErr
 
@@ -202,38 +166,29 @@ pub record PassesOn (l : Lsp) (m : Msg) : Type 0 where
   pub plain : is_notice m ≡ false
   pub begins_none : (k : Lsp) → whole_route k m ≡ None
 
-own-err_passed : (n : ℕ) (l : Lsp) (s : NodeState) (g : Leg) (e : PathFailure) (o : Option Neighbour) → g.lsp ≡ l →
-    PassesOn l e.msg → Own n l (err_passed s g e o)
-own-err_passed n l s g e None is on =
-    own-then n l (removes g.lsp []) (call_refused e.code (call_of g.lsp s.calls))
-    (record {
-      legs =
-          (is, tt);
-      sent = tt;
-      numbers = refl;
-      none_begins = λ k f. refl;
-    }) (quiet-refused e.code (call_of g.lsp s.calls))
-own-err_passed n l s g e (Some h) is on =
-    record {
-      legs =
-          (is, tt);
-      sent = (on.own, on.plain, tt);
-      numbers = refl;
-      none_begins = λ k f. rw (on.begins_none k) refl;
-    }
+own-leg_refused : (n : ℕ) (l : Lsp) (g : Leg) (e : PathFailure) (o : Option Neighbour) → g.lsp ≡ l →
+    PassesOn l e.msg → Own n l (leg_refused g e o)
+own-leg_refused n l g e None is on =
+    record { legs = (is, tt); sent = tt; numbers = refl; none_begins = λ k f. refl }
+own-leg_refused n l g e (Some h) is on = record {
+  legs = (is, tt);
+  sent = (on.own, on.plain, tt);
+  numbers = refl;
+  none_begins = λ k f. rw (on.begins_none k) refl;
+}
 
-own-removed : (n : ℕ) (l : Lsp) (s : NodeState) (g : Leg) (e : PathFailure) → g.lsp ≡ l → PassesOn l e.msg →
-    Own n l (removed s g e)
-own-removed n l s g e is on =
-    if_cases (Own n l) (is_asked g.phase) _ _ (λ h. own-err_passed n l s g e (previous g) is on) (λ h.
+own-leg_removed : (n : ℕ) (l : Lsp) (g : Leg) (e : PathFailure) → g.lsp ≡ l → PassesOn l e.msg →
+    Own n l (leg_removed g e)
+own-leg_removed n l g e is on =
+    if_cases (Own n l) (is_asked g.phase) _ _ (λ h. own-leg_refused n l g e (previous g) is on) (λ h.
     if_cases (Own n l) (is_closing g.phase) _ _
     (λ f. record { legs = (is, tt); sent = tt; numbers = refl; none_begins = λ k e. refl }) (λ f. own-nothing n l))
 
-own-on_path_err : (n : ℕ) (l : Lsp) (s : NodeState) (u : NodeId) (e : PathFailure) (o : Option Leg) → IsLegOf l o →
-    PassesOn l e.msg → Own n l (path_err_with s u e o)
-own-on_path_err n l s u e None is on = own-nothing n l
-own-on_path_err n l s u e (Some g) is on =
-    if_cases (Own n l) (e.removed && is_node (following g) u) _ _ (λ h. own-removed n l s g e is on)
+own-leg_of_err : (n : ℕ) (l : Lsp) (u : NodeId) (e : PathFailure) (o : Option Leg) → IsLegOf l o →
+    PassesOn l e.msg → Own n l (leg_of_err u e o)
+own-leg_of_err n l u e None is on = own-nothing n l
+own-leg_of_err n l u e (Some g) is on =
+    if_cases (Own n l) (e.removed && is_node (following g) u) _ _ (λ h. own-leg_removed n l g e is on)
     (λ h. own-nothing n l)
 
 -- PathTear
@@ -263,18 +218,18 @@ own-on_tear n l p a (Some g) is =
     (record { own = is; plain = refl; begins_none = λ k. refl }))
     (λ h. own-nothing n l)
 
-pub own-on_message : (p : LocalNode) (s : NodeState) (u : NodeId) (m : Msg) → Own p.id.0 (lsp_of m) (on_message p s u m)
-own-on_message p s u (Path l e k route set up r) =
+pub own-leg_part : (p : LocalNode) (s : NodeState) (u : NodeId) (m : Msg) → Own p.id.0 (lsp_of m) (leg_part p s u m)
+own-leg_part p s u (Path l e k route set up r) =
     own-on_path p s (record { arrival = arrival l e u k; route = route; set = set; role = r }) (find_leg l s.legs)
-own-on_message p s u (Resv l e k x) =
-    own-on_resv p.id.0 l p s (arrival l e u k) x (find_leg l s.legs) (found-is l s.legs (find_leg l s.legs) refl)
-own-on_message p s u (PathTear l e k) =
+own-leg_part p s u (Resv l e k x) =
+    own-leg_of_resv p.id.0 l p s (arrival l e u k) x (find_leg l s.legs) (found-is l s.legs (find_leg l s.legs) refl)
+own-leg_part p s u (PathTear l e k) =
     own-on_tear p.id.0 l p (arrival l e u k) (find_leg l s.legs) (found-is l s.legs (find_leg l s.legs) refl)
-own-on_message p s u (PathErr l e at gone code) =
-    own-on_path_err p.id.0 l s u
+own-leg_part p s u (PathErr l e at gone code) =
+    own-leg_of_err p.id.0 l u
     (record { lsp = l; msg = PathErr l e at gone code; removed = gone; code = code }) (find_leg l s.legs)
     (found-is l s.legs (find_leg l s.legs) refl) (record { own = refl; plain = refl; begins_none = λ k. refl })
-own-on_message p s u (Notify l e at k code) = own-nothing p.id.0 l
+own-leg_part p s u (Notify l e at k code) = own-nothing p.id.0 l
 
 -- What is of another LSP stays
 

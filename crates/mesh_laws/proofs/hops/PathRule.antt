@@ -9,29 +9,35 @@ use Rattle.ason_base.specs.declared.ids.NodeId.{NodeId}
 use Rattle.ason_base.specs.declared.ids.LinkId.{LinkId}
 use Rattle.ason_base.specs.declared.network.LinkSpec.{LinkSpec}
 use Rattle.ason_base.specs.declared.steps.Step.{Step}
-use Rattle.ason_base.specs.declared.calls.Role.TheVariants as role
-use Rattle.ason_base.specs.declared.messages.PathRole.TheVariants.{Work}
+use Rattle.ason_base.specs.declared.messages.PathRole.{PathRole}
+use Rattle.ason_base.specs.declared.risks.Risk.{Risk}
 use Rattle.ason_base.specs.declared.messages.Msg.{Msg}
 use Rattle.ason_base.specs.declared.messages.Msg.TheVariants.{Path, Resv, PathErr}
 use Rattle.ason_base.specs.declared.tables.Leg.{Leg}
 use Rattle.mesh_rules.specs.State.{NodeState}
 use Rattle.mesh_rules.specs.Changes.{Answer, sends}
 use Rattle.mesh_rules.specs.LocalNodes.{LocalNode, local_node, fibre_in}
-use Rattle.mesh_rules.specs.Paths.{PathRequest, is_none, first_failure, checks, error_to, egress_leg, set_on, transit_leg}
-use Rattle.mesh_rules.specs.Paths.{offered_labels, at_egress, in_transit, admitted, judged}
+use Rattle.mesh_rules.specs.KnownRows.{known_rows}
+use Rattle.mesh_rules.specs.Legs.{reserved}
+use Rattle.mesh_rules.specs.Paths.{PathRequest, is_none, is_primary_unknown, first_failure, checks, error_to, egress_leg, set_on, transit_leg}
+use Rattle.mesh_rules.specs.Paths.{offered_labels, risks_here, at_egress, in_transit, admitted, judged}
+use Rattle.mesh_rules.specs.Paths.{role_of as asked_role}
 use Rattle.mesh_rules.specs.Messages.{arrival, on_message}
 use Rattle.mesh_rules.specs.Machine.{Mesh}
-use Rattle.mesh_laws.specs.HopShapes.{NoLeg, leg_kind}
+use Rattle.mesh_laws.specs.HopShapes.{NoLeg, PlainPath, leg_kind, path_kind, phase_kind}
 use Rattle.mesh_laws.specs.HopLaw.{is_message_of, messages_of, leg_at, mail_between}
 use Rattle.mesh_laws.proofs.hops.Plans.{Plan, hops, node_at, link_at, fibre_at, IsRoute, Leads, distinct, other, lt_true, lt_false, joined, own_near, own_far, fibre_in_is, fibre_out_is}
 use Rattle.mesh_laws.proofs.hops.Labels.{has_least, has_meet}
 use Rattle.mesh_nodes.proofs.LegList.{same_lsp-refl}
 use Rattle.mesh_laws.proofs.nodes.PathKeeps.{none_fails}
-use Rattle.mesh_laws.proofs.hops.Rest.{Carries, has_path}
-use Rattle.mesh_laws.proofs.hops.Rows.{plain_taken}
-use Rattle.mesh_laws.proofs.hops.Chain.{Hop, IsVacant, Chain}
+use Rattle.mesh_nodes.specs.Routes.{AreRowsOf}
+use Rattle.mesh_nodes.proofs.routes.Nodes.{known-are}
+use Rattle.mesh_laws.proofs.hops.Rest.{Purpose, Tells, role_of, tells_plain, tells_inactive, tells_role, has_path}
+use Rattle.mesh_laws.proofs.hops.Risks.{recorded-fit}
+use Rattle.mesh_laws.proofs.hops.Rows.{plain_taken, reserved_leg}
+use Rattle.mesh_laws.proofs.hops.Chain.{Hop, IsVacant, Chain, RisksFit, asked_fits, reserved_fits}
 use Rattle.mesh_laws.proofs.hops.Sending.{sends_back, sends_on}
-use Rattle.mesh_laws.proofs.hops.LegChanges.{gone_none}
+use Rattle.mesh_laws.proofs.hops.LegChanges.{gone_none, never_live_backup, reserved_kind}
 use Rattle.mesh_laws.proofs.hops.Downstream.{path_last, path_passed, path_answered, path_refused}
 use Rattle.mesh_laws.proofs.hops.Upstream.{hop_idle, hop_asks}
 use Rattle.mesh_laws.proofs.hops.Taken.{KeepsDown, down_hop, down_mine, down_taken}
@@ -75,10 +81,17 @@ some_label : (p : LocalNode) (s : NodeState) (m : PathRequest) (link : LinkSpec)
     is_none (least (offered_labels p s m link)) ≡ false
 some_label p s m link none = (none_fails (checks p s m link) none).1.1.1.0
 
-module _ (t : Network) (s : Mesh) (l : Lsp) (p : Plan) (i : ℕ) (route : IsRoute t l.ingress p)
-    (chain : Chain t Carries l p (leg_at s l) (mail_between s l)) (below : i < hops p)
-    (e : NodeId) (k : LinkId) (r : List Step) (set : List ℕ) (label : Option ℕ) (guard : Bool) (rest : List Msg)
-    (was : s.mail (node_at p i).0 (node_at p (suc i)).0 ≡ Path l e k r set label (Work guard) ∷ rest) where
+-- and each link of its primary's route is known
+primary_known : (p : LocalNode) (s : NodeState) (m : PathRequest) (link : LinkSpec) →
+    first_failure (checks p s m link) ≡ None →
+    is_primary_unknown (known_rows p s) m.role ≡ false
+primary_known p s m link none = (none_fails (checks p s m link) none).1.1.0
+
+module _ (t : Network) (q : Purpose) (s : Mesh) (l : Lsp) (p : Plan) (i : ℕ) (route : IsRoute t l.ingress p)
+    (chain : Chain t q l p (leg_at s l) (mail_between s l)) (below : i < hops p)
+    (e : NodeId) (k : LinkId) (r : List Step) (set : List ℕ) (label : Option ℕ) (purpose : PathRole) (rest : List Msg)
+    (was : s.mail (node_at p i).0 (node_at p (suc i)).0 ≡ Path l e k r set label purpose ∷ rest)
+    (learnt : AreRowsOf t (s.nodes (node_at p (suc i)).0).learnt) where
   abbrev u : NodeId
   u = node_at p i
 
@@ -95,31 +108,37 @@ module _ (t : Network) (s : Mesh) (l : Lsp) (p : Plan) (i : ℕ) (route : IsRout
   state = s.nodes d.0
 
   abbrev message : Msg
-  message = Path l e k r set label (Work guard)
+  message = Path l e k r set label purpose
 
   abbrev asks : PathRequest
-  asks = record { arrival = arrival l e u k; route = r; set = set; role = Work guard }
+  asks = record { arrival = arrival l e u k; route = r; set = set; role = purpose }
 
   pub own : is_message_of l message ≡ true
   own = same_lsp-refl l
 
   abbrev Keeps : Answer → Type 0
-  Keeps a = KeepsDown t Carries s l p i route chain below message rest was own a
+  Keeps a = KeepsDown t q s l p i route chain below message rest was own a
 
-  hop : Hop Carries p i (leg_at s l u) (leg_at s l d) (message ∷ messages_of l rest) (mail_between s l d u)
-  hop = down_hop t Carries s l p i route chain below message rest was own
+  hop : Hop q p i (leg_at s l u) (leg_at s l d) (message ∷ messages_of l rest) (mail_between s l d u)
+  hop = down_hop t q s l p i route chain below message rest was own
 
-  what : (e ≡ p.egress) × (k ≡ link_at p i) × (r ≡ drop (suc i) p.route) × Unit {0}
+  what : (e ≡ p.egress) × (k ≡ link_at p i) × (r ≡ drop (suc i) p.route) × Tells q purpose
   what = hop.rest.going_down.0
 
   abbrev FirstHop : Type 0
-  FirstHop = Hop Carries p i (leg_at s l u) None (message ∷ messages_of l rest) (mail_between s l d u)
+  FirstHop = Hop q p i (leg_at s l u) None (message ∷ messages_of l rest) (mail_between s l d u)
 
   far : u.0 ≢ d.0
   far = distinct t l.ingress p route i (suc i) (omega arith) (omega arith) (omega arith)
 
   over : Leads t k u d
   over = rw what.1 (route.links i below)
+
+  plain : path_kind purpose ≡ PlainPath
+  plain = tells_plain q purpose what.3
+
+  asked_for : asked_role purpose ≡ role_of q
+  asked_for = tells_role q purpose what.3
 
   enters : fibre_in over.link d ≡ fibre_at t p i
   enters = go over
@@ -139,23 +158,23 @@ module _ (t : Network) (s : Mesh) (l : Lsp) (p : Plan) (i : ℕ) (route : IsRout
     hop_here = rw none at hop
 
     last : has_path (messages_of l rest) ≡ false
-    last = path_last Carries p i (leg_at s l u) l e k r set label (Work guard) (messages_of l rest) _ refl hop_here
+    last = path_last q p i (leg_at s l u) l e k r set label purpose (messages_of l rest) _ plain hop_here
 
     beyond : (j : ℕ) → i < j → j ≤ hops p → IsVacant p (leg_at s l) (mail_between s l) j
     beyond j after small =
         chain.fresh i below (record {
           gone =
               none;
-          path = rw (down_mine t Carries s l p i route chain below message rest was own) refl;
+          path = rw (down_mine t q s l p i route chain below message rest was own) refl;
         })
         j after small
 
     refused : (code : ErrCode) → Keeps (sends (error_to u place asks.arrival code ∷ []))
     refused code =
-        down_taken t Carries s l p i route chain below message rest was own
+        down_taken t q s l p i route chain below message rest was own
         (sends (error_to u place asks.arrival code ∷ [])) None (PathErr l e d true code ∷ []) []
         none (sends_back t l l.ingress p route i (PathErr l e d true code) below own) tt
-        (path_refused Carries p i (leg_at s l u) l e k r set label (Work guard) (messages_of l rest) _ refl
+        (path_refused q p i (leg_at s l u) l e k r set label purpose (messages_of l rest) _ plain
         hop_here e d code)
         (λ small. rw (
           append-nil,
@@ -163,106 +182,123 @@ module _ (t : Network) (s : Mesh) (l : Lsp) (p : Plan) (i : ℕ) (route : IsRout
           (beyond (suc i) (omega arith) (omega arith)).no_up small,
           (beyond (suc (suc i)) (omega arith) (omega arith)).no_leg,
         )
-        (hop_idle Carries p (suc i)))
+        (hop_idle q p (suc i)))
         (λ gone path. cc (last, path))
         (λ small gone path. let never : false ≡ true =
         rw (append-nil, (beyond (suc i) (omega arith) (omega arith)).no_down small) at path in absurd cc)
 
-    -- at the egress
-    ends : r ≡ [] → (x : Option ℕ) → least offered ≡ x → is_none x ≡ false →
-        Keeps (at_egress place asks over.link [] offered x)
-    ends end None is some = absurd cc
-    ends end (Some y) is some =
-        let done : drop (suc i) p.route ≡ [] = sym what.2 ∙ end in
-        let long : length p.route ≤ suc i = drop-none (suc i) p.route done in
-        let stop : nat_lt (suc i) (hops p) ≡ false = lt_false long in
-        down_taken t Carries s l p i route chain below message rest was own
-        (at_egress place asks over.link [] offered (Some y))
-        (Some (egress_leg place asks over.link [] offered y)) (Resv l e over.link.id y ∷ []) []
-        (rw (same_lsp-refl l) refl) (sends_back t l l.ingress p route i (Resv l e over.link.id y) below own)
-        (record {
-          own = refl;
-          egress = what.0;
-          role = refl;
-          tells = tt;
-          prev = refl;
-          in_fibre = ap Some enters;
-          next = rw stop refl;
-          out_fibre = rw stop refl;
-          route = drop-further (suc i) p.route done;
-          phase = ((y, refl), λ small. absurd (omega arith));
-        })
-        (path_answered Carries p i (leg_at s l u) l e k r set label (Work guard) (messages_of l rest) _ refl hop_here
-        (egress_leg place asks over.link [] offered y) e over.link.id y refl refl
-        (within y (has_least offered y is)) (over.id ∙ what.1))
-        (λ small. absurd (omega arith))
-        (λ gone path. cc (last, path))
-        (λ small. absurd (omega arith))
+    -- a Path that is admitted
+    module _ (known : is_primary_unknown (known_rows place state) purpose ≡ false) where
+      abbrev risks : List Risk
+      risks = risks_here place state asks
 
-    -- elsewhere
-    goes_on : (n : Leads t (link_at p (suc i)) (node_at p (suc i)) (node_at p (suc (suc i)))) (further : List Step) →
-        suc i < hops p →
-        further ≡ drop (suc (suc i)) p.route → Keeps (in_transit place asks over.link [] further offered (Some n.link))
-    goes_on n further small is =
-        let more : nat_lt (suc i) (hops p) ≡ true = lt_true small in
-        let g : Leg = transit_leg place asks over.link [] n.link further offered in
-        let m : Msg = Path l e n.link.id further (set_on place n.link offered) None (Work guard) in
-        down_taken t Carries s l p i route chain below message rest was own
-        (in_transit place asks over.link [] further offered (Some n.link)) (Some g) [] (m ∷ [])
-        (rw (same_lsp-refl l) refl)
-        (rw n.far (sends_on t l l.ingress p route (suc i) m small own))
-        (record {
-          own = refl;
-          egress = what.0;
-          role = refl;
-          tells = tt;
-          prev = refl;
-          in_fibre = ap Some enters;
-          next = rw more (ap Some n.far);
-          out_fibre = rw more (ap Some (fibre_out_is t p (suc i)
-              (distinct t l.ingress p route (suc i) (suc (suc i)) (omega arith) (omega arith) (omega arith)) n));
-          route = is;
-          phase = (small, refl, refl);
-        })
-        (path_passed Carries p i (leg_at s l u) l e k r set label (Work guard) (messages_of l rest) _ refl
-        hop_here g refl within)
-        (λ _. rw (
-          (beyond (suc i) (omega arith) (omega arith)).no_down small,
-          (beyond (suc i) (omega arith) (omega arith)).no_up small,
-          (beyond (suc (suc i)) (omega arith) (omega arith)).no_leg,
-        )
-        (hop_asks Carries p (suc i) g l e n.link.id further (set_on place n.link offered) None (Work guard)
-        refl refl refl refl (what.0, n.id, is, tt)))
-        (λ gone path. cc (last, path))
-        (λ _ gone path j after small'. beyond j (omega arith) small')
+      recorded_here : RisksFit t q (risks_here place state asks)
+      recorded_here =
+          recorded-fit t q (known_rows place state) purpose (λ searchable. known-are t d state searchable learnt) what.3
+          known
 
-    admits : (r' : List Step) → r ≡ r' → is_none (least offered) ≡ false →
-        Keeps (admitted place asks over.link [] offered r')
-    admits [] end some = ends end (least offered) refl some
-    admits (hop ∷ further) is some =
-        let st = drop-some (suc i) p.route hop further (sym what.2 ∙ is) in
-        let first : hop.link ≡ link_at p (suc i) = rw st.first refl in
-        let n = route.links (suc i) st.below in
-        rw (first, own_near t (link_at p (suc i)) (node_at p (suc i)) (node_at p (suc (suc i))) n)
-        (goes_on n further st.below st.further)
+      -- the leg has its label
+      kind : phase_kind (reserved (asked_role purpose)) ≡ reserved_leg (role_of q)
+      kind = ap (λ r. phase_kind (reserved r)) asked_for ∙ reserved_kind (role_of q)
+
+      -- at the egress
+      ends : r ≡ [] → (x : Option ℕ) → least offered ≡ x → is_none x ≡ false →
+          Keeps (at_egress place asks over.link risks offered x)
+      ends end None is some = absurd cc
+      ends end (Some y) is some =
+          let done : drop (suc i) p.route ≡ [] = sym what.2 ∙ end in
+          let long : length p.route ≤ suc i = drop-none (suc i) p.route done in
+          let stop : nat_lt (suc i) (hops p) ≡ false = lt_false long in
+          down_taken t q s l p i route chain below message rest was own
+          (at_egress place asks over.link risks offered (Some y))
+          (Some (egress_leg place asks over.link risks offered y)) (Resv l e over.link.id y ∷ []) []
+          (rw (same_lsp-refl l) refl) (sends_back t l l.ingress p route i (Resv l e over.link.id y) below own)
+          (record {
+            own = refl;
+            egress = what.0;
+            role = asked_for;
+            tells = what.3;
+            risks = recorded_here;
+            prev = refl;
+            in_fibre = ap Some enters;
+            next = rw stop refl;
+            out_fibre = rw stop refl;
+            route = drop-further (suc i) p.route done;
+            phase = rw asked_for (reserved_fits q (suc i) (hops p) (Some y) None (y, refl) (λ small. absurd (omega arith)));
+          })
+          (path_answered q p i (leg_at s l u) l e k r set label purpose (messages_of l rest) _ plain hop_here
+          (egress_leg place asks over.link risks offered y) e over.link.id y kind refl
+          (within y (has_least offered y is)) (over.id ∙ what.1))
+          (λ small. absurd (omega arith))
+          (λ gone path. cc (last, path))
+          (λ small. absurd (omega arith))
+
+      -- elsewhere
+      goes_on : (n : Leads t (link_at p (suc i)) (node_at p (suc i)) (node_at p (suc (suc i)))) (further : List Step) →
+          suc i < hops p →
+          further ≡ drop (suc (suc i)) p.route → Keeps (in_transit place asks over.link risks further offered (Some n.link))
+      goes_on n further small is =
+          let more : nat_lt (suc i) (hops p) ≡ true = lt_true small in
+          let g : Leg = transit_leg place asks over.link risks n.link further offered in
+          let m : Msg = Path l e n.link.id further (set_on place n.link offered) None purpose in
+          down_taken t q s l p i route chain below message rest was own
+          (in_transit place asks over.link risks further offered (Some n.link)) (Some g) [] (m ∷ [])
+          (rw (same_lsp-refl l) refl)
+          (rw n.far (sends_on t l l.ingress p route (suc i) m small own))
+          (record {
+            own = refl;
+            egress = what.0;
+            role = asked_for;
+            tells = what.3;
+            risks = recorded_here;
+            prev = refl;
+            in_fibre = ap Some enters;
+            next = rw more (ap Some n.far);
+            out_fibre = rw more (ap Some (fibre_out_is t p (suc i)
+                (distinct t l.ingress p route (suc i) (suc (suc i)) (omega arith) (omega arith) (omega arith)) n));
+            route = is;
+            phase = asked_fits q (suc i) (hops p) small;
+          })
+          (path_passed q p i (leg_at s l u) l e k r set label purpose (messages_of l rest) _ plain
+          hop_here g refl within)
+          (λ _. rw (
+            (beyond (suc i) (omega arith) (omega arith)).no_down small,
+            (beyond (suc i) (omega arith) (omega arith)).no_up small,
+            (beyond (suc (suc i)) (omega arith) (omega arith)).no_leg,
+          )
+          (hop_asks q p (suc i) g l e n.link.id further (set_on place n.link offered) None purpose
+          plain refl refl refl (what.0, n.id, is, what.3)))
+          (λ gone path. cc (last, path))
+          (λ _ gone path j after small'. beyond j (omega arith) small')
+
+      admits : (r' : List Step) → r ≡ r' → is_none (least offered) ≡ false →
+          Keeps (admitted place asks over.link risks offered r')
+      admits [] end some = ends end (least offered) refl some
+      admits (hop ∷ further) is some =
+          let st = drop-some (suc i) p.route hop further (sym what.2 ∙ is) in
+          let first : hop.link ≡ link_at p (suc i) = rw st.first refl in
+          let n = route.links (suc i) st.below in
+          rw (first, own_near t (link_at p (suc i)) (node_at p (suc i)) (node_at p (suc (suc i))) n)
+          (goes_on n further st.below st.further)
 
     judges : (o : Option ErrCode) → first_failure (checks place state asks over.link) ≡ o →
         Keeps (judged place state asks over.link o)
     judges (Some code) is = refused code
-    judges None is = admits r refl (some_label place state asks over.link is)
+    judges None is =
+        admits (primary_known place state asks over.link is) r refl (some_label place state asks over.link is)
 
   away : nat_eq l.ingress.0 (node_at p (suc i)).0 ≡ false
   away = rw (← route.first) (other (node_at p 0).0 (node_at p (suc i)).0
       (distinct t l.ingress p route 0 (suc i) (omega arith) (omega arith) (omega arith)))
 
   no_leg : leg_kind (leg_at s l (node_at p (suc i))) ≡ NoLeg
-  no_leg = elim (plain_taken role.Work _ _ _ _ hop.shape) [
+  no_leg = elim (plain_taken (role_of q) _ _ _ _ (rw plain at hop.shape)) [
     | inl gone ↦ gone
-    | inr back ↦ (let never : role.Work ≡ role.Back = back.backup in absurd cc)
+    | inr back ↦ absurd (never_live_backup t q l p (suc i) _ (chain.fits (suc i) below) back.backup back.live)
   ]
 
   pub path_keeps : Keeps (on_message place state u message)
   path_keeps =
       let none : leg_at s l d ≡ None = gone_none (leg_at s l d) no_leg in
-      rw (none, own_far t k u d far over, (joined t k u d far over).leads, away)
+      rw (none, own_far t k u d far over, tells_inactive q purpose what.3, (joined t k u d far over).leads, away)
       (judges none (first_failure (checks place state asks over.link)) refl)

@@ -12,7 +12,9 @@ use Rattle.ason_base.specs.declared.messages.Msg.{Msg}
 use Rattle.ason_base.specs.declared.messages.Msg.TheVariants.{Path, Resv, PathTear, PathErr, Notify}
 use Rattle.ason_base.specs.declared.steps.Step.{Step}
 use Rattle.ason_base.specs.declared.tables.Leg.{Leg}
-use Rattle.mesh_laws.specs.HopShapes.{LegKind, NoLeg, AskedLeg, HasLetGo, MsgKind, Tear, leg_kind, msg_kind, path_kind}
+use Rattle.mesh_rules.specs.Paths.{is_active}
+use Rattle.mesh_rules.specs.Paths.{role_of as asked_role}
+use Rattle.mesh_laws.specs.HopShapes.{LegKind, NoLeg, AskedLeg, HasLetGo, MsgKind, PlainPath, Tear, leg_kind, msg_kind, path_kind}
 use Rattle.mesh_laws.proofs.hops.Plans.{Plan, link_at}
 use Rattle.mesh_laws.proofs.hops.Rows.{is_reserved, let_go_free, let_go_not_asked}
 
@@ -25,12 +27,34 @@ abbrev pub role_of : Purpose → Role
 role_of Carries = role.Work
 role_of (Guards work route) = role.Back
 
--- the role that a Path or a leg tells is this purpose's
+-- the role that a Path or a leg tells is this purpose's; no Path activates a backup
 abbrev pub Tells : Purpose → PathRole → Type 0
 Tells Carries (Work guard) = Unit {0}
 Tells Carries (Back active work primary) = ⊥
 Tells (Guards w route) (Work guard) = ⊥
-Tells (Guards w route) (Back active work primary) = (work ≡ w) × (primary ≡ route)
+Tells (Guards w route) (Back true work primary) = ⊥
+Tells (Guards w route) (Back false work primary) = (work ≡ w) × (primary ≡ route)
+
+pub tells_plain : (q : Purpose) (r : PathRole) → Tells q r → path_kind r ≡ PlainPath
+tells_plain Carries (Work guard) tells = refl
+tells_plain Carries (Back active work primary) tells = absurd tells
+tells_plain (Guards w route) (Work guard) tells = absurd tells
+tells_plain (Guards w route) (Back true work primary) tells = absurd tells
+tells_plain (Guards w route) (Back false work primary) tells = refl
+
+pub tells_inactive : (q : Purpose) (r : PathRole) → Tells q r → is_active r ≡ false
+tells_inactive Carries (Work guard) tells = refl
+tells_inactive Carries (Back active work primary) tells = absurd tells
+tells_inactive (Guards w route) (Work guard) tells = absurd tells
+tells_inactive (Guards w route) (Back true work primary) tells = absurd tells
+tells_inactive (Guards w route) (Back false work primary) tells = refl
+
+pub tells_role : (q : Purpose) (r : PathRole) → Tells q r → asked_role r ≡ role_of q
+tells_role Carries (Work guard) tells = refl
+tells_role Carries (Back active work primary) tells = absurd tells
+tells_role (Guards w route) (Work guard) tells = absurd tells
+tells_role (Guards w route) (Back true work primary) tells = absurd tells
+tells_role (Guards w route) (Back false work primary) tells = refl
 
 -- Messages
 

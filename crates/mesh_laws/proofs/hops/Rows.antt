@@ -428,6 +428,14 @@ contention_taken r u _ _ _ (TornStandby torn may) = Ignored torn
 contention_taken r u d _ _ (LetGo torn gone AfterContention) = Ignored torn
 contention_taken r u _ down up (TornConnected was may) = elim may [ ]
 
+-- so to an Armed leg, or to a torn one
+pub contention_to : (r : Role) (u d : LegKind) (down up : List MsgKind) → Shape r u d down (Contention ∷ up) →
+    (u ≡ ArmedLeg) ⊎ IsTorn r u
+contention_to r _ _ _ _ Contended = inl refl
+contention_to r u _ _ _ (TornStandby torn may) = inr torn
+contention_to r u d _ _ (LetGo torn gone AfterContention) = inr torn
+contention_to r u _ down up (TornConnected was may) = elim may [ ]
+
 pub contention_armed : (d : LegKind) (down up : List MsgKind) → Shape Back ArmedLeg d down (Contention ∷ up) →
     Shape Back HeldLeg d down up
 contention_armed _ _ _ Contended = Standby

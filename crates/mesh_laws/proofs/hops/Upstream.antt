@@ -16,7 +16,7 @@ use Rattle.ason_base.specs.declared.tables.Leg.{Leg}
 use Rattle.mesh_laws.specs.HopShapes.{PlainPath, ClosingLeg, IsTorn, Idle, Asking, leg_kind, msg_kind, path_kind}
 use Rattle.mesh_laws.proofs.hops.Plans.{Plan, link_at}
 use Rattle.mesh_laws.proofs.hops.Rows.{is_reserved, reserved_leg, reserved_is, torn_leg, Stands, ResvTaken, resv_asked}
-use Rattle.mesh_laws.proofs.hops.Rows.{resv_torn, removal_taken, tears}
+use Rattle.mesh_laws.proofs.hops.Rows.{resv_torn, removal_taken, contention_torn, tears}
 use Rattle.mesh_laws.proofs.hops.Rest.{Purpose, role_of, DownFits}
 use Rattle.mesh_laws.proofs.hops.Rest.{up_taken, down_sent, upstream_keeps, upstream_connects, upstream_goes}
 use Rattle.mesh_laws.proofs.hops.Chain.{Hop}
@@ -98,6 +98,14 @@ module _ (q : Purpose) (p : Plan) (i : ℕ) where
     resv_kept l e k x torn h = rw append-nil (record {
       shape = resv_torn (role_of q) _ _ _ _ torn h.shape;
       rest = up_taken q p i (Some g) d (Resv l e k x) down up h.rest;
+    })
+
+    -- A PathErr that removes nothing is taken by a torn leg, which stays as it is
+    pub contention_kept : (l : Lsp) (e at : NodeId) (code : ErrCode) → IsTorn (role_of q) (leg_kind (Some g)) →
+        Hop q p i (Some g) d down (PathErr l e at false code ∷ up) → Hop q p i (Some g) d (down ++ []) up
+    contention_kept l e at code torn h = rw append-nil (record {
+      shape = contention_torn (role_of q) _ _ _ _ torn h.shape;
+      rest = up_taken q p i (Some g) d (PathErr l e at false code) down up h.rest;
     })
 
     -- A PathErr that removes is taken: the leg goes

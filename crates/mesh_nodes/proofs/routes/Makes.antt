@@ -1,5 +1,5 @@
 -- A route that is found over rows of a network makes a route of it.
-use Rattle.std.proofs.Common.{◌≡◌, ◌⊎◌, inl, inr, ℕ, Bool, true, false, cond, nat_eq, List, [], ◌∷◌, ◌++◌, refl, sym, ap, ◌∙◌}
+use Rattle.std.proofs.Common.{◌≡◌, ◌⊎◌, inl, inr, ℕ, Bool, true, false, cond, nat_eq, List, [], ◌∷◌, ◌++◌, filter, refl, sym, ap, ◌∙◌}
 use Rattle.std.specs.Prelude.{◌&&◌, ◌||◌, Some, None, fold}
 use Rattle.ason_base.specs.Network.{Network, find_link, is_distinct, other_end, touches}
 use Rattle.ason_base.specs.Routes.{across, is_end, makes_route, nodes_of, one_step, route_end}
@@ -10,10 +10,12 @@ use Rattle.ason_base.specs.declared.network.TeRow.{TeRow}
 use Rattle.ason_base.specs.declared.steps.Step.{Step}
 use Rattle.ason_base.proofs.Bridges.{same_node}
 use Rattle.mesh_rules.specs.declared.limits.TheConstants.{MOST_LINKS_OF_ROUTE}
-use Rattle.mesh_rules.specs.LeastRoutes.{Trip, least_trip, trips}
+use Rattle.mesh_rules.specs.LeastRoutes.{Trip, is_backup, least_backup, least_trip, trips}
 use Rattle.mesh_nodes.specs.Routes.{AreRowsOf, IsRowOf}
+use Rattle.mesh_nodes.proofs.routes.Backups.{least_backup-once}
 use Rattle.mesh_nodes.proofs.routes.Found.{least_trip-once}
 use Rattle.mesh_nodes.proofs.routes.Least.{chosen-is}
+use Rattle.mesh_nodes.proofs.routes.Lists.{contains-unkept}
 use Rattle.mesh_nodes.proofs.routes.Walked.{each-leads, node_test}
 
 -- the link joins the two nodes, whichever of them is the low end
@@ -69,11 +71,27 @@ leads-there t rows are b (s ∷ steps) a cost walk =
 both : (p q : Bool) → p ≡ true → q ≡ true → (p && q) ≡ true
 both p q h k = rw (h, k) refl
 
+-- a walk over the rows that visits no node twice
+walk-makes : (t : Network) (rows : List TeRow) (a b : NodeId) (r : Trip) → AreRowsOf t rows →
+    IsWalk rows NoLink NoNode a b r.steps r.cost → is_distinct (nodes_of r.steps ++ b.0 ∷ []) ≡ true →
+    makes_route t a b r.steps ≡ true
+walk-makes t rows a b r are walk once =
+    both (is_end (route_end t a r.steps) b) (is_distinct (nodes_of r.steps ++ b.0 ∷ []))
+    (ap (λ o. is_end o b) (leads-there t rows are b r.steps a r.cost walk) ∙ node_test b b refl) once
+
 pub found-over : (t : Network) (rows : List TeRow) (a b : NodeId) (r : Trip) → AreRowsOf t rows → HaveMetrics rows →
     least_trip rows a b ≡ Some r → makes_route t a b r.steps ≡ true
 found-over t rows a b r are metrics e =
     let is = chosen-is (trips rows MOST_LINKS_OF_ROUTE a b) r e in
-    let walk = (each-leads rows MOST_LINKS_OF_ROUTE a b r is.there).0 in
-    both (is_end (route_end t a r.steps) b) (is_distinct (nodes_of r.steps ++ b.0 ∷ []))
-    (ap (λ o. is_end o b) (leads-there t rows are b r.steps a r.cost walk) ∙ node_test b b refl)
+    walk-makes t rows a b r are (each-leads rows MOST_LINKS_OF_ROUTE a b r is.there).0
     (least_trip-once rows a b r metrics e)
+
+-- the least backup is one of the walks too
+pub backup-over : (t : Network) (rows : List TeRow) (primary : List Step) (a b : NodeId) (r : Trip) → AreRowsOf t rows →
+    HaveMetrics rows → least_backup rows primary a b ≡ Some r → makes_route t a b r.steps ≡ true
+backup-over t rows primary a b r are metrics e =
+    let test : Trip → Bool = λ x. is_backup rows primary a b x.steps in
+    let is = chosen-is (filter test (trips rows MOST_LINKS_OF_ROUTE a b)) r e in
+    let kept = contains-unkept test (trips rows MOST_LINKS_OF_ROUTE a b) r is.there in
+    walk-makes t rows a b r are (each-leads rows MOST_LINKS_OF_ROUTE a b r kept.0).0
+    (least_backup-once rows primary a b r metrics e)

@@ -18,11 +18,11 @@ use Rattle.mesh_rules.specs.LeastRoutes.{trips}
 use Rattle.mesh_rules.specs.LocalNodes.{LocalNode, is_link_there, local_node, own_link}
 use Rattle.mesh_rules.specs.Setups.{is_followable}
 use Rattle.mesh_rules.specs.State.{NodeState}
-use Rattle.mesh_nodes.specs.Routes.{AreRowsOf, FoundRoutesAreFollowed, FoundRoutesLead, IsElsewhere, IsRowOf, RowsFit}
+use Rattle.mesh_nodes.specs.Routes.{AreRowsOf, FoundBackupsLead, FoundRoutesAreFollowed, FoundRoutesLead, IsElsewhere, IsRowOf, RowsFit}
 use Rattle.mesh_nodes.proofs.Cases.{both_left, both_right, not-true}
 use Rattle.mesh_nodes.proofs.routes.Least.{chosen-is}
 use Rattle.mesh_nodes.proofs.routes.Lists.{contains-map, contains-unkept, contains-unmap}
-use Rattle.mesh_nodes.proofs.routes.Makes.{found-over}
+use Rattle.mesh_nodes.proofs.routes.Makes.{backup-over, found-over}
 use Rattle.mesh_nodes.proofs.routes.Walked.{each-leads, node_test}
 
 -- Links that are found by their numbers
@@ -122,6 +122,12 @@ found-leads t n b s r searchable are e =
     let rows = known_rows (local_node t n) s in
     let known : AreRowsOf t rows = known-are t n s searchable are in
     found-over t rows n b r known (metrics-are t rows searchable known) e
+
+pub found-backups-lead : FoundBackupsLead
+found-backups-lead t n b s primary r searchable are e =
+    let rows = known_rows (local_node t n) s in
+    let known : AreRowsOf t rows = known-are t n s searchable are in
+    backup-over t rows primary n b r known (metrics-are t rows searchable known) e
 
 -- The first step of a route that is found is over a link of the node
 

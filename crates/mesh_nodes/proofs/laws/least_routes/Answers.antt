@@ -1,6 +1,6 @@
 use Rattle.mesh_nodes.proofs.routes.Backups.{least_backup-least, least_backup-once, no_backup-none}
 use Rattle.mesh_nodes.proofs.routes.Found.{least_trip-least, least_trip-once, no_trip-none}
-use Rattle.mesh_nodes.proofs.routes.Nodes.{found-followed, found-leads}
+use Rattle.mesh_nodes.proofs.routes.Nodes.{found-backups-lead, found-followed, found-leads}
 use Rattle.mesh_nodes.proofs.routes.Topologies.{new-rows}
 use Rattle.mesh_nodes.proofs.laws.least_routes.Goals as goal
 
@@ -15,6 +15,9 @@ returns-clause-once c = least_trip-once
 
 pub returns-clause-leads : goal.returns-clause-leads
 returns-clause-leads c = found-leads
+
+pub returns-clause-backup_leads : goal.returns-clause-backup_leads
+returns-clause-backup_leads c = found-backups-lead
 
 pub returns-clause-backup : goal.returns-clause-backup
 returns-clause-backup c = least_backup-least
