@@ -19,6 +19,7 @@ pub mod Tables
 pub mod Taken
 pub mod TearRule
 pub mod Views
+pub mod Paired
 pub mod Planned
 pub mod Traced
 pub mod Quiet

@@ -18,7 +18,7 @@ use Rattle.mesh_laws.specs.HopShapes.{AskedLeg, IsTorn, NothingLeft, leg_kind}
 use Rattle.mesh_laws.specs.HopLaw.{is_message_of, messages_of, leg_at, mail_between}
 use Rattle.mesh_laws.proofs.hops.Plans.{Plan, hops, node_at, IsRoute, same}
 use Rattle.mesh_nodes.proofs.LegList.{same_lsp-refl}
-use Rattle.mesh_laws.proofs.hops.Rows.{contention_to, removal_taken, asked_answers, torn_leaves}
+use Rattle.mesh_laws.proofs.hops.Rows.{contention_to, nothing_torn, removal_taken, asked_answers, torn_leaves}
 use Rattle.mesh_laws.proofs.hops.Rest.{Purpose, role_of, no_path_down}
 use Rattle.mesh_laws.proofs.hops.Chain.{LegFits, Hop, Chain}
 use Rattle.mesh_laws.proofs.hops.Changed.{Sends}
@@ -120,11 +120,11 @@ module _ (t : Network) (q : Purpose) (s : Mesh) (l : Lsp) (p : Plan) (i : ℕ) (
   -- one that removes nothing comes to a torn leg, which stays
   stays : gone ≡ false → (g : Leg) → leg_at s l (node_at p i) ≡ Some g → LegFits t q l p i g →
       IsTorn (role_of q) (leg_kind (Some g)) → Keeps nothing
-  stays keeps g here fits torn =
+  stays keeps g here fits is_torn =
       up_taken t q s l p i route chain below message rest was own nothing (Some g) [] [] here
       (sends_none l p i) fits
       (λ j eq. rw append-nil (rw here at (hop_to j eq)))
-      (contention_kept q p i _ _ _ g l e at code torn (rw (here, keeps) at hop)) (λ j eq none. absurd cc) refl
+      (contention_kept q p i _ _ _ g l e at code is_torn (rw (here, keeps) at hop)) (λ j eq none. absurd cc) refl
     where
       hop_to : (j : ℕ) → suc j ≡ i →
           Hop q p j (leg_at s l (node_at p j)) (leg_at s l n) (mail_between s l (node_at p j) n)
@@ -136,16 +136,16 @@ module _ (t : Network) (q : Purpose) (s : Mesh) (l : Lsp) (p : Plan) (i : ℕ) (
       (record { lsp = l; msg = message; removed = b; code = code }) o)
   err_keeps false eq None here =
       absurd (elim (contention_to (role_of q) _ _ _ _ (rw (here, eq) at hop.shape))
-      [ inl none ↦ cc | inr torn ↦ elim torn [ ] ])
+      [ inl none ↦ cc | inr is_torn ↦ nothing_torn (role_of q) is_torn ])
   err_keeps false eq (Some g) here =
       let fits : LegFits t q l p i g = rw here at (chain.fits i (omega arith)) in
       elim (contention_to (role_of q) _ _ _ _ (rw (here, eq) at hop.shape)) [
         | inl armed ↦ absurd (never_armed t q l p i g fits armed)
-        | inr torn ↦ stays eq g here fits torn
+        | inr is_torn ↦ stays eq g here fits is_torn
       ]
   err_keeps true eq None here =
       absurd (elim (removal_taken (role_of q) _ _ _ _ (rw (here, eq) at hop.shape)).which
-      [ inl none ↦ cc | inr torn ↦ elim torn [ ] ])
+      [ inl none ↦ cc | inr is_torn ↦ nothing_torn (role_of q) is_torn ])
   err_keeps true eq (Some g) here =
       let fits : LegFits t q l p i g = rw here at (chain.fits i (omega arith)) in
       let which = (removal_taken (role_of q) _ _ _ _ (rw (here, eq) at hop.shape)).which in

@@ -1,6 +1,6 @@
 -- What a message does at its node in two parts, one after the other: the leg of its LSP follows, and then the call at
 -- the ingress. p is the node; s is what it keeps.
-use Rattle.std.proofs.Common.{◌≡◌, Bool, true, false, cond, ℕ, [], ◌∷◌, refl, sym, append-nil}
+use Rattle.std.proofs.Common.{◌≡◌, Bool, true, false, cond, ℕ, [], ◌∷◌, ◌++◌, refl, sym, append-nil}
 use Rattle.std.specs.Prelude.{◌&&◌, Option, Some, None, if◌then◌else◌}
 use Rattle.ason_base.specs.declared.ids.NodeId.{NodeId}
 use Rattle.ason_base.specs.declared.messages.Msg.{Msg}
@@ -81,8 +81,12 @@ call_part p s u (Notify l e at k code) = nothing
 -- Both
 
 then-nothing : (a : Answer) → followed_by a nothing ≡ a
-then-nothing a = λ i. record a { legs = append-nil {xs = a.legs} i; calls = append-nil {xs = a.calls} i;
-    rows = append-nil {xs = a.rows} i; sent = append-nil {xs = a.sent} i }
+then-nothing a =
+    let legs : a.legs ++ [] ≡ a.legs = append-nil a.legs in
+    let calls : a.calls ++ [] ≡ a.calls = append-nil a.calls in
+    let rows : a.rows ++ [] ≡ a.rows = append-nil a.rows in
+    let sent : a.sent ++ [] ≡ a.sent = append-nil a.sent in
+    λ i. record a { legs = legs i; calls = calls i; rows = rows i; sent = sent i }
 
 answered-parts : (p : LocalNode) (s : NodeState) (a : Arrival) (x : ℕ) (g : Leg) (o : Option Neighbour) →
     answered p s a x g o ≡

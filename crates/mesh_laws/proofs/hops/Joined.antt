@@ -28,8 +28,8 @@ use Rattle.mesh_laws.proofs.hops.Plans.{Plan, hops, plan, node_at}
 use Rattle.mesh_laws.proofs.hops.Rows.{live_upstream}
 use Rattle.mesh_laws.proofs.hops.Rest.{Carries, LabelsMeet}
 use Rattle.mesh_laws.proofs.hops.Chain.{LegFits, HasIn, HasOut, Hop, Chain}
-use Rattle.mesh_laws.proofs.hops.LegChanges.{live_leg}
-use Rattle.mesh_laws.proofs.hops.Planned.{Follows}
+use Rattle.mesh_laws.proofs.hops.LegChanges.{live_carries, live_leg}
+use Rattle.mesh_laws.proofs.hops.Planned.{Planned, Follows}
 use Rattle.mesh_laws.proofs.hops.Notices.{no_notices}
 use Rattle.mesh_laws.proofs.hops.Law.{link_there, node_is, far_is, route_fits}
 use Rattle.mesh_laws.proofs.hops.Laws.{follows}
@@ -91,18 +91,35 @@ module _ (t : Network) (s : Mesh) (l : Lsp) (p : Plan) (chain : Chain t Carries 
               enters = into.1 ∙ ap Some (sym one);
             }
 
--- the working leg of a bare call is Live
-bare_live : (f : Phase) (back : Option Phase) → fits Bare (Some f) back ≡ true → f ≡ Live
-bare_live Asked back e = absurd cc
-bare_live Held back e = absurd cc
-bare_live Armed back e = absurd cc
-bare_live Live back e = refl
-bare_live Closing back e = absurd cc
-bare_live Falling back e = absurd cc
+-- In these states the working LSP stands, and its leg is Live.
+data Stands : CallState → Type 0 where
+  BareStands : Stands Bare
+  PairingStands : Stands Pairing
+  GuardedStands : Stands Guarded
 
-none_bare : (back : Option Phase) → fits Bare None back ≡ true → ⊥
-none_bare None e = cc
-none_bare (Some f) e = cc
+working_live : (state : CallState) (f : Phase) (back : Option Phase) → Stands state →
+    fits state (Some f) back ≡ true → f ≡ Live
+working_live state Live back stands e = refl
+working_live _ Asked back BareStands e = absurd cc
+working_live _ Held back BareStands e = absurd cc
+working_live _ Armed back BareStands e = absurd cc
+working_live _ Closing back BareStands e = absurd cc
+working_live _ Falling back BareStands e = absurd cc
+working_live _ Asked back PairingStands e = absurd cc
+working_live _ Held back PairingStands e = absurd cc
+working_live _ Armed back PairingStands e = absurd cc
+working_live _ Closing back PairingStands e = absurd cc
+working_live _ Falling back PairingStands e = absurd cc
+working_live _ Asked back GuardedStands e = absurd cc
+working_live _ Held back GuardedStands e = absurd cc
+working_live _ Armed back GuardedStands e = absurd cc
+working_live _ Closing back GuardedStands e = absurd cc
+working_live _ Falling back GuardedStands e = absurd cc
+
+none_working : (state : CallState) (back : Option Phase) → Stands state → fits state None back ≡ true → ⊥
+none_working _ back BareStands e = cc
+none_working _ back PairingStands e = cc
+none_working _ back GuardedStands e = cc
 
 module _ (t : Network) (events : List MeshEvent) (run : IsRun t start events) where
   abbrev s : Mesh
@@ -129,11 +146,11 @@ module _ (t : Network) (events : List MeshEvent) (run : IsRun t start events) wh
 
   -- an LSP whose leg at the ingress is Live
   module _ (l : Lsp) (g : Leg) (here : leg_at s l l.ingress ≡ Some g) (live : g.phase ≡ Live) where
-    lsp_joined : (o : Option (List Step)) → route_of t start events l ≡ o → Follows t s l o →
-        LspIsJoined t events g.egress l
-    lsp_joined None is f = absurd (let none = f.legs l.ingress in cc (none, here))
-    lsp_joined (Some steps) is (e, pl) =
-        let fits : RouteFits t s Work l steps e = route_fits t s l steps e pl (no_notices t events l) in
+    along : (steps : List Step) (e : NodeId) → route_of t start events l ≡ Some steps →
+        Planned t s (route_of t start events) l Carries (plan steps e) → LspIsJoined t events g.egress l
+    along steps e is pl =
+        let fits : RouteFits t s Work l steps e =
+        route_fits t s (route_of t start events) l Carries steps e pl (no_notices t events l) in
         let first : LiveAt s l (node_at (plan steps e) 0) = rw pl.route.first (g, here, live) in
         record {
           route = steps;
@@ -146,26 +163,36 @@ module _ (t : Network) (events : List MeshEvent) (run : IsRun t start events) wh
             LiveAt s l (node_at (plan steps e) 0) → HopIsJoined t s l hop
         at_step i hop there st below first =
             let p : Plan = plan steps e in
-            let over = link_there t s l steps e pl i hop there below in
+            let over = link_there t s (route_of t start events) l Carries steps e pl i hop there below in
             let same_link : (pl.route.links i below).link ≡ st.link = (let found = st.found in cc (over, found)) in
-            let far = far_is t s l steps e pl i hop there below ∙ ap (λ k. other_end k hop.node) same_link in
+            let far = far_is t s (route_of t start events) l Carries steps e pl i hop there below ∙ ap (λ k. other_end k hop.node) same_link in
             let at_places : LiveHop s l (node_at p i) (node_at p (suc i)) =
             live_hop t s l p pl.chain i below (all_live t s l p pl.chain first i (omega arith)) in
             hop_joined l hop st (subst (λ n. LiveHop s l n (other_end st.link hop.node))
-            (node_is t s l steps e pl i hop there)
+            (node_is t s (route_of t start events) l Carries steps e pl i hop there)
             (subst (λ n. LiveHop s l (node_at p i) n) far at_places))
 
-  -- the working LSP of a bare call
-  work_joined : (c : CallRec) (n : ℕ) (w : Option Lsp) →
+    lsp_joined : (o : Option (List Step)) → route_of t start events l ≡ o → Follows t s (route_of t start events) l o →
+        LspIsJoined t events g.egress l
+    lsp_joined None is f = absurd (let none = f.legs l.ingress in cc (none, here))
+    lsp_joined (Some steps) is (e, q, pl) =
+        let first : leg_at s l (node_at (plan steps e) 0) ≡ Some g = rw pl.route.first here in
+        let fits : LegFits t q l (plan steps e) 0 g = rw first at (pl.chain.fits 0 (omega arith)) in
+        along steps e is (subst (λ q. Planned t s (route_of t start events) l q (plan steps e))
+        (live_carries t q l (plan steps e) 0 g fits live) pl)
+
+  -- the working LSP of a call that stands
+  work_joined : (c : CallRec) (n : ℕ) (state : CallState) (w : Option Lsp) → Stands state →
       IfSome w (IsNamed n (s.nodes n).lsp (s.nodes n).legs Work c.egress) →
-      fits Bare (phase_of (leg_of w (s.nodes n).legs)) (phase_of (leg_of c.back (s.nodes n).legs)) ≡ true →
+      fits state (phase_of (leg_of w (s.nodes n).legs)) (phase_of (leg_of c.back (s.nodes n).legs)) ≡ true →
       IsJoined t events c.egress w
-  work_joined c n None named state = absurd (none_bare (phase_of (leg_of c.back (s.nodes n).legs)) state)
-  work_joined c n (Some l) named state =
+  work_joined c n state None stands named is =
+      absurd (none_working state (phase_of (leg_of c.back (s.nodes n).legs)) stands is)
+  work_joined c n state (Some l) stands named is =
       let g : Leg = named.leg.0 in
       let here : leg_at s l l.ingress ≡ Some g =
       subst (λ m. find_leg l (s.nodes m).legs ≡ Some named.leg.0) (sym named.ingress) named.leg.1 in
-      let live : g.phase ≡ Live = bare_live g.phase _ (rw named.leg.1 at state) in
+      let live : g.phase ≡ Live = working_live state g.phase _ stands (rw named.leg.1 at is) in
       subst (λ e. LspIsJoined t events e l) named.leg.3
       (lsp_joined l g here live (route_of t start events l) refl (follows t events run l))
 
@@ -174,9 +201,9 @@ module _ (t : Network) (events : List MeshEvent) (run : IsRun t start events) wh
       fits state (phase_of (leg_of c.work (s.nodes n).legs)) (phase_of (leg_of c.back (s.nodes n).legs)) ≡ true →
       CallIsJoined t events c state
   call_joined c n Asking named state = tt
-  call_joined c n Bare named state = work_joined c n c.work named state
-  call_joined c n Pairing named state = absurd cc
-  call_joined c n Guarded named state = absurd cc
+  call_joined c n Bare named state = work_joined c n Bare c.work BareStands named state
+  call_joined c n Pairing named state = work_joined c n Pairing c.work PairingStands named state
+  call_joined c n Guarded named state = work_joined c n Guarded c.work GuardedStands named state
   call_joined c n Turning named state = absurd cc
   call_joined c n Turned named state = absurd cc
   call_joined c n Stuck named state = absurd cc
@@ -188,5 +215,5 @@ every_call_joined t events run n =
     let facts : MeshFacts t s = facts-hold t events run in
     All-from_recursion (λ c. CallIsJoined t events c c.state) (s.nodes n).calls
     (all-calls_found (λ c. CallIsJoined t events c c.state) (s.nodes n).calls (facts.node n).calls_rise (λ k c found.
-    let f = ((facts.node n).call k c found).fits in
+    let f = (facts.node n).call k c found in
     call_joined t events run c n c.state f.work f.state))

@@ -7,21 +7,20 @@ use Rattle.ason_base.specs.Network.{Network, find_link, other_end}
 use Rattle.ason_base.specs.declared.ids.Lsp.{Lsp}
 use Rattle.ason_base.specs.declared.ids.NodeId.{NodeId}
 use Rattle.ason_base.specs.declared.steps.Step.{Step}
-use Rattle.ason_base.specs.declared.calls.Role.TheVariants.{Work}
 use Rattle.ason_base.specs.declared.calls.Phase.{Phase}
 use Rattle.ason_base.specs.declared.calls.Phase.TheVariants.{Asked, Held, Armed, Live, Closing, Falling}
 use Rattle.ason_base.specs.declared.messages.Msg.{Msg}
 use Rattle.ason_base.specs.declared.messages.Msg.TheVariants.{Path, Resv, PathTear, PathErr, Notify}
 use Rattle.ason_base.specs.declared.tables.Leg.{Leg}
-use Rattle.mesh_rules.specs.Legs.{is_beyond_asked}
+use Rattle.mesh_rules.specs.Legs.{is_beyond_asked, reserved}
 use Rattle.mesh_rules.specs.Machine.{Mesh}
 use Rattle.mesh_laws.specs.HopShapes.{leg_kind, phase_kind}
 use Rattle.mesh_laws.specs.HopLaw.{leg_at, mail_between, notices_between, EachLabel, HopFits, StepFits, IsHop, RouteFits, LspFits}
 use Rattle.mesh_laws.proofs.hops.Plans.{Plan, hops, plan, node_at, link_at, IsRoute, distinct, same_node, lt_true, joined, fibre_in_is, fibre_out_is}
 use Rattle.mesh_laws.proofs.hops.Rows.{is_reserved}
-use Rattle.mesh_laws.proofs.hops.Rest.{Carries, Each, AnswerFits, LabelsMeet}
+use Rattle.mesh_laws.proofs.hops.Rest.{Purpose, Carries, Guards, role_of, Each, AnswerFits, LabelsMeet}
 use Rattle.mesh_laws.proofs.hops.Chain.{LegFits, PhaseFits, IsPlace, OnRoute, Chain, below_or_not}
-use Rattle.mesh_laws.proofs.hops.Planned.{Planned, Follows}
+use Rattle.mesh_laws.proofs.hops.Planned.{Planned, Routes, Follows}
 
 meets : (a b : Option ℕ) (x y : ℕ) → LabelsMeet a b → a ≡ Some x → b ≡ Some y → x ≡ y
 meets None b x y h e f = cc
@@ -46,13 +45,13 @@ each_label g h (PathTear l e k ∷ ms) reserved all = each_label g h ms reserved
 each_label g h (PathErr l e at gone code ∷ ms) reserved all = each_label g h ms reserved all.1
 each_label g h (Notify l e at k code ∷ ms) reserved all = each_label g h ms reserved all.1
 
-module _ (t : Network) (s : Mesh) (l : Lsp) (p : Plan) (route : IsRoute t l.ingress p)
-    (chain : Chain t Carries l p (leg_at s l) (mail_between s l)) where
-  fits_at : (i : ℕ) (g : Leg) → i ≤ hops p → leg_at s l (node_at p i) ≡ Some g → LegFits t Carries l p i g
+module _ (t : Network) (q : Purpose) (s : Mesh) (l : Lsp) (p : Plan) (route : IsRoute t l.ingress p)
+    (chain : Chain t q l p (leg_at s l) (mail_between s l)) where
+  fits_at : (i : ℕ) (g : Leg) → i ≤ hops p → leg_at s l (node_at p i) ≡ Some g → LegFits t q l p i g
   fits_at i g small here = rw here at (chain.fits i small)
 
   hop_fits : (i : ℕ) (below : i < hops p) →
-      HopFits s Work l (route.links i below).link (node_at p i) (node_at p (suc i))
+      HopFits s (role_of q) l (route.links i below).link (node_at p i) (node_at p (suc i))
   hop_fits i below =
       let far = distinct t l.ingress p route i (suc i) (omega arith) (omega arith) (omega arith) in
       let over = route.links i below in
@@ -77,7 +76,8 @@ step_at [] i small = absurd (omega arith)
 step_at (h ∷ route) zero small = (h, refl)
 step_at (h ∷ route) (suc i) small = step_at route i (omega arith)
 
-module _ (t : Network) (s : Mesh) (l : Lsp) (steps : List Step) (e : NodeId) (pl : Planned t s l (plan steps e)) where
+module _ (t : Network) (s : Mesh) (o : Routes) (l : Lsp) (q : Purpose) (steps : List Step) (e : NodeId)
+    (pl : Planned t s o l q (plan steps e)) where
   last_is : node_at (plan steps e) (length steps) ≡ e
   last_is = rw (slice_get_past steps (length steps) (omega arith)) refl
 
@@ -95,35 +95,38 @@ module _ (t : Network) (s : Mesh) (l : Lsp) (steps : List Step) (e : NodeId) (pl
   far_is i hop there below =
       sym (pl.route.links i below).far ∙ ap (other_end (pl.route.links i below).link) (node_is i hop there)
 
-  step_fits : (i : ℕ) (hop : Step) → slice_get steps i ≡ Some hop → StepFits t s Work l hop
+  step_fits : (i : ℕ) (hop : Step) → slice_get steps i ≡ Some hop → StepFits t s (role_of q) l hop
   step_fits i hop there =
       let below : i < length steps = slice_get_within steps i hop there in
       record {
         link = (pl.route.links i below).link;
         found = link_there i hop there below;
-        fits = subst (λ n. HopFits s Work l (pl.route.links i below).link hop.node n) (far_is i hop there below)
-            (subst (λ n. HopFits s Work l (pl.route.links i below).link n (node_at (plan steps e) (suc i)))
+        fits = subst (λ n. HopFits s (role_of q) l (pl.route.links i below).link hop.node n) (far_is i hop there below)
+            (subst (λ n. HopFits s (role_of q) l (pl.route.links i below).link n (node_at (plan steps e) (suc i)))
             (node_is i hop there)
-            (hop_fits t s l (plan steps e) pl.route pl.chain i below));
+            (hop_fits t q s l (plan steps e) pl.route pl.chain i below));
       }
 
   place_of : (n : NodeId) (g : Leg) → leg_at s l n ≡ Some g → IsPlace (plan steps e) n
   place_of n g here = elim (pl.chain.legs n) [ inl none ↦ absurd (cc (none, here)) | inr place ↦ place ]
 
   fits_place : (n : NodeId) (g : Leg) → leg_at s l n ≡ Some g → (i : ℕ) → i ≤ length steps →
-      n ≡ node_at (plan steps e) i → LegFits t Carries l (plan steps e) i g
-  fits_place n g here i small is = fits_at t s l (plan steps e) pl.route pl.chain i g small (rw (← is) here)
+      n ≡ node_at (plan steps e) i → LegFits t q l (plan steps e) i g
+  fits_place n g here i small is = fits_at t q s l (plan steps e) pl.route pl.chain i g small (rw (← is) here)
 
-  end_live : (g : Leg) → LegFits t Carries l (plan steps e) (length steps) g → g.phase ≡ Live
-  end_live g fits = go g.phase fits.phase
+  end_reserved : (g : Leg) → LegFits t q l (plan steps e) (length steps) g → g.phase ≡ reserved (role_of q)
+  end_reserved g fits = go q g.phase fits.phase
     where
-      go : (f : Phase) → PhaseFits Carries f (length steps) (length steps) g.in_label g.out_label → f ≡ Live
-      go Asked fits = (let less : length steps < length steps = fits.0 in absurd (omega arith))
-      go Held fits = absurd fits
-      go Armed fits = absurd fits
-      go Live fits = refl
-      go Closing fits = (let less : length steps < length steps = fits.0 in absurd (omega arith))
-      go Falling fits = absurd fits
+      go : (q : Purpose) (f : Phase) → PhaseFits q f (length steps) (length steps) g.in_label g.out_label →
+          f ≡ reserved (role_of q)
+      go q Asked fits = (let less : length steps < length steps = fits.0 in absurd (omega arith))
+      go q Closing fits = (let less : length steps < length steps = fits.0 in absurd (omega arith))
+      go q Armed fits = absurd fits
+      go q Falling fits = absurd fits
+      go Carries Held fits = absurd fits
+      go Carries Live fits = refl
+      go (Guards w r) Held fits = refl
+      go (Guards w r) Live fits = absurd fits
 
   on_step : (n : NodeId) → (i : ℕ) → i ≤ length steps → n ≡ node_at (plan steps e) i →
       (i < length steps) ⊎ (length steps ≤ i) →
@@ -147,17 +150,17 @@ module _ (t : Network) (s : Mesh) (l : Lsp) (steps : List Step) (e : NodeId) (pl
         ];
       }
 
-  place_fits : (n : NodeId) (g : Leg) → leg_at s l n ≡ Some g → (i : ℕ) × LegFits t Carries l (plan steps e) i g
+  place_fits : (n : NodeId) (g : Leg) → leg_at s l n ≡ Some g → (i : ℕ) × LegFits t q l (plan steps e) i g
   place_fits n g here =
       let at_place = place_of n g here in
       (at_place.0, fits_place n g here at_place.0 at_place.1 (same_node n _ at_place.2))
 
-  pub route_fits : ((a b : NodeId) → notices_between s l a b ≡ []) → RouteFits t s Work l steps e
+  pub route_fits : ((a b : NodeId) → notices_between s l a b ≡ []) → RouteFits t s (role_of q) l steps e
   route_fits notices = record {
     long = pl.route.long;
     leads = pl.made;
     hops = step_fits;
-    egress = λ g here. end_live g (fits_place e g here (length steps) (omega arith) (sym last_is));
+    egress = λ g here. end_reserved g (fits_place e g here (length steps) (omega arith) (sym last_is));
     legs = λ n g here.
         (let at_place = place_of n g here in
         on_step n at_place.0 at_place.1 (same_node n _ at_place.2) (below_or_not at_place.0 (length steps)));
@@ -167,8 +170,7 @@ module _ (t : Network) (s : Mesh) (l : Lsp) (steps : List Step) (e : NodeId) (pl
     notices = notices;
   }
 
-pub lsp_fits : (t : Network) (s : Mesh) (l : Lsp) (o : Option (List Step)) →
-    ((a b : NodeId) → notices_between s l a b ≡ []) →
-    Follows t s l o → LspFits t s l o
-lsp_fits t s l None notices f = record { legs = f.legs; mail = f.mail; notices = notices }
-lsp_fits t s l (Some steps) notices f = (f.0, route_fits t s l steps f.0 f.1 notices)
+pub lsp_fits : (t : Network) (s : Mesh) (o : Routes) (l : Lsp) (c : Option (List Step)) →
+    ((a b : NodeId) → notices_between s l a b ≡ []) → Follows t s o l c → LspFits t s l c
+lsp_fits t s o l None notices f = record { legs = f.legs; mail = f.mail; notices = notices }
+lsp_fits t s o l (Some steps) notices (e, q, pl) = (role_of q, e, route_fits t s o l q steps e pl notices)

@@ -1,7 +1,9 @@
 -- No Notify is under way: no rule sends one.
-use Rattle.std.proofs.Common.{◌≡◌, ℕ, Bool, true, false, cond, nat_eq, List, [], ◌∷◌, ◌++◌, drop, refl}
-use Rattle.std.specs.Prelude.{◌&&◌, filter, map, Option, Some, None}
+use Rattle.std.proofs.Common.{◌≡◌, ℕ, Bool, true, false, cond, nat_eq, nat_lt, List, [], ◌∷◌, ◌++◌, drop, refl, sym, subst}
+use Rattle.std.specs.Prelude.{◌&&◌, filter, map, Option, Some, None, is_some}
 use Rattle.ason_base.specs.Network.{Network, find_link, row_of}
+use Rattle.ason_base.specs.Risks.{unknown_link}
+use Rattle.ason_base.specs.declared.codes.ErrCode.{ErrCode}
 use Rattle.ason_base.specs.declared.ids.Lsp.{Lsp}
 use Rattle.ason_base.specs.declared.ids.NodeId.{NodeId}
 use Rattle.ason_base.specs.declared.steps.Step.{Step}
@@ -11,28 +13,39 @@ use Rattle.ason_base.specs.declared.commands.Command.TheVariants.{Setup, Release
 use Rattle.ason_base.specs.declared.commands.DeskItem.{DeskItem}
 use Rattle.ason_base.specs.declared.commands.DeskItem.TheVariants.{Order, Alarm, Clear}
 use Rattle.ason_base.specs.declared.messages.Msg.{Msg}
+use Rattle.ason_base.specs.declared.messages.Msg.TheVariants.{Path, Resv, PathTear, PathErr, Notify}
 use Rattle.ason_base.specs.declared.tables.CallRec.{CallRec}
 use Rattle.ason_base.specs.declared.tables.Leg.{Leg}
 use Rattle.ason_base.specs.declared.tables.Out.{Out}
+use Rattle.mesh_rules.specs.declared.arrivals.Arrival.{Arrival}
+use Rattle.mesh_rules.specs.declared.limits.TheConstants.{LAST_NUMBER}
 use Rattle.mesh_rules.specs.declared.neighbours.Neighbour.{Neighbour}
 use Rattle.mesh_rules.specs.declared.events.MeshEvent.{MeshEvent}
 use Rattle.mesh_rules.specs.declared.events.MeshEvent.TheVariants.{Take, Desk, Tick, Learn, Post}
 use Rattle.mesh_rules.specs.State.{NodeState}
-use Rattle.mesh_rules.specs.Changes.{Answer, learns, nothing}
+use Rattle.mesh_rules.specs.Changes.{Answer, followed_by, learns, nothing}
 use Rattle.mesh_rules.specs.LocalNodes.{LocalNode, local_node}
-use Rattle.mesh_rules.specs.Legs.{following, leg_of}
-use Rattle.mesh_rules.specs.Calls.{find_call}
+use Rattle.mesh_rules.specs.Legs.{find_leg, following, is_asked, is_node, is_work, leg_of, previous}
+use Rattle.mesh_rules.specs.Calls.{call_with, find_call, is_asking, is_bare, is_pairing}
 use Rattle.mesh_rules.specs.KnownRows.{has_row, known_rows}
 use Rattle.mesh_rules.specs.Learnt.{on_link}
 use Rattle.mesh_rules.specs.LeastRoutes.{Trip, least_trip}
-use Rattle.mesh_rules.specs.Setups.{SetupRequest, is_spent, is_full, first_link, is_order_here, over_first, over_found, new_call, setup_with}
+use Rattle.mesh_rules.specs.FirstLegs.{first_link, is_full}
+use Rattle.mesh_rules.specs.Pairs.{backup_route, over_backup, pair, pair_over, route_from}
+use Rattle.mesh_rules.specs.Protects.{protect_with, protects}
+use Rattle.mesh_rules.specs.PathErrs.{PathFailure}
+use Rattle.mesh_rules.specs.Resvs.{is_expected}
+use Rattle.mesh_rules.specs.Messages.{arrival}
+use Rattle.mesh_rules.specs.CallSteps.{call_answered, call_refused}
+use Rattle.mesh_rules.specs.Setups.{SetupRequest, is_spent, is_order_here, over_first, over_found, new_call, setup_with}
 use Rattle.mesh_rules.specs.Releases.{tear_to, tears, release_with}
 use Rattle.mesh_rules.specs.Orders.{on_order}
 use Rattle.mesh_rules.specs.Machine.{Mesh, start, sent_to}
 use Rattle.mesh_rules.specs.Events.{on_first, on_first_item, posted, step, after}
 use Rattle.mesh_laws.specs.HopLaw.{lsp_of, is_notice, notices_of, notices_between}
 use Rattle.mesh_nodes.proofs.Cases.{if_cases}
-use Rattle.mesh_laws.proofs.hops.Own.{AllSent, own-on_message}
+use Rattle.mesh_laws.proofs.hops.InParts.{at_ingress, call_of_err, call_of_resv, call_part, in-parts, leg_part}
+use Rattle.mesh_laws.proofs.hops.Own.{AllSent, own-leg_part}
 
 -- none of these messages is a Notify
 abbrev NoNotice : List Msg → Type 0
@@ -56,9 +69,76 @@ sent-plain : (l : Lsp) (outs : List Out) → AllSent l outs → SendsNoNotice ou
 sent-plain l [] own = tt
 sent-plain l (o ∷ outs) own = (own.1, sent-plain l outs own.2)
 
+plain-then : (a b : Answer) → IsPlain a → IsPlain b → IsPlain (followed_by a b)
+plain-then a b h k = record { sent = sends-append a.sent b.sent h.sent k.sent }
+
+over_backup-plain : (p : LocalNode) (s : NodeState) (c : CallRec) (w : Leg) (route : List Step) (o : Option LinkSpec) →
+    IsPlain (over_backup p s c w route o)
+over_backup-plain p s c w route None = record { sent = tt }
+over_backup-plain p s c w route (Some out) =
+    if_cases IsPlain (nat_lt LAST_NUMBER s.lsp) _ _ (λ h. record { sent = tt }) (λ h.
+    if_cases IsPlain (is_full s) _ _ (λ f. record { sent = tt }) (λ f. record { sent = (refl, tt) }))
+
+along-plain : (p : LocalNode) (s : NodeState) (c : CallRec) (w : Leg) (o : Option (List Step)) →
+    IsPlain (pair_over p s c w o)
+along-plain p s c w None = record { sent = tt }
+along-plain p s c w (Some route) = over_backup-plain p s c w route (first_link p route)
+
+pair-plain : (p : LocalNode) (s : NodeState) (c : CallRec) (w : Leg) → IsPlain (pair p s c w)
+pair-plain p s c w =
+    if_cases IsPlain (is_some (unknown_link (known_rows p s) (route_from p w))) _ _ (λ h. record { sent = tt })
+    (λ h. along-plain p s c w (backup_route p s c w))
+
+answered-plain : (p : LocalNode) (s : NodeState) (g : Leg) (o : Option CallRec) → IsPlain (call_answered p s g o)
+answered-plain p s g None = record { sent = tt }
+answered-plain p s g (Some c) =
+    if_cases IsPlain (is_work g.role) _ _
+    (λ h. if_cases IsPlain (is_asking c.state) _ _
+    (λ h. if_cases IsPlain c.protected _ _ (λ h. pair-plain p s c g) (λ h. record { sent = tt }))
+    (λ h. record { sent = tt }))
+    (λ h. if_cases IsPlain (is_pairing c.state) _ _ (λ h. record { sent = tt }) (λ h. record { sent = tt }))
+
+refused-plain : (code : ErrCode) (g : Leg) (o : Option CallRec) → IsPlain (call_refused code g o)
+refused-plain code g None = record { sent = tt }
+refused-plain code g (Some c) =
+    if_cases IsPlain (is_work g.role) _ _
+    (λ h. if_cases IsPlain (is_asking c.state) _ _ (λ h. record { sent = tt }) (λ h. record { sent = tt }))
+    (λ h. if_cases IsPlain (is_pairing c.state) _ _ (λ h. record { sent = tt }) (λ h. record { sent = tt }))
+
+ingress-plain : (h : Option Neighbour) (a : Answer) → IsPlain a → IsPlain (at_ingress h a)
+ingress-plain None a plain = plain
+ingress-plain (Some h) a plain = record { sent = tt }
+
+resv_call-plain : (p : LocalNode) (s : NodeState) (a : Arrival) (x : ℕ) (o : Option Leg) →
+    IsPlain (call_of_resv p s a x o)
+resv_call-plain p s a x None = record { sent = tt }
+resv_call-plain p s a x (Some g) =
+    if_cases IsPlain (is_expected a x g) _ _
+    (λ h. ingress-plain (previous g) _ (answered-plain p s g (call_with g.lsp s.calls))) (λ h. record { sent = tt })
+
+err_call-plain : (s : NodeState) (u : NodeId) (e : PathFailure) (o : Option Leg) → IsPlain (call_of_err s u e o)
+err_call-plain s u e None = record { sent = tt }
+err_call-plain s u e (Some g) =
+    if_cases IsPlain (e.removed && is_node (following g) u) _ _
+    (λ h. if_cases IsPlain (is_asked g.phase) _ _
+    (λ h. ingress-plain (previous g) _ (refused-plain e.code g (call_with g.lsp s.calls))) (λ h. record { sent = tt }))
+    (λ h. record { sent = tt })
+
+call-plain : (p : LocalNode) (s : NodeState) (u : NodeId) (m : Msg) → IsPlain (call_part p s u m)
+call-plain p s u (Path l e k route set up r) = record { sent = tt }
+call-plain p s u (Resv l e k x) = resv_call-plain p s (arrival l e u k) x (find_leg l s.legs)
+call-plain p s u (PathTear l e k) = record { sent = tt }
+call-plain p s u (PathErr l e at gone code) =
+    err_call-plain s u (record { lsp = l; msg = PathErr l e at gone code; removed = gone; code = code })
+    (find_leg l s.legs)
+call-plain p s u (Notify l e at k code) = record { sent = tt }
+
 first-plain : (p : LocalNode) (s : NodeState) (u : NodeId) (ms : List Msg) → IsPlain (on_first p s u ms)
 first-plain p s u [] = record { sent = tt }
-first-plain p s u (m ∷ ms) = record { sent = sent-plain (lsp_of m) _ (own-on_message p s u m).sent }
+first-plain p s u (m ∷ ms) =
+    subst IsPlain (sym (in-parts p s u m))
+    (plain-then (leg_part p s u m) (call_part p s u m)
+    (record { sent = sent-plain (lsp_of m) _ (own-leg_part p s u m).sent }) (call-plain p s u m))
 
 over-plain : (p : LocalNode) (s : NodeState) (w : SetupRequest) (route : List Step) (o : Option LinkSpec) →
     IsPlain (over_first p s w route o)
@@ -98,13 +178,23 @@ release-plain p s from (Some c) =
     })
     (λ h. record { sent = tt })
 
+protects-plain : (p : LocalNode) (s : NodeState) (c : CallRec) (o : Option Leg) → IsPlain (protects p s c o)
+protects-plain p s c None = record { sent = tt }
+protects-plain p s c (Some w) = pair-plain p s c w
+
+protect-plain : (p : LocalNode) (s : NodeState) (from : NodeId) (o : Option CallRec) → IsPlain (protect_with p s from o)
+protect-plain p s from None = record { sent = tt }
+protect-plain p s from (Some c) =
+    if_cases IsPlain (nat_eq from.0 p.id.0 && is_bare c.state) _ _
+    (λ h. protects-plain p s c (leg_of c.work s.legs)) (λ h. record { sent = tt })
+
 order-plain : (p : LocalNode) (s : NodeState) (c : Command) → IsPlain (on_order p s c)
 order-plain p s (Setup n from to protected both via backup) =
     setup-plain p s
     (record { call = n; from = from; egress = to; protected = protected; both = both; via = via; backup = backup })
     (find_call n s.calls)
 order-plain p s (Release n from) = release-plain p s from (find_call n s.calls)
-order-plain p s (Protect n from) = record { sent = tt }
+order-plain p s (Protect n from) = protect-plain p s from (find_call n s.calls)
 order-plain p s (Retry n from) = record { sent = tt }
 order-plain p s (Revert n from) = record { sent = tt }
 order-plain p s (Fail g) = record { sent = tt }

@@ -9,26 +9,41 @@ use Rattle.ason_base.specs.Routes.{makes_route}
 use Rattle.mesh_rules.specs.Changes.{Answer, changed}
 use Rattle.mesh_rules.specs.Machine.{Mesh, commit}
 use Rattle.mesh_rules.specs.Events.{or_route}
+use Rattle.mesh_rules.specs.Pairs.{beside_lsp}
 use Rattle.mesh_laws.specs.HopLaw.{leg_at, mail_between}
 use Rattle.mesh_laws.proofs.hops.Plans.{Plan, plan, IsRoute}
-use Rattle.mesh_laws.proofs.hops.Rest.{Carries}
+use Rattle.mesh_laws.proofs.hops.Rest.{Purpose, Carries, Guards}
 use Rattle.mesh_laws.proofs.hops.Chain.{Chain}
 
--- an LSP that was begun, over its route
-pub record Planned (t : Network) (s : Mesh) (l : Lsp) (p : Plan) : Type 0 where
+-- the whole route of the first Path that its ingress sent for each LSP
+abbrev pub Routes : Type 0
+Routes = Lsp → Option (List Step)
+
+-- the working LSP that a backup guards has this route
+abbrev pub IsGuarded : Routes → Lsp → Purpose → Type 0
+IsGuarded o l Carries = Unit {0}
+IsGuarded o l (Guards work route) = o (beside_lsp l work) ≡ Some route
+
+-- an LSP that was begun for this purpose, over its route
+pub record Planned (t : Network) (s : Mesh) (o : Routes) (l : Lsp) (q : Purpose) (p : Plan) : Type 0 where
   pub route : IsRoute t l.ingress p
   pub made : makes_route t l.ingress p.egress p.route ≡ true
-  pub chain : Chain t Carries l p (leg_at s l) (mail_between s l)
+  pub chain : Chain t q l p (leg_at s l) (mail_between s l)
   pub number : l.lsp < (s.nodes l.ingress.0).lsp
+  pub guards : IsGuarded o l q
 
 -- no leg and no message of the LSP is anywhere
 pub record IsUntouched (s : Mesh) (l : Lsp) : Type 0 where
   pub legs : (n : NodeId) → leg_at s l n ≡ None
   pub mail : (a b : NodeId) → mail_between s l a b ≡ []
 
-abbrev pub Follows : Network → Mesh → Lsp → Option (List Step) → Type 0
-Follows t s l None = IsUntouched s l
-Follows t s l (Some route) = (e : NodeId) × Planned t s l (plan route e)
+abbrev pub Follows : Network → Mesh → Routes → Lsp → Option (List Step) → Type 0
+Follows t s o l None = IsUntouched s l
+Follows t s o l (Some route) = (e : NodeId) × (q : Purpose) × Planned t s o l q (plan route e)
+
+-- each LSP with its route
+abbrev pub EachFollows : Network → Mesh → Routes → Type 0
+EachFollows t s o = (l : Lsp) → Follows t s o l (o l)
 
 -- the same legs and messages of the LSP, and no smaller next number
 pub record SameOf (s s' : Mesh) (l : Lsp) : Type 0 where
@@ -36,30 +51,56 @@ pub record SameOf (s s' : Mesh) (l : Lsp) : Type 0 where
   pub mail : (a b : NodeId) → mail_between s' l a b ≡ mail_between s l a b
   pub next : (s.nodes l.ingress.0).lsp ≤ (s'.nodes l.ingress.0).lsp
 
-pub chain_same : (t : Network) (s s' : Mesh) (l : Lsp) (p : Plan) → SameOf s s' l →
-    Chain t Carries l p (leg_at s l) (mail_between s l) → Chain t Carries l p (leg_at s' l) (mail_between s' l)
-chain_same t s s' l p same chain =
+chain_same : (t : Network) (q : Purpose) (s s' : Mesh) (l : Lsp) (p : Plan) → SameOf s s' l →
+    Chain t q l p (leg_at s l) (mail_between s l) → Chain t q l p (leg_at s' l) (mail_between s' l)
+chain_same t q s s' l p same chain =
     let legs : leg_at s l ≡ leg_at s' l = λ i n. sym (same.legs n) i in
     let mail : mail_between s l ≡ mail_between s' l = λ i x y. sym (same.mail x y) i in
-    subst (Chain t Carries l p (leg_at s' l)) mail (subst (λ f. Chain t Carries l p f (mail_between s l)) legs chain)
+    subst (Chain t q l p (leg_at s' l)) mail (subst (λ f. Chain t q l p f (mail_between s l)) legs chain)
 
-planned_same : (t : Network) (s s' : Mesh) (l : Lsp) (p : Plan) → SameOf s s' l → Planned t s l p → Planned t s' l p
-planned_same t s s' l p same b = record {
+planned_same : (t : Network) (s s' : Mesh) (o : Routes) (l : Lsp) (q : Purpose) (p : Plan) → SameOf s s' l →
+    Planned t s o l q p → Planned t s' o l q p
+planned_same t s s' o l q p same b = record {
   route = b.route;
   made = b.made;
-  chain = chain_same t s s' l p same b.chain;
+  chain = chain_same t q s s' l p same b.chain;
   number = (let n = b.number in let m = same.next in omega arith);
+  guards = b.guards;
 }
 
-pub follows_same : (t : Network) (s s' : Mesh) (l : Lsp) (o : Option (List Step)) → SameOf s s' l → Follows t s l o →
-    Follows t s' l o
-follows_same t s s' l None same b =
+pub follows_same : (t : Network) (s s' : Mesh) (o : Routes) (l : Lsp) (c : Option (List Step)) → SameOf s s' l →
+    Follows t s o l c → Follows t s' o l c
+follows_same t s s' o l None same b =
     record { legs = λ n. same.legs n ∙ b.legs n; mail = λ x y. same.mail x y ∙ b.mail x y }
-follows_same t s s' l (Some route) same (e, b) = (e, planned_same t s s' l (plan route e) same b)
+follows_same t s s' o l (Some route) same (e, q, b) = (e, q, planned_same t s s' o l q (plan route e) same b)
+
+-- What was sent first stays
+
+abbrev pub Grow : Routes → Routes → Type 0
+Grow o o' = (l : Lsp) (route : List Step) → o l ≡ Some route → o' l ≡ Some route
+
+pub guarded_grown : (o o' : Routes) (l : Lsp) (q : Purpose) → Grow o o' → IsGuarded o l q → IsGuarded o' l q
+guarded_grown o o' l Carries grow h = tt
+guarded_grown o o' l (Guards work route) grow h = grow (beside_lsp l work) route h
+
+pub follows_grown : (t : Network) (s : Mesh) (o o' : Routes) (l : Lsp) (c : Option (List Step)) → Grow o o' →
+    Follows t s o l c → Follows t s o' l c
+follows_grown t s o o' l None grow b = b
+follows_grown t s o o' l (Some route) grow (e, q, b) = (e, q, record {
+  route = b.route;
+  made = b.made;
+  chain = b.chain;
+  number = b.number;
+  guards = guarded_grown o o' l q grow b.guards;
+})
 
 pub or_none : (o : Option (List Step)) → or_route o None ≡ o
 or_none None = refl
 or_none (Some p) = refl
+
+pub or_assoc : (a b c : Option (List Step)) → or_route (or_route a b) c ≡ or_route a (or_route b c)
+or_assoc None b c = refl
+or_assoc (Some r) b c = refl
 
 pub next_same : (s : Mesh) (n m : ℕ) (a : Answer) → a.numbers ≡ None → ((commit s n a).nodes m).lsp ≡ (s.nodes m).lsp
 next_same s n m a none =

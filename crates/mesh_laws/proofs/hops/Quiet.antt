@@ -1,12 +1,11 @@
 -- A rule's answer that changes no leg and sends nothing leaves every LSP as it was.
-use Rattle.std.proofs.Common.{sym, subst, ◌≡◌, Bool, true, false, nat_eq, refl, ◌∙◌, arith, append-nil}
+use Rattle.std.proofs.Common.{◌≡◌, Bool, true, false, nat_eq, refl, ◌∙◌, arith, append-nil}
 use Rattle.ason_base.specs.declared.ids.Lsp.{Lsp}
 use Rattle.ason_base.specs.declared.ids.NodeId.{NodeId}
-use Rattle.mesh_rules.specs.Changes.{Answer, followed_by}
+use Rattle.mesh_rules.specs.Changes.{Answer}
 use Rattle.mesh_rules.specs.Machine.{Mesh, commit}
 use Rattle.mesh_laws.specs.HopLaw.{leg_at, mail_between}
 use Rattle.mesh_laws.proofs.hops.Views.{leg-here, mail-from}
-use Rattle.mesh_laws.proofs.hops.FollowedBy.{commit-then}
 use Rattle.mesh_laws.proofs.hops.Own.{IsQuiet}
 use Rattle.mesh_laws.proofs.hops.Planned.{SameOf, next_same}
 
@@ -24,9 +23,3 @@ same_quiet s n a l quiet = record {
     mail : (x b : NodeId) (c : Bool) → nat_eq x.0 n.0 ≡ c → mail_between (commit s n.0 a) l x b ≡ mail_between s l x b
     mail x b true e = let is : x.0 ≡ n.0 = grind arith in rw is (mail-from s n b l a ∙ rw (quiet.sent, append-nil) refl)
     mail x b false e = rw e refl
-
--- so does one after another answer
-pub quiet_then : (s : Mesh) (n : NodeId) (a b : Answer) (l : Lsp) → IsQuiet b →
-    SameOf (commit s n.0 a) (commit s n.0 (followed_by a b)) l
-quiet_then s n a b l quiet =
-    subst (λ m. SameOf (commit s n.0 a) m l) (sym (commit-then s n.0 a b)) (same_quiet (commit s n.0 a) n b l quiet)

@@ -1,5 +1,5 @@
 -- A call is released at its ingress.
-use Rattle.std.proofs.Common.{◌++◌, ◌≡◌, ◌<◌, ℕ, Bool, true, false, nat_eq, List, [], ◌∷◌, refl, sym, ◌∙◌, arith}
+use Rattle.std.proofs.Common.{◌≡◌, ◌<◌, ℕ, Bool, true, false, nat_eq, List, [], ◌∷◌, refl, sym, ◌∙◌, arith}
 use Rattle.std.specs.Prelude.{Option, Some, None}
 use Rattle.ason_base.specs.Network.{Network}
 use Rattle.ason_base.specs.Lsps.{same_lsp}
@@ -23,7 +23,7 @@ use Rattle.mesh_laws.specs.HopLaw.{leg_at, mail_between}
 use Rattle.mesh_laws.proofs.hops.Plans.{Plan, hops, plan, node_at, link_at, distinct, same_node}
 use Rattle.mesh_nodes.proofs.LegList.{same_lsp-eq}
 use Rattle.mesh_laws.proofs.hops.Views.{mail-else}
-use Rattle.mesh_laws.proofs.hops.Rest.{Carries}
+use Rattle.mesh_laws.proofs.hops.Rest.{Purpose}
 use Rattle.mesh_laws.proofs.hops.Chain.{LegFits, Chain}
 use Rattle.mesh_laws.proofs.hops.Changed.{place_changed}
 use Rattle.mesh_laws.proofs.hops.Sending.{sent_by, sends_on, changed-here}
@@ -32,57 +32,65 @@ use Rattle.mesh_laws.proofs.hops.Upstream.{leg_closes}
 use Rattle.mesh_laws.proofs.hops.Taken.{path_before}
 use Rattle.mesh_nodes.proofs.Cases.{if_cases}
 use Rattle.mesh_laws.proofs.hops.Own.{AllSent, IsOf, found-is, leg-other, mail-other}
-use Rattle.mesh_laws.proofs.hops.Planned.{Planned, Follows, SameOf, follows_same, next_same}
-use Rattle.mesh_laws.proofs.hops.Quiet.{same_quiet, quiet_then}
+use Rattle.mesh_laws.proofs.hops.Planned.{Planned, Routes, Follows, EachFollows, SameOf, follows_same, next_same}
+use Rattle.mesh_laws.proofs.hops.Quiet.{same_quiet}
+use Rattle.mesh_laws.proofs.hops.Begun.{EachStepped, stepped_quiet, stepped_then}
 
--- What a release needs to know of a call: no leg stands of its backup LSP, and the leg of its working LSP begins here
--- and isn't torn.
+-- the leg of an LSP that a call names begins here and isn't torn
+abbrev pub NamedStands : ℕ → NodeState → Option Lsp → Type 0
+NamedStands n s named =
+    (l : Lsp) (g : Leg) → named ≡ Some l → find_leg l s.legs ≡ Some g →
+    (l.ingress.0 ≡ n) × (is_closing g.phase ≡ false)
+
+-- What a release needs to know of a call: so it is with both of its LSPs, which are two.
 pub record CallStands (n : ℕ) (s : NodeState) (c : CallRec) : Type 0 where
-  pub back : leg_of c.back s.legs ≡ None
-  pub work : (l : Lsp) (g : Leg) → c.work ≡ Some l → find_leg l s.legs ≡ Some g →
-      (l.ingress.0 ≡ n) × (is_closing g.phase ≡ false)
+  pub work : NamedStands n s c.work
+  pub back : NamedStands n s c.back
+  pub apart : (k l : Lsp) (g : Leg) → c.work ≡ Some k → c.back ≡ Some l → find_leg k s.legs ≡ Some g →
+      same_lsp k l ≡ false
 
-module _ (t : Network) (s : Mesh) where
+module _ (t : Network) (s : Mesh) (o : Routes) where
   -- the leg at the ingress closes
-  tears_chain : (l : Lsp) (p : Plan) (g : Leg) → Planned t s l p → leg_at s l (node_at p 0) ≡ Some g →
+  tears_chain : (l : Lsp) (q : Purpose) (p : Plan) (g : Leg) → Planned t s o l q p → leg_at s l (node_at p 0) ≡ Some g →
       is_closing g.phase ≡ false →
-      Chain t Carries l p (leg_at (commit s (node_at p 0).0 (tears (Some g))) l)
+      Chain t q l p (leg_at (commit s (node_at p 0).0 (tears (Some g))) l)
       (mail_between (commit s (node_at p 0).0 (tears (Some g))) l)
-  tears_chain l p g pl here stands =
+  tears_chain l q p g pl here stands =
       let small : 0 < hops p = pl.route.long in
-      let fits : LegFits t Carries l p 0 g = rw here at (pl.chain.fits 0 (omega arith)) in
+      let fits : LegFits t q l p 0 g = rw here at (pl.chain.fits 0 (omega arith)) in
       let mine : same_lsp g.lsp l ≡ true = same_of g.lsp l fits.own in
       let tear : Msg = PathTear g.lsp g.egress (link_at p 0) in
       let a : Answer = tears (Some g) in
-      place_changed t Carries l l.ingress p (leg_at s l) _ (mail_between s l) _ 0 (Some (closed g)) (sent_by l a.sent)
+      place_changed t q l l.ingress p (leg_at s l) _ (mail_between s l) _ 0 (Some (closed g)) (sent_by l a.sent)
       [] (tear ∷ [])
       pl.route pl.chain (omega arith)
       (changed-here s (node_at p 0) l a (Some (closed g)) (rw mine refl))
-      (rw (following_is t Carries l p 0 g fits small) (sends_on t l l.ingress p pl.route 0 tear small mine))
-      (closed_fits t Carries l p 0 g fits small)
+      (rw (following_is t q l p 0 g fits small) (sends_on t l l.ingress p pl.route 0 tear small mine))
+      (closed_fits t q l p 0 g fits small)
       (λ x ne. rw (mail-else s (node_at p 0) x (node_at p 0) l a ne) (pl.chain.ways x (node_at p 0)))
       (λ k e. absurd (omega arith))
       (λ _. rw (mail-else s (node_at p 0) (node_at p 1) (node_at p 0) l a
       (distinct t l.ingress p pl.route 1 0 (omega arith) (omega arith) (omega arith)))
-      (leg_closes Carries p 0 _ _ _ g (closed g) g.lsp g.egress (link_at p 0) (phase_stands g.phase stands)
-      (closed_kind t Carries l p 0 g fits) refl refl refl (rw here at (pl.chain.each 0 small))))
+      (leg_closes q p 0 _ _ _ g (closed g) g.lsp g.egress (link_at p 0) (phase_stands g.phase stands)
+      (closed_kind t q l p 0 g fits) refl refl refl (rw here at (pl.chain.each 0 small))))
       (λ k less. absurd (omega arith))
       (λ _ gone path. pl.chain.fresh 0 small (record {
         gone = gone;
         path = path_before (mail_between s l (node_at p 0) (node_at p 1)) (tear ∷ []) refl path;
       }))
 
-  tears_planned : (n : NodeId) (l : Lsp) (p : Plan) (g : Leg) → Planned t s l p → l.ingress.0 ≡ n.0 →
-      leg_at s l n ≡ Some g →
-      is_closing g.phase ≡ false → Planned t (commit s n.0 (tears (Some g))) l p
-  tears_planned n l p g pl at_n here stands =
+  tears_planned : (n : NodeId) (l : Lsp) (q : Purpose) (p : Plan) (g : Leg) → Planned t s o l q p →
+      l.ingress.0 ≡ n.0 → leg_at s l n ≡ Some g → is_closing g.phase ≡ false →
+      Planned t (commit s n.0 (tears (Some g))) o l q p
+  tears_planned n l q p g pl at_n here stands =
       let is : n ≡ node_at p 0 = sym (pl.route.first ∙ same_node l.ingress n at_n) in
       let here' : leg_at s l (node_at p 0) ≡ Some g = rw (← is) here in
       record {
         route = pl.route;
         made = pl.made;
-        chain = rw is (tears_chain l p g pl here' stands);
+        chain = rw is (tears_chain l q p g pl here' stands);
         number = rw (next_same s n.0 l.ingress.0 (tears (Some g)) refl) pl.number;
+        guards = pl.guards;
       }
 
   own_tears : (l : Lsp) (g : Leg) → g.lsp ≡ l → IsOf l (tears (Some g))
@@ -100,66 +108,92 @@ module _ (t : Network) (s : Mesh) where
     next = (let e = next_same s n.0 l.ingress.0 (tears (Some g)) refl in omega arith);
   }
 
-  module _ (n : NodeId) (l : Lsp) where
-    tears_none : (o : Option (List Step)) → Follows t s l o → Follows t (commit s n.0 nothing) l o
-    tears_none o f =
-        follows_same t s (commit s n.0 nothing) l o
-        (same_quiet s n nothing l (record { legs = refl; sent = refl; numbers = refl })) f
-
-    tears_leg : (w : Lsp) (g : Leg) (o : Option (List Step)) → Follows t s l o →
-        find_leg w (s.nodes n.0).legs ≡ Some g →
-        (w.ingress.0 ≡ n.0) × (is_closing g.phase ≡ false) → (same : Bool) → same_lsp w l ≡ same →
-        Follows t (commit s n.0 (tears (Some g))) l o
-    tears_leg w g o f here facts false e =
-        follows_same t s (commit s n.0 (tears (Some g))) l o
+  module _ (n : NodeId) (f : EachFollows t s o) where
+    tears_lsp : (w : Lsp) (g : Leg) → find_leg w (s.nodes n.0).legs ≡ Some g →
+        (w.ingress.0 ≡ n.0) × (is_closing g.phase ≡ false) → (l : Lsp) (c : Option (List Step)) → Follows t s o l c →
+        (own : Bool) → same_lsp w l ≡ own → Follows t (commit s n.0 (tears (Some g))) o l c
+    tears_lsp w g here facts l c f false e =
+        follows_same t s (commit s n.0 (tears (Some g))) o l c
         (tears_other n w l g (found-is w (s.nodes n.0).legs (Some g) here) e) f
-    tears_leg w g None f here facts true e =
+    tears_lsp w g here facts l None f true e =
         let is = same_lsp-eq w l e in
         let none : find_leg w (s.nodes n.0).legs ≡ None = rw is (f.legs n) in
         absurd (cc (here, none))
-    tears_leg w g (Some route) f here facts true e =
-        let is = same_lsp-eq w l e in
-        (f.0, tears_planned n l (plan route f.0) g f.1 (rw (← is) facts.0) (rw (← is) here) facts.1)
+    tears_lsp w g here facts l (Some route) (e, q, pl) true same =
+        let is = same_lsp-eq w l same in
+        (e, q, tears_planned n l q (plan route e) g pl (rw (← is) facts.0) (rw (← is) here) facts.1)
 
-    tears_lsp : (w : Lsp) (o : Option (List Step)) → Follows t s l o →
-        ((g : Leg) → find_leg w (s.nodes n.0).legs ≡ Some g → (w.ingress.0 ≡ n.0) × (is_closing g.phase ≡ false)) →
-        (h : Option Leg) → find_leg w (s.nodes n.0).legs ≡ h → Follows t (commit s n.0 (tears h)) l o
-    tears_lsp w o f stands None here = tears_none o f
-    tears_lsp w o f stands (Some g) here = tears_leg w g o f here (stands g here) (same_lsp w l) refl
+    pub tears_leg : (w : Lsp) (h : Option Leg) → leg_at s w n ≡ h →
+        ((g : Leg) → h ≡ Some g → (w.ingress.0 ≡ n.0) × (is_closing g.phase ≡ false)) →
+        EachFollows t (commit s n.0 (tears h)) o
+    tears_leg w None here stands l =
+        follows_same t s (commit s n.0 nothing) o l (o l)
+        (same_quiet s n nothing l (record { legs = refl; sent = refl; numbers = refl })) (f l)
+    tears_leg w (Some g) here stands l = tears_lsp w g here (stands g refl) l (o l) (f l) (same_lsp w l) refl
 
-    tears_work : (o : Option (List Step)) → Follows t s l o → (work : Option Lsp) →
-        ((w : Lsp) (g : Leg) → work ≡ Some w → find_leg w (s.nodes n.0).legs ≡ Some g →
-        (w.ingress.0 ≡ n.0) × (is_closing g.phase ≡ false)) →
-        Follows t (commit s n.0 (tears (leg_of work (s.nodes n.0).legs))) l o
-    tears_work o f None stands = tears_none o f
-    tears_work o f (Some w) stands = tears_lsp w o f (λ g. stands w g refl) (find_leg w (s.nodes n.0).legs) refl
+    tears_none : EachFollows t (commit s n.0 (tears None)) o
+    tears_none l =
+        follows_same t s (commit s n.0 nothing) o l (o l)
+        (same_quiet s n nothing l (record { legs = refl; sent = refl; numbers = refl })) (f l)
 
--- what a release leaves of an LSP; no Path is sent
-pub record Released (t : Network) (s : Mesh) (n : NodeId) (l : Lsp) (o : Option (List Step)) (a : Answer) : Type 0 where
-  pub follows : Follows t (commit s n.0 a) l o
-  pub none : first_route l a.sent ≡ None
+  -- the leg of another LSP stays
+  leg_beside : (n : NodeId) (w l : Lsp) (h : Option Leg) → leg_at s w n ≡ h →
+      ((g : Leg) → h ≡ Some g → same_lsp w l ≡ false) → leg_at (commit s n.0 (tears h)) l n ≡ leg_at s l n
+  leg_beside n w l None here apart =
+      (same_quiet s n nothing l (record { legs = refl; sent = refl; numbers = refl })).legs n
+  leg_beside n w l (Some g) here apart =
+      (tears_other n w l g (found-is w (s.nodes n.0).legs (Some g) here) (apart g refl)).legs n
 
-no_route_sent : (l : Lsp) (work : Option Leg) → first_route l ((tears work).sent ++ []) ≡ None
+no_route_sent : (l : Lsp) (h : Option Leg) → first_route l (tears h).sent ≡ None
 no_route_sent l None = refl
 no_route_sent l (Some g) = go (following g)
   where
-    go : (o : Option Neighbour) → first_route l (tear_to g o ++ []) ≡ None
+    go : (o : Option Neighbour) → first_route l (tear_to g o) ≡ None
     go None = refl
     go (Some h) = refl
 
-pub release_leaves : (t : Network) (s : Mesh) (n from : NodeId) (l : Lsp) (o : Option (List Step)) → Follows t s l o →
-    (c : Option CallRec) → ((d : CallRec) → c ≡ Some d → CallStands n.0 (s.nodes n.0) d) →
-    Released t s n l o (release_with (local_node t n) (s.nodes n.0) from c)
-release_leaves t s n from l o f None stands = record { follows = tears_none t s n l o f; none = refl }
-release_leaves t s n from l o f (Some c) stands =
-    let facts = stands c refl in
-    let first : Answer = tears (leg_of c.work (s.nodes n.0).legs) in
-    let then_calls : Answer = followed_by nothing (changes_calls (call.Goes c.call ∷ [])) in
-    if_cases (Released t s n l o) (nat_eq from.0 n.0) (releases (s.nodes n.0) c) nothing
-    (λ h. rw facts.back (record {
-      follows = follows_same t (commit s n.0 first) (commit s n.0 (followed_by first then_calls)) l o
-          (quiet_then s n first then_calls l (record { legs = refl; sent = refl; numbers = refl }))
-          (tears_work t s n l o f c.work facts.work);
-      none = no_route_sent l (leg_of c.work (s.nodes n.0).legs);
-    }))
-    (λ h. record { follows = tears_none t s n l o f; none = refl })
+-- the working LSP is torn, then the backup, and the call goes
+module _ (t : Network) (s : Mesh) (o : Routes) (n : NodeId) (f : EachFollows t s o) where
+  abbrev legs : List Leg
+  legs = (s.nodes n.0).legs
+
+  after_work : (work : Option Lsp) → NamedStands n.0 (s.nodes n.0) work →
+      EachFollows t (commit s n.0 (tears (leg_of work legs))) o
+  after_work None stands = tears_none t s o n f
+  after_work (Some k) stands = tears_leg t s o n f k (find_leg k legs) refl (λ g e. stands k g refl e)
+
+  beside : (work : Option Lsp) (l : Lsp) →
+      ((k : Lsp) (g : Leg) → work ≡ Some k → find_leg k legs ≡ Some g → same_lsp k l ≡ false) →
+      leg_at (commit s n.0 (tears (leg_of work legs))) l n ≡ find_leg l legs
+  beside None l apart = (same_quiet s n nothing l (record { legs = refl; sent = refl; numbers = refl })).legs n
+  beside (Some k) l apart = leg_beside t s o n k l (find_leg k legs) refl (λ g e. apart k g refl e)
+
+  after_back : (work back : Option Lsp) → NamedStands n.0 (s.nodes n.0) work → NamedStands n.0 (s.nodes n.0) back →
+      ((k l : Lsp) (g : Leg) → work ≡ Some k → back ≡ Some l → find_leg k legs ≡ Some g → same_lsp k l ≡ false) →
+      EachFollows t (commit (commit s n.0 (tears (leg_of work legs))) n.0 (tears (leg_of back legs))) o
+  after_back work None stands stands' apart =
+      tears_none t (commit s n.0 (tears (leg_of work legs))) o n (after_work work stands)
+  after_back work (Some l) stands stands' apart =
+      tears_leg t (commit s n.0 (tears (leg_of work legs))) o n (after_work work stands) l (find_leg l legs)
+      (beside work l (λ k g e found. apart k l g e refl found)) (λ g e. stands' l g refl e)
+
+  releases_stepped : (c : CallRec) → CallStands n.0 (s.nodes n.0) c → EachStepped t s n o (releases (s.nodes n.0) c)
+  releases_stepped c facts =
+      let work : Answer = tears (leg_of c.work legs) in
+      let back : Answer = tears (leg_of c.back legs) in
+      let calls : Answer = changes_calls (call.Goes c.call ∷ []) in
+      stepped_then t s n o work (followed_by back calls) (λ l e. no_route_sent l (leg_of c.work legs))
+      (stepped_then t (commit s n.0 work) n o back calls (λ l e. no_route_sent l (leg_of c.back legs))
+      (stepped_quiet t (commit (commit s n.0 work) n.0 back) n o calls
+      (after_back c.work c.back facts.work facts.back facts.apart)
+      (record { legs = refl; sent = refl; numbers = refl })))
+
+  pub release_stepped : (from : NodeId) (c : Option CallRec) →
+      ((d : CallRec) → c ≡ Some d → CallStands n.0 (s.nodes n.0) d) →
+      EachStepped t s n o (release_with (local_node t n) (s.nodes n.0) from c)
+  release_stepped from None stands =
+      stepped_quiet t s n o nothing f (record { legs = refl; sent = refl; numbers = refl })
+  release_stepped from (Some c) stands =
+      if_cases (EachStepped t s n o) (nat_eq from.0 n.0) (releases (s.nodes n.0) c) nothing
+      (λ h. releases_stepped c (stands c refl))
+      (λ h. stepped_quiet t s n o nothing f (record { legs = refl; sent = refl; numbers = refl }))

@@ -26,7 +26,7 @@ use Rattle.mesh_laws.specs.HopLaw.{is_message_of, messages_of, leg_at, mail_betw
 use Rattle.mesh_laws.proofs.hops.Plans.{Plan, hops, node_at, link_at, fibre_at, IsRoute, same}
 use Rattle.mesh_laws.proofs.hops.Labels.{has_label_back, has_meet}
 use Rattle.mesh_nodes.proofs.LegList.{same_lsp-refl}
-use Rattle.mesh_laws.proofs.hops.Rows.{TakesResv, ByAsked, ByArmed, ByTorn, takes_resv, reserved_leg}
+use Rattle.mesh_laws.proofs.hops.Rows.{nothing_torn, TakesResv, ByAsked, ByArmed, ByTorn, takes_resv, reserved_leg}
 use Rattle.mesh_laws.proofs.hops.Rest.{Purpose, role_of}
 use Rattle.mesh_laws.proofs.hops.Chain.{LegFits, Hop, Chain}
 use Rattle.mesh_laws.proofs.hops.Changed.{Sends}
@@ -189,7 +189,7 @@ module _ (t : Network) (q : Purpose) (s : Mesh) (l : Lsp) (p : Plan) (i : ℕ) (
   resv_keeps None here = absurd (no_leg (role_of q) (takes_resv (role_of q) _ _ _ _ (rw here at hop.shape)))
     where
       no_leg : (r : Role) → TakesResv r NoLeg → ⊥
-      no_leg r (ByTorn torn) = elim torn [ ]
+      no_leg r (ByTorn torn) = nothing_torn r torn
   resv_keeps (Some g) here =
       by_kind g here (rw here at (chain.fits i (omega arith))) (role_of q) (leg_kind (Some g)) refl refl
       (takes_resv (role_of q) _ _ _ _ (rw here at hop.shape))

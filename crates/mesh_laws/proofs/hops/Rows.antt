@@ -55,6 +55,9 @@ no_torn r _ HeldStands torn = elim torn [ ]
 no_torn r _ ArmedStands torn = elim torn [ ]
 no_torn r _ LiveStands torn = elim torn [ ]
 
+pub nothing_torn : (r : Role) → IsTorn r NoLeg → ⊥
+nothing_torn r torn = elim torn [ ]
+
 -- a leg that stands hasn't let go
 pub not_let_go : (r : Role) (k : LegKind) → Stands k → HasLetGo r k → ⊥
 not_let_go r _ stands NothingLeft = elim stands [ ]

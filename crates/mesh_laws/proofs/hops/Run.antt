@@ -1,8 +1,8 @@
 -- Each LSP with its route in every state of every run.
-use Rattle.std.proofs.Common.{◌≡◌, ℕ, true, List, [], ◌∷◌, refl, arith}
-use Rattle.std.specs.Prelude.{Option, Some, None}
+use Rattle.std.proofs.Common.{◌≡◌, ℕ, true, nat_eq, List, [], ◌∷◌, refl, sym, subst, arith}
+use Rattle.std.specs.Prelude.{◌&&◌, Option, Some, None}
 use Rattle.ason_base.specs.declared.network.LinkSpec.{LinkSpec}
-use Rattle.ason_base.specs.Network.{Network, find_link, row_of}
+use Rattle.ason_base.specs.Network.{Network, find_link, is_node_id, row_of}
 use Rattle.ason_base.specs.declared.ids.CallNo.{CallNo}
 use Rattle.ason_base.specs.declared.ids.Lsp.{Lsp}
 use Rattle.ason_base.specs.declared.ids.NodeId.{NodeId}
@@ -12,6 +12,7 @@ use Rattle.ason_base.specs.declared.commands.Command.TheVariants.{Setup, Release
 use Rattle.ason_base.specs.declared.commands.DeskItem.{DeskItem}
 use Rattle.ason_base.specs.declared.commands.DeskItem.TheVariants.{Order, Alarm, Clear}
 use Rattle.ason_base.specs.declared.tables.CallRec.{CallRec}
+use Rattle.ason_base.specs.declared.tables.Leg.{Leg}
 use Rattle.ason_base.specs.Routes.{makes_route}
 use Rattle.mesh_rules.specs.declared.events.MeshEvent.{MeshEvent}
 use Rattle.mesh_rules.specs.declared.events.MeshEvent.TheVariants.{Take, Desk, Tick, Learn, Post}
@@ -20,21 +21,24 @@ use Rattle.mesh_rules.specs.KnownRows.{has_row, known_rows}
 use Rattle.mesh_rules.specs.Learnt.{on_link}
 use Rattle.mesh_rules.specs.LocalNodes.{LocalNode, local_node}
 use Rattle.mesh_rules.specs.State.{NodeState}
-use Rattle.mesh_rules.specs.Calls.{find_call}
+use Rattle.mesh_rules.specs.Calls.{find_call, is_bare}
+use Rattle.mesh_rules.specs.Legs.{leg_of}
+use Rattle.mesh_rules.specs.Protects.{protect_with, protects}
 use Rattle.mesh_rules.specs.Orders.{on_order, on_item}
-use Rattle.mesh_rules.specs.Releases.{release_with}
 use Rattle.mesh_rules.specs.Commands.{has_way, is_searchable, is_valid}
 use Rattle.mesh_rules.specs.Machine.{Mesh, commit, without_item}
 use Rattle.mesh_rules.specs.Events.{is_enabled, on_first_item, posted, step, IsRun, after, first_route, or_route, sent_at_ingress, route_of}
 use Rattle.mesh_rules.proofs.Conjunctions.{and_first, and_second}
+use Rattle.mesh_laws.specs.HopLaw.{leg_at}
 use Rattle.mesh_nodes.specs.Routes.{AreRowsOf}
 use Rattle.mesh_nodes.proofs.Cases.{if_cases}
 use Rattle.mesh_laws.proofs.hops.Own.{IsQuiet}
 use Rattle.mesh_laws.proofs.hops.Quiet.{same_quiet}
-use Rattle.mesh_laws.proofs.hops.Planned.{Follows, SameOf, follows_same, or_none}
+use Rattle.mesh_laws.proofs.hops.Planned.{Routes, EachFollows, SameOf, follows_same, or_assoc, or_none}
 use Rattle.mesh_laws.proofs.hops.Traced.{traced_take}
-use Rattle.mesh_laws.proofs.hops.Begun.{Stepped, stepped_none, stepped_nothing, setup_stepped}
-use Rattle.mesh_laws.proofs.hops.Released.{CallStands, release_leaves}
+use Rattle.mesh_laws.proofs.hops.Begun.{EachStepped, stepped_nothing, setup_stepped}
+use Rattle.mesh_laws.proofs.hops.Paired.{CallsMayPair, MayPair, pair_stepped, whole-route}
+use Rattle.mesh_laws.proofs.hops.Released.{CallStands, release_stepped}
 
 -- What a step needs to know: of the calls of each node, of the items on each desk, and of the rows that a node learnt
 
@@ -43,8 +47,17 @@ ItemFits t (Order c) = is_valid t c ≡ true
 ItemFits t (Alarm f) = Unit {0}
 ItemFits t (Clear f) = Unit {0}
 
+-- a call that the links let be protected: its working LSP begins here and may have a backup beside it
+pub record CanBeProtected (t : Network) (s : Mesh) (n : NodeId) (c : CallRec) (w : Leg) : Type 0 where
+  pub begins : w.lsp.ingress ≡ n
+  pub stands : leg_at s w.lsp n ≡ Some w
+  pub may : MayPair t n c w.egress
+
 pub record StepFacts (t : Network) (s : Mesh) : Type 0 where
   pub call : (n : ℕ) (k : CallNo) (c : CallRec) → find_call k (s.nodes n).calls ≡ Some c → CallStands n (s.nodes n) c
+  pub pair : CallsMayPair t s
+  pub protect : (n : NodeId) (k : CallNo) (c : CallRec) (w : Leg) → find_call k (s.nodes n.0).calls ≡ Some c →
+      leg_of c.work (s.nodes n.0).legs ≡ Some w → is_searchable t ≡ true → CanBeProtected t s n c w
   pub desk : (n : ℕ) (i : DeskItem) (items : List DeskItem) → s.desks n ≡ i ∷ items → ItemFits t i
   pub learnt : (n : ℕ) → AreRowsOf t (s.nodes n).learnt
 
@@ -60,41 +73,53 @@ searched : (t : Network) (from to : NodeId) (via : Option (List Step)) → has_w
 searched t from to None e q = e
 searched t from to (Some r) e q = absurd (cc q)
 
-release_stepped : (t : Network) (s : Mesh) (n from : NodeId) (l : Lsp) (k : CallNo) (o : Option (List Step)) →
-    Follows t s l o →
-    StepFacts t s → Stepped t s n l o (release_with (local_node t n) (s.nodes n.0) from
-    (find_call k (s.nodes n.0).calls))
-release_stepped t s n from l k o f facts =
-    let r = release_leaves t s n from l o f (find_call k (s.nodes n.0).calls) (λ d e. facts.call n.0 k d e) in
-    stepped_none t s n l o _ r.follows r.none
+module _ (t : Network) (s : Mesh) (o : Routes) (n : NodeId) (f : EachFollows t s o) (facts : StepFacts t s) where
+  abbrev Steps : Answer → Type 0
+  Steps a = EachStepped t s n o a
 
-order_stepped : (t : Network) (s : Mesh) (n : NodeId) (l : Lsp) (o : Option (List Step)) (c : Command) →
-    Follows t s l o → StepFacts t s → is_valid t c ≡ true →
-    Stepped t s n l o (on_order (local_node t n) (s.nodes n.0) c)
-order_stepped t s n l o (Setup k from to protected both via backup) f facts valid =
-    setup_stepped t s n l o f
-    (record { call = k; from = from; egress = to; protected = protected; both = both; via = via; backup = backup })
-    (given t from to via (and_second _ (has_way t from to via) (and_first _ _ valid)))
-    (searched t from to via (and_second _ (has_way t from to via) (and_first _ _ valid))) (facts.learnt n.0)
-    (find_call k (s.nodes n.0).calls)
-order_stepped t s n l o (Release k from) f facts valid = release_stepped t s n from l k o f facts
-order_stepped t s n l o (Protect k from) f facts valid = stepped_nothing t s n l o f
-order_stepped t s n l o (Retry k from) f facts valid = stepped_nothing t s n l o f
-order_stepped t s n l o (Revert k from) f facts valid = stepped_nothing t s n l o f
-order_stepped t s n l o (Fail g) f facts valid = stepped_nothing t s n l o f
-order_stepped t s n l o (Repair g) f facts valid = stepped_nothing t s n l o f
+  none_stepped : Steps nothing
+  none_stepped = stepped_nothing t s n o f
 
-item_stepped : (t : Network) (s : Mesh) (n : NodeId) (l : Lsp) (o : Option (List Step)) (i : DeskItem) →
-    Follows t s l o → StepFacts t s → ItemFits t i → Stepped t s n l o (on_item (local_node t n) (s.nodes n.0) i)
-item_stepped t s n l o (Order c) f facts fits = order_stepped t s n l o c f facts fits
-item_stepped t s n l o (Alarm g) f facts fits = stepped_nothing t s n l o f
-item_stepped t s n l o (Clear g) f facts fits = stepped_nothing t s n l o f
+  protects_stepped : (k : CallNo) (c : CallRec) → find_call k (s.nodes n.0).calls ≡ Some c → is_searchable t ≡ true →
+      (w : Option Leg) → leg_of c.work (s.nodes n.0).legs ≡ w → Steps (protects (local_node t n) (s.nodes n.0) c w)
+  protects_stepped k c found searchable None e = none_stepped
+  protects_stepped k c found searchable (Some w) e =
+      let can = facts.protect n k c w found e searchable in
+      pair_stepped t s n o f (s.nodes n.0) refl (facts.learnt n.0) c w can.begins can.may
+      (whole-route t s o w.lsp n w (o w.lsp) (f w.lsp) can.begins can.stands)
 
-first_stepped : (t : Network) (s : Mesh) (n : NodeId) (l : Lsp) (o : Option (List Step)) (items : List DeskItem) →
-    Follows t s l o → StepFacts t s → s.desks n.0 ≡ items →
-    Stepped t s n l o (on_first_item (local_node t n) (s.nodes n.0) items)
-first_stepped t s n l o [] f facts is = stepped_nothing t s n l o f
-first_stepped t s n l o (i ∷ items) f facts is = item_stepped t s n l o i f facts (facts.desk n.0 i items is)
+  protect_stepped : (k : CallNo) (from : NodeId) → is_searchable t ≡ true → (c : Option CallRec) →
+      find_call k (s.nodes n.0).calls ≡ c → Steps (protect_with (local_node t n) (s.nodes n.0) from c)
+  protect_stepped k from searchable None e = none_stepped
+  protect_stepped k from searchable (Some c) e =
+      if_cases Steps (nat_eq from.0 n.0 && is_bare c.state) _ _
+      (λ h. protects_stepped k c e searchable (leg_of c.work (s.nodes n.0).legs) refl) (λ h. none_stepped)
+
+  order_stepped : (c : Command) → is_valid t c ≡ true → Steps (on_order (local_node t n) (s.nodes n.0) c)
+  order_stepped (Setup k from to protected both via backup) valid =
+      setup_stepped t s n o f
+      (record { call = k; from = from; egress = to; protected = protected; both = both; via = via; backup = backup })
+      (given t from to via (and_second _ (has_way t from to via) (and_first _ _ valid)))
+      (searched t from to via (and_second _ (has_way t from to via) (and_first _ _ valid))) (facts.learnt n.0)
+      (find_call k (s.nodes n.0).calls)
+  order_stepped (Release k from) valid =
+      release_stepped t s o n f from (find_call k (s.nodes n.0).calls) (λ d e. facts.call n.0 k d e)
+  order_stepped (Protect k from) valid =
+      protect_stepped k from (and_second (is_node_id t.nodes from) _ valid) (find_call k (s.nodes n.0).calls) refl
+  order_stepped (Retry k from) valid = none_stepped
+  order_stepped (Revert k from) valid = none_stepped
+  order_stepped (Fail g) valid = none_stepped
+  order_stepped (Repair g) valid = none_stepped
+
+  item_stepped : (i : DeskItem) → ItemFits t i → Steps (on_item (local_node t n) (s.nodes n.0) i)
+  item_stepped (Order c) fits = order_stepped c fits
+  item_stepped (Alarm g) fits = none_stepped
+  item_stepped (Clear g) fits = none_stepped
+
+  first_stepped : (items : List DeskItem) → s.desks n.0 ≡ items →
+      Steps (on_first_item (local_node t n) (s.nodes n.0) items)
+  first_stepped [] is = none_stepped
+  first_stepped (i ∷ items) is = item_stepped i (facts.desk n.0 i items is)
 
 -- Every event
 
@@ -121,32 +146,42 @@ link_quiet p s (Some l) =
     (λ h. record { legs = refl; sent = refl; numbers = refl })
     (λ h. record { legs = refl; sent = refl; numbers = refl })
 
-pub step_follows : (t : Network) (s : Mesh) (e : MeshEvent) (l : Lsp) (o : Option (List Step)) →
-    is_enabled t s e ≡ true → StepFacts t s → Follows t s l o →
-    Follows t (step t s e) l (or_route o (first_route l (sent_at_ingress t s e l)))
-step_follows t s (Take d u) l o enabled facts f = traced_take t s d u (s.mail u.0 d.0) l o refl enabled f
-step_follows t s (Desk n) l o enabled facts f =
-    follows_same t (commit s n.0 (on_first_item (local_node t n) (s.nodes n.0) (s.desks n.0))) (step t s (Desk n)) l _
-    (desk_same t s n (on_first_item (local_node t n) (s.nodes n.0) (s.desks n.0)) l)
-    (first_stepped t s n l o (s.desks n.0) f facts refl).follows
-step_follows t s (Tick n) l o enabled facts f = (stepped_nothing t s n l o f).follows
-step_follows t s (Learn n k) l o enabled facts f =
-    let a = on_link (local_node t n) (s.nodes n.0) (find_link t k) in
-    rw or_none (follows_same t s (commit s n.0 a) l o
-    (same_quiet s n a l (link_quiet (local_node t n) (s.nodes n.0) (find_link t k))) f)
-step_follows t s (Post c) l o enabled facts f = rw or_none (follows_same t s (posted s c) l o (posted_same s c l) f)
+-- the same routes, written otherwise
+same_routes : (t : Network) (s : Mesh) (o o' : Routes) → ((l : Lsp) → o l ≡ o' l) → EachFollows t s o →
+    EachFollows t s o'
+same_routes t s o o' same f = let all : o ≡ o' = λ i l. same l i in subst (EachFollows t s) all f
 
-or_assoc : (a b c : Option (List Step)) → or_route (or_route a b) c ≡ or_route a (or_route b c)
-or_assoc None b c = refl
-or_assoc (Some r) b c = refl
+-- the routes of the LSPs after a step
+abbrev step_routes : Network → Mesh → MeshEvent → Routes → Routes
+step_routes t s e o l = or_route (o l) (first_route l (sent_at_ingress t s e l))
+
+unsent : (t : Network) (s : Mesh) (o : Routes) → EachFollows t s o → EachFollows t s (λ l. or_route (o l) None)
+unsent t s o f = same_routes t s o (λ l. or_route (o l) None) (λ l. sym (or_none (o l))) f
+
+pub step_follows : (t : Network) (s : Mesh) (e : MeshEvent) (o : Routes) → is_enabled t s e ≡ true →
+    StepFacts t s → EachFollows t s o → EachFollows t (step t s e) (step_routes t s e o)
+step_follows t s (Take d u) o enabled facts f l =
+    (traced_take t s o d u (s.mail u.0 d.0) refl enabled (facts.learnt d.0) f facts.pair l).follows
+step_follows t s (Desk n) o enabled facts f l =
+    let a = on_first_item (local_node t n) (s.nodes n.0) (s.desks n.0) in
+    follows_same t (commit s n.0 a) (step t s (Desk n)) (step_routes t s (Desk n) o) l _ (desk_same t s n a l)
+    (first_stepped t s o n f facts (s.desks n.0) refl l).follows
+step_follows t s (Tick n) o enabled facts f l = (stepped_nothing t s n o f l).follows
+step_follows t s (Learn n k) o enabled facts f =
+    let a = on_link (local_node t n) (s.nodes n.0) (find_link t k) in
+    unsent t (step t s (Learn n k)) o (λ l. follows_same t s (commit s n.0 a) o l (o l)
+    (same_quiet s n a l (link_quiet (local_node t n) (s.nodes n.0) (find_link t k))) (f l))
+step_follows t s (Post c) o enabled facts f =
+    unsent t (posted s c) o (λ l. follows_same t s (posted s c) o l (o l) (posted_same s c l) (f l))
 
 -- Facts that hold in every state, and that say what each step needs, carry every LSP along a run.
 pub follows_run : (t : Network) (Facts : Mesh → Type 0) → ((s : Mesh) → Facts s → StepFacts t s) →
     ((s : Mesh) (e : MeshEvent) → is_enabled t s e ≡ true → Facts s → Facts (step t s e)) →
-    (s : Mesh) (events : List MeshEvent) → IsRun t s events → Facts s → (l : Lsp) (o : Option (List Step)) →
-    Follows t s l o → Follows t (after t s events) l (or_route o (route_of t s events l))
-follows_run t Facts gives keeps s [] run facts l o f = rw or_none f
-follows_run t Facts gives keeps s (e ∷ es) run facts l o f =
-    rw (← or_assoc o (first_route l (sent_at_ingress t s e l)) (route_of t (step t s e) es l))
-    (follows_run t Facts gives keeps (step t s e) es run.1 (keeps s e run.0 facts) l
-    (or_route o (first_route l (sent_at_ingress t s e l))) (step_follows t s e l o run.0 (gives s facts) f))
+    (s : Mesh) (events : List MeshEvent) → IsRun t s events → Facts s → (o : Routes) → EachFollows t s o →
+    EachFollows t (after t s events) (λ l. or_route (o l) (route_of t s events l))
+follows_run t Facts gives keeps s [] run facts o f = unsent t s o f
+follows_run t Facts gives keeps s (e ∷ es) run facts o f =
+    same_routes t (after t (step t s e) es) _ _
+    (λ l. or_assoc (o l) (first_route l (sent_at_ingress t s e l)) (route_of t (step t s e) es l))
+    (follows_run t Facts gives keeps (step t s e) es run.1 (keeps s e run.0 facts) (step_routes t s e o)
+    (step_follows t s e o run.0 (gives s facts) f))

@@ -1,5 +1,5 @@
 -- No wavelength of a fibre is cross-connected for two LSPs.
-use Rattle.std.proofs.Common.{◌≡◌, ◌≢◌, ◌<◌, ◌≤◌, ℕ, suc, Bool, true, false, nat_eq, List, refl, sym, ap, ◌∙◌, arith, inl, inr}
+use Rattle.std.proofs.Common.{◌≡◌, ◌≢◌, ◌<◌, ◌≤◌, ℕ, suc, Bool, true, false, nat_eq, List, refl, sym, ap, ◌∙◌, subst, arith, inl, inr}
 use Rattle.std.specs.Prelude.{◌⊎◌, ◌&&◌, ◌||◌, Option, Some, None}
 use Rattle.ason_base.specs.Lsps.{same_bool, same_fibre}
 use Rattle.ason_base.specs.Network.{Network, far_end, receiver_of, sender_of}
@@ -24,8 +24,8 @@ use Rattle.mesh_laws.proofs.hops.Plans.{Plan, hops, plan, node_at, link_at, fibr
 use Rattle.mesh_laws.proofs.hops.Rows.{live_upstream}
 use Rattle.mesh_laws.proofs.hops.Rest.{Carries, LabelsMeet}
 use Rattle.mesh_laws.proofs.hops.Chain.{LegFits, HasOut, Hop, Chain, out_fibre_at, below_or_not}
-use Rattle.mesh_laws.proofs.hops.LegChanges.{live_leg}
-use Rattle.mesh_laws.proofs.hops.Planned.{Follows}
+use Rattle.mesh_laws.proofs.hops.LegChanges.{live_carries, live_leg}
+use Rattle.mesh_laws.proofs.hops.Planned.{Routes, Follows, EachFollows}
 use Rattle.mesh_laws.proofs.hops.Laws.{follows, one_leg_each}
 
 -- at the node into which the fibre leads a Live leg of the LSP has the label in
@@ -144,37 +144,42 @@ module _ (t : Network) (s : Mesh) (l : Lsp) (p : Plan) (route : IsRoute t l.ingr
             label = in_label i enters.0 h meets enters.1;
           }
 
-sender_owner : (t : Network) (s : Mesh) (l : Lsp) (o : Option (List Step)) → Follows t s l o →
+-- a leg that is Live carries a call: no backup is activated
+sender_owner : (t : Network) (s : Mesh) (o : Routes) (l : Lsp) (c : Option (List Step)) → Follows t s o l c →
     (n : NodeId) (f : Fibre) (x : ℕ) (g : Leg) → leg_at s l n ≡ Some g → g.phase ≡ Live → g.out_fibre ≡ Some f →
     g.out_label ≡ Some x → Owner t s f x l
-sender_owner t s l None blank n f x g here live leaves label = absurd (let none = blank.legs n in cc (none, here))
-sender_owner t s l (Some steps) (e, pl) n f x g here live leaves label =
+sender_owner t s o l None blank n f x g here live leaves label = absurd (let none = blank.legs n in cc (none, here))
+sender_owner t s o l (Some steps) (e, q, pl) n f x g here live leaves label =
     elim (pl.chain.legs n) [
       | inl none ↦ absurd (cc (none, here))
       | inr (i, small, at_n) ↦ (let is : n ≡ node_at (plan steps e) i =
-          same_node n (node_at (plan steps e) i) at_n in owner_at t s l
-          (plan steps e) pl.route pl.chain f x g live leaves label i
-          (rw (← is) here) small)
+          same_node n (node_at (plan steps e) i) at_n in
+          let here' : leg_at s l (node_at (plan steps e) i) ≡ Some g = rw (← is) here in
+          let fits : LegFits t q l (plan steps e) i g = rw here' at (pl.chain.fits i small) in
+          let chain : Chain t Carries l (plan steps e) (leg_at s l) (mail_between s l) =
+          subst (λ q. Chain t q l (plan steps e) (leg_at s l) (mail_between s l))
+          (live_carries t q l (plan steps e) i g fits live) pl.chain in
+          owner_at t s l (plan steps e) pl.route chain f x g live leaves label i here' small)
     ]
 
-owner : (t : Network) (s : Mesh) → HasOneLegEach s → ((l : Lsp) → (o : Option (List Step)) × Follows t s l o) →
+owner : (t : Network) (s : Mesh) (o : Routes) → HasOneLegEach s → EachFollows t s o →
     (f : Fibre) (x : ℕ) (g : Leg) → g.phase ≡ Live → (a b : Option NodeId) → receiver_of t f ≡ a → sender_of t f ≡ b →
     (StandsAt s a g × (g.in_fibre ≡ Some f) × (g.in_label ≡ Some x)) ⊎
     (StandsAt s b g × (g.out_fibre ≡ Some f) × (g.out_label ≡ Some x)) → Owner t s f x g.lsp
-owner t s one all f x g live None b at_a at_b (inl h) = absurd h.0
-owner t s one all f x g live (Some n) b at_a at_b (inl h) =
+owner t s o one all f x g live None b at_a at_b (inl h) = absurd h.0
+owner t s o one all f x g live (Some n) b at_a at_b (inl h) =
     record { node = n; receiver = at_a; leg = g; found = one n g h.0; live = live; fibre = h.1; label = h.2 }
-owner t s one all f x g live a None at_a at_b (inr h) = absurd h.0
-owner t s one all f x g live a (Some n) at_a at_b (inr h) =
-    sender_owner t s g.lsp (all g.lsp).0 (all g.lsp).1 n f x g (one n g h.0) live h.1 h.2
+owner t s o one all f x g live a None at_a at_b (inr h) = absurd h.0
+owner t s o one all f x g live a (Some n) at_a at_b (inr h) =
+    sender_owner t s o g.lsp (o g.lsp) (all g.lsp) n f x g (one n g h.0) live h.1 h.2
 
 pub every_run_safe : EveryRunIsSafe
 every_run_safe t events run f x g h this that =
     let facts = facts-hold t events run in
-    let all : (l : Lsp) → (o : Option (List Step)) × Follows t (after t start events) l o =
-    λ l. (route_of t start events l, follows t events run l) in
     owners t (after t start events) f x g.lsp h.lsp facts
-    (owner t (after t start events) (one_leg_each t (after t start events) facts) all f x g this.live
+    (owner t (after t start events) (route_of t start events) (one_leg_each t (after t start events) facts)
+    (follows t events run) f x g this.live
     (receiver_of t f) (sender_of t f) refl refl this.at_an_end)
-    (owner t (after t start events) (one_leg_each t (after t start events) facts) all f x h that.live
+    (owner t (after t start events) (route_of t start events) (one_leg_each t (after t start events) facts)
+    (follows t events run) f x h that.live
     (receiver_of t f) (sender_of t f) refl refl that.at_an_end)
