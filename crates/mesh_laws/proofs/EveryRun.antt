@@ -7,6 +7,7 @@ use Rattle.mesh_rules.specs.Events.{IsRun, step}
 use Rattle.mesh_laws.specs.Laws.{EveryRunKeepsTheLaws, LawsHold}
 use Rattle.mesh_laws.proofs.hops.Joined.{every_call_joined}
 use Rattle.mesh_laws.proofs.hops.Laws.{every_hop}
+use Rattle.mesh_laws.proofs.hops.Recorded.{every_backup_records}
 use Rattle.mesh_laws.proofs.hops.Safe.{every_run_safe}
 use Rattle.mesh_laws.proofs.nodes.Laws.{every_call, every_label, every_learnt_row, every_live}
 
@@ -22,6 +23,7 @@ laws_hold t events run =
       safe = every_run_safe t events run;
       joined = every_call_joined t events run;
       learnt = every_learnt_row t events run;
+      risks = λ valid. every_backup_records t events valid run;
     }
 
 run_so_far : (t : Network) (s : Mesh) (events later : List MeshEvent) → IsRun t s (events ++ later) → IsRun t s events

@@ -6,6 +6,7 @@ pub mod Labels
 pub mod FollowedBy
 pub mod InParts
 pub mod LegChanges
+pub mod Recorded
 pub mod Rest
 pub mod Risks
 pub mod Notices

@@ -7,6 +7,7 @@ ghost use Rattle.mesh_laws.specs.LabelLaw.{EveryLabelIsShared, EveryLiveLegIsLab
 ghost use Rattle.mesh_laws.specs.Laws.{EveryRunKeepsTheLaws};
 ghost use Rattle.mesh_laws.specs.LearntLaw.{EveryLearntRowIsTrue, EveryNodeCanSearch};
 ghost use Rattle.mesh_laws.specs.NodeLaw.{EveryNodeSharesLawfully};
+ghost use Rattle.mesh_laws.specs.RiskLaw.{EveryBackupRecordsItsRisks};
 ghost use Rattle.mesh_laws.specs.SafeLaw.{EveryRunIsSafe};
 
 /// In each state of each run, at each node: a label of a fibre is taken by one leg alone, or by backups whose primaries have
@@ -16,7 +17,8 @@ ghost use Rattle.mesh_laws.specs.SafeLaw.{EveryRunIsSafe};
 /// names the end of its LSP's route as its egress. No label of a fibre is cross-connected for two LSPs. Each call that is
 /// neither asking nor blocked is joined: its working LSP is Live at each node of its route, each label out being the next
 /// node's label in. What a node learnt of links are rows of the network; over a topology routes can be asked of what it knows.
-/// The last clause says all but this of one state, in one word.
+/// Over a topology the leg of a backup, at any node, records the risks of the route of the working LSP that its Path names, also
+/// where that LSP is gone. The last clause says all but the searching of one state, in one word.
 pub fn every_run()
     ensures labels { EveryLabelIsShared }
     ensures labelled { EveryLiveLegIsLabelled }
@@ -26,6 +28,7 @@ pub fn every_run()
     ensures joined { EveryCallIsJoined }
     ensures learnt { EveryLearntRowIsTrue }
     ensures searchable { EveryNodeCanSearch }
+    ensures risks { EveryBackupRecordsItsRisks }
     ensures together { EveryRunKeepsTheLaws }
 {}
 

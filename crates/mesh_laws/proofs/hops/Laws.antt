@@ -1,73 +1,196 @@
 -- Every hop of every LSP has a shape, in every state of every run.
-use Rattle.std.proofs.Common.{◌≡◌, ℕ, true, false, List, ◌∷◌, refl, sym, subst}
-use Rattle.std.specs.Prelude.{Option, Some, None, IfSome}
+use Rattle.std.proofs.Common.{◌≡◌, ℕ, Bool, true, false, List, ◌∷◌, refl, sym, ap, ◌∙◌, subst}
+use Rattle.std.specs.Prelude.{◌||◌, Option, Some, None, IfSome}
 use Rattle.std.specs.List.{Contains}
 use Rattle.std.proofs.lemmas.List.Elements.{All-contains, All-from_recursion}
+use Rattle.ason_base.specs.Lsps.{is_lsp, same_lsp}
 use Rattle.ason_base.specs.Network.{Network}
+use Rattle.ason_base.specs.Routes.{makes_route}
+use Rattle.ason_base.specs.declared.ids.CallNo.{CallNo}
+use Rattle.ason_base.specs.declared.ids.NodeId.{NodeId}
+use Rattle.ason_base.specs.declared.steps.Step.{Step}
 use Rattle.ason_base.specs.declared.ids.Lsp.{Lsp}
-use Rattle.ason_base.specs.declared.calls.CallState.{CallState}
-use Rattle.ason_base.specs.declared.calls.CallState.TheVariants.{Asking, Bare, Pairing, Guarded, Turning, Turned, Stuck, Blocked}
 use Rattle.ason_base.specs.declared.calls.Phase.{Phase}
-use Rattle.ason_base.specs.declared.calls.Phase.TheVariants.{Asked, Held, Armed, Live, Closing, Falling}
-use Rattle.ason_base.specs.declared.calls.Role.TheVariants.{Work}
+use Rattle.ason_base.specs.declared.calls.Role.{Role}
+use Rattle.ason_base.specs.declared.calls.Role.TheVariants.{Work, Back}
 use Rattle.ason_base.specs.declared.commands.Command.TheVariants.{Setup, Release, Protect, Retry, Revert, Fail, Repair}
 use Rattle.ason_base.specs.declared.commands.DeskItem.{DeskItem}
 use Rattle.ason_base.specs.declared.commands.DeskItem.TheVariants.{Order, Alarm, Clear}
 use Rattle.ason_base.specs.declared.tables.CallRec.{CallRec}
 use Rattle.ason_base.specs.declared.tables.Leg.{Leg}
 use Rattle.mesh_rules.specs.declared.events.MeshEvent.{MeshEvent}
-use Rattle.mesh_rules.specs.Legs.{find_leg, is_closing, leg_of}
+use Rattle.mesh_rules.specs.Calls.{find_call, names}
+use Rattle.mesh_rules.specs.Commands.{is_searchable}
+use Rattle.mesh_rules.specs.Legs.{find_leg, is_closing, is_work, leg_of}
 use Rattle.mesh_rules.specs.State.{NodeState}
 use Rattle.mesh_rules.specs.Machine.{Mesh, start}
 use Rattle.mesh_rules.specs.Events.{IsRun, after, route_of}
-use Rattle.mesh_laws.specs.CallLaw.{fits, phase_of, IsNamed}
+use Rattle.mesh_laws.specs.CallLaw.{FitsLegs, IsNamed, phase_of}
 use Rattle.mesh_laws.specs.HopLaw.{HasOneLegEach, EveryHopHasAShape}
 use Rattle.mesh_laws.specs.NodeLaw.{DeskFits, FitsDesk}
-use Rattle.mesh_laws.proofs.nodes.Facts.{CallFacts, MeshFacts}
+use Rattle.mesh_laws.proofs.nodes.Facts.{CanBeBacked, MeshFacts}
+use Rattle.mesh_laws.proofs.nodes.States.{Row, back-stands, row, work-stands}
 use Rattle.mesh_nodes.specs.Order.{LegsRise}
-use Rattle.mesh_nodes.proofs.LegList.{all-found, found-lsp}
+use Rattle.mesh_nodes.proofs.CallList.{called-found, called-names}
+use Rattle.mesh_nodes.proofs.LegList.{all-found, found-lsp, same_lsp-eq}
 use Rattle.mesh_laws.proofs.nodes.Runs.{facts-start, facts-step, facts-hold}
-use Rattle.mesh_laws.proofs.hops.Planned.{Follows}
+use Rattle.mesh_laws.proofs.hops.Plans.{same_node}
+use Rattle.mesh_laws.proofs.hops.Paired.{CallsMayPair, MayPair}
+use Rattle.mesh_laws.proofs.hops.Planned.{EachFollows}
 use Rattle.mesh_laws.proofs.hops.Notices.{no_notices}
-use Rattle.mesh_laws.proofs.hops.Released.{CallStands}
-use Rattle.mesh_laws.proofs.hops.Run.{ItemFits, StepFacts, follows_run}
+use Rattle.mesh_laws.proofs.hops.Released.{CallStands, NamedStands}
+use Rattle.mesh_laws.proofs.hops.Run.{CanBeProtected, ItemFits, StepFacts, follows_run}
 use Rattle.mesh_laws.proofs.hops.Law.{lsp_fits}
 
--- the working leg of a call isn't torn
-never_torn : (state : CallState) (f : Phase) (back : Option Phase) → fits state (Some f) back ≡ true →
-    is_closing f ≡ false
-never_torn state Asked back e = refl
-never_torn state Held back e = refl
-never_torn state Armed back e = refl
-never_torn state Live back e = refl
-never_torn Asking Closing back e = cc
-never_torn Bare Closing back e = cc
-never_torn Pairing Closing back e = cc
-never_torn Guarded Closing back e = cc
-never_torn Turning Closing back e = cc
-never_torn Turned Closing back e = cc
-never_torn Stuck Closing back e = cc
-never_torn Blocked Closing back e = cc
-never_torn Asking Falling back e = cc
-never_torn Bare Falling back e = cc
-never_torn Pairing Falling back e = cc
-never_torn Guarded Falling back e = cc
-never_torn Turning Falling back e = cc
-never_torn Turned Falling back e = cc
-never_torn Stuck Falling back e = cc
-never_torn Blocked Falling back e = cc
+-- A call and its LSPs
 
-work_stands : (n : ℕ) (s : NodeState) (c : CallRec) → CallFacts n s.lsp s.legs c → (l : Lsp) (g : Leg) →
-    c.work ≡ Some l → find_leg l s.legs ≡ Some g → (l.ingress.0 ≡ n) × (is_closing g.phase ≡ false)
-work_stands n s c facts l g is here =
-    let named : IfSome (Some l) (IsNamed n s.lsp s.legs Work c.egress) = rw is at facts.fits.work in
-    let state : fits c.state (phase_of (find_leg l s.legs)) (phase_of (leg_of c.back s.legs)) ≡ true =
-    rw is at facts.fits.state in
-    let state' : fits c.state (Some g.phase) (phase_of (leg_of c.back s.legs)) ≡ true = rw here at state in
-    (named.ingress, never_torn c.state g.phase (phase_of (leg_of c.back s.legs)) state')
+-- the phase of a leg that a call names
+named_phase : (n next : ℕ) (legs : List Leg) (r : Role) (egress : NodeId) (named : Option Lsp) (l : Lsp) (g : Leg) →
+    named ≡ Some l → find_leg l legs ≡ Some g → phase_of (leg_of named legs) ≡ Some g.phase
+named_phase n next legs r egress named l g is here = rw (is, here) refl
 
-call_stands : (n : ℕ) (s : NodeState) (c : CallRec) → CallFacts n s.lsp s.legs c → CallStands n s c
-call_stands n s c facts = record { back = rw facts.back refl; work = work_stands n s c facts }
+named_is : (n next : ℕ) (legs : List Leg) (r : Role) (egress : NodeId) (named : Option Lsp) (l : Lsp) →
+    IfSome named (IsNamed n next legs r egress) → named ≡ Some l → IsNamed n next legs r egress l
+named_is n next legs r egress named l fits is =
+    let fits' : IfSome (Some l) (IsNamed n next legs r egress) = rw is at fits in fits'
+
+not_torn : (f : Phase) → (is_closing f ≡ true → ⊥) → is_closing f ≡ false
+not_torn f never = go (is_closing f) never
+  where
+    go : (b : Bool) → (b ≡ true → ⊥) → b ≡ false
+    go true never = absurd (never refl)
+    go false never = refl
+
+module _ (n : ℕ) (s : NodeState) (c : CallRec) (fit : FitsLegs n s.lsp s.legs c) where
+  abbrev work_phase : Option Phase
+  work_phase = phase_of (leg_of c.work s.legs)
+
+  abbrev back_phase : Option Phase
+  back_phase = phase_of (leg_of c.back s.legs)
+
+  state_row : Row c.state work_phase back_phase
+  state_row = row c.state work_phase back_phase fit.state
+
+  work_named : (l : Lsp) → c.work ≡ Some l → IsNamed n s.lsp s.legs Work c.egress l
+  work_named l is = named_is n s.lsp s.legs Work c.egress c.work l fit.work is
+
+  back_named : (l : Lsp) → c.back ≡ Some l → IsNamed n s.lsp s.legs Back c.egress l
+  back_named l is = named_is n s.lsp s.legs Back c.egress c.back l fit.back is
+
+  work_stands : NamedStands n s c.work
+  work_stands l g is here =
+      let phase : work_phase ≡ Some g.phase = named_phase n s.lsp s.legs Work c.egress c.work l g is here in
+      let at_row : Row c.state (Some g.phase) back_phase =
+      subst (λ w. Row c.state w back_phase) phase state_row in
+      ((work_named l is).ingress, not_torn g.phase (λ torn. work-stands c.state g.phase back_phase at_row torn))
+
+  back_stands : NamedStands n s c.back
+  back_stands l g is here =
+      let phase : back_phase ≡ Some g.phase = named_phase n s.lsp s.legs Back c.egress c.back l g is here in
+      let at_row : Row c.state work_phase (Some g.phase) = subst (Row c.state work_phase) phase state_row in
+      ((back_named l is).ingress, not_torn g.phase (λ torn. back-stands c.state work_phase g.phase at_row torn))
+
+  -- the two LSPs of a call aren't one, since a leg has one role
+  two : (k l : Lsp) → c.work ≡ Some k → c.back ≡ Some l → k ≡ l → ⊥
+  two k l is is' one =
+      let work = (work_named k is).leg in
+      let back = (back_named l is').leg in
+      let back' : find_leg k s.legs ≡ Some back.0 = rw one back.1 in
+      let same : work.0 ≡ back.0 = (let here = work.1 in cc (here, back')) in
+      let roles : Work ≡ Back = sym work.2 ∙ ap (λ (g : Leg). g.role) same ∙ back.2 in
+      cc roles
+
+  call_stands : CallStands n s c
+  call_stands = record {
+    work = work_stands;
+    back = back_stands;
+    apart = λ k l g is is' here. apart k l is is' (same_lsp k l) refl;
+  }
+    where
+      apart : (k l : Lsp) → c.work ≡ Some k → c.back ≡ Some l → (b : Bool) → same_lsp k l ≡ b → b ≡ false
+      apart k l is is' true e = absurd (two k l is is' (same_lsp-eq k l e))
+      apart k l is is' false e = refl
+
+  -- the LSP of a working leg is the call's working LSP
+  works_for : (l : Lsp) (g : Leg) → find_leg l s.legs ≡ Some g → is_work g.role ≡ true → names l c ≡ true →
+      c.work ≡ Some l
+  works_for l g here work named = go c.work c.back refl refl named
+    where
+      backs : c.back ≡ Some l → ⊥
+      backs is =
+          let back = (back_named l is).leg in
+          let same : back.0 ≡ g = (let there = back.1 in cc (there, here)) in
+          let role : g.role ≡ Back = ap (λ (g : Leg). g.role) (sym same) ∙ back.2 in
+          let never : false ≡ true = rw role at work in
+          cc never
+
+      go : (w b : Option Lsp) → c.work ≡ w → c.back ≡ b → (is_lsp w l || is_lsp b l) ≡ true → c.work ≡ Some l
+      go None None at_w at_b e = absurd (cc e)
+      go None (Some k) at_w at_b e = absurd (backs (at_b ∙ ap Some (same_lsp-eq k l e)))
+      go (Some k) b at_w at_b e = first (same_lsp k l) refl e
+        where
+          first : (x : Bool) → same_lsp k l ≡ x → (x || is_lsp b l) ≡ true → c.work ≡ Some l
+          first true q e = at_w ∙ ap Some (same_lsp-eq k l q)
+          first false q e = second b at_b e
+            where
+              second : (b : Option Lsp) → c.back ≡ b → is_lsp b l ≡ true → c.work ≡ Some l
+              second None at_b e = absurd (cc e)
+              second (Some m) at_b e = absurd (backs (at_b ∙ ap Some (same_lsp-eq m l e)))
+
+  -- its leg leads to the call's egress
+  work_egress : (l : Lsp) (g : Leg) → c.work ≡ Some l → find_leg l s.legs ≡ Some g → g.egress ≡ c.egress
+  work_egress l g is here =
+      let work = (work_named l is).leg in
+      let same : work.0 ≡ g = (let there = work.1 in cc (there, here)) in
+      ap (λ (g : Leg). g.egress) (sym same) ∙ work.3
+
+-- Backups
+
+if_given : (t : Network) (n : NodeId) (e : NodeId) (backup : Option (List Step)) →
+    IfSome backup (λ route. makes_route t n e route ≡ true) → (route : List Step) → backup ≡ Some route →
+    makes_route t n e route ≡ true
+if_given t n e backup made route is =
+    let made' : IfSome (Some route) (λ route. makes_route t n e route ≡ true) = rw is at made in made'
+
+may_pair : (t : Network) (n : NodeId) (c : CallRec) (e : NodeId) → CanBeBacked t n c → e ≡ c.egress →
+    (c.backup ≡ None → is_searchable t ≡ true) → MayPair t n c e
+may_pair t n c e can is searched =
+    record { given = λ route at. rw is (if_given t n c.egress c.backup can.given route at); searched = searched }
+
+module _ (t : Network) (s : Mesh) (facts : MeshFacts t s) where
+  pairs : CallsMayPair t s
+  pairs n g c here called work protected =
+      let node = facts.node n.0 in
+      let found = called-found g.lsp (s.nodes n.0).calls c node.calls_rise called in
+      let fit = node.call c.call c found in
+      let can = facts.backed n c.call c found in
+      let is = works_for n.0 (s.nodes n.0) c fit g.lsp g here work (called-names g.lsp (s.nodes n.0).calls c called) in
+      may_pair t n c g.egress can (work_egress n.0 (s.nodes n.0) c fit g.lsp g is here)
+      (λ none. can.searched protected none)
+
+  protects_named : (n : NodeId) (k : CallNo) (c : CallRec) (w : Leg) → find_call k (s.nodes n.0).calls ≡ Some c →
+      (work : Option Lsp) → c.work ≡ work → leg_of work (s.nodes n.0).legs ≡ Some w → is_searchable t ≡ true →
+      CanBeProtected t s n c w
+  protects_named n k c w found None is here searchable = absurd (cc here)
+  protects_named n k c w found (Some l) is here searchable =
+      let fit = (facts.node n.0).call k c found in
+      let own : w.lsp ≡ l = found-lsp l (s.nodes n.0).legs w here in
+      record {
+        begins = own_ingress own ((work_named n.0 (s.nodes n.0) c fit l is).ingress);
+        stands = subst (λ m. find_leg m (s.nodes n.0).legs ≡ Some w) (sym own) here;
+        may =
+            may_pair t n c w.egress (facts.backed n k c found)
+            (work_egress n.0 (s.nodes n.0) c fit l w is here) (λ none. searchable);
+      }
+    where
+      own_ingress : w.lsp ≡ l → l.ingress.0 ≡ n.0 → w.lsp.ingress ≡ n
+      own_ingress own at = ap (λ (m : Lsp). m.ingress) own ∙ same_node l.ingress n at
+
+  protects_call : (n : NodeId) (k : CallNo) (c : CallRec) (w : Leg) → find_call k (s.nodes n.0).calls ≡ Some c →
+      leg_of c.work (s.nodes n.0).legs ≡ Some w → is_searchable t ≡ true → CanBeProtected t s n c w
+  protects_call n k c w found here searchable = protects_named n k c w found c.work refl here searchable
+
+-- What each step needs
 
 item_fits : (t : Network) (n : ℕ) (i : DeskItem) → FitsDesk t n i → ItemFits t i
 item_fits t n (Order (Setup k from to protected both via backup)) fits = fits.0
@@ -83,17 +206,18 @@ item_fits t n (Clear f) fits = absurd fits
 step_facts : (t : Network) (s : Mesh) → MeshFacts t s → StepFacts t s
 step_facts t s facts = record {
   call = λ n k c found. call_stands n (s.nodes n) c ((facts.node n).call k c found);
+  pair = pairs t s facts;
+  protect = protects_call t s facts;
   desk = λ n i items is. item_fits t n i (let fits : DeskFits t n (i ∷ items) = rw is at (facts.desk n) in fits.0);
   learnt = facts.learnt;
 }
 
 -- each LSP with its route, in every state of every run
-pub follows : (t : Network) (events : List MeshEvent) → IsRun t start events → (l : Lsp) →
-    Follows t (after t start events) l (route_of t start events l)
-follows t events run l =
-    follows_run t (MeshFacts t) (step_facts t) (facts-step t) start events run (facts-start t) l None (record {
-      legs =
-          λ n. refl;
+pub follows : (t : Network) (events : List MeshEvent) → IsRun t start events →
+    EachFollows t (after t start events) (route_of t start events)
+follows t events run =
+    follows_run t (MeshFacts t) (step_facts t) (facts-step t) start events run (facts-start t) (λ l. None) (λ l. record {
+      legs = λ n. refl;
       mail = λ a b. refl;
     })
 
@@ -112,5 +236,6 @@ pub every_hop : EveryHopHasAShape
 every_hop t events run =
     let s : Mesh = after t start events in (
       one_leg_each t s (facts-hold t events run),
-      λ l. lsp_fits t s l (route_of t start events l) (no_notices t events l) (follows t events run l),
+      λ l. lsp_fits t s (route_of t start events) l (route_of t start events l) (no_notices t events l)
+          (follows t events run l),
     )

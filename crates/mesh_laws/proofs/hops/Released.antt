@@ -110,16 +110,16 @@ module _ (t : Network) (s : Mesh) (o : Routes) where
 
   module _ (n : NodeId) (f : EachFollows t s o) where
     tears_lsp : (w : Lsp) (g : Leg) → find_leg w (s.nodes n.0).legs ≡ Some g →
-        (w.ingress.0 ≡ n.0) × (is_closing g.phase ≡ false) → (l : Lsp) (c : Option (List Step)) → Follows t s o l c →
-        (own : Bool) → same_lsp w l ≡ own → Follows t (commit s n.0 (tears (Some g))) o l c
-    tears_lsp w g here facts l c f false e =
+        (w.ingress.0 ≡ n.0) × (is_closing g.phase ≡ false) → (l : Lsp) (own : Bool) → same_lsp w l ≡ own →
+        (c : Option (List Step)) → Follows t s o l c → Follows t (commit s n.0 (tears (Some g))) o l c
+    tears_lsp w g here facts l false e c f =
         follows_same t s (commit s n.0 (tears (Some g))) o l c
         (tears_other n w l g (found-is w (s.nodes n.0).legs (Some g) here) e) f
-    tears_lsp w g here facts l None f true e =
+    tears_lsp w g here facts l true e None f =
         let is = same_lsp-eq w l e in
         let none : find_leg w (s.nodes n.0).legs ≡ None = rw is (f.legs n) in
         absurd (cc (here, none))
-    tears_lsp w g here facts l (Some route) (e, q, pl) true same =
+    tears_lsp w g here facts l true same (Some route) (e, q, pl) =
         let is = same_lsp-eq w l same in
         (e, q, tears_planned n l q (plan route e) g pl (rw (← is) facts.0) (rw (← is) here) facts.1)
 
@@ -129,7 +129,7 @@ module _ (t : Network) (s : Mesh) (o : Routes) where
     tears_leg w None here stands l =
         follows_same t s (commit s n.0 nothing) o l (o l)
         (same_quiet s n nothing l (record { legs = refl; sent = refl; numbers = refl })) (f l)
-    tears_leg w (Some g) here stands l = tears_lsp w g here (stands g refl) l (o l) (f l) (same_lsp w l) refl
+    tears_leg w (Some g) here stands l = tears_lsp w g here (stands g refl) l (same_lsp w l) refl (o l) (f l)
 
     tears_none : EachFollows t (commit s n.0 (tears None)) o
     tears_none l =

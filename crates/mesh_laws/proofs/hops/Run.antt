@@ -167,12 +167,12 @@ step_follows t s (Desk n) o enabled facts f l =
     follows_same t (commit s n.0 a) (step t s (Desk n)) (step_routes t s (Desk n) o) l _ (desk_same t s n a l)
     (first_stepped t s o n f facts (s.desks n.0) refl l).follows
 step_follows t s (Tick n) o enabled facts f l = (stepped_nothing t s n o f l).follows
-step_follows t s (Learn n k) o enabled facts f =
+step_follows t s (Learn n k) o enabled facts f l =
     let a = on_link (local_node t n) (s.nodes n.0) (find_link t k) in
     unsent t (step t s (Learn n k)) o (λ l. follows_same t s (commit s n.0 a) o l (o l)
-    (same_quiet s n a l (link_quiet (local_node t n) (s.nodes n.0) (find_link t k))) (f l))
-step_follows t s (Post c) o enabled facts f =
-    unsent t (posted s c) o (λ l. follows_same t s (posted s c) o l (o l) (posted_same s c l) (f l))
+    (same_quiet s n a l (link_quiet (local_node t n) (s.nodes n.0) (find_link t k))) (f l)) l
+step_follows t s (Post c) o enabled facts f l =
+    unsent t (posted s c) o (λ l. follows_same t s (posted s c) o l (o l) (posted_same s c l) (f l)) l
 
 -- Facts that hold in every state, and that say what each step needs, carry every LSP along a run.
 pub follows_run : (t : Network) (Facts : Mesh → Type 0) → ((s : Mesh) → Facts s → StepFacts t s) →

@@ -1,6 +1,7 @@
 use Rattle.mesh_laws.proofs.EveryRun.{laws_hold}
 use Rattle.mesh_laws.proofs.hops.Joined.{every_call_joined}
 use Rattle.mesh_laws.proofs.hops.Laws.{every_hop}
+use Rattle.mesh_laws.proofs.hops.Recorded.{every_backup_records}
 use Rattle.mesh_laws.proofs.hops.Safe.{every_run_safe}
 use Rattle.mesh_laws.proofs.nodes.Laws.{every_call, every_label, every_learnt_row, every_live}
 use Rattle.mesh_laws.proofs.nodes.Searches.{every_search}
@@ -29,6 +30,9 @@ returns-clause-learnt c = every_learnt_row
 
 pub returns-clause-searchable : goal.returns-clause-searchable
 returns-clause-searchable c = every_search
+
+pub returns-clause-risks : goal.returns-clause-risks
+returns-clause-risks c = every_backup_records
 
 pub returns-clause-together : goal.returns-clause-together
 returns-clause-together c = laws_hold
