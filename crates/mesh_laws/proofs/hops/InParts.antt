@@ -1,6 +1,6 @@
 -- What a message does at its node in two parts, one after the other: the leg of its LSP follows, and then the call at
 -- the ingress. p is the node; s is what it keeps.
-use Rattle.std.proofs.Common.{◌≡◌, Bool, true, false, cond, ℕ, [], ◌∷◌, ◌++◌, refl, sym, append-nil}
+use Rattle.std.proofs.Common.{◌≡◌, true, false, cond, ℕ, [], ◌∷◌, ◌++◌, refl, sym, append-nil}
 use Rattle.std.specs.Prelude.{◌&&◌, Option, Some, None, if◌then◌else◌}
 use Rattle.ason_base.specs.declared.ids.NodeId.{NodeId}
 use Rattle.ason_base.specs.declared.messages.Msg.{Msg}

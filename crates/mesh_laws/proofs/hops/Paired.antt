@@ -1,11 +1,10 @@
 -- A backup is asked for beside a working LSP, at their ingress; and what else becomes of a call there.
-use Rattle.std.proofs.Common.{◌≡◌, ◌+◌, ◌<◌, ℕ, zero, suc, Bool, true, false, nat_lt, List, [], ◌∷◌, drop, refl, sym, ap, ◌∙◌, subst, arith, inl, inr}
+use Rattle.std.proofs.Common.{◌≡◌, ◌+◌, ℕ, zero, suc, true, false, nat_lt, List, [], ◌∷◌, refl, sym, ap, ◌∙◌, subst, arith, inl, inr}
 use Rattle.std.specs.Prelude.{Option, Some, None, is_some}
 use Rattle.ason_base.specs.Network.{Network}
 use Rattle.ason_base.specs.Risks.{unknown_link}
 use Rattle.ason_base.specs.Routes.{makes_route}
 use Rattle.ason_base.specs.declared.codes.ErrCode.{ErrCode}
-use Rattle.ason_base.specs.declared.ids.Fibre.{Fibre}
 use Rattle.ason_base.specs.declared.ids.Lsp.{Lsp}
 use Rattle.ason_base.specs.declared.ids.NodeId.{NodeId}
 use Rattle.ason_base.specs.declared.steps.Step.{Step}
@@ -19,7 +18,7 @@ use Rattle.mesh_rules.specs.Changes.{Answer, nothing}
 use Rattle.mesh_rules.specs.LocalNodes.{LocalNode, local_node, own_link}
 use Rattle.mesh_rules.specs.Commands.{is_searchable}
 use Rattle.mesh_rules.specs.declared.limits.TheConstants.{LAST_NUMBER}
-use Rattle.mesh_rules.specs.Calls.{bare, blocked, call_with, guarded, is_asking, is_bare, is_pairing, pairing}
+use Rattle.mesh_rules.specs.Calls.{bare, blocked, call_with, guarded, is_asking, is_pairing, pairing}
 use Rattle.mesh_rules.specs.CallSteps.{call_answered, call_put, call_refused}
 use Rattle.mesh_rules.specs.FirstLegs.{first_link, is_full}
 use Rattle.mesh_rules.specs.KnownRows.{known_rows}
@@ -31,13 +30,13 @@ use Rattle.mesh_laws.specs.HopLaw.{leg_at}
 use Rattle.mesh_nodes.specs.Routes.{AreRowsOf}
 use Rattle.mesh_nodes.proofs.Cases.{if_cases}
 use Rattle.mesh_nodes.proofs.routes.Nodes.{found-backups-lead, known-are}
-use Rattle.mesh_laws.proofs.hops.Plans.{Plan, hops, plan, node_at, fibre_at, IsRoute, lt_true, same_node}
+use Rattle.mesh_laws.proofs.hops.Plans.{plan, node_at, fibre_at, IsRoute, lt_true, same_node}
 use Rattle.mesh_laws.proofs.hops.LegChanges.{previous_is}
 use Rattle.mesh_laws.proofs.hops.Rest.{Purpose, Guards}
 use Rattle.mesh_laws.proofs.hops.Risks.{recorded-fit}
 use Rattle.mesh_laws.proofs.hops.Chain.{LegFits}
 use Rattle.mesh_laws.proofs.hops.Own.{IsQuiet}
-use Rattle.mesh_laws.proofs.hops.Planned.{Planned, Routes, Follows, EachFollows}
+use Rattle.mesh_laws.proofs.hops.Planned.{Routes, Follows, EachFollows}
 use Rattle.mesh_laws.proofs.hops.Begun.{EachStepped, starts_over, stepped_quiet, begins_stepped}
 
 -- The whole route of an LSP that begins here

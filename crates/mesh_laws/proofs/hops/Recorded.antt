@@ -1,12 +1,11 @@
 -- The legs of backups record the risks of the working LSPs that they guard.
-use Rattle.std.proofs.Common.{◌≡◌, ℕ, true, false, List, refl, sym, ap, ◌∙◌, subst, inl, inr}
+use Rattle.std.proofs.Common.{◌≡◌, ℕ, true, false, List, sym, ap, ◌∙◌, subst, inl, inr}
 use Rattle.std.specs.Prelude.{Option, Some, None}
 use Rattle.std.proofs.lemmas.List.Elements.{All-from_recursion}
-use Rattle.ason_base.specs.Network.{IsTopology, Network}
+use Rattle.ason_base.specs.Network.{Network}
 use Rattle.ason_base.specs.Risks.{route_risks}
 use Rattle.ason_base.specs.declared.ids.Lsp.{Lsp}
 use Rattle.ason_base.specs.declared.ids.NodeId.{NodeId}
-use Rattle.ason_base.specs.declared.risks.Risk.{Risk}
 use Rattle.ason_base.specs.declared.steps.Step.{Step}
 use Rattle.ason_base.specs.declared.calls.Role.TheVariants as role
 use Rattle.ason_base.specs.declared.messages.PathRole.{PathRole}
@@ -14,20 +13,19 @@ use Rattle.ason_base.specs.declared.messages.PathRole.TheVariants.{Work, Back}
 use Rattle.ason_base.specs.declared.tables.Leg.{Leg}
 use Rattle.mesh_rules.specs.declared.events.MeshEvent.{MeshEvent}
 use Rattle.mesh_rules.specs.Commands.{is_searchable}
-use Rattle.mesh_rules.specs.Legs.{find_leg}
 use Rattle.mesh_rules.specs.Machine.{Mesh, start}
-use Rattle.mesh_rules.specs.Events.{IsRun, after, route_of}
+use Rattle.mesh_rules.specs.Events.{after, route_of}
 use Rattle.mesh_rules.specs.Pairs.{beside_lsp}
 use Rattle.mesh_rules.proofs.Topologies.{topology_searchable}
 use Rattle.mesh_laws.specs.HopLaw.{leg_at}
 use Rattle.mesh_laws.specs.RiskLaw.{EveryBackupRecordsItsRisks, RecordsRisks, rows_of}
-use Rattle.mesh_nodes.proofs.LegList.{all-found, found-lsp}
+use Rattle.mesh_nodes.proofs.LegList.{all-found}
 use Rattle.mesh_laws.proofs.nodes.Facts.{MeshFacts}
 use Rattle.mesh_laws.proofs.nodes.Runs.{facts-hold}
 use Rattle.mesh_laws.proofs.hops.Plans.{Plan, plan, node_at, same_node}
 use Rattle.mesh_laws.proofs.hops.Rest.{Purpose, Carries, Guards, Tells, role_of}
 use Rattle.mesh_laws.proofs.hops.Chain.{LegFits, RisksFit}
-use Rattle.mesh_laws.proofs.hops.Planned.{Planned, Follows, IsGuarded}
+use Rattle.mesh_laws.proofs.hops.Planned.{Follows, IsGuarded}
 use Rattle.mesh_laws.proofs.hops.Laws.{follows}
 
 module _ (t : Network) (events : List MeshEvent) (searchable : is_searchable t ≡ true) where

@@ -1,22 +1,20 @@
 -- The risks of a route, over the rows that a node knows, are those over the rows of all links.
 use Rattle.std.proofs.Common.{◌≡◌, ◌⊎◌, inl, inr, Bool, true, false, cond, not, nat_eq, List, [], ◌∷◌, map, refl, sym, ap, ◌∙◌, subst, arith, Contains}
-use Rattle.std.specs.Prelude.{Option, Some, None, find, is_some}
+use Rattle.std.specs.Prelude.{Some, find, is_some}
 use Rattle.ason_base.specs.Network.{Network, find_link, row_of}
 use Rattle.ason_base.specs.Risks.{HasRisk, has_row, route_risks, unknown_link}
 use Rattle.ason_base.specs.declared.ids.LinkId.{LinkId}
 use Rattle.ason_base.specs.declared.messages.PathRole.{PathRole}
 use Rattle.ason_base.specs.declared.messages.PathRole.TheVariants.{Work, Back}
-use Rattle.ason_base.specs.declared.network.LinkSpec.{LinkSpec}
 use Rattle.ason_base.specs.declared.network.TeRow.{TeRow}
 use Rattle.ason_base.specs.declared.risks.Risk.{Risk}
 use Rattle.ason_base.specs.declared.steps.Step.{Step}
 use Rattle.ason_base.proofs.Ordered.{any-there, contains-cases, contains-none}
 use Rattle.ason_base.proofs.RiskUnion.{risks-exact, route_risks-are, route_risks-rise}
-use Rattle.mesh_rules.specs.Commands.{has_metric, is_searchable}
+use Rattle.mesh_rules.specs.Commands.{is_searchable}
 use Rattle.mesh_rules.specs.Paths.{is_primary_unknown, recorded}
 use Rattle.mesh_rules.proofs.Conjunctions.{and_first}
 use Rattle.mesh_nodes.specs.Routes.{AreRowsOf}
-use Rattle.mesh_nodes.proofs.Cases.{not-false}
 use Rattle.mesh_nodes.proofs.routes.Lists.{contains-map, contains-unmap}
 use Rattle.mesh_nodes.proofs.routes.Nodes.{find-there, found-link}
 use Rattle.mesh_laws.specs.RiskLaw.{rows_of}

@@ -557,7 +557,3 @@ pub no_tear_up : (r : Role) (u d : LegKind) (down up : List MsgKind) → Shape r
 no_tear_up r u _ down up (TornConnected was may) = elim may [ ]
 no_tear_up r u _ down up (TornStandby torn may) = elim may [ ]
 no_tear_up r u d down up (LetGo torn gone confirms) = elim confirms [ ]
-
--- A PathErr that removes nothing is a backup's.
-pub no_contention_work : (u d : LegKind) (down up : List MsgKind) → Shape Work u d down (Contention ∷ up) → ⊥
-no_contention_work u d down up h = elim (contention_taken Work u d down up h) [ ]
