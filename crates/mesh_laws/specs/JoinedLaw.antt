@@ -1,4 +1,5 @@
--- In every state of every run a call that stands is cross-connected from its ingress to its egress.
+-- In every state of every run a call that stands is cross-connected from its ingress to its egress, and the backup of a
+-- guarded call is reserved so.
 use Rattle.std.specs.Prelude.{◌≡◌, ℕ, List, Option, Some, None, IsTrue, All, slice_get}
 use Rattle.ason_base.specs.declared.ids.Lsp.{Lsp}
 use Rattle.ason_base.specs.declared.ids.NodeId.{NodeId}
@@ -6,7 +7,8 @@ use Rattle.ason_base.specs.declared.steps.Step.{Step}
 use Rattle.ason_base.specs.declared.network.LinkSpec.{LinkSpec}
 use Rattle.ason_base.specs.declared.calls.CallState.{CallState}
 use Rattle.ason_base.specs.declared.calls.CallState.TheVariants.{Asking, Bare, Pairing, Guarded, Turning, Turned, Stuck, Blocked}
-use Rattle.ason_base.specs.declared.calls.Phase.TheVariants.{Live}
+use Rattle.ason_base.specs.declared.calls.Phase.{Phase}
+use Rattle.ason_base.specs.declared.calls.Phase.TheVariants.{Held, Live}
 use Rattle.ason_base.specs.declared.tables.CallRec.{CallRec}
 use Rattle.ason_base.specs.declared.tables.Leg.{Leg}
 use Rattle.ason_base.specs.Network.{Network, find_link, other_end}
@@ -17,43 +19,51 @@ use Rattle.mesh_rules.specs.Machine.{Mesh, start}
 use Rattle.mesh_rules.specs.Events.{IsRun, after, route_of}
 use Rattle.mesh_laws.specs.HopLaw.{leg_at}
 
--- Over the link of this step the LSP is joined: its legs at both ends are Live, and the label out of the one is the
--- label in of the other, on the link's fibre.
-pub record HopIsJoined (t : Network) (s : Mesh) (l : Lsp) (hop : Step) : Type 0 where
+-- Over the link of this step the LSP is joined in this phase: its legs at both ends are in it, and the label out of the
+-- one is the label in of the other, on the link's fibre.
+pub record HopIsJoined (t : Network) (s : Mesh) (phase : Phase) (l : Lsp) (hop : Step) : Type 0 where
   pub link : LinkSpec
   pub found : find_link t hop.link ≡ Some link
   pub from : Leg
   pub to : Leg
   pub from_there : leg_at s l hop.node ≡ Some from
   pub to_there : leg_at s l (other_end link hop.node) ≡ Some to
-  pub from_live : from.phase ≡ Live
-  pub to_live : to.phase ≡ Live
+  pub from_phase : from.phase ≡ phase
+  pub to_phase : to.phase ≡ phase
   pub label : ℕ
   pub leaves : from.out_label ≡ Some label
   pub enters : to.in_label ≡ Some label
   pub out_fibre : from.out_fibre ≡ Some (fibre_out link hop.node)
   pub in_fibre : to.in_fibre ≡ Some (fibre_in link (other_end link hop.node))
 
--- The LSP is joined from its ingress to the node e, over the route that its ingress sent it on.
-pub record LspIsJoined (t : Network) (events : List MeshEvent) (e : NodeId) (l : Lsp) : Type 0 where
+-- The LSP is joined in this phase from its ingress to the node e, over the route that its ingress sent it on.
+pub record LspIsJoined (t : Network) (events : List MeshEvent) (phase : Phase) (e : NodeId) (l : Lsp) : Type 0 where
   pub route : List Step
   pub sent : route_of t start events l ≡ Some route
   pub leads : IsTrue (makes_route t l.ingress e route)
-  pub hops : (i : ℕ) (hop : Step) → slice_get route i ≡ Some hop → HopIsJoined t (after t start events) l hop
+  pub hops : (i : ℕ) (hop : Step) → slice_get route i ≡ Some hop → HopIsJoined t (after t start events) phase l hop
 
-abbrev pub IsJoined : Network → List MeshEvent → NodeId → Option Lsp → Type 0
-IsJoined t events e None = ⊥
-IsJoined t events e (Some l) = LspIsJoined t events e l
+abbrev pub IsJoined : Network → List MeshEvent → Phase → NodeId → Option Lsp → Type 0
+IsJoined t events phase e None = ⊥
+IsJoined t events phase e (Some l) = LspIsJoined t events phase e l
+
+-- the working LSP is cross-connected
+abbrev pub IsConnected : Network → List MeshEvent → CallRec → Type 0
+IsConnected t events c = IsJoined t events Live c.egress c.work
+
+-- the labels of the backup are reserved
+abbrev pub IsReserved : Network → List MeshEvent → CallRec → Type 0
+IsReserved t events c = IsJoined t events Held c.egress c.back
 
 -- which LSPs of a call are joined, in each of its states
 abbrev pub CallIsJoined : Network → List MeshEvent → CallRec → CallState → Type 0
 CallIsJoined t events c Asking = Unit {0}
-CallIsJoined t events c Bare = IsJoined t events c.egress c.work
-CallIsJoined t events c Pairing = IsJoined t events c.egress c.work
-CallIsJoined t events c Guarded = IsJoined t events c.egress c.work
-CallIsJoined t events c Turning = IsJoined t events c.egress c.work
-CallIsJoined t events c Turned = IsJoined t events c.egress c.work
-CallIsJoined t events c Stuck = IsJoined t events c.egress c.work
+CallIsJoined t events c Bare = IsConnected t events c
+CallIsJoined t events c Pairing = IsConnected t events c
+CallIsJoined t events c Guarded = IsConnected t events c × IsReserved t events c
+CallIsJoined t events c Turning = IsConnected t events c
+CallIsJoined t events c Turned = IsConnected t events c
+CallIsJoined t events c Stuck = IsConnected t events c
 CallIsJoined t events c Blocked = Unit {0}
 
 -- at each node, each call that begins there

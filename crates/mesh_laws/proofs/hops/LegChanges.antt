@@ -1,5 +1,5 @@
 -- A leg of a route that closes or is connected, its kind, and its neighbours.
-use Rattle.std.proofs.Common.{◌≡◌, ◌<◌, ◌≤◌, ℕ, zero, suc, true, false, refl, ap, ◌∙◌, inl, inr}
+use Rattle.std.proofs.Common.{◌≡◌, ◌<◌, ◌≤◌, ℕ, zero, suc, true, false, List, refl, ap, ◌∙◌, inl, inr}
 use Rattle.std.specs.Prelude.{◌⊎◌, Option, Some, None}
 use Rattle.ason_base.specs.Lsps.{same_lsp}
 use Rattle.ason_base.specs.Network.{Network}
@@ -8,9 +8,10 @@ use Rattle.ason_base.specs.declared.calls.Phase.{Phase}
 use Rattle.ason_base.specs.declared.calls.Phase.TheVariants.{Asked, Held, Armed, Live, Closing, Falling}
 use Rattle.ason_base.specs.declared.calls.Role.{Role}
 use Rattle.ason_base.specs.declared.calls.Role.TheVariants as role
+use Rattle.ason_base.specs.declared.steps.Step.{Step}
 use Rattle.ason_base.specs.declared.tables.Leg.{Leg}
 use Rattle.mesh_rules.specs.Legs.{closed, closing_phase, connected, previous, following, is_asked, is_closing, reserved}
-use Rattle.mesh_laws.specs.HopShapes.{NoLeg, AskedLeg, ArmedLeg, LiveLeg, IsTorn, Closes, Falls, leg_kind, phase_kind}
+use Rattle.mesh_laws.specs.HopShapes.{NoLeg, AskedLeg, HeldLeg, ArmedLeg, LiveLeg, IsTorn, Closes, Falls, leg_kind, phase_kind}
 use Rattle.mesh_nodes.proofs.LegList.{same_lsp-refl}
 use Rattle.mesh_laws.proofs.hops.Plans.{Plan, hops, node_at, fibre_at, lt_true, lt_false}
 use Rattle.mesh_laws.proofs.hops.Rest.{Purpose, Carries, Guards, role_of}
@@ -49,6 +50,19 @@ live_phase Armed e = absurd cc
 live_phase Live e = refl
 live_phase Closing e = absurd cc
 live_phase Falling e = absurd cc
+
+held_phase : (f : Phase) → phase_kind f ≡ HeldLeg → f ≡ Held
+held_phase Asked e = absurd cc
+held_phase Held e = refl
+held_phase Armed e = absurd cc
+held_phase Live e = absurd cc
+held_phase Closing e = absurd cc
+held_phase Falling e = absurd cc
+
+-- there is a Held leg where the kind says so
+pub held_leg : (o : Option Leg) → leg_kind o ≡ HeldLeg → (g : Leg) × (o ≡ Some g) × (g.phase ≡ Held)
+held_leg None e = absurd cc
+held_leg (Some g) e = (g, refl, held_phase g.phase e)
 
 -- there is a Live leg where the kind says so
 pub live_leg : (o : Option Leg) → leg_kind o ≡ LiveLeg → (g : Leg) × (o ≡ Some g) × (g.phase ≡ Live)
@@ -231,6 +245,21 @@ module _ (t : Network) (q : Purpose) (l : Lsp) (p : Plan) where
       go (Guards w r) Armed phase e = absurd cc
       go (Guards w r) Closing phase e = absurd cc
       go (Guards w r) Falling phase e = absurd cc
+
+  -- a Held leg is that of a backup
+  pub held_guards : (i : ℕ) (g : Leg) → LegFits t q l p i g → g.phase ≡ Held →
+      (work : ℕ) × (route : List Step) × (q ≡ Guards work route)
+  held_guards i g fits e = go q g.phase fits.phase e
+    where
+      go : (q : Purpose) (f : Phase) → PhaseFits q f i (hops p) g.in_label g.out_label → f ≡ Held →
+          (work : ℕ) × (route : List Step) × (q ≡ Guards work route)
+      go (Guards w r) f phase e = (w, r, refl)
+      go Carries Held phase e = absurd phase
+      go Carries Asked phase e = absurd cc
+      go Carries Armed phase e = absurd cc
+      go Carries Live phase e = absurd cc
+      go Carries Closing phase e = absurd cc
+      go Carries Falling phase e = absurd cc
 
   pub never_live_backup : (i : ℕ) (o : Option Leg) → Fits t q l p i o → role_of q ≡ role.Back → leg_kind o ≡ LiveLeg → ⊥
   never_live_backup i None fits back e = cc

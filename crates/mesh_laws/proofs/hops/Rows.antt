@@ -517,6 +517,15 @@ live_upstream r _ down up (TornConnected was may) = elim was [ ]
 live_upstream r _ down up (TornStandby torn may) = elim torn [ ]
 live_upstream r d down up (LetGo torn gone confirms) = elim torn [ ]
 
+-- While the upstream leg is Held the downstream one is, too, or it is Live and a Path goes to it.
+pub held_upstream : (r : Role) (d : LegKind) (down up : List MsgKind) → Shape r HeldLeg d down up →
+    (d ≡ HeldLeg) ⊎ (d ≡ LiveLeg)
+held_upstream _ _ _ _ Standby = inl refl
+held_upstream _ _ _ _ Deactivating = inr refl
+held_upstream r _ down up (TornConnected was may) = elim was [ ]
+held_upstream r _ down up (TornStandby torn may) = elim torn [ ]
+held_upstream r d down up (LetGo torn gone confirms) = elim torn [ ]
+
 -- Nothing is under way: both legs are as one, or the upstream one is gone.
 pub data Settled : Role → LegKind → LegKind → Type 0 where
   NoneThere : {r : Role} → Settled r NoLeg NoLeg

@@ -47,3 +47,10 @@ asked-back _ _ PairingRow = (refl, refl)
 -- a bare call's working leg is Live, and it has no backup's leg
 pub bare-legs : (w b : Option Phase) → Row Bare w b → (w ≡ Some Live) × (b ≡ None)
 bare-legs _ _ BareRow = (refl, refl)
+
+pub pairing-legs : (w b : Option Phase) → Row Pairing w b → (w ≡ Some Live) × (b ≡ Some Asked)
+pairing-legs _ _ PairingRow = (refl, refl)
+
+-- a guarded call's working leg is Live, and its backup's leg is Held
+pub guarded-legs : (w b : Option Phase) → Row Guarded w b → (w ≡ Some Live) × (b ≡ Some Held)
+guarded-legs _ _ GuardedRow = (refl, refl)
