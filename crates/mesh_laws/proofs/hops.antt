@@ -5,6 +5,7 @@ pub mod Downstream
 pub mod Labels
 pub mod FollowedBy
 pub mod InParts
+pub mod GivenBackups
 pub mod LegChanges
 pub mod Recorded
 pub mod Rest

@@ -125,7 +125,7 @@ own_far t k u d apart over =
     find-filter (λ l. nat_eq l.id.0 k.0) (touches d) t.links over.link over.found
     (joined t k u d apart over).touches_far
 
-found_id : (k : LinkId) (links : List LinkSpec) (l : LinkSpec) → find (λ m. nat_eq m.id.0 k.0) links ≡ Some l → l.id ≡ k
+pub found_id : (k : LinkId) (links : List LinkSpec) (l : LinkSpec) → find (λ m. nat_eq m.id.0 k.0) links ≡ Some l → l.id ≡ k
 found_id k [] l e = cc
 found_id k (m ∷ links) l e = go (nat_eq m.id.0 k.0) refl e (found_id k links l)
   where
