@@ -27,6 +27,7 @@ pub mod Traced
 pub mod Quiet
 pub mod Released
 pub mod Begun
+pub mod Beside
 pub mod Rows
 pub mod Run
 pub mod Law

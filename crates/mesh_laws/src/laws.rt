@@ -1,5 +1,6 @@
 //! Laws over every run of the mesh.
 
+ghost use Rattle.mesh_laws.specs.BesideLaw.{EveryBackupGoesBeside};
 ghost use Rattle.mesh_laws.specs.CallLaw.{EveryCallFitsItsLegs};
 ghost use Rattle.mesh_laws.specs.HopLaw.{EveryHopHasAShape};
 ghost use Rattle.mesh_laws.specs.JoinedLaw.{EveryCallIsJoined};
@@ -28,6 +29,7 @@ pub fn every_run()
     ensures joined { EveryCallIsJoined }
     ensures learnt { EveryLearntRowIsTrue }
     ensures searchable { EveryNodeCanSearch }
+    ensures beside { EveryBackupGoesBeside }
     ensures risks { EveryBackupRecordsItsRisks }
     ensures together { EveryRunKeepsTheLaws }
 {}

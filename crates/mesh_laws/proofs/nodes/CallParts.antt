@@ -83,6 +83,7 @@ call-stays n a b legs legs' c le stay facts = record {
   state = rw (leg_of-stays c.work legs legs' work, leg_of-stays c.back legs legs' back) facts.state;
   work = named-stays n a b _ c.egress c.work legs legs' le work facts.work;
   back = named-stays n a b _ c.egress c.back legs legs' le back facts.back;
+  guards = λ w l g is_work is_back found. facts.guards w l g is_work is_back (sym (back l is_back) ∙ found);
   work_reports = facts.work_reports;
   back_reports = facts.back_reports;
 }
