@@ -1,5 +1,5 @@
 -- What becomes of a call after a Resv or a PathErr at its ingress fits.
-use Rattle.std.proofs.Common.{◌≡◌, List, [], ◌∷◌, length, refl, arith}
+use Rattle.std.proofs.Common.{◌≡◌, List, length, arith}
 use Rattle.std.specs.Prelude.{Option, Some, None}
 use Rattle.ason_base.specs.declared.calls.Cause.{Cause}
 use Rattle.ason_base.specs.declared.calls.Cause.TheVariants.{Code}

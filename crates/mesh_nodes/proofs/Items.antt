@@ -1,5 +1,5 @@
 -- What the items of a desk do fits.
-use Rattle.std.proofs.Common.{◌≡◌, ◌≤◌, ◌<◌, ◌+◌, ℕ, Bool, true, false, cond, not, nat_eq, nat_lt, List, [], ◌∷◌, ◌++◌, length, refl, ap, ◌∙◌, arith}
+use Rattle.std.proofs.Common.{◌≡◌, ◌≤◌, ◌<◌, ◌+◌, ℕ, Bool, true, false, cond, not, nat_eq, List, [], ◌∷◌, ◌++◌, length, refl, ap, ◌∙◌, arith}
 use Rattle.std.specs.Prelude.{◌&&◌, Option, Some, None, IfSome}
 use Rattle.std.specs.List.{AllByRecursion}
 use Rattle.ason_base.specs.declared.calls.Cause.{Cause}
@@ -29,7 +29,7 @@ use Rattle.mesh_rules.specs.Pairs.{pair}
 use Rattle.mesh_rules.specs.Protects.{protect_with, protects}
 use Rattle.mesh_rules.specs.Releases.{release_with, releases, tear_to, tears}
 use Rattle.mesh_rules.specs.Setups.{SetupRequest, admitted_setup, begins, call_record, is_followable, is_order_here, is_spent, new_call, next_lsp, over_first, over_found, refused_setup, setup_with, working_lsp}
-use Rattle.mesh_rules.specs.LocalNodes.{LocalNode, own_link}
+use Rattle.mesh_rules.specs.LocalNodes.{LocalNode}
 use Rattle.mesh_rules.specs.State.{NodeState}
 use Rattle.mesh_nodes.specs.Kept.{CallFits, LegFits, LegsFit, NodeFits}
 use Rattle.mesh_nodes.specs.Laws.{ItemsFit}

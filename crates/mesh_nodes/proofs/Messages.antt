@@ -1,5 +1,5 @@
 -- What a Resv, a PathErr, a PathTear and every message do fits.
-use Rattle.std.proofs.Common.{◌≡◌, ℕ, true, false, not, nat_eq, [], ◌∷◌, refl, sym, subst, ◌∙◌, arith}
+use Rattle.std.proofs.Common.{◌≡◌, ℕ, true, false, not, nat_eq, [], refl, sym, subst, ◌∙◌, arith}
 use Rattle.std.specs.Prelude.{◌&&◌, Option, Some, None, IfSome, is_some}
 use Rattle.ason_base.specs.Codes.{torn_code}
 use Rattle.ason_base.specs.Labels.{has}

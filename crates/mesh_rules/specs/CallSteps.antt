@@ -1,6 +1,6 @@
 -- What becomes of a call after a Resv or a PathErr at its ingress (ITU-T G.8080, call control). p is the node; s is what
 -- it keeps; g is the leg, which begins here.
-use Rattle.std.specs.Prelude.{List, [], ◌∷◌, Option, Some, None, if◌then◌else◌}
+use Rattle.std.specs.Prelude.{[], ◌∷◌, Option, Some, None, if◌then◌else◌}
 use Rattle.ason_base.specs.declared.codes.ErrCode.{ErrCode}
 use Rattle.ason_base.specs.declared.calls.Cause.TheVariants.{Code}
 use Rattle.ason_base.specs.declared.tables.CallRec.{CallRec}

@@ -1,5 +1,5 @@
 -- Which commands are valid for a topology.
-use Rattle.std.specs.Prelude.{◌==◌, ◌&&◌, ◌||◌, nat_le, Bool, true, false, not, List, map, Option, Some, None}
+use Rattle.std.specs.Prelude.{◌==◌, ◌&&◌, ◌||◌, nat_le, Bool, false, not, List, map, Option, Some, None}
 use Rattle.std.specs.List.{list_all, list_any}
 use Rattle.ason_base.specs.declared.ids.NodeId.{NodeId}
 use Rattle.ason_base.specs.declared.ids.CallNo.{CallNo}

@@ -1,9 +1,8 @@
 -- The route of a backup stands beside that of the working LSP that it guards.
 use Rattle.std.proofs.Common.{◌≡◌, true, false, List, refl, sym, ap, ◌∙◌, subst, inl, inr}
-use Rattle.std.specs.Prelude.{ℕ, Option, Some, None, IfSome}
+use Rattle.std.specs.Prelude.{ℕ, Option, Some, None}
 use Rattle.std.proofs.lemmas.List.Elements.{All-from_recursion}
 use Rattle.ason_base.specs.Network.{Network}
-use Rattle.ason_base.specs.Routes.{is_beside}
 use Rattle.ason_base.specs.declared.ids.Lsp.{Lsp}
 use Rattle.ason_base.specs.declared.ids.NodeId.{NodeId}
 use Rattle.ason_base.specs.declared.steps.Step.{Step}
@@ -18,7 +17,7 @@ use Rattle.mesh_rules.specs.Machine.{Mesh, start}
 use Rattle.mesh_rules.specs.Events.{IsRun, after, route_of}
 use Rattle.mesh_rules.specs.Pairs.{beside_lsp}
 use Rattle.mesh_laws.specs.BesideLaw.{CallGoesBeside, EveryBackupGoesBeside, GoBeside, LegGoesBeside}
-use Rattle.mesh_laws.specs.CallLaw.{FitsLegs, GuardsWork, IsNamed}
+use Rattle.mesh_laws.specs.CallLaw.{FitsLegs, GuardsWork}
 use Rattle.mesh_laws.specs.HopLaw.{leg_at}
 use Rattle.mesh_nodes.proofs.CallList.{all-calls_found}
 use Rattle.mesh_nodes.proofs.LegList.{all-found, found-lsp}

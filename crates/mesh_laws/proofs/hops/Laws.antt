@@ -5,10 +5,8 @@ use Rattle.std.specs.List.{Contains}
 use Rattle.std.proofs.lemmas.List.Elements.{All-contains, All-from_recursion}
 use Rattle.ason_base.specs.Lsps.{is_lsp, same_lsp}
 use Rattle.ason_base.specs.Network.{Network}
-use Rattle.ason_base.specs.Routes.{makes_route}
 use Rattle.ason_base.specs.declared.ids.CallNo.{CallNo}
 use Rattle.ason_base.specs.declared.ids.NodeId.{NodeId}
-use Rattle.ason_base.specs.declared.steps.Step.{Step}
 use Rattle.ason_base.specs.declared.ids.Lsp.{Lsp}
 use Rattle.ason_base.specs.declared.calls.Phase.{Phase}
 use Rattle.ason_base.specs.declared.calls.Role.{Role}
@@ -28,7 +26,7 @@ use Rattle.mesh_rules.specs.Events.{IsRun, after, route_of}
 use Rattle.mesh_laws.specs.CallLaw.{FitsLegs, IsNamed, phase_of}
 use Rattle.mesh_laws.specs.HopLaw.{leg_at, HasOneLegEach, EveryHopHasAShape}
 use Rattle.mesh_laws.specs.NodeLaw.{DeskFits, FitsDesk}
-use Rattle.mesh_laws.proofs.nodes.Facts.{CanBeBacked, MeshFacts}
+use Rattle.mesh_laws.proofs.nodes.Facts.{MeshFacts}
 use Rattle.mesh_laws.proofs.nodes.States.{Row, back-stands, row, work-stands}
 use Rattle.mesh_nodes.specs.Order.{LegsRise}
 use Rattle.mesh_nodes.proofs.CallList.{called-found, called-names}
@@ -152,14 +150,14 @@ module _ (t : Network) (s : Mesh) (facts : MeshFacts t s) where
       let node = facts.node n.0 in
       let found = called-found g.lsp (s.nodes n.0).calls c node.calls_rise called in
       let fit = node.call c.call c found in
-      let can = facts.backed n c.call c found in
+      let can = facts.backed n.0 c.call c found in
       let is = works_for n.0 (s.nodes n.0) c fit g.lsp g here work (called-names g.lsp (s.nodes n.0).calls c called) in
       record {
         number = c.call;
         found = found;
         work = is;
         egress = work_egress n.0 (s.nodes n.0) c fit g.lsp g is here;
-        searched = λ none. can.searched protected none;
+        searched = λ none. can protected none;
       }
 
   protects_named : (n : NodeId) (k : CallNo) (c : CallRec) (w : Leg) → find_call k (s.nodes n.0).calls ≡ Some c →

@@ -8,7 +8,6 @@ use Rattle.ason_base.specs.Routes.{inner_nodes, is_beside, is_end, makes_route, 
 use Rattle.ason_base.specs.Walks.{IsBackup, IsWalk, NoLink, NoNode}
 use Rattle.ason_base.specs.declared.ids.LinkId.{LinkId}
 use Rattle.ason_base.specs.declared.ids.NodeId.{NodeId}
-use Rattle.ason_base.specs.declared.network.LinkSpec.{LinkSpec}
 use Rattle.ason_base.specs.declared.network.TeRow.{TeRow}
 use Rattle.ason_base.specs.declared.risks.Risk.{Risk}
 use Rattle.ason_base.specs.declared.steps.Step.{Step}
