@@ -93,14 +93,18 @@ guarded_grown o o' l (Guards work route) grow h = grow (beside_lsp l work) route
 pub follows_grown : (t : Network) (s : Mesh) (o o' : Routes) (l : Lsp) (c : Option (List Step)) → Grow o o' →
     Follows t s o l c → Follows t s o' l c
 follows_grown t s o o' l None grow b = b
-follows_grown t s o o' l (Some route) grow (e, q, b) = (e, q, record {
-  route = b.route;
-  made = b.made;
-  chain = b.chain;
-  number = b.number;
-  guards = guarded_grown o o' l q grow b.guards;
-  beside = b.beside;
-})
+follows_grown t s o o' l (Some route) grow (e, q, b) = (
+  e,
+  q,
+  record {
+    route = b.route;
+    made = b.made;
+    chain = b.chain;
+    number = b.number;
+    guards = guarded_grown o o' l q grow b.guards;
+    beside = b.beside;
+  },
+)
 
 pub or_none : (o : Option (List Step)) → or_route o None ≡ o
 or_none None = refl

@@ -49,54 +49,54 @@ use Rattle.mesh_laws.proofs.hops.ErrRule.{err_keeps}
 -- A message of the LSP is taken on its route
 
 module _ (t : Network) (s : Mesh) (o : Routes) (q : Purpose) (rest : List Msg) (p : Plan) (i : ℕ) (below : i < hops p)
-    where
-  -- it came down
-  taken_down : (m : Msg) (own : is_message_of (lsp_of m) m ≡ true)
-      (was : s.mail (node_at p i).0 (node_at p (suc i)).0 ≡ m ∷ rest)
-      (learnt : AreRowsOf t (s.nodes (node_at p (suc i)).0).learnt)
-      (pl : Planned t s o (lsp_of m) q p) → KeepsDown t q s (lsp_of m) p i pl.route pl.chain below m rest was own
-      (leg_part (local_node t (node_at p (suc i))) (s.nodes (node_at p (suc i)).0) (node_at p i) m)
-  taken_down (Path l e k r set label role) own was learnt pl =
-      path_keeps t q s l p i pl.route pl.chain below e k r set label role rest was learnt
-  taken_down (Resv l e k x) own was learnt pl =
-      absurd (no_resv_down (role_of q) _ _ _ _
-      (down_hop t q s l p i pl.route pl.chain below (Resv l e k x) rest was own).shape)
-  taken_down (PathTear l e k) own was learnt pl =
-      tear_keeps t q s l p i pl.route pl.chain below e k rest was
-      (find_leg l (s.nodes (node_at p (suc i)).0).legs) refl
-  taken_down (PathErr l e at true code) own was learnt pl =
-      absurd (no_removal_down (role_of q) _ _ _ _
-      (down_hop t q s l p i pl.route pl.chain below (PathErr l e at true code) rest was own).shape)
-  taken_down (PathErr l e at false code) own was learnt pl =
-      absurd (no_contention_down (role_of q) _ _ _ _
-      (down_hop t q s l p i pl.route pl.chain below (PathErr l e at false code) rest was own).shape)
-  taken_down (Notify l e at k code) own was learnt pl = absurd cc
+  where
+    -- it came down
+    taken_down : (m : Msg) (own : is_message_of (lsp_of m) m ≡ true)
+        (was : s.mail (node_at p i).0 (node_at p (suc i)).0 ≡ m ∷ rest)
+        (learnt : AreRowsOf t (s.nodes (node_at p (suc i)).0).learnt)
+        (pl : Planned t s o (lsp_of m) q p) → KeepsDown t q s (lsp_of m) p i pl.route pl.chain below m rest was own
+        (leg_part (local_node t (node_at p (suc i))) (s.nodes (node_at p (suc i)).0) (node_at p i) m)
+    taken_down (Path l e k r set label role) own was learnt pl =
+        path_keeps t q s l p i pl.route pl.chain below e k r set label role rest was learnt
+    taken_down (Resv l e k x) own was learnt pl =
+        absurd (no_resv_down (role_of q) _ _ _ _
+        (down_hop t q s l p i pl.route pl.chain below (Resv l e k x) rest was own).shape)
+    taken_down (PathTear l e k) own was learnt pl =
+        tear_keeps t q s l p i pl.route pl.chain below e k rest was
+        (find_leg l (s.nodes (node_at p (suc i)).0).legs) refl
+    taken_down (PathErr l e at true code) own was learnt pl =
+        absurd (no_removal_down (role_of q) _ _ _ _
+        (down_hop t q s l p i pl.route pl.chain below (PathErr l e at true code) rest was own).shape)
+    taken_down (PathErr l e at false code) own was learnt pl =
+        absurd (no_contention_down (role_of q) _ _ _ _
+        (down_hop t q s l p i pl.route pl.chain below (PathErr l e at false code) rest was own).shape)
+    taken_down (Notify l e at k code) own was learnt pl = absurd cc
 
-  -- it came up
-  taken_up : (m : Msg) (own : is_message_of (lsp_of m) m ≡ true)
-      (was : s.mail (node_at p (suc i)).0 (node_at p i).0 ≡ m ∷ rest)
-      (pl : Planned t s o (lsp_of m) q p) → KeepsUp t q s (lsp_of m) p i pl.route pl.chain below m rest was own
-      (leg_part (local_node t (node_at p i)) (s.nodes (node_at p i).0) (node_at p (suc i)) m)
-  taken_up (Path l e k r set label (Work guard)) own was pl =
-      absurd (no_path_up (role_of q) _ _ _ _
-      (up_hop t q s l p i pl.route pl.chain below (Path l e k r set label (Work guard)) rest was own).shape)
-  taken_up (Path l e k r set label (Back true work primary)) own was pl =
-      absurd (no_active_up (role_of q) _ _ _ _
-      (up_hop t q s l p i pl.route pl.chain below (Path l e k r set label (Back true work primary)) rest was
-      own).shape)
-  taken_up (Path l e k r set label (Back false work primary)) own was pl =
-      absurd (no_path_up (role_of q) _ _ _ _
-      (up_hop t q s l p i pl.route pl.chain below (Path l e k r set label (Back false work primary)) rest was
-      own).shape)
-  taken_up (Resv l e k x) own was pl =
-      resv_keeps t q s l p i pl.route pl.chain below e k x rest was (find_leg l (s.nodes (node_at p i).0).legs) refl
-  taken_up (PathTear l e k) own was pl =
-      absurd (no_tear_up (role_of q) _ _ _ _
-      (up_hop t q s l p i pl.route pl.chain below (PathTear l e k) rest was own).shape)
-  taken_up (PathErr l e at gone code) own was pl =
-      err_keeps t q s l p i pl.route pl.chain below e at gone code rest was gone refl
-      (find_leg l (s.nodes (node_at p i).0).legs) refl
-  taken_up (Notify l e at k code) own was pl = absurd cc
+    -- it came up
+    taken_up : (m : Msg) (own : is_message_of (lsp_of m) m ≡ true)
+        (was : s.mail (node_at p (suc i)).0 (node_at p i).0 ≡ m ∷ rest)
+        (pl : Planned t s o (lsp_of m) q p) → KeepsUp t q s (lsp_of m) p i pl.route pl.chain below m rest was own
+        (leg_part (local_node t (node_at p i)) (s.nodes (node_at p i).0) (node_at p (suc i)) m)
+    taken_up (Path l e k r set label (Work guard)) own was pl =
+        absurd (no_path_up (role_of q) _ _ _ _
+        (up_hop t q s l p i pl.route pl.chain below (Path l e k r set label (Work guard)) rest was own).shape)
+    taken_up (Path l e k r set label (Back true work primary)) own was pl =
+        absurd (no_active_up (role_of q) _ _ _ _
+        (up_hop t q s l p i pl.route pl.chain below (Path l e k r set label (Back true work primary)) rest was
+        own).shape)
+    taken_up (Path l e k r set label (Back false work primary)) own was pl =
+        absurd (no_path_up (role_of q) _ _ _ _
+        (up_hop t q s l p i pl.route pl.chain below (Path l e k r set label (Back false work primary)) rest was
+        own).shape)
+    taken_up (Resv l e k x) own was pl =
+        resv_keeps t q s l p i pl.route pl.chain below e k x rest was (find_leg l (s.nodes (node_at p i).0).legs) refl
+    taken_up (PathTear l e k) own was pl =
+        absurd (no_tear_up (role_of q) _ _ _ _
+        (up_hop t q s l p i pl.route pl.chain below (PathTear l e k) rest was own).shape)
+    taken_up (PathErr l e at gone code) own was pl =
+        err_keeps t q s l p i pl.route pl.chain below e at gone code rest was gone refl
+        (find_leg l (s.nodes (node_at p i).0).legs) refl
+    taken_up (Notify l e at k code) own was pl = absurd cc
 
 -- the state after the leg of a message that is taken has followed
 abbrev pub after_leg : Network → Mesh → NodeId → NodeId → Msg → Mesh

@@ -1,12 +1,11 @@
 -- A call changes together with its leg at the ingress, when the Resv or the PathErr comes.
-use Rattle.std.proofs.Common.{◌≡◌, ℕ, Bool, true, false, nat_eq, List, refl, sym, ap, subst, ◌∙◌, arith, inl, inr}
+use Rattle.std.proofs.Common.{◌≡◌, ℕ, Bool, true, false, nat_eq, List, refl, sym, ap, subst, arith, inl, inr}
 use Rattle.std.specs.Prelude.{Option, Some, None, IfSome}
 use Rattle.ason_base.specs.declared.ids.CallNo.{CallNo}
 use Rattle.ason_base.specs.declared.ids.Lsp.{Lsp}
 use Rattle.ason_base.specs.declared.ids.NodeId.{NodeId}
 use Rattle.ason_base.specs.declared.calls.CallState.TheVariants.{Asking, Pairing}
 use Rattle.ason_base.specs.declared.calls.Cause.{Cause}
-use Rattle.ason_base.specs.declared.calls.Phase.{Phase}
 use Rattle.ason_base.specs.declared.calls.Phase.TheVariants.{Asked, Held, Live}
 use Rattle.ason_base.specs.declared.calls.Role.{Role}
 use Rattle.ason_base.specs.declared.calls.Role.TheVariants.{Work, Back}

@@ -34,7 +34,7 @@ use Rattle.mesh_rules.specs.Legs.{find_leg, following, is_asked, is_closing, is_
 use Rattle.mesh_rules.specs.LocalNodes.{LocalNode, leads, own_link}
 use Rattle.mesh_rules.specs.Messages.{arrival, on_message}
 use Rattle.mesh_rules.specs.Pairs.{beside_lsp, admitted_backup, backup_route, over_backup, pair, pair_over, route_from}
-use Rattle.mesh_rules.specs.PathErrs.{PathFailure, err_passed, path_err_with, removed}
+use Rattle.mesh_rules.specs.PathErrs.{PathFailure, err_passed, path_err_with}
 use Rattle.mesh_rules.specs.Paths.{PathRequest, admitted, at_egress, checks, first_failure, first_path, in_transit, is_active, judged, offered_labels, path_with, risks_here}
 use Rattle.mesh_rules.specs.Protects.{protect_with, protects}
 use Rattle.mesh_rules.specs.Releases.{release_with, tears}

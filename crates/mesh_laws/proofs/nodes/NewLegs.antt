@@ -4,7 +4,6 @@ use Rattle.std.specs.Prelude.{◌||◌, Option, Some, None, IsTrue, IfSome, is_s
 use Rattle.ason_base.specs.Labels.{has, meet, least, up_to}
 use Rattle.ason_base.proofs.MaskMembers.{has-filter}
 use Rattle.ason_base.specs.declared.ids.Fibre.{Fibre}
-use Rattle.ason_base.specs.declared.ids.Lsp.{Lsp}
 use Rattle.ason_base.specs.declared.ids.NodeId.{NodeId}
 use Rattle.ason_base.specs.declared.network.LinkSpec.{LinkSpec}
 use Rattle.ason_base.specs.declared.network.TeRow.{TeRow}

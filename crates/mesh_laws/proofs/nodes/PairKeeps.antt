@@ -1,5 +1,5 @@
 -- Asking for a backup beside a call's working LSP keeps the facts of a node.
-use Rattle.std.proofs.Common.{◌≡◌, ◌+◌, true, false, nat_lt, List, [], ◌∷◌, drop, refl, sym, ap, subst, ◌∙◌, arith, inl, inr}
+use Rattle.std.proofs.Common.{◌≡◌, ◌+◌, true, false, nat_lt, List, drop, refl, sym, ap, subst, ◌∙◌, arith, inl, inr}
 use Rattle.std.specs.Prelude.{◌⊎◌, Option, Some, None, is_some}
 use Rattle.ason_base.specs.Lsps.{same_lsp}
 use Rattle.ason_base.specs.Risks.{unknown_link}
@@ -84,16 +84,23 @@ module _ (p : LocalNode) (s : NodeState) (legs : List Leg) (calls : List CallRec
         stay = λ m never. refl;
         apart = λ m e l other there named. refl;
         only = λ e l is named. inr
-            (let one : d ≡ e = cc is in (c, bare.found, (elim (named-by d l (subst (λ y. names l y ≡ true) (sym one) named)) [
-              | inl work ↦ names-work c l work
-              | inr back ↦ absurd (cc back)
-            ])));
+            (let one : d ≡ e = cc is in (
+              c,
+              bare.found,
+              (elim (named-by d l (subst (λ y. names l y ≡ true) (sym one) named)) [
+                | inl work ↦ names-work c l work
+                | inr back ↦ absurd (cc back)
+              ]),
+            ));
         kept = λ e l there named never.
-            (let mine = bare.found in let one : e ≡ c = cc (mine, there) in
-            (d, refl, (elim (named-by c l (subst (λ y. names l y ≡ true) one named)) [
-              | inl work ↦ names-work d l work
-              | inr back ↦ (let none = alone in absurd (cc (none, back)))
-            ])));
+            (let mine = bare.found in let one : e ≡ c = cc (mine, there) in (
+              d,
+              refl,
+              (elim (named-by c l (subst (λ y. names l y ≡ true) one named)) [
+                | inl work ↦ names-work d l work
+                | inr back ↦ (let none = alone in absurd (cc (none, back)))
+              ]),
+            ));
         facts = λ e is. (let one : d ≡ e = cc is in subst (FitsLegs p.id.0 s.lsp legs) one (record {
           state = rw live refl;
           work = fit.work;
@@ -174,11 +181,14 @@ module _ (p : LocalNode) (s : NodeState) (legs : List Leg) (calls : List CallRec
           apart = λ m e x other there named. unnamed m e x there named;
           only = λ e x is named. (let one : d ≡ e = cc is in only x (subst (λ y. names x y ≡ true) (sym one) named));
           kept = λ e x there named never.
-              (let mine = bare.found in let one : e ≡ c = cc (mine, there) in
-              (d, refl, (elim (named-by c x (subst (λ y. names x y ≡ true) one named)) [
-                | inl work ↦ names-work d x work
-                | inr back ↦ (let none = alone in absurd (cc (none, back)))
-              ])));
+              (let mine = bare.found in let one : e ≡ c = cc (mine, there) in (
+                d,
+                refl,
+                (elim (named-by c x (subst (λ y. names x y ≡ true) one named)) [
+                  | inl work ↦ names-work d x work
+                  | inr back ↦ (let none = alone in absurd (cc (none, back)))
+                ]),
+              ));
           facts = λ e is. (let one : d ≡ e = cc is in subst (FitsLegs p.id.0 (s.lsp + 1) legs') one paired);
           number = λ e is. (let one : d ≡ e = cc is in ap (λ y. y.call) (sym one));
           wanted = λ x h same there here stands. (d, refl, names-back d x (ap Some (same_lsp-eq l x same)));

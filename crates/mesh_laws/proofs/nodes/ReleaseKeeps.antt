@@ -1,6 +1,6 @@
 -- The release of a call, with all its LSPs, keeps the facts of a node.
-use Rattle.std.proofs.Common.{◌≡◌, ℕ, Bool, true, false, cond, not, nat_eq, List, [], ◌∷◌, refl, sym, ap, subst, ◌∙◌, arith, inl, inr}
-use Rattle.std.specs.Prelude.{◌⊎◌, ◌||◌, Option, Some, None, IfSome, is_some}
+use Rattle.std.proofs.Common.{◌≡◌, ℕ, Bool, true, false, cond, nat_eq, List, [], ◌∷◌, refl, sym, ap, subst, ◌∙◌, arith, inl, inr}
+use Rattle.std.specs.Prelude.{◌⊎◌, ◌||◌, Option, Some, None, IfSome}
 use Rattle.ason_base.specs.declared.ids.CallNo.{CallNo}
 use Rattle.ason_base.specs.declared.ids.Lsp.{Lsp}
 use Rattle.ason_base.specs.declared.ids.NodeId.{NodeId}
@@ -23,7 +23,7 @@ use Rattle.mesh_nodes.proofs.CallList.{find-without_call, found-number, rise-wit
 use Rattle.mesh_nodes.proofs.LegList.{find-with_leg, found-lsp}
 use Rattle.mesh_laws.specs.CallLaw.{FitsLegs, IsNamed}
 use Rattle.mesh_laws.proofs.nodes.Facts.{LegFacts, NodeFacts}
-use Rattle.mesh_laws.proofs.nodes.CallParts.{CallPart, named-lsp, together-part}
+use Rattle.mesh_laws.proofs.nodes.CallParts.{CallPart, together-part}
 use Rattle.mesh_laws.proofs.nodes.LegParts.{LegPart, part-with_leg}
 use Rattle.mesh_laws.proofs.nodes.NewLegs.{closed-stands, ingress-goes_on}
 use Rattle.mesh_laws.proofs.nodes.Parts.{call_part, leg_part, node_facts}

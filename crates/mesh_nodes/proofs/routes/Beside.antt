@@ -93,12 +93,17 @@ module _ (t : Network) (rows : List TeRow) (are : AreRowsOf t rows) where
       let found' : find_link t k.link ≡ Some that.link = ap (find_link t) (sym theirs.link) ∙ that.found in
       let specs : shares_risk (Some this.link) (Some that.link) ≡ true = rw (found, found') at shares in
       let r = common-there (risks_of (row_of this.link)) (risks_of (row_of that.link))
-      (sym (shares_risk-rows this.link that.link) ∙ specs) in
-      (
+      (sym (shares_risk-rows this.link that.link) ∙ specs) in (
         r.0,
         (mine.row, h, mine.known, there, mine.link, subst (λ (q : TeRow). Contains (risks_of q) r.0) (sym this.is) r.1),
-        (theirs.row, k, theirs.known, there', theirs.link,
-        subst (λ (q : TeRow). Contains (risks_of q) r.0) (sym that.is) r.2),
+        (
+          theirs.row,
+          k,
+          theirs.known,
+          there',
+          theirs.link,
+          subst (λ (q : TeRow). Contains (risks_of q) r.0) (sym that.is) r.2,
+        ),
       )
 
   no-risk : (primary route : List Step) → EachHasRow rows primary → EachHasRow rows route →
