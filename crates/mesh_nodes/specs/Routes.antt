@@ -83,8 +83,8 @@ FoundBackupsLead =
     AreRowsOf t s.learnt → least_backup (known_rows (local_node t n) s) primary n b ≡ Some r →
     IsTrue (makes_route t n b r.steps)
 
--- Where each link of the route is known, the backup that is found is risk-disjoint from it in the whole network, and shares
--- no inner node with it.
+-- Where each link of the route is known, the backup that is found is risk-disjoint from it in the whole network, and
+-- shares no inner node with it.
 abbrev pub FoundBackupsStandBeside : Type 0
 FoundBackupsStandBeside =
     (t : Network) (n b : NodeId) (s : NodeState) (primary : List Step) (r : Trip) → IsTrue (is_searchable t) →

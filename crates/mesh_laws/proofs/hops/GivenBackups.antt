@@ -141,7 +141,8 @@ module _ (t : Network) (s : Mesh) (n : NodeId) (o : Routes) (f : EachFollows t s
           subst (λ m. is_beside t m w.egress (Some route) backup ≡ true) from
               (subst (λ v. is_beside t w.from w.egress v backup ≡ true) via beside),
         )
-        | inr none ↦ absurd (let never = subst (λ v. is_beside t w.from w.egress v backup ≡ true) none beside in cc never)
+        | inr none ↦
+            absurd (let never = subst (λ v. is_beside t w.from w.egress v backup ≡ true) none beside in cc never)
       ]
 
   -- An item of a desk

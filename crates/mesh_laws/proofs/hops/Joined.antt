@@ -52,8 +52,8 @@ record JoinedLegs (s : Mesh) (l : Lsp) (f : Phase) (u d : NodeId) : Type 0 where
   leaves : from.out_label ≡ Some label
   enters : to.in_label ≡ Some label
 
--- A phase that is the same all along a route: the upstream leg of a hop is in it only where the downstream one is, and a
--- leg in it has its labels.
+-- A phase that is the same all along a route: the upstream leg of a hop is in it only where the downstream one is, and
+-- a leg in it has its labels.
 record GoesAlong (t : Network) (s : Mesh) (q : Purpose) (l : Lsp) (p : Plan) (f : Phase) : Type 0 where
   next : (i : ℕ) → i < hops p → InPhase s l f (node_at p i) → InPhase s l f (node_at p (suc i))
   labelled : (i : ℕ) (g : Leg) → LegFits t q l p i g → g.phase ≡ f →

@@ -214,8 +214,10 @@ pub follows : (t : Network) (events : List MeshEvent) → IsRun t start events �
     EachFollows t (after t start events) (route_of t start events)
 follows t events run =
     (follows_run t (MeshFacts t) (step_facts t) (facts-step t) start events run (facts-start t) (λ l. None)
-    (record { follows = λ l. record { legs = λ n. refl; mail = λ a b. refl }; given = λ n k c found. absurd (cc found) })
-    ).follows
+    (record {
+      follows = λ l. record { legs = λ n. refl; mail = λ a b. refl };
+      given = λ n k c found. absurd (cc found);
+    })).follows
 
 pub found_of : (legs : List Leg) → LegsRise legs → (g : Leg) → Contains legs g → find_leg g.lsp legs ≡ Some g
 found_of legs rise g has =

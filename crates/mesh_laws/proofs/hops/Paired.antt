@@ -80,7 +80,8 @@ no_previous t s o l n g (Some route) (e, q, pl) here first =
 
 -- A backup beside it
 
--- a route that the call was given for it stands beside that of the working LSP, and without one the links can be searched
+-- a route that the call was given for it stands beside that of the working LSP, and without one the links can be
+-- searched
 pub record MayPair (t : Network) (n : NodeId) (o : Routes) (c : CallRec) (w : Leg) : Type 0 where
   pub given : (primary route : List Step) → o w.lsp ≡ Some primary → c.backup ≡ Some route →
       is_beside t n w.egress (Some primary) route ≡ true

@@ -1,4 +1,5 @@
--- What holds of each call of a node after a rule, where it holds of a call by what was asked for and by its working LSP.
+-- What holds of each call of a node after a rule, where it holds of a call by what was asked for and by its working
+-- LSP.
 use Rattle.std.proofs.Common.{true, ◌⊎◌, inl, inr, ◌≡◌, ℕ, not, nat_eq, List, [], ◌∷◌, refl, subst}
 use Rattle.std.specs.Prelude.{◌&&◌, Option, Some, None, is_some, nat_lt, drop}
 use Rattle.std.specs.List.{AllByRecursion}
@@ -79,7 +80,8 @@ each-change P (Put c) calls here each k d found =
 pub each-after : (P : CallRec → Type 0) (cs : List CallChange) (calls : List CallRec) → ArePut P cs →
     EachCall P calls → EachCall P (calls_changed cs calls)
 each-after P [] calls here each = each
-each-after P (x ∷ cs) calls here each = each-after P cs (call_changed x calls) here.1 (each-change P x calls here.0 each)
+each-after P (x ∷ cs) calls here each =
+    each-after P cs (call_changed x calls) here.1 (each-change P x calls here.0 each)
 
 -- P holds of each call before the rule, and R of those that the rule puts in their places
 module _ (P R : CallRec → Type 0) (keeps : (c d : CallRec) → IsSameCall c d → P c → R d) (p : LocalNode)
@@ -246,8 +248,8 @@ module _ (P R : CallRec → Type 0) (keeps : (c d : CallRec) → IsSameCall c d 
       if_cases Holds (nat_eq from.0 p.id.0 && is_bare c.state) _ _
       (λ e. holds-protects c (leg_of c.work s.legs) (each k c is)) (λ e. tt)
 
--- A call that is set up: what holds of it may hang on the whole answer. It is blocked, or its working LSP is asked for over
--- the route that was given or one that was found.
+-- A call that is set up: what holds of it may hang on the whole answer. It is blocked, or its working LSP is asked for
+-- over the route that was given or one that was found.
 module _ (p : LocalNode) (s : NodeState) (w : SetupRequest) (Q : Answer → CallRec → Type 0)
     (lone : (a : Answer) (cause : Cause) → Q a (call_record w Blocked None cause))
     (begun : (route : List Step) (out : LinkSpec) → (w.via ≡ Some route) ⊎ (w.via ≡ None) →
