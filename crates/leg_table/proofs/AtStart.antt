@@ -79,12 +79,12 @@ module _ (t : Network) (n : NodeId) (valid : IsTopology t) where
     all = λ f x l g found takes. absurd (cc found);
   }
 
-  start-fits : TablesFit (new_table t n) (none_claimed t n)
+  start-fits : TablesFit (new_table t n) (none_claimed t n) []
   start-fits = record {
     links = subst LocalNodeFits (sym (is-local t n)) (new-place t n valid);
     legs = (1, omega arith, record { rise = tt; each = tt; few = omega arith });
-    owner = record {
-      claims = claims-fit;
+    node = record {
+      labels = record { claims = claims-fit; guards = record { each = λ f x l q. refl } };
       fibres = subst (λ p. OwnerFits p (none_claimed t n)) (sym (is-local t n)) owner-fits;
       rows = none-learnt row_of (filter (touches n) t.links);
     };
@@ -98,5 +98,5 @@ at_start-is t n s is =
     (is-local t n, ap (λ rs. record new_node { learnt = rs }) rows)
 
 pub at_start-fits : (t : Network) (n : NodeId) (s : LegTable) → IsTopology t → s ≡ new_table t n →
-    TablesFit s (none_claimed t n)
-at_start-fits t n s valid is = subst (λ x. TablesFit x (none_claimed t n)) (sym is) (start-fits t n valid)
+    TablesFit s (none_claimed t n) []
+at_start-fits t n s valid is = subst (λ x. TablesFit x (none_claimed t n) []) (sym is) (start-fits t n valid)

@@ -9,6 +9,7 @@ use Rattle.ason_base.specs.Lsps.{same_lsp}
 use Rattle.link_owner.specs.Claims.{FibreClaims, IsLeast, NoClaim, freed, has, is_of_lsp}
 use Rattle.link_owner.specs.Owners.{claim_added, claims_of, comes_in, has_label}
 use Rattle.link_owner.specs.declared.claims.Claim.{Claim}
+use Rattle.share_check.specs.declared.guards.Guard.{Guard}
 use Rattle.mesh_rules.specs.Legs.{find_leg, with_leg, without_leg}
 use Rattle.mesh_rules.specs.LocalNodes.{LocalNode}
 use Rattle.mesh_rules.specs.declared.changes.LegChange.{LegChange}
@@ -18,17 +19,13 @@ use Rattle.mesh_nodes.proofs.Cases.{both_right}
 use Rattle.mesh_nodes.proofs.LegList.{find-with_leg, find-without_leg, same_lsp-eq, same_lsp-refl}
 use Rattle.mesh_nodes.proofs.Links.{any-left}
 use Rattle.leg_table.specs.declared.labels.TakenLabel.{TakenLabel}
-use Rattle.leg_table.specs.LegClaims.{ClaimsFit, IsClaimOfLeg, MayAllEnter, MayBeFirst, MayBeMade, MayClaim, MayEnter, MayTake, OwnerFits, SameFibres, first_claim, freed_of, kind_here, taken, taken_of}
-use Rattle.leg_table.proofs.ClaimChanges.{Entered, Left, claimed-fit, freed-fit, left-fit, none-kind}
+use Rattle.leg_table.specs.LegClaims.{ClaimsFit, IsClaimOfLeg, LabelsFit, MayAllEnter, MayBeFirst, MayBeMade, MayClaim, MayEnter, MayTake, OwnerFits, SameFibres, first_claim, freed_of, kind_here, taken, taken_of}
+use Rattle.leg_table.proofs.ClaimChanges.{Entered, Left, claimed-fit, freed-fit, kind-none, left-fit, none-kind}
 use Rattle.leg_table.proofs.OwnerFibres.{comes-kept, labels-kept}
 use Rattle.leg_table.proofs.TakenLabels.{taken-takes}
 use Rattle.leg_table.proofs.UsableLabels.{usable-unclaimed, usable-within}
 
 -- Legs that give up their label, or take one
-
-kind-none : (f : Fibre) (x : ℕ) (o : Option Leg) → taken_of o ≡ None → kind_here f x o ≡ None
-kind-none f x None e = refl
-kind-none f x (Some g) e = none-kind f x g e
 
 pub left-without : (l : Lsp) (legs : List Leg) → Left l legs (without_leg l legs)
 left-without l legs =
@@ -113,11 +110,10 @@ owner-kept p o after same fits = record {
 
 -- What the owner allows
 
-pub may-enter : (p : LocalNode) (legs : List Leg) (o : List FibreClaims) (c : LegChange) → order.LegsRise legs →
-    ClaimsFit legs o →
-    OwnerFits p o → MayBeFirst p legs c → MayEnter o legs c
-may-enter p legs o (Goes l) rise fit owner may = tt
-may-enter p legs o (Put g) rise fit owner may = go (taken g) may
+pub may-enter : (p : LocalNode) (legs : List Leg) (o : List FibreClaims) (s : List Guard) (c : LegChange) →
+    order.LegsRise legs → LabelsFit legs o s → OwnerFits p o → MayBeFirst p legs c → MayEnter o legs c
+may-enter p legs o s (Goes l) rise fit owner may = tt
+may-enter p legs o s (Put g) rise fit owner may = go (taken g) may
   where
     go : (t : Option TakenLabel) → IfSome t (MayTake p legs g) → IfSome t (MayClaim o legs g)
     go None may = tt
@@ -130,7 +126,7 @@ may-enter p legs o (Put g) rise fit owner may = go (taken g) may
           within =
               subst (λ n. t.label ≤ n) (sym (owner.labels t.fibre comes))
               (usable-within p legs g.role g.risks t.fibre t.label may.usable);
-          free = ap not (usable-unclaimed p legs g.role g.risks o t.fibre t.label rise fit may.usable);
+          free = ap not (usable-unclaimed p legs g.role g.risks o s t.fibre t.label rise fit may.usable);
         }
 
 no-true : (b : Bool) → not b ≡ true → b ≡ true → ⊥
@@ -168,8 +164,7 @@ pub none-least : (p : Claim → Bool) (l : Lsp) (claims : List Claim) → NoClai
 none-least p l claims none least =
     no-true (list_any p claims) none (any-left p (λ c. same_lsp c.lsp l) claims least.passes)
 
-pub may-all-enter : (p : LocalNode) (legs : List Leg) (o : List FibreClaims) (cs : List LegChange) →
-    order.LegsRise legs → ClaimsFit legs o →
-    OwnerFits p o → MayBeMade p legs cs → MayAllEnter o legs cs
-may-all-enter p legs o [] rise fit owner may = tt
-may-all-enter p legs o (c ∷ cs) rise fit owner may = (may-enter p legs o c rise fit owner may.0, may.1)
+pub may-all-enter : (p : LocalNode) (legs : List Leg) (o : List FibreClaims) (s : List Guard) (cs : List LegChange) →
+    order.LegsRise legs → LabelsFit legs o s → OwnerFits p o → MayBeMade p legs cs → MayAllEnter o legs cs
+may-all-enter p legs o s [] rise fit owner may = tt
+may-all-enter p legs o s (c ∷ cs) rise fit owner may = (may-enter p legs o s c rise fit owner may.0, may.1)

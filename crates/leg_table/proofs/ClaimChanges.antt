@@ -1,6 +1,6 @@
 -- The claims and the legs, after a leg gives up its label or takes one.
 use Rattle.std.proofs.Common.{◌≡◌, ℕ, Bool, true, false, cond, not, nat_eq, List, [], ◌∷◌, ◌++◌, refl, sym, ap, subst, ◌∙◌, arith}
-use Rattle.std.specs.Prelude.{◌&&◌, ◌||◌, Some, None, filter}
+use Rattle.std.specs.Prelude.{◌&&◌, ◌||◌, Option, Some, None, filter}
 use Rattle.std.specs.List.{AllByRecursion, list_any}
 use Rattle.std.proofs.lemmas.List.Folds.{list_any-append}
 use Rattle.ason_base.specs.declared.ids.Fibre.{Fibre}
@@ -15,7 +15,7 @@ use Rattle.mesh_rules.specs.Legs.{find_leg, takes}
 use Rattle.mesh_nodes.proofs.Cases.{both_right}
 use Rattle.mesh_nodes.proofs.LegList.{same_lsp-eq, same_lsp-refl}
 use Rattle.leg_table.specs.declared.labels.TakenLabel.{TakenLabel}
-use Rattle.leg_table.specs.LegClaims.{ClaimsFit, IsClaimOfLeg, claim_kind, first_claim, first_kind, kind_here, taken}
+use Rattle.leg_table.specs.LegClaims.{ClaimsFit, IsClaimOfLeg, claim_kind, first_claim, first_kind, kind_here, taken, taken_of}
 use Rattle.leg_table.proofs.OwnerFibres.{claimed-comes, claims-elsewhere, claims-there, same_fibre-eq, same_fibre-refl}
 use Rattle.leg_table.proofs.TakenLabels.{none-takes, taken-takes, takes-taken}
 
@@ -42,7 +42,7 @@ all-one_more : {X : Type 0} (P : X → Type 0) (xs : List X) (x : X) → AllByRe
 all-one_more P [] x all here = (here, tt)
 all-one_more P (y ∷ xs) x all here = (all.0, all-one_more P xs x all.1 here)
 
-or_true : (b : Bool) → (b || true) ≡ true
+pub or_true : (b : Bool) → (b || true) ≡ true
 or_true true = refl
 or_true false = refl
 
@@ -65,10 +65,10 @@ any-first t xs ys h = list_any-append t xs ys ∙ rw h refl
 any-last : {X : Type 0} (t : X → Bool) (xs : List X) (x : X) → t x ≡ true → list_any t (xs ++ x ∷ []) ≡ true
 any-last t xs x h = list_any-append t xs (x ∷ []) ∙ rw h (or_true (list_any t xs))
 
-number : (a b : ℕ) → nat_eq a b ≡ true → a ≡ b
+pub number : (a b : ℕ) → nat_eq a b ≡ true → a ≡ b
 number a b e = grind arith
 
-same_number : (n : ℕ) → nat_eq n n ≡ true
+pub same_number : (n : ℕ) → nat_eq n n ≡ true
 same_number n = grind arith
 
 not-of : (b : Bool) → not b ≡ true → b ≡ false
@@ -86,6 +86,10 @@ kind-of f x g k e = go (takes f x g) refl e
 
 pub none-kind : (f : Fibre) (x : ℕ) (g : Leg) → taken g ≡ None → kind_here f x (Some g) ≡ None
 none-kind f x g e = rw (none-takes g f x e) refl
+
+pub kind-none : (f : Fibre) (x : ℕ) (o : Option Leg) → taken_of o ≡ None → kind_here f x o ≡ None
+kind-none f x None e = refl
+kind-none f x (Some g) e = none-kind f x g e
 
 -- A leg that gives up its label: those of other LSPs stay, and none of this LSP takes one
 

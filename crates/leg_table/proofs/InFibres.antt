@@ -9,15 +9,14 @@ use Rattle.ason_base.specs.declared.network.LinkSpec.{LinkSpec}
 use Rattle.ason_base.specs.declared.tables.Leg.{Leg}
 use Rattle.ason_base.specs.Lsps.{same_fibre}
 use Rattle.ason_base.specs.Network.{other_end}
-use Rattle.link_owner.specs.Claims.{FibreClaims}
 use Rattle.mesh_rules.specs.declared.neighbours.Neighbour.{Neighbour}
 use Rattle.mesh_rules.specs.Legs.{find_leg, previous}
 use Rattle.mesh_rules.specs.LocalNodes.{LocalNode, fibre_in, leads, own_link}
 use Rattle.mesh_nodes.specs.Kept.{LegFits}
-use Rattle.mesh_nodes.specs.LocalNodes.{is_upstream}
+use Rattle.mesh_nodes.specs.LocalNodes.{LocalNodeFits, is_upstream}
 use Rattle.mesh_nodes.proofs.LegList.{found-all}
 use Rattle.mesh_nodes.proofs.Links.{sender-upstream}
-use Rattle.leg_table.specs.Fits.{TablesFit}
+use Rattle.leg_table.specs.Fits.{OwnLegsFit}
 use Rattle.leg_table.specs.LegClaims.{is_fibre_in}
 use Rattle.leg_table.specs.States.{local_of}
 use Rattle.leg_table.specs.Tables.{LegTable}
@@ -41,18 +40,18 @@ if-is : {X : Type 0} (P : X → Type 0) (o : Option X) (x : X) → o ≡ Some x 
 if-is P o x e here = subst (λ y. IfSome y P) e here
 
 -- the fibre by which a message came that its sender's link leads on
-pub sender-fibre_in : (t : LegTable) (o : List FibreClaims) (k : LinkId) (l : LinkSpec) (u : NodeId) → TablesFit t o →
+pub sender-fibre_in : (t : LegTable) (k : LinkId) (l : LinkSpec) (u : NodeId) → LocalNodeFits (local_of t) →
     own_link (local_of t) k ≡ Some l → leads (Some l) u t.node.id ≡ true →
     is_fibre_in (local_of t) (fibre_in l t.node.id) ≡ true
-sender-fibre_in t o k l u fits own led =
+sender-fibre_in t k l u links own led =
     upstream-fibre_in (local_of t) (record { node = u; fibre = fibre_in l t.node.id })
-    (sender-upstream (local_of t) k l u fits.links own led)
+    (sender-upstream (local_of t) k l u links own led)
 
 -- the fibre by which a leg comes in
-pub previous-fibre_in : (t : LegTable) (o : List FibreClaims) (l : Lsp) (g : Leg) (h : Neighbour) → TablesFit t o →
+pub previous-fibre_in : (t : LegTable) (l : Lsp) (g : Leg) (h : Neighbour) → OwnLegsFit t →
     find_leg l t.legs ≡ Some g → previous g ≡ Some h → is_fibre_in (local_of t) h.fibre ≡ true
-previous-fibre_in t o l g h fits found before =
-    let next = fits.legs.0 in
-    let here : LegFits (local_of t) next g = found-all (LegFits (local_of t) next) l t.legs g found fits.legs.2.each in
+previous-fibre_in t l g h legs found before =
+    let next = legs.0 in
+    let here : LegFits (local_of t) next g = found-all (LegFits (local_of t) next) l t.legs g found legs.2.each in
     upstream-fibre_in (local_of t) h
     (if-is (λ k. IsTrue (is_upstream (local_of t) k)) (previous g) h before here.upstream)

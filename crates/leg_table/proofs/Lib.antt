@@ -1,6 +1,7 @@
 pub mod AtStart
 pub mod Carried
 pub mod ClaimChanges
+pub mod GuardChanges
 mod Halved
 pub mod InFibres
 pub mod LegOrder
@@ -15,6 +16,7 @@ mod Orders
 pub mod OwnLegs
 pub mod OwnerFibres
 pub mod Places
+mod Restored
 pub mod RuleChanges
 pub mod TakenLabels
 pub mod UsableLabels

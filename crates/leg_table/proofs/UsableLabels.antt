@@ -1,6 +1,6 @@
 -- The labels that no leg claims are those that a working leg may take; and those that a backup may share.
-use Rattle.std.proofs.Common.{◌≡◌, ◌<◌, ◌≤◌, ◌+◌, ℕ, Bool, true, false, not, nat_eq, List, [], ◌∷◌, refl, sym, ap, subst, ◌∙◌, arith}
-use Rattle.std.specs.Prelude.{◌||◌, ◌&&◌, Option, Some, None}
+use Rattle.std.proofs.Common.{◌≡◌, ◌<◌, ◌≤◌, ◌+◌, ℕ, Bool, true, false, not, nat_eq, List, [], ◌∷◌, refl, sym, ap, subst, ◌∙◌, arith, Contains}
+use Rattle.std.specs.Prelude.{◌||◌, ◌&&◌, Option, Some, None, filter}
 use Rattle.std.specs.List.{AllByRecursion, list_any}
 use Rattle.ason_base.specs.Labels.{numbers_from, up_to}
 use Rattle.ason_base.specs.Labels as labels
@@ -13,12 +13,16 @@ use Rattle.ason_base.specs.declared.ids.Lsp.{Lsp}
 use Rattle.ason_base.specs.declared.risks.Risk.{Risk}
 use Rattle.ason_base.specs.declared.tables.Leg.{Leg}
 use Rattle.ason_base.specs.Lsps.{same_lsp}
-use Rattle.ason_base.specs.Risks.{have_common}
+use Rattle.ason_base.specs.Risks.{has_risk, have_common}
+use Rattle.ason_base.proofs.RiskOrder.{common-there, contains-has_risk, has_risk-contains, there-common}
 use Rattle.ason_base.proofs.MaskMembers.{filter-agree, filter-filter, has-bound, has-filter}
 use Rattle.link_owner.specs.Claims.{FibreClaims, has, is_of_lsp, is_working, shareable, unclaimed, works_on}
 use Rattle.link_owner.specs.Owners.{claims_of, comes_in, labels_of}
 use Rattle.link_owner.specs.declared.claims.Claim.{Claim}
 use Rattle.link_owner.specs.declared.claims.ClaimKind.{ClaimKind}
+use Rattle.share_check.specs.Guards.{fits, fitting, is_guarded}
+use Rattle.share_check.specs.declared.guards.Guard.{Guard}
+use Rattle.share_check.proofs.Fitting.{fits-none, none-fits}
 use Rattle.mesh_rules.specs.Legs.{find_leg, is_apart, is_usable, is_work, takes, usable}
 use Rattle.mesh_rules.specs.LocalNodes.{LocalNode, own_link}
 use Rattle.mesh_rules.specs.LocalNodes as local
@@ -26,7 +30,7 @@ use Rattle.mesh_nodes.specs.Order.{LegsRise}
 use Rattle.mesh_nodes.proofs.Cases.{both_left, both_right}
 use Rattle.mesh_nodes.proofs.LegList.{all-found, same_lsp-eq}
 use Rattle.mesh_nodes.proofs.Links.{any-found, any-left}
-use Rattle.leg_table.specs.LegClaims.{ClaimsFit, IsClaimOfLeg, OwnerFits, bars, claim_kind, is_barred, is_met, kind_here, left_by}
+use Rattle.leg_table.specs.LegClaims.{ClaimsFit, IsClaimOfLeg, LabelsFit, OwnerFits, bars, claim_kind, guarded_risks, guards_here, kind_here}
 use Rattle.leg_table.proofs.ClaimChanges.{kind-of}
 
 or_last : (a b : Bool) → b ≡ true → (a || b) ≡ true
@@ -112,123 +116,171 @@ any-told {X} P p q (x ∷ xs) told all e = go (p x) refl e (any-told P p q xs to
 abbrev keeps_from : List Risk → Fibre → ℕ → Leg → Bool
 keeps_from risks f x g = takes f x g && not (is_apart risks g)
 
-working-met : (risks : List Risk) (g : Leg) (k : ClaimKind) → claim_kind g.role g.phase ≡ k → is_working k ≡ true →
-    not (is_apart risks g) ≡ true
-working-met risks g k kind working = go g.role g.phase (rw kind working)
-  where
-    go : (r : Role) (f : Phase) → is_working (claim_kind r f) ≡ true →
-        not (not (is_work r) && not (have_common risks g.risks)) ≡ true
-    go Work f e = refl
-    go Back phase.Asked e = absurd (cc e)
-    go Back phase.Held e = absurd (cc e)
-    go Back phase.Armed e = absurd (cc e)
-    go Back phase.Live e = absurd (cc e)
-    go Back phase.Closing e = absurd (cc e)
-    go Back phase.Falling e = absurd (cc e)
+working-is : (r : Role) (p : Phase) → is_working (claim_kind r p) ≡ true → is_work r ≡ true
+working-is Work p e = refl
+working-is Back phase.Asked e = absurd (cc e)
+working-is Back phase.Held e = absurd (cc e)
+working-is Back phase.Armed e = absurd (cc e)
+working-is Back phase.Live e = absurd (cc e)
+working-is Back phase.Closing e = absurd (cc e)
+working-is Back phase.Falling e = absurd (cc e)
 
--- a working claim keeps every backup from its label
-works-barred : (legs : List Leg) (risks : List Risk) (f : Fibre) (x : ℕ) (claims : List Claim) →
-    AllByRecursion (IsClaimOfLeg legs f) claims → list_any (works_on x) claims ≡ true →
-    list_any (is_barred legs risks x) claims ≡ true
-works-barred legs risks f x claims each h =
-    any-told (IsClaimOfLeg legs f) (works_on x) (is_barred legs risks x) claims one each h
-  where
-    one : (c : Claim) → IsClaimOfLeg legs f c → works_on x c ≡ true → is_barred legs risks x c ≡ true
-    one c of works = go (find_leg c.lsp legs) of
-      where
-        here : has x c ≡ true
-        here = both_left (has x c) (is_working c.kind) works
+module _ (legs : List Leg) (risks : List Risk) (o : List FibreClaims) (s : List Guard) (f : Fibre) (x : ℕ)
+    (rise : LegsRise legs)
+    (fit : LabelsFit legs o s) where
+  -- the leg of a working claim keeps every backup from the label
+  works-keeps : list_any (works_on x) (claims_of f o) ≡ true → list_any (keeps_from risks f x) legs ≡ true
+  works-keeps h =
+      of_each (works_on x) (list_any (keeps_from risks f x) legs ≡ true) (claims_of f o)
+      (each (claims_of f o) (fit.claims.each f)) h
+    where
+      one : (c : Claim) → IsClaimOfLeg legs f c → works_on x c ≡ true → list_any (keeps_from risks f x) legs ≡ true
+      one c of works = go (find_leg c.lsp legs) refl of
+        where
+          label : c.label ≡ x
+          label = let here : nat_eq c.label x ≡ true = both_left (has x c) (is_working c.kind) works in grind arith
 
-        working : is_working c.kind ≡ true
-        working = both_right (has x c) (is_working c.kind) works
+          go : (k : Option Leg) → find_leg c.lsp legs ≡ k → kind_here f c.label k ≡ Some c.kind →
+              list_any (keeps_from risks f x) legs ≡ true
+          go None found e = absurd (cc e)
+          go (Some g) found e =
+              let t : takes f c.label g ≡ true = kind-of f c.label g c.kind e in
+              let kind : Some (claim_kind g.role g.phase) ≡ Some c.kind = rw t at e in
+              let is : claim_kind g.role g.phase ≡ c.kind = cc kind in
+              let work : is_work g.role ≡ true =
+              working-is g.role g.phase (ap is_working is ∙ both_right (has x c) (is_working c.kind) works) in
+              let t' : takes f x g ≡ true = subst (λ y. takes f y g ≡ true) label t in
+              any-found (keeps_from risks f x) (λ h. same_lsp h.lsp c.lsp) legs g found (rw (t', work) refl)
 
-        go : (o : Option Leg) → kind_here f c.label o ≡ Some c.kind → (has x c && is_met risks o) ≡ true
-        go None e = absurd (cc e)
-        go (Some g) e =
-            let t : takes f c.label g ≡ true = kind-of f c.label g c.kind e in
-            let kind : Some (claim_kind g.role g.phase) ≡ Some c.kind = rw t at e in
-            rw (here, working-met risks g c.kind (cc kind) working) refl
+      each : (claims : List Claim) → AllByRecursion (IsClaimOfLeg legs f) claims →
+          AllByRecursion (λ c. works_on x c ≡ true → list_any (keeps_from risks f x) legs ≡ true) claims
+      each [] all = tt
+      each (c ∷ claims) all = (one c all.0, each claims all.1)
 
--- the leg of a claim that keeps the backup from the label does so
-barred-met : (legs : List Leg) (risks : List Risk) (f : Fibre) (x : ℕ) (claims : List Claim) →
-    AllByRecursion (IsClaimOfLeg legs f) claims → list_any (is_barred legs risks x) claims ≡ true →
-    list_any (keeps_from risks f x) legs ≡ true
-barred-met legs risks f x claims each h =
-    of_each (λ c. is_barred legs risks x c) (list_any (keeps_from risks f x) legs ≡ true) claims (all claims each) h
-  where
-    one : (c : Claim) → IsClaimOfLeg legs f c → is_barred legs risks x c ≡ true →
-        list_any (keeps_from risks f x) legs ≡ true
-    one c of barred = go (find_leg c.lsp legs) refl of (both_right (has x c) _ barred)
-      where
-        label : c.label ≡ x
-        label = let here : nat_eq c.label x ≡ true = both_left (has x c) _ barred in grind arith
+  -- so does one that guards one of the risks
+  guards-keeps : (l : Lsp) (q : Risk) → Contains risks q → is_guarded s f x l q ≡ true →
+      list_any (keeps_from risks f x) legs ≡ true
+  guards-keeps l q asked h = go (find_leg l legs) refl (sym (fit.guards.each f x l q) ∙ h)
+    where
+      keeps : (g : Leg) → takes f x g ≡ true → has_risk (guarded_risks g) q ≡ true → keeps_from risks f x g ≡ true
+      keeps g t has = role (is_work g.role) refl
+        where
+          role : (b : Bool) → is_work g.role ≡ b → keeps_from risks f x g ≡ true
+          role true work = rw (t, work) refl
+          role false back =
+              let own : has_risk g.risks q ≡ true = rw back at has in
+              let common : have_common risks g.risks ≡ true =
+              there-common risks g.risks q asked (has_risk-contains g.risks q own) in
+              rw (t, back, common) refl
 
-        go : (o : Option Leg) → find_leg c.lsp legs ≡ o → kind_here f c.label o ≡ Some c.kind →
-            is_met risks o ≡ true → list_any (keeps_from risks f x) legs ≡ true
-        go None found e met = absurd (cc met)
-        go (Some g) found e met =
-            let t : takes f c.label g ≡ true = kind-of f c.label g c.kind e in
-            let t' : takes f x g ≡ true = subst (λ y. takes f y g ≡ true) label t in
-            any-found (keeps_from risks f x) (λ h. same_lsp h.lsp c.lsp) legs g found (rw t' met)
+      go : (k : Option Leg) → find_leg l legs ≡ k → guards_here f x q k ≡ true →
+          list_any (keeps_from risks f x) legs ≡ true
+      go None found e = absurd (cc e)
+      go (Some g) found e =
+          any-found (keeps_from risks f x) (λ h. same_lsp h.lsp l) legs g found
+          (keeps g (both_left (takes f x g) _ e) (both_right (takes f x g) (has_risk (guarded_risks g) q) e))
 
-    all : (claims : List Claim) → AllByRecursion (IsClaimOfLeg legs f) claims →
-        AllByRecursion (λ c. is_barred legs risks x c ≡ true → list_any (keeps_from risks f x) legs ≡ true) claims
-    all [] each = tt
-    all (c ∷ claims) each = (one c each.0, all claims each.1)
+  -- a leg that keeps the backup from the label has a working claim of it, or guards one of the risks
+  keeps-one : list_any (works_on x) (claims_of f o) ≡ false → fits s f risks x ≡ true → (l : Lsp) (g : Leg) →
+      find_leg l legs ≡ Some g → keeps_from risks f x g ≡ true → ⊥
+  keeps-one none fitting l g found keeps = role (is_work g.role) refl
+    where
+      t : takes f x g ≡ true
+      t = both_left (takes f x g) (not (is_apart risks g)) keeps
 
--- the claim of a leg that keeps the backup from the label does so
-met-barred : (legs : List Leg) (risks : List Risk) (o : List FibreClaims) (f : Fibre) (x : ℕ) → LegsRise legs →
-    ClaimsFit legs o → list_any (keeps_from risks f x) legs ≡ true →
-    list_any (is_barred legs risks x) (claims_of f o) ≡ true
-met-barred legs risks o f x rise fit h =
-    of_each (keeps_from risks f x) (list_any (is_barred legs risks x) (claims_of f o) ≡ true) legs
-    (all-found (λ g. keeps_from risks f x g ≡ true → list_any (is_barred legs risks x) (claims_of f o) ≡ true) legs rise
-    one) h
-  where
-    one : (l : Lsp) (g : Leg) → find_leg l legs ≡ Some g → keeps_from risks f x g ≡ true →
-        list_any (is_barred legs risks x) (claims_of f o) ≡ true
-    one l g found keeps =
-        any-told (λ c. Unit {0}) (is_of_lsp x l) (is_barred legs risks x) (claims_of f o)
-        (λ c u of. told c of) (each (claims_of f o))
-        (fit.all f x l g found (both_left (takes f x g) _ keeps))
-      where
-        told : (c : Claim) → is_of_lsp x l c ≡ true → is_barred legs risks x c ≡ true
-        told c of =
-            let here : has x c ≡ true = both_left (has x c) _ of in
-            let is : c.lsp ≡ l = same_lsp-eq c.lsp l (both_right (has x c) _ of) in
-            let there : find_leg c.lsp legs ≡ Some g = subst (λ k. find_leg k legs ≡ Some g) (sym is) found in
-            rw (here, there) (both_right (takes f x g) _ keeps)
+      works : is_work g.role ≡ true → list_any (works_on x) (claims_of f o) ≡ true
+      works work =
+          any-told (IsClaimOfLeg legs f) (is_of_lsp x l) (works_on x) (claims_of f o) told (fit.claims.each f)
+          (fit.claims.all f x l g found t)
+        where
+          kind : (r : Role) (p : Phase) → is_work r ≡ true → is_working (claim_kind r p) ≡ true
+          kind Work p e = refl
+          kind Back p e = absurd (cc e)
 
-        each : (claims : List Claim) → AllByRecursion (λ c. Unit {0}) claims
-        each [] = tt
-        each (c ∷ claims) = (tt, each claims)
+          told : (c : Claim) → IsClaimOfLeg legs f c → is_of_lsp x l c ≡ true → works_on x c ≡ true
+          told c of its =
+              let here : has x c ≡ true = both_left (has x c) (same_lsp c.lsp l) its in
+              let is : c.lsp ≡ l = same_lsp-eq c.lsp l (both_right (has x c) (same_lsp c.lsp l) its) in
+              let label : c.label ≡ x = grind arith in
+              let there : kind_here f x (find_leg l legs) ≡ Some c.kind =
+              subst (λ y. kind_here f y (find_leg l legs) ≡ Some c.kind) label
+              (subst (λ k. kind_here f c.label (find_leg k legs) ≡ Some c.kind) is of) in
+              let claimed : Some (claim_kind g.role g.phase) ≡ Some c.kind = rw (found, t) at there in
+              let same : claim_kind g.role g.phase ≡ c.kind = cc claimed in
+              rw here (sym (ap is_working same) ∙ kind g.role g.phase work)
 
-barred-exact : (legs : List Leg) (risks : List Risk) (o : List FibreClaims) (f : Fibre) (x : ℕ) → LegsRise legs →
-    ClaimsFit legs o →
-    list_any (is_barred legs risks x) (claims_of f o) ≡ list_any (keeps_from risks f x) legs
-barred-exact legs risks o f x rise fit =
-    iff _ _ (barred-met legs risks f x (claims_of f o) (fit.each f)) (met-barred legs risks o f x rise fit)
+      guards : is_work g.role ≡ false → have_common risks g.risks ≡ true → ⊥
+      guards back common =
+          let there = common-there risks g.risks common in
+          let q = there.0 in
+          let never = fits-none s f risks x fitting l q there.1 in
+          let has : has_risk g.risks q ≡ true = contains-has_risk g.risks q there.2 in
+          let own : guards_here f x q (Some g) ≡ true = rw (t, back, has) refl in
+          cc (never, fit.guards.each f x l q ∙ ap (guards_here f x q) found ∙ own)
 
-neither : (a b : Bool) → (a ≡ true → b ≡ true) → (not a && not b) ≡ not b
-neither true b told = let e : b ≡ true = told refl in rw e refl
-neither false b told = refl
+      common-of : (a b : Bool) → a ≡ false → not (not a && not b) ≡ true → b ≡ true
+      common-of true b e h = absurd (cc e)
+      common-of false true e h = refl
+      common-of false false e h = absurd (cc h)
 
-pub shared-usable : (p : LocalNode) (legs : List Leg) (risks : List Risk) (o : List FibreClaims) (f : Fibre) →
-    LegsRise legs → ClaimsFit legs o → OwnerFits p o → comes_in o f ≡ true →
-    left_by legs risks (claims_of f o) (shareable (labels_of f o) (claims_of f o)) ≡ usable p legs Back risks f
-shared-usable p legs risks o f rise fit owner comes =
-    filter-filter (λ x. not (list_any (works_on x) claims)) (λ x. not (list_any (is_barred legs risks x) claims))
-    (up_to (labels_of f o))
+      role : (b : Bool) → is_work g.role ≡ b → ⊥
+      role true work = cc (works work, none)
+      role false back =
+          guards back (common-of (is_work g.role) (have_common risks g.risks) back
+          (both_right (takes f x g) (not (is_apart risks g)) keeps))
+
+  pub shared-exact : (not (list_any (works_on x) (claims_of f o)) && fits s f risks x) ≡
+      not (list_any (keeps_from risks f x) legs)
+  shared-exact =
+      go (list_any (works_on x) (claims_of f o)) (fits s f risks x) (list_any (keeps_from risks f x) legs) refl refl refl
+    where
+      none-keeps : list_any (works_on x) (claims_of f o) ≡ false → fits s f risks x ≡ true →
+          list_any (keeps_from risks f x) legs ≡ true → ⊥
+      none-keeps none fitting h =
+          of_each (keeps_from risks f x) ⊥ legs
+          (all-found (λ g. keeps_from risks f x g ≡ true → ⊥) legs rise (keeps-one none fitting)) h
+
+      met-keeps : fits s f risks x ≡ false → list_any (keeps_from risks f x) legs ≡ false → ⊥
+      met-keeps met none =
+          cc (met, none-fits s f risks x (λ l q asked. unguarded l q asked (is_guarded s f x l q) refl))
+        where
+          unguarded : (l : Lsp) (q : Risk) → Contains risks q → (b : Bool) → is_guarded s f x l q ≡ b → b ≡ false
+          unguarded l q asked true e = absurd (cc (none, guards-keeps l q asked e))
+          unguarded l q asked false e = refl
+
+      go : (a b k : Bool) → list_any (works_on x) (claims_of f o) ≡ a → fits s f risks x ≡ b →
+          list_any (keeps_from risks f x) legs ≡ k → (not a && b) ≡ not k
+      go true b k works fitting keeps = let is : k ≡ true = sym keeps ∙ works-keeps works in rw is refl
+      go false true true works fitting keeps = absurd (none-keeps works fitting keeps)
+      go false true false works fitting keeps = refl
+      go false false true works fitting keeps = refl
+      go false false false works fitting keeps = absurd (met-keeps fitting keeps)
+
+pub shared-usable : (p : LocalNode) (legs : List Leg) (risks : List Risk) (o : List FibreClaims) (s : List Guard)
+    (f : Fibre) → LegsRise legs → LabelsFit legs o s → OwnerFits p o → comes_in o f ≡ true →
+    shareable (labels_of f o) (claims_of f o) ≡
+    filter (labels.has (shareable (labels_of f o) (claims_of f o))) (up_to 80) →
+    labels.meet (shareable (labels_of f o) (claims_of f o)) (fitting s f risks) ≡ usable p legs Back risks f
+shared-usable p legs risks o s f rise fit owner comes narrow =
+    filter-agree (labels.has (fitting s f risks)) (fits s f risks) left (λ x h. here x h)
+    ∙ filter-filter (λ x. not (list_any (works_on x) (claims_of f o))) (fits s f risks) (up_to (labels_of f o))
     ∙ rw (owner.labels f comes)
-    (filter-agree (λ x. not (list_any (works_on x) claims) && not (list_any (is_barred legs risks x) claims))
-    (is_usable Back risks legs f) (up_to (local.labels_of (own_link p f.link)))
-    (λ x h.
-    neither (list_any (works_on x) claims) (list_any (is_barred legs risks x) claims)
-    (works-barred legs risks f x claims (fit.each f))
-    ∙ ap not (barred-exact legs risks o f x rise fit)))
+    (filter-agree (λ x. not (list_any (works_on x) (claims_of f o)) && fits s f risks x) (is_usable Back risks legs f)
+    (up_to (local.labels_of (own_link p f.link))) (λ x h. shared-exact legs risks o s f x rise fit))
   where
-    claims : List Claim
-    claims = claims_of f o
+    left : List ℕ
+    left = shareable (labels_of f o) (claims_of f o)
+
+    -- a label that no working leg has is one of 1 to 80
+    within : (x : ℕ) → labels.has left x ≡ true → labels.has (up_to 80) x ≡ true
+    within x h =
+        both_left (labels.has (up_to 80) x) (labels.has left x)
+        (sym (has-filter (labels.has left) (up_to 80) x)
+        ∙ sym (ap (λ labels. list_any (λ y. nat_eq y x) labels) narrow)
+        ∙ h)
+
+    here : (x : ℕ) → labels.has left x ≡ true → labels.has (fitting s f risks) x ≡ fits s f risks x
+    here x h = has-filter (fits s f risks) (up_to 80) x ∙ ap (λ b. b && fits s f risks x) (within x h)
 
 -- A label that is usable
 
@@ -252,19 +304,14 @@ not-of : (b : Bool) → not b ≡ true → b ≡ false
 not-of true e = absurd (cc e)
 not-of false e = refl
 
-unless : (a b : Bool) → (a ≡ true → b ≡ true) → b ≡ false → a ≡ false
-unless true b told none = let e : b ≡ true = told refl in absurd (cc (e, none))
-unless false b told none = refl
-
 -- no claim keeps a leg of this role from a label that is usable for it
 pub usable-unclaimed : (p : LocalNode) (legs : List Leg) (r : Role) (risks : List Risk) (o : List FibreClaims)
-    (f : Fibre)
-    (x : ℕ) → LegsRise legs → ClaimsFit legs o → labels.has (usable p legs r risks f) x ≡ true →
-    list_any (bars r x) (claims_of f o) ≡ false
-usable-unclaimed p legs Work risks o f x rise fit h =
-    claimed-taken legs o f x rise fit ∙ not-of (list_any (takes f x) legs) (usable-is p legs Work risks f x h)
-usable-unclaimed p legs Back risks o f x rise fit h =
-    unless (list_any (works_on x) (claims_of f o)) (list_any (is_barred legs risks x) (claims_of f o))
-    (works-barred legs risks f x (claims_of f o) (fit.each f))
-    (barred-exact legs risks o f x rise fit
-    ∙ not-of (list_any (keeps_from risks f x) legs) (usable-is p legs Back risks f x h))
+    (s : List Guard) (f : Fibre) (x : ℕ) → LegsRise legs → LabelsFit legs o s →
+    labels.has (usable p legs r risks f) x ≡ true → list_any (bars r x) (claims_of f o) ≡ false
+usable-unclaimed p legs Work risks o s f x rise fit h =
+    claimed-taken legs o f x rise fit.claims
+    ∙ not-of (list_any (takes f x) legs) (usable-is p legs Work risks f x h)
+usable-unclaimed p legs Back risks o s f x rise fit h =
+    not-of (list_any (works_on x) (claims_of f o))
+    (both_left (not (list_any (works_on x) (claims_of f o))) (fits s f risks x)
+    (shared-exact legs risks o s f x rise fit ∙ usable-is p legs Back risks f x h))

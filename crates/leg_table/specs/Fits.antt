@@ -1,11 +1,12 @@
--- The tables and the owner of one node.
+-- The tables, the owner and the shares of one node.
 use Rattle.std.specs.Prelude.{ℕ, ◌≤◌, List}
 use Rattle.link_owner.specs.Claims.{FibreClaims}
+use Rattle.share_check.specs.declared.guards.Guard.{Guard}
 use Rattle.mesh_rules.specs.Changes.{Answer}
 use Rattle.mesh_rules.specs.Legs.{legs_changed}
 use Rattle.mesh_nodes.specs.Kept.{LegsFit}
 use Rattle.mesh_nodes.specs.LocalNodes.{LocalNodeFits}
-use Rattle.leg_table.specs.LegClaims.{IsOwnerOf}
+use Rattle.leg_table.specs.LegClaims.{AreOfOneNode}
 use Rattle.leg_table.specs.States.{local_of}
 use Rattle.leg_table.specs.Tables.{LegTable}
 
@@ -14,11 +15,11 @@ abbrev pub OwnLegsFit : LegTable → Type 0
 OwnLegsFit t = (next : ℕ) × (1 ≤ next) × LegsFit (local_of t) next t.legs
 
 -- the node is an end of each of its links; its legs come and go over them; the owner has the fibres that come in over
--- them, and its claims are the labels that the legs take
-pub record TablesFit (t : LegTable) (o : List FibreClaims) : Type 0 where
+-- them, and its claims are the labels that the legs take; the shares guard the risks that backups among these record
+pub record TablesFit (t : LegTable) (o : List FibreClaims) (s : List Guard) : Type 0 where
   pub links : LocalNodeFits (local_of t)
   pub legs : OwnLegsFit t
-  pub owner : IsOwnerOf t o
+  pub node : AreOfOneNode t o s
 
 -- the tables after what an answer does to the legs
 abbrev pub legs_after : LegTable → Answer → LegTable

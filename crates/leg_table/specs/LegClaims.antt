@@ -1,9 +1,11 @@
--- Which labels the legs of a node take, and the claims of its owner that they have (RFC 4872, section 8).
-use Rattle.std.specs.Prelude.{◌≡◌, ◌≤◌, ◌&&◌, ◌++◌, ℕ, Bool, false, not, List, [], ◌∷◌, filter, map, Option, Some, None, IfSome, IsTrue, if◌then◌else◌}
+-- Which labels the legs of a node take, the claims of its owner that they have, and the risks that they guard (RFC 4872,
+-- section 9).
+use Rattle.std.specs.Prelude.{◌≡◌, ◌≤◌, ◌&&◌, ◌++◌, ℕ, Bool, false, List, [], ◌∷◌, map, Option, Some, None, IfSome, IsTrue, if◌then◌else◌}
 use Rattle.std.specs.List.{AllByRecursion, list_any}
 use Rattle.ason_base.specs.Labels.{has}
-use Rattle.ason_base.specs.Lsps.{same_fibre}
+use Rattle.ason_base.specs.Lsps.{same_fibre, same_lsp}
 use Rattle.ason_base.specs.Network.{row_of}
+use Rattle.ason_base.specs.Risks.{has_risk}
 use Rattle.ason_base.specs.declared.calls.Phase.{Phase}
 use Rattle.ason_base.specs.declared.calls.Phase.TheVariants as phase
 use Rattle.ason_base.specs.declared.calls.Role.{Role}
@@ -14,15 +16,17 @@ use Rattle.ason_base.specs.declared.risks.Risk.{Risk}
 use Rattle.ason_base.specs.declared.tables.Leg.{Leg}
 use Rattle.link_owner.specs.Claims.{FibreClaims, NoClaim, works_on}
 use Rattle.link_owner.specs.Claims as claims
-use Rattle.link_owner.specs.Owners.{claims_of, comes_in, has_label, label_freed, labels_of}
+use Rattle.link_owner.specs.Owners.{claim_added, claims_of, comes_in, has_label, label_freed, labels_of}
 use Rattle.link_owner.specs.declared.claims.Claim.{Claim}
 use Rattle.link_owner.specs.declared.claims.ClaimKind.{ClaimKind}
 use Rattle.link_owner.specs.declared.claims.ClaimKind.TheVariants.{Working, Backup, Armed}
-use Rattle.mesh_rules.specs.Legs.{find_leg, is_apart, is_beyond_asked, takes, usable}
+use Rattle.mesh_rules.specs.Legs.{find_leg, is_beyond_asked, is_work, takes, usable}
 use Rattle.mesh_rules.specs.LocalNodes.{LocalNode, fibre_in, own_link}
 use Rattle.mesh_rules.specs.LocalNodes as local
 use Rattle.mesh_rules.specs.declared.changes.LegChange.{LegChange}
 use Rattle.mesh_rules.specs.declared.changes.LegChange.TheVariants.{Goes, Put}
+use Rattle.share_check.specs.Guards.{GuardsJust, is_guarded}
+use Rattle.share_check.specs.declared.guards.Guard.{Guard}
 use Rattle.leg_table.specs.States.{learnt_rows, local_of}
 use Rattle.leg_table.specs.Tables.{LegTable}
 use Rattle.leg_table.specs.declared.labels.TakenLabel.{TakenLabel}
@@ -41,21 +45,6 @@ taken g = if is_beyond_asked g.phase then taken_over g.in_fibre g.in_label else 
 abbrev pub taken_of : Option Leg → Option TakenLabel
 taken_of None = None
 taken_of (Some g) = taken g
-
--- Labels that a backup may share
-
--- the leg isn't a backup whose primary has none of these risks
-abbrev pub is_met : List Risk → Option Leg → Bool
-is_met risks None = false
-is_met risks (Some g) = not (is_apart risks g)
-
--- the claim's leg keeps a backup from its label whose primary has these risks
-abbrev pub is_barred : List Leg → List Risk → ℕ → Claim → Bool
-is_barred legs risks x c = claims.has x c && is_met risks (find_leg c.lsp legs)
-
--- those of the labels from which no claim keeps such a backup
-abbrev pub left_by : List Leg → List Risk → List Claim → List ℕ → List ℕ
-left_by legs risks claims labels = filter (λ x. not (list_any (is_barred legs risks x) claims)) labels
 
 -- Claims of legs
 
@@ -96,6 +85,43 @@ pub record ClaimsFit (legs : List Leg) (o : List FibreClaims) : Type 0 where
   pub all : (f : Fibre) (x : ℕ) (l : Lsp) (g : Leg) → find_leg l legs ≡ Some g → IsTrue (takes f x g) →
       IsTrue (has_label o f x l)
 
+-- the claims with that of a leg that takes the label
+abbrev pub claimed_by : Leg → TakenLabel → List FibreClaims → List FibreClaims
+claimed_by g t o = claim_added t.fibre (first_claim g.role t.label g.lsp) o
+
+-- Guards of legs
+
+-- the risks that the leg guards on its label: a backup those that it records
+abbrev pub guarded_risks : Leg → List Risk
+guarded_risks g = if is_work g.role then [] else g.risks
+
+-- the guards with those of a leg that takes the label
+abbrev pub GuardsBy : Leg → TakenLabel → List Guard → List Guard → Type 0
+GuardsBy g t before after = GuardsJust t.fibre t.label g.lsp (guarded_risks g) before after
+
+-- the leg takes the label, and guards the risk there
+abbrev pub guards_here : Fibre → ℕ → Risk → Option Leg → Bool
+guards_here f x q None = false
+guards_here f x q (Some g) = takes f x g && has_risk (guarded_risks g) q
+
+-- the leg's LSP guards just what the leg does
+abbrev pub GuardsOfLeg : Leg → List Guard → Type 0
+GuardsOfLeg g s = (f : Fibre) (x : ℕ) (q : Risk) → is_guarded s f x g.lsp q ≡ guards_here f x q (Some g)
+
+-- the risks that are guarded are exactly those that backups record, each on the label that the backup takes
+pub record GuardsFit (legs : List Leg) (s : List Guard) : Type 0 where
+  pub each : (f : Fibre) (x : ℕ) (l : Lsp) (q : Risk) → is_guarded s f x l q ≡ guards_here f x q (find_leg l legs)
+
+-- the LSP guards no risk on any label, and all others guard what they did
+abbrev pub GuardsNothing : Lsp → List Guard → List Guard → Type 0
+GuardsNothing l before after = (f : Fibre) (x : ℕ) (m : Lsp) (q : Risk) →
+    is_guarded after f x m q ≡ (if same_lsp l m then false else is_guarded before f x m q)
+
+-- the claims and the guards are those of the legs
+pub record LabelsFit (legs : List Leg) (o : List FibreClaims) (s : List Guard) : Type 0 where
+  pub claims : ClaimsFit legs o
+  pub guards : GuardsFit legs s
+
 -- Fibres that come in
 
 -- the fibre in of a link of the node
@@ -107,9 +133,9 @@ pub record OwnerFits (p : LocalNode) (o : List FibreClaims) : Type 0 where
   pub fibres : (f : Fibre) → comes_in o f ≡ is_fibre_in p f
   pub labels : (f : Fibre) → IsTrue (comes_in o f) → labels_of f o ≡ local.labels_of (own_link p f.link)
 
--- these are the tables and the owner of one node, and the rows that it knows begin with those of its own links
-pub record IsOwnerOf (t : LegTable) (o : List FibreClaims) : Type 0 where
-  pub claims : ClaimsFit t.legs o
+-- these are the tables, the owner and the shares of one node, and the rows that it knows begin with those of its own links
+pub record AreOfOneNode (t : LegTable) (o : List FibreClaims) (s : List Guard) : Type 0 where
+  pub labels : LabelsFit t.legs o s
   pub fibres : OwnerFits (local_of t) o
   pub rows : t.rows ≡ map row_of t.own ++ learnt_rows t
 

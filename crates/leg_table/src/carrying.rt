@@ -1,139 +1,80 @@
-//! Carrying out what a rule changes: the legs with the claims that they have, the row that is learnt, the calls and the numbers.
+//! Carrying out what a rule changes: the legs with the labels that they take, the row that is learnt, the calls and the
+//! numbers.
 
-ghost use Rattle.std.specs.Prelude.{◌≡◌, ◌≤◌, ◌<◌, ◌+◌, IfErr, IfOk, IfSome, IsTrue, None, OnErr, OnOk, Some, length, not, vec_capacity, vec_len};
+ghost use Rattle.std.specs.Prelude.{◌≡◌, ◌≤◌, ◌<◌, ◌+◌, IfOk, IfSome, None, OnErr, OnOk, Some, length, vec_capacity, vec_len};
 ghost use Rattle.std.specs.List.{AllByRecursion};
 ghost use Rattle.std.specs.Option.{option_to_list};
-ghost use Rattle.link_owner.specs.Claims.{NoClaim, RefusedFor};
-ghost use Rattle.link_owner.specs.Owners.{claim_added, claims_of, comes_in, has_label, labels_of};
 ghost use Rattle.mesh_rules.specs.Changes.{changed, learnt_after};
-ghost use Rattle.mesh_rules.specs.Legs.{find_leg, leg_changed, legs_changed, with_leg, without_leg};
-ghost use Rattle.leg_table.specs.LegClaims.{ClaimsFit, IsOwnerOf, MayAllEnter, MayBeMade, MayClaim, MayEnter, SameFibres, TakesNone, bars, first_claim, freed_of, taken, taken_of};
+ghost use Rattle.mesh_rules.specs.Legs.{leg_changed, legs_changed, with_leg, without_leg};
+ghost use Rattle.leg_table.specs.LegClaims.{AreOfOneNode, LabelsFit, MayAllEnter, MayBeMade, MayClaim, MayEnter, SameFibres, TakesNone, taken};
 ghost use Rattle.leg_table.specs.States.{local_of, state_of};
 ghost use Rattle.leg_table.specs.Tables.{LegsRise};
 
 use crate::boxes::{BoxedChange, BoxedLeg, LegEdit};
 use crate::call_table::Calls;
 use crate::changes::Change;
-use crate::labels::{TakenLabel, taken, taken_of};
-use crate::legs::{find_leg, set_leg, take_leg};
+use crate::labels::{TakenLabel, taken};
+use crate::legs::{set_leg, take_leg};
+use crate::reserving::{free_label, reserve};
 use crate::tables::NodeTables;
-use ason_base::{Lsp, OutOfMemory, Outs, Role, TeRow};
-use link_owner::{ClaimFault, Owner};
+use ason_base::{Lsp, OutOfMemory, Outs, TeRow};
+use link_owner::Owner;
+use share_check::Shares;
 use std::alloc::Global;
-
-// Claims
-
-// The label is given to a leg of this role.
-fn give(
-    owner: &mut Owner,
-    alloc: Global,
-    role: Role,
-    lsp: Lsp,
-    taken: TakenLabel,
-) -> Result<(), ClaimFault>
-    requires comes_in { IsTrue (comes_in owner.old taken.fibre) }
-    requires within { taken.label ≤ labels_of taken.fibre owner.old }
-    requires new { IsTrue (not (has_label owner.old taken.fibre taken.label lsp)) }
-    ensures ok { OnOk result
-        (owner.new ≡ claim_added taken.fibre (first_claim role taken.label lsp) owner.old) }
-    ensures err { OnErr result (owner.new ≡ owner.old) }
-    ensures fault { IfErr result
-        (RefusedFor (bars role taken.label) (claims_of taken.fibre owner.old)) }
-{
-    match role {
-        Role::Work => owner.claim(alloc, taken.fibre, taken.label, lsp),
-        Role::Back => owner.hold(alloc, taken.fibre, taken.label, lsp),
-    }
-}
-
-fn claim(
-    owner: &mut Owner,
-    alloc: Global,
-    role: Role,
-    lsp: Lsp,
-    taken: TakenLabel,
-) -> Result<(), OutOfMemory>
-    requires comes_in { IsTrue (comes_in owner.old taken.fibre) }
-    requires within { taken.label ≤ labels_of taken.fibre owner.old }
-    requires new { IsTrue (not (has_label owner.old taken.fibre taken.label lsp)) }
-    requires free { NoClaim (bars role taken.label) (claims_of taken.fibre owner.old) }
-    ensures ok { OnOk result
-        (owner.new ≡ claim_added taken.fibre (first_claim role taken.label lsp) owner.old) }
-    ensures err { OnErr result (owner.new ≡ owner.old) }
-{
-    match give(owner, alloc, role, lsp, taken) {
-        Ok(()) => Ok(()),
-        Err(ClaimFault::OutOfMemory) => Err(OutOfMemory),
-        Err(ClaimFault::Held(_)) => unreachable!(),
-    }
-}
-
-fn free(owner: &mut Owner, lsp: Lsp, taken: Option<TakenLabel>)
-    requires { IfSome taken (λ t. IsTrue (has_label owner.old t.fibre t.label lsp)) }
-    ensures { owner.new ≡ freed_of lsp taken owner.old }
-{
-    if let Some(taken) = taken {
-        owner.free(taken.fibre, taken.label, lsp);
-    }
-}
-
-// The label that the LSP's leg took is free again.
-fn free_label(legs: &[BoxedLeg], owner: &mut Owner, lsp: Lsp)
-    requires rising { LegsRise legs.now }
-    requires fit { ClaimsFit legs.now owner.old }
-    ensures { owner.new ≡ freed_of lsp (taken_of (find_leg lsp legs.now)) owner.old }
-{
-    free(owner, lsp, taken_of(find_leg(legs, lsp)));
-}
 
 // Legs
 
-fn remove_leg(legs: &mut Vec<BoxedLeg>, owner: &mut Owner, lsp: Lsp)
+fn remove_leg(legs: &mut Vec<BoxedLeg>, owner: &mut Owner, shares: &mut Shares, lsp: Lsp)
     requires rising { LegsRise legs.old.items }
-    requires fit { ClaimsFit legs.old.items owner.old }
+    requires fit { LabelsFit legs.old.items owner.old shares.old }
     ensures items { legs.new.items ≡ without_leg lsp legs.old.items }
     ensures rising { LegsRise legs.new.items }
     ensures len { vec_len legs.new ≤ vec_len legs.old }
     ensures capacity { vec_capacity legs.new ≡ vec_capacity legs.old }
-    ensures fit { ClaimsFit legs.new.items owner.new }
+    ensures fit { LabelsFit legs.new.items owner.new shares.new }
     ensures fibres { SameFibres owner.old owner.new }
 {
-    free_label(legs, owner, lsp);
+    free_label(legs, owner, shares, lsp);
     let _leg = take_leg(legs, lsp);
 }
 
 // Puts a leg that takes no label. There is room for it.
-fn put_leg(legs: &mut Vec<BoxedLeg>, owner: &mut Owner, leg: BoxedLeg)
+fn put_leg(legs: &mut Vec<BoxedLeg>, owner: &mut Owner, shares: &mut Shares, leg: BoxedLeg)
     requires rising { LegsRise legs.old.items }
     requires room { vec_len legs.old < vec_capacity legs.old }
-    requires fit { ClaimsFit legs.old.items owner.old }
+    requires fit { LabelsFit legs.old.items owner.old shares.old }
     requires none { taken leg ≡ None }
     ensures items { legs.new.items ≡ with_leg leg legs.old.items }
     ensures rising { LegsRise legs.new.items }
     ensures len { vec_len legs.new ≤ vec_len legs.old + 1 }
     ensures capacity { vec_capacity legs.new ≡ vec_capacity legs.old }
-    ensures fit { ClaimsFit legs.new.items owner.new }
+    ensures fit { LabelsFit legs.new.items owner.new shares.new }
     ensures fibres { SameFibres owner.old owner.new }
 {
-    free_label(legs, owner, leg.leg().lsp);
+    free_label(legs, owner, shares, leg.leg().lsp);
     set_leg(legs, leg);
 }
 
 // Makes the changes, one after the other. None takes a label, and there is room for them.
-fn change_later(legs: &mut Vec<BoxedLeg>, owner: &mut Owner, changes: Vec<LegEdit>)
+fn change_later(
+    legs: &mut Vec<BoxedLeg>,
+    owner: &mut Owner,
+    shares: &mut Shares,
+    changes: Vec<LegEdit>,
+)
     requires rising { LegsRise legs.old.items }
     requires room { vec_len legs.old + vec_len changes ≤ vec_capacity legs.old }
-    requires fit { ClaimsFit legs.old.items owner.old }
+    requires fit { LabelsFit legs.old.items owner.old shares.old }
     requires none { AllByRecursion TakesNone changes.items }
     ensures items { legs.new.items ≡ legs_changed changes.items legs.old.items }
     ensures rising { LegsRise legs.new.items }
-    ensures fit { ClaimsFit legs.new.items owner.new }
+    ensures fit { LabelsFit legs.new.items owner.new shares.new }
     ensures fibres { SameFibres owner.old owner.new }
 {
     for change in changes {
         match change.into_change() {
-            BoxedChange::Goes(lsp) => remove_leg(legs, owner, lsp),
-            BoxedChange::Put(leg) => put_leg(legs, owner, leg),
+            BoxedChange::Goes(lsp) => remove_leg(legs, owner, shares, lsp),
+            BoxedChange::Put(leg) => put_leg(legs, owner, shares, leg),
         }
     }
 }
@@ -142,26 +83,27 @@ fn change_later(legs: &mut Vec<BoxedLeg>, owner: &mut Owner, changes: Vec<LegEdi
 fn enter_leg(
     legs: &mut Vec<BoxedLeg>,
     owner: &mut Owner,
+    shares: &mut Shares,
     alloc: Global,
     leg: BoxedLeg,
     label: TakenLabel,
 ) -> Result<(), OutOfMemory>
     requires rising { LegsRise legs.old.items }
     requires room { vec_len legs.old < vec_capacity legs.old }
-    requires fit { ClaimsFit legs.old.items owner.old }
+    requires fit { LabelsFit legs.old.items owner.old shares.old }
     requires taken { taken leg ≡ Some label }
     requires may { MayClaim owner.old legs.old.items leg label }
     ensures ok { OnOk result (legs.new.items ≡ with_leg leg legs.old.items) }
     ensures err { OnErr result (legs.new.items ≡ legs.old.items) }
     ensures err_owner { OnErr result (owner.new ≡ owner.old) }
+    ensures err_shares { OnErr result (shares.new ≡ shares.old) }
     ensures rising { LegsRise legs.new.items }
     ensures len { vec_len legs.new ≤ vec_len legs.old + 1 }
     ensures capacity { vec_capacity legs.new ≡ vec_capacity legs.old }
-    ensures fit { ClaimsFit legs.new.items owner.new }
+    ensures fit { LabelsFit legs.new.items owner.new shares.new }
     ensures fibres { SameFibres owner.old owner.new }
 {
-    let entered = leg.leg();
-    claim(owner, alloc, entered.role, entered.lsp, label)?;
+    reserve(owner, shares, alloc, leg.leg(), &label)?;
     set_leg(legs, leg);
     Ok(())
 }
@@ -170,33 +112,35 @@ fn enter_leg(
 fn change_first(
     legs: &mut Vec<BoxedLeg>,
     owner: &mut Owner,
+    shares: &mut Shares,
     alloc: Global,
     change: LegEdit,
 ) -> Result<(), OutOfMemory>
     requires rising { LegsRise legs.old.items }
     requires room { vec_len legs.old < vec_capacity legs.old }
-    requires fit { ClaimsFit legs.old.items owner.old }
+    requires fit { LabelsFit legs.old.items owner.old shares.old }
     requires may { MayEnter owner.old legs.old.items change }
     ensures ok { OnOk result (legs.new.items ≡ leg_changed change legs.old.items) }
     ensures err { OnErr result (legs.new.items ≡ legs.old.items) }
     ensures err_owner { OnErr result (owner.new ≡ owner.old) }
+    ensures err_shares { OnErr result (shares.new ≡ shares.old) }
     ensures rising { LegsRise legs.new.items }
     ensures len { vec_len legs.new ≤ vec_len legs.old + 1 }
     ensures capacity { vec_capacity legs.new ≡ vec_capacity legs.old }
-    ensures fit { ClaimsFit legs.new.items owner.new }
+    ensures fit { LabelsFit legs.new.items owner.new shares.new }
     ensures fibres { SameFibres owner.old owner.new }
 {
     match change.into_change() {
         BoxedChange::Goes(lsp) => {
-            remove_leg(legs, owner, lsp);
+            remove_leg(legs, owner, shares, lsp);
             Ok(())
         }
         BoxedChange::Put(leg) => match taken(leg.leg()) {
             None => {
-                put_leg(legs, owner, leg);
+                put_leg(legs, owner, shares, leg);
                 Ok(())
             }
-            Some(label) => enter_leg(legs, owner, alloc, leg, label),
+            Some(label) => enter_leg(legs, owner, shares, alloc, leg, label),
         },
     }
 }
@@ -205,18 +149,20 @@ fn change_first(
 fn change_legs(
     legs: &mut Vec<BoxedLeg>,
     owner: &mut Owner,
+    shares: &mut Shares,
     alloc: Global,
     changes: Vec<LegEdit>,
 ) -> Result<(), OutOfMemory>
     requires rising { LegsRise legs.old.items }
     requires room { vec_len legs.old + vec_len changes ≤ vec_capacity legs.old }
-    requires fit { ClaimsFit legs.old.items owner.old }
+    requires fit { LabelsFit legs.old.items owner.old shares.old }
     requires may { MayAllEnter owner.old legs.old.items changes.items }
     ensures ok { OnOk result (legs.new.items ≡ legs_changed changes.items legs.old.items) }
     ensures err { OnErr result (legs.new.items ≡ legs.old.items) }
     ensures err_owner { OnErr result (owner.new ≡ owner.old) }
+    ensures err_shares { OnErr result (shares.new ≡ shares.old) }
     ensures rising { LegsRise legs.new.items }
-    ensures fit { ClaimsFit legs.new.items owner.new }
+    ensures fit { LabelsFit legs.new.items owner.new shares.new }
     ensures fibres { SameFibres owner.old owner.new }
 {
     let mut later = changes;
@@ -224,8 +170,8 @@ fn change_legs(
         return Ok(());
     }
     let first = later.remove(0);
-    change_first(legs, owner, alloc, first)?;
-    change_later(legs, owner, later);
+    change_first(legs, owner, shares, alloc, first)?;
+    change_later(legs, owner, shares, later);
     Ok(())
 }
 
@@ -261,10 +207,11 @@ pub(crate) fn carry_out_tables(
     alloc: Global,
     tables: &mut NodeTables,
     owner: &mut Owner,
+    shares: &mut Shares,
     changes: Vec<LegEdit>,
     row: Option<TeRow>,
 ) -> Result<(), OutOfMemory>
-    requires owner { IsOwnerOf tables.old owner.old }
+    requires node { AreOfOneNode tables.old owner.old shares.old }
     requires may { MayBeMade (local_of tables.old) tables.old.legs changes.items }
     requires few { length (legs_changed changes.items tables.old.legs) ≤ 4096 }
     ensures ok { OnOk result
@@ -274,24 +221,27 @@ pub(crate) fn carry_out_tables(
         }) }
     ensures err { OnErr result (tables.new ≡ tables.old) }
     ensures err_owner { OnErr result (owner.new ≡ owner.old) }
-    ensures owner { IsOwnerOf tables.new owner.new }
+    ensures err_shares { OnErr result (shares.new ≡ shares.old) }
+    ensures node { AreOfOneNode tables.new owner.new shares.new }
 {
     make_room(&mut tables.rows, &row)?;
     tables.legs.reserve(changes.len())?;
-    change_legs(&mut tables.legs, owner, alloc, changes)?;
+    change_legs(&mut tables.legs, owner, shares, alloc, changes)?;
     put_row(&mut tables.rows, row);
     Ok(())
 }
 
-/// Carries out what a rule changes, and hands back what is to be sent, in order. The owner's claims follow the legs. After want
+/// Carries out what a rule changes, and hands back what is to be sent, in order. The owner's claims and the
+/// guards of the shares follow the legs. After want
 /// of memory nothing has changed.
 pub fn carry_out(
     change: Change,
     tables: &mut NodeTables,
     owner: &mut Owner,
+    shares: &mut Shares,
     calls: &mut Calls,
 ) -> Result<Outs, OutOfMemory>
-    requires owner { IsOwnerOf tables.old owner.old }
+    requires node { AreOfOneNode tables.old owner.old shares.old }
     requires may { MayBeMade (local_of tables.old) tables.old.legs change.legs }
     requires few { length (legs_changed change.legs tables.old.legs) ≤ 4096 }
     ensures ok { OnOk result
@@ -299,9 +249,10 @@ pub fn carry_out(
     ensures sent { IfOk result (λ outs. outs ≡ change.sent) }
     ensures err { OnErr result (tables.new ≡ tables.old) }
     ensures err_owner { OnErr result (owner.new ≡ owner.old) }
+    ensures err_shares { OnErr result (shares.new ≡ shares.old) }
     ensures err_calls { OnErr result (calls.new ≡ calls.old) }
     ensures local { local_of tables.new ≡ local_of tables.old }
-    ensures owner { IsOwnerOf tables.new owner.new }
+    ensures node { AreOfOneNode tables.new owner.new shares.new }
 {
     let Change {
         legs,
@@ -312,7 +263,7 @@ pub fn carry_out(
         ..
     } = change;
     calls.list.reserve(changes.len())?;
-    carry_out_tables(calls.alloc, tables, owner, legs, row)?;
+    carry_out_tables(calls.alloc, tables, owner, shares, legs, row)?;
     calls.list.change(changes);
     if let Some(numbers) = numbers {
         calls.tunnel = numbers.tunnel;

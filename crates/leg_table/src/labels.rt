@@ -1,15 +1,15 @@
 //! The labels that legs take.
 
 ghost use Rattle.std.specs.Prelude.{◌≡◌, IsTrue};
-ghost use Rattle.std.specs.Option.{option_copied};
 ghost use Rattle.mesh_rules.specs.Legs.{usable};
-ghost use Rattle.leg_table.specs.LegClaims.{IsOwnerOf, is_fibre_in, is_met, left_by, taken, taken_of, taken_over};
+ghost use Rattle.leg_table.specs.LegClaims.{AreOfOneNode, is_fibre_in, taken, taken_over};
 ghost use Rattle.leg_table.specs.States.{local_of};
 
-use crate::one_leg::{is_beyond_asked, is_work};
+use crate::one_leg::is_beyond_asked;
 use crate::tables::NodeTables;
 use ason_base::{Fibre, Label, LabelSet, Leg, RiskSet, Role};
-use link_owner::{Claim, Owner};
+use link_owner::Owner;
+use share_check::Shares;
 
 /// A label that a leg takes, and the fibre that it is on.
 #[derive(Clone, Copy, Debug, Drop)]
@@ -37,50 +37,27 @@ pub fn taken(leg: &Leg) -> Option<TakenLabel>
     }
 }
 
-/// The label that the leg takes, where there is one.
-pub(crate) fn taken_of(leg: Option<&Leg>) -> Option<TakenLabel>
-    ensures { result ≡ taken_of (option_copied leg.entry) }
-{
-    match leg {
-        None => None,
-        Some(leg) => taken(leg),
-    }
-}
-
-// Whether the leg keeps a backup from its label whose primary has these risks.
-fn is_met(risks: &RiskSet, leg: Option<&Leg>) -> bool
-    ensures { result ≡ is_met risks.now (option_copied leg.entry) }
-{
-    match leg {
-        None => false,
-        Some(leg) => is_work(leg.role) || !risks.disjoint(&leg.risks),
-    }
-}
-
-// Those of the labels from which no claim keeps a backup whose primary has these risks.
-fn left_by(tables: &NodeTables, risks: &RiskSet, claims: &[Claim], labels: LabelSet) -> LabelSet
-    ensures { result ≡ left_by tables.now.legs risks.now claims.now labels }
-{
-    let mut left = labels;
-    for claim in claims {
-        if is_met(risks, tables.get(&claim.lsp)) {
-            left = left.without(claim.label);
-        }
-    }
-    left
-}
-
 /// The labels of a fibre that comes in which a leg of this role may take, whose primary has these risks: those that no leg
-/// takes, and for a backup those too that backups share whose primaries have none of the risks. The owner's claims of the fibre
-/// are looked at, and no other leg.
-pub fn usable(tables: &NodeTables, owner: &Owner, role: Role, risks: &RiskSet, f: Fibre) -> LabelSet
-    requires owner { IsOwnerOf tables.now owner.now }
+/// takes, and for a backup those too that backups share whose primaries have none of the risks. No leg is looked at.
+pub fn usable(
+    tables: &NodeTables,
+    owner: &Owner,
+    shares: &Shares,
+    role: Role,
+    risks: &RiskSet,
+    f: Fibre,
+) -> LabelSet
+    requires node { AreOfOneNode tables.now owner.now shares.now }
     requires comes_in { IsTrue (is_fibre_in (local_of tables.now) f) }
     ensures { result ≡ usable (local_of tables.now) tables.now.legs role risks.now f }
 {
     tables.rises();
     match role {
         Role::Work => owner.unclaimed(f),
-        Role::Back => left_by(tables, risks, owner.claims(f), owner.shareable(f)),
+        Role::Back => {
+            let labels = owner.shareable(f);
+            labels.rises();
+            labels.meet(&shares.fitting(f, risks))
+        }
     }
 }

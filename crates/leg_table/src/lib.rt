@@ -14,6 +14,7 @@ pub mod laws;
 mod legs;
 mod lsp_index;
 pub mod one_leg;
+mod reserving;
 mod tables;
 
 pub use call_table::Calls;

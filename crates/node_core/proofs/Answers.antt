@@ -1,5 +1,5 @@
 -- A node's answer to any input fits, and so does the node after it.
-use Rattle.std.proofs.Common.{◌≡◌, ◌∙◌, ◌≤◌, List, ap, sym, subst, Result, Ok, Err, arith}
+use Rattle.std.proofs.Common.{◌≡◌, ◌∙◌, ◌≤◌, List, [], ap, sym, subst, Result, Ok, Err, arith}
 use Rattle.std.specs.Prelude.{IfSome, None, OnErr, OnOk, Option, Some}
 use Rattle.ason_base.specs.Network.{IsTopology, Network}
 use Rattle.ason_base.specs.declared.ids.LinkId.{LinkId}
@@ -7,12 +7,13 @@ use Rattle.ason_base.specs.declared.ids.NodeId.{NodeId}
 use Rattle.ason_base.specs.declared.network.LinkSpec.{LinkSpec}
 use Rattle.link_owner.specs.Claims.{FibreClaims}
 use Rattle.link_owner.specs.Owners.{none_claimed}
+use Rattle.share_check.specs.declared.guards.Guard.{Guard}
 use Rattle.mesh_rules.specs.LocalNodes.{LocalNode, local_node, own_link}
 use Rattle.mesh_nodes.specs.LocalNodes.{LocalNodeFits}
 use Rattle.mesh_nodes.proofs.Links.{own-is}
 use Rattle.mesh_nodes.proofs.NewNodes.{new-fits}
 use Rattle.leg_table.specs.Fits.{TablesFit}
-use Rattle.leg_table.specs.LegClaims.{IsOwnerOf, MayBeMade}
+use Rattle.leg_table.specs.LegClaims.{AreOfOneNode, MayBeMade}
 use Rattle.leg_table.specs.States.{local_of, no_call, state_of}
 use Rattle.leg_table.specs.Tables.{CallTable, LegTable, new_table}
 use Rattle.leg_table.proofs.AtStart.{at_start-fits, at_start-is}
@@ -83,26 +84,28 @@ carried-fits t after c calls a (Err e) fits of place done tables same =
     let is : node_of after calls ≡ node_of t c = λ i. node_of (tables i) (same i) in
     subst IsNode (sym is) fits
 
--- Tables and owner
+-- Tables, owner and shares
 
-pub tables-fit : (t : LegTable) (c : CallTable) (o : List FibreClaims) → IsNode (node_of t c) → IsOwnerOf t o →
-    TablesFit t o
-tables-fit t c o fits owner =
+pub tables-fit : (t : LegTable) (c : CallTable) (o : List FibreClaims) (s : List Guard) → IsNode (node_of t c) →
+    AreOfOneNode t o s → TablesFit t o s
+tables-fit t c o s fits node =
     let first = fits.state.first in
     let numbers = fits.state.numbers in
-    record { links = fits.place; legs = (c.lsp, omega arith, fits.state.legs); owner = owner }
+    record { links = fits.place; legs = (c.lsp, omega arith, fits.state.legs); node = node }
 
-pub new-fit : (t : Network) (n : NodeId) (s : LegTable) (o : List FibreClaims) (c : CallTable) → IsTopology t →
-    s ≡ new_table t n →
-    o ≡ none_claimed t n → c ≡ no_call → IsNode (node_of s c) × IsOwnerOf s o
-new-fit t n s o c valid is owner calls =
+pub new-fit : (t : Network) (n : NodeId) (s : LegTable) (o : List FibreClaims) (g : List Guard) (c : CallTable) →
+    IsTopology t → s ≡ new_table t n → o ≡ none_claimed t n → g ≡ [] → c ≡ no_call →
+    IsNode (node_of s c) × AreOfOneNode s o g
+new-fit t n s o g c valid is owner guards calls =
     let fits = at_start-fits t n s valid is in
     let state : state_of s c ≡ new_node = ap (state_of s) calls ∙ (at_start-is t n s is).1 in
     let kept = subst (NodeFits (local_of s)) (sym state) (new-fits (local_of s)) in
     let rows : RowsFit (local_of s) (state_of s c) =
     subst (RowsFit (local_of s)) (sym state) (subst (λ p. RowsFit p new_node) (sym (at_start-is t n s is).0)
-    (new-rows t n valid)) in
-    (record { place = fits.links; state = kept; rows = rows }, subst (IsOwnerOf s) (sym owner) fits.owner)
+    (new-rows t n valid)) in (
+      record { place = fits.links; state = kept; rows = rows },
+      subst (AreOfOneNode s o) (sym guards) (subst (λ w. AreOfOneNode s w []) (sym owner) fits.node),
+    )
 
 pub new-is : (t : Network) (n : NodeId) (s : LegTable) (c : CallTable) → s ≡ new_table t n → c ≡ no_call →
     node_of s c ≡ record { place = local_node t n; state = new_node }

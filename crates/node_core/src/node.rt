@@ -20,26 +20,30 @@ use ason_base::{Copied, LinkId, NodeId, OutOfMemory, Outs, TableRows, Topology};
 use leg_table::carrying::carry_out;
 use leg_table::{Calls, Change, NodeTables};
 use link_owner::Owner;
+use share_check::Shares;
 use std::alloc::Global;
 use std::marker::Model;
 
-/// One node: the tables of its links and legs, who has the labels of the fibres that come in, and its calls.
+/// One node: the tables of its links and legs, who has the labels of the fibres that come in, which risks keep backups off
+/// them, and its calls.
 #[derive(Debug, Drop)]
 pub struct Node {
     tables: NodeTables,
     owner: Owner,
+    shares: Shares,
     calls: Calls,
 }
 
 impl Model for Node {
-    ghost use Rattle.leg_table.specs.LegClaims.{IsOwnerOf};
+    ghost use Rattle.leg_table.specs.LegClaims.{AreOfOneNode};
     ghost use Rattle.node_core.specs.Nodes.{IsNode, NodeView, node_of};
 
     ghost Value = { NodeView };
 
     ghost view = { λ n. node_of n.tables n.calls };
 
-    ghost invariant = { λ n. IsNode (node_of n.tables n.calls) × IsOwnerOf n.tables n.owner };
+    ghost invariant = { λ n. IsNode (node_of n.tables n.calls) ×
+        AreOfOneNode n.tables n.owner n.shares };
 }
 
 impl Node {
@@ -53,6 +57,7 @@ impl Node {
         Ok(Node {
             tables,
             owner,
+            shares: Shares::new(alloc),
             calls: Calls::new(alloc),
         })
     }
@@ -88,7 +93,14 @@ impl Node {
         ensures few { IfOk result (λ c. length c.sent ≤ 65536) }
     {
         self.fits();
-        let change = on_input(alloc, &self.tables, &self.owner, &self.calls, input)?;
+        let change = on_input(
+            alloc,
+            &self.tables,
+            &self.owner,
+            &self.shares,
+            &self.calls,
+            input,
+        )?;
         Ok(change)
     }
 
@@ -101,7 +113,13 @@ impl Node {
         ensures sent { IfOk result (λ outs. outs ≡ change.sent) }
         ensures err { OnErr result (self.new ≡ self.old) }
     {
-        carry_out(change, &mut self.tables, &mut self.owner, &mut self.calls)
+        carry_out(
+            change,
+            &mut self.tables,
+            &mut self.owner,
+            &mut self.shares,
+            &mut self.calls,
+        )
     }
 
     /// Takes one input by the rules of the mesh, and hands back what is to be sent, in order. Of rows of links those alone may
@@ -149,10 +167,12 @@ impl Copied for Node {
     {
         let tables = self.tables.copy(alloc)?;
         let owner = self.owner.copy(alloc)?;
+        let shares = self.shares.copy(alloc)?;
         let calls = self.calls.copy(alloc)?;
         Ok(Node {
             tables,
             owner,
+            shares,
             calls,
         })
     }

@@ -26,6 +26,7 @@ use leg_table::{Calls, Change, NodeTables};
 use link_owner::Owner;
 use path_state::{path_change, tear_change};
 use resv_state::{connects, path_err_change, refuses, resv_change};
+use share_check::Shares;
 use std::alloc::Global;
 
 // Messages
@@ -64,23 +65,32 @@ fn follow_resv(
     answer_resv(alloc, change, tables, calls, lsp, backup.as_ref())
 }
 
+/// A message, and the neighbour from which it came.
+#[derive(Clone, Copy, Drop)]
+struct Received<'a> {
+    from: NodeId,
+    msg: &'a Msg,
+}
+
 // What a message from a neighbour does. At the ingress its call follows the leg.
 fn on_message(
     alloc: Global,
     tables: &NodeTables,
     owner: &Owner,
+    shares: &Shares,
     calls: &Calls,
-    from: NodeId,
-    msg: &Msg,
+    received: Received<'_>,
 ) -> Result<Change, OutOfMemory>
-    requires tables { TablesFit tables.now owner.now }
+    requires tables { TablesFit tables.now owner.now shares.now }
     requires rows { CanSearch tables.now }
-    ensures { IfOk result (λ c. c ≡ message_here tables.now calls.now from msg.now) }
+    ensures { IfOk result
+        (λ c. c ≡ message_here tables.now calls.now received.from received.msg.now) }
 {
+    let Received { from, msg } = received;
     match msg {
-        Msg::Path { .. } => path_change(alloc, tables, owner, from, msg),
+        Msg::Path { .. } => path_change(alloc, tables, owner, shares, from, msg),
         Msg::Resv { lsp, .. } => {
-            let mut change = resv_change(alloc, tables, owner, from, msg)?;
+            let mut change = resv_change(alloc, tables, owner, shares, from, msg)?;
             if connects(tables, from, msg) {
                 follow_resv(alloc, &mut change, tables, calls, *lsp)?;
             }
@@ -221,15 +231,19 @@ pub(crate) fn on_input(
     alloc: Global,
     tables: &NodeTables,
     owner: &Owner,
+    shares: &Shares,
     calls: &Calls,
     input: &Input,
 ) -> Result<Change, OutOfMemory>
-    requires tables { TablesFit tables.now owner.now }
+    requires tables { TablesFit tables.now owner.now shares.now }
     requires rows { CanSearch tables.now }
     ensures { IfOk result (λ c. c ≡ answer_to (node_of tables.now calls.now) input.now) }
 {
     match input {
-        Input::Message { from, msg } => on_message(alloc, tables, owner, calls, *from, msg),
+        Input::Message { from, msg } => {
+            let received = Received { from: *from, msg };
+            on_message(alloc, tables, owner, shares, calls, received)
+        }
         Input::Desk(item) => on_item(alloc, tables, calls, item),
         Input::Tick => Ok(on_tick(alloc, tables, calls)),
         Input::Learn(row) => on_row(alloc, tables, calls, row),

@@ -8,6 +8,7 @@ use Rattle.ason_base.specs.declared.tables.Leg.{Leg}
 use Rattle.ason_base.specs.Lsps.{same_fibre}
 use Rattle.ason_base.specs.Network.{other_end}
 use Rattle.link_owner.specs.Claims.{FibreClaims}
+use Rattle.share_check.specs.declared.guards.Guard.{Guard}
 use Rattle.mesh_rules.specs.declared.limits.TheConstants.{MOST_LINKS_OF_ROUTE}
 use Rattle.mesh_rules.specs.Legs.{find_leg, is_beyond_asked, is_work, with_leg}
 use Rattle.mesh_rules.specs.LocalNodes.{LocalNode, fibre_in, fibre_out, own_link}
@@ -17,6 +18,7 @@ use Rattle.mesh_nodes.specs.LocalNodes.{is_upstream}
 use Rattle.mesh_nodes.proofs.Kept.{legs-more}
 use Rattle.mesh_nodes.proofs.Links.{any-found, end-downstream}
 use Rattle.leg_table.proofs.Carried.{given-up, left-with}
+use Rattle.leg_table.proofs.GuardChanges.{left-guards, none-guarded, nothing-guarded}
 use Rattle.leg_table.proofs.OwnerFibres.{same_fibre-refl}
 use Rattle.leg_table.specs.Fits.{TablesFit}
 use Rattle.leg_table.specs.LegClaims.{ClaimsFit, freed_of, taken, taken_of}
@@ -72,21 +74,26 @@ passing-fits p k j back on g here there passes next =
     begins_elsewhere : (a b : ℕ) (P : Type 0) → nat_eq a b ≡ false → a ≡ b → P
     begins_elsewhere a b P apart e = let is : nat_eq a b ≡ true = grind arith in absurd (cc (apart, is))
 
-pub put-fits : (t : LegTable) (o : List FibreClaims) (g : Leg) → TablesFit t o → find_leg g.lsp t.legs ≡ None →
-    length t.legs < 4096 →
-    taken g ≡ None → ((next : ℕ) → LegFits (local_of t) next g) → TablesFit (record t { legs = with_leg g t.legs }) o
-put-fits t o g fits new room none here =
+pub put-fits : (t : LegTable) (o : List FibreClaims) (s : List Guard) (g : Leg) → TablesFit t o s →
+    find_leg g.lsp t.legs ≡ None → length t.legs < 4096 → taken g ≡ None →
+    ((next : ℕ) → LegFits (local_of t) next g) → TablesFit (record t { legs = with_leg g t.legs }) o s
+put-fits t o s g fits new room none here =
     let next = fits.legs.0 in
     let some : 1 ≤ next = fits.legs.1 in
     let after = with_leg g t.legs in
     let freed : ClaimsFit after (freed_of g.lsp (taken_of (find_leg g.lsp t.legs)) o) =
-    given-up g.lsp t.legs after o fits.owner.claims (left-with g t.legs none) in
+    given-up g.lsp t.legs after o fits.node.labels.claims (left-with g t.legs none) in
+    let guards = fits.node.labels.guards in
+    let nothing = nothing-guarded g.lsp s (none-guarded g.lsp t.legs s guards (ap taken_of new)) in
     record {
       links = fits.links;
       legs = (next, some, legs-more (local_of t) next next g t.legs (omega arith) fits.legs.2 room (here next));
-      owner = record {
-        claims = subst (λ k. ClaimsFit (with_leg g t.legs) (freed_of g.lsp (taken_of k) o)) new freed;
-        fibres = fits.owner.fibres;
-        rows = fits.owner.rows;
+      node = record {
+        labels = record {
+          claims = subst (λ k. ClaimsFit (with_leg g t.legs) (freed_of g.lsp (taken_of k) o)) new freed;
+          guards = left-guards g.lsp t.legs after s s guards (left-with g t.legs none) nothing;
+        };
+        fibres = fits.node.fibres;
+        rows = fits.node.rows;
       };
     }

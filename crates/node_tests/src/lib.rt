@@ -19,3 +19,5 @@ mod resvs;
 mod routes;
 #[cfg(test)]
 mod row_checks;
+#[cfg(test)]
+mod shares;

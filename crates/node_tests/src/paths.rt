@@ -12,6 +12,7 @@ use leg_table::NodeTables;
 use leg_table::laws::at_start;
 use link_owner::Owner;
 use path_state::{path, tear};
+use share_check::Shares;
 use std::alloc::Global;
 use std::process::Abort;
 use std::test::Fail;
@@ -286,13 +287,19 @@ fn sent(alloc: Global, outs: &Outs) -> Result<Vec<Sent>, Fail> {
     Ok(sent)
 }
 
-/// The tables and the owner of one node.
-type Parts = (NodeTables, Owner);
+/// The tables, the owner and the shares of one node.
+type Parts = (NodeTables, Owner, Shares);
 
 // One message from the node before, and what is sent.
-fn give(alloc: Global, tables: &mut NodeTables, owner: &mut Owner, said: Said) -> Result<Outs, Fail>
-    requires { TablesFit tables.old owner.old }
-    ensures { TablesFit tables.new owner.new }
+fn give(
+    alloc: Global,
+    tables: &mut NodeTables,
+    owner: &mut Owner,
+    shares: &mut Shares,
+    said: Said,
+) -> Result<Outs, Fail>
+    requires { TablesFit tables.old owner.old shares.old }
+    ensures { TablesFit tables.new owner.new shares.new }
 {
     let (from, link) = if tables.node().id == B {
         (A, LinkId(1))
@@ -303,16 +310,16 @@ fn give(alloc: Global, tables: &mut NodeTables, owner: &mut Owner, said: Said) -
         Said::Path(number, hops, count) => {
             let role = PathRole::Work { guard: false };
             let msg = path_of(alloc, link, number, hops, count, role)?;
-            Ok(path(alloc, tables, owner, from, &msg)?)
+            Ok(path(alloc, tables, owner, shares, from, &msg)?)
         }
         Said::Backup(number, hops, count, over) => {
             let role = backup(alloc, over)?;
             let msg = path_of(alloc, link, number, hops, count, role)?;
-            Ok(path(alloc, tables, owner, from, &msg)?)
+            Ok(path(alloc, tables, owner, shares, from, &msg)?)
         }
         Said::Tear(number) => {
             let msg = tear_of(link, number);
-            Ok(tear(alloc, tables, owner, from, &msg)?)
+            Ok(tear(alloc, tables, owner, shares, from, &msg)?)
         }
     }
 }
@@ -322,32 +329,34 @@ fn give_all(
     alloc: Global,
     tables: &mut NodeTables,
     owner: &mut Owner,
+    shares: &mut Shares,
     given: &[Said],
 ) -> Result<Vec<Sent>, Fail>
-    requires { TablesFit tables.old owner.old }
-    ensures { TablesFit tables.new owner.new }
+    requires { TablesFit tables.old owner.old shares.old }
+    ensures { TablesFit tables.new owner.new shares.new }
 {
     let mut last = Vec::new(alloc);
     for said in given {
-        let outs = give(alloc, tables, owner, *said)?;
+        let outs = give(alloc, tables, owner, shares, *said)?;
         last = sent(alloc, &outs)?;
     }
     Ok(last)
 }
 
 fn parts_of(alloc: Global, t: &Topology, id: NodeId) -> Result<Parts, Fail>
-    ensures { IfOk result (λ p. TablesFit p.0 p.1) }
+    ensures { IfOk result (λ p. TablesFit p.0 p.1 p.2) }
 {
     let tables = NodeTables::new(alloc, t, id)?;
     let owner = Owner::new(alloc, t, id)?;
-    at_start(t, id, &tables, &owner);
-    Ok((tables, owner))
+    let shares = Shares::new(alloc);
+    at_start(t, id, &tables, &owner, &shares);
+    Ok((tables, owner, shares))
 }
 
 fn go_through(rt: &impl Abort, alloc: Global, t: &Topology, cases: &[Case]) -> Result<(), Fail> {
     for (id, given, sent, legs) in cases {
-        let (mut tables, mut owner) = parts_of(alloc, t, *id)?;
-        let last = give_all(alloc, &mut tables, &mut owner, given)?;
+        let (mut tables, mut owner, mut shares) = parts_of(alloc, t, *id)?;
+        let last = give_all(alloc, &mut tables, &mut owner, &mut shares, given)?;
         assert_eq!(rt; last.as_slice(), *sent);
         assert_eq!(rt; tables.count(), *legs);
     }

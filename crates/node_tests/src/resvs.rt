@@ -5,6 +5,7 @@ ghost use Rattle.leg_table.specs.Fits.{TablesFit};
 ghost use Rattle.leg_table.specs.LegClaims.{taken};
 ghost use Rattle.leg_table.specs.States.{local_of};
 ghost use Rattle.mesh_nodes.specs.Kept.{LegFits};
+ghost use Rattle.mesh_nodes.specs.LocalNodes.{LocalNodeFits};
 ghost use Rattle.mesh_rules.specs.LocalNodes.{own_link};
 
 use ason_base::codes::{LABEL, SET, TORN};
@@ -18,6 +19,7 @@ use leg_table::laws::at_start;
 use link_owner::Owner;
 use mesh_rules::links::{fibre_in, fibre_out};
 use resv_state::{path_err, resv};
+use share_check::Shares;
 use std::alloc::Global;
 use std::process::Abort;
 use std::test::Fail;
@@ -148,8 +150,8 @@ fn own_link(tables: &NodeTables, link: LinkId) -> Result<&LinkSpec, Fail>
 }
 
 // The leg that a Path over link 1 makes, which went on over link 2.
-fn asked_leg(alloc: Global, tables: &NodeTables, owner: &Owner, number: u16) -> Result<Leg, Fail>
-    requires { TablesFit tables.now owner.now }
+fn asked_leg(alloc: Global, tables: &NodeTables, number: u16) -> Result<Leg, Fail>
+    requires { LocalNodeFits (local_of tables.now) }
     ensures fits { IfOk result (λ g. (next : ℕ) → LegFits (local_of tables.now) next g) }
     ensures none { IfOk result (λ g. taken g ≡ None) }
 {
@@ -181,14 +183,20 @@ fn asked_leg(alloc: Global, tables: &NodeTables, owner: &Owner, number: u16) -> 
     })
 }
 
-/// The tables and the owner of one node.
-type Parts = (NodeTables, Owner);
+/// The tables, the owner and the shares of one node.
+type Parts = (NodeTables, Owner, Shares);
 
-fn put(alloc: Global, tables: &mut NodeTables, owner: &Owner, number: u16) -> Result<(), Fail>
-    requires { TablesFit tables.old owner.now }
-    ensures { TablesFit tables.new owner.now }
+fn put(
+    alloc: Global,
+    tables: &mut NodeTables,
+    owner: &Owner,
+    shares: &Shares,
+    number: u16,
+) -> Result<(), Fail>
+    requires { TablesFit tables.old owner.now shares.now }
+    ensures { TablesFit tables.new owner.now shares.now }
 {
-    let leg = asked_leg(alloc, tables, owner, number)?;
+    let leg = asked_leg(alloc, tables, number)?;
     if tables.get(&leg.lsp).is_some() {
         return Err(Fail::new("a leg of the LSP"));
     }
@@ -200,14 +208,15 @@ fn put(alloc: Global, tables: &mut NodeTables, owner: &Owner, number: u16) -> Re
 
 // Node b, with an Asked leg of LSP 1 and of LSP 2.
 fn parts_of(alloc: Global, t: &Topology) -> Result<Parts, Fail>
-    ensures { IfOk result (λ p. TablesFit p.0 p.1) }
+    ensures { IfOk result (λ p. TablesFit p.0 p.1 p.2) }
 {
     let mut tables = NodeTables::new(alloc, t, B)?;
     let owner = Owner::new(alloc, t, B)?;
-    at_start(t, B, &tables, &owner);
-    put(alloc, &mut tables, &owner, 1)?;
-    put(alloc, &mut tables, &owner, 2)?;
-    Ok((tables, owner))
+    let shares = Shares::new(alloc);
+    at_start(t, B, &tables, &owner, &shares);
+    put(alloc, &mut tables, &owner, &shares, 1)?;
+    put(alloc, &mut tables, &owner, &shares, 2)?;
+    Ok((tables, owner, shares))
 }
 
 fn resv_of(number: u16, label: u8) -> Result<Msg, Fail> {
@@ -230,18 +239,24 @@ fn error_of(number: u16, code: ErrCode, removed: bool) -> Msg {
     }
 }
 
-fn give(alloc: Global, tables: &mut NodeTables, owner: &mut Owner, said: Said) -> Result<Outs, Fail>
-    requires { TablesFit tables.old owner.old }
-    ensures { TablesFit tables.new owner.new }
+fn give(
+    alloc: Global,
+    tables: &mut NodeTables,
+    owner: &mut Owner,
+    shares: &mut Shares,
+    said: Said,
+) -> Result<Outs, Fail>
+    requires { TablesFit tables.old owner.old shares.old }
+    ensures { TablesFit tables.new owner.new shares.new }
 {
     match said {
         Said::Resv(number, from, label) => {
             let msg = resv_of(number, label)?;
-            Ok(resv(alloc, tables, owner, from, &msg)?)
+            Ok(resv(alloc, tables, owner, shares, from, &msg)?)
         }
         Said::Error(number, code, removed) => {
             let msg = error_of(number, code, removed);
-            Ok(path_err(alloc, tables, owner, C, &msg)?)
+            Ok(path_err(alloc, tables, owner, shares, C, &msg)?)
         }
     }
 }
@@ -268,14 +283,15 @@ fn give_all(
     alloc: Global,
     tables: &mut NodeTables,
     owner: &mut Owner,
+    shares: &mut Shares,
     given: &[Said],
 ) -> Result<Vec<Sent>, Fail>
-    requires { TablesFit tables.old owner.old }
-    ensures { TablesFit tables.new owner.new }
+    requires { TablesFit tables.old owner.old shares.old }
+    ensures { TablesFit tables.new owner.new shares.new }
 {
     let mut last = Vec::new(alloc);
     for said in given {
-        let outs = give(alloc, tables, owner, *said)?;
+        let outs = give(alloc, tables, owner, shares, *said)?;
         last = sent(alloc, &outs)?;
     }
     Ok(last)
@@ -287,8 +303,8 @@ fn phase(tables: &NodeTables, number: u16) -> Option<Phase> {
 
 fn go_through(rt: &impl Abort, alloc: Global, t: &Topology, cases: &[Case]) -> Result<(), Fail> {
     for (given, sent, phases) in cases {
-        let (mut tables, mut owner) = parts_of(alloc, t)?;
-        let last = give_all(alloc, &mut tables, &mut owner, given)?;
+        let (mut tables, mut owner, mut shares) = parts_of(alloc, t)?;
+        let last = give_all(alloc, &mut tables, &mut owner, &mut shares, given)?;
         assert_eq!(rt; last.as_slice(), *sent);
         assert_eq!(rt; [phase(&tables, 1), phase(&tables, 2)], *phases);
     }

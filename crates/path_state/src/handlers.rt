@@ -1,4 +1,4 @@
-//! A Path and a PathTear carried out over a node's tables and owner.
+//! A Path and a PathTear carried out over a node's tables, owner and shares.
 
 ghost use Rattle.std.specs.Prelude.{◌≡◌, [], IfOk, OnErr, OnOk};
 ghost use Rattle.leg_table.specs.Fits.{TablesFit};
@@ -10,6 +10,7 @@ use ason_base::{Msg, NodeId, OutOfMemory, Outs};
 use leg_table::NodeTables;
 use leg_table::handling::handle;
 use link_owner::Owner;
+use share_check::Shares;
 use std::alloc::Global;
 
 /// Takes a Path: a leg is made and the Path goes on, or it ends here and is answered by a Resv, or it is refused by a
@@ -19,19 +20,22 @@ pub fn path(
     alloc: Global,
     tables: &mut NodeTables,
     owner: &mut Owner,
+    shares: &mut Shares,
     from: NodeId,
     msg: &Msg,
 ) -> Result<Outs, OutOfMemory>
-    requires { TablesFit tables.old owner.old }
+    requires { TablesFit tables.old owner.old shares.old }
     ensures ok { OnOk result (tables.new ≡ after_path tables.old from msg.now) }
     ensures sent { IfOk result (λ outs. outs ≡ (path_answer tables.old from msg.now).sent) }
     ensures none { (path_answer tables.old from msg.now).legs ≡ [] → owner.new ≡ owner.old }
-    ensures fits { TablesFit tables.new owner.new }
+    ensures none_shares { (path_answer tables.old from msg.now).legs ≡ [] → shares.new ≡ shares.old }
+    ensures fits { TablesFit tables.new owner.new shares.new }
     ensures err { OnErr result (tables.new ≡ tables.old) }
     ensures err_owner { OnErr result (owner.new ≡ owner.old) }
+    ensures err_shares { OnErr result (shares.new ≡ shares.old) }
 {
-    let change = path_change(alloc, tables, owner, from, msg)?;
-    handle(alloc, tables, owner, change)
+    let change = path_change(alloc, tables, owner, shares, from, msg)?;
+    handle(alloc, tables, owner, shares, change)
 }
 
 /// Takes a PathTear: it is confirmed by a PathErr and goes on, and the leg waits for the next node's answer; at the egress
@@ -41,17 +45,20 @@ pub fn tear(
     alloc: Global,
     tables: &mut NodeTables,
     owner: &mut Owner,
+    shares: &mut Shares,
     from: NodeId,
     msg: &Msg,
 ) -> Result<Outs, OutOfMemory>
-    requires { TablesFit tables.old owner.old }
+    requires { TablesFit tables.old owner.old shares.old }
     ensures ok { OnOk result (tables.new ≡ after_tear tables.old from msg.now) }
     ensures sent { IfOk result (λ outs. outs ≡ (tear_answer tables.old from msg.now).sent) }
     ensures none { (tear_answer tables.old from msg.now).legs ≡ [] → owner.new ≡ owner.old }
-    ensures fits { TablesFit tables.new owner.new }
+    ensures none_shares { (tear_answer tables.old from msg.now).legs ≡ [] → shares.new ≡ shares.old }
+    ensures fits { TablesFit tables.new owner.new shares.new }
     ensures err { OnErr result (tables.new ≡ tables.old) }
     ensures err_owner { OnErr result (owner.new ≡ owner.old) }
+    ensures err_shares { OnErr result (shares.new ≡ shares.old) }
 {
     let change = tear_change(alloc, tables, from, msg)?;
-    handle(alloc, tables, owner, change)
+    handle(alloc, tables, owner, shares, change)
 }

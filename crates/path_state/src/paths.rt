@@ -20,6 +20,7 @@ use link_owner::Owner;
 use mesh_rules::Arrival;
 use mesh_rules::limits::MOST_LEGS;
 use mesh_rules::links::{fibre_in, fibre_out, leads};
+use share_check::Shares;
 use std::alloc::Global;
 use std::marker::Model;
 
@@ -80,22 +81,24 @@ fn role_of(role: &PathRole) -> Role
     }
 }
 
-// The owner looks the labels up that are usable for such a leg.
+// The owner and the shares tell which labels are usable for such a leg.
 fn offered_labels(
     tables: &NodeTables,
     owner: &Owner,
+    shares: &Shares,
     request: &PathRequest<'_>,
     link: &LinkSpec,
     risks: &RiskSet,
 ) -> LabelSet
-    requires fits { TablesFit tables.now owner.now }
+    requires fits { TablesFit tables.now owner.now shares.now }
     requires link { IsTrue (comes_over tables.now link.now) }
     requires risks { risks.now ≡ recorded_here tables.now request.now }
     ensures { result ≡ offered_here tables.now request.now link.now }
 {
     let fibre = fibre_in(link, tables.node().id);
     let role = role_of(request.role);
-    request.set.meet(&usable(tables, owner, role, risks, fibre))
+    let labels = usable(tables, owner, shares, role, risks, fibre);
+    request.set.meet(&labels)
 }
 
 fn refuse(
@@ -286,10 +289,11 @@ fn judge(
     alloc: Global,
     tables: &NodeTables,
     owner: &Owner,
+    shares: &Shares,
     request: &PathRequest<'_>,
     link: &LinkSpec,
 ) -> Result<Change, OutOfMemory>
-    requires fits { TablesFit tables.now owner.now }
+    requires fits { TablesFit tables.now owner.now shares.now }
     requires link { IsTrue (comes_over tables.now link.now) }
     ensures { IfOk result (λ c. c ≡ judged_here tables.now request.now link.now) }
 {
@@ -301,7 +305,7 @@ fn judge(
     }
     match recorded(alloc, tables, request.role) {
         Ok(risks) => {
-            let labels = offered_labels(tables, owner, request, link, &risks);
+            let labels = offered_labels(tables, owner, shares, request, link, &risks);
             admit_labelled(alloc, tables, request, link, Offer { risks, labels })
         }
         Err(RiskFault::Unknown(_)) => refuse(alloc, tables, request.arrival, PRIMARY),
@@ -322,9 +326,10 @@ fn first_path(
     alloc: Global,
     tables: &NodeTables,
     owner: &Owner,
+    shares: &Shares,
     request: &PathRequest<'_>,
 ) -> Result<Change, OutOfMemory>
-    requires { TablesFit tables.now owner.now }
+    requires { TablesFit tables.now owner.now shares.now }
     ensures { IfOk result (λ c. c ≡ first_here tables.now request.now) }
 {
     let arrival = request.arrival;
@@ -333,7 +338,7 @@ fn first_path(
         return Ok(Change::nothing(alloc));
     };
     if !is_active(request.role) && leads(link, arrival.from, here) && arrival.lsp.ingress != here {
-        judge(alloc, tables, owner, request, link)
+        judge(alloc, tables, owner, shares, request, link)
     } else {
         Ok(Change::nothing(alloc))
     }
@@ -343,13 +348,14 @@ fn on_path(
     alloc: Global,
     tables: &NodeTables,
     owner: &Owner,
+    shares: &Shares,
     request: &PathRequest<'_>,
 ) -> Result<Change, OutOfMemory>
-    requires { TablesFit tables.now owner.now }
+    requires { TablesFit tables.now owner.now shares.now }
     ensures { IfOk result (λ c. c ≡ path_here tables.now request.now) }
 {
     match tables.get(&request.arrival.lsp) {
-        None => first_path(alloc, tables, owner, request),
+        None => first_path(alloc, tables, owner, shares, request),
         Some(_) => Ok(Change::nothing(alloc)),
     }
 }
@@ -360,10 +366,11 @@ pub fn path_change(
     alloc: Global,
     tables: &NodeTables,
     owner: &Owner,
+    shares: &Shares,
     from: NodeId,
     msg: &Msg,
 ) -> Result<Change, OutOfMemory>
-    requires { TablesFit tables.now owner.now }
+    requires { TablesFit tables.now owner.now shares.now }
     ensures { IfOk result (λ c. c ≡ path_answer tables.now from msg.now) }
 {
     match msg {
@@ -388,7 +395,7 @@ pub fn path_change(
                 set,
                 role,
             };
-            on_path(alloc, tables, owner, &request)
+            on_path(alloc, tables, owner, shares, &request)
         }
         Msg::Resv { .. } | Msg::PathTear { .. } | Msg::PathErr { .. } | Msg::Notify { .. } => {
             Ok(Change::nothing(alloc))

@@ -16,7 +16,15 @@ use leg_table::one_leg::{closed, connected, following, is_asked, is_over, previo
 use leg_table::{Change, NodeTables};
 use link_owner::Owner;
 use mesh_rules::{Arrival, Neighbour};
+use share_check::Shares;
 use std::alloc::Global;
+
+/// The label that a Resv gives, of which LSP, and from where it came.
+#[derive(Clone, Copy, Drop)]
+struct GivenLabel {
+    arrival: Arrival,
+    label: Label,
+}
 
 fn arrival(lsp: Lsp, egress: NodeId, from: NodeId, link: LinkId) -> Arrival
     ensures { result ≡ record { lsp = lsp; egress = egress; from = from; link = link } }
@@ -93,13 +101,19 @@ fn pass_label(
     Change::puts(alloc, labelled, back.node, msg)
 }
 
-// The labels that may go back: those that were offered and are usable now. The owner looks them up.
-fn labels_left(tables: &NodeTables, owner: &Owner, leg: &Leg, back: Neighbour) -> LabelSet
-    requires fits { TablesFit tables.now owner.now }
+// The labels that may go back: those that were offered and are usable now, as the owner and the shares tell.
+fn labels_left(
+    tables: &NodeTables,
+    owner: &Owner,
+    shares: &Shares,
+    leg: &Leg,
+    back: Neighbour,
+) -> LabelSet
+    requires fits { TablesFit tables.now owner.now shares.now }
     requires comes_in { IsTrue (is_fibre_in (local_of tables.now) back.fibre) }
     ensures { result ≡ left_here tables.now leg.now back }
 {
-    let labels = usable(tables, owner, leg.role, &leg.risks, back.fibre);
+    let labels = usable(tables, owner, shares, leg.role, &leg.risks, back.fibre);
     leg.offered.meet(&labels)
 }
 
@@ -116,18 +130,20 @@ fn answer(
     alloc: Global,
     tables: &NodeTables,
     owner: &Owner,
-    arrival: Arrival,
-    label: Label,
+    shares: &Shares,
+    given: GivenLabel,
     leg: &Leg,
 ) -> Result<Change, OutOfMemory>
-    requires fits { TablesFit tables.now owner.now }
-    requires stands { find_leg arrival.lsp tables.now.legs ≡ Some leg.now }
-    ensures { IfOk result (λ c. c ≡ answered_here tables.now arrival label leg.now) }
+    requires fits { TablesFit tables.now owner.now shares.now }
+    requires stands { find_leg given.arrival.lsp tables.now.legs ≡ Some leg.now }
+    ensures { IfOk result
+        (λ c. c ≡ answered_here tables.now given.arrival given.label leg.now) }
 {
+    let GivenLabel { arrival, label } = given;
     let Some(back) = previous(leg) else {
         return connect_here(alloc, leg, label);
     };
-    let labels = labels_left(tables, owner, leg, back);
+    let labels = labels_left(tables, owner, shares, leg, back);
     match label_back(tables, &labels, label) {
         None => tear_both_ways(alloc, tables, arrival, leg, back),
         Some(chosen) => pass_label(alloc, leg, back, label, chosen),
@@ -138,15 +154,15 @@ fn on_resv(
     alloc: Global,
     tables: &NodeTables,
     owner: &Owner,
-    arrival: Arrival,
-    label: Label,
+    shares: &Shares,
+    given: GivenLabel,
 ) -> Result<Change, OutOfMemory>
-    requires { TablesFit tables.now owner.now }
-    ensures { IfOk result (λ c. c ≡ resv_here tables.now arrival label) }
+    requires { TablesFit tables.now owner.now shares.now }
+    ensures { IfOk result (λ c. c ≡ resv_here tables.now given.arrival given.label) }
 {
-    match tables.get(&arrival.lsp) {
-        Some(leg) if expects(arrival, label, leg) => {
-            answer(alloc, tables, owner, arrival, label, leg)
+    match tables.get(&given.arrival.lsp) {
+        Some(leg) if expects(given.arrival, given.label, leg) => {
+            answer(alloc, tables, owner, shares, given, leg)
         }
         _ => Ok(Change::nothing(alloc)),
     }
@@ -189,10 +205,11 @@ pub fn resv_change(
     alloc: Global,
     tables: &NodeTables,
     owner: &Owner,
+    shares: &Shares,
     from: NodeId,
     msg: &Msg,
 ) -> Result<Change, OutOfMemory>
-    requires { TablesFit tables.now owner.now }
+    requires { TablesFit tables.now owner.now shares.now }
     ensures { IfOk result (λ c. c ≡ resv_answer tables.now from msg.now) }
 {
     match msg {
@@ -202,8 +219,11 @@ pub fn resv_change(
             link,
             label,
         } => {
-            let arrival = arrival(*lsp, *egress, from, *link);
-            on_resv(alloc, tables, owner, arrival, *label)
+            let given = GivenLabel {
+                arrival: arrival(*lsp, *egress, from, *link),
+                label: *label,
+            };
+            on_resv(alloc, tables, owner, shares, given)
         }
         Msg::Path { .. } | Msg::PathTear { .. } | Msg::PathErr { .. } | Msg::Notify { .. } => {
             Ok(Change::nothing(alloc))

@@ -13,5 +13,5 @@ change_legs-requires-clause-may c =
     let legs : c.tables.inside.legs.items ≡ t.legs = ap (λ u. u.legs) c.tables.view_is in
     let rise = legs-to t.legs (subst LegsRise legs c.tables.invariant.0) in
     subst (λ gs. MayAllEnter o gs c.args.changes.items) (sym (c.reserve.ensures.items ∙ legs))
-    (may-all-enter (local_of t) t.legs o c.args.changes.items rise c.requires.owner.claims c.requires.owner.fibres
-    c.requires.may)
+    (may-all-enter (local_of t) t.legs o c.args.shares.now c.args.changes.items rise c.requires.node.labels
+    c.requires.node.fibres c.requires.may)

@@ -1,5 +1,8 @@
-use Rattle.std.proofs.Common.{◌≡◌, ◌∙◌, sym, subst}
+use Rattle.std.proofs.Common.{◌≡◌, ◌∙◌, ap, sym, subst}
+use Rattle.std.specs.Prelude.{filter}
+use Rattle.ason_base.specs.Labels.{has, meet, up_to}
 use Rattle.mesh_rules.specs.Legs.{usable}
+use Rattle.share_check.specs.Guards.{fitting}
 use Rattle.leg_table.specs.States.{local_of}
 use Rattle.leg_table.proofs.LegOrder.{legs-to}
 use Rattle.leg_table.proofs.UsableLabels.{shared-usable, unclaimed-usable}
@@ -12,15 +15,21 @@ returns-in-Work c =
     subst (λ r. c.unclaimed.result ≡ usable (local_of t) t.legs r c.args.risks.now c.args.f) (sym c.in-Work.is)
     (c.unclaimed.ensures
     ∙ unclaimed-usable (local_of t) t.legs c.args.risks.now o c.args.f (legs-to t.legs c.rises.ensures.rising)
-    c.requires.owner.claims c.requires.owner.fibres
-    (c.requires.owner.fibres.fibres c.args.f ∙ c.requires.comes_in))
+    c.requires.node.labels.claims c.requires.node.fibres
+    (c.requires.node.fibres.fibres c.args.f ∙ c.requires.comes_in))
 
 pub returns-in-Back : goal.returns-in-Back
 returns-in-Back c =
     let t = c.args.tables.now in
     let o = c.args.owner.now in
-    subst (λ r. c.left_by.result ≡ usable (local_of t) t.legs r c.args.risks.now c.args.f) (sym c.in-Back.is)
-    (rw (c.left_by.ensures, c.claims.ensures, c.shareable.ensures)
-    (shared-usable (local_of t) t.legs c.args.risks.now o c.args.f (legs-to t.legs c.rises.ensures.rising)
-    c.requires.owner.claims c.requires.owner.fibres
-    (c.requires.owner.fibres.fibres c.args.f ∙ c.requires.comes_in)))
+    let s = c.args.shares.now in
+    let risks = c.args.risks.now in
+    let f = c.args.f in
+    let shared = c.shareable-labels.ensures in
+    let within = subst (λ labels. labels ≡ filter (has labels) (up_to 80)) shared c.rises-in-Back.ensures in
+    subst (λ r. c.meet.result ≡ usable (local_of t) t.legs r risks f) (sym c.in-Back.is)
+    (c.meet.ensures
+    ∙ ap (λ labels. meet labels c.fitting.result) shared
+    ∙ ap (λ fit. meet _ fit) c.fitting.ensures
+    ∙ shared-usable (local_of t) t.legs risks o s f (legs-to t.legs c.rises.ensures.rising) c.requires.node.labels
+    c.requires.node.fibres (c.requires.node.fibres.fibres f ∙ c.requires.comes_in) within)

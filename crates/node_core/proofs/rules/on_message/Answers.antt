@@ -10,7 +10,7 @@ returns-after-connects c =
     let t = c.args.tables.now in
     let k = c.args.calls.now in
     let m = c.in-Resv in
-    let cases = resv-cases t k c.args.from m.lsp m.egress m.link m.label c.args.msg.now m.is in
+    let cases = resv-cases t k c.args.received.from m.lsp m.egress m.link m.label c.args.received.msg.now m.is in
     elim c.if-connects.branch [
       | then-connects+in_ok-follow_resv-in-Resv w ↦
           w.change-is ∙ w.in_ok-follow_resv-in-Resv.ensures
@@ -24,7 +24,7 @@ returns-after-refuses c =
     let t = c.args.tables.now in
     let k = c.args.calls.now in
     let m = c.in-PathErr in
-    let cases = err-cases t k c.args.from m.lsp m.egress m.at m.removed m.code c.args.msg.now m.is in
+    let cases = err-cases t k c.args.received.from m.lsp m.egress m.at m.removed m.code c.args.received.msg.now m.is in
     elim c.if-refuses.branch [
       | then-refuses+in_ok-refuse_lsp-in-PathErr w ↦
           w.change-is ∙ w.in_ok-refuse_lsp-in-PathErr.ensures

@@ -12,5 +12,6 @@ returns-in-Ok c =
     let o = c.args.owner.now in
     let g = c.in_ok-leg.leg in
     let new : find_leg g.lsp t.legs ≡ None = grind (arith, common_steps) in
-    subst (λ s. TablesFit s o) (sym c.in-Ok.ensures.ok)
-    (put-fits t o g c.requires new c.in-Ok.ensures.room c.in_ok-leg.ensures.none c.in_ok-leg.ensures.fits)
+    let s = c.args.shares.now in
+    subst (λ after. TablesFit after o s) (sym c.in-Ok.ensures.ok)
+    (put-fits t o s g c.requires new c.in-Ok.ensures.room c.in_ok-leg.ensures.none c.in_ok-leg.ensures.fits)

@@ -12,4 +12,4 @@ judge-requires-clause-link c =
     let u = c.request.inside.arrival.from in
     let led : leads (Some l) u t.node.id ≡ true = subst (λ n. leads (Some l) u n.id ≡ true) c.node.ensures
     (sym c.leads.ensures ∙ c.if-leads.true) in
-    sender-fibre_in t c.args.owner.now k l u c.requires (sym c.in-Some.ensures) led
+    sender-fibre_in t k l u c.requires.links (sym c.in-Some.ensures) led

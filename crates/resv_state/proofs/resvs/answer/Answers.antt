@@ -5,6 +5,6 @@ use Rattle.resv_state.proofs.resvs.answer.Goals as goal
 pub labels_left-labels-requires-clause-comes_in : goal.labels_left-labels-requires-clause-comes_in
 labels_left-labels-requires-clause-comes_in c =
     let t = c.args.tables.now in
-    let o = c.args.owner.now in
     let h = c.in-Some.back in
-    previous-fibre_in t o c.args.arrival.lsp c.args.leg.now h c.requires.fits c.requires.stands (sym c.in-Some.ensures)
+    previous-fibre_in t c.args.given.arrival.lsp c.args.leg.now h c.requires.fits.legs c.requires.stands
+    (sym c.in-Some.ensures)

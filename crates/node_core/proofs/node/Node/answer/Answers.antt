@@ -7,7 +7,8 @@ use Rattle.node_core.proofs.node.Node.answer.Goals as goal
 
 pub on_input-requires-clause-tables : goal.on_input-requires-clause-tables
 on_input-requires-clause-tables c =
-    tables-fit c.self.inside.tables c.self.inside.calls c.self.inside.owner c.self.invariant.0 c.self.invariant.1
+    tables-fit c.self.inside.tables c.self.inside.calls c.self.inside.owner c.self.inside.shares c.self.invariant.0
+    c.self.invariant.1
 
 pub on_input-requires-clause-rows : goal.on_input-requires-clause-rows
 on_input-requires-clause-rows c =

@@ -21,5 +21,5 @@ invariant_of-self c = (
       c.carry_out.result
       c.self.invariant.0 (subst (λ m. IsAnswerOf m c.args.change) (sym c.self.view_is) c.requires)
       c.carry_out.ensures.local c.carry_out.ensures.ok c.carry_out.ensures.err c.carry_out.ensures.err_calls,
-  c.carry_out.ensures.owner,
+  c.carry_out.ensures.node,
 )

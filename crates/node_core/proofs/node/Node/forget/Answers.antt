@@ -1,5 +1,5 @@
 use Rattle.std.proofs.Common.{◌≡◌, ◌≤◌, ◌∙◌, length, sym, ap, subst}
-use Rattle.leg_table.specs.LegClaims.{IsOwnerOf}
+use Rattle.leg_table.specs.LegClaims.{AreOfOneNode}
 use Rattle.leg_table.specs.Tables.{LegTable}
 use Rattle.node_core.specs.Nodes.{IsNode, NodeView, node_of, without_last}
 use Rattle.node_core.proofs.Forgetting.{node-forgets, own-rows-stay}
@@ -19,8 +19,8 @@ invariant_of-self c =
       subst IsNode (ap without_last (sym c.self.view_is) ∙ sym
           (node-forgets c.self.inside.tables c.forget.new.self c.self.inside.calls c.forget.ensures some))
           c.requires.fits,
-      subst (λ (t : LegTable). IsOwnerOf t c.self.inside.owner) (sym c.forget.ensures) record {
-        claims = c.self.invariant.1.claims;
+      subst (λ (t : LegTable). AreOfOneNode t c.self.inside.owner c.self.inside.shares) (sym c.forget.ensures) record {
+        labels = c.self.invariant.1.labels;
         fibres = c.self.invariant.1.fibres;
         rows = own-rows-stay c.self.inside.tables c.self.invariant.1.rows some;
       },

@@ -1,0 +1,4 @@
+pub mod Fitting
+mod LeastLsps
+mod LspOrder
+pub mod Places
