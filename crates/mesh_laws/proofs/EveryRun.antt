@@ -5,6 +5,7 @@ use Rattle.mesh_rules.specs.declared.events.MeshEvent.{MeshEvent}
 use Rattle.mesh_rules.specs.Machine.{Mesh, start}
 use Rattle.mesh_rules.specs.Events.{IsRun, step}
 use Rattle.mesh_laws.specs.Laws.{EveryRunKeepsTheLaws, LawsHold}
+use Rattle.mesh_laws.proofs.hops.Beside.{every_backup_beside}
 use Rattle.mesh_laws.proofs.hops.Joined.{every_call_joined}
 use Rattle.mesh_laws.proofs.hops.Laws.{every_hop}
 use Rattle.mesh_laws.proofs.hops.Recorded.{every_backup_records}
@@ -23,6 +24,7 @@ laws_hold t events run =
       safe = every_run_safe t events run;
       joined = every_call_joined t events run;
       learnt = every_learnt_row t events run;
+      beside = every_backup_beside t events run;
       risks = λ valid. every_backup_records t events valid run;
     }
 

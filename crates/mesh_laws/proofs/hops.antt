@@ -5,6 +5,7 @@ pub mod Downstream
 pub mod Labels
 pub mod FollowedBy
 pub mod InParts
+pub mod GivenBackups
 pub mod LegChanges
 pub mod Recorded
 pub mod Rest
@@ -26,6 +27,7 @@ pub mod Traced
 pub mod Quiet
 pub mod Released
 pub mod Begun
+pub mod Beside
 pub mod Rows
 pub mod Run
 pub mod Law

@@ -1,5 +1,6 @@
 pub mod AnswerKeeps
 pub mod BackedCalls
+pub mod CallsHold
 pub mod CallKeeps
 pub mod CallParts
 pub mod CallStepKeeps

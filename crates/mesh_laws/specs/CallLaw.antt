@@ -9,12 +9,15 @@ use Rattle.ason_base.specs.declared.calls.Phase.{Phase}
 use Rattle.ason_base.specs.declared.calls.Phase.TheVariants.{Asked, Held, Live}
 use Rattle.ason_base.specs.declared.calls.Role.{Role}
 use Rattle.ason_base.specs.declared.calls.Role.TheVariants.{Work, Back}
+use Rattle.ason_base.specs.declared.messages.PathRole.{PathRole}
+use Rattle.ason_base.specs.declared.messages.PathRole.TheVariants as path
 use Rattle.ason_base.specs.declared.tables.CallRec.{CallRec}
 use Rattle.ason_base.specs.declared.tables.Leg.{Leg}
 use Rattle.ason_base.specs.Network.{Network}
 use Rattle.mesh_rules.specs.declared.events.MeshEvent.{MeshEvent}
 use Rattle.mesh_rules.specs.Calls.{names}
 use Rattle.mesh_rules.specs.Legs.{find_leg, is_closing, leg_of}
+use Rattle.mesh_rules.specs.Pairs.{beside_lsp}
 use Rattle.mesh_rules.specs.State.{NodeState}
 use Rattle.mesh_rules.specs.Machine.{start}
 use Rattle.mesh_rules.specs.Events.{IsRun, after}
@@ -42,11 +45,19 @@ pub record IsNamed (n : ℕ) (next : ℕ) (legs : List Leg) (role : Role) (egres
   pub number : l.lsp < next
   pub leg : (g : Leg) × (find_leg l legs ≡ Some g) × (g.role ≡ role) × (g.egress ≡ egress)
 
+-- a Path of the backup b that names w as the working LSP that it guards, which is of the same ingress and tunnel
+abbrev pub GuardsWork : Lsp → Lsp → PathRole → Type 0
+GuardsWork w b (path.Work guard) = ⊥
+GuardsWork w b (path.Back active work primary) = w ≡ beside_lsp b work
+
 -- the state of a call fits its legs at its ingress n, and no fibre of them is reported down
 pub record FitsLegs (n : ℕ) (next : ℕ) (legs : List Leg) (c : CallRec) : Type 0 where
   pub state : IsTrue (fits c.state (phase_of (leg_of c.work legs)) (phase_of (leg_of c.back legs)))
   pub work : IfSome c.work (IsNamed n next legs Work c.egress)
   pub back : IfSome c.back (IsNamed n next legs Back c.egress)
+  -- the backup's Path names the working LSP
+  pub guards : (w b : Lsp) (g : Leg) → c.work ≡ Some w → c.back ≡ Some b → find_leg b legs ≡ Some g →
+      GuardsWork w b g.path_role
   pub work_reports : c.work_reports ≡ []
   pub back_reports : c.back_reports ≡ []
 

@@ -5,6 +5,7 @@ use Rattle.ason_base.specs.Network.{IsTopology, Network}
 use Rattle.mesh_rules.specs.declared.events.MeshEvent.{MeshEvent}
 use Rattle.mesh_rules.specs.Machine.{start}
 use Rattle.mesh_rules.specs.Events.{IsRun, after, route_of}
+use Rattle.mesh_laws.specs.BesideLaw.{BackupsGoBeside}
 use Rattle.mesh_laws.specs.CallLaw.{CallsFit}
 use Rattle.mesh_laws.specs.HopLaw.{HasOneLegEach, LspFits}
 use Rattle.mesh_laws.specs.JoinedLaw.{CallsAreJoined}
@@ -25,10 +26,12 @@ pub record LawsHold (t : Network) (events : List MeshEvent) : Type 0 where
   pub hops : (l : Lsp) → LspFits t (after t start events) l (route_of t start events l)
   -- no label of a fibre is cross-connected for two LSPs
   pub safe : IsSafe t (after t start events)
-  -- each call that stands is cross-connected from end to end
+  -- each call that stands is cross-connected from end to end, and the backup of a guarded one is reserved so
   pub joined : CallsAreJoined t events
   -- what a node learnt of links is true of the network
   pub learnt : LearntRowsAreTrue t (after t start events)
+  -- the route of each backup stands beside that of the working LSP that it guards
+  pub beside : BackupsGoBeside t events
   -- over a topology each backup's leg records the risks of the working LSP's route
   pub risks : IsTopology t → BackupsRecordRisks t events
 

@@ -1,3 +1,4 @@
+pub mod BesideLaw
 pub mod CallLaw
 pub mod HopLaw
 pub mod HopShapes

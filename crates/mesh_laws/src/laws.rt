@@ -1,5 +1,6 @@
 //! Laws over every run of the mesh.
 
+ghost use Rattle.mesh_laws.specs.BesideLaw.{EveryBackupGoesBeside};
 ghost use Rattle.mesh_laws.specs.CallLaw.{EveryCallFitsItsLegs};
 ghost use Rattle.mesh_laws.specs.HopLaw.{EveryHopHasAShape};
 ghost use Rattle.mesh_laws.specs.JoinedLaw.{EveryCallIsJoined};
@@ -16,7 +17,9 @@ ghost use Rattle.mesh_laws.specs.SafeLaw.{EveryRunIsSafe};
 /// call. Each hop of each LSP, its legs at both ends with the messages between them, has a shape of the table, and each leg
 /// names the end of its LSP's route as its egress. No label of a fibre is cross-connected for two LSPs. Each call that is
 /// neither asking nor blocked is joined: its working LSP is Live at each node of its route, each label out being the next
-/// node's label in. What a node learnt of links are rows of the network; over a topology routes can be asked of what it knows.
+/// node's label in; and the backup of a guarded call is joined so, Held at each node. The route of each backup leads from end to
+/// end, has no risk in common with that of the working LSP which its call has, or had, and shares no node with it between the
+/// ends. What a node learnt of links are rows of the network; over a topology routes can be asked of what it knows.
 /// Over a topology the leg of a backup, at any node, records the risks of the route of the working LSP that its Path names, also
 /// where that LSP is gone. The last clause says all but the searching of one state, in one word.
 pub fn every_run()
@@ -28,6 +31,7 @@ pub fn every_run()
     ensures joined { EveryCallIsJoined }
     ensures learnt { EveryLearntRowIsTrue }
     ensures searchable { EveryNodeCanSearch }
+    ensures beside { EveryBackupGoesBeside }
     ensures risks { EveryBackupRecordsItsRisks }
     ensures together { EveryRunKeepsTheLaws }
 {}

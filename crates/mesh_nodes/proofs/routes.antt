@@ -1,4 +1,5 @@
 pub mod Backups
+pub mod Beside
 pub mod Found
 pub mod Learnt
 pub mod Least

@@ -1,12 +1,13 @@
 -- What holds of the least walk as a function of the rows, and of the least backup beside a route.
-use Rattle.std.specs.Prelude.{◌≡◌, ◌≢◌, ◌↔◌, ℕ, true, List, ◌∷◌, [], ◌++◌, All, IsTrue, Some, None}
+use Rattle.std.specs.Prelude.{◌≡◌, ◌≢◌, ◌↔◌, ℕ, true, false, List, ◌∷◌, [], ◌++◌, All, IsTrue, Some, None, is_some}
 use Rattle.std.specs.List.{Contains}
 use Rattle.ason_base.specs.declared.ids.NodeId.{NodeId}
 use Rattle.ason_base.specs.declared.network.LinkSpec.{LinkSpec}
 use Rattle.ason_base.specs.declared.network.TeRow.{TeRow}
 use Rattle.ason_base.specs.declared.steps.Step.{Step}
 use Rattle.ason_base.specs.Network.{IsTopology, Network, find_link, is_distinct, row_of}
-use Rattle.ason_base.specs.Routes.{makes_route, nodes_of}
+use Rattle.ason_base.specs.Risks.{unknown_link}
+use Rattle.ason_base.specs.Routes.{is_beside, makes_route, nodes_of}
 use Rattle.ason_base.specs.Walks.{HaveDistinctLinks, HaveFewEnds, HaveMetrics, IsBackup, IsLeast, IsWalk, NoLink, NoNode}
 use Rattle.mesh_rules.specs.Commands.{is_searchable}
 use Rattle.mesh_rules.specs.KnownRows.{known_rows}
@@ -81,6 +82,14 @@ FoundBackupsLead =
     (t : Network) (n b : NodeId) (s : NodeState) (primary : List Step) (r : Trip) → IsTrue (is_searchable t) →
     AreRowsOf t s.learnt → least_backup (known_rows (local_node t n) s) primary n b ≡ Some r →
     IsTrue (makes_route t n b r.steps)
+
+-- Where each link of the route is known, the backup that is found is risk-disjoint from it in the whole network, and
+-- shares no inner node with it.
+abbrev pub FoundBackupsStandBeside : Type 0
+FoundBackupsStandBeside =
+    (t : Network) (n b : NodeId) (s : NodeState) (primary : List Step) (r : Trip) → IsTrue (is_searchable t) →
+    AreRowsOf t s.learnt → is_some (unknown_link (known_rows (local_node t n) s) primary) ≡ false →
+    least_backup (known_rows (local_node t n) s) primary n b ≡ Some r → IsTrue (is_beside t n b (Some primary) r.steps)
 
 -- What a node knows
 

@@ -2,7 +2,7 @@
 
 ghost use Rattle.mesh_nodes.specs.Laws.{ItemsFit, MessagesFit, NewNodesFit, NothingFits};
 ghost use Rattle.mesh_nodes.specs.Learnt.{LearningFits, LearntIsKnown, LearntStayTrue, NetworkRowsMayBeLearnt, NothingElseIsLearnt, RowsStayFit};
-ghost use Rattle.mesh_nodes.specs.Routes.{FoundBackupsLead, FoundRoutesAreFollowed, FoundRoutesLead, LeastBackupIsLeast, LeastBackupVisitsOnce, LeastTripIsLeast, LeastTripVisitsOnce, NewRowsFit, NoBackupIsNone, NoTripIsNoWalk};
+ghost use Rattle.mesh_nodes.specs.Routes.{FoundBackupsLead, FoundBackupsStandBeside, FoundRoutesAreFollowed, FoundRoutesLead, LeastBackupIsLeast, LeastBackupVisitsOnce, LeastTripIsLeast, LeastTripVisitsOnce, NewRowsFit, NoBackupIsNone, NoTripIsNoWalk};
 
 /// The node of a topology knows its own links and keeps nothing that doesn't fit them. Whatever comes then, a message, an item
 /// of the desk or a tick: what the node keeps after it fits again; and what it sends goes to neighbours, can be written where
@@ -18,7 +18,8 @@ pub fn every_answer()
 /// all walks that are allowed, of any number of links; none exactly where no walk is allowed; and it visits no node twice. A
 /// node of a topology that learnt nothing can be asked for routes. A route that a node finds over its own links and others of
 /// its network leads from it to the other node, as a route that is given does, and it can be followed from there. So does a
-/// backup that it finds beside a route.
+/// backup that it finds beside a route; where it knows each link of that route, the two have no risk in common in the whole
+/// network, and share no node between the ends.
 pub fn least_routes()
     ensures least { LeastTripIsLeast }
     ensures none { NoTripIsNoWalk }
@@ -29,6 +30,7 @@ pub fn least_routes()
     ensures new { NewRowsFit }
     ensures leads { FoundRoutesLead }
     ensures backup_leads { FoundBackupsLead }
+    ensures backup_beside { FoundBackupsStandBeside }
     ensures followed { FoundRoutesAreFollowed }
 {}
 

@@ -1,5 +1,5 @@
--- Two links between two nodes. A call over link 1 to which no backup route was given gets a backup over link 2, which its
--- ingress finds; where there is link 1 alone, it gets none.
+-- Two links between two nodes. A call over link 1 to which no backup route was given gets a backup over link 2, which
+-- its ingress finds; where there is link 1 alone, it gets none.
 use Rattle.std.proofs.Common.{◌≡◌, ◌<◌, ◌≤◌, ◌⊎◌, inl, inr, ℕ, zero, suc, true, false, List, [], ◌∷◌, ◌++◌, refl, sym, ap, subst, ◌∙◌, arith, Contains}
 use Rattle.std.specs.Prelude.{map, Option, Some, None, IsTrue}
 use Rattle.ason_base.specs.Labels as labels
@@ -188,7 +188,8 @@ second-allowed = record {
     refl,
   );
   risks = λ x mine theirs.
-      let one : (link 2).0 ≡ (link 1).0 = ap number (route-risk 2 x mine ∙ sym (route-risk 1 x theirs)) in absurd (omega arith);
+      let one : (link 2).0 ≡ (link 1).0 = ap number (route-risk 2 x mine ∙ sym (route-risk 1 x theirs)) in
+      absurd (omega arith);
   nodes = λ n mine theirs. elim (contains-cases (over 1 2) mine.0 [] mine.1) [
     | inl is ↦ mine.3 (sym mine.2 ∙ sym (ap (λ (s : Step). s.node) is))
     | inr none ↦ absurd (contains-none mine.0 none)

@@ -1,5 +1,6 @@
--- A call over links 1 and 2 of a triangle whose ingress doesn't know link 2 gets no backup, though a route over link 3 was
--- given for it: it can't tell whether the two have a risk in common. Once it knows the link, an order protects the call.
+-- A call over links 1 and 2 of a triangle whose ingress doesn't know link 2 gets no backup, though a route over link 3
+-- was given for it: it can't tell whether the two have a risk in common. Once it knows the link, an order protects the
+-- call.
 use Rattle.std.proofs.Common.{◌≡◌, true, false, List, [], ◌∷◌, ◌++◌, refl}
 use Rattle.std.specs.Prelude.{map, Option, Some, None}
 use Rattle.ason_base.specs.Labels as labels
@@ -27,7 +28,8 @@ calls events = map (λ c. (c.state, c.cause, c.back)) ((after triangle start eve
 
 abbrev connected : List MeshEvent
 connected =
-    sets_up 1 1 3 (over 1 1 ∷ over 2 2 ∷ []) (over 1 3 ∷ []) ∷ desk 1 ∷ takes 2 1 ∷ takes 3 2 ∷ takes 2 3 ∷ takes 1 2 ∷ []
+    sets_up 1 1 3 (over 1 1 ∷ over 2 2 ∷ []) (over 1 3 ∷ []) ∷ desk 1 ∷ takes 2 1 ∷ takes 3 2 ∷ takes 2 3
+    ∷ takes 1 2 ∷ []
 
 unbacked : calls connected ≡ (Bare, NoBackup, None) ∷ []
 unfolding labels.numbers_from

@@ -1,5 +1,5 @@
--- What is looked at of a mesh of some nodes after a run: the legs and calls of each node, how many links each node knows,
--- and how many messages are under way.
+-- What is looked at of a mesh of some nodes after a run: the legs and calls of each node, how many links each node
+-- knows, and how many messages are under way.
 use Rattle.std.proofs.Common.{ℕ, Bool, true, false, List, [], ◌∷◌}
 use Rattle.std.specs.Prelude.{◌&&◌, length, map, Option, Some}
 use Rattle.ason_base.specs.Network.{Network}

@@ -1,5 +1,5 @@
--- Two calls whose backups meet on link 5, which has one label, and whose primaries have an SRLG in common. When the Resv
--- of the second one comes the label is taken, and its call is bare.
+-- Two calls whose backups meet on link 5, which has one label, and whose primaries have an SRLG in common. When the
+-- Resv of the second one comes the label is taken, and its call is bare.
 use Rattle.std.proofs.Common.{◌≡◌, true, false, List, [], ◌∷◌, ◌++◌, refl}
 use Rattle.std.specs.Prelude.{Some, None}
 use Rattle.ason_base.specs.Codes.{label_code}

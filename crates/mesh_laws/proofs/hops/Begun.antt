@@ -46,7 +46,7 @@ use Rattle.mesh_laws.proofs.hops.Chain.{LegFits, RisksFit, Fits, HopAt, OnRoute,
 use Rattle.mesh_laws.proofs.hops.Sending.{sent_by, sent-first, sent-past}
 use Rattle.mesh_laws.proofs.hops.Upstream.{hop_idle, hop_asks}
 use Rattle.mesh_laws.proofs.hops.Own.{IsOf, IsQuiet, leg-other, mail-other}
-use Rattle.mesh_laws.proofs.hops.Planned.{Planned, Routes, IsGuarded, Follows, EachFollows, IsUntouched, SameOf, Grow, follows_same, follows_grown, guarded_grown, or_assoc, or_none}
+use Rattle.mesh_laws.proofs.hops.Planned.{Planned, Routes, IsGuarded, StandsBeside, Follows, EachFollows, IsUntouched, SameOf, Grow, follows_same, follows_grown, guarded_grown, or_assoc, or_none}
 use Rattle.mesh_laws.proofs.hops.FollowedBy.{commit-then}
 use Rattle.mesh_laws.proofs.hops.Quiet.{same_quiet}
 
@@ -188,7 +188,8 @@ module _ (t : Network) (s : Mesh) (n : NodeId) (o : Routes) (st : NodeState) (q 
     (c : CallRec) (next : NextNumbers) (made : makes_route t n w.egress (hop ∷ w.route) ≡ true)
     (over : own_link (local_node t n) hop.link ≡ Some w.out) (from : w.lsp.ingress ≡ n)
     (number : w.lsp.lsp ≡ (s.nodes n.0).lsp) (more : w.lsp.lsp < next.lsp) (tells : Tells q w.role)
-    (risks : RisksFit t q (recorded (known_rows (local_node t n) st) w.role)) (guards : IsGuarded o w.lsp q) where
+    (risks : RisksFit t q (recorded (known_rows (local_node t n) st) w.role)) (guards : IsGuarded o w.lsp q)
+    (beside : StandsBeside t w.lsp q (plan (hop ∷ w.route) w.egress)) where
   abbrev p : Plan
   p = plan (hop ∷ w.route) w.egress
 
@@ -283,6 +284,7 @@ module _ (t : Network) (s : Mesh) (n : NodeId) (o : Routes) (st : NodeState) (q 
         chain = new_chain blank;
         number = rw here more;
         guards = guarded_grown o (grown n o answer) w.lsp q (grown-grow n o answer) guards;
+        beside = beside;
       }
 
   hop_is : hop ≡ record { node = w.lsp.ingress; link = w.out.id }
@@ -368,7 +370,7 @@ module _ (t : Network) (s : Mesh) (n : NodeId) (o : Routes) (f : EachFollows t s
         begins_stepped t s n o state Carries (working_lsp place state w out further) hop
         (call_record w Asking (Some (next_lsp place state)) Unset)
         (record { tunnel = state.tunnel + 1; lsp = state.lsp + 1 })
-        made over refl refl (omega arith) tt refl tt f))
+        made over refl refl (omega arith) tt refl tt tt f))
 
     route_stepped : (route : List Step) → makes_route t n w.egress route ≡ true → (out : Option LinkSpec) →
         first_link place route ≡ out → Steps (over_first place state w route out)

@@ -1,5 +1,5 @@
 -- A call that stands is cross-connected from end to end, and the backup of a guarded call is reserved from end to end.
-use Rattle.std.proofs.Common.{◌≡◌, ◌<◌, ◌≤◌, ℕ, zero, suc, true, List, length, refl, sym, ap, ◌∙◌, subst, arith, inl, inr}
+use Rattle.std.proofs.Common.{◌≡◌, ◌<◌, ◌≤◌, ℕ, zero, suc, List, length, refl, sym, ap, ◌∙◌, subst, arith, inl, inr}
 use Rattle.std.specs.Prelude.{slice_get, Option, Some, None, IfSome}
 use Rattle.std.proofs.lemmas.Option.{slice_get_within}
 use Rattle.std.proofs.lemmas.List.Elements.{All-from_recursion}
@@ -10,7 +10,7 @@ use Rattle.ason_base.specs.declared.steps.Step.{Step}
 use Rattle.ason_base.specs.declared.calls.CallState.{CallState}
 use Rattle.ason_base.specs.declared.calls.CallState.TheVariants.{Asking, Bare, Pairing, Guarded, Turning, Turned, Stuck, Blocked}
 use Rattle.ason_base.specs.declared.calls.Phase.{Phase}
-use Rattle.ason_base.specs.declared.calls.Phase.TheVariants.{Asked, Held, Armed, Live, Closing, Falling}
+use Rattle.ason_base.specs.declared.calls.Phase.TheVariants.{Held, Live}
 use Rattle.ason_base.specs.declared.calls.Role.{Role}
 use Rattle.ason_base.specs.declared.calls.Role.TheVariants.{Work, Back}
 use Rattle.ason_base.specs.declared.tables.CallRec.{CallRec}
@@ -52,8 +52,8 @@ record JoinedLegs (s : Mesh) (l : Lsp) (f : Phase) (u d : NodeId) : Type 0 where
   leaves : from.out_label ≡ Some label
   enters : to.in_label ≡ Some label
 
--- A phase that is the same all along a route: the upstream leg of a hop is in it only where the downstream one is, and a
--- leg in it has its labels.
+-- A phase that is the same all along a route: the upstream leg of a hop is in it only where the downstream one is, and
+-- a leg in it has its labels.
 record GoesAlong (t : Network) (s : Mesh) (q : Purpose) (l : Lsp) (p : Plan) (f : Phase) : Type 0 where
   next : (i : ℕ) → i < hops p → InPhase s l f (node_at p i) → InPhase s l f (node_at p (suc i))
   labelled : (i : ℕ) (g : Leg) → LegFits t q l p i g → g.phase ≡ f →

@@ -5,10 +5,8 @@ use Rattle.std.specs.List.{Contains}
 use Rattle.std.proofs.lemmas.List.Elements.{All-contains, All-from_recursion}
 use Rattle.ason_base.specs.Lsps.{is_lsp, same_lsp}
 use Rattle.ason_base.specs.Network.{Network}
-use Rattle.ason_base.specs.Routes.{makes_route}
 use Rattle.ason_base.specs.declared.ids.CallNo.{CallNo}
 use Rattle.ason_base.specs.declared.ids.NodeId.{NodeId}
-use Rattle.ason_base.specs.declared.steps.Step.{Step}
 use Rattle.ason_base.specs.declared.ids.Lsp.{Lsp}
 use Rattle.ason_base.specs.declared.calls.Phase.{Phase}
 use Rattle.ason_base.specs.declared.calls.Role.{Role}
@@ -19,27 +17,26 @@ use Rattle.ason_base.specs.declared.commands.DeskItem.TheVariants.{Order, Alarm,
 use Rattle.ason_base.specs.declared.tables.CallRec.{CallRec}
 use Rattle.ason_base.specs.declared.tables.Leg.{Leg}
 use Rattle.mesh_rules.specs.declared.events.MeshEvent.{MeshEvent}
-use Rattle.mesh_rules.specs.Calls.{find_call, names}
+use Rattle.mesh_rules.specs.Calls.{call_with, find_call, names}
 use Rattle.mesh_rules.specs.Commands.{is_searchable}
 use Rattle.mesh_rules.specs.Legs.{find_leg, is_closing, is_work, leg_of}
 use Rattle.mesh_rules.specs.State.{NodeState}
 use Rattle.mesh_rules.specs.Machine.{Mesh, start}
 use Rattle.mesh_rules.specs.Events.{IsRun, after, route_of}
 use Rattle.mesh_laws.specs.CallLaw.{FitsLegs, IsNamed, phase_of}
-use Rattle.mesh_laws.specs.HopLaw.{HasOneLegEach, EveryHopHasAShape}
+use Rattle.mesh_laws.specs.HopLaw.{leg_at, HasOneLegEach, EveryHopHasAShape}
 use Rattle.mesh_laws.specs.NodeLaw.{DeskFits, FitsDesk}
-use Rattle.mesh_laws.proofs.nodes.Facts.{CanBeBacked, MeshFacts}
+use Rattle.mesh_laws.proofs.nodes.Facts.{MeshFacts}
 use Rattle.mesh_laws.proofs.nodes.States.{Row, back-stands, row, work-stands}
 use Rattle.mesh_nodes.specs.Order.{LegsRise}
 use Rattle.mesh_nodes.proofs.CallList.{called-found, called-names}
 use Rattle.mesh_nodes.proofs.LegList.{all-found, found-lsp, same_lsp-eq}
 use Rattle.mesh_laws.proofs.nodes.Runs.{facts-start, facts-step, facts-hold}
 use Rattle.mesh_laws.proofs.hops.Plans.{same_node}
-use Rattle.mesh_laws.proofs.hops.Paired.{CallsMayPair, MayPair}
 use Rattle.mesh_laws.proofs.hops.Planned.{EachFollows}
 use Rattle.mesh_laws.proofs.hops.Notices.{no_notices}
 use Rattle.mesh_laws.proofs.hops.Released.{CallStands, NamedStands}
-use Rattle.mesh_laws.proofs.hops.Run.{CanBeProtected, ItemFits, StepFacts, follows_run}
+use Rattle.mesh_laws.proofs.hops.Run.{CanBeProtected, ItemFits, StepFacts, WorksFor, follows_run}
 use Rattle.mesh_laws.proofs.hops.Law.{lsp_fits}
 
 -- A call and its LSPs
@@ -146,27 +143,22 @@ module _ (n : ℕ) (s : NodeState) (c : CallRec) (fit : FitsLegs n s.lsp s.legs 
 
 -- Backups
 
-if_given : (t : Network) (n : NodeId) (e : NodeId) (backup : Option (List Step)) →
-    IfSome backup (λ route. makes_route t n e route ≡ true) → (route : List Step) → backup ≡ Some route →
-    makes_route t n e route ≡ true
-if_given t n e backup made route is =
-    let made' : IfSome (Some route) (λ route. makes_route t n e route ≡ true) = rw is at made in made'
-
-may_pair : (t : Network) (n : NodeId) (c : CallRec) (e : NodeId) → CanBeBacked t n c → e ≡ c.egress →
-    (c.backup ≡ None → is_searchable t ≡ true) → MayPair t n c e
-may_pair t n c e can is searched =
-    record { given = λ route at. rw is (if_given t n c.egress c.backup can.given route at); searched = searched }
-
 module _ (t : Network) (s : Mesh) (facts : MeshFacts t s) where
-  pairs : CallsMayPair t s
+  pairs : (n : NodeId) (g : Leg) (c : CallRec) → leg_at s g.lsp n ≡ Some g →
+      call_with g.lsp (s.nodes n.0).calls ≡ Some c → is_work g.role ≡ true → c.protected ≡ true → WorksFor t s n c g
   pairs n g c here called work protected =
       let node = facts.node n.0 in
       let found = called-found g.lsp (s.nodes n.0).calls c node.calls_rise called in
       let fit = node.call c.call c found in
-      let can = facts.backed n c.call c found in
+      let can = facts.backed n.0 c.call c found in
       let is = works_for n.0 (s.nodes n.0) c fit g.lsp g here work (called-names g.lsp (s.nodes n.0).calls c called) in
-      may_pair t n c g.egress can (work_egress n.0 (s.nodes n.0) c fit g.lsp g is here)
-      (λ none. can.searched protected none)
+      record {
+        number = c.call;
+        found = found;
+        work = is;
+        egress = work_egress n.0 (s.nodes n.0) c fit g.lsp g is here;
+        searched = λ none. can protected none;
+      }
 
   protects_named : (n : NodeId) (k : CallNo) (c : CallRec) (w : Leg) → find_call k (s.nodes n.0).calls ≡ Some c →
       (work : Option Lsp) → c.work ≡ work → leg_of work (s.nodes n.0).legs ≡ Some w → is_searchable t ≡ true →
@@ -178,9 +170,13 @@ module _ (t : Network) (s : Mesh) (facts : MeshFacts t s) where
       record {
         begins = own_ingress own ((work_named n.0 (s.nodes n.0) c fit l is).ingress);
         stands = subst (λ m. find_leg m (s.nodes n.0).legs ≡ Some w) (sym own) here;
-        may =
-            may_pair t n c w.egress (facts.backed n k c found)
-            (work_egress n.0 (s.nodes n.0) c fit l w is here) (λ none. searchable);
+        works = record {
+          number = k;
+          found = found;
+          work = is ∙ ap Some (sym own);
+          egress = work_egress n.0 (s.nodes n.0) c fit l w is here;
+          searched = λ none. searchable;
+        };
       }
     where
       own_ingress : w.lsp ≡ l → l.ingress.0 ≡ n.0 → w.lsp.ingress ≡ n
@@ -206,6 +202,7 @@ item_fits t n (Clear f) fits = absurd fits
 step_facts : (t : Network) (s : Mesh) → MeshFacts t s → StepFacts t s
 step_facts t s facts = record {
   call = λ n k c found. call_stands n (s.nodes n) c ((facts.node n).call k c found);
+  rise = λ n. (facts.node n).calls_rise;
   pair = pairs t s facts;
   protect = protects_call t s facts;
   desk = λ n i items is. item_fits t n i (let fits : DeskFits t n (i ∷ items) = rw is at (facts.desk n) in fits.0);
@@ -216,10 +213,11 @@ step_facts t s facts = record {
 pub follows : (t : Network) (events : List MeshEvent) → IsRun t start events →
     EachFollows t (after t start events) (route_of t start events)
 follows t events run =
-    follows_run t (MeshFacts t) (step_facts t) (facts-step t) start events run (facts-start t) (λ l. None) (λ l. record {
-      legs = λ n. refl;
-      mail = λ a b. refl;
-    })
+    (follows_run t (MeshFacts t) (step_facts t) (facts-step t) start events run (facts-start t) (λ l. None)
+    (record {
+      follows = λ l. record { legs = λ n. refl; mail = λ a b. refl };
+      given = λ n k c found. absurd (cc found);
+    })).follows
 
 pub found_of : (legs : List Leg) → LegsRise legs → (g : Leg) → Contains legs g → find_leg g.lsp legs ≡ Some g
 found_of legs rise g has =

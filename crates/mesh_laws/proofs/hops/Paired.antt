@@ -3,7 +3,7 @@ use Rattle.std.proofs.Common.{◌≡◌, ◌+◌, ℕ, zero, suc, true, false, n
 use Rattle.std.specs.Prelude.{Option, Some, None, is_some}
 use Rattle.ason_base.specs.Network.{Network}
 use Rattle.ason_base.specs.Risks.{unknown_link}
-use Rattle.ason_base.specs.Routes.{makes_route}
+use Rattle.ason_base.specs.Routes.{is_beside, makes_route}
 use Rattle.ason_base.specs.declared.codes.ErrCode.{ErrCode}
 use Rattle.ason_base.specs.declared.ids.Lsp.{Lsp}
 use Rattle.ason_base.specs.declared.ids.NodeId.{NodeId}
@@ -28,8 +28,9 @@ use Rattle.mesh_rules.specs.Machine.{Mesh}
 use Rattle.mesh_rules.specs.Pairs.{admitted_backup, backup_lsp, backup_route, beside_lsp, given_or_found, leaves_bare, over_backup, over_fibre, pair, pair_over, route_from}
 use Rattle.mesh_laws.specs.HopLaw.{leg_at}
 use Rattle.mesh_nodes.specs.Routes.{AreRowsOf}
-use Rattle.mesh_nodes.proofs.Cases.{if_cases}
-use Rattle.mesh_nodes.proofs.routes.Nodes.{found-backups-lead, known-are}
+use Rattle.mesh_nodes.proofs.Cases.{both_left, if_cases}
+use Rattle.mesh_nodes.proofs.routes.Beside.{found-beside}
+use Rattle.mesh_nodes.proofs.routes.Nodes.{known-are}
 use Rattle.mesh_laws.proofs.hops.Plans.{plan, node_at, fibre_at, IsRoute, lt_true, same_node}
 use Rattle.mesh_laws.proofs.hops.LegChanges.{previous_is}
 use Rattle.mesh_laws.proofs.hops.Rest.{Purpose, Guards}
@@ -79,16 +80,18 @@ no_previous t s o l n g (Some route) (e, q, pl) here first =
 
 -- A backup beside it
 
--- a route that the call was given leads to the egress, and without one the links can be searched
-pub record MayPair (t : Network) (n : NodeId) (c : CallRec) (egress : NodeId) : Type 0 where
-  pub given : (route : List Step) → c.backup ≡ Some route → makes_route t n egress route ≡ true
+-- a route that the call was given for it stands beside that of the working LSP, and without one the links can be
+-- searched
+pub record MayPair (t : Network) (n : NodeId) (o : Routes) (c : CallRec) (w : Leg) : Type 0 where
+  pub given : (primary route : List Step) → o w.lsp ≡ Some primary → c.backup ≡ Some route →
+      is_beside t n w.egress (Some primary) route ≡ true
   pub searched : c.backup ≡ None → is_searchable t ≡ true
 
 -- each protected call whose working LSP has a leg where it begins may be given a backup beside it
-abbrev pub CallsMayPair : Network → Mesh → Type 0
-CallsMayPair t s =
+abbrev pub CallsMayPair : Network → Mesh → Routes → Type 0
+CallsMayPair t s o =
     (n : NodeId) (g : Leg) (c : CallRec) → leg_at s g.lsp n ≡ Some g →
-    call_with g.lsp (s.nodes n.0).calls ≡ Some c → is_work g.role ≡ true → c.protected ≡ true → MayPair t n c g.egress
+    call_with g.lsp (s.nodes n.0).calls ≡ Some c → is_work g.role ≡ true → c.protected ≡ true → MayPair t n o c g
 
 -- The node n read st when the rule came to it. w is the leg of the working LSP, which begins there.
 module _ (t : Network) (s : Mesh) (n : NodeId) (o : Routes) (f : EachFollows t s o) (st : NodeState)
@@ -108,26 +111,31 @@ module _ (t : Network) (s : Mesh) (n : NodeId) (o : Routes) (f : EachFollows t s
   none_stepped : Steps nothing
   none_stepped = quiet_stepped nothing (record { legs = refl; sent = refl; numbers = refl })
 
-  module _ (c : CallRec) (w : Leg) (here : w.lsp.ingress ≡ n) (may : MayPair t n c w.egress)
+  module _ (c : CallRec) (w : Leg) (here : w.lsp.ingress ≡ n) (may : MayPair t n o c w)
       (sent : o w.lsp ≡ Some (route_from (local_node t n) w)) where
     bare_stepped : (cause : Cause) → Steps (leaves_bare c cause)
     bare_stepped cause = quiet_stepped (leaves_bare c cause) (record { legs = refl; sent = refl; numbers = refl })
 
-    leads : (given : Option (List Step)) (found : Option Trip) → c.backup ≡ given →
-        least_backup (known_rows place st) (route_from place w) n w.egress ≡ found →
-        (route : List Step) → given_or_found given found ≡ Some route → makes_route t n w.egress route ≡ true
-    leads (Some r) found is least route e = may.given route (is ∙ e)
-    leads None None is least route e = absurd (cc e)
-    leads None (Some r) is least route e =
-        let same : r.steps ≡ route = cc e in
-        subst (λ x. makes_route t n w.egress x ≡ true) same
-        (found-backups-lead t n w.egress st (route_from place w) r (may.searched is) are least)
+    abbrev primary : List Step
+    primary = route_from (local_node t n) w
 
     module _ (known : is_some (unknown_link (known_rows place st) (route_from place w)) ≡ false) where
+      stands : (given : Option (List Step)) (found : Option Trip) → c.backup ≡ given →
+          least_backup (known_rows place st) (route_from place w) n w.egress ≡ found →
+          (route : List Step) → given_or_found given found ≡ Some route →
+          is_beside t n w.egress (Some (route_from (local_node t n) w)) route ≡ true
+      stands (Some r) found is least route e = may.given primary route sent (is ∙ e)
+      stands None None is least route e = absurd (cc e)
+      stands None (Some r) is least route e =
+          let same : r.steps ≡ route = cc e in
+          subst (λ x. is_beside t n w.egress (Some (route_from (local_node t n) w)) x ≡ true) same
+          (found-beside t n w.egress st primary r (may.searched is) are known least)
+
       admitted_stepped : (out : LinkSpec) (hop : Step) (further : List Step) →
-          makes_route t n w.egress (hop ∷ further) ≡ true → own_link (local_node t n) hop.link ≡ Some out →
-          Steps (admitted_backup place st c w out further)
-      admitted_stepped out hop further made over =
+          is_beside t n w.egress (Some (route_from (local_node t n) w)) (hop ∷ further) ≡ true →
+          own_link (local_node t n) hop.link ≡ Some out → Steps (admitted_backup place st c w out further)
+      admitted_stepped out hop further beside over =
+          let made = both_left (makes_route t n w.egress (hop ∷ further)) _ beside in
           if_cases Steps (nat_lt LAST_NUMBER st.lsp) _ _ (λ h. bare_stepped Spent) (λ h.
           if_cases Steps (is_full st) _ _ (λ h. bare_stepped Full) (λ h.
           begins_stepped t s n o st (Guards w.lsp.lsp (route_from place w)) (backup_lsp place st w out further) hop
@@ -136,21 +144,22 @@ module _ (t : Network) (s : Mesh) (n : NodeId) (o : Routes) (f : EachFollows t s
           (recorded-fit t (Guards w.lsp.lsp (route_from place w)) (known_rows place st)
           (backup_lsp place st w out further).role
           (λ searchable. known-are t n st searchable are) (refl, refl) known)
-          sent f))
+          sent (rw here beside) f))
 
-      over_stepped : (route : List Step) → makes_route t n w.egress route ≡ true → (out : Option LinkSpec) →
+      over_stepped : (route : List Step) →
+          is_beside t n w.egress (Some (route_from (local_node t n) w)) route ≡ true → (out : Option LinkSpec) →
           first_link place route ≡ out → Steps (over_backup place st c w route out)
-      over_stepped route made None e = bare_stepped NoBackup
-      over_stepped route made (Some out) e =
+      over_stepped route beside None e = bare_stepped NoBackup
+      over_stepped route beside (Some out) e =
           let first = starts_over place route out e in
-          rw first.is (admitted_stepped out first.hop first.further (rw first.is at made) first.over)
+          rw first.is (admitted_stepped out first.hop first.further (rw first.is at beside) first.over)
 
       along_stepped : (route : Option (List Step)) → backup_route place st c w ≡ route →
           Steps (pair_over place st c w route)
       along_stepped None e = bare_stepped NoBackup
       along_stepped (Some route) e =
           over_stepped route
-          (leads c.backup (least_backup (known_rows place st) (route_from place w) n w.egress) refl refl route e)
+          (stands c.backup (least_backup (known_rows place st) (route_from place w) n w.egress) refl refl route e)
           (first_link place route) refl
 
     pub pair_stepped : EachStepped t s n o (pair (local_node t n) st c w)
@@ -164,7 +173,7 @@ module _ (t : Network) (s : Mesh) (n : NodeId) (o : Routes) (f : EachFollows t s
   -- the leg of the LSP begins here; that of a working LSP whose call wants a backup may have one beside it
   module _ (g : Leg) (here : g.lsp.ingress ≡ n) (sent : o g.lsp ≡ Some (route_from (local_node t n) g)) where
     pub answered_stepped : (called : Option CallRec) →
-        ((c : CallRec) → called ≡ Some c → is_work g.role ≡ true → c.protected ≡ true → MayPair t n c g.egress) →
+        ((c : CallRec) → called ≡ Some c → is_work g.role ≡ true → c.protected ≡ true → MayPair t n o c g) →
         EachStepped t s n o (call_answered (local_node t n) st g called)
     answered_stepped None may = none_stepped
     answered_stepped (Some c) may =

@@ -5,7 +5,7 @@ use Rattle.ason_base.specs.Network.{Network}
 use Rattle.ason_base.specs.declared.ids.Lsp.{Lsp}
 use Rattle.ason_base.specs.declared.ids.NodeId.{NodeId}
 use Rattle.ason_base.specs.declared.steps.Step.{Step}
-use Rattle.ason_base.specs.Routes.{makes_route}
+use Rattle.ason_base.specs.Routes.{is_beside, makes_route}
 use Rattle.mesh_rules.specs.Changes.{Answer, changed}
 use Rattle.mesh_rules.specs.Machine.{Mesh, commit}
 use Rattle.mesh_rules.specs.Events.{or_route}
@@ -24,6 +24,11 @@ abbrev pub IsGuarded : Routes → Lsp → Purpose → Type 0
 IsGuarded o l Carries = Unit {0}
 IsGuarded o l (Guards work route) = o (beside_lsp l work) ≡ Some route
 
+-- a backup's route has no risk in common with that of the working LSP that it guards, and shares no inner node with it
+abbrev pub StandsBeside : Network → Lsp → Purpose → Plan → Type 0
+StandsBeside t l Carries p = Unit {0}
+StandsBeside t l (Guards work route) p = is_beside t l.ingress p.egress (Some route) p.route ≡ true
+
 -- an LSP that was begun for this purpose, over its route
 pub record Planned (t : Network) (s : Mesh) (o : Routes) (l : Lsp) (q : Purpose) (p : Plan) : Type 0 where
   pub route : IsRoute t l.ingress p
@@ -31,6 +36,7 @@ pub record Planned (t : Network) (s : Mesh) (o : Routes) (l : Lsp) (q : Purpose)
   pub chain : Chain t q l p (leg_at s l) (mail_between s l)
   pub number : l.lsp < (s.nodes l.ingress.0).lsp
   pub guards : IsGuarded o l q
+  pub beside : StandsBeside t l q p
 
 -- no leg and no message of the LSP is anywhere
 pub record IsUntouched (s : Mesh) (l : Lsp) : Type 0 where
@@ -66,6 +72,7 @@ planned_same t s s' o l q p same b = record {
   chain = chain_same t q s s' l p same b.chain;
   number = (let n = b.number in let m = same.next in omega arith);
   guards = b.guards;
+  beside = b.beside;
 }
 
 pub follows_same : (t : Network) (s s' : Mesh) (o : Routes) (l : Lsp) (c : Option (List Step)) → SameOf s s' l →
@@ -95,6 +102,7 @@ follows_grown t s o o' l (Some route) grow (e, q, b) = (
     chain = b.chain;
     number = b.number;
     guards = guarded_grown o o' l q grow b.guards;
+    beside = b.beside;
   },
 )
 

@@ -91,6 +91,7 @@ module _ (t : Network) (s : Mesh) (o : Routes) where
         chain = rw is (tears_chain l q p g pl here' stands);
         number = rw (next_same s n.0 l.ingress.0 (tears (Some g)) refl) pl.number;
         guards = pl.guards;
+        beside = pl.beside;
       }
 
   own_tears : (l : Lsp) (g : Leg) → g.lsp ≡ l → IsOf l (tears (Some g))

@@ -1,20 +1,21 @@
 -- The risks of a route, over the rows that a node knows, are those over the rows of all links.
-use Rattle.std.proofs.Common.{◌≡◌, ◌⊎◌, inl, inr, Bool, true, false, cond, not, nat_eq, List, [], ◌∷◌, map, refl, sym, ap, ◌∙◌, subst, arith, Contains}
-use Rattle.std.specs.Prelude.{Some, find, is_some}
+use Rattle.std.proofs.Common.{◌≡◌, true, false, nat_eq, List, refl, sym, ap, ◌∙◌, subst, arith, Contains}
+use Rattle.std.specs.Prelude.{Some, is_some}
 use Rattle.ason_base.specs.Network.{Network, find_link, row_of}
-use Rattle.ason_base.specs.Risks.{HasRisk, has_row, route_risks, unknown_link}
+use Rattle.ason_base.specs.Risks.{HasRisk, route_risks, unknown_link}
 use Rattle.ason_base.specs.declared.ids.LinkId.{LinkId}
 use Rattle.ason_base.specs.declared.messages.PathRole.{PathRole}
 use Rattle.ason_base.specs.declared.messages.PathRole.TheVariants.{Work, Back}
 use Rattle.ason_base.specs.declared.network.TeRow.{TeRow}
 use Rattle.ason_base.specs.declared.risks.Risk.{Risk}
 use Rattle.ason_base.specs.declared.steps.Step.{Step}
-use Rattle.ason_base.proofs.Ordered.{any-there, contains-cases, contains-none}
+use Rattle.ason_base.proofs.Ordered.{any-there}
 use Rattle.ason_base.proofs.RiskUnion.{risks-exact, route_risks-are, route_risks-rise}
 use Rattle.mesh_rules.specs.Commands.{is_searchable}
 use Rattle.mesh_rules.specs.Paths.{is_primary_unknown, recorded}
 use Rattle.mesh_rules.proofs.Conjunctions.{and_first}
 use Rattle.mesh_nodes.specs.Routes.{AreRowsOf}
+use Rattle.mesh_nodes.proofs.routes.Beside.{knows-each}
 use Rattle.mesh_nodes.proofs.routes.Lists.{contains-map, contains-unmap}
 use Rattle.mesh_nodes.proofs.routes.Nodes.{find-there, found-link}
 use Rattle.mesh_laws.specs.RiskLaw.{rows_of}
@@ -23,22 +24,6 @@ use Rattle.mesh_laws.proofs.hops.Chain.{RisksFit}
 
 same_link : (k l : LinkId) → nat_eq k.0 l.0 ≡ true → k ≡ l
 same_link k l h = let e : k.0 ≡ l.0 = grind arith in λ i. record { 0 = e i }
-
--- each link of the route has a row
-knows-each : (rows : List TeRow) (route : List Step) → is_some (unknown_link rows route) ≡ false → (s : Step) →
-    Contains route s → has_row rows s.link ≡ true
-knows-each rows [] none s there = absurd (contains-none s there)
-knows-each rows (h ∷ route) none s there =
-    go (has_row rows h.link) refl none (contains-cases h s route there) (λ later. knows-each rows route later s)
-  where
-    go : (b : Bool) → has_row rows h.link ≡ b →
-        is_some (cond (not b) (Some h.link) (find (λ l. not (has_row rows l)) (map (λ s. s.link) route))) ≡ false →
-        (h ≡ s) ⊎ Contains route s →
-        (is_some (unknown_link rows route) ≡ false → Contains route s → has_row rows s.link ≡ true) →
-        has_row rows s.link ≡ true
-    go false e none at later = absurd (cc none)
-    go true e none (inl is) later = subst (λ x. has_row rows x.link ≡ true) is e
-    go true e none (inr behind) later = later none behind
 
 module _ (t : Network) (searchable : is_searchable t ≡ true) (rows : List TeRow) (are : AreRowsOf t rows)
     (route : List Step) (known : is_some (unknown_link rows route) ≡ false) where

@@ -21,8 +21,8 @@ use Rattle.mesh_rules.specs.KnownRows.{has_row, known_rows}
 use Rattle.mesh_rules.specs.Learnt.{on_link}
 use Rattle.mesh_rules.specs.LocalNodes.{LocalNode, local_node}
 use Rattle.mesh_rules.specs.State.{NodeState}
-use Rattle.mesh_rules.specs.Calls.{find_call, is_bare}
-use Rattle.mesh_rules.specs.Legs.{leg_of}
+use Rattle.mesh_rules.specs.Calls.{call_with, find_call, is_bare}
+use Rattle.mesh_rules.specs.Legs.{is_work, leg_of}
 use Rattle.mesh_rules.specs.Protects.{protect_with, protects}
 use Rattle.mesh_rules.specs.Orders.{on_order, on_item}
 use Rattle.mesh_rules.specs.Commands.{has_way, is_searchable, is_valid}
@@ -30,8 +30,10 @@ use Rattle.mesh_rules.specs.Machine.{Mesh, commit, without_item}
 use Rattle.mesh_rules.specs.Events.{is_enabled, on_first_item, posted, step, IsRun, after, first_route, or_route, sent_at_ingress, route_of}
 use Rattle.mesh_rules.proofs.Conjunctions.{and_first, and_second}
 use Rattle.mesh_laws.specs.HopLaw.{leg_at}
+use Rattle.mesh_nodes.specs.Order.{CallsRise}
 use Rattle.mesh_nodes.specs.Routes.{AreRowsOf}
 use Rattle.mesh_nodes.proofs.Cases.{if_cases}
+use Rattle.mesh_laws.proofs.hops.GivenBackups.{EachGivenBeside, given-step}
 use Rattle.mesh_laws.proofs.hops.Own.{IsQuiet}
 use Rattle.mesh_laws.proofs.hops.Quiet.{same_quiet}
 use Rattle.mesh_laws.proofs.hops.Planned.{Routes, EachFollows, SameOf, follows_same, or_assoc, or_none}
@@ -47,19 +49,43 @@ ItemFits t (Order c) = is_valid t c ≡ true
 ItemFits t (Alarm f) = Unit {0}
 ItemFits t (Clear f) = Unit {0}
 
--- a call that the links let be protected: its working LSP begins here and may have a backup beside it
+-- a call of the node whose working leg this is, and which may be given a backup
+pub record WorksFor (t : Network) (s : Mesh) (n : NodeId) (c : CallRec) (w : Leg) : Type 0 where
+  pub number : CallNo
+  pub found : find_call number (s.nodes n.0).calls ≡ Some c
+  pub work : c.work ≡ Some w.lsp
+  pub egress : w.egress ≡ c.egress
+  pub searched : c.backup ≡ None → is_searchable t ≡ true
+
+-- a call that an order protects: its working LSP begins here
 pub record CanBeProtected (t : Network) (s : Mesh) (n : NodeId) (c : CallRec) (w : Leg) : Type 0 where
   pub begins : w.lsp.ingress ≡ n
   pub stands : leg_at s w.lsp n ≡ Some w
-  pub may : MayPair t n c w.egress
+  pub works : WorksFor t s n c w
 
 pub record StepFacts (t : Network) (s : Mesh) : Type 0 where
   pub call : (n : ℕ) (k : CallNo) (c : CallRec) → find_call k (s.nodes n).calls ≡ Some c → CallStands n (s.nodes n) c
-  pub pair : CallsMayPair t s
+  pub rise : (n : ℕ) → CallsRise (s.nodes n).calls
+  pub pair : (n : NodeId) (g : Leg) (c : CallRec) → leg_at s g.lsp n ≡ Some g →
+      call_with g.lsp (s.nodes n.0).calls ≡ Some c → is_work g.role ≡ true → c.protected ≡ true → WorksFor t s n c g
   pub protect : (n : NodeId) (k : CallNo) (c : CallRec) (w : Leg) → find_call k (s.nodes n.0).calls ≡ Some c →
       leg_of c.work (s.nodes n.0).legs ≡ Some w → is_searchable t ≡ true → CanBeProtected t s n c w
   pub desk : (n : ℕ) (i : DeskItem) (items : List DeskItem) → s.desks n ≡ i ∷ items → ItemFits t i
   pub learnt : (n : ℕ) → AreRowsOf t (s.nodes n).learnt
+
+may_pair : (t : Network) (s : Mesh) (o : Routes) (n : NodeId) (c : CallRec) (w : Leg) → EachGivenBeside t s o →
+    WorksFor t s n c w → MayPair t n o c w
+may_pair t s o n c w each works = record {
+  given = λ primary route sent given.
+      let b = each n works.number c works.found w.lsp route works.work given in
+      let one : b.0 ≡ primary = (let was = b.1 in cc (was, sent)) in
+      rw (works.egress, ← one) b.2;
+  searched = works.searched;
+}
+
+calls_may_pair : (t : Network) (s : Mesh) (o : Routes) → StepFacts t s → EachGivenBeside t s o → CallsMayPair t s o
+calls_may_pair t s o facts each n g c here called work protected =
+    may_pair t s o n c g each (facts.pair n g c here called work protected)
 
 -- One item of a desk
 
@@ -73,7 +99,8 @@ searched : (t : Network) (from to : NodeId) (via : Option (List Step)) → has_w
 searched t from to None e q = e
 searched t from to (Some r) e q = absurd (cc q)
 
-module _ (t : Network) (s : Mesh) (o : Routes) (n : NodeId) (f : EachFollows t s o) (facts : StepFacts t s) where
+module _ (t : Network) (s : Mesh) (o : Routes) (n : NodeId) (f : EachFollows t s o) (facts : StepFacts t s)
+    (each : EachGivenBeside t s o) where
   abbrev Steps : Answer → Type 0
   Steps a = EachStepped t s n o a
 
@@ -85,7 +112,8 @@ module _ (t : Network) (s : Mesh) (o : Routes) (n : NodeId) (f : EachFollows t s
   protects_stepped k c found searchable None e = none_stepped
   protects_stepped k c found searchable (Some w) e =
       let can = facts.protect n k c w found e searchable in
-      pair_stepped t s n o f (s.nodes n.0) refl (facts.learnt n.0) c w can.begins can.may
+      pair_stepped t s n o f (s.nodes n.0) refl (facts.learnt n.0) c w can.begins
+      (may_pair t s o n c w each can.works)
       (whole-route t s o w.lsp n w (o w.lsp) (f w.lsp) can.begins can.stands)
 
   protect_stepped : (k : CallNo) (from : NodeId) → is_searchable t ≡ true → (c : Option CallRec) →
@@ -158,30 +186,47 @@ step_routes t s e o l = or_route (o l) (first_route l (sent_at_ingress t s e l))
 unsent : (t : Network) (s : Mesh) (o : Routes) → EachFollows t s o → EachFollows t s (λ l. or_route (o l) None)
 unsent t s o f = same_routes t s o (λ l. or_route (o l) None) (λ l. sym (or_none (o l))) f
 
-pub step_follows : (t : Network) (s : Mesh) (e : MeshEvent) (o : Routes) → is_enabled t s e ≡ true →
-    StepFacts t s → EachFollows t s o → EachFollows t (step t s e) (step_routes t s e o)
-step_follows t s (Take d u) o enabled facts f l =
-    (traced_take t s o d u (s.mail u.0 d.0) refl enabled (facts.learnt d.0) f facts.pair l).follows
-step_follows t s (Desk n) o enabled facts f l =
+-- each LSP with its route, and the backup routes that were given beside them
+pub record Carried (t : Network) (s : Mesh) (o : Routes) : Type 0 where
+  pub follows : EachFollows t s o
+  pub given : EachGivenBeside t s o
+
+same_carried : (t : Network) (s : Mesh) (o o' : Routes) → ((l : Lsp) → o l ≡ o' l) → Carried t s o → Carried t s o'
+same_carried t s o o' same f = let all : o ≡ o' = λ i l. same l i in subst (Carried t s) all f
+
+step_follows : (t : Network) (s : Mesh) (e : MeshEvent) (o : Routes) → is_enabled t s e ≡ true →
+    StepFacts t s → Carried t s o → EachFollows t (step t s e) (step_routes t s e o)
+step_follows t s (Take d u) o enabled facts c l =
+    (traced_take t s o d u (s.mail u.0 d.0) refl enabled (facts.learnt d.0) c.follows
+    (calls_may_pair t s o facts c.given) l).follows
+step_follows t s (Desk n) o enabled facts c l =
     let a = on_first_item (local_node t n) (s.nodes n.0) (s.desks n.0) in
     follows_same t (commit s n.0 a) (step t s (Desk n)) (step_routes t s (Desk n) o) l _ (desk_same t s n a l)
-    (first_stepped t s o n f facts (s.desks n.0) refl l).follows
-step_follows t s (Tick n) o enabled facts f l = (stepped_nothing t s n o f l).follows
-step_follows t s (Learn n k) o enabled facts f l =
+    (first_stepped t s o n c.follows facts c.given (s.desks n.0) refl l).follows
+step_follows t s (Tick n) o enabled facts c l = (stepped_nothing t s n o c.follows l).follows
+step_follows t s (Learn n k) o enabled facts c l =
     let a = on_link (local_node t n) (s.nodes n.0) (find_link t k) in
     unsent t (step t s (Learn n k)) o (λ l. follows_same t s (commit s n.0 a) o l (o l)
-    (same_quiet s n a l (link_quiet (local_node t n) (s.nodes n.0) (find_link t k))) (f l)) l
-step_follows t s (Post c) o enabled facts f l =
-    unsent t (posted s c) o (λ l. follows_same t s (posted s c) o l (o l) (posted_same s c l) (f l)) l
+    (same_quiet s n a l (link_quiet (local_node t n) (s.nodes n.0) (find_link t k))) (c.follows l)) l
+step_follows t s (Post d) o enabled facts c l =
+    unsent t (posted s d) o (λ l. follows_same t s (posted s d) o l (o l) (posted_same s d l) (c.follows l)) l
 
--- Facts that hold in every state, and that say what each step needs, carry every LSP along a run.
+pub step_carries : (t : Network) (s : Mesh) (e : MeshEvent) (o : Routes) → is_enabled t s e ≡ true →
+    StepFacts t s → Carried t s o → Carried t (step t s e) (step_routes t s e o)
+step_carries t s e o enabled facts c = record {
+  follows = step_follows t s e o enabled facts c;
+  given = given-step t s e o c.follows facts.rise (λ n d rest is. facts.desk n (Order d) rest is) c.given;
+}
+
+-- Facts that hold in every state, and that say what each step needs, carry this along a run.
 pub follows_run : (t : Network) (Facts : Mesh → Type 0) → ((s : Mesh) → Facts s → StepFacts t s) →
     ((s : Mesh) (e : MeshEvent) → is_enabled t s e ≡ true → Facts s → Facts (step t s e)) →
-    (s : Mesh) (events : List MeshEvent) → IsRun t s events → Facts s → (o : Routes) → EachFollows t s o →
-    EachFollows t (after t s events) (λ l. or_route (o l) (route_of t s events l))
-follows_run t Facts gives keeps s [] run facts o f = unsent t s o f
-follows_run t Facts gives keeps s (e ∷ es) run facts o f =
-    same_routes t (after t (step t s e) es) _ _
+    (s : Mesh) (events : List MeshEvent) → IsRun t s events → Facts s → (o : Routes) → Carried t s o →
+    Carried t (after t s events) (λ l. or_route (o l) (route_of t s events l))
+follows_run t Facts gives keeps s [] run facts o c =
+    same_carried t s o (λ l. or_route (o l) None) (λ l. sym (or_none (o l))) c
+follows_run t Facts gives keeps s (e ∷ es) run facts o c =
+    same_carried t (after t (step t s e) es) _ _
     (λ l. or_assoc (o l) (first_route l (sent_at_ingress t s e l)) (route_of t (step t s e) es l))
     (follows_run t Facts gives keeps (step t s e) es run.1 (keeps s e run.0 facts) (step_routes t s e o)
-    (step_follows t s e o run.0 (gives s facts) f))
+    (step_carries t s e o run.0 (gives s facts) c))

@@ -184,6 +184,7 @@ module _ (t : Network) (s : Mesh) (o : Routes) (d u : NodeId) (m : Msg) (rest : 
           chain = take_here q (plan route e) (own_message plain) pl (pl.chain.ways u d);
           number = number;
           guards = pl.guards;
+          beside = pl.beside;
         },
       )
 
@@ -195,7 +196,7 @@ module _ (t : Network) (s : Mesh) (o : Routes) (d u : NodeId) (m : Msg) (rest : 
       let of = same_lsp-eq (lsp_of m) l e in
       subst (λ k. Follows t (after_leg t s d u m) o k c) of (take_own c is (rw of f))
 
-  module _ (f : EachFollows t s o) (may : CallsMayPair t s) where
+  module _ (f : EachFollows t s o) (may : CallsMayPair t s o) where
     pub leg_follows : EachFollows t (after_leg t s d u m) o
     leg_follows l = take_follows l (o l) (f l) (is_notice m) (same_lsp (lsp_of m) l) refl refl
 
@@ -270,7 +271,7 @@ module _ (t : Network) (s : Mesh) (o : Routes) (d u : NodeId) (m : Msg) (rest : 
         flip l e = grind arith
 
 pub traced_take : (t : Network) (s : Mesh) (o : Routes) (d u : NodeId) (ms : List Msg) → s.mail u.0 d.0 ≡ ms →
-    has_first ms ≡ true → AreRowsOf t (s.nodes d.0).learnt → EachFollows t s o → CallsMayPair t s →
+    has_first ms ≡ true → AreRowsOf t (s.nodes d.0).learnt → EachFollows t s o → CallsMayPair t s o →
     EachStepped t (without_first s u.0 d.0) d o (on_first (local_node t d) (s.nodes d.0) u ms)
 traced_take t s o d u [] was some learnt f may = absurd cc
 traced_take t s o d u (m ∷ rest) was some learnt f may = take_stepped t s o d u m rest was learnt f may

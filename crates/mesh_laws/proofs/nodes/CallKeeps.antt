@@ -17,7 +17,7 @@ use Rattle.mesh_rules.specs.Calls.{find_call, call_with, bare, blocked, guarded,
 use Rattle.mesh_rules.specs.State.{NodeState}
 use Rattle.mesh_nodes.proofs.LegList.{same_lsp-eq, same_lsp-refl, find-with_leg, find-without_leg}
 use Rattle.mesh_nodes.proofs.CallList.{called-found, called-names, not_called, rise-with_call}
-use Rattle.mesh_laws.specs.CallLaw.{FitsLegs, IsNamed, phase_of}
+use Rattle.mesh_laws.specs.CallLaw.{FitsLegs, GuardsWork, IsNamed, phase_of}
 use Rattle.mesh_laws.proofs.nodes.Facts.{NodeFacts}
 use Rattle.mesh_laws.proofs.nodes.CallParts.{Becomes, CallPart, itself-became, leg_of-stays, named-by, named-lsp, named-stays, names-back, names-work, other-stays, put-once, together-part}
 use Rattle.mesh_laws.proofs.nodes.Parts.{back-row, call_part, work-row}
@@ -31,8 +31,8 @@ must_have_call n s g facts here asked ingress none =
     not_called g.lsp s.calls has.call.call has.call none has.found has.named
 
 -- an LSP that a call names has a leg, so where no leg is found it names none
-pub no_leg : (n next : ℕ) (legs : List Leg) (r : Role) (e : NodeId) (o : Option Lsp) →
-    IfSome o (IsNamed n next legs r e) → phase_of (leg_of o legs) ≡ None → o ≡ None
+pub no_leg : (n next : ℕ) (legs : List Leg) (r : Role) (e : NodeId) (o : Option Lsp) → IfSome o (IsNamed n next legs r e) →
+    phase_of (leg_of o legs) ≡ None → o ≡ None
 no_leg n next legs r e None named none = refl
 no_leg n next legs r e (Some l) named none =
     let found : find_leg l legs ≡ Some named.leg.0 = named.leg.1 in
@@ -161,8 +161,7 @@ module _ (n : ℕ) (s : NodeState) (facts : NodeFacts n s) (g : Leg) (here : fin
       go false t = refl
       go true t =
           let name = named-lsp n s.lsp s.legs Work c.egress c.work m fit.work work in
-          let found : find_leg m s.legs ≡ Some g =
-          subst (λ k. find_leg k s.legs ≡ Some g) (same_lsp-eq g.lsp m t) here in
+          let found : find_leg m s.legs ≡ Some g = subst (λ k. find_leg k s.legs ≡ Some g) (same_lsp-eq g.lsp m t) here in
           let no : is_work g.role ≡ true = ap is_work (named-leg n s.lsp s.legs Work c.egress m g name found).0 in
           absurd (cc (no, e))
 
@@ -200,6 +199,7 @@ module _ (n : ℕ) (s : NodeState) (facts : NodeFacts n s) (g : Leg) (here : fin
           work = subst (λ o. IfSome o (IsNamed n s.lsp legs' Work c.egress)) (sym work)
               (named-still Work (named-lsp n s.lsp s.legs Work c.egress c.work g.lsp fit.work work));
           back = subst (λ o. IfSome o (IsNamed n s.lsp legs' Back c.egress)) (sym alone) tt;
+          guards = λ w b h is_work is_back found. absurd (cc (alone, is_back));
           work_reports = fit.work_reports;
           back_reports = fit.back_reports;
         }
@@ -223,6 +223,14 @@ module _ (n : ℕ) (s : NodeState) (facts : NodeFacts n s) (g : Leg) (here : fin
           work = named-stays n s.lsp s.lsp Work c.egress c.work s.legs legs' (omega arith) stays fit.work;
           back = subst (λ o. IfSome o (IsNamed n s.lsp legs' Back c.egress)) (sym back)
               (named-still Back (named-lsp n s.lsp s.legs Back c.egress c.back g.lsp fit.back back));
+          guards = λ w b h is_work is_back there.
+              (let own : g.lsp ≡ b = cc (back, is_back) in
+              let there' : find_leg g.lsp legs' ≡ Some h =
+              subst (λ k. find_leg k legs' ≡ Some h) (sym own) there in
+              let one : connected g None x ≡ h = cc (found, there') in
+              let before = fit.guards w g.lsp g is_work back here in
+              subst (λ (k : Leg). GuardsWork w b k.path_role) one
+              (subst (λ k. GuardsWork w k g.path_role) own before));
           work_reports = fit.work_reports;
           back_reports = fit.back_reports;
         }
@@ -257,6 +265,7 @@ module _ (n : ℕ) (s : NodeState) (facts : NodeFacts n s) (g : Leg) (here : fin
           state = rw none refl;
           work = tt;
           back = subst (λ o. IfSome o (IsNamed n s.lsp legs_left Back c.egress)) (sym none) tt;
+          guards = λ w b h is_work is_back found. absurd (cc is_work);
           work_reports = refl;
           back_reports = fit.back_reports;
         })
@@ -282,6 +291,7 @@ module _ (n : ℕ) (s : NodeState) (facts : NodeFacts n s) (g : Leg) (here : fin
           state = rw (first, standing) refl;
           work = named-stays n s.lsp s.lsp Work c.egress c.work s.legs legs_left (omega arith) stays fit.work;
           back = tt;
+          guards = λ w b h is_work is_back found. absurd (cc is_back);
           work_reports = fit.work_reports;
           back_reports = refl;
         })

@@ -83,6 +83,7 @@ call-stays n a b legs legs' c le stay facts = record {
   state = rw (leg_of-stays c.work legs legs' work, leg_of-stays c.back legs legs' back) facts.state;
   work = named-stays n a b _ c.egress c.work legs legs' le work facts.work;
   back = named-stays n a b _ c.egress c.back legs legs' le back facts.back;
+  guards = λ w l g is_work is_back found. facts.guards w l g is_work is_back (sym (back l is_back) ∙ found);
   work_reports = facts.work_reports;
   back_reports = facts.back_reports;
 }
@@ -266,8 +267,7 @@ lone-part n next c legs calls calls' rise replaced unknown work back facts part 
     (record {
       stay = λ m never. refl;
       apart = λ m d l other there named. refl;
-      only = λ d l is named.
-          absurd (no_name l (let one : c ≡ d = cc is in subst (λ x. names l x ≡ true) (sym one) named));
+      only = λ d l is named. absurd (no_name l (let one : c ≡ d = cc is in subst (λ x. names l x ≡ true) (sym one) named));
       kept = λ d l there named never. absurd (cc (unknown, there));
       facts = λ d is. (let one : c ≡ d = cc is in subst (FitsLegs n next legs) one facts);
       number = λ d is. (let one : c ≡ d = cc is in ap (λ x. x.call) (sym one));

@@ -9,8 +9,6 @@ use Rattle.ason_base.specs.declared.tables.CallRec.{CallRec}
 use Rattle.ason_base.specs.declared.tables.Leg.{Leg}
 use Rattle.ason_base.specs.Labels.{has}
 use Rattle.ason_base.specs.Network.{Network}
-use Rattle.ason_base.specs.Routes.{makes_route}
-use Rattle.ason_base.specs.declared.ids.NodeId.{NodeId}
 use Rattle.mesh_rules.specs.Commands.{is_searchable}
 use Rattle.mesh_rules.specs.Legs.{find_leg, is_closing, takes}
 use Rattle.mesh_rules.specs.Calls.{find_call, names}
@@ -69,11 +67,9 @@ LabelsFit legs =
 
 -- A call
 
--- A backup can be asked for beside the call's working LSP: a route that was given for it leads to the egress, and
--- where a protected call was given none, the links can be searched.
-pub record CanBeBacked (t : Network) (n : NodeId) (c : CallRec) : Type 0 where
-  pub given : IfSome c.backup (λ route. IsTrue (makes_route t n c.egress route))
-  pub searched : IsTrue c.protected → c.backup ≡ None → IsTrue (is_searchable t)
+-- where a protected call was given no backup route, the links can be searched for one
+abbrev pub CanBeBacked : Network → CallRec → Type 0
+CanBeBacked t c = IsTrue c.protected → c.backup ≡ None → IsTrue (is_searchable t)
 
 pub record HasCall (calls : List CallRec) (l : Lsp) : Type 0 where
   pub call : CallRec
@@ -101,6 +97,6 @@ pub record NodeFacts (n : ℕ) (s : NodeState) : Type 0 where
 pub record MeshFacts (t : Network) (s : Mesh) : Type 0 where
   pub node : (n : ℕ) → NodeFacts n (s.nodes n)
   pub desk : (n : ℕ) → DeskFits t n (s.desks n)
-  pub backed : (n : NodeId) (k : CallNo) (c : CallRec) → find_call k (s.nodes n.0).calls ≡ Some c → CanBeBacked t n c
+  pub backed : (n : ℕ) (k : CallNo) (c : CallRec) → find_call k (s.nodes n).calls ≡ Some c → CanBeBacked t c
   -- what a node learnt are rows of the network
   pub learnt : (n : ℕ) → AreRowsOf t (s.nodes n).learnt

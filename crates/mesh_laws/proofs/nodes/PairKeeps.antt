@@ -27,7 +27,7 @@ use Rattle.mesh_nodes.specs.Order.{CallsRise}
 use Rattle.mesh_nodes.proofs.Cases.{if_cases}
 use Rattle.mesh_nodes.proofs.CallList.{rise-with_call}
 use Rattle.mesh_nodes.proofs.LegList.{find-with_leg, same_lsp-eq, same_lsp-refl}
-use Rattle.mesh_laws.specs.CallLaw.{FitsLegs, IsNamed, phase_of}
+use Rattle.mesh_laws.specs.CallLaw.{FitsLegs, GuardsWork, IsNamed, phase_of}
 use Rattle.mesh_laws.proofs.nodes.Facts.{NodeFacts}
 use Rattle.mesh_laws.proofs.nodes.CallKeeps.{named-leg, no_leg}
 use Rattle.mesh_laws.proofs.nodes.CallParts.{Becomes, CallPart, Replaced, leg_of-stays, named-by, named-lsp, named-stays, names-back, names-work, new-unnamed, other-stays, together-part}
@@ -43,8 +43,8 @@ pub record IsBareCall (legs : List Leg) (calls : List CallRec) (c : CallRec) (w 
   pub work : c.work ≡ Some w.lsp
   pub leg : find_leg w.lsp legs ≡ Some w
 
--- These legs and calls stand when the rule is carried out; s is what it reads. A call that is put in its place among
--- those of s is then found as if it were put among these.
+-- These legs and calls stand when the rule is carried out. s is what it reads; a call that it puts in its place there is
+-- in the same place among these calls.
 module _ (p : LocalNode) (s : NodeState) (legs : List Leg) (calls : List CallRec) (c : CallRec) (w : Leg)
     (leg_part : LegPart p.id.0 s.lsp legs) (call_part : CallPart p.id.0 s.lsp legs calls)
     (bare : IsBareCall legs calls c w) (rise : CallsRise s.calls)
@@ -105,6 +105,7 @@ module _ (p : LocalNode) (s : NodeState) (legs : List Leg) (calls : List CallRec
           state = rw live refl;
           work = fit.work;
           back = tt;
+          guards = λ x b h is_work is_back there. absurd (cc is_back);
           work_reports = fit.work_reports;
           back_reports = refl;
         }));
@@ -133,8 +134,7 @@ module _ (p : LocalNode) (s : NodeState) (legs : List Leg) (calls : List CallRec
     found : find_leg l legs' ≡ Some g
     found = rw (becomes l, same_lsp-refl l) refl
 
-    unnamed : (m : CallNo) (e : CallRec) (x : Lsp) → find_call m calls ≡ Some e → names x e ≡ true →
-        same_lsp l x ≡ false
+    unnamed : (m : CallNo) (e : CallRec) (x : Lsp) → find_call m calls ≡ Some e → names x e ≡ true → same_lsp l x ≡ false
     unnamed = new-unnamed p.id.0 s.lsp legs calls l refl call_part
 
     work-stays : (m : Lsp) → c.work ≡ Some m → find_leg m legs' ≡ find_leg m legs
@@ -157,6 +157,13 @@ module _ (p : LocalNode) (s : NodeState) (legs : List Leg) (calls : List CallRec
             number = omega arith;
             leg = (g, found, refl, egress);
           };
+          guards = λ x b h is_work is_back there'.
+              (let first_work : w.lsp ≡ x = (let at_work = bare.work in cc (at_work, is_work)) in
+              let own : l ≡ b = cc is_back in
+              let there'' : find_leg l legs' ≡ Some h = subst (λ k. find_leg k legs' ≡ Some h) (sym own) there' in
+              let one : g ≡ h = cc (found, there'') in
+              subst (λ (k : Leg). GuardsWork x b k.path_role) one (subst (λ k. GuardsWork x k g.path_role) own
+              (subst (λ k. GuardsWork k l g.path_role) first_work refl)));
           work_reports = fit.work_reports;
           back_reports = refl;
         }

@@ -56,11 +56,11 @@ facts-start t = record {
 -- A rule is carried out at a node
 
 keeps-commit : (t : Network) (s : Mesh) (n : NodeId) (a : Answer) → NodeFacts n.0 (changed (s.nodes n.0) a) →
-    AreBacked t n a.calls → AreRowsOf t (changed (s.nodes n.0) a).learnt → MeshFacts t s → MeshFacts t (commit s n.0 a)
+    AreBacked t a.calls → AreRowsOf t (changed (s.nodes n.0) a).learnt → MeshFacts t s → MeshFacts t (commit s n.0 a)
 keeps-commit t s n a here calls rows facts = record {
   node = λ m. each m (nat_eq m n.0) refl;
   desk = facts.desk;
-  backed = λ m. backed m (nat_eq m.0 n.0) refl;
+  backed = λ m. backed m (nat_eq m n.0) refl;
   learnt = λ m. learnt m (nat_eq m n.0) refl;
 }
   where
@@ -72,11 +72,9 @@ keeps-commit t s n a here calls rows facts = record {
     same-node : (m : NodeId) → nat_eq m.0 n.0 ≡ true → n ≡ m
     same-node m e = let is : n.0 ≡ m.0 = grind arith in λ i. record { 0 = is i }
 
-    backed : (m : NodeId) (b : Bool) → nat_eq m.0 n.0 ≡ b →
-        CallsBacked t m (cond b (changed (s.nodes m.0) a) (s.nodes m.0)).calls
-    backed m true e =
-        backed-after t m a.calls (s.nodes m.0).calls (subst (λ k. AreBacked t k a.calls) (same-node m e) calls)
-        (facts.backed m)
+    backed : (m : ℕ) (b : Bool) → nat_eq m n.0 ≡ b →
+        CallsBacked t (cond b (changed (s.nodes m) a) (s.nodes m)).calls
+    backed m true e = backed-after t a.calls (s.nodes m).calls calls (facts.backed m)
     backed m false e = facts.backed m
 
     each : (m : ℕ) (b : Bool) → nat_eq m n.0 ≡ b → NodeFacts m (cond b (changed (s.nodes m) a) (s.nodes m))
@@ -104,14 +102,14 @@ keeps-first_item p s (i ∷ items) facts = keeps-on_item p s i facts
 
 -- the calls that these put in their places can be backed
 module _ (t : Network) (n : NodeId) (p : LocalNode) (s : NodeState) (facts : NodeFacts n.0 s)
-    (backed : CallsBacked t n s.calls) where
-  backs-first : (u : NodeId) (ms : List Msg) → AreBacked t n (on_first p s u ms).calls
+    (backed : CallsBacked t s.calls) where
+  backs-first : (u : NodeId) (ms : List Msg) → AreBacked t (on_first p s u ms).calls
   backs-first u [] = tt
-  backs-first u (m ∷ ms) = backs-message t n p s facts.calls_rise backed u m
+  backs-first u (m ∷ ms) = backs-message t p s facts.calls_rise backed u m
 
-  backs-first_item : (items : List DeskItem) → DeskFits t n.0 items → AreBacked t n (on_first_item p s items).calls
+  backs-first_item : (items : List DeskItem) → DeskFits t n.0 items → AreBacked t (on_first_item p s items).calls
   backs-first_item [] fits = tt
-  backs-first_item (i ∷ items) fits = backs-item t n p s facts.calls_rise backed i fits.0
+  backs-first_item (i ∷ items) fits = backs-item t n.0 p s facts.calls_rise backed i fits.0
 
 -- Desks
 
@@ -194,11 +192,10 @@ keeps-link : (p : LocalNode) (s : NodeState) (o : Option LinkSpec) → NodeFacts
 keeps-link p s None facts = facts
 keeps-link p s (Some l) facts = keeps-row p s (row_of l) facts
 
-backs-link : (t : Network) (n : NodeId) (p : LocalNode) (s : NodeState) (o : Option LinkSpec) →
-    AreBacked t n (on_link p s o).calls
-backs-link t n p s None = tt
-backs-link t n p s (Some l) =
-    if_cases (λ a. AreBacked t n a.calls) (has_row (known_rows p s) l.id) nothing (learns (row_of l)) (λ known. tt)
+backs-link : (t : Network) (p : LocalNode) (s : NodeState) (o : Option LinkSpec) → AreBacked t (on_link p s o).calls
+backs-link t p s None = tt
+backs-link t p s (Some l) =
+    if_cases (λ a. AreBacked t a.calls) (has_row (known_rows p s) l.id) nothing (learns (row_of l)) (λ known. tt)
     (λ none. tt)
 
 true-link : (t : Network) (p : LocalNode) (s : NodeState) (k : LinkId) (o : Option LinkSpec) → find_link t k ≡ o →
@@ -213,15 +210,14 @@ pub facts-step : (t : Network) (s : Mesh) (e : MeshEvent) → is_enabled t s e �
 facts-step t s (Take d u) enabled facts =
     keeps-commit t (without_first s u.0 d.0) d (on_first (local_node t d) (s.nodes d.0) u (s.mail u.0 d.0))
     (keeps-first (local_node t d) (s.nodes d.0) u (s.mail u.0 d.0) (facts.node d.0))
-    (backs-first t d (local_node t d) (s.nodes d.0) (facts.node d.0) (facts.backed d) u (s.mail u.0 d.0))
+    (backs-first t d (local_node t d) (s.nodes d.0) (facts.node d.0) (facts.backed d.0) u (s.mail u.0 d.0))
     (same-rows_true t (s.nodes d.0) (on_first (local_node t d) (s.nodes d.0) u (s.mail u.0 d.0))
     (first-learns_nothing (local_node t d) (s.nodes d.0) u (s.mail u.0 d.0)) (facts.learnt d.0))
     (record { node = facts.node; desk = facts.desk; backed = facts.backed; learnt = facts.learnt })
 facts-step t s (Desk n) enabled facts =
     keeps-commit t (without_item s n.0) n (on_first_item (local_node t n) (s.nodes n.0) (s.desks n.0))
     (keeps-first_item (local_node t n) (s.nodes n.0) (s.desks n.0) (facts.node n.0))
-    (backs-first_item t n (local_node t n) (s.nodes n.0) (facts.node n.0) (facts.backed n) (s.desks n.0)
-    (facts.desk n.0))
+    (backs-first_item t n (local_node t n) (s.nodes n.0) (facts.node n.0) (facts.backed n.0) (s.desks n.0) (facts.desk n.0))
     (same-rows_true t (s.nodes n.0) (on_first_item (local_node t n) (s.nodes n.0) (s.desks n.0))
     (first_item-learns_nothing (local_node t n) (s.nodes n.0) (s.desks n.0)) (facts.learnt n.0))
     (without_item-facts t s n.0 facts)
@@ -230,7 +226,7 @@ facts-step t s (Tick n) enabled facts =
 facts-step t s (Learn n k) enabled facts =
     keeps-commit t s n (on_link (local_node t n) (s.nodes n.0) (find_link t k))
     (keeps-link (local_node t n) (s.nodes n.0) (find_link t k) (facts.node n.0))
-    (backs-link t n (local_node t n) (s.nodes n.0) (find_link t k))
+    (backs-link t (local_node t n) (s.nodes n.0) (find_link t k))
     (true-link t (local_node t n) (s.nodes n.0) k (find_link t k) refl (facts.learnt n.0)) facts
 facts-step t s (Post c) enabled facts =
     keeps-posted t s c (both_left (is_valid t c) (not (is_again s.posted c)) enabled) facts

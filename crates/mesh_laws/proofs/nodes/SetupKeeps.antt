@@ -40,7 +40,14 @@ module _ (p : LocalNode) (s : NodeState) (w : SetupRequest) (away : nat_eq w.egr
       node_facts p.id.0 (changed s (refused_setup w cause)) (leg_part p.id.0 s facts)
       (lone-part p.id.0 s.lsp c s.legs s.calls (with_call c s.calls) (rise-with_call c s.calls facts.calls_rise)
       (find-with_call c s.calls) unknown refl refl
-      (record { state = refl; work = tt; back = tt; work_reports = refl; back_reports = refl })
+      (record {
+        state = refl;
+        work = tt;
+        back = tt;
+        guards = λ x b h is_work is_back there. absurd (cc is_back);
+        work_reports = refl;
+        back_reports = refl;
+      })
       (call_part p.id.0 s facts))
 
   -- It is asked for
@@ -71,6 +78,7 @@ module _ (p : LocalNode) (s : NodeState) (w : SetupRequest) (away : nat_eq w.egr
           state = rw there refl;
           work = record { ingress = refl; number = omega arith; leg = (g, found, refl, refl) };
           back = tt;
+          guards = λ x b h is_work is_back there'. absurd (cc is_back);
           work_reports = refl;
           back_reports = refl;
         }
@@ -119,8 +127,8 @@ module _ (p : LocalNode) (s : NodeState) (w : SetupRequest) (away : nat_eq w.egr
   keeps-new_call None = keeps-over_found (least_trip (known_rows p s) p.id w.egress)
   keeps-new_call (Some route) = keeps-over_first route (first_link p route)
 
-pub keeps-setup : (p : LocalNode) (s : NodeState) (w : SetupRequest) (o : Option CallRec) →
-    find_call w.call s.calls ≡ o → NodeFacts p.id.0 s → Keeps p s (setup_with p s w o)
+pub keeps-setup : (p : LocalNode) (s : NodeState) (w : SetupRequest) (o : Option CallRec) → find_call w.call s.calls ≡ o →
+    NodeFacts p.id.0 s → Keeps p s (setup_with p s w o)
 keeps-setup p s w (Some c) is facts = facts
 keeps-setup p s w None is facts =
     if_cases (Keeps p s) (is_order_here p w) _ _

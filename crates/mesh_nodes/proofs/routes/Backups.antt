@@ -115,7 +115,7 @@ module _ (rows : List TeRow) (primary : List Step) (from to : NodeId) where
   abbrev backups : List Trip
   backups = filter (λ r. is_backup rows primary from to r.steps) (trips rows MOST_LINKS_OF_ROUTE from to)
 
-  backup-is : (r : Trip) → Contains backups r → IsBackup rows primary from to r.steps r.cost
+  pub backup-is : (r : Trip) → Contains backups r → IsBackup rows primary from to r.steps r.cost
   backup-is r there =
       let kept = contains-unkept (λ x. is_backup rows primary from to x.steps)
       (trips rows MOST_LINKS_OF_ROUTE from to) r there in

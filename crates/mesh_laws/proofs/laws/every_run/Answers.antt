@@ -1,4 +1,5 @@
 use Rattle.mesh_laws.proofs.EveryRun.{laws_hold}
+use Rattle.mesh_laws.proofs.hops.Beside.{every_backup_beside}
 use Rattle.mesh_laws.proofs.hops.Joined.{every_call_joined}
 use Rattle.mesh_laws.proofs.hops.Laws.{every_hop}
 use Rattle.mesh_laws.proofs.hops.Recorded.{every_backup_records}
@@ -30,6 +31,9 @@ returns-clause-learnt c = every_learnt_row
 
 pub returns-clause-searchable : goal.returns-clause-searchable
 returns-clause-searchable c = every_search
+
+pub returns-clause-beside : goal.returns-clause-beside
+returns-clause-beside c = every_backup_beside
 
 pub returns-clause-risks : goal.returns-clause-risks
 returns-clause-risks c = every_backup_records

@@ -1,4 +1,5 @@
 use Rattle.mesh_nodes.proofs.routes.Backups.{least_backup-least, least_backup-once, no_backup-none}
+use Rattle.mesh_nodes.proofs.routes.Beside.{found-beside}
 use Rattle.mesh_nodes.proofs.routes.Found.{least_trip-least, least_trip-once, no_trip-none}
 use Rattle.mesh_nodes.proofs.routes.Nodes.{found-backups-lead, found-followed, found-leads}
 use Rattle.mesh_nodes.proofs.routes.Topologies.{new-rows}
@@ -18,6 +19,9 @@ returns-clause-leads c = found-leads
 
 pub returns-clause-backup_leads : goal.returns-clause-backup_leads
 returns-clause-backup_leads c = found-backups-lead
+
+pub returns-clause-backup_beside : goal.returns-clause-backup_beside
+returns-clause-backup_beside c = found-beside
 
 pub returns-clause-backup : goal.returns-clause-backup
 returns-clause-backup c = least_backup-least

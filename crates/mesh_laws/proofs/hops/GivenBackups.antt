@@ -1,0 +1,246 @@
+-- The backup route that a call was given stands beside the route of its working LSP, in every state of every run.
+use Rattle.std.proofs.Common.{◌≡◌, ◌<◌, ◌⊎◌, inl, inr, ℕ, Bool, true, false, cond, nat_eq, nat_lt, List, [], ◌∷◌, drop, length, refl, sym, ap, ◌∙◌, subst, arith}
+use Rattle.std.specs.Prelude.{◌&&◌, Option, Some, None}
+use Rattle.ason_base.specs.Network.{Network, find_link, row_of}
+use Rattle.ason_base.specs.Routes.{is_beside}
+use Rattle.ason_base.specs.declared.ids.Lsp.{Lsp}
+use Rattle.ason_base.specs.declared.ids.NodeId.{NodeId}
+use Rattle.ason_base.specs.declared.steps.Step.{Step}
+use Rattle.ason_base.specs.declared.network.LinkSpec.{LinkSpec}
+use Rattle.ason_base.specs.declared.commands.Command.{Command}
+use Rattle.ason_base.specs.declared.commands.Command.TheVariants.{Setup, Release, Protect, Retry, Revert, Fail, Repair}
+use Rattle.ason_base.specs.declared.commands.DeskItem.{DeskItem}
+use Rattle.ason_base.specs.declared.commands.DeskItem.TheVariants.{Order, Alarm, Clear}
+use Rattle.ason_base.specs.declared.messages.Msg.{Msg}
+use Rattle.ason_base.specs.declared.tables.CallRec.{CallRec}
+use Rattle.mesh_rules.specs.declared.events.MeshEvent.{MeshEvent}
+use Rattle.mesh_rules.specs.declared.events.MeshEvent.TheVariants.{Take, Desk, Tick, Learn, Post}
+use Rattle.mesh_rules.specs.Calls.{find_call}
+use Rattle.mesh_rules.specs.Changes.{Answer, changed, learns, nothing}
+use Rattle.mesh_rules.specs.Commands.{has_backup_way, is_valid}
+use Rattle.mesh_rules.specs.Events.{first_route, on_first, on_first_item, or_route, posted, sent_at_ingress, step}
+use Rattle.mesh_rules.specs.FirstLegs.{first_link}
+use Rattle.mesh_rules.specs.KnownRows.{has_row, known_rows}
+use Rattle.mesh_rules.specs.Learnt.{on_link}
+use Rattle.mesh_rules.specs.LocalNodes.{LocalNode, local_node, own_link}
+use Rattle.mesh_rules.specs.Machine.{Mesh, commit, without_first, without_item}
+use Rattle.mesh_rules.specs.Orders.{on_item}
+use Rattle.mesh_rules.specs.Setups.{SetupRequest, begins, is_order_here, next_lsp, setup_with}
+use Rattle.mesh_rules.specs.State.{NodeState}
+use Rattle.mesh_nodes.specs.Order.{CallsRise}
+use Rattle.mesh_nodes.proofs.Cases.{both_left, both_right, if_cases}
+use Rattle.mesh_nodes.proofs.LegList.{same_lsp-refl}
+use Rattle.mesh_laws.proofs.nodes.CallsHold.{ArePut, EachCall, IsSameCall, each-after, message-holds, protect-holds, release-holds, setup-holds}
+use Rattle.mesh_laws.proofs.hops.Plans.{found_id, same, same_node}
+use Rattle.mesh_laws.proofs.hops.Planned.{Routes, Follows, EachFollows, Grow}
+use Rattle.mesh_laws.proofs.hops.Begun.{grown, grown-grow}
+
+-- where the call has a working LSP, which went over a route, and was given a backup route
+abbrev pub GivenBeside : Network → Routes → NodeId → CallRec → Type 0
+GivenBeside t o n c =
+    (l : Lsp) (backup : List Step) → c.work ≡ Some l → c.backup ≡ Some backup →
+    (route : List Step) × (o l ≡ Some route) × (is_beside t n c.egress (Some route) backup ≡ true)
+
+abbrev pub EachGivenBeside : Network → Mesh → Routes → Type 0
+EachGivenBeside t s o = (n : NodeId) → EachCall (GivenBeside t o n) (s.nodes n.0).calls
+
+-- What was sent first stays, and so does what a call was given
+
+still-beside : (t : Network) (o o' : Routes) (n : NodeId) → Grow o o' → (c d : CallRec) → IsSameCall c d →
+    GivenBeside t o n c → GivenBeside t o' n d
+still-beside t o o' n grow c d is beside l backup work given = elim is.work [
+  | inl same_work ↦
+      (let b = beside l backup (sym same_work ∙ work) (sym is.backup ∙ given) in
+      (b.0, grow l b.0 b.1, rw is.egress b.2))
+  | inr none ↦ absurd (cc (none, work))
+]
+
+same-call : (c : CallRec) → IsSameCall c c
+same-call c = record { egress = refl; protected = refl; backup = refl; work = inl refl }
+
+grown-beside : (t : Network) (s : Mesh) (o o' : Routes) → Grow o o' → EachGivenBeside t s o → EachGivenBeside t s o'
+grown-beside t s o o' grow each n k c found = still-beside t o o' n grow c c (same-call c) (each n k c found)
+
+-- an answer is carried out at the node n
+committed : (t : Network) (s : Mesh) (n : NodeId) (a : Answer) (o o' : Routes) → Grow o o' →
+    ArePut (GivenBeside t o' n) a.calls → EachGivenBeside t s o → EachGivenBeside t (commit s n.0 a) o'
+committed t s n a o o' grow put each m = go (nat_eq m.0 n.0) refl
+  where
+    go : (b : Bool) → nat_eq m.0 n.0 ≡ b →
+        EachCall (GivenBeside t o' m) (cond b (changed (s.nodes m.0) a) (s.nodes m.0)).calls
+    go true e =
+        let number : m.0 ≡ n.0 = grind arith in
+        let is : m ≡ n = same_node m n number in
+        each-after (GivenBeside t o' m) a.calls (s.nodes m.0).calls
+        (subst (λ x. ArePut (GivenBeside t o' x) a.calls) (sym is) put) (grown-beside t s o o' grow each m)
+    go false e = grown-beside t s o o' grow each m
+
+-- A setup
+
+-- the first step of the route is over this link of the node
+starts-with : (p : LocalNode) (route : List Step) (out : LinkSpec) → first_link p route ≡ Some out →
+    record { node = p.id; link = out.id } ∷ drop 1 route ≡ route
+starts-with p [] out first = absurd (cc first)
+starts-with p (hop ∷ further) out first =
+    go (nat_eq hop.node.0 p.id.0 && nat_lt (length further) 63) refl first
+  where
+    go : (b : Bool) → (nat_eq hop.node.0 p.id.0 && nat_lt (length further) 63) ≡ b →
+        cond b (own_link p hop.link) None ≡ Some out →
+        record { node = p.id; link = out.id } ∷ further ≡ hop ∷ further
+    go true e found =
+        let test : nat_eq hop.node.0 p.id.0 ≡ true = both_left _ (nat_lt (length further) 63) e in
+        let number : p.id.0 ≡ hop.node.0 = grind arith in
+        let node_is = same_node p.id hop.node number in
+        let link_is = found_id hop.link p.own out found in
+        λ i. record { node = node_is i; link = link_is i } ∷ further
+    go false e found = absurd (cc found)
+
+module _ (t : Network) (s : Mesh) (n : NodeId) (o : Routes) (f : EachFollows t s o) where
+  abbrev place : LocalNode
+  place = local_node t n
+
+  abbrev next : Lsp
+  next = next_lsp (local_node t n) (s.nodes n.0)
+
+  -- no LSP has the number that is given out next
+  unused : o (next_lsp (local_node t n) (s.nodes n.0)) ≡ None
+  unused = go (o next) refl (f next)
+    where
+      go : (c : Option (List Step)) → o next ≡ c → Follows t s o (next_lsp (local_node t n) (s.nodes n.0)) c →
+          o next ≡ None
+      go None is follow = is
+      go (Some route) is (e, q, pl) =
+          let below : (s.nodes n.0).lsp < (s.nodes n.0).lsp = pl.number in absurd (omega arith)
+
+  -- its first Path goes over the route
+  sent-over : (w : SetupRequest) (route : List Step) (out : LinkSpec) → first_link (local_node t n) route ≡ Some out →
+      grown n o (begins (local_node t n) (s.nodes n.0) w out (drop 1 route))
+      (next_lsp (local_node t n) (s.nodes n.0)) ≡ Some route
+  sent-over w route out first =
+      let answer = begins place (s.nodes n.0) w out (drop 1 route) in
+      let here : first_route next (cond (nat_eq n.0 n.0) answer.sent []) ≡
+      Some (record { node = n; link = out.id } ∷ drop 1 route) = rw (same n.0, same_lsp-refl next) refl in
+      ap (λ x. or_route x (first_route next (cond (nat_eq n.0 n.0) answer.sent []))) unused ∙ here ∙
+      ap Some (starts-with place route out first)
+
+  begun-beside : (w : SetupRequest) → w.from ≡ n → has_backup_way t w.from w.egress w.protected w.via w.backup ≡ true →
+      (route : List Step) (out : LinkSpec) → (w.via ≡ Some route) ⊎ (w.via ≡ None) →
+      first_link (local_node t n) route ≡ Some out → (l : Lsp) (backup : List Step) →
+      Some (next_lsp (local_node t n) (s.nodes n.0)) ≡ Some l → w.backup ≡ Some backup →
+      (r : List Step) × (grown n o (begins (local_node t n) (s.nodes n.0) w out (drop 1 route)) l ≡ Some r) ×
+      (is_beside t n w.egress (Some r) backup ≡ true)
+  begun-beside w from way route out over first l backup is given =
+      let own : next ≡ l = cc is in
+      let way' : has_backup_way t w.from w.egress w.protected w.via (Some backup) ≡ true = rw given at way in
+      let beside : is_beside t w.from w.egress w.via backup ≡ true = both_right w.protected _ way' in
+      elim over [
+        | inl via ↦ (
+          route,
+          subst (λ k. grown n o (begins place (s.nodes n.0) w out (drop 1 route)) k ≡ Some route) own
+              (sent-over w route out first),
+          subst (λ m. is_beside t m w.egress (Some route) backup ≡ true) from
+              (subst (λ v. is_beside t w.from w.egress v backup ≡ true) via beside),
+        )
+        | inr none ↦
+            absurd (let never = subst (λ v. is_beside t w.from w.egress v backup ≡ true) none beside in cc never)
+      ]
+
+  -- An item of a desk
+
+  module _ (rise : CallsRise (s.nodes n.0).calls) (each : EachGivenBeside t s o) where
+    abbrev Puts : Answer → Type 0
+    Puts a = ArePut (GivenBeside t (grown n o a) n) a.calls
+
+    keeps : (a : Answer) (c d : CallRec) → IsSameCall c d → GivenBeside t o n c → GivenBeside t (grown n o a) n d
+    keeps a c d is here = still-beside t o (grown n o a) n (grown-grow n o a) c d is here
+
+    setup-puts : (w : SetupRequest) → has_backup_way t w.from w.egress w.protected w.via w.backup ≡ true →
+        (known : Option CallRec) → Puts (setup_with (local_node t n) (s.nodes n.0) w known)
+    setup-puts w way known =
+        setup-holds place (s.nodes n.0) w (λ a. GivenBeside t (grown n o a) n)
+        (λ a cause l backup work given. absurd (cc work))
+        (λ route out over first ordered. begun-beside w (here ordered) way route out over first) known
+      where
+        here : is_order_here (local_node t n) w ≡ true → w.from ≡ n
+        here ordered =
+            let test : nat_eq w.from.0 n.0 ≡ true = both_left _ _ ordered in
+            let number : w.from.0 ≡ n.0 = grind arith in
+            same_node w.from n number
+
+    item-puts : (i : DeskItem) → ((c : Command) → i ≡ Order c → is_valid t c ≡ true) →
+        Puts (on_item (local_node t n) (s.nodes n.0) i)
+    item-puts (Order (Setup k from to protected both via backup)) valid =
+        setup-puts
+        (record { call = k; from = from; egress = to; protected = protected; both = both; via = via; backup = backup })
+        (both_right _ (has_backup_way t from to protected via backup) (valid _ refl))
+        (find_call k (s.nodes n.0).calls)
+    item-puts (Order (Release k from)) valid =
+        release-holds (GivenBeside t o n) _ (keeps (on_item place (s.nodes n.0) (Order (Release k from)))) place
+        (s.nodes n.0) rise (each n) from (find_call k (s.nodes n.0).calls)
+    item-puts (Order (Protect k from)) valid =
+        protect-holds (GivenBeside t o n) _ (keeps (on_item place (s.nodes n.0) (Order (Protect k from)))) place
+        (s.nodes n.0) rise (each n) k from (find_call k (s.nodes n.0).calls) refl
+    item-puts (Order (Retry k from)) valid = tt
+    item-puts (Order (Revert k from)) valid = tt
+    item-puts (Order (Fail g)) valid = tt
+    item-puts (Order (Repair g)) valid = tt
+    item-puts (Alarm g) valid = tt
+    item-puts (Clear g) valid = tt
+
+    first_item-puts : (items : List DeskItem) →
+        ((c : Command) (rest : List DeskItem) → items ≡ Order c ∷ rest → is_valid t c ≡ true) →
+        Puts (on_first_item (local_node t n) (s.nodes n.0) items)
+    first_item-puts [] valid = tt
+    first_item-puts (i ∷ items) valid = item-puts i (λ c is. valid c items (ap (λ j. j ∷ items) is))
+
+    -- whatever the routes grow to
+    first-puts : (u : NodeId) (ms : List Msg) (o' : Routes) → Grow o o' →
+        ArePut (GivenBeside t o' n) (on_first (local_node t n) (s.nodes n.0) u ms).calls
+    first-puts u [] o' grow = tt
+    first-puts u (m ∷ ms) o' grow =
+        message-holds (GivenBeside t o n) (GivenBeside t o' n) (still-beside t o o' n grow) place (s.nodes n.0) rise
+        (each n) u m
+
+-- Every event
+
+link-puts : (t : Network) (o : Routes) (n : NodeId) (p : LocalNode) (s : NodeState) (found : Option LinkSpec) →
+    ArePut (GivenBeside t o n) (on_link p s found).calls
+link-puts t o n p s None = tt
+link-puts t o n p s (Some l) =
+    if_cases (λ a. ArePut (GivenBeside t o n) a.calls) (has_row (known_rows p s) l.id) nothing (learns (row_of l))
+    (λ known. tt) (λ new. tt)
+
+posted-nodes : (s : Mesh) (c : Command) → (posted s c).nodes ≡ s.nodes
+posted-nodes s (Setup k from to protected both via backup) = refl
+posted-nodes s (Release k from) = refl
+posted-nodes s (Protect k from) = refl
+posted-nodes s (Retry k from) = refl
+posted-nodes s (Revert k from) = refl
+posted-nodes s (Fail g) = refl
+posted-nodes s (Repair g) = refl
+
+pub given-step : (t : Network) (s : Mesh) (e : MeshEvent) (o : Routes) → EachFollows t s o →
+    ((n : ℕ) → CallsRise (s.nodes n).calls) →
+    ((n : ℕ) (c : Command) (rest : List DeskItem) → s.desks n ≡ Order c ∷ rest → is_valid t c ≡ true) →
+    EachGivenBeside t s o →
+    EachGivenBeside t (step t s e) (λ l. or_route (o l) (first_route l (sent_at_ingress t s e l)))
+given-step t s (Take d u) o f rise valid each =
+    let o' : Routes = λ l. or_route (o l) (first_route l (sent_at_ingress t s (Take d u) l)) in
+    let grow : Grow o o' = λ l route sent. rw sent refl in
+    committed t (without_first s u.0 d.0) d (on_first (local_node t d) (s.nodes d.0) u (s.mail u.0 d.0)) o o' grow
+    (first-puts t s d o f (rise d.0) each u (s.mail u.0 d.0) o' grow) each
+given-step t s (Desk n) o f rise valid each =
+    let a = on_first_item (local_node t n) (s.nodes n.0) (s.desks n.0) in
+    committed t (without_item s n.0) n a o (grown n o a) (grown-grow n o a)
+    (first_item-puts t s n o f (rise n.0) each (s.desks n.0) (valid n.0)) each
+given-step t s (Tick n) o f rise valid each =
+    let o' : Routes = λ l. or_route (o l) (first_route l (sent_at_ingress t s (Tick n) l)) in
+    committed t s n nothing o o' (λ l route sent. rw sent refl) tt each
+given-step t s (Learn n k) o f rise valid each =
+    let o' : Routes = λ l. or_route (o l) None in
+    committed t s n (on_link (local_node t n) (s.nodes n.0) (find_link t k)) o o' (λ l route sent. rw sent refl)
+    (link-puts t o' n (local_node t n) (s.nodes n.0) (find_link t k)) each
+given-step t s (Post c) o f rise valid each =
+    let o' : Routes = λ l. or_route (o l) None in
+    subst (λ (nodes : ℕ → NodeState). (n : NodeId) → EachCall (GivenBeside t o' n) (nodes n.0).calls)
+    (sym (posted-nodes s c)) (grown-beside t s o o' (λ l route sent. rw sent refl) each)

@@ -1,0 +1,282 @@
+-- What holds of each call of a node after a rule, where it holds of a call by what was asked for and by its working
+-- LSP.
+use Rattle.std.proofs.Common.{true, ◌⊎◌, inl, inr, ◌≡◌, ℕ, not, nat_eq, List, [], ◌∷◌, refl, subst}
+use Rattle.std.specs.Prelude.{◌&&◌, Option, Some, None, is_some, nat_lt, drop}
+use Rattle.std.specs.List.{AllByRecursion}
+use Rattle.ason_base.specs.declared.calls.Cause.{Cause}
+use Rattle.ason_base.specs.declared.calls.CallState.TheVariants.{Asking, Blocked}
+use Rattle.ason_base.specs.declared.calls.Cause.TheVariants.{Code, Full, NoBackup, NoRoute, Spent, Unset}
+use Rattle.ason_base.specs.declared.codes.ErrCode.{ErrCode}
+use Rattle.ason_base.specs.declared.ids.CallNo.{CallNo}
+use Rattle.ason_base.specs.declared.ids.Lsp.{Lsp}
+use Rattle.ason_base.specs.declared.ids.NodeId.{NodeId}
+use Rattle.ason_base.specs.declared.messages.Msg.{Msg}
+use Rattle.ason_base.specs.declared.messages.Msg.TheVariants.{Path, Resv, PathTear, PathErr, Notify}
+use Rattle.ason_base.specs.declared.network.LinkSpec.{LinkSpec}
+use Rattle.ason_base.specs.declared.risks.Risk.{Risk}
+use Rattle.ason_base.specs.declared.steps.Step.{Step}
+use Rattle.ason_base.specs.declared.tables.CallRec.{CallRec}
+use Rattle.ason_base.specs.declared.tables.Leg.{Leg}
+use Rattle.ason_base.specs.declared.tables.Out.{Out}
+use Rattle.ason_base.specs.Labels.{least}
+use Rattle.ason_base.specs.Risks.{unknown_link}
+use Rattle.mesh_rules.specs.declared.arrivals.Arrival.{Arrival}
+use Rattle.mesh_rules.specs.declared.changes.CallChange.{CallChange}
+use Rattle.mesh_rules.specs.declared.changes.CallChange.TheVariants.{Goes, Put}
+use Rattle.mesh_rules.specs.declared.limits.TheConstants.{LAST_NUMBER}
+use Rattle.mesh_rules.specs.declared.neighbours.Neighbour.{Neighbour}
+use Rattle.mesh_rules.specs.CallSteps.{call_answered, call_refused}
+use Rattle.mesh_rules.specs.Calls.{bare, blocked, call_changed, call_with, calls_changed, find_call, guarded, is_asking, is_bare, is_pairing, pairing, unbacked, with_call, without_call}
+use Rattle.mesh_rules.specs.Changes.{Answer}
+use Rattle.mesh_rules.specs.FirstLegs.{first_link, is_full}
+use Rattle.mesh_rules.specs.KnownRows.{known_rows}
+use Rattle.mesh_rules.specs.LeastRoutes.{Trip, least_trip}
+use Rattle.mesh_rules.specs.Legs.{find_leg, following, is_asked, is_closing, is_node, is_over, is_work, leg_of, previous}
+use Rattle.mesh_rules.specs.LocalNodes.{LocalNode, leads, own_link}
+use Rattle.mesh_rules.specs.Messages.{arrival, on_message}
+use Rattle.mesh_rules.specs.Pairs.{beside_lsp, admitted_backup, backup_route, over_backup, pair, pair_over, route_from}
+use Rattle.mesh_rules.specs.PathErrs.{PathFailure, err_passed, path_err_with}
+use Rattle.mesh_rules.specs.Paths.{PathRequest, admitted, at_egress, checks, first_failure, first_path, in_transit, is_active, judged, offered_labels, path_with, risks_here}
+use Rattle.mesh_rules.specs.Protects.{protect_with, protects}
+use Rattle.mesh_rules.specs.Releases.{release_with, tears}
+use Rattle.mesh_rules.specs.Resvs.{answered, is_expected, label_back, labels_left, passed_back, resv_with}
+use Rattle.mesh_rules.specs.Setups.{SetupRequest, begins, call_record, next_lsp, refused_setup, is_order_here, is_spent, new_call, over_first, over_found, setup_with}
+use Rattle.mesh_rules.specs.State.{NodeState}
+use Rattle.mesh_rules.specs.Tears.{tear_with, torn}
+use Rattle.mesh_nodes.specs.Order.{CallsRise}
+use Rattle.mesh_nodes.proofs.Cases.{if_cases}
+use Rattle.mesh_nodes.proofs.CallList.{called-found, find-with_call, find-without_call}
+use Rattle.mesh_laws.proofs.nodes.CallParts.{found-call}
+
+-- A call that a rule puts in the place of this one: the same was asked for, and it has the same working LSP or none.
+pub record IsSameCall (c d : CallRec) : Type 0 where
+  pub egress : d.egress ≡ c.egress
+  pub protected : d.protected ≡ c.protected
+  pub backup : d.backup ≡ c.backup
+  pub work : (d.work ≡ c.work) ⊎ (d.work ≡ None)
+
+-- Calls that change
+
+abbrev IsPut : (CallRec → Type 0) → CallChange → Type 0
+IsPut P (Goes k) = Unit {0}
+IsPut P (Put c) = P c
+
+-- so it is with the calls that are put in their places
+abbrev pub ArePut : (CallRec → Type 0) → List CallChange → Type 0
+ArePut P cs = AllByRecursion (IsPut P) cs
+
+abbrev pub EachCall : (CallRec → Type 0) → List CallRec → Type 0
+EachCall P calls = (k : CallNo) (c : CallRec) → find_call k calls ≡ Some c → P c
+
+each-change : (P : CallRec → Type 0) (x : CallChange) (calls : List CallRec) → IsPut P x → EachCall P calls →
+    EachCall P (call_changed x calls)
+each-change P (Goes m) calls here each k d found =
+    found-call (P d) m k None d calls (without_call m calls) (find-without_call m calls) found
+    (λ e is. absurd (cc is)) (λ e there. each k d there)
+each-change P (Put c) calls here each k d found =
+    found-call (P d) c.call k (Some c) d calls (with_call c calls) (find-with_call c calls) found
+    (λ e is. let one : c ≡ d = cc is in subst P one here) (λ e there. each k d there)
+
+pub each-after : (P : CallRec → Type 0) (cs : List CallChange) (calls : List CallRec) → ArePut P cs →
+    EachCall P calls → EachCall P (calls_changed cs calls)
+each-after P [] calls here each = each
+each-after P (x ∷ cs) calls here each =
+    each-after P cs (call_changed x calls) here.1 (each-change P x calls here.0 each)
+
+-- P holds of each call before the rule, and R of those that the rule puts in their places
+module _ (P R : CallRec → Type 0) (keeps : (c d : CallRec) → IsSameCall c d → P c → R d) (p : LocalNode)
+    (s : NodeState) (rise : CallsRise s.calls) (each : EachCall P s.calls) where
+  abbrev Holds : Answer → Type 0
+  Holds a = ArePut R a.calls
+
+  stays : (c d : CallRec) → d.egress ≡ c.egress → d.protected ≡ c.protected → d.backup ≡ c.backup →
+      d.work ≡ c.work → P c → R d × Unit {0}
+  stays c d egress protected backup work here =
+      (keeps c d (record { egress = egress; protected = protected; backup = backup; work = inl work }) here, tt)
+
+  blocks : (c : CallRec) (cause : Cause) → P c → R (blocked c cause) × Unit {0}
+  blocks c cause here =
+      (keeps c (blocked c cause) (record { egress = refl; protected = refl; backup = refl; work = inr refl }) here, tt)
+
+  -- A backup is asked for
+
+  holds-admitted : (c : CallRec) (w : Leg) (out : LinkSpec) (route : List Step) → P c →
+      Holds (admitted_backup p s c w out route)
+  holds-admitted c w out route here =
+      if_cases Holds (nat_lt LAST_NUMBER s.lsp) _ _ (λ e. stays c (unbacked c Spent) refl refl refl refl here)
+      (λ e. if_cases Holds (is_full s) _ _ (λ f. stays c (unbacked c Full) refl refl refl refl here)
+      (λ f. stays c (pairing c (beside_lsp w.lsp s.lsp)) refl refl refl refl here))
+
+  holds-over : (c : CallRec) (w : Leg) (route : List Step) (o : Option LinkSpec) → P c →
+      Holds (over_backup p s c w route o)
+  holds-over c w route None here = stays c (unbacked c NoBackup) refl refl refl refl here
+  holds-over c w route (Some out) here = holds-admitted c w out (drop 1 route) here
+
+  holds-pair_over : (c : CallRec) (w : Leg) (o : Option (List Step)) → P c → Holds (pair_over p s c w o)
+  holds-pair_over c w None here = stays c (unbacked c NoBackup) refl refl refl refl here
+  holds-pair_over c w (Some route) here = holds-over c w route (first_link p route) here
+
+  holds-pair : (c : CallRec) (w : Leg) → P c → Holds (pair p s c w)
+  holds-pair c w here =
+      if_cases Holds (is_some (unknown_link (known_rows p s) (route_from p w))) _ _
+      (λ e. stays c (unbacked c NoBackup) refl refl refl refl here)
+      (λ e. holds-pair_over c w (backup_route p s c w) here)
+
+  -- Messages
+
+  called : (l : Lsp) (c : CallRec) → call_with l s.calls ≡ Some c → P c
+  called l c is = each c.call c (called-found l s.calls c rise is)
+
+  holds-call_answered : (g : Leg) (o : Option CallRec) → call_with g.lsp s.calls ≡ o → Holds (call_answered p s g o)
+  holds-call_answered g None is = tt
+  holds-call_answered g (Some c) is =
+      let here = called g.lsp c is in
+      if_cases Holds (is_work g.role) _ _
+      (λ e. if_cases Holds (is_asking c.state) _ _
+      (λ e. if_cases Holds c.protected _ _ (λ e. holds-pair c g here)
+      (λ e. stays c (bare c) refl refl refl refl here)) (λ e. tt))
+      (λ e. if_cases Holds (is_pairing c.state) _ _ (λ e. stays c (guarded c) refl refl refl refl here)
+      (λ e. tt))
+
+  holds-call_refused : (code : ErrCode) (g : Leg) (o : Option CallRec) → call_with g.lsp s.calls ≡ o →
+      Holds (call_refused code g o)
+  holds-call_refused code g None is = tt
+  holds-call_refused code g (Some c) is =
+      let here = called g.lsp c is in
+      if_cases Holds (is_work g.role) _ _
+      (λ e. if_cases Holds (is_asking c.state) _ _ (λ e. blocks c (Code code) here)
+      (λ e. tt))
+      (λ e. if_cases Holds (is_pairing c.state) _ _ (λ e. stays c (unbacked c (Code code)) refl refl refl refl here)
+      (λ e. tt))
+
+  holds-passed_back : (a : Arrival) (g : Leg) (h : Neighbour) (x : ℕ) (o : Option ℕ) → Holds (passed_back p a g h x o)
+  holds-passed_back a g h x None = tt
+  holds-passed_back a g h x (Some y) = tt
+
+  holds-answered : (a : Arrival) (x : ℕ) (g : Leg) (o : Option Neighbour) → Holds (answered p s a x g o)
+  holds-answered a x g None = holds-call_answered g (call_with g.lsp s.calls) refl
+  holds-answered a x g (Some h) = holds-passed_back a g h x (label_back p (labels_left p s g h) x)
+
+  holds-resv : (a : Arrival) (x : ℕ) (o : Option Leg) → Holds (resv_with p s a x o)
+  holds-resv a x None = tt
+  holds-resv a x (Some g) =
+      if_cases Holds (is_expected a x g) _ _ (λ e. holds-answered a x g (previous g)) (λ e. tt)
+
+  holds-err_passed : (g : Leg) (e : PathFailure) (o : Option Neighbour) → Holds (err_passed s g e o)
+  holds-err_passed g e None = holds-call_refused e.code g (call_with g.lsp s.calls) refl
+  holds-err_passed g e (Some h) = tt
+
+  holds-err : (u : NodeId) (e : PathFailure) (o : Option Leg) → Holds (path_err_with s u e o)
+  holds-err u e None = tt
+  holds-err u e (Some g) =
+      if_cases Holds (e.removed && is_node (following g) u) _ _
+      (λ h. if_cases Holds (is_asked g.phase) _ _ (λ h. holds-err_passed g e (previous g))
+      (λ h. if_cases Holds (is_closing g.phase) _ _ (λ h. tt) (λ h. tt)))
+      (λ h. tt)
+
+  holds-torn : (g : Leg) (answer : Out) (o : Option Neighbour) → Holds (torn g answer o)
+  holds-torn g answer None = tt
+  holds-torn g answer (Some h) = tt
+
+  holds-tear : (a : Arrival) (o : Option Leg) → Holds (tear_with p a o)
+  holds-tear a None = tt
+  holds-tear a (Some g) =
+      if_cases Holds (not (is_closing g.phase) && is_over (previous g) a.from a.link) _ _
+      (λ e. holds-torn g _ (following g)) (λ e. tt)
+
+  holds-at_egress : (m : PathRequest) (link : LinkSpec) (risks : List Risk) (offered : List ℕ) (o : Option ℕ) →
+      Holds (at_egress p m link risks offered o)
+  holds-at_egress m link risks offered None = tt
+  holds-at_egress m link risks offered (Some x) = tt
+
+  holds-in_transit : (m : PathRequest) (link : LinkSpec) (risks : List Risk) (route : List Step) (offered : List ℕ)
+      (o : Option LinkSpec) → Holds (in_transit p m link risks route offered o)
+  holds-in_transit m link risks route offered None = tt
+  holds-in_transit m link risks route offered (Some out) = tt
+
+  holds-admitted_path : (m : PathRequest) (link : LinkSpec) (risks : List Risk) (offered : List ℕ) (route : List Step) →
+      Holds (admitted p m link risks offered route)
+  holds-admitted_path m link risks offered [] = holds-at_egress m link risks offered (least offered)
+  holds-admitted_path m link risks offered (hop ∷ route) =
+      holds-in_transit m link risks route offered (own_link p hop.link)
+
+  holds-judged : (m : PathRequest) (link : LinkSpec) (o : Option ErrCode) → Holds (judged p s m link o)
+  holds-judged m link (Some code) = tt
+  holds-judged m link None = holds-admitted_path m link (risks_here p s m) (offered_labels p s m link) m.route
+
+  holds-first_path : (m : PathRequest) (o : Option LinkSpec) → Holds (first_path p s m o)
+  holds-first_path m None = tt
+  holds-first_path m (Some link) =
+      if_cases Holds
+      (not (is_active m.role) && (leads (Some link) m.arrival.from p.id
+      && not (nat_eq m.arrival.lsp.ingress.0 p.id.0))) _ _
+      (λ h. holds-judged m link (first_failure (checks p s m link))) (λ h. tt)
+
+  holds-path : (m : PathRequest) (o : Option Leg) → Holds (path_with p s m o)
+  holds-path m None = holds-first_path m (own_link p m.arrival.link)
+  holds-path m (Some g) = tt
+
+  pub message-holds : (u : NodeId) (m : Msg) → Holds (on_message p s u m)
+  message-holds u (Path l e k route set up r) =
+      holds-path (record { arrival = arrival l e u k; route = route; set = set; role = r }) (find_leg l s.legs)
+  message-holds u (Resv l e k x) = holds-resv (arrival l e u k) x (find_leg l s.legs)
+  message-holds u (PathTear l e k) = holds-tear (arrival l e u k) (find_leg l s.legs)
+  message-holds u (PathErr l e at gone code) =
+      holds-err u (record { lsp = l; msg = PathErr l e at gone code; removed = gone; code = code }) (find_leg l s.legs)
+  message-holds u (Notify l e at k code) = tt
+
+  -- Orders of calls that are there
+
+  tears-no_call : (o : Option Leg) → (tears o).calls ≡ []
+  tears-no_call None = refl
+  tears-no_call (Some g) = refl
+
+  pub release-holds : (from : NodeId) (o : Option CallRec) → Holds (release_with p s from o)
+  release-holds from None = tt
+  release-holds from (Some c) =
+      if_cases Holds (nat_eq from.0 p.id.0) _ _
+      (λ e. rw (tears-no_call (leg_of c.work s.legs), tears-no_call (leg_of c.back s.legs)) (tt, tt)) (λ e. tt)
+
+  holds-protects : (c : CallRec) (o : Option Leg) → P c → Holds (protects p s c o)
+  holds-protects c None here = tt
+  holds-protects c (Some w) here = holds-pair c w here
+
+  pub protect-holds : (k : CallNo) (from : NodeId) (o : Option CallRec) → find_call k s.calls ≡ o →
+      Holds (protect_with p s from o)
+  protect-holds k from None is = tt
+  protect-holds k from (Some c) is =
+      if_cases Holds (nat_eq from.0 p.id.0 && is_bare c.state) _ _
+      (λ e. holds-protects c (leg_of c.work s.legs) (each k c is)) (λ e. tt)
+
+-- A call that is set up: what holds of it may hang on the whole answer. It is blocked, or its working LSP is asked for
+-- over the route that was given or one that was found.
+module _ (p : LocalNode) (s : NodeState) (w : SetupRequest) (Q : Answer → CallRec → Type 0)
+    (lone : (a : Answer) (cause : Cause) → Q a (call_record w Blocked None cause))
+    (begun : (route : List Step) (out : LinkSpec) → (w.via ≡ Some route) ⊎ (w.via ≡ None) →
+    first_link p route ≡ Some out → is_order_here p w ≡ true →
+    Q (begins p s w out (drop 1 route)) (call_record w Asking (Some (next_lsp p s)) Unset)) where
+  abbrev pub SetUp : Answer → Type 0
+  SetUp a = ArePut (Q a) a.calls
+
+  refused-holds : (cause : Cause) → SetUp (refused_setup w cause)
+  refused-holds cause = (lone (refused_setup w cause) cause, tt)
+
+  module _ (ordered : is_order_here p w ≡ true) where
+    over_first-holds : (route : List Step) → (w.via ≡ Some route) ⊎ (w.via ≡ None) → (o : Option LinkSpec) →
+        first_link p route ≡ o → SetUp (over_first p s w route o)
+    over_first-holds route way None first = tt
+    over_first-holds route way (Some out) first =
+        if_cases SetUp (is_spent s) _ _ (λ e. refused-holds Spent)
+        (λ e. if_cases SetUp (is_full s) _ _ (λ f. refused-holds Full) (λ f. (begun route out way first ordered, tt)))
+
+    over_found-holds : w.via ≡ None → (o : Option Trip) → SetUp (over_found p s w o)
+    over_found-holds none None = refused-holds NoRoute
+    over_found-holds none (Some r) = over_first-holds r.steps (inr none) (first_link p r.steps) refl
+
+    new_call-holds : (o : Option (List Step)) → w.via ≡ o → SetUp (new_call p s w o)
+    new_call-holds None is = over_found-holds is (least_trip (known_rows p s) p.id w.egress)
+    new_call-holds (Some route) is = over_first-holds route (inl is) (first_link p route) refl
+
+  pub setup-holds : (o : Option CallRec) → ArePut (Q (setup_with p s w o)) (setup_with p s w o).calls
+  setup-holds (Some c) = tt
+  setup-holds None = if_cases SetUp (is_order_here p w) _ _ (λ e. new_call-holds e w.via refl) (λ e. tt)
