@@ -189,3 +189,13 @@ MayAllEnter o legs (c ∷ cs) = MayEnter o legs c × AllByRecursion TakesNone cs
 abbrev pub MayBeMade : LocalNode → List Leg → List LegChange → Type 0
 MayBeMade p legs [] = Unit {0}
 MayBeMade p legs (c ∷ cs) = MayBeFirst p legs c × AllByRecursion TakesNone cs
+
+-- the LSP's leg takes no label, before the change or after it
+abbrev pub ChangesNoLabel : List Leg → LegChange → Type 0
+ChangesNoLabel legs (Goes l) = taken_of (find_leg l legs) ≡ None
+ChangesNoLabel legs (Put g) = (taken_of (find_leg g.lsp legs) ≡ None) × (taken g ≡ None)
+
+-- an owner and shares that were of one node with the tables still are
+abbrev pub StaysOfOneNode : LegTable → LegTable → Type 0
+StaysOfOneNode before after =
+    (o : List FibreClaims) (s : List Guard) → AreOfOneNode before o s → AreOfOneNode after o s

@@ -3,11 +3,13 @@
 ghost use Rattle.std.specs.Prelude.{◌≡◌, [], IfOk, IsSome, None, OnErr, OnOk, length, slice_get};
 ghost use Rattle.std.specs.Option.{option_copied};
 ghost use Rattle.mesh_rules.specs.Calls.{call_with, find_call, with_call, without_call};
+ghost use Rattle.mesh_rules.specs.Changes.{lsp_after, tunnel_after};
 ghost use Rattle.leg_table.specs.Tables.{in_state, number_of, reported, unreported, with_call_changed, with_lsps};
 
 use crate::call_list::CallList;
 use crate::calls::{find_call, report, set_state, unreport};
 use ason_base::{CallNo, CallRec, CallState, Cause, Copied, Fibre, Lsp, OutOfMemory, Role};
+use mesh_rules::NextNumbers;
 use std::alloc::Global;
 use std::marker::Model;
 
@@ -165,6 +167,18 @@ impl Calls {
     {
         self.tunnel = tunnel;
         self.lsp = lsp;
+    }
+
+    /// The same, where some numbers were given out.
+    pub(crate) fn give_out(&mut self, numbers: Option<NextNumbers>)
+        ensures { self.new ≡ record self.old {
+          tunnel = tunnel_after numbers self.old.tunnel;
+          lsp = lsp_after numbers self.old.lsp;
+        } }
+    {
+        if let Some(numbers) = numbers {
+            self.use_ids(numbers.tunnel, numbers.lsp);
+        }
     }
 }
 

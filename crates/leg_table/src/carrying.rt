@@ -55,6 +55,23 @@ fn put_leg(legs: &mut Vec<BoxedLeg>, owner: &mut Owner, shares: &mut Shares, leg
     set_leg(legs, leg);
 }
 
+/// Makes the changes, one after the other, of legs that take no label before or after. There is room for them.
+pub(crate) fn change_legs_alone(legs: &mut Vec<BoxedLeg>, changes: Vec<LegEdit>)
+    requires rising { LegsRise legs.old.items }
+    requires room { vec_len legs.old + vec_len changes ≤ vec_capacity legs.old }
+    ensures items { legs.new.items ≡ legs_changed changes.items legs.old.items }
+    ensures rising { LegsRise legs.new.items }
+{
+    for change in changes {
+        match change.into_change() {
+            BoxedChange::Goes(lsp) => {
+                let _leg = take_leg(legs, lsp);
+            }
+            BoxedChange::Put(leg) => set_leg(legs, leg),
+        }
+    }
+}
+
 // Makes the changes, one after the other. None takes a label, and there is room for them.
 fn change_later(
     legs: &mut Vec<BoxedLeg>,
@@ -231,9 +248,10 @@ pub(crate) fn carry_out_tables(
     Ok(())
 }
 
-/// Carries out what a rule changes, and hands back what is to be sent, in order. The owner's claims and the
-/// guards of the shares follow the legs. After want
-/// of memory nothing has changed.
+// Answers
+
+/// Carries out what a rule changes, and hands back what is to be sent, in order. The owner's claims and the guards of the
+/// shares follow the legs. After want of memory nothing has changed.
 pub fn carry_out(
     change: Change,
     tables: &mut NodeTables,
@@ -265,9 +283,6 @@ pub fn carry_out(
     calls.list.reserve(changes.len())?;
     carry_out_tables(calls.alloc, tables, owner, shares, legs, row)?;
     calls.list.change(changes);
-    if let Some(numbers) = numbers {
-        calls.tunnel = numbers.tunnel;
-        calls.lsp = numbers.lsp;
-    }
+    calls.give_out(numbers);
     Ok(sent)
 }

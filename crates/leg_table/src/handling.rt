@@ -1,11 +1,15 @@
-//! Carrying out what a rule does to the legs of a node, and to nothing else.
+//! Carrying out what a rule does to the legs of a node alone, and what it does to legs that take no label and to calls.
 
-ghost use Rattle.std.specs.Prelude.{◌≡◌, [], IfOk, OnErr, OnOk};
+ghost use Rattle.std.specs.Prelude.{◌≡◌, ◌≤◌, [], IfOk, OnErr, OnOk, length};
+ghost use Rattle.std.specs.List.{AllByRecursion};
+ghost use Rattle.mesh_rules.specs.Changes.{changed};
+ghost use Rattle.mesh_rules.specs.Legs.{legs_changed};
 ghost use Rattle.leg_table.specs.Fits.{OwnLegsFit, TablesFit, legs_after};
-ghost use Rattle.leg_table.specs.LegClaims.{MayBeMade};
-ghost use Rattle.leg_table.specs.States.{local_of};
+ghost use Rattle.leg_table.specs.LegClaims.{ChangesNoLabel, MayBeMade, StaysOfOneNode};
+ghost use Rattle.leg_table.specs.States.{local_of, state_of};
 
-use crate::carrying::carry_out_tables;
+use crate::call_table::Calls;
+use crate::carrying::{carry_out_tables, change_legs_alone};
 use crate::changes::Change;
 use crate::tables::NodeTables;
 use ason_base::{OutOfMemory, Outs};
@@ -38,5 +42,40 @@ pub fn handle(
     if !legs.is_empty() {
         carry_out_tables(alloc, tables, owner, shares, legs, None)?;
     }
+    Ok(sent)
+}
+
+/// Carries out what a change does to the legs and the calls of an ingress, and hands back what is to be sent, in order.
+/// No leg takes a label in there, so neither the owner nor the shares change. After want of memory nothing has changed.
+pub fn handle_calls(
+    _: Global,
+    tables: &mut NodeTables,
+    calls: &mut Calls,
+    change: Change,
+) -> Result<Outs, OutOfMemory>
+    requires few { length (legs_changed change.legs tables.old.legs) ≤ 4096 }
+    requires no_row { change.rows ≡ [] }
+    ensures ok { OnOk result
+        (state_of tables.new calls.new ≡ changed (state_of tables.old calls.old) change) }
+    ensures sent { IfOk result (λ outs. outs ≡ change.sent) }
+    ensures local { local_of tables.new ≡ local_of tables.old }
+    ensures rows { tables.new.rows ≡ tables.old.rows }
+    ensures labels { AllByRecursion (ChangesNoLabel tables.old.legs) change.legs →
+        StaysOfOneNode tables.old tables.new }
+    ensures err { OnErr result (tables.new ≡ tables.old) }
+    ensures err_calls { OnErr result (calls.new ≡ calls.old) }
+{
+    let Change {
+        legs,
+        calls: changes,
+        numbers,
+        sent,
+        ..
+    } = change;
+    calls.list.reserve(changes.len())?;
+    tables.legs.reserve(legs.len())?;
+    change_legs_alone(&mut tables.legs, legs);
+    calls.list.change(changes);
+    calls.give_out(numbers);
     Ok(sent)
 }
