@@ -32,7 +32,7 @@ all-left {X} P Q q (x ∷ xs) f all = go (q x) refl (all-left P Q q xs f all.1)
     go true e rest = (f x all.0 e, rest)
     go false e rest = rest
 
-all-to : {X : Type 0} (P Q : X → Type 0) (xs : List X) → ((x : X) → P x → Q x) → AllByRecursion P xs →
+pub all-to : {X : Type 0} (P Q : X → Type 0) (xs : List X) → ((x : X) → P x → Q x) → AllByRecursion P xs →
     AllByRecursion Q xs
 all-to P Q [] f all = tt
 all-to P Q (x ∷ xs) f all = (f x all.0, all-to P Q xs f all.1)

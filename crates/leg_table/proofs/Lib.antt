@@ -4,6 +4,7 @@ pub mod ClaimChanges
 pub mod GuardChanges
 mod Halved
 pub mod InFibres
+mod LabelsKept
 pub mod LegOrder
 pub mod MayPut
 mod CallIndexes

@@ -49,7 +49,7 @@ last-freed x l (d ∷ claims) c none of = go (is_of_lsp x l d) none (λ rest. la
     go false none later = ap (λ s. d ∷ s) (later none)
 
 module _ (g : Leg) (t : TakenLabel) (o : List FibreClaims) (comes : comes_in o t.fibre ≡ true) where
-  c : Claim
+  abbrev c : Claim
   c = first_claim g.role t.label g.lsp
 
   its : is_of_lsp t.label g.lsp c ≡ true

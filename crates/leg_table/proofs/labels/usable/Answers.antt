@@ -1,6 +1,8 @@
 use Rattle.std.proofs.Common.{◌≡◌, ◌∙◌, ap, sym, subst}
 use Rattle.std.specs.Prelude.{filter}
 use Rattle.ason_base.specs.Labels.{has, meet, up_to}
+use Rattle.link_owner.specs.Claims.{shareable}
+use Rattle.link_owner.specs.Owners.{claims_of, labels_of}
 use Rattle.mesh_rules.specs.Legs.{usable}
 use Rattle.share_check.specs.Guards.{fitting}
 use Rattle.leg_table.specs.States.{local_of}
@@ -30,6 +32,6 @@ returns-in-Back c =
     subst (λ r. c.meet.result ≡ usable (local_of t) t.legs r risks f) (sym c.in-Back.is)
     (c.meet.ensures
     ∙ ap (λ labels. meet labels c.fitting.result) shared
-    ∙ ap (λ fit. meet _ fit) c.fitting.ensures
+    ∙ ap (meet (shareable (labels_of f o) (claims_of f o))) c.fitting.ensures
     ∙ shared-usable (local_of t) t.legs risks o s f (legs-to t.legs c.rises.ensures.rising) c.requires.node.labels
     c.requires.node.fibres (c.requires.node.fibres.fibres f ∙ c.requires.comes_in) within)
