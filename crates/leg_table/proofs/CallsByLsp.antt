@@ -117,12 +117,6 @@ find-least p (d ∷ calls) n c rise found passes all =
         let is : d ≡ c = cc g in absurd (cc (subst (λ x. p x ≡ true) (sym is) passes, e))
     go false false e f g later = later g
 
-pub least-find : (p : CallRec → Bool) (calls : List CallRec) (o : Option CallNo) → CallsRise calls → IsLeast p calls o →
-    find p calls ≡ call_by o calls
-least-find p calls None rise none = find-none p calls none
-least-find p calls (Some n) rise least =
-    find-least p calls n least.0.0 rise least.0.1 least.0.2 least.1 ∙ sym least.0.1
-
 pub least-number : (p : CallRec → Bool) (calls : List CallRec) (o : Option CallNo) → CallsRise calls →
     IsLeast p calls o → o ≡ number_of (find p calls)
 least-number p calls None rise none = ap number_of (sym (find-none p calls none))

@@ -98,16 +98,6 @@ claimed-fibres f c o = record {
   labels = λ h. labels-kept f h (claims_of f o ++ c ∷ []) o;
 }
 
-pub fibres-then : (a b c : List FibreClaims) → SameFibres a b → SameFibres b c → SameFibres a c
-fibres-then a b c first second =
-    record { fibres = λ f. second.fibres f ∙ first.fibres f; labels = λ f. second.labels f ∙ first.labels f }
-
-pub owner-kept : (p : LocalNode) (o after : List FibreClaims) → SameFibres o after → OwnerFits p o → OwnerFits p after
-owner-kept p o after same fits = record {
-  fibres = λ f. same.fibres f ∙ fits.fibres f;
-  labels = λ f comes. same.labels f ∙ fits.labels f (sym (same.fibres f) ∙ comes);
-}
-
 -- What the owner allows
 
 pub may-enter : (p : LocalNode) (legs : List Leg) (o : List FibreClaims) (s : List Guard) (c : LegChange) →

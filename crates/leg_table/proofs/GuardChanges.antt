@@ -1,7 +1,7 @@
 -- The guards and the legs, after a leg gives up its label or takes one.
 use Rattle.std.proofs.Common.{◌≡◌, ℕ, Bool, true, false, cond, nat_eq, List, [], refl, sym, ap, subst, ◌∙◌}
 use Rattle.std.specs.Prelude.{◌&&◌, Option, Some, None}
-use Rattle.ason_base.specs.declared.calls.Role.TheVariants.{Work, Back}
+use Rattle.ason_base.specs.declared.calls.Role.TheVariants.{Work}
 use Rattle.ason_base.specs.declared.ids.Fibre.{Fibre}
 use Rattle.ason_base.specs.declared.ids.Lsp.{Lsp}
 use Rattle.ason_base.specs.declared.risks.Risk.{Risk}
@@ -85,11 +85,6 @@ pub guards-work : (g : Leg) (t : TakenLabel) (s : List Guard) → g.role ≡ Wor
 guards-work g t s work none =
     subst (λ b. GuardsJust t.fibre t.label g.lsp (cond b [] g.risks) s s) (sym (ap is_work work))
     (guards-same t.fibre t.label g.lsp s none)
-
-pub guards-back : (g : Leg) (t : TakenLabel) (s after : List Guard) → g.role ≡ Back →
-    GuardsJust t.fibre t.label g.lsp g.risks s after → GuardsBy g t s after
-guards-back g t s after back just =
-    subst (λ b. GuardsJust t.fibre t.label g.lsp (cond b [] g.risks) s after) (sym (ap is_work back)) just
 
 -- the leg of the LSP is the one that guards what the LSP does
 pub guards-of_leg : (l : Lsp) (legs : List Leg) (s : List Guard) (g : Leg) → GuardsFit legs s →

@@ -1,11 +1,10 @@
 -- What halving finds in a list in order, and what a change at that place makes of the list.
-use Rattle.std.proofs.Common.{◌≡◌, ◌≢◌, ◌≤◌, ◌<◌, ◌+◌, ◌-◌, ℕ, suc, Bool, true, false, cond, not, nat_eq, nat_lt, List, [], ◌∷◌, length, length-set, get_or, set, refl, sym, ap, subst, ◌∙◌, arith, inl, inr}
+use Rattle.std.proofs.Common.{◌≡◌, ◌≤◌, ◌<◌, ◌+◌, ◌-◌, ℕ, suc, Bool, true, false, cond, not, nat_lt, List, [], ◌∷◌, length, get_or, set, refl, sym, ap, subst, ◌∙◌, arith, inl, inr}
 use Rattle.std.specs.Prelude.{◌⊎◌, Some, None, find, filter, insert, position, slice_get}
 use Rattle.leg_table.specs.Tables.{first_changed}
 use Rattle.std.specs.List.{AllPairs, position_or_len, remove}
 use Rattle.std.specs.List.Sorted.{IsPartitionPoint, IsPartitionedBy}
 use Rattle.std.proofs.lemmas.Bool.{cases_lt}
-use Rattle.std.proofs.lemmas.List.{get_or-set_other, get_or-set_same, get_or_default}
 use Rattle.std.proofs.lemmas.List.Edits.{get_or-insert_above, get_or-insert_at, get_or-insert_below, length-insert}
 use Rattle.std.proofs.lemmas.List.Folds.{find_at}
 use Rattle.std.proofs.lemmas.List.Quantifiers.{position-Some}
@@ -210,41 +209,6 @@ changed-nowhere {X} same change xs e = all xs
     all (y ∷ ys) none =
         let here : same y ≡ false = none 0 y (omega arith) in
         rw here (ap (λ zs. y ∷ zs) (all ys (λ k d below. none (suc k) d (omega arith))))
-
-pub rises-set : {X : Type 0} (R : X → X → Type 0) (xs : List X) (i : ℕ) (x y : X) → x ≡ get_or xs i x → i < length xs →
-    AllPairs R xs → ((z : X) → R z x → R z y) → ((z : X) → R x z → R y z) → AllPairs R (set xs i y)
-rises-set {X} R xs i x y is inside pairs to from a b d less within = go (nat_eq a i) refl (nat_eq b i) refl
-  where
-    at : (k : ℕ) → nat_eq k i ≡ true → k ≡ i
-    at k e = grind arith
-
-    beside : (k : ℕ) → nat_eq k i ≡ false → k ≢ i
-    beside k e is = grind arith
-
-    before : (k : ℕ) → nat_eq k i ≡ true → get_or xs k d ≡ x
-    before k e = subst (λ m. get_or xs m d ≡ x) (sym (at k e)) (get_or_default xs i d x inside ∙ sym is)
-
-    here : (k : ℕ) → nat_eq k i ≡ true → get_or (set xs i y) k d ≡ y
-    here k e = subst (λ m. get_or (set xs i y) m d ≡ y) (sym (at k e)) (get_or-set_same xs i y d inside)
-
-    there : (k : ℕ) → nat_eq k i ≡ false → get_or (set xs i y) k d ≡ get_or xs k d
-    there k e = get_or-set_other xs i k y d (beside k e)
-
-    long : b < length xs
-    long = subst (λ n. b < n) (length-set xs i y) within
-
-    pair : (v w : X) → get_or (set xs i y) a d ≡ v → get_or (set xs i y) b d ≡ w → R v w →
-        R (get_or (set xs i y) a d) (get_or (set xs i y) b d)
-    pair v w e f r = subst (λ u. R u (get_or (set xs i y) b d)) (sym e) (subst (λ u. R v u) (sym f) r)
-
-    go : (p : Bool) → nat_eq a i ≡ p → (q : Bool) → nat_eq b i ≡ q →
-        R (get_or (set xs i y) a d) (get_or (set xs i y) b d)
-    go true e true f = absurd (let same : a ≡ b = at a e ∙ sym (at b f) in omega arith)
-    go true e false f = pair y (get_or xs b d) (here a e) (there b f)
-        (from (get_or xs b d) (subst (λ u. R u (get_or xs b d)) (before a e) (pairs a b d less long)))
-    go false e true f = pair (get_or xs a d) y (there a e) (here b f)
-        (to (get_or xs a d) (subst (λ u. R (get_or xs a d) u) (before b f) (pairs a b d less long)))
-    go false e false f = pair (get_or xs a d) (get_or xs b d) (there a e) (there b f) (pairs a b d less long)
 
 -- A new one
 

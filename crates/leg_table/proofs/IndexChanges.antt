@@ -67,22 +67,6 @@ taken-off x es just rises = record {
 number-self : (n : ℕ) → nat_eq n n ≡ true
 number-self n = grind arith
 
-pub none-left : (n : CallNo) (es after : List LspOfCall) → IsTakenOff n es after → HasNone n after
-none-left n es after off l = off.entries (record { lsp = l; call = n }) ∙ rw (number-self n.0) refl
-
-twice : (b c d : Bool) → cond b c (cond b false d) ≡ cond b c d
-twice true c d = refl
-twice false c d = refl
-
-pub off-then-set : (n : CallNo) (l : Option Lsp) (es mid after : List LspOfCall) → IsTakenOff n es mid →
-    IsSet n l mid after → IsSet n l es after
-off-then-set n l es mid after off set = record {
-  rises = set.rises;
-  entries = λ e.
-      set.entries e ∙ ap (cond (nat_eq e.call.0 n.0) (is_same l e.lsp)) (off.entries e)
-      ∙ twice (nat_eq e.call.0 n.0) (is_same l e.lsp) (has_entry e es);
-}
-
 pub set-same : (n : CallNo) (k l : Option Lsp) (es : List LspOfCall) → IndexRises es → HasJust n k es →
     is_same k l ≡ true → IsSet n l es es
 set-same n k l es rises just same = record {

@@ -1,6 +1,6 @@
 -- Changes of legs that take no label, before or after: the claims and the guards stay those of the legs.
 use Rattle.std.proofs.Common.{◌≡◌, List, [], ◌∷◌, true, false, cond, Bool, refl, ap, ◌∙◌}
-use Rattle.std.specs.Prelude.{Option, Some, None}
+use Rattle.std.specs.Prelude.{Some, None}
 use Rattle.std.specs.List.{AllByRecursion}
 use Rattle.ason_base.specs.declared.ids.Lsp.{Lsp}
 use Rattle.ason_base.specs.declared.tables.Leg.{Leg}

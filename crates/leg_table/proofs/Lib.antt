@@ -1,17 +1,17 @@
 pub mod AtStart
+mod CallIndexes
+mod CallsByLsp
 pub mod Carried
 pub mod ClaimChanges
 pub mod GuardChanges
 mod Halved
 pub mod InFibres
+mod IndexChanges
 mod LabelsKept
 pub mod LegOrder
-pub mod MayPut
-mod CallIndexes
-mod CallsByLsp
-mod IndexChanges
 mod LspIndex
 mod LspOrder
+pub mod MayPut
 mod NewPlaces
 mod Orders
 pub mod OwnLegs

@@ -26,10 +26,6 @@ position_or_len-le p (x ∷ xs) =
       | false ↦ omega (arith, position_or_len-le p xs)
     ]
 
-pub position-found : {X : Type 0} (p : X → Bool) (xs : List X) (i : ℕ) → position p xs ≡ Some i →
-    position_or_len p xs ≡ i
-position-found p xs i e = place_of_some _ _ _ e
-
 pub position-nowhere : {X : Type 0} (p : X → Bool) (xs : List X) → position p xs ≡ None →
     position_or_len p xs ≡ length xs
 position-nowhere p xs e =

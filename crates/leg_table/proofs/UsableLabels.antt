@@ -19,7 +19,6 @@ use Rattle.ason_base.proofs.MaskMembers.{filter-agree, filter-filter, has-bound,
 use Rattle.link_owner.specs.Claims.{FibreClaims, has, is_of_lsp, is_working, shareable, unclaimed, works_on}
 use Rattle.link_owner.specs.Owners.{claims_of, comes_in, labels_of}
 use Rattle.link_owner.specs.declared.claims.Claim.{Claim}
-use Rattle.link_owner.specs.declared.claims.ClaimKind.{ClaimKind}
 use Rattle.share_check.specs.Guards.{fits, fitting, is_guarded}
 use Rattle.share_check.specs.declared.guards.Guard.{Guard}
 use Rattle.share_check.proofs.Fitting.{fits-none, none-fits}
@@ -232,7 +231,8 @@ module _ (legs : List Leg) (risks : List Risk) (o : List FibreClaims) (s : List 
   pub shared-exact : (not (list_any (works_on x) (claims_of f o)) && fits s f risks x) ≡
       not (list_any (keeps_from risks f x) legs)
   shared-exact =
-      go (list_any (works_on x) (claims_of f o)) (fits s f risks x) (list_any (keeps_from risks f x) legs) refl refl refl
+      go (list_any (works_on x) (claims_of f o)) (fits s f risks x) (list_any (keeps_from risks f x) legs) refl refl
+      refl
     where
       none-keeps : list_any (works_on x) (claims_of f o) ≡ false → fits s f risks x ≡ true →
           list_any (keeps_from risks f x) legs ≡ true → ⊥

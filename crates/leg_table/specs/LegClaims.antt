@@ -1,5 +1,5 @@
--- Which labels the legs of a node take, the claims of its owner that they have, and the risks that they guard (RFC 4872,
--- section 9).
+-- Which labels the legs of a node take, the claims of its owner that they have, and the risks that they guard
+-- (RFC 4872, section 9).
 use Rattle.std.specs.Prelude.{◌≡◌, ◌≤◌, ◌&&◌, ◌++◌, ℕ, Bool, false, List, [], ◌∷◌, map, Option, Some, None, IfSome, IsTrue, if◌then◌else◌}
 use Rattle.std.specs.List.{AllByRecursion, list_any}
 use Rattle.ason_base.specs.Labels.{has}
@@ -133,7 +133,8 @@ pub record OwnerFits (p : LocalNode) (o : List FibreClaims) : Type 0 where
   pub fibres : (f : Fibre) → comes_in o f ≡ is_fibre_in p f
   pub labels : (f : Fibre) → IsTrue (comes_in o f) → labels_of f o ≡ local.labels_of (own_link p f.link)
 
--- these are the tables, the owner and the shares of one node, and the rows that it knows begin with those of its own links
+-- these are the tables, the owner and the shares of one node, and the rows that it knows begin with those of its own
+-- links
 pub record AreOfOneNode (t : LegTable) (o : List FibreClaims) (s : List Guard) : Type 0 where
   pub labels : LabelsFit t.legs o s
   pub fibres : OwnerFits (local_of t) o

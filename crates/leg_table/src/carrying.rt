@@ -1,5 +1,5 @@
-//! Carrying out what a rule changes: the legs with the labels that they take, the row that is learnt, the calls and the
-//! numbers.
+//! Carrying out what a rule changes: the legs with the labels that they take, the row that is learnt, the calls and
+//! the numbers.
 
 ghost use Rattle.std.specs.Prelude.{◌≡◌, ◌≤◌, ◌<◌, ◌+◌, IfOk, IfSome, None, OnErr, OnOk, Some, length, vec_capacity, vec_len};
 ghost use Rattle.std.specs.List.{AllByRecursion};
@@ -55,7 +55,7 @@ fn put_leg(legs: &mut Vec<BoxedLeg>, owner: &mut Owner, shares: &mut Shares, leg
     set_leg(legs, leg);
 }
 
-/// Makes the changes, one after the other, of legs that take no label before or after. There is room for them.
+/// Makes the changes, one after the other. No label is claimed or freed, and there is room for them.
 pub(crate) fn change_legs_alone(legs: &mut Vec<BoxedLeg>, changes: Vec<LegEdit>)
     requires rising { LegsRise legs.old.items }
     requires room { vec_len legs.old + vec_len changes ≤ vec_capacity legs.old }
@@ -96,7 +96,8 @@ fn change_later(
     }
 }
 
-// Puts a leg that takes this label, where its LSP took none. There is room for it. After want of memory nothing has changed.
+// Puts a leg that takes this label, where its LSP took none. There is room for it. After want of memory nothing has
+// changed.
 fn enter_leg(
     legs: &mut Vec<BoxedLeg>,
     owner: &mut Owner,
@@ -218,8 +219,8 @@ fn put_row(rows: &mut Vec<TeRow>, row: Option<TeRow>)
     }
 }
 
-/// Carries out changes of legs, one after the other, and puts the row, if there is one, after those that are known. The owner's
-/// claims follow the legs. After want of memory nothing has changed.
+/// Carries out changes of legs, one after the other, and puts the row, if there is one, after those that are known. The
+/// owner's claims and the guards of the shares follow the legs. After want of memory nothing has changed.
 pub(crate) fn carry_out_tables(
     alloc: Global,
     tables: &mut NodeTables,
@@ -250,8 +251,8 @@ pub(crate) fn carry_out_tables(
 
 // Answers
 
-/// Carries out what a rule changes, and hands back what is to be sent, in order. The owner's claims and the guards of the
-/// shares follow the legs. After want of memory nothing has changed.
+/// Carries out what a rule changes, and hands back what is to be sent, in order. The owner's claims and the guards of
+/// the shares follow the legs. After want of memory nothing has changed.
 pub fn carry_out(
     change: Change,
     tables: &mut NodeTables,

@@ -1,4 +1,4 @@
-//! Carrying out what a rule does to the legs of a node alone, and what it does to legs that take no label and to calls.
+//! Carrying out what a rule does to the legs of a node alone, and what it does to those of an ingress and to its calls.
 
 ghost use Rattle.std.specs.Prelude.{◌≡◌, ◌≤◌, [], IfOk, OnErr, OnOk, length};
 ghost use Rattle.std.specs.List.{AllByRecursion};
@@ -17,8 +17,8 @@ use link_owner::Owner;
 use share_check::Shares;
 use std::alloc::Global;
 
-/// Carries out what a change does to the legs, and hands back what is to be sent, in order. The owner's claims and the
-/// guards of the shares follow the legs. After want of memory nothing has changed.
+/// Carries out what a change does to the legs, and hands back what is to be sent, in order. The owner's claims and
+/// the guards of the shares follow the legs. After want of memory nothing has changed.
 pub fn handle(
     alloc: Global,
     tables: &mut NodeTables,
@@ -45,8 +45,8 @@ pub fn handle(
     Ok(sent)
 }
 
-/// Carries out what a change does to the legs and the calls of an ingress, and hands back what is to be sent, in order.
-/// No leg takes a label in there, so neither the owner nor the shares change. After want of memory nothing has changed.
+/// Carries out what a change does to the legs and the calls of an ingress, and hands back what is to be sent, in
+/// order. No leg takes a label in there, so no claim and no guard changes. After want of memory nothing has changed.
 pub fn handle_calls(
     _: Global,
     tables: &mut NodeTables,

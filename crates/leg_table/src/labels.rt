@@ -37,8 +37,8 @@ pub fn taken(leg: &Leg) -> Option<TakenLabel>
     }
 }
 
-/// The labels of a fibre that comes in which a leg of this role may take, whose primary has these risks: those that no leg
-/// takes, and for a backup those too that backups share whose primaries have none of the risks. No leg is looked at.
+/// The labels of a fibre that comes in which a leg of this role may take, whose primary has these risks: those that no
+/// leg takes, and for a backup those too that backups share whose primaries have none of the risks. No leg is looked at.
 pub fn usable(
     tables: &NodeTables,
     owner: &Owner,

@@ -36,7 +36,8 @@ fn claim(owner: &mut Owner, alloc: Global, leg: &Leg, label: &TakenLabel) -> Res
     requires comes_in { IsTrue (comes_in owner.old label.now.fibre) }
     requires within { label.now.label ≤ labels_of label.now.fibre owner.old }
     requires new { IsTrue (not (has_label owner.old label.now.fibre label.now.label leg.now.lsp)) }
-    requires free { NoClaim (bars leg.now.role label.now.label) (claims_of label.now.fibre owner.old) }
+    requires free { NoClaim (bars leg.now.role label.now.label)
+        (claims_of label.now.fibre owner.old) }
     ensures ok { OnOk result (owner.new ≡ claimed_by leg.now label.now owner.old) }
     ensures err { OnErr result (owner.new ≡ owner.old) }
 {
@@ -75,7 +76,8 @@ pub(crate) fn reserve(
     requires comes_in { IsTrue (comes_in owner.old label.now.fibre) }
     requires within { label.now.label ≤ labels_of label.now.fibre owner.old }
     requires new { IsTrue (not (has_label owner.old label.now.fibre label.now.label leg.now.lsp)) }
-    requires free { NoClaim (bars leg.now.role label.now.label) (claims_of label.now.fibre owner.old) }
+    requires free { NoClaim (bars leg.now.role label.now.label)
+        (claims_of label.now.fibre owner.old) }
     requires none { GuardsNone shares.old label.now.fibre label.now.label leg.now.lsp }
     ensures ok { OnOk result (owner.new ≡ claimed_by leg.now label.now owner.old) }
     ensures guards { OnOk result (GuardsBy leg.now label.now shares.old shares.new) }

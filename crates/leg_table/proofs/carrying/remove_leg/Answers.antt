@@ -14,8 +14,8 @@ returns-clause-fit c =
       claims = rw (c.take_leg-leg.ensures.left, c.free_label.ensures.owner, c.deref.ensures.value)
           (given-up l legs after c.args.owner.now c.requires.fit.claims (left-without l legs));
       guards = rw c.take_leg-leg.ensures.left
-          (left-guards l legs after c.args.shares.now c.free_label.new.shares c.requires.fit.guards (left-without l legs)
-          c.free_label.ensures.shares);
+          (left-guards l legs after c.args.shares.now c.free_label.new.shares c.requires.fit.guards
+          (left-without l legs) c.free_label.ensures.shares);
     }
 
 pub returns-clause-fibres : goal.returns-clause-fibres

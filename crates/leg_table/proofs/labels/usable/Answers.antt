@@ -4,7 +4,6 @@ use Rattle.ason_base.specs.Labels.{has, meet, up_to}
 use Rattle.link_owner.specs.Claims.{shareable}
 use Rattle.link_owner.specs.Owners.{claims_of, labels_of}
 use Rattle.mesh_rules.specs.Legs.{usable}
-use Rattle.share_check.specs.Guards.{fitting}
 use Rattle.leg_table.specs.States.{local_of}
 use Rattle.leg_table.proofs.LegOrder.{legs-to}
 use Rattle.leg_table.proofs.UsableLabels.{shared-usable, unclaimed-usable}

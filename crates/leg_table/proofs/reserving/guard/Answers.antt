@@ -1,4 +1,4 @@
-use Rattle.leg_table.proofs.GuardChanges.{guards-back, guards-work}
+use Rattle.leg_table.proofs.GuardChanges.{guards-work}
 use Rattle.leg_table.proofs.reserving.guard.Goals as goal
 
 pub returns-in-Work-clause-ok : goal.returns-in-Work-clause-ok

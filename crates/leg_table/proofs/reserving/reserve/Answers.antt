@@ -1,5 +1,5 @@
-use Rattle.std.proofs.Common.{◌∙◌, ap, subst, sym}
-use Rattle.link_owner.specs.Owners.{comes_in, has_label, label_freed}
+use Rattle.std.proofs.Common.{◌∙◌, ap}
+use Rattle.link_owner.specs.Owners.{label_freed}
 use Rattle.leg_table.proofs.Restored.{claimed-comes, claimed-freed, claimed-has}
 use Rattle.leg_table.proofs.reserving.reserve.Goals as goal
 
