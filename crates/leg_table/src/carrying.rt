@@ -219,6 +219,8 @@ fn put_row(rows: &mut Vec<TeRow>, row: Option<TeRow>)
     }
 }
 
+// Answers
+
 /// Carries out changes of legs, one after the other, and puts the row, if there is one, after those that are known. The
 /// owner's claims and the guards of the shares follow the legs. After want of memory nothing has changed.
 pub(crate) fn carry_out_tables(
@@ -248,8 +250,6 @@ pub(crate) fn carry_out_tables(
     put_row(&mut tables.rows, row);
     Ok(())
 }
-
-// Answers
 
 /// Carries out what a rule changes, and hands back what is to be sent, in order. The owner's claims and the guards of
 /// the shares follow the legs. After want of memory nothing has changed.
