@@ -13,9 +13,9 @@ use link_owner::Owner;
 use share_check::Shares;
 use std::alloc::Global;
 
-/// Takes a Path: a leg is made and the Path goes on, or it ends here and is answered by a Resv, or it is refused by a
-/// PathErr. Hands back what is to be sent, in order. A message of another kind changes nothing. After want of memory nothing
-/// has changed.
+/// Takes a Path: a leg is made and the Path goes on, or it ends here and is answered by a Resv, or
+/// it is refused by a PathErr. Hands back what is to be sent, in order. A message of another kind
+/// changes nothing. After want of memory nothing has changed.
 pub fn path(
     alloc: Global,
     tables: &mut NodeTables,
@@ -28,7 +28,8 @@ pub fn path(
     ensures ok { OnOk result (tables.new ≡ after_path tables.old from msg.now) }
     ensures sent { IfOk result (λ outs. outs ≡ (path_answer tables.old from msg.now).sent) }
     ensures none { (path_answer tables.old from msg.now).legs ≡ [] → owner.new ≡ owner.old }
-    ensures none_shares { (path_answer tables.old from msg.now).legs ≡ [] → shares.new ≡ shares.old }
+    ensures none_shares { (path_answer tables.old from msg.now).legs ≡ [] →
+        shares.new ≡ shares.old }
     ensures fits { TablesFit tables.new owner.new shares.new }
     ensures err { OnErr result (tables.new ≡ tables.old) }
     ensures err_owner { OnErr result (owner.new ≡ owner.old) }
@@ -38,9 +39,9 @@ pub fn path(
     handle(alloc, tables, owner, shares, change)
 }
 
-/// Takes a PathTear: it is confirmed by a PathErr and goes on, and the leg waits for the next node's answer; at the egress
-/// the leg goes. Hands back what is to be sent, in order. A message of another kind changes nothing. After want of memory
-/// nothing has changed.
+/// Takes a PathTear: it is confirmed by a PathErr and goes on, and the leg waits for the next
+/// node's answer; at the egress the leg goes. Hands back what is to be sent, in order. A message of
+/// another kind changes nothing. After want of memory nothing has changed.
 pub fn tear(
     alloc: Global,
     tables: &mut NodeTables,
@@ -53,7 +54,8 @@ pub fn tear(
     ensures ok { OnOk result (tables.new ≡ after_tear tables.old from msg.now) }
     ensures sent { IfOk result (λ outs. outs ≡ (tear_answer tables.old from msg.now).sent) }
     ensures none { (tear_answer tables.old from msg.now).legs ≡ [] → owner.new ≡ owner.old }
-    ensures none_shares { (tear_answer tables.old from msg.now).legs ≡ [] → shares.new ≡ shares.old }
+    ensures none_shares { (tear_answer tables.old from msg.now).legs ≡ [] →
+        shares.new ≡ shares.old }
     ensures fits { TablesFit tables.new owner.new shares.new }
     ensures err { OnErr result (tables.new ≡ tables.old) }
     ensures err_owner { OnErr result (owner.new ≡ owner.old) }

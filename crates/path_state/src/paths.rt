@@ -24,8 +24,8 @@ use share_check::Shares;
 use std::alloc::Global;
 use std::marker::Model;
 
-/// What a Path asks for: of which LSP and from where it came, over which steps from here, with which labels, and for
-/// what.
+/// What a Path asks for: of which LSP and from where it came, over which steps from here, with
+/// which labels, and for what.
 #[derive(Drop)]
 struct PathRequest<'a> {
     arrival: Arrival,
@@ -39,7 +39,12 @@ impl<'a> Model for PathRequest<'a> {
 
     ghost Value = { paths.PathRequest };
 
-    ghost view = { λ m. record { arrival = m.arrival; route = m.route.now; set = m.set.now; role = m.role.now } };
+    ghost view = { λ m. record {
+      arrival = m.arrival;
+      route = m.route.now;
+      set = m.set.now;
+      role = m.role.now;
+    } };
 }
 
 // Refusals
@@ -121,7 +126,8 @@ fn refuse(
 
 // Legs
 
-// What a leg that a Path makes may have: the labels of the fibre in from which one is taken, and the risks that it records.
+// What a leg that a Path makes may have: the labels of the fibre in from which one is taken, and
+// the risks that it records.
 #[derive(Drop)]
 struct Offer {
     risks: RiskSet,
@@ -360,8 +366,8 @@ fn on_path(
     }
 }
 
-/// What a Path would change and send: it makes a leg and goes on, ends here and is answered, or is refused. A message of
-/// another kind does nothing.
+/// What a Path would change and send: it makes a leg and goes on, ends here and is answered, or is
+/// refused. A message of another kind does nothing.
 pub fn path_change(
     alloc: Global,
     tables: &NodeTables,

@@ -51,8 +51,8 @@ fn on_tear(alloc: Global, tables: &NodeTables, arrival: Arrival) -> Result<Chang
     tear_on(alloc, leg, arrival.from, reply)
 }
 
-/// What a PathTear would change and send: it is answered and goes on, and the leg waits for the next node's answer. A
-/// message of another kind does nothing.
+/// What a PathTear would change and send: it is answered and goes on, and the leg waits for the
+/// next node's answer. A message of another kind does nothing.
 pub fn tear_change(
     alloc: Global,
     tables: &NodeTables,
