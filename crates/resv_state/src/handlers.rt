@@ -13,9 +13,9 @@ use link_owner::Owner;
 use share_check::Shares;
 use std::alloc::Global;
 
-/// Takes a Resv: the leg that waits for it is cross-connected and the Resv goes back, or no label is left and the LSP is
-/// torn. Hands back what is to be sent, in order. A message of another kind changes nothing. After want of memory nothing
-/// has changed.
+/// Takes a Resv: the leg that waits for it is cross-connected and the Resv goes back, or no label
+/// is left and the LSP is torn. Hands back what is to be sent, in order. A message of another kind
+/// changes nothing. After want of memory nothing has changed.
 pub fn resv(
     alloc: Global,
     tables: &mut NodeTables,
@@ -28,7 +28,8 @@ pub fn resv(
     ensures ok { OnOk result (tables.new ≡ after_resv tables.old from msg.now) }
     ensures sent { IfOk result (λ outs. outs ≡ (resv_answer tables.old from msg.now).sent) }
     ensures none { (resv_answer tables.old from msg.now).legs ≡ [] → owner.new ≡ owner.old }
-    ensures none_shares { (resv_answer tables.old from msg.now).legs ≡ [] → shares.new ≡ shares.old }
+    ensures none_shares { (resv_answer tables.old from msg.now).legs ≡ [] →
+        shares.new ≡ shares.old }
     ensures fits { TablesFit tables.new owner.new shares.new }
     ensures err { OnErr result (tables.new ≡ tables.old) }
     ensures err_owner { OnErr result (owner.new ≡ owner.old) }
@@ -38,9 +39,9 @@ pub fn resv(
     handle(alloc, tables, owner, shares, change)
 }
 
-/// Takes a PathErr: with Path_State_Removed it takes an Asked leg away and is passed back, or a torn leg, whose next node has
-/// let go. Hands back what is to be sent, in order. A message of another kind changes nothing. After want of memory nothing
-/// has changed.
+/// Takes a PathErr: with Path_State_Removed it takes an Asked leg away and is passed back, or a
+/// torn leg, whose next node has let go. Hands back what is to be sent, in order. A message of
+/// another kind changes nothing. After want of memory nothing has changed.
 pub fn path_err(
     alloc: Global,
     tables: &mut NodeTables,
@@ -53,7 +54,8 @@ pub fn path_err(
     ensures ok { OnOk result (tables.new ≡ after_path_err tables.old from msg.now) }
     ensures sent { IfOk result (λ outs. outs ≡ (path_err_answer tables.old from msg.now).sent) }
     ensures none { (path_err_answer tables.old from msg.now).legs ≡ [] → owner.new ≡ owner.old }
-    ensures none_shares { (path_err_answer tables.old from msg.now).legs ≡ [] → shares.new ≡ shares.old }
+    ensures none_shares { (path_err_answer tables.old from msg.now).legs ≡ [] →
+        shares.new ≡ shares.old }
     ensures fits { TablesFit tables.new owner.new shares.new }
     ensures err { OnErr result (tables.new ≡ tables.old) }
     ensures err_owner { OnErr result (owner.new ≡ owner.old) }

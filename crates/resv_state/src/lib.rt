@@ -1,5 +1,5 @@
-//! What a Resv and a PathErr with Path_State_Removed do to the legs of a node (RFC 2205, section 3.1.4; RFC 3473,
-//! sections 2 and 4.4).
+//! What a Resv and a PathErr with Path_State_Removed do to the legs of a node
+//! (RFC 2205, section 3.1.4; RFC 3473, sections 2 and 4.4).
 #![tactic(auto)]
 
 mod handlers;

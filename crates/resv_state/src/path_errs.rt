@@ -28,7 +28,12 @@ impl<'a> Model for PathFailure<'a> {
 
     ghost Value = { path_errs.PathFailure };
 
-    ghost view = { λ e. record { lsp = e.lsp; msg = e.msg.now; removed = e.removed; code = e.code } };
+    ghost view = { λ e. record {
+      lsp = e.lsp;
+      msg = e.msg.now;
+      removed = e.removed;
+      code = e.code;
+    } };
 }
 
 fn pass_err(alloc: Global, leg: &Leg, failure: &PathFailure<'_>) -> Result<Change, OutOfMemory>
@@ -88,7 +93,8 @@ fn refuses_leg(tables: &NodeTables, from: NodeId, failure: &PathFailure<'_>) -> 
     }
 }
 
-/// Whether the message is a PathErr that takes the Asked leg of an LSP away that begins here: its call follows.
+/// Whether the message is a PathErr that takes the Asked leg of an LSP away that begins here: its
+/// call follows.
 pub fn refuses(tables: &NodeTables, from: NodeId, msg: &Msg) -> bool
     ensures { result ≡ refuses tables.now from msg.now }
 {
@@ -111,8 +117,8 @@ pub fn refuses(tables: &NodeTables, from: NodeId, msg: &Msg) -> bool
     }
 }
 
-/// What a PathErr would change and send: one that tells that the state was removed takes an Asked or a torn leg away. A
-/// message of another kind does nothing.
+/// What a PathErr would change and send: one that tells that the state was removed takes an Asked
+/// or a torn leg away. A message of another kind does nothing.
 pub fn path_err_change(
     alloc: Global,
     tables: &NodeTables,

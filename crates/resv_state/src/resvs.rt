@@ -101,7 +101,8 @@ fn pass_label(
     Change::puts(alloc, labelled, back.node, msg)
 }
 
-// The labels that may go back: those that were offered and are usable now, as the owner and the shares tell.
+// The labels that may go back: those that were offered and are usable now, as the owner and the
+// shares tell.
 fn labels_left(
     tables: &NodeTables,
     owner: &Owner,
@@ -184,7 +185,8 @@ fn connects_leg(tables: &NodeTables, arrival: Arrival, label: Label) -> bool
     }
 }
 
-/// Whether the message is a Resv by which the leg of an LSP that begins here gets its label: its call follows.
+/// Whether the message is a Resv by which the leg of an LSP that begins here gets its label: its
+/// call follows.
 pub fn connects(tables: &NodeTables, from: NodeId, msg: &Msg) -> bool
     ensures { result ≡ connects tables.now from msg.now }
 {
@@ -199,8 +201,9 @@ pub fn connects(tables: &NodeTables, from: NodeId, msg: &Msg) -> bool
     }
 }
 
-/// What a Resv would change and send: the leg that waits for it gets its labels, is cross-connected where it is a working leg,
-/// and the Resv goes back; or the LSP is torn. A message of another kind does nothing.
+/// What a Resv would change and send: the leg that waits for it gets its labels, is cross-connected
+/// where it is a working leg, and the Resv goes back; or the LSP is torn. A message of another kind
+/// does nothing.
 pub fn resv_change(
     alloc: Global,
     tables: &NodeTables,
