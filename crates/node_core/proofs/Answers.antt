@@ -1,16 +1,12 @@
 -- A node's answer to any input fits, and so does the node after it.
-use Rattle.std.proofs.Common.{◌≡◌, ◌∙◌, ◌≤◌, List, [], ap, sym, subst, Result, Ok, Err, arith}
-use Rattle.std.specs.Prelude.{IfSome, None, OnErr, OnOk, Option, Some}
+use Rattle.std.proofs.Common.{◌≡◌, ◌∙◌, List, [], ap, sym, subst, Result, Ok, Err, arith}
+use Rattle.std.specs.Prelude.{OnErr, OnOk}
 use Rattle.ason_base.specs.Network.{IsTopology, Network}
-use Rattle.ason_base.specs.declared.ids.LinkId.{LinkId}
 use Rattle.ason_base.specs.declared.ids.NodeId.{NodeId}
-use Rattle.ason_base.specs.declared.network.LinkSpec.{LinkSpec}
 use Rattle.link_owner.specs.Claims.{FibreClaims}
 use Rattle.link_owner.specs.Owners.{none_claimed}
 use Rattle.share_check.specs.declared.guards.Guard.{Guard}
-use Rattle.mesh_rules.specs.LocalNodes.{LocalNode, local_node, own_link}
-use Rattle.mesh_nodes.specs.LocalNodes.{LocalNodeFits}
-use Rattle.mesh_nodes.proofs.Links.{own-is}
+use Rattle.mesh_rules.specs.LocalNodes.{local_node}
 use Rattle.mesh_nodes.proofs.NewNodes.{new-fits}
 use Rattle.leg_table.specs.Fits.{TablesFit}
 use Rattle.leg_table.specs.LegClaims.{AreOfOneNode, MayBeMade}

@@ -1,6 +1,6 @@
 -- The route that a search in a prepared network gives is the least one as a function.
 use Rattle.std.proofs.Common.{◌≡◌, ◌↔◌, ℕ, zero, suc, Bool, true, false, List, [], length, replicate, refl, sym, ap, subst, Contains}
-use Rattle.std.specs.Prelude.{Option, Some, None}
+use Rattle.std.specs.Prelude.{Some, None}
 use Rattle.ason_base.specs.Walks.{NoLink, NoNode}
 use Rattle.ason_base.specs.declared.ids.NodeId.{NodeId}
 use Rattle.ason_base.specs.declared.network.TeRow.{TeRow}

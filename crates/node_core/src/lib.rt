@@ -1,4 +1,5 @@
-//! One node of an optical network: its connection and call controllers over the tables of its legs and calls (ITU-T G.8080).
+//! One node of an optical network: its connection and call controllers over the tables of its legs
+//! and calls (ITU-T G.8080).
 #![tactic(auto)]
 
 pub mod inputs;

@@ -15,7 +15,7 @@ ghost use Rattle.node_core.specs.Nodes.{IsAnswerOf, IsNode, IsWritableInput, May
 
 use crate::inputs::Input;
 use crate::rows::{call_rows, leg_rows};
-use crate::rules::on_input;
+use crate::rules::{NodeParts, on_input};
 use ason_base::{Copied, LinkId, NodeId, OutOfMemory, Outs, TableRows, Topology};
 use leg_table::carrying::carry_out;
 use leg_table::{Calls, Change, NodeTables};
@@ -24,8 +24,8 @@ use share_check::Shares;
 use std::alloc::Global;
 use std::marker::Model;
 
-/// One node: the tables of its links and legs, who has the labels of the fibres that come in, which risks keep backups off
-/// them, and its calls.
+/// One node: the tables of its links and legs, who has the labels of the fibres that come in, which
+/// risks keep backups off them, and its calls.
 #[derive(Debug, Drop)]
 pub struct Node {
     tables: NodeTables,
@@ -47,7 +47,8 @@ impl Model for Node {
 }
 
 impl Node {
-    /// Node `id` of this topology, with no leg and no call. A number that no node has gives a node without links.
+    /// Node `id` of this topology, with no leg and no call. A number that no node has gives a node
+    /// without links.
     pub fn new(alloc: Global, t: &Topology, id: NodeId) -> Result<Node, OutOfMemory>
         ensures { IfOk result (λ n. n ≡ record { place = local_node t.now id; state = new_node }) }
     {
@@ -69,7 +70,8 @@ impl Node {
         self.tables.node().id
     }
 
-    /// Law: the node knows its own links, what it keeps fits them, and routes can be asked of the rows that it knows.
+    /// Law: the node knows its own links, what it keeps fits them, and routes can be asked of the
+    /// rows that it knows.
     pub fn fits(&self)
         ensures place { LocalNodeFits self.now.place }
         ensures state { NodeFits self.now.place self.now.state }
@@ -93,19 +95,18 @@ impl Node {
         ensures few { IfOk result (λ c. length c.sent ≤ 65536) }
     {
         self.fits();
-        let change = on_input(
-            alloc,
-            &self.tables,
-            &self.owner,
-            &self.shares,
-            &self.calls,
-            input,
-        )?;
+        let parts = NodeParts {
+            tables: &self.tables,
+            owner: &self.owner,
+            shares: &self.shares,
+            calls: &self.calls,
+        };
+        let change = on_input(alloc, &parts, input)?;
         Ok(change)
     }
 
-    /// Carries out what the node answers to some input that may come, and hands back what is to be sent, in order. After want of
-    /// memory the node is unchanged.
+    /// Carries out what the node answers to some input that may come, and hands back what is to be
+    /// sent, in order. After want of memory the node is unchanged.
     pub fn carry_out(&mut self, change: Change) -> Result<Outs, OutOfMemory>
         requires { IsAnswerOf self.old change }
         ensures place { self.new.place ≡ self.old.place }
@@ -122,8 +123,9 @@ impl Node {
         )
     }
 
-    /// Takes one input by the rules of the mesh, and hands back what is to be sent, in order. Of rows of links those alone may
-    /// come that the node may learn. After want of memory the node is unchanged.
+    /// Takes one input by the rules of the mesh, and hands back what is to be sent, in order. Of
+    /// rows of links those alone may come that the node may learn. After want of memory the node is
+    /// unchanged.
     pub fn step(&mut self, alloc: Global, input: &Input) -> Result<Outs, OutOfMemory>
         requires { MayTake self.old input.now }
         ensures ok { OnOk result (self.new ≡ stepped self.old input.now) }

@@ -17,7 +17,8 @@ fn no_rows(alloc: Global, count: usize) -> Result<Vec<bool>, OutOfMemory>
     Ok(closed)
 }
 
-/// The least route over these rows from the one node to the other: none exactly where no walk joins them.
+/// The least route over these rows from the one node to the other: none exactly where no walk joins
+/// them.
 pub(crate) fn least_route(
     alloc: Global,
     rows: &[TeRow],
@@ -36,8 +37,8 @@ pub(crate) fn least_route(
     }
 }
 
-/// The least route over these rows that is risk-disjoint from the primary one and shares no inner node with it: none exactly where
-/// there is none, or a link of the primary route has no row.
+/// The least route over these rows that is risk-disjoint from the primary one and shares no inner
+/// node with it: none exactly where there is none, or a link of the primary route has no row.
 pub(crate) fn least_backup(
     alloc: Global,
     rows: &[TeRow],

@@ -29,6 +29,16 @@ use resv_state::{connects, path_err_change, refuses, resv_change};
 use share_check::Shares;
 use std::alloc::Global;
 
+/// What one node has, for reading: its tables, the owner of its labels, the shares of its backups
+/// and its calls.
+#[derive(Clone, Copy, Drop)]
+pub(crate) struct NodeParts<'a> {
+    pub tables: &'a NodeTables,
+    pub owner: &'a Owner,
+    pub shares: &'a Shares,
+    pub calls: &'a Calls,
+}
+
 // Messages
 
 // The least backup route beside the LSP of this leg, where one is sought.
@@ -65,28 +75,24 @@ fn follow_resv(
     answer_resv(alloc, change, tables, calls, lsp, backup.as_ref())
 }
 
-/// A message, and the neighbour from which it came.
-#[derive(Clone, Copy, Drop)]
-struct Received<'a> {
-    from: NodeId,
-    msg: &'a Msg,
-}
-
 // What a message from a neighbour does. At the ingress its call follows the leg.
 fn on_message(
     alloc: Global,
-    tables: &NodeTables,
-    owner: &Owner,
-    shares: &Shares,
-    calls: &Calls,
-    received: Received<'_>,
+    parts: &NodeParts<'_>,
+    from: NodeId,
+    msg: &Msg,
 ) -> Result<Change, OutOfMemory>
-    requires tables { TablesFit tables.now owner.now shares.now }
-    requires rows { CanSearch tables.now }
+    requires tables { TablesFit parts.now.tables.now parts.now.owner.now parts.now.shares.now }
+    requires rows { CanSearch parts.now.tables.now }
     ensures { IfOk result
-        (λ c. c ≡ message_here tables.now calls.now received.from received.msg.now) }
+        (λ c. c ≡ message_here parts.now.tables.now parts.now.calls.now from msg.now) }
 {
-    let Received { from, msg } = received;
+    let NodeParts {
+        tables,
+        owner,
+        shares,
+        calls,
+    } = *parts;
     match msg {
         Msg::Path { .. } => path_change(alloc, tables, owner, shares, from, msg),
         Msg::Resv { lsp, .. } => {
@@ -229,23 +235,18 @@ fn on_row(
 /// What an input does: what the node answers to it.
 pub(crate) fn on_input(
     alloc: Global,
-    tables: &NodeTables,
-    owner: &Owner,
-    shares: &Shares,
-    calls: &Calls,
+    parts: &NodeParts<'_>,
     input: &Input,
 ) -> Result<Change, OutOfMemory>
-    requires tables { TablesFit tables.now owner.now shares.now }
-    requires rows { CanSearch tables.now }
-    ensures { IfOk result (λ c. c ≡ answer_to (node_of tables.now calls.now) input.now) }
+    requires tables { TablesFit parts.now.tables.now parts.now.owner.now parts.now.shares.now }
+    requires rows { CanSearch parts.now.tables.now }
+    ensures { IfOk result
+        (λ c. c ≡ answer_to (node_of parts.now.tables.now parts.now.calls.now) input.now) }
 {
     match input {
-        Input::Message { from, msg } => {
-            let received = Received { from: *from, msg };
-            on_message(alloc, tables, owner, shares, calls, received)
-        }
-        Input::Desk(item) => on_item(alloc, tables, calls, item),
-        Input::Tick => Ok(on_tick(alloc, tables, calls)),
-        Input::Learn(row) => on_row(alloc, tables, calls, row),
+        Input::Message { from, msg } => on_message(alloc, parts, *from, msg),
+        Input::Desk(item) => on_item(alloc, parts.tables, parts.calls, item),
+        Input::Tick => Ok(on_tick(alloc, parts.tables, parts.calls)),
+        Input::Learn(row) => on_row(alloc, parts.tables, parts.calls, row),
     }
 }

@@ -1,4 +1,4 @@
-use Rattle.std.proofs.Common.{◌≡◌, ◌∙◌, ap, sym}
+use Rattle.std.proofs.Common.{◌∙◌, ap, sym}
 use Rattle.mesh_rules.specs.Changes.{followed_by}
 use Rattle.call_control.specs.Rules.{answered_here, refused_here}
 use Rattle.node_core.proofs.Followed.{err-cases, resv-cases}
@@ -7,10 +7,10 @@ use Rattle.node_core.proofs.rules.on_message.Goals.{then-connects+in_ok-follow_r
 
 pub returns-after-connects : goal.returns-after-connects
 returns-after-connects c =
-    let t = c.args.tables.now in
-    let k = c.args.calls.now in
+    let t = c.args.parts.now.tables.now in
+    let k = c.args.parts.now.calls.now in
     let m = c.in-Resv in
-    let cases = resv-cases t k c.args.received.from m.lsp m.egress m.link m.label c.args.received.msg.now m.is in
+    let cases = resv-cases t k c.args.from m.lsp m.egress m.link m.label c.args.msg.now m.is in
     elim c.if-connects.branch [
       | then-connects+in_ok-follow_resv-in-Resv w ↦
           w.change-is ∙ w.in_ok-follow_resv-in-Resv.ensures
@@ -21,10 +21,10 @@ returns-after-connects c =
 
 pub returns-after-refuses : goal.returns-after-refuses
 returns-after-refuses c =
-    let t = c.args.tables.now in
-    let k = c.args.calls.now in
+    let t = c.args.parts.now.tables.now in
+    let k = c.args.parts.now.calls.now in
     let m = c.in-PathErr in
-    let cases = err-cases t k c.args.received.from m.lsp m.egress m.at m.removed m.code c.args.received.msg.now m.is in
+    let cases = err-cases t k c.args.from m.lsp m.egress m.at m.removed m.code c.args.msg.now m.is in
     elim c.if-refuses.branch [
       | then-refuses+in_ok-refuse_lsp-in-PathErr w ↦
           w.change-is ∙ w.in_ok-refuse_lsp-in-PathErr.ensures
