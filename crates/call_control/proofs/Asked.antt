@@ -47,7 +47,8 @@ together old g out c next = λ i. record {
 
 pub backup-begins : (t : LegTable) (c : CallTable) (r : PairRequest) (b : BackupRoute) (old : Answer) → RowsAreKnown t →
     b.primary ≡ route_from (local_of t) r.work →
-    in_pieces old (asked_here t (backup_over c r.work b.out b.rest b.primary)) (pairing r.call (beside_lsp r.work.lsp c.lsp))
+    in_pieces old (asked_here t (backup_over c r.work b.out b.rest b.primary))
+    (pairing r.call (beside_lsp r.work.lsp c.lsp))
     (record { tunnel = c.tunnel; lsp = c.lsp + 1 })
     ≡ followed_by old (begins_here t c r b)
 backup-begins t c r b old known primary =
@@ -80,9 +81,11 @@ backup-begun t c old {r} {ri} {b} {bi} {asked} {called} {used} {new} {lsp} {pair
     used_is
     ∙ ap (λ n. with_next called n) next_is
     ∙ ap (λ a. with_next a next_here) (called_is
-    ∙ ap (λ a. followed_by a (changes_calls (call.Put paired ∷ []))) (asked_is ∙ ap (λ n. followed_by old (asked_here t n)) is)
+    ∙ ap (λ a. followed_by a (changes_calls (call.Put paired ∷ [])))
+    (asked_is ∙ ap (λ n. followed_by old (asked_here t n)) is)
     ∙ ap (λ p. followed_by (followed_by old (asked_here t new_here)) (changes_calls (call.Put p ∷ [])))
-    (paired_is ∙ ap (pairing ri.call) (lsp_is ∙ ap (λ n. n.lsp) is) ∙ ap (λ q. pairing q.call (beside_lsp r.work.lsp c.lsp)) same_r))
+    (paired_is ∙ ap (pairing ri.call) (lsp_is ∙ ap (λ n. n.lsp) is)
+    ∙ ap (λ q. pairing q.call (beside_lsp r.work.lsp c.lsp)) same_r))
     ∙ backup-begins t c r b old known primary
   where
     with_next : Answer → NextNumbers → Answer

@@ -25,7 +25,8 @@ module _ (t : LegTable) (c : CallTable) (w : SetupRequest) (known : RowsAreKnown
   over-found None route e = absurd (cc e)
   over-found (Some r) route e = let is : route ≡ r.steps = cc e in ap (over_here t c w) is
 
-  pub found_over : (route : List Step) → Some route ≡ found_route t w.egress → over_here t c w route ≡ searched_here t c w
+  pub found_over : (route : List Step) → Some route ≡ found_route t w.egress →
+      over_here t c w route ≡ searched_here t c w
   found_over route e = over-found (least_trip rows (local_of t).id w.egress) route (found-here (Some route) e)
 
   refused-found : (o : Option Trip) → None ≡ steps_of o →

@@ -1,3 +1,5 @@
+pub mod Handlers
+pub mod Ingress
 pub mod PairRules
 pub mod Requests
 pub mod Rules

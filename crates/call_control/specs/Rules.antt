@@ -1,6 +1,7 @@
 -- The rules of calls at an ingress of these tables.
-use Rattle.std.specs.Prelude.{[], ◌∷◌, List, Option, Some, None}
+use Rattle.std.specs.Prelude.{[], ◌∷◌, List, Option, Some, None, if◌then◌else◌}
 use Rattle.ason_base.specs.Labels.{up_to}
+use Rattle.ason_base.specs.declared.calls.Role.{Role}
 use Rattle.ason_base.specs.declared.codes.ErrCode.{ErrCode}
 use Rattle.ason_base.specs.declared.ids.CallNo.{CallNo}
 use Rattle.ason_base.specs.declared.ids.Lsp.{Lsp}
@@ -12,10 +13,10 @@ use Rattle.ason_base.specs.declared.steps.Step.{Step}
 use Rattle.ason_base.specs.declared.tables.CallRec.{CallRec}
 use Rattle.ason_base.specs.declared.tables.Leg.{Leg}
 use Rattle.mesh_rules.specs.Calls.{call_with}
-use Rattle.mesh_rules.specs.CallSteps.{call_answered, call_refused}
+use Rattle.mesh_rules.specs.CallSteps.{backup_refused, call_answered, call_refused, work_refused}
 use Rattle.mesh_rules.specs.Changes.{Answer, nothing, puts}
 use Rattle.mesh_rules.specs.FirstLegs.{NewLsp, first_leg, first_link, first_path}
-use Rattle.mesh_rules.specs.Legs.{find_leg}
+use Rattle.mesh_rules.specs.Legs.{find_leg, is_work}
 use Rattle.mesh_rules.specs.Protects.{on_protect}
 use Rattle.mesh_rules.specs.Releases.{on_release}
 use Rattle.mesh_rules.specs.Setups.{SetupRequest, admitted_setup, begins, new_call, on_setup, over_first}
@@ -67,6 +68,10 @@ answered_for t c call (Some g) = call_answered (local_of t) (state_of t c) g cal
 -- the call of an LSP that has its labels
 abbrev pub answered_here : LegTable → CallTable → Lsp → Answer
 answered_here t c l = answered_for t c (call_with l c.calls) (find_leg l t.legs)
+
+-- a call whose LSP of this role is refused
+abbrev pub refused_as : ErrCode → Role → CallRec → Answer
+refused_as code role c = if is_work role then work_refused code c else backup_refused code c
 
 abbrev pub refused_for : ErrCode → Option CallRec → Option Leg → Answer
 refused_for code call None = nothing

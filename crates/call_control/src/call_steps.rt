@@ -5,7 +5,8 @@ ghost use Rattle.std.specs.Option.{option_copied};
 ghost use Rattle.mesh_rules.specs.Changes.{followed_by};
 ghost use Rattle.mesh_nodes.specs.LocalNodes.{LocalNodeFits};
 ghost use Rattle.leg_table.specs.States.{local_of};
-ghost use Rattle.call_control.specs.Rules.{answered_here, refused_here};
+ghost use Rattle.call_control.specs.Handlers.{gone_here, named_role};
+ghost use Rattle.call_control.specs.Rules.{answered_here, refused_as, refused_here};
 ghost use Rattle.call_control.specs.Searches.{IsBackupFor, RowsAreKnown, has_no_backup, is_paired_by_resv, sought_by_resv};
 
 use crate::call_states::{bare, blocked, guarded, is_asking};
@@ -30,8 +31,8 @@ pub(crate) fn has_no_backup(call: &CallRec) -> bool
     call.backup.is_none()
 }
 
-/// The leg beside whose LSP a backup route is to be searched for once this LSP, which begins here, has its labels: that of a
-/// protected call that was asked for and was given no backup route.
+/// The leg beside whose LSP a backup route is to be searched for once this LSP, which begins here,
+/// has its labels: that of a protected call that was asked for and was given no backup route.
 pub fn sought_by_resv<'a>(tables: &'a NodeTables, calls: &Calls, lsp: Lsp) -> Option<&'a Leg>
     ensures { option_copied result ≡ sought_by_resv tables.now calls.now lsp }
 {
@@ -41,9 +42,9 @@ pub fn sought_by_resv<'a>(tables: &'a NodeTables, calls: &Calls, lsp: Lsp) -> Op
     }
 }
 
-/// What becomes of the call of this LSP, which begins here and has its labels now: a call that was asked for stands, and a backup
-/// is asked for if it is to be protected; a call whose backup was asked for is guarded. The backup route is the least one that is
-/// found where one is sought.
+/// What becomes of the call of this LSP, which begins here and has its labels now: a call that was
+/// asked for stands, and a backup is asked for if it is to be protected; a call whose backup was
+/// asked for is guarded. The backup route is the least one that is found where one is sought.
 pub fn answer_resv(
     alloc: Global,
     change: &mut Change,
@@ -79,8 +80,38 @@ pub fn answer_resv(
 
 // A PathErr
 
-/// What becomes of the call of this LSP, which begins here and is refused with this code: a call that was asked for is blocked,
-/// and one whose backup was asked for stands without it.
+// The call's LSP of this role is refused.
+fn refuse_as(
+    alloc: Global,
+    change: &mut Change,
+    call: &CallRec,
+    role: Role,
+    code: ErrCode,
+) -> Result<(), OutOfMemory>
+    ensures { OnOk result
+        (change.new ≡ followed_by change.old (refused_as code role call.now)) }
+{
+    let cause = Cause::Code(code);
+    match (role, call.state) {
+        (Role::Work, CallState::Asking) => change.put_call(blocked(alloc, call, cause)?),
+        (Role::Back, CallState::Pairing) => leave_bare(alloc, change, call, cause),
+        _ => Ok(()),
+    }
+}
+
+// The role of an LSP that the call names.
+fn named_role(call: &CallRec, lsp: Lsp) -> Role
+    ensures { result ≡ named_role call.now lsp }
+{
+    if call.work == Some(lsp) {
+        Role::Work
+    } else {
+        Role::Back
+    }
+}
+
+/// What becomes of the call of this LSP, which begins here and is refused with this code: a call
+/// that was asked for is blocked, and one whose backup was asked for stands without it.
 pub fn refuse_lsp(
     alloc: Global,
     change: &mut Change,
@@ -95,10 +126,22 @@ pub fn refuse_lsp(
     let (Some(call), Some(leg)) = (calls.with_lsp(lsp), tables.get(&lsp)) else {
         return Ok(());
     };
-    let cause = Cause::Code(code);
-    match (leg.role, call.state) {
-        (Role::Work, CallState::Asking) => change.put_call(blocked(alloc, call, cause)?),
-        (Role::Back, CallState::Pairing) => leave_bare(alloc, change, call, cause),
-        _ => Ok(()),
-    }
+    refuse_as(alloc, change, call, leg.role, code)
+}
+
+/// The same where the LSP's leg has gone: the call tells whether it was its working LSP.
+pub(crate) fn refuse_gone(
+    alloc: Global,
+    change: &mut Change,
+    calls: &Calls,
+    lsp: Lsp,
+    code: ErrCode,
+) -> Result<(), OutOfMemory>
+    ensures { OnOk result
+        (change.new ≡ followed_by change.old (gone_here calls.now lsp code)) }
+{
+    let Some(call) = calls.with_lsp(lsp) else {
+        return Ok(());
+    };
+    refuse_as(alloc, change, call, named_role(call, lsp), code)
 }

@@ -1,4 +1,5 @@
-//! An LSP at the node where it begins: its leg, and the Path that asks for it (RFC 2205, section 3.1.3).
+//! An LSP at the node where it begins: its leg, and the Path that asks for it (RFC 2205, section
+//! 3.1.3).
 
 ghost use Rattle.std.specs.Prelude.{◌≡◌, ◌≤◌, IfOk, OnOk};
 ghost use Rattle.mesh_rules.specs.Changes.{followed_by};
@@ -18,7 +19,8 @@ use mesh_rules::links::fibre_out;
 use std::alloc::Global;
 use std::marker::Model;
 
-/// An LSP that is asked for: over which link it leaves, over which steps it goes on from there, and for what.
+/// An LSP that is asked for: over which link it leaves, over which steps it goes on from there,
+/// and for what.
 #[derive(Drop)]
 pub(crate) struct NewLsp<'a> {
     pub(crate) lsp: Lsp,
@@ -33,7 +35,13 @@ impl<'a> Model for NewLsp<'a> {
 
     ghost Value = { first_legs.NewLsp };
 
-    ghost view = { λ n. record { lsp = n.lsp; egress = n.egress; out = n.out.now; route = n.route; role = n.role } };
+    ghost view = { λ n. record {
+      lsp = n.lsp;
+      egress = n.egress;
+      out = n.out.now;
+      route = n.route;
+      role = n.role;
+    } };
 }
 
 fn role_of(role: &PathRole) -> Role
@@ -94,7 +102,8 @@ fn first_leg(tables: &NodeTables, new: NewLsp<'_>, risks: RiskSet) -> Leg
     }
 }
 
-/// The LSP is asked for: its leg is put in its place, with these risks of its primary, and the Path is sent.
+/// The LSP is asked for: its leg is put in its place, with these risks of its primary, and the
+/// Path is sent.
 pub(crate) fn ask_for(
     alloc: Global,
     change: &mut Change,

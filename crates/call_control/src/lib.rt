@@ -1,17 +1,21 @@
-//! Call control at an ingress (ITU-T G.8080): setups and releases, the backups of protected calls, and what becomes of a call
-//! after its LSPs. Routes that are searched for are handed in.
+//! Call control at an ingress (ITU-T G.8080): setups and releases, the backups of protected calls,
+//! and what becomes of a call after its LSPs. What each changes is told, or carried out by a
+//! handler. Routes that are searched for are handed in.
 #![tactic(auto)]
 
 mod call_states;
 mod call_steps;
 mod first_legs;
+pub mod handlers;
 mod ingress;
+pub mod laws;
 mod pairs;
 mod protects;
 mod releases;
 mod setups;
 
 pub use call_steps::{answer_resv, refuse_lsp, sought_by_resv};
+pub use handlers::{answer, command, setup};
 pub use pairs::route_from;
 pub use protects::{protect, sought_by_protect};
 pub use releases::release;

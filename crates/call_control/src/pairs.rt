@@ -36,7 +36,8 @@ pub fn route_from(alloc: Global, tables: &NodeTables, leg: &Leg) -> Result<Steps
     Ok(Steps::from_vec(route))
 }
 
-/// A call whose working LSP stands, that LSP's leg here, and the backup route that was found, if any.
+/// A call whose working LSP stands, that LSP's leg here, and the backup route that was found, if
+/// any.
 #[derive(Drop)]
 pub(crate) struct PairRequest<'a> {
     pub(crate) call: &'a CallRec,
@@ -50,7 +51,11 @@ impl<'a> Model for PairRequest<'a> {
 
     ghost Value = { requests.PairRequest };
 
-    ghost view = { λ r. record { call = r.call.now; work = r.work.now; found = option_copied r.found } };
+    ghost view = { λ r. record {
+      call = r.call.now;
+      work = r.work.now;
+      found = option_copied r.found;
+    } };
 }
 
 /// The route of the working LSP, and its risks.
@@ -201,8 +206,9 @@ fn pair_over(
     admit_backup(alloc, change, tables, calls, request, route)
 }
 
-/// A backup is asked for beside the call's working LSP, over the route that was given, else over the least one that was found;
-/// or the call stands without one. None is asked for where a link of the working route isn't known.
+/// A backup is asked for beside the call's working LSP, over the route that was given, else over
+/// the least one that was found; or the call stands without one. None is asked for where a link of
+/// the working route isn't known.
 pub(crate) fn pair(
     alloc: Global,
     change: &mut Change,

@@ -30,8 +30,8 @@ fn unprotected<'a>(
     }
 }
 
-/// The leg beside whose LSP a backup route is to be searched for by this order: that of a call that stands without a backup and was
-/// given no backup route.
+/// The leg beside whose LSP a backup route is to be searched for by this order: that of a call
+/// that stands without a backup and was given no backup route.
 pub fn sought_by_protect<'a>(
     tables: &'a NodeTables,
     calls: &Calls,
@@ -46,8 +46,8 @@ pub fn sought_by_protect<'a>(
     }
 }
 
-/// What the order does: a backup is asked for beside the working LSP of a call that stands without one. The backup route is the
-/// least one that is found where one is sought.
+/// What the order does: a backup is asked for beside the working LSP of a call that stands without
+/// one. The backup route is the least one that is found where one is sought.
 pub fn protect(
     alloc: Global,
     tables: &NodeTables,

@@ -217,7 +217,8 @@ fn call_searched(
     }
 }
 
-/// Whether the setup makes a call here that is given no route: then the least route is to be handed in.
+/// Whether the setup makes a call here that is given no route: then the least route is to be
+/// handed in.
 pub fn seeks_route(tables: &NodeTables, calls: &Calls, request: &SetupRequest<'_>) -> bool
     requires { LocalNodeFits (local_of tables.now) }
     ensures { result ≡ seeks_route tables.now calls.now request.now }
@@ -225,7 +226,8 @@ pub fn seeks_route(tables: &NodeTables, calls: &Calls, request: &SetupRequest<'_
     calls.get(request.call).is_none() && is_order_here(tables, request) && request.via.is_none()
 }
 
-/// What a setup does: an LSP is asked for, or the call is refused. The route is the least one where one is sought.
+/// What a setup does: an LSP is asked for, or the call is refused. The route is the least one
+/// where one is sought.
 pub fn set_up(
     alloc: Global,
     tables: &NodeTables,

@@ -1,0 +1,46 @@
+-- What is asked of the tables and the calls of an ingress.
+use Rattle.std.specs.Prelude.{◌≡◌, ◌<◌, ℕ, List, Option, Some, None, IfSome}
+use Rattle.std.specs.List.{AllByRecursion}
+use Rattle.ason_base.specs.declared.calls.Role.{Role}
+use Rattle.ason_base.specs.declared.calls.Role.TheVariants.{Work, Back}
+use Rattle.ason_base.specs.declared.ids.Lsp.{Lsp}
+use Rattle.ason_base.specs.declared.tables.CallRec.{CallRec}
+use Rattle.ason_base.specs.declared.tables.Leg.{Leg}
+use Rattle.mesh_rules.specs.Legs.{find_leg}
+use Rattle.mesh_rules.specs.LocalNodes.{LocalNode}
+use Rattle.mesh_rules.specs.State.{NodeState}
+use Rattle.mesh_nodes.specs.Kept.{NodeFits}
+use Rattle.mesh_nodes.specs.LocalNodes.{LocalNodeFits}
+use Rattle.leg_table.specs.States.{local_of, state_of}
+use Rattle.leg_table.specs.Tables.{CallTable, LegTable}
+use Rattle.call_control.specs.Searches.{RowsAreKnown}
+
+-- The LSPs of a call
+
+abbrev pub role_at : Option Leg → Option Role
+role_at None = None
+role_at (Some g) = Some g.role
+
+-- an LSP that a call names: it begins at node n, its number was given out, and its leg there, if one stands, has this
+-- role
+pub record IsNamedAs (n : ℕ) (next : ℕ) (legs : List Leg) (r : Role) (l : Lsp) : Type 0 where
+  pub ingress : l.ingress.0 ≡ n
+  pub number : l.lsp < next
+  pub role : IfSome (role_at (find_leg l legs)) (λ q. q ≡ r)
+
+-- the call names a working LSP as its working one and a backup as its backup
+pub record NamesByRole (n : ℕ) (next : ℕ) (legs : List Leg) (c : CallRec) : Type 0 where
+  pub work : IfSome c.work (IsNamedAs n next legs Work)
+  pub back : IfSome c.back (IsNamedAs n next legs Back)
+
+abbrev pub AllNameByRole : LocalNode → NodeState → Type 0
+AllNameByRole p s = AllByRecursion (NamesByRole p.id.0 s.lsp s.legs) s.calls
+
+-- An ingress
+
+-- its links, legs, calls and numbers fit, each call names its LSPs by their roles, and the rows are those that it knows
+pub record IngressFits (t : LegTable) (c : CallTable) : Type 0 where
+  pub links : LocalNodeFits (local_of t)
+  pub kept : NodeFits (local_of t) (state_of t c)
+  pub names : AllNameByRole (local_of t) (state_of t c)
+  pub rows : RowsAreKnown t

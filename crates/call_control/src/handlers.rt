@@ -1,0 +1,201 @@
+//! Commands, Resvs and PathErrs at an ingress, carried out over its tables and its calls.
+
+ghost use Rattle.std.specs.Prelude.{◌≡◌, IfOk, OnErr, OnOk};
+ghost use Rattle.std.specs.Option.{option_copied};
+ghost use Rattle.mesh_nodes.specs.LocalNodes.{LocalNodeFits};
+ghost use Rattle.leg_table.specs.LegClaims.{StaysOfOneNode};
+ghost use Rattle.leg_table.specs.States.{local_of, state_of};
+ghost use Rattle.leg_table.specs.Tables.{LegTable};
+ghost use Rattle.call_control.specs.Handlers.{AreSentFor, IsKeptAfter, IsRouteOf, WereBefore, after_command, after_setup, answer_here, command_answer, setup_answer, sought_by_answer, sought_by_command};
+ghost use Rattle.call_control.specs.Ingress.{IngressFits};
+ghost use Rattle.call_control.specs.Searches.{IsBackupFor, RowsAreKnown};
+
+use crate::call_steps::{answer_resv, refuse_gone};
+use crate::protects::protect;
+use crate::releases::release;
+use crate::setups::{SetupRequest, set_up};
+use ason_base::{Command, Msg, NodeId, OutOfMemory, Outs, Steps};
+use leg_table::handling::handle_calls;
+use leg_table::{Calls, Change, NodeTables};
+use std::alloc::Global;
+
+// Setups
+
+fn setup_change(
+    alloc: Global,
+    tables: &NodeTables,
+    calls: &Calls,
+    command: &Command,
+    route: Option<&Steps>,
+) -> Result<Change, OutOfMemory>
+    requires links { LocalNodeFits (local_of tables.now) }
+    requires rows { RowsAreKnown tables.now }
+    requires route { IsRouteOf tables.now calls.now command.now (option_copied route) }
+    ensures { IfOk result (λ c. c ≡ setup_answer tables.now calls.now command.now) }
+{
+    match command {
+        Command::Setup {
+            call,
+            from,
+            to,
+            protected,
+            both,
+            via,
+            backup,
+        } => {
+            let request = SetupRequest {
+                call: *call,
+                from: *from,
+                egress: *to,
+                protected: *protected,
+                both: *both,
+                via,
+                backup,
+            };
+            set_up(alloc, tables, calls, &request, route)
+        }
+        Command::Release { .. }
+        | Command::Protect { .. }
+        | Command::Retry { .. }
+        | Command::Revert { .. }
+        | Command::Fail { .. }
+        | Command::Repair { .. } => Ok(Change::nothing(alloc)),
+    }
+}
+
+/// Takes a setup: an LSP is asked for, over the route that was given, else over the least one,
+/// which is handed in; or the call is refused. Hands back what is to be sent, in order. Another
+/// command changes nothing. After want of memory nothing has changed.
+pub fn setup(
+    alloc: Global,
+    tables: &mut NodeTables,
+    calls: &mut Calls,
+    command: &Command,
+    route: Option<&Steps>,
+) -> Result<Outs, OutOfMemory>
+    requires fits { IngressFits tables.old calls.old }
+    requires route { IsRouteOf tables.old calls.old command.now (option_copied route) }
+    ensures ok { OnOk result
+        (state_of tables.new calls.new ≡ after_setup tables.old calls.old command.now) }
+    ensures sent { IfOk result
+        (λ outs. outs ≡ (setup_answer tables.old calls.old command.now).sent) }
+    ensures fits { IngressFits tables.new calls.new }
+    ensures local { local_of tables.new ≡ local_of tables.old }
+    ensures labels { StaysOfOneNode tables.old tables.new }
+    ensures err { OnErr result (tables.new ≡ tables.old) }
+    ensures err_calls { OnErr result (calls.new ≡ calls.old) }
+{
+    let change = setup_change(alloc, tables, calls, command, route)?;
+    handle_calls(alloc, tables, calls, change)
+}
+
+// Other commands
+
+fn command_change(
+    alloc: Global,
+    tables: &NodeTables,
+    calls: &Calls,
+    command: &Command,
+    backup: Option<&Steps>,
+) -> Result<Change, OutOfMemory>
+    requires links { LocalNodeFits (local_of tables.now) }
+    requires rows { RowsAreKnown tables.now }
+    requires backup { IsBackupFor tables.now
+        (sought_by_command tables.now calls.now command.now) (option_copied backup) }
+    ensures { IfOk result (λ c. c ≡ command_answer tables.now calls.now command.now) }
+{
+    match command {
+        Command::Release { call, from } => release(alloc, tables, calls, *call, *from),
+        Command::Protect { call, from } => protect(alloc, tables, calls, *call, *from, backup),
+        Command::Setup { .. }
+        | Command::Retry { .. }
+        | Command::Revert { .. }
+        | Command::Fail { .. }
+        | Command::Repair { .. } => Ok(Change::nothing(alloc)),
+    }
+}
+
+/// Takes the order to release a call, whose LSPs are torn, or to protect one: a backup is asked
+/// for, over the route that was given, else over the least one, which is handed in. Hands back
+/// what is to be sent, in order. Another command changes nothing. After want of memory nothing has
+/// changed.
+pub fn command(
+    alloc: Global,
+    tables: &mut NodeTables,
+    calls: &mut Calls,
+    command: &Command,
+    backup: Option<&Steps>,
+) -> Result<Outs, OutOfMemory>
+    requires fits { IngressFits tables.old calls.old }
+    requires backup { IsBackupFor tables.old
+        (sought_by_command tables.old calls.old command.now) (option_copied backup) }
+    ensures ok { OnOk result
+        (state_of tables.new calls.new ≡ after_command tables.old calls.old command.now) }
+    ensures sent { IfOk result
+        (λ outs. outs ≡ (command_answer tables.old calls.old command.now).sent) }
+    ensures fits { IngressFits tables.new calls.new }
+    ensures local { local_of tables.new ≡ local_of tables.old }
+    ensures labels { StaysOfOneNode tables.old tables.new }
+    ensures err { OnErr result (tables.new ≡ tables.old) }
+    ensures err_calls { OnErr result (calls.new ≡ calls.old) }
+{
+    let change = command_change(alloc, tables, calls, command, backup)?;
+    handle_calls(alloc, tables, calls, change)
+}
+
+// Messages
+
+fn answer_change(
+    alloc: Global,
+    tables: &NodeTables,
+    calls: &Calls,
+    msg: &Msg,
+    backup: Option<&Steps>,
+) -> Result<Change, OutOfMemory>
+    requires links { LocalNodeFits (local_of tables.now) }
+    requires rows { RowsAreKnown tables.now }
+    requires backup { IsBackupFor tables.now
+        (sought_by_answer tables.now calls.now msg.now) (option_copied backup) }
+    ensures { IfOk result (λ c. c ≡ answer_here tables.now calls.now msg.now) }
+{
+    let mut change = Change::nothing(alloc);
+    match msg {
+        Msg::Resv { lsp, .. } => {
+            answer_resv(alloc, &mut change, tables, calls, *lsp, backup)?;
+            Ok(change)
+        }
+        Msg::PathErr { lsp, code, .. } => {
+            refuse_gone(alloc, &mut change, calls, *lsp, *code)?;
+            Ok(change)
+        }
+        Msg::Path { .. } | Msg::PathTear { .. } | Msg::Notify { .. } => Ok(change),
+    }
+}
+
+/// Takes a Resv or a PathErr at the ingress of its LSP, after its rule was carried out on the leg:
+/// what becomes of the call. Hands back what is to be sent then, in order. A message of another
+/// kind changes nothing. After want of memory nothing has changed.
+pub fn answer(
+    alloc: Global,
+    tables: &mut NodeTables,
+    calls: &mut Calls,
+    from: NodeId,
+    msg: &Msg,
+    backup: Option<&Steps>,
+) -> Result<Outs, OutOfMemory>
+    requires before { (t : LegTable) × WereBefore tables.old calls.old from msg.now t }
+    requires backup { IsBackupFor tables.old
+        (sought_by_answer tables.old calls.old msg.now) (option_copied backup) }
+    ensures ok { OnOk result
+        (IsKeptAfter tables.old calls.old from msg.now (state_of tables.new calls.new)) }
+    ensures sent { IfOk result (AreSentFor tables.old calls.old from msg.now) }
+    ensures fits { OnOk result (IngressFits tables.new calls.new) }
+    ensures local { local_of tables.new ≡ local_of tables.old }
+    ensures labels { StaysOfOneNode tables.old tables.new }
+    ensures err { OnErr result (tables.new ≡ tables.old) }
+    ensures err_calls { OnErr result (calls.new ≡ calls.old) }
+{
+    let _from = from;
+    let change = answer_change(alloc, tables, calls, msg, backup)?;
+    handle_calls(alloc, tables, calls, change)
+}
