@@ -1,5 +1,5 @@
-//! The mesh over one link, over links that are learnt, and over the plans of examples/line.toml and examples/two.toml, whose
-//! rows are those that the program prints of them.
+//! The mesh over one link, over links that are learnt, and over the plans of examples/line.toml and
+//! examples/two.toml, whose rows are those that the program prints of them.
 
 use ason_base::{
     CallNo, CallRow, CallState, Cause, Command, LegRow, LinkId, LinkSpec, NodeId, NodeSpec,
@@ -81,7 +81,8 @@ fn learn(node: u32, link: u32) -> MeshEvent {
     }
 }
 
-/// Each node ticks, handles an item of its desk and takes a message of each other node, where there is one.
+/// Each node ticks, handles an item of its desk and takes a message of each other node, where there
+/// is one.
 fn round(alloc: Global, mesh: &mut MeshState, nodes: u32) {
     for n in 0..nodes {
         let node = NodeId(n + 1);
@@ -205,8 +206,9 @@ fn a_call_that_is_blocked(rt: HostRuntime) -> Result<(), Fail> {
     Ok(())
 }
 
-// A link is learnt from a neighbour that knows it, and a call goes over what its ingress learnt. Of the two routes of a square
-// that cost as much, the one with the lesser links is the least, once both are known.
+// A link is learnt from a neighbour that knows it, and a call goes over what its ingress learnt. Of
+// the two routes of a square that cost as much, the one with the lesser links is the least, once
+// both are known.
 #[test]
 fn calls_over_learnt_links(rt: HostRuntime) -> Result<(), Fail> {
     let alloc = rt.alloc();

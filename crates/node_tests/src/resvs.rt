@@ -30,7 +30,8 @@ const B: NodeId = NodeId(2);
 
 const C: NodeId = NodeId(3);
 
-/// What comes to b, of the LSP of some number. All LSPs begin at a and lead to c; the labels 1 and 2 were offered and sent on.
+/// What comes to b, of the LSP of some number. All LSPs begin at a and lead to c; the labels 1 and
+/// 2 were offered and sent on.
 #[derive(Clone, Copy, Drop)]
 enum Said {
     /// A Resv from this node with this label.

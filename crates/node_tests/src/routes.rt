@@ -74,7 +74,8 @@ fn entries(alloc: Global, potentials: &Potentials) -> Result<Vec<(u32, u32)>, Ou
     Ok(entries)
 }
 
-/// A question to `least` and its answer: the links and the cost, if there is a route, and the potentials.
+/// A question to `least` and its answer: the links and the cost, if there is a route, and the
+/// potentials.
 struct Case {
     edges: &'static [Edge],
     banned_links: &'static [u32],
@@ -242,7 +243,8 @@ const WAIST: &[Edge] = &[
     (4, 2, 3, 1, 0),
 ];
 
-/// A question to `pair` and its answer: the primary and the backup route, each if there is one, and the potentials of the primary.
+/// A question to `pair` and its answer: the primary and the backup route, each if there is one, and
+/// the potentials of the primary.
 struct PairCase {
     edges: &'static [Edge],
     from: u32,

@@ -16,25 +16,19 @@ const LSP: Lsp = Lsp {
     lsp: 2,
 };
 
-// The LSP guards an SRLG on label 7.
-fn some_shares(alloc: Global) -> Result<Shares, Fail> {
+// One SRLG.
+fn some_risks(alloc: Global) -> Result<RiskSet, Fail> {
     let mut risks = RiskSet::new(alloc);
     risks.push(Risk::Srlg(7))?;
-    let label = Label::new(7).ok_or("a label")?;
-    let mut shares = Shares::new(alloc);
-    shares.guard(alloc, FIBRE, label, LSP, &risks)?;
-    Ok(shares)
+    Ok(risks)
 }
 
 #[test]
 fn a_risk_is_guarded(rt: HostRuntime) -> Result<(), Fail> {
-    assert!(rt; some_shares(rt.alloc()).is_ok());
-    Ok(())
-}
-
-#[test]
-fn shares_are_copied(rt: HostRuntime) -> Result<(), Fail> {
-    let shares = some_shares(rt.alloc())?;
+    let label = Label::new(7).ok_or("a label")?;
+    let risks = some_risks(rt.alloc())?;
+    let mut shares = Shares::new(rt.alloc());
+    assert!(rt; shares.guard(rt.alloc(), FIBRE, label, LSP, &risks).is_ok());
     assert!(rt; shares.copy(rt.alloc()).is_ok());
     Ok(())
 }

@@ -1,4 +1,5 @@
-//! Refusals, torn legs that stand until the next node has let go, and the labels of nodes that don't convert.
+//! Refusals, torn legs that stand until the next node has let go, and the labels of nodes that
+//! don't convert.
 
 use crate::nodes::inputs::{A, B, C, Said, input};
 use crate::nodes::outs::{Told, tells};
@@ -18,7 +19,8 @@ pub(super) type Given = (u16, u16, &'static [Said]);
 /// A message: the node that it goes to, and what it tells.
 pub(super) type Sent = (NodeId, Told);
 
-/// What a table shows of a node: how many legs, the phase of the last one, and the state of the last call.
+/// What a table shows of a node: how many legs, the phase of the last one, and the state of the
+/// last call.
 pub(super) type Shown = (usize, Option<Phase>, Option<(CallState, Cause)>);
 
 /// A node, what it is given, what it sends at last, and what is shown of it then.
@@ -104,7 +106,8 @@ const CONVERTING: &[Case] = &[
             Some((CallState::Blocked, Cause::Full)),
         ),
     ),
-    // no given route: over the ingress's own link to its neighbour, and none to a node that no link leads to that it knows
+    // no given route: over the ingress's own link to its neighbour, and none to a node that no link
+    // leads to that it knows
     (
         A,
         &[(1, 1, &[Said::SetupTo(B)])],

@@ -10,7 +10,8 @@ use std::test::Fail;
 
 /// Of two nodes that two links join.
 const CASES: &[Case] = &[
-    // a backup whose primary goes over a link that the next node knows, and over one that it doesn't know
+    // a backup whose primary goes over a link that the next node knows, and over one that it
+    // doesn't know
     (
         B,
         &[(1, 1, &[Said::BackupPath(&[(1, 2)])])],
@@ -23,7 +24,8 @@ const CASES: &[Case] = &[
         &[(A, Told::Error(PRIMARY))],
         NOTHING,
     ),
-    // a protected call: its backup goes over the other link, and it is guarded once that is reserved
+    // a protected call: its backup goes over the other link, and it is guarded once that is
+    // reserved
     (
         A,
         &[(1, 1, &[Said::ProtectedTo(B), Said::Resv(B, 1, 1)])],
