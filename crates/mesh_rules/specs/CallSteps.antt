@@ -1,35 +1,34 @@
 -- What becomes of a call after a Resv or a PathErr at its ingress (ITU-T G.8080, call control). p is the node; s is what
--- it keeps; g is the leg, which begins here.
-use Rattle.std.specs.Prelude.{[], ◌∷◌, Option, Some, None, if◌then◌else◌}
+-- it keeps; g is the leg, which begins here, as the message leaves it.
+use Rattle.std.specs.Prelude.{Option, Some, None, if◌then◌else◌}
+use Rattle.ason_base.specs.Codes.{busy_code}
 use Rattle.ason_base.specs.declared.codes.ErrCode.{ErrCode}
 use Rattle.ason_base.specs.declared.calls.Cause.TheVariants.{Code}
 use Rattle.ason_base.specs.declared.tables.CallRec.{CallRec}
 use Rattle.ason_base.specs.declared.tables.Leg.{Leg}
-use Rattle.mesh_rules.specs.declared.changes.CallChange.TheVariants as call
 use Rattle.mesh_rules.specs.State.{NodeState}
-use Rattle.mesh_rules.specs.Changes.{Answer, nothing, changes_calls}
-use Rattle.mesh_rules.specs.Calls.{bare, blocked, guarded, is_asking, is_pairing}
+use Rattle.mesh_rules.specs.Changes.{Answer, nothing}
+use Rattle.mesh_rules.specs.Calls.{bare, blocked, guarded, is_asking, is_pairing, is_turning, stuck, turned}
 use Rattle.mesh_rules.specs.Legs.{is_work}
 use Rattle.mesh_rules.specs.LocalNodes.{LocalNode}
 use Rattle.mesh_rules.specs.Pairs.{leaves_bare, pair}
+use Rattle.mesh_rules.specs.Turns.{call_put, decide}
 
 -- A Resv
-
-abbrev pub call_put : CallRec → Answer
-call_put c = changes_calls (call.Put c ∷ [])
 
 -- the working LSP of a call that was asked for stands: a protected call gets a backup
 abbrev pub work_connected : LocalNode → NodeState → Leg → CallRec → Answer
 work_connected p s g c =
     if is_asking c.state then (if c.protected then pair p s c g else call_put (bare c)) else nothing
 
-abbrev pub backup_reserved : CallRec → Answer
-backup_reserved c = if is_pairing c.state then call_put (guarded c) else nothing
+-- its backup is reserved: the call is guarded, and may turn at once
+abbrev pub backup_reserved : Leg → CallRec → Answer
+backup_reserved b c = if is_pairing c.state then decide (guarded c) (Some b) else nothing
 
 -- the call of an LSP that has its labels
 abbrev pub call_answered : LocalNode → NodeState → Leg → Option CallRec → Answer
 call_answered p s g None = nothing
-call_answered p s g (Some c) = if is_work g.role then work_connected p s g c else backup_reserved c
+call_answered p s g (Some c) = if is_work g.role then work_connected p s g c else backup_reserved g c
 
 -- A PathErr
 
@@ -43,3 +42,15 @@ backup_refused code c = if is_pairing c.state then leaves_bare c (Code code) els
 abbrev pub call_refused : ErrCode → Leg → Option CallRec → Answer
 call_refused code g None = nothing
 call_refused code g (Some c) = if is_work g.role then work_refused code c else backup_refused code c
+
+-- An activation
+
+-- the backup is activated from end to end
+abbrev pub call_turned : Leg → Option CallRec → Answer
+call_turned b None = nothing
+call_turned b (Some c) = if is_turning c.state then decide (turned c) (Some b) else nothing
+
+-- the activation is refused: a label of the backup is in use
+abbrev pub call_contended : Leg → Option CallRec → Answer
+call_contended b None = nothing
+call_contended b (Some c) = if is_turning c.state then decide (stuck c (Code busy_code)) (Some b) else nothing

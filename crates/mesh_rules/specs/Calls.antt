@@ -3,7 +3,7 @@ use Rattle.std.specs.Prelude.{◌==◌, ◌||◌, nat_lt, nat_le, Bool, true, fa
 use Rattle.ason_base.specs.declared.ids.CallNo.{CallNo}
 use Rattle.ason_base.specs.declared.ids.Lsp.{Lsp}
 use Rattle.ason_base.specs.declared.calls.CallState.{CallState}
-use Rattle.ason_base.specs.declared.calls.CallState.TheVariants.{Asking, Bare, Blocked, Guarded, Pairing}
+use Rattle.ason_base.specs.declared.calls.CallState.TheVariants.{Asking, Bare, Blocked, Guarded, Pairing, Stuck, Turned, Turning}
 use Rattle.ason_base.specs.declared.calls.Cause.{Cause}
 use Rattle.ason_base.specs.declared.calls.Cause.TheVariants.{Unset}
 use Rattle.ason_base.specs.declared.tables.CallRec.{CallRec}
@@ -63,6 +63,14 @@ abbrev pub is_pairing : CallState → Bool
 is_pairing Pairing = true
 is_pairing _ = false
 
+abbrev pub is_turning : CallState → Bool
+is_turning Turning = true
+is_turning _ = false
+
+abbrev pub is_stuck : CallState → Bool
+is_stuck Stuck = true
+is_stuck _ = false
+
 -- a call whose working LSP is gone
 abbrev pub blocked : CallRec → Cause → CallRec
 blocked c cause = record c { state = Blocked; work = None; work_reports = []; cause = cause; ticks = 0 }
@@ -82,3 +90,15 @@ pairing c l = record c { state = Pairing; back = Some l; back_reports = []; caus
 -- a call whose backup is reserved
 abbrev pub guarded : CallRec → CallRec
 guarded c = record c { state = Guarded; cause = Unset; ticks = 0 }
+
+-- a call whose backup is being activated
+abbrev pub turning : CallRec → CallRec
+turning c = record c { state = Turning; cause = Unset; ticks = 0 }
+
+-- a call that its backup carries
+abbrev pub turned : CallRec → CallRec
+turned c = record c { state = Turned; cause = Unset; ticks = 0 }
+
+-- a call whose backup can't be activated, for this cause
+abbrev pub stuck : CallRec → Cause → CallRec
+stuck c cause = record c { state = Stuck; cause = cause; ticks = 0 }

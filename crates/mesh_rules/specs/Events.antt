@@ -17,6 +17,7 @@ use Rattle.ason_base.specs.Lsps.{same_lsp}
 use Rattle.mesh_rules.specs.declared.events.MeshEvent.{MeshEvent}
 use Rattle.mesh_rules.specs.declared.events.MeshEvent.TheVariants.{Take, Desk, Tick, Learn, Post}
 use Rattle.mesh_rules.specs.Changes.{Answer, nothing}
+use Rattle.mesh_rules.specs.Failures.{with_failed, with_group, without_group}
 use Rattle.mesh_rules.specs.State.{NodeState}
 use Rattle.mesh_rules.specs.KnownRows.{has_row, known_rows}
 use Rattle.mesh_rules.specs.Learnt.{on_link}
@@ -59,16 +60,16 @@ abbrev pub on_first_item : LocalNode → NodeState → List DeskItem → Answer
 on_first_item p s [] = nothing
 on_first_item p s (i ∷ items) = on_item p s i
 
--- a call's command goes to the desk of its ingress; failures and repairs of groups change nothing
-abbrev pub posted : Mesh → Command → Mesh
-posted s (Setup n from to protected both via backup) =
+-- a call's command goes to the desk of its ingress; where a group fails or is repaired, the nodes are told what has changed
+abbrev pub posted : Network → Mesh → Command → Mesh
+posted t s (Setup n from to protected both via backup) =
     with_posted (with_item s from.0 (Order (Setup n from to protected both via backup))) n
-posted s (Release n from) = with_item s from.0 (Order (Release n from))
-posted s (Protect n from) = with_item s from.0 (Order (Protect n from))
-posted s (Retry n from) = with_item s from.0 (Order (Retry n from))
-posted s (Revert n from) = with_item s from.0 (Order (Revert n from))
-posted s (Fail g) = s
-posted s (Repair g) = s
+posted t s (Release n from) = with_item s from.0 (Order (Release n from))
+posted t s (Protect n from) = with_item s from.0 (Order (Protect n from))
+posted t s (Retry n from) = with_item s from.0 (Order (Retry n from))
+posted t s (Revert n from) = with_item s from.0 (Order (Revert n from))
+posted t s (Fail g) = with_failed t s (with_group g s.failed)
+posted t s (Repair g) = with_failed t s (without_group g s.failed)
 
 -- the one successor
 abbrev pub step : Network → Mesh → MeshEvent → Mesh
@@ -76,7 +77,7 @@ step t s (Take d u) = commit (without_first s u.0 d.0) d.0 (on_first (local_node
 step t s (Desk n) = commit (without_item s n.0) n.0 (on_first_item (local_node t n) (s.nodes n.0) (s.desks n.0))
 step t s (Tick n) = commit s n.0 (on_tick (local_node t n) (s.nodes n.0))
 step t s (Learn n k) = commit s n.0 (on_link (local_node t n) (s.nodes n.0) (find_link t k))
-step t s (Post c) = posted s c
+step t s (Post c) = posted t s c
 
 -- Runs
 

@@ -62,6 +62,26 @@ abbrev pub is_asked : Phase → Bool
 is_asked Asked = true
 is_asked _ = false
 
+abbrev pub is_held : Phase → Bool
+is_held Held = true
+is_held _ = false
+
+abbrev pub is_armed : Phase → Bool
+is_armed Armed = true
+is_armed _ = false
+
+-- an activation has passed the leg
+abbrev pub is_in_use : Phase → Bool
+is_in_use Asked = false
+is_in_use Held = false
+is_in_use Armed = true
+is_in_use Live = true
+is_in_use Closing = false
+is_in_use Falling = false
+
+abbrev pub with_phase : Phase → Leg → Leg
+with_phase q g = record g { phase = q }
+
 -- torn, and waiting for the next node
 abbrev pub is_closing : Phase → Bool
 is_closing Closing = true
@@ -141,6 +161,10 @@ takes f x g = is_label (label_on f g) x
 -- no leg takes the label
 abbrev pub is_free : List Leg → Fibre → ℕ → Bool
 is_free legs f x = not (list_any (takes f x) legs)
+
+-- a leg of another LSP takes the label and is Armed or Live: no backup on it can be activated
+abbrev pub is_busy : List Leg → Lsp → Fibre → ℕ → Bool
+is_busy legs l f x = list_any (λ h. takes f x h && (is_in_use h.phase && not (same_lsp h.lsp l))) legs
 
 -- a backup whose primary has none of these risks
 abbrev pub is_apart : List Risk → Leg → Bool

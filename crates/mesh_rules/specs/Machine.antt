@@ -2,6 +2,7 @@
 use Rattle.std.specs.Prelude.{ℕ, ◌==◌, ◌&&◌, List, [], ◌++◌, ◌∷◌, map, filter, drop, if◌then◌else◌}
 use Rattle.ason_base.specs.declared.ids.CallNo.{CallNo}
 use Rattle.ason_base.specs.declared.commands.DeskItem.{DeskItem}
+use Rattle.ason_base.specs.declared.commands.Group.{Group}
 use Rattle.ason_base.specs.declared.messages.Msg.{Msg}
 use Rattle.ason_base.specs.declared.tables.Out.{Out}
 use Rattle.mesh_rules.specs.State.{NodeState, new_node}
@@ -14,10 +15,12 @@ pub record Mesh : Type 0 where
   pub mail : ℕ → ℕ → List Msg
   -- the call numbers of all setups that were posted
   pub posted : List CallNo
+  -- the groups that have failed, and weren't repaired since
+  pub failed : List Group
 
--- nothing stands, and nothing is under way
+-- nothing stands, nothing is under way, and nothing has failed
 abbrev pub start : Mesh
-start = record { nodes = λ n. new_node; desks = λ n. []; mail = λ u d. []; posted = [] }
+start = record { nodes = λ n. new_node; desks = λ n. []; mail = λ u d. []; posted = []; failed = [] }
 
 -- what is sent to this node, in order
 abbrev pub sent_to : ℕ → List Out → List Msg

@@ -7,8 +7,9 @@ use Rattle.ason_base.specs.declared.messages.Msg.{Msg}
 use Rattle.ason_base.specs.declared.messages.Msg.TheVariants.{Path, Resv, PathTear, PathErr, Notify}
 use Rattle.mesh_rules.specs.declared.arrivals.Arrival.{Arrival}
 use Rattle.mesh_rules.specs.State.{NodeState}
-use Rattle.mesh_rules.specs.Changes.{Answer, nothing}
+use Rattle.mesh_rules.specs.Changes.{Answer}
 use Rattle.mesh_rules.specs.LocalNodes.{LocalNode}
+use Rattle.mesh_rules.specs.Notifies.{on_notify}
 use Rattle.mesh_rules.specs.Paths.{on_path}
 use Rattle.mesh_rules.specs.Resvs.{on_resv}
 use Rattle.mesh_rules.specs.PathErrs.{on_path_err}
@@ -24,4 +25,5 @@ on_message p s u (Resv l e k x) = on_resv p s (arrival l e u k) x
 on_message p s u (PathTear l e k) = on_tear p s (arrival l e u k)
 on_message p s u (PathErr l e at gone code) =
     on_path_err s u (record { lsp = l; msg = PathErr l e at gone code; removed = gone; code = code })
-on_message p s u (Notify l e at k code) = nothing
+on_message p s u (Notify l e at k code) =
+    on_notify p s u (record { lsp = l; msg = Notify l e at k code; at = at; link = k; code = code })

@@ -1,5 +1,5 @@
--- A PathErr with Path_State_Removed (RFC 3473, section 4.4).
-use Rattle.std.specs.Prelude.{◌&&◌, Bool, [], ◌∷◌, Option, Some, None, if◌then◌else◌}
+-- A PathErr, with Path_State_Removed (RFC 3473, section 4.4) or without.
+use Rattle.std.specs.Prelude.{Bool, [], ◌∷◌, Option, Some, None, if◌then◌else◌}
 use Rattle.ason_base.specs.declared.ids.Lsp.{Lsp}
 use Rattle.ason_base.specs.declared.ids.NodeId.{NodeId}
 use Rattle.ason_base.specs.declared.codes.ErrCode.{ErrCode}
@@ -7,6 +7,7 @@ use Rattle.ason_base.specs.declared.messages.Msg.{Msg}
 use Rattle.ason_base.specs.declared.tables.Leg.{Leg}
 use Rattle.mesh_rules.specs.declared.neighbours.Neighbour.{Neighbour}
 use Rattle.mesh_rules.specs.State.{NodeState}
+use Rattle.mesh_rules.specs.ActivationAnswers.{contended}
 use Rattle.mesh_rules.specs.Changes.{Answer, nothing, removes, followed_by, to_node}
 use Rattle.mesh_rules.specs.Legs.{find_leg, is_asked, is_closing, previous, following, is_node}
 use Rattle.mesh_rules.specs.Calls.{call_with}
@@ -35,7 +36,8 @@ removed s g e =
 
 abbrev pub path_err_with : NodeState → NodeId → PathFailure → Option Leg → Answer
 path_err_with s u e None = nothing
-path_err_with s u e (Some g) = if e.removed && is_node (following g) u then removed s g e else nothing
+path_err_with s u e (Some g) =
+    if is_node (following g) u then (if e.removed then removed s g e else contended s g e.msg) else nothing
 
 abbrev pub on_path_err : NodeState → NodeId → PathFailure → Answer
 on_path_err s u e = path_err_with s u e (find_leg e.lsp s.legs)

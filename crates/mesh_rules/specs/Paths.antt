@@ -1,7 +1,8 @@
 -- A Path where no leg of its LSP stands (RFC 2205, section 3.1.3; RFC 3473, section 2).
 use Rattle.std.specs.Prelude.{ℕ, ◌==◌, ◌&&◌, nat_le, Bool, true, false, not, List, [], ◌∷◌, length, Option, Some, None, is_some, if◌then◌else◌}
-use Rattle.ason_base.specs.Codes.{full_code, route_code, primary_code, set_code}
+use Rattle.ason_base.specs.Codes.{down_code, full_code, route_code, primary_code, set_code}
 use Rattle.ason_base.specs.Labels.{up_to, meet, least}
+use Rattle.ason_base.specs.Lsps.{has_fibre}
 use Rattle.ason_base.specs.Risks.{route_risks, unknown_link}
 use Rattle.ason_base.specs.declared.codes.ErrCode.{ErrCode}
 use Rattle.ason_base.specs.declared.steps.Step.{Step}
@@ -20,6 +21,7 @@ use Rattle.ason_base.specs.declared.tables.Out.{Out}
 use Rattle.mesh_rules.specs.declared.limits.TheConstants.{MOST_LEGS}
 use Rattle.mesh_rules.specs.declared.arrivals.Arrival.{Arrival}
 use Rattle.mesh_rules.specs.State.{NodeState}
+use Rattle.mesh_rules.specs.Activations.{path_again}
 use Rattle.mesh_rules.specs.KnownRows.{known_rows}
 use Rattle.mesh_rules.specs.Changes.{Answer, nothing, sends, puts, to_node}
 use Rattle.ason_base.specs.Network.{other_end}
@@ -91,13 +93,13 @@ first_failure [] = None
 first_failure (c ∷ checks) = if c.fails then Some c.code else first_failure checks
 
 -- in this order: the node keeps all the legs that it can; the route doesn't lead on from here; a link of the primary's
--- route
--- isn't known; no label that was offered is usable
+-- route isn't known; the fibre that the Path came by is known to be down; no label that was offered is usable
 abbrev pub checks : LocalNode → NodeState → PathRequest → LinkSpec → List Check
 checks p s m link =
     record { fails = nat_le MOST_LEGS (length s.legs); code = full_code }
     ∷ record { fails = not (leads_on p m.arrival m.route); code = route_code }
     ∷ record { fails = is_primary_unknown (known_rows p s) m.role; code = primary_code }
+    ∷ record { fails = has_fibre s.down (fibre_in link p.id); code = down_code }
     ∷ record { fails = is_none (least (offered_labels p s m link)); code = set_code }
     ∷ []
 
@@ -180,10 +182,10 @@ first_path p s m (Some link) =
     then judged p s m link (first_failure (checks p s m link))
     else nothing
 
--- a Path of an LSP that has a leg here changes nothing
+-- a Path of an LSP that has a leg here may activate it
 abbrev pub path_with : LocalNode → NodeState → PathRequest → Option Leg → Answer
 path_with p s m None = first_path p s m (own_link p m.arrival.link)
-path_with p s m (Some g) = nothing
+path_with p s m (Some g) = path_again p s m.arrival m.role g
 
 abbrev pub on_path : LocalNode → NodeState → PathRequest → Answer
 on_path p s m = path_with p s m (find_leg m.arrival.lsp s.legs)

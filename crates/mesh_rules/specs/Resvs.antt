@@ -7,6 +7,7 @@ use Rattle.ason_base.specs.declared.tables.Leg.{Leg}
 use Rattle.mesh_rules.specs.declared.arrivals.Arrival.{Arrival}
 use Rattle.mesh_rules.specs.declared.neighbours.Neighbour.{Neighbour}
 use Rattle.mesh_rules.specs.State.{NodeState}
+use Rattle.mesh_rules.specs.ActivationAnswers.{resv_again}
 use Rattle.mesh_rules.specs.Changes.{Answer, nothing, puts, followed_by, to_node}
 use Rattle.mesh_rules.specs.LocalNodes.{LocalNode}
 use Rattle.mesh_rules.specs.Legs.{find_leg, is_asked, closed, connected, previous, following, is_over, usable}
@@ -44,7 +45,8 @@ passed_back p a g h x (Some y) = label_passed g h x y
 
 -- at the ingress the call follows
 abbrev pub connected_here : LocalNode → NodeState → ℕ → Leg → Answer
-connected_here p s x g = followed_by (puts (connected g None x) []) (call_answered p s g (call_with g.lsp s.calls))
+connected_here p s x g =
+    followed_by (puts (connected g None x) []) (call_answered p s (connected g None x) (call_with g.lsp s.calls))
 
 -- the labels that may go back: those that were offered and are usable now
 abbrev pub labels_left : LocalNode → NodeState → Leg → Neighbour → List ℕ
@@ -56,7 +58,7 @@ answered p s a x g (Some h) = passed_back p a g h x (label_back p (labels_left p
 
 abbrev pub resv_with : LocalNode → NodeState → Arrival → ℕ → Option Leg → Answer
 resv_with p s a x None = nothing
-resv_with p s a x (Some g) = if is_expected a x g then answered p s a x g (previous g) else nothing
+resv_with p s a x (Some g) = if is_expected a x g then answered p s a x g (previous g) else resv_again s a x g
 
 abbrev pub on_resv : LocalNode → NodeState → Arrival → ℕ → Answer
 on_resv p s a x = resv_with p s a x (find_leg a.lsp s.legs)

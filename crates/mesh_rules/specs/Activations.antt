@@ -1,0 +1,60 @@
+-- A Path of a backup LSP whose leg stands: it is activated (RFC 4872, section 8). p is the node; s is what it keeps;
+-- g is the leg.
+use Rattle.std.specs.Prelude.{ℕ, ◌&&◌, Bool, true, false, List, [], ◌∷◌, Option, Some, None, if◌then◌else◌}
+use Rattle.ason_base.specs.Codes.{busy_code}
+use Rattle.ason_base.specs.declared.ids.Fibre.{Fibre}
+use Rattle.ason_base.specs.declared.ids.NodeId.{NodeId}
+use Rattle.ason_base.specs.declared.calls.Phase.TheVariants.{Armed, Live}
+use Rattle.ason_base.specs.declared.messages.Msg.TheVariants.{Path, Resv, PathErr}
+use Rattle.ason_base.specs.declared.messages.PathRole.{PathRole}
+use Rattle.ason_base.specs.declared.messages.PathRole.TheVariants.{Work, Back}
+use Rattle.ason_base.specs.declared.tables.Leg.{Leg}
+use Rattle.ason_base.specs.declared.tables.Out.{Out}
+use Rattle.mesh_rules.specs.declared.arrivals.Arrival.{Arrival}
+use Rattle.mesh_rules.specs.declared.neighbours.Neighbour.{Neighbour}
+use Rattle.mesh_rules.specs.State.{NodeState}
+use Rattle.mesh_rules.specs.Changes.{Answer, nothing, sends, puts, to_node}
+use Rattle.mesh_rules.specs.LocalNodes.{LocalNode}
+use Rattle.mesh_rules.specs.Legs.{following, is_busy, is_held, is_over, previous, with_phase}
+
+-- Messages
+
+-- the Path of the leg, for this role, to the next node
+abbrev pub path_to : Leg → PathRole → Neighbour → Out
+path_to g r h = to_node h.node (Path g.lsp g.egress h.fibre.link g.route g.sent None r)
+
+-- a Resv with the leg's label in, to the previous node
+abbrev pub resv_to : Leg → Option Neighbour → Option ℕ → List Out
+resv_to g None x = []
+resv_to g (Some h) None = []
+resv_to g (Some h) (Some x) = to_node h.node (Resv g.lsp g.egress h.fibre.link x) ∷ []
+
+-- a PathErr without Path_State_Removed: the activation is refused, and the leg stays
+abbrev pub busy_to : LocalNode → Leg → NodeId → Out
+busy_to p g n = to_node n (PathErr g.lsp g.egress p.id false busy_code)
+
+-- Activation
+
+-- another leg on the leg's label in is Armed or Live
+abbrev pub is_contended : List Leg → Leg → Option Fibre → Option ℕ → Bool
+is_contended legs g None x = false
+is_contended legs g (Some f) None = false
+is_contended legs g (Some f) (Some x) = is_busy legs g.lsp f x
+
+-- the leg is Armed and the Path goes on, for the role that came; at the egress it is Live and a Resv goes back
+abbrev pub armed_on : Leg → PathRole → Option Neighbour → Answer
+armed_on g r None = puts (with_phase Live g) (resv_to g (previous g) g.in_label)
+armed_on g r (Some h) = puts (with_phase Armed g) (path_to g r h ∷ [])
+
+abbrev pub activated : LocalNode → NodeState → Arrival → PathRole → Leg → Answer
+activated p s a r g =
+    if is_contended s.legs g g.in_fibre g.in_label then sends (busy_to p g a.from ∷ [])
+    else armed_on g r (following g)
+
+-- A Held leg is activated from its previous node. All else changes nothing.
+abbrev pub path_again : LocalNode → NodeState → Arrival → PathRole → Leg → Answer
+path_again p s a (Work guard) g = nothing
+path_again p s a (Back true work primary) g =
+    if is_held g.phase && is_over (previous g) a.from a.link then activated p s a (Back true work primary) g
+    else nothing
+path_again p s a (Back false work primary) g = nothing

@@ -1,0 +1,64 @@
+-- A call turns to its backup where its working LSP is hit, as far as the backup isn't (ITU-T G.8080, call control; RFC 4872,
+-- section 8). b is the leg of the call's backup, which begins here.
+use Rattle.std.specs.Prelude.{Bool, true, false, List, [], ◌∷◌, Option, Some, None, if◌then◌else◌}
+use Rattle.ason_base.specs.declared.ids.Fibre.{Fibre}
+use Rattle.ason_base.specs.declared.calls.CallState.{CallState}
+use Rattle.ason_base.specs.declared.calls.CallState.TheVariants.{Guarded, Stuck}
+use Rattle.ason_base.specs.declared.calls.Cause.TheVariants.{BackDown}
+use Rattle.ason_base.specs.declared.calls.Phase.TheVariants.{Armed}
+use Rattle.ason_base.specs.declared.messages.PathRole.{PathRole}
+use Rattle.ason_base.specs.declared.messages.PathRole.TheVariants.{Work, Back}
+use Rattle.ason_base.specs.declared.tables.CallRec.{CallRec}
+use Rattle.ason_base.specs.declared.tables.Leg.{Leg}
+use Rattle.ason_base.specs.declared.tables.Out.{Out}
+use Rattle.mesh_rules.specs.declared.changes.CallChange.TheVariants as call
+use Rattle.mesh_rules.specs.declared.changes.LegChange.TheVariants as leg
+use Rattle.mesh_rules.specs.declared.neighbours.Neighbour.{Neighbour}
+use Rattle.mesh_rules.specs.Activations.{path_to}
+use Rattle.mesh_rules.specs.Calls.{guarded, stuck, turning}
+use Rattle.mesh_rules.specs.Changes.{Answer, nothing, changes_calls}
+use Rattle.mesh_rules.specs.Legs.{following, is_held, with_phase}
+
+abbrev pub call_put : CallRec → Answer
+call_put c = changes_calls (call.Put c ∷ [])
+
+-- Turning
+
+-- the role of a Path that activates
+abbrev pub activating : PathRole → PathRole
+activating (Work guard) = Work guard
+activating (Back active work primary) = Back true work primary
+
+-- the Path that activates goes to the next node
+abbrev pub activating_path : Leg → Option Neighbour → List Out
+activating_path b None = []
+activating_path b (Some h) = path_to b (activating b.path_role) h ∷ []
+
+-- the backup is Armed here, and its Path goes out to activate it
+abbrev pub arms : CallRec → Leg → Answer
+arms c b = record nothing {
+  legs = leg.Put (with_phase Armed b) ∷ [];
+  calls = call.Put (turning c) ∷ [];
+  sent = activating_path b (following b);
+}
+
+-- a backup that isn't Held can't be activated
+abbrev pub turn : CallRec → Option Leg → Answer
+turn c None = call_put c
+turn c (Some b) = if is_held b.phase then arms c b else call_put c
+
+-- Decisions
+
+abbrev pub has_any : List Fibre → Bool
+has_any [] = false
+has_any (f ∷ fibres) = true
+
+-- by the call's state, whether fibres of its working LSP are reported down, and whether fibres of its backup are
+abbrev pub decided : CallRec → Option Leg → CallState → Bool → Bool → Answer
+decided c b Guarded true false = turn c b
+decided c b Guarded true true = call_put (stuck c BackDown)
+decided c b Stuck false backs = call_put (guarded c)
+decided c b state works backs = call_put c
+
+abbrev pub decide : CallRec → Option Leg → Answer
+decide c b = decided c b c.state (has_any c.work_reports) (has_any c.back_reports)
