@@ -84,6 +84,7 @@ nothing_left known = record {
   legs = [] ∷ [] ∷ [] ∷ [] ∷ [];
   calls = [] ∷ [] ∷ [] ∷ [] ∷ [];
   known = known;
+  down = 0 ∷ 0 ∷ 0 ∷ 0 ∷ [];
   mail = (0, 0) ∷ (0, 0) ∷ (0, 0) ∷ (0, 0) ∷ [];
 }
 

@@ -1,12 +1,13 @@
 -- What is looked at of a mesh of some nodes after a run: the legs and calls of each node, how many links each node
--- knows, and how many messages are under way.
+-- knows, how many fibres it knows to be down, and how many messages are under way.
 use Rattle.std.proofs.Common.{ℕ, Bool, true, false, List, [], ◌∷◌}
-use Rattle.std.specs.Prelude.{◌&&◌, length, map, Option, Some}
+use Rattle.std.specs.Prelude.{◌&&◌, length, map, Option, Some, None}
 use Rattle.ason_base.specs.Network.{Network}
 use Rattle.ason_base.specs.declared.calls.CallState.{CallState}
 use Rattle.ason_base.specs.declared.calls.Cause.{Cause}
 use Rattle.ason_base.specs.declared.calls.Phase.{Phase}
-use Rattle.ason_base.specs.declared.commands.Command.TheVariants.{Protect, Release, Setup}
+use Rattle.ason_base.specs.declared.commands.Command.TheVariants.{Fail, Protect, Release, Repair, Retry, Revert, Setup}
+use Rattle.ason_base.specs.declared.commands.Group.TheVariants.{Link, Srlg}
 use Rattle.ason_base.specs.declared.ids.CallNo.{CallNo}
 use Rattle.ason_base.specs.declared.ids.LinkId.{LinkId}
 use Rattle.ason_base.specs.declared.ids.Lsp.{Lsp}
@@ -17,7 +18,7 @@ use Rattle.ason_base.specs.declared.steps.Step.{Step}
 use Rattle.ason_base.specs.declared.tables.CallRec.{CallRec}
 use Rattle.ason_base.specs.declared.tables.Leg.{Leg}
 use Rattle.mesh_rules.specs.declared.events.MeshEvent.{MeshEvent}
-use Rattle.mesh_rules.specs.declared.events.MeshEvent.TheVariants.{Desk, Learn, Post, Take}
+use Rattle.mesh_rules.specs.declared.events.MeshEvent.TheVariants.{Desk, Learn, Post, Take, Tick}
 use Rattle.mesh_rules.specs.Events.{is_enabled, step}
 use Rattle.mesh_rules.specs.KnownRows.{known_rows}
 use Rattle.mesh_rules.specs.LocalNodes.{local_node}
@@ -60,11 +61,36 @@ learns n links = map (λ k. Learn (node n) (link k)) links
 abbrev pub sets_up : ℕ → ℕ → ℕ → List Step → List Step → MeshEvent
 sets_up k from to via backup = Post (Setup (call k) (node from) (node to) true false (Some via) (Some backup))
 
+-- an unprotected call between two nodes, over this route
+abbrev pub sets_up_alone : ℕ → ℕ → ℕ → List Step → MeshEvent
+sets_up_alone k from to via = Post (Setup (call k) (node from) (node to) false false (Some via) None)
+
 abbrev pub protects : ℕ → ℕ → MeshEvent
 protects k from = Post (Protect (call k) (node from))
 
 abbrev pub releases : ℕ → ℕ → MeshEvent
 releases k from = Post (Release (call k) (node from))
+
+abbrev pub retries : ℕ → ℕ → MeshEvent
+retries k from = Post (Retry (call k) (node from))
+
+abbrev pub reverts : ℕ → ℕ → MeshEvent
+reverts k from = Post (Revert (call k) (node from))
+
+abbrev pub fails_link : ℕ → MeshEvent
+fails_link k = Post (Fail (Link (link k)))
+
+abbrev pub repairs_link : ℕ → MeshEvent
+repairs_link k = Post (Repair (Link (link k)))
+
+abbrev pub fails_srlg : ℕ → MeshEvent
+fails_srlg s = Post (Fail (Srlg s))
+
+abbrev pub repairs_srlg : ℕ → MeshEvent
+repairs_srlg s = Post (Repair (Srlg s))
+
+abbrev pub ticks : ℕ → MeshEvent
+ticks n = Tick (node n)
 
 abbrev pub desk : ℕ → MeshEvent
 desk n = Desk (node n)
@@ -99,11 +125,13 @@ pub record SeenCall : Type 0 where
   pub back_reports : ℕ
   pub ticks : ℕ
 
--- by node the legs, the calls and how many links are known; by link the messages to its high end, and to its low end
+-- by node the legs, the calls, how many links are known, and how many fibres are known to be down; by link the messages
+-- to its high end, and to its low end
 pub record Seen : Type 0 where
   pub legs : List (List SeenLeg)
   pub calls : List (List SeenCall)
   pub known : List ℕ
+  pub down : List ℕ
   pub mail : List (ℕ × ℕ)
 
 abbrev pub leg : ℕ → ℕ → Phase → Option ℕ → Option ℕ → ℕ → ℕ → ℕ → SeenLeg
@@ -122,6 +150,11 @@ leg ingress number phase in_label out_label offered sent left = record {
 abbrev pub called : ℕ → CallState → Cause → SeenCall
 called number state cause =
     record { number = number; state = state; cause = cause; work_reports = 0; back_reports = 0; ticks = 0 }
+
+-- a call with so many reports of its working LSP, and of its backup
+abbrev pub reported : ℕ → CallState → Cause → ℕ → ℕ → SeenCall
+reported number state cause works backs =
+    record { number = number; state = state; cause = cause; work_reports = works; back_reports = backs; ticks = 0 }
 
 abbrev leg_seen : Leg → SeenLeg
 leg_seen g =
@@ -142,5 +175,6 @@ seen t s = record {
   legs = map (λ n. map leg_seen (s.nodes n.id.0).legs) t.nodes;
   calls = map (λ n. map call_seen (s.nodes n.id.0).calls) t.nodes;
   known = map (λ n. length (known_rows (local_node t n.id) (s.nodes n.id.0))) t.nodes;
+  down = map (λ n. length (s.nodes n.id.0).down) t.nodes;
   mail = map (λ l. (length (s.mail l.low.0 l.high.0), length (s.mail l.high.0 l.low.0))) t.links;
 }
