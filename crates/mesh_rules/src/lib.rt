@@ -6,6 +6,7 @@ pub mod arrivals;
 pub mod changes;
 pub mod commands;
 pub mod events;
+pub mod failures;
 pub mod limits;
 pub mod links;
 pub mod neighbours;

@@ -25,6 +25,7 @@ image w = record {
   desks = w.desks;
   mail = λ u d. under_way (w.ends u d) (w.ends d u);
   posted = w.posted;
+  failed = w.failed;
 }
 
 -- The event of the mesh that an event of the world gives, if any

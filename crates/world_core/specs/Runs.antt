@@ -7,11 +7,13 @@ use Rattle.ason_base.specs.declared.commands.Command.{Command}
 use Rattle.ason_base.specs.declared.commands.Command.TheVariants.{Setup, Release, Protect, Retry, Revert, Fail, Repair}
 use Rattle.ason_base.specs.declared.commands.DeskItem.{DeskItem}
 use Rattle.ason_base.specs.declared.commands.DeskItem.TheVariants.{Order}
+use Rattle.ason_base.specs.declared.commands.Group.{Group}
 use Rattle.ason_base.specs.declared.commands.Event.{Event}
 use Rattle.ason_base.specs.declared.commands.Event.TheVariants.{Deliver, Noise, Tick, Desk, Post}
 use Rattle.ason_base.specs.Network.{Network, are_ends, is_node_id}
 use Rattle.mesh_rules.specs.Commands.{is_valid, is_again}
 use Rattle.mesh_rules.specs.Events.{has_first, on_first_item}
+use Rattle.mesh_rules.specs.Failures.{all_news, with_group, without_group}
 use Rattle.mesh_rules.specs.LocalNodes.{local_node}
 use Rattle.flood.specs.Frames.{SpellsNothing}
 use Rattle.world_core.specs.Worlds.{World, commit, delivered, frame_at, ticked, with_event}
@@ -48,16 +50,23 @@ with_item w n item = record w { desks = λ m. if m == n then w.desks m ++ item �
 abbrev pub with_posted : World → CallNo → World
 with_posted w n = record w { posted = w.posted ++ n ∷ [] }
 
--- a call's command goes to the desk of its ingress; failures and repairs of groups change nothing
-abbrev pub posted : World → Command → World
-posted w (Setup n from to protected both via backup) =
+-- these groups have failed now, and the nodes are told what has changed
+abbrev pub with_failed : Network → World → List Group → World
+with_failed t w after = record w {
+  desks = λ n. w.desks n ++ all_news t w.failed after n;
+  failed = after;
+}
+
+-- a call's command goes to the desk of its ingress; where a group fails or is repaired, the nodes are told what has changed
+abbrev pub posted : Network → World → Command → World
+posted t w (Setup n from to protected both via backup) =
     with_posted (with_item w from.0 (Order (Setup n from to protected both via backup))) n
-posted w (Release n from) = with_item w from.0 (Order (Release n from))
-posted w (Protect n from) = with_item w from.0 (Order (Protect n from))
-posted w (Retry n from) = with_item w from.0 (Order (Retry n from))
-posted w (Revert n from) = with_item w from.0 (Order (Revert n from))
-posted w (Fail g) = w
-posted w (Repair g) = w
+posted t w (Release n from) = with_item w from.0 (Order (Release n from))
+posted t w (Protect n from) = with_item w from.0 (Order (Protect n from))
+posted t w (Retry n from) = with_item w from.0 (Order (Retry n from))
+posted t w (Revert n from) = with_item w from.0 (Order (Revert n from))
+posted t w (Fail g) = with_failed t w (with_group g w.failed)
+posted t w (Repair g) = with_failed t w (without_group g w.failed)
 
 -- the first item of the node's desk is handled
 abbrev pub desk_handled : Network → World → NodeId → World
@@ -69,7 +78,7 @@ step t w (Deliver d u k) = delivered t (with_event w d.0) d u (frame_at w u d k)
 step t w (Noise d u bytes) = with_event w d.0
 step t w (Tick n) = ticked t (with_event w n.0) n
 step t w (Desk n) = desk_handled t (with_event w n.0) n
-step t w (Post c) = posted w c
+step t w (Post c) = posted t w c
 
 -- the event is one of this node; a post is of no node
 abbrev pub is_event_of : ℕ → Event → Bool

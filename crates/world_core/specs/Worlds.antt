@@ -3,6 +3,7 @@ use Rattle.std.specs.Prelude.{ℕ, zero, suc, ◌+◌, ◌==◌, ◌&&◌, List,
 use Rattle.ason_base.specs.declared.ids.NodeId.{NodeId}
 use Rattle.ason_base.specs.declared.ids.CallNo.{CallNo}
 use Rattle.ason_base.specs.declared.commands.DeskItem.{DeskItem}
+use Rattle.ason_base.specs.declared.commands.Group.{Group}
 use Rattle.ason_base.specs.declared.messages.Msg.{Msg}
 use Rattle.ason_base.specs.declared.messages.Packet.{Packet}
 use Rattle.ason_base.specs.Network.{Network, row_of}
@@ -33,10 +34,12 @@ pub record World : Type 0 where
   pub channels : ℕ → ℕ → List Content
   -- the call numbers of all setups that were posted
   pub posted : List CallNo
+  -- the groups that have failed, and weren't repaired since
+  pub failed : List Group
   -- how many events each node made
   pub made : ℕ → ℕ
 
--- nothing stands, and nothing was sent; the rows of a node's own links are due to each of its neighbours
+-- nothing stands, nothing was sent, and nothing has failed; the rows of a node's own links are due to each of its neighbours
 abbrev pub start : Network → World
 start t = record {
   nodes = λ n. new_node;
@@ -45,6 +48,7 @@ start t = record {
   floods = λ n. begun_node (map row_of t.links) (record { 0 = n });
   channels = λ u d. [];
   posted = [];
+  failed = [];
   made = λ n. 0;
 }
 
