@@ -1,23 +1,35 @@
 -- The legs fit after a Path and after a PathTear.
-use Rattle.std.proofs.Common.{ap, refl}
+use Rattle.std.proofs.Common.{◌≡◌, ◌∙◌, ap, refl, sym}
+use Rattle.std.specs.Prelude.{Option, Some, None}
 use Rattle.ason_base.specs.declared.ids.NodeId.{NodeId}
 use Rattle.ason_base.specs.declared.messages.Msg.{Msg}
 use Rattle.ason_base.specs.declared.messages.Msg.TheVariants.{Path, Resv, PathTear, PathErr, Notify}
+use Rattle.ason_base.specs.declared.tables.Leg.{Leg}
+use Rattle.mesh_rules.specs.Legs.{find_leg}
+use Rattle.mesh_rules.specs.LocalNodes.{own_link}
 use Rattle.mesh_rules.specs.Messages.{arrival}
+use Rattle.mesh_rules.specs.Paths.{PathRequest, path_with}
 use Rattle.mesh_nodes.specs.LocalNodes.{LocalNodeFits}
 use Rattle.leg_table.proofs.OwnLegs.{legs-after, next_state}
 use Rattle.leg_table.specs.Fits.{OwnLegsFit, legs_after}
-use Rattle.leg_table.specs.States.{learnt_rows, legs_state, local_of}
+use Rattle.leg_table.specs.States.{legs_state, local_of}
 use Rattle.leg_table.specs.Tables.{LegTable}
-use Rattle.path_state.specs.Answers.{path_answer, tear_answer}
-use Rattle.path_state.proofs.ByLegs.{on_path-by_legs}
+use Rattle.path_state.specs.Answers.{first_here, path_answer, path_unless, tear_answer}
+use Rattle.path_state.proofs.ByLegs.{first-by_legs}
 
 pub path-legs : (t : LegTable) (u : NodeId) (m : Msg) → LocalNodeFits (local_of t) → OwnLegsFit t →
     OwnLegsFit (legs_after t (path_answer t u m))
-path-legs t u (Path l e k route set up r) links fits =
-    legs-after t u (Path l e k route set up r) (path_answer t u (Path l e k route set up r)).legs links fits
-    (λ next. ap (λ a. a.legs) (on_path-by_legs (local_of t) t.legs (learnt_rows t) (legs_state t) (next_state t next)
-    (record { arrival = arrival l e u k; route = route; set = set; role = r })))
+path-legs t u (Path l e k route set up r) links fits = go (find_leg l t.legs) refl
+  where
+    m : PathRequest
+    m = record { arrival = arrival l e u k; route = route; set = set; role = r }
+
+    go : (o : Option Leg) → find_leg l t.legs ≡ o → OwnLegsFit (legs_after t (path_unless t m o))
+    go None found =
+        legs-after t u (Path l e k route set up r) (first_here t m).legs links fits
+        (λ next. ap (λ a. a.legs) (first-by_legs (local_of t) (legs_state t) next m (own_link (local_of t) k)
+        ∙ ap (path_with (local_of t) (next_state t next) m) (sym found)))
+    go (Some g) found = fits
 path-legs t u (Resv l e k x) links fits = fits
 path-legs t u (PathTear l e k) links fits = fits
 path-legs t u (PathErr l e at gone code) links fits = fits

@@ -1,17 +1,29 @@
 -- What a Path and a PathTear do to the legs may be carried out.
+use Rattle.std.specs.Prelude.{Option, Some, None}
 use Rattle.ason_base.specs.declared.ids.NodeId.{NodeId}
 use Rattle.ason_base.specs.declared.messages.Msg.{Msg}
 use Rattle.ason_base.specs.declared.messages.Msg.TheVariants.{Path, Resv, PathTear, PathErr, Notify}
+use Rattle.ason_base.specs.declared.tables.Leg.{Leg}
+use Rattle.mesh_rules.specs.Legs.{find_leg}
 use Rattle.mesh_rules.specs.Messages.{arrival}
+use Rattle.mesh_rules.specs.Paths.{PathRequest, path_with}
 use Rattle.leg_table.specs.LegClaims.{MayBeMade}
 use Rattle.leg_table.specs.States.{legs_state, local_of}
 use Rattle.leg_table.specs.Tables.{LegTable}
 use Rattle.leg_table.proofs.RuleChanges as rule
-use Rattle.path_state.specs.Answers.{path_answer, tear_answer}
+use Rattle.path_state.specs.Answers.{path_answer, path_unless, tear_answer}
 
 pub path-may : (t : LegTable) (u : NodeId) (m : Msg) → MayBeMade (local_of t) t.legs (path_answer t u m).legs
 path-may t u (Path l e k route set up r) =
-    rule.path-may (local_of t) (legs_state t) (record { arrival = arrival l e u k; route = route; set = set; role = r })
+    go (find_leg l t.legs) (rule.path-may (local_of t) (legs_state t) m)
+  where
+    m : PathRequest
+    m = record { arrival = arrival l e u k; route = route; set = set; role = r }
+
+    go : (o : Option Leg) → MayBeMade (local_of t) t.legs (path_with (local_of t) (legs_state t) m o).legs →
+        MayBeMade (local_of t) t.legs (path_unless t m o).legs
+    go None may = may
+    go (Some g) may = tt
 path-may t u (Resv l e k x) = tt
 path-may t u (PathTear l e k) = tt
 path-may t u (PathErr l e at gone code) = tt

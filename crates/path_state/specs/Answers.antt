@@ -1,7 +1,8 @@
--- What a Path and a PathTear do at a node of these tables.
-use Rattle.std.specs.Prelude.{◌≡◌, ℕ, Bool, List, [], ◌∷◌, None, IsTrue, drop, if◌then◌else◌}
+-- What a Path of an LSP that has no leg, and a PathTear, do at a node of these tables.
+use Rattle.std.specs.Prelude.{◌≡◌, ℕ, Bool, List, [], ◌∷◌, Option, Some, None, IsTrue, drop, if◌then◌else◌}
 use Rattle.ason_base.specs.Codes.{set_code}
 use Rattle.ason_base.specs.Labels.{least}
+use Rattle.ason_base.specs.Lsps.{has_fibre}
 use Rattle.ason_base.specs.declared.codes.ErrCode.{ErrCode}
 use Rattle.ason_base.specs.declared.ids.LinkId.{LinkId}
 use Rattle.ason_base.specs.declared.ids.NodeId.{NodeId}
@@ -18,8 +19,9 @@ use Rattle.ason_base.specs.declared.tables.Leg.{Leg}
 use Rattle.mesh_rules.specs.declared.arrivals.Arrival.{Arrival}
 use Rattle.mesh_rules.specs.Changes.{Answer, nothing, sends}
 use Rattle.mesh_rules.specs.Messages.{arrival}
-use Rattle.mesh_rules.specs.Paths.{PathRequest, admitted, asked_leg, at_egress, checks, error_to, first_failure, first_path, in_transit, is_none, is_primary_unknown, judged, offered_labels, on_path, risks_here}
+use Rattle.mesh_rules.specs.Paths.{PathRequest, admitted, asked_leg, at_egress, checks, error_to, first_failure, first_path, in_transit, is_none, is_primary_unknown, judged, offered_labels, risks_here}
 use Rattle.mesh_rules.specs.KnownRows.{known_rows}
+use Rattle.mesh_rules.specs.Legs.{find_leg}
 use Rattle.mesh_rules.specs.LocalNodes.{fibre_in, own_link}
 use Rattle.mesh_rules.specs.Tears.{on_tear}
 use Rattle.leg_table.specs.Fits.{legs_after}
@@ -58,6 +60,10 @@ judged_here t m link =
 abbrev pub first_here : LegTable → PathRequest → Answer
 first_here t m = first_path (local_of t) (legs_state t) m (own_link (local_of t) m.arrival.link)
 
+-- the fibre of this link that comes in is known to be down
+abbrev pub is_down_here : LegTable → LinkSpec → Bool
+is_down_here t link = has_fibre t.down (fibre_in link t.node.id)
+
 -- the fibre of this link that comes in is one of the node's own links
 abbrev pub comes_over : LegTable → LinkSpec → Bool
 comes_over t link = is_fibre_in (local_of t) (fibre_in link t.node.id)
@@ -85,13 +91,18 @@ abbrev pub labelled_here : LegTable → PathRequest → LinkSpec → List Risk �
 labelled_here t m link risks offered =
     if is_none (least offered) then refused_here t m.arrival set_code else admitted_here t m link risks offered
 
+-- a Path of an LSP whose leg stands makes none
+abbrev pub path_unless : LegTable → PathRequest → Option Leg → Answer
+path_unless t m None = first_here t m
+path_unless t m (Some g) = nothing
+
 abbrev pub path_here : LegTable → PathRequest → Answer
-path_here t m = on_path (local_of t) (legs_state t) m
+path_here t m = path_unless t m (find_leg m.arrival.lsp t.legs)
 
 -- a message of another kind does nothing
 abbrev pub path_answer : LegTable → NodeId → Msg → Answer
 path_answer t u (Path l e k route set up r) =
-    on_path (local_of t) (legs_state t) (record { arrival = arrival l e u k; route = route; set = set; role = r })
+    path_here t (record { arrival = arrival l e u k; route = route; set = set; role = r })
 path_answer t u (Resv l e k x) = nothing
 path_answer t u (PathTear l e k) = nothing
 path_answer t u (PathErr l e at gone code) = nothing

@@ -13,9 +13,10 @@ use link_owner::Owner;
 use share_check::Shares;
 use std::alloc::Global;
 
-/// Takes a Path: a leg is made and the Path goes on, or it ends here and is answered by a Resv, or
-/// it is refused by a PathErr. Hands back what is to be sent, in order. A message of another kind
-/// changes nothing. After want of memory nothing has changed.
+/// Takes a Path of an LSP that has no leg here: a leg is made and the Path goes on, or it ends here
+/// and is answered by a Resv, or it is refused by a PathErr. Hands back what is to be sent, in
+/// order. A Path of an LSP that has a leg, and a message of another kind, change nothing. After want
+/// of memory nothing has changed.
 pub fn path(
     alloc: Global,
     tables: &mut NodeTables,

@@ -5,9 +5,9 @@ ghost use Rattle.mesh_rules.specs.Paths.{is_active, leads_on, recorded, role_of,
 ghost use Rattle.mesh_nodes.specs.LocalNodes.{LocalNodeFits};
 ghost use Rattle.leg_table.specs.Fits.{TablesFit};
 ghost use Rattle.leg_table.specs.States.{local_of};
-ghost use Rattle.path_state.specs.Answers.{IsUnknownFor, admitted_here, asked_here, comes_over, ended_here, first_here, is_unknown_here, judged_here, known_here, labelled_here, offered_here, passed_here, path_answer, path_here, path_on, recorded_here, refused_here};
+ghost use Rattle.path_state.specs.Answers.{IsUnknownFor, admitted_here, asked_here, comes_over, ended_here, first_here, is_down_here, is_unknown_here, judged_here, known_here, labelled_here, offered_here, passed_here, path_answer, path_here, path_on, recorded_here, refused_here};
 
-use ason_base::codes::{FULL, PRIMARY, ROUTE, SET};
+use ason_base::codes::{DOWN, FULL, PRIMARY, ROUTE, SET};
 use ason_base::routes::other_end;
 use ason_base::{
     Copied, ErrCode, LabelSet, Leg, LinkSpec, Lsp, Msg, NodeId, OutOfMemory, PathRole, Phase,
@@ -104,6 +104,13 @@ fn offered_labels(
     let role = role_of(request.role);
     let labels = usable(tables, owner, shares, role, risks, fibre);
     request.set.meet(&labels)
+}
+
+// Whether the fibre of this link that comes in is known to be down.
+fn is_down(tables: &NodeTables, link: &LinkSpec) -> bool
+    ensures { result ≡ is_down_here tables.now link.now }
+{
+    tables.is_down(fibre_in(link, tables.node().id))
 }
 
 fn refuse(
@@ -310,6 +317,7 @@ fn judge(
         return refuse(alloc, tables, request.arrival, ROUTE);
     }
     match recorded(alloc, tables, request.role) {
+        Ok(_) if is_down(tables, link) => refuse(alloc, tables, request.arrival, DOWN),
         Ok(risks) => {
             let labels = offered_labels(tables, owner, shares, request, link, &risks);
             admit_labelled(alloc, tables, request, link, Offer { risks, labels })
@@ -366,8 +374,9 @@ fn on_path(
     }
 }
 
-/// What a Path would change and send: it makes a leg and goes on, ends here and is answered, or is
-/// refused. A message of another kind does nothing.
+/// What a Path of an LSP that has no leg here would change and send: it makes a leg and goes on,
+/// ends here and is answered, or is refused. A Path of an LSP that has one, and a message of another
+/// kind, do nothing.
 pub fn path_change(
     alloc: Global,
     tables: &NodeTables,
