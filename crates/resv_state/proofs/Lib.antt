@@ -1,4 +1,3 @@
 pub mod ByLegs
 pub mod KeptLegs
 pub mod MayResvs
-pub mod NoCall

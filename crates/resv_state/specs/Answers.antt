@@ -1,6 +1,6 @@
--- What a Resv and a PathErr do to the leg at a node of these tables. What becomes of the call at the ingress isn't told
--- here: it's as at a node without calls.
-use Rattle.std.specs.Prelude.{ℕ, ◌&&◌, Bool, true, false, List, Option, Some, None}
+-- What a Resv that a leg waits for, and a PathErr with Path_State_Removed, do to the leg at a node of these tables. What
+-- becomes of the call at the ingress isn't told here: it's as at a node without calls.
+use Rattle.std.specs.Prelude.{ℕ, ◌&&◌, Bool, true, false, List, Option, Some, None, if◌then◌else◌}
 use Rattle.ason_base.specs.declared.ids.NodeId.{NodeId}
 use Rattle.ason_base.specs.declared.messages.Msg.{Msg}
 use Rattle.ason_base.specs.declared.messages.Msg.TheVariants.{Path, Resv, PathTear, PathErr, Notify}
@@ -10,8 +10,8 @@ use Rattle.mesh_rules.specs.declared.neighbours.Neighbour.{Neighbour}
 use Rattle.mesh_rules.specs.Changes.{Answer, nothing}
 use Rattle.mesh_rules.specs.Legs.{find_leg, following, is_asked, is_node, previous}
 use Rattle.mesh_rules.specs.Messages.{arrival}
-use Rattle.mesh_rules.specs.PathErrs.{PathFailure, err_passed, on_path_err, removed}
-use Rattle.mesh_rules.specs.Resvs.{answered, is_expected, labels_left, on_resv}
+use Rattle.mesh_rules.specs.PathErrs.{PathFailure, err_passed, removed}
+use Rattle.mesh_rules.specs.Resvs.{answered, is_expected, labels_left}
 use Rattle.mesh_rules.specs.State.{new_node}
 use Rattle.leg_table.specs.Fits.{legs_after}
 use Rattle.leg_table.specs.States.{legs_state, local_of}
@@ -31,8 +31,21 @@ err_passed_here g e = err_passed new_node g e (previous g)
 abbrev pub removed_here : Leg → PathFailure → Answer
 removed_here g e = removed new_node g e
 
+-- the leg waits for the Resv
+abbrev pub resv_taken : LegTable → Arrival → ℕ → Option Leg → Answer
+resv_taken t a x None = nothing
+resv_taken t a x (Some g) = if is_expected a x g then answered_here t a x g else nothing
+
 abbrev pub resv_here : LegTable → Arrival → ℕ → Answer
-resv_here t a x = on_resv (local_of t) (legs_state t) a x
+resv_here t a x = resv_taken t a x (find_leg a.lsp t.legs)
+
+-- the PathErr tells that the state was removed, and comes from the leg's next node
+abbrev pub err_taken : NodeId → PathFailure → Option Leg → Answer
+err_taken u e None = nothing
+err_taken u e (Some g) = if e.removed && is_node (following g) u then removed_here g e else nothing
+
+abbrev pub err_here : LegTable → NodeId → PathFailure → Answer
+err_here t u e = err_taken u e (find_leg e.lsp t.legs)
 
 -- Where the call follows
 
@@ -72,7 +85,7 @@ refuses t u (Notify l e at k code) = false
 -- a message of another kind does nothing
 abbrev pub resv_answer : LegTable → NodeId → Msg → Answer
 resv_answer t u (Path l e k route set up r) = nothing
-resv_answer t u (Resv l e k x) = on_resv (local_of t) (legs_state t) (arrival l e u k) x
+resv_answer t u (Resv l e k x) = resv_here t (arrival l e u k) x
 resv_answer t u (PathTear l e k) = nothing
 resv_answer t u (PathErr l e at gone code) = nothing
 resv_answer t u (Notify l e at k code) = nothing
@@ -83,7 +96,7 @@ path_err_answer t u (Path l e k route set up r) = nothing
 path_err_answer t u (Resv l e k x) = nothing
 path_err_answer t u (PathTear l e k) = nothing
 path_err_answer t u (PathErr l e at gone code) =
-    on_path_err (legs_state t) u (record { lsp = l; msg = PathErr l e at gone code; removed = gone; code = code })
+    err_here t u (record { lsp = l; msg = PathErr l e at gone code; removed = gone; code = code })
 path_err_answer t u (Notify l e at k code) = nothing
 
 -- The tables after it

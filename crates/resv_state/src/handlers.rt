@@ -14,8 +14,8 @@ use share_check::Shares;
 use std::alloc::Global;
 
 /// Takes a Resv: the leg that waits for it is cross-connected and the Resv goes back, or no label
-/// is left and the LSP is torn. Hands back what is to be sent, in order. A message of another kind
-/// changes nothing. After want of memory nothing has changed.
+/// is left and the LSP is torn. Hands back what is to be sent, in order. A Resv that no Asked leg
+/// takes, and a message of another kind, change nothing. After want of memory nothing has changed.
 pub fn resv(
     alloc: Global,
     tables: &mut NodeTables,
@@ -40,8 +40,8 @@ pub fn resv(
 }
 
 /// Takes a PathErr: with Path_State_Removed it takes an Asked leg away and is passed back, or a
-/// torn leg, whose next node has let go. Hands back what is to be sent, in order. A message of
-/// another kind changes nothing. After want of memory nothing has changed.
+/// torn leg, whose next node has let go. Hands back what is to be sent, in order. A PathErr without
+/// it, and a message of another kind, change nothing. After want of memory nothing has changed.
 pub fn path_err(
     alloc: Global,
     tables: &mut NodeTables,

@@ -2,9 +2,7 @@
 
 ghost use Rattle.std.specs.Prelude.{◌≡◌, IfOk};
 ghost use Rattle.mesh_rules.specs.Legs.{find_leg};
-ghost use Rattle.mesh_rules.specs.PathErrs.{on_path_err};
-ghost use Rattle.leg_table.specs.States.{legs_state};
-ghost use Rattle.resv_state.specs.Answers.{err_passed_here, path_err_answer, refuses, refuses_leg, removed_here};
+ghost use Rattle.resv_state.specs.Answers.{err_here, err_passed_here, path_err_answer, refuses, refuses_leg, removed_here};
 
 use crate::resvs::begins_here;
 use ason_base::{Copied, ErrCode, Leg, Lsp, Msg, NodeId, OutOfMemory};
@@ -62,14 +60,13 @@ fn remove(alloc: Global, leg: &Leg, failure: &PathFailure<'_>) -> Result<Change,
     Ok(change)
 }
 
-#[tactic(auto, using(crate::proofs::NoCall::removed_no_call))]
 fn on_path_err(
     alloc: Global,
     tables: &NodeTables,
     from: NodeId,
     failure: &PathFailure<'_>,
 ) -> Result<Change, OutOfMemory>
-    ensures { IfOk result (λ c. c ≡ on_path_err (legs_state tables.now) from failure.now) }
+    ensures { IfOk result (λ c. c ≡ err_here tables.now from failure.now) }
 {
     match tables.get(&failure.lsp) {
         Some(leg) if failure.removed && is_node(following(leg), from) => {

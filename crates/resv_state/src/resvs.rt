@@ -202,8 +202,8 @@ pub fn connects(tables: &NodeTables, from: NodeId, msg: &Msg) -> bool
 }
 
 /// What a Resv would change and send: the leg that waits for it gets its labels, is cross-connected
-/// where it is a working leg, and the Resv goes back; or the LSP is torn. A message of another kind
-/// does nothing.
+/// where it is a working leg, and the Resv goes back; or the LSP is torn. A Resv that no Asked leg
+/// takes, and a message of another kind, do nothing.
 pub fn resv_change(
     alloc: Global,
     tables: &NodeTables,
