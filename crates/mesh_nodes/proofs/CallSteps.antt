@@ -1,13 +1,14 @@
 -- What becomes of a call after a Resv or a PathErr at its ingress fits.
-use Rattle.std.proofs.Common.{◌≡◌, List, length, arith}
+use Rattle.std.proofs.Common.{◌≡◌, List, length}
 use Rattle.std.specs.Prelude.{Option, Some, None}
 use Rattle.ason_base.specs.declared.calls.Cause.{Cause}
 use Rattle.ason_base.specs.declared.calls.Cause.TheVariants.{Code}
+use Rattle.ason_base.specs.Codes.{busy_code}
 use Rattle.ason_base.specs.declared.codes.ErrCode.{ErrCode}
 use Rattle.ason_base.specs.declared.tables.CallRec.{CallRec}
 use Rattle.ason_base.specs.declared.tables.Leg.{Leg}
-use Rattle.mesh_rules.specs.CallSteps.{call_answered, call_put, call_refused}
-use Rattle.mesh_rules.specs.Calls.{bare, blocked, call_with, guarded, is_asking, is_pairing, names, unbacked}
+use Rattle.mesh_rules.specs.CallSteps.{call_answered, call_contended, call_refused, call_turned}
+use Rattle.mesh_rules.specs.Calls.{bare, blocked, call_with, guarded, is_asking, is_pairing, is_turning, names, stuck, turned, unbacked}
 use Rattle.mesh_rules.specs.Changes.{nothing}
 use Rattle.mesh_rules.specs.Legs.{is_work}
 use Rattle.mesh_rules.specs.LocalNodes.{LocalNode}
@@ -17,27 +18,15 @@ use Rattle.mesh_nodes.specs.Kept.{CallFits, LegFits, NodeFits}
 use Rattle.mesh_nodes.specs.LocalNodes.{LocalNodeFits}
 use Rattle.mesh_nodes.specs.Sent.{AnswerFits}
 use Rattle.mesh_nodes.proofs.Cases.{if_cases}
-use Rattle.mesh_nodes.proofs.Kept.{calls-put}
 use Rattle.mesh_nodes.proofs.Links.{found-one}
 use Rattle.mesh_nodes.proofs.Pairs.{pair-fits}
 use Rattle.mesh_nodes.proofs.Paths.{nothing-fits}
+use Rattle.mesh_nodes.proofs.Turns.{BeginsHere, decide-fits, put-fits}
 
--- s is what the rule reads, g the leg, which begins here; these legs stand when the rule is carried out
+-- s is what the rule reads, g the leg as its message leaves it, which begins here; these legs stand when the rule is
+-- carried out
 module _ (p : LocalNode) (s : NodeState) (legs : List Leg) (g : Leg) (W : Type 0) (place : LocalNodeFits p)
     (fits : NodeFits p (record s { legs = legs })) where
-  put-fits : (c : CallRec) → CallFits p c → AnswerFits p (record s { legs = legs }) W (call_put c)
-  put-fits c here = record {
-    kept = record {
-      legs = fits.legs;
-      calls = calls-put p c s.calls fits.calls here;
-      first = fits.first;
-      numbers = fits.numbers;
-    };
-    near = tt;
-    written = λ x. tt;
-    few = omega arith;
-  }
-
   none-fits : AnswerFits p (record s { legs = legs }) W nothing
   none-fits = nothing-fits p (record s { legs = legs }) W fits
 
@@ -45,19 +34,20 @@ module _ (p : LocalNode) (s : NodeState) (legs : List Leg) (g : Leg) (W : Type 0
   call-fits c called = found-one (CallFits p) (names g.lsp) s.calls c called fits.calls.each
 
   pub answered-call-fits : (o : Option CallRec) → call_with g.lsp s.calls ≡ o → length legs ≡ length s.legs →
-      LegFits p s.lsp g → g.lsp.ingress.0 ≡ p.id.0 →
-      AnswerFits p (record s { legs = legs }) W (call_answered p s g o)
-  answered-call-fits None called many leg begins = none-fits
-  answered-call-fits (Some c) called many leg begins =
+      LegFits p s.lsp g → BeginsHere p legs g → AnswerFits p (record s { legs = legs }) W (call_answered p s g o)
+  answered-call-fits None called many leg stands = none-fits
+  answered-call-fits (Some c) called many leg stands =
       let here = call-fits c called in
       if_cases (AnswerFits p (record s { legs = legs }) W) (is_work g.role) _ _
       (λ e. if_cases (AnswerFits p (record s { legs = legs }) W) (is_asking c.state) _ _
       (λ e. if_cases (AnswerFits p (record s { legs = legs }) W) c.protected _ _
-      (λ e. pair-fits p s legs c g W place fits many leg begins here)
-      (λ e. put-fits (bare c) (record { backup = here.backup; work = here.work })))
+      (λ e. pair-fits p s legs c g W place fits many leg stands.begins here)
+      (λ e. put-fits p s legs W fits (bare c) (record { backup = here.backup; work = here.work; back = here.back })))
       (λ e. none-fits))
       (λ e. if_cases (AnswerFits p (record s { legs = legs }) W) (is_pairing c.state) _ _
-      (λ e. put-fits (guarded c) (record { backup = here.backup; work = here.work })) (λ e. none-fits))
+      (λ e. decide-fits p s legs W fits (guarded c) (Some g)
+      (record { backup = here.backup; work = here.work; back = here.back }) stands)
+      (λ e. none-fits))
 
   pub refused-call-fits : (code : ErrCode) (o : Option CallRec) → call_with g.lsp s.calls ≡ o →
       AnswerFits p (record s { legs = legs }) W (call_refused code g o)
@@ -66,10 +56,32 @@ module _ (p : LocalNode) (s : NodeState) (legs : List Leg) (g : Leg) (W : Type 0
       let here = call-fits c called in
       if_cases (AnswerFits p (record s { legs = legs }) W) (is_work g.role) _ _
       (λ e. if_cases (AnswerFits p (record s { legs = legs }) W) (is_asking c.state) _ _
-      (λ e. put-fits (blocked c (Code code)) (record { backup = here.backup; work = tt })) (λ e. none-fits))
+      (λ e. put-fits p s legs W fits (blocked c (Code code))
+      (record { backup = here.backup; work = tt; back = here.back })) (λ e. none-fits))
       (λ e. if_cases (AnswerFits p (record s { legs = legs }) W) (is_pairing c.state) _ _
       (λ e. bare-call (Code code) c here) (λ e. none-fits))
     where
       bare-call : (cause : Cause) (c : CallRec) → CallFits p c →
           AnswerFits p (record s { legs = legs }) W (leaves_bare c cause)
-      bare-call cause c here = put-fits (unbacked c cause) (record { backup = here.backup; work = here.work })
+      bare-call cause c here =
+          put-fits p s legs W fits (unbacked c cause) (record { backup = here.backup; work = here.work; back = tt })
+
+  pub turned-call-fits : (o : Option CallRec) → call_with g.lsp s.calls ≡ o → BeginsHere p legs g →
+      AnswerFits p (record s { legs = legs }) W (call_turned g o)
+  turned-call-fits None called stands = none-fits
+  turned-call-fits (Some c) called stands =
+      let here = call-fits c called in
+      if_cases (AnswerFits p (record s { legs = legs }) W) (is_turning c.state) _ _
+      (λ e. decide-fits p s legs W fits (turned c) (Some g)
+      (record { backup = here.backup; work = here.work; back = here.back }) stands)
+      (λ e. none-fits)
+
+  pub contended-call-fits : (o : Option CallRec) → call_with g.lsp s.calls ≡ o → BeginsHere p legs g →
+      AnswerFits p (record s { legs = legs }) W (call_contended g o)
+  contended-call-fits None called stands = none-fits
+  contended-call-fits (Some c) called stands =
+      let here = call-fits c called in
+      if_cases (AnswerFits p (record s { legs = legs }) W) (is_turning c.state) _ _
+      (λ e. decide-fits p s legs W fits (stuck c (Code busy_code)) (Some g)
+      (record { backup = here.backup; work = here.work; back = here.back }) stands)
+      (λ e. none-fits)

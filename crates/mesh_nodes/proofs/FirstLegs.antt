@@ -55,6 +55,8 @@ module _ (p : LocalNode) (s : NodeState) (legs : List Leg) (W : Type 0) (place :
     number = λ e. after.number;
     leaves = λ e. begins.away;
     short = λ e. begins.short;
+    says = λ e. begins.written;
+    set = λ e. some_labels n.out.labels (own-is p begins.link n.out place begins.own).labelled;
   }
 
   pub asks-fit : (n : NewLsp) (c : CallRec) (next : NextNumbers) → Begins p n → AreNext s n next → CallFits p c →

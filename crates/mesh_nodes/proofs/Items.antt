@@ -1,7 +1,6 @@
 -- What the items of a desk do fits.
 use Rattle.std.proofs.Common.{◌≡◌, ◌≤◌, ◌<◌, ◌+◌, ℕ, Bool, true, false, cond, not, nat_eq, List, [], ◌∷◌, ◌++◌, length, refl, ap, ◌∙◌, arith}
 use Rattle.std.specs.Prelude.{◌&&◌, Option, Some, None, IfSome}
-use Rattle.std.specs.List.{AllByRecursion}
 use Rattle.ason_base.specs.declared.calls.Cause.{Cause}
 use Rattle.ason_base.specs.declared.calls.Cause.TheVariants.{NoRoute, Spent, Full, Unset}
 use Rattle.ason_base.specs.declared.calls.CallState.TheVariants.{Asking}
@@ -34,15 +33,17 @@ use Rattle.mesh_rules.specs.State.{NodeState}
 use Rattle.mesh_nodes.specs.Kept.{CallFits, LegFits, LegsFit, NodeFits}
 use Rattle.mesh_nodes.specs.Laws.{ItemsFit}
 use Rattle.mesh_nodes.specs.LocalNodes.{LocalNodeFits}
-use Rattle.mesh_nodes.specs.Sent.{AllToNeighbours, AllWritable, AnswerFits}
+use Rattle.mesh_nodes.specs.Sent.{AnswerFits}
+use Rattle.mesh_nodes.proofs.Alarms.{alarm-fits, all-append, clear-fits}
 use Rattle.mesh_nodes.proofs.Cases.{both_left, both_right, if_cases, not-true}
 use Rattle.mesh_nodes.proofs.FirstLegs.{IsFirst, asks-fit, first-is}
 use Rattle.mesh_nodes.proofs.Kept.{calls-less, calls-put, closed-fits, legs-changed}
 use Rattle.mesh_nodes.proofs.LegList.{find-with_leg, found-lsp}
 use Rattle.mesh_nodes.proofs.Links.{found-one}
-use Rattle.mesh_nodes.proofs.Messages.{Stands, following-is_near, leg-stands}
 use Rattle.mesh_nodes.proofs.Pairs.{pair-fits}
 use Rattle.mesh_nodes.proofs.Paths.{below, nothing-fits}
+use Rattle.mesh_nodes.proofs.Reports.{retry-fits}
+use Rattle.mesh_nodes.proofs.Stands.{OneFits, Stands, following-is_near, leg-stands, none-sent}
 
 -- Setup
 
@@ -52,7 +53,7 @@ module _ (p : LocalNode) (s : NodeState) (w : SetupRequest) (W : Type 0) (place 
   refused-fits cause = record {
     kept = record {
       legs = fits.legs;
-      calls = calls-put p _ s.calls fits.calls (record { backup = followable; work = tt });
+      calls = calls-put p _ s.calls fits.calls (record { backup = followable; work = tt; back = tt });
       first = fits.first;
       numbers = fits.numbers;
     };
@@ -80,7 +81,7 @@ module _ (p : LocalNode) (s : NodeState) (w : SetupRequest) (W : Type 0) (place 
         first = omega arith;
         numbers = (let numbers = fits.numbers in omega arith);
       })
-      (record { backup = followable; work = refl }) room
+      (record { backup = followable; work = refl; back = tt }) room
 
   admitted-fits : (hop : Step) (out : LinkSpec) (route : List Step) → IsFirst p hop route out →
       AnswerFits p s W (admitted_setup p s w out route)
@@ -120,26 +121,15 @@ setup-fits p s w W None place fits =
 
 -- Release
 
--- what tearing an LSP sends
-record TearFits (p : LocalNode) (outs : List Out) : Type 0 where
-  near : AllToNeighbours p outs
-  written : AllWritable outs
-  few : length outs ≤ 1
-
 tear_to-fits : (p : LocalNode) (next : ℕ) (g : Leg) (o : Option Neighbour) → LegFits p next g → following g ≡ o →
-    TearFits p (tear_to g o)
-tear_to-fits p next g None fits is = record { near = tt; written = tt; few = omega arith }
+    OneFits p (tear_to g o)
+tear_to-fits p next g None fits is = none-sent p
 tear_to-fits p next g (Some h) fits is = record {
   near =
       (following-is_near p next g h fits is, tt);
   written = (tt, tt);
   few = omega arith;
 }
-
-all-append : {X : Type 0} (P : X → Type 0) (xs ys : List X) → AllByRecursion P xs → AllByRecursion P ys →
-    AllByRecursion P (xs ++ ys)
-all-append P [] ys a b = b
-all-append P (x ∷ xs) ys a b = (a.0, all-append P xs ys a.1 b)
 
 few-append : (a b : List Out) → length a ≤ 1 → length b ≤ 1 → length (a ++ b) ≤ 65536
 few-append [] b h k = omega arith
@@ -280,9 +270,10 @@ items-fit p s (Order (Setup n from to protected both via backup)) place fits =
 items-fit p s (Order (Release n from)) place fits = release-fits p s from (Unit {0}) (find_call n s.calls) fits
 items-fit p s (Order (Protect n from)) place fits =
     protect-fits p s n from (Unit {0}) (find_call n s.calls) place fits refl
-items-fit p s (Order (Retry n from)) place fits = nothing-fits p s (Unit {0}) fits
+items-fit p s (Order (Retry n from)) place fits =
+    retry-fits p s (Unit {0}) fits n from (find_call n s.calls) refl
 items-fit p s (Order (Revert n from)) place fits = nothing-fits p s (Unit {0}) fits
 items-fit p s (Order (Fail g)) place fits = nothing-fits p s (Unit {0}) fits
 items-fit p s (Order (Repair g)) place fits = nothing-fits p s (Unit {0}) fits
-items-fit p s (Alarm f) place fits = nothing-fits p s (Unit {0}) fits
-items-fit p s (Clear f) place fits = nothing-fits p s (Unit {0}) fits
+items-fit p s (Alarm f) place fits = alarm-fits p s f (Unit {0}) fits
+items-fit p s (Clear f) place fits = clear-fits p s f (Unit {0}) fits

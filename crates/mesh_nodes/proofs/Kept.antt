@@ -16,7 +16,7 @@ use Rattle.ason_base.specs.Lsps.{lsp_before, same_lsp}
 use Rattle.mesh_rules.specs.declared.limits.TheConstants.{MOST_LEGS}
 use Rattle.mesh_rules.specs.declared.neighbours.Neighbour.{Neighbour}
 use Rattle.mesh_rules.specs.Calls.{with_call, without_call}
-use Rattle.mesh_rules.specs.Legs.{closed, closing_phase, connected, find_leg, is_beyond_asked, is_over, neighbour_over, with_leg, without_leg}
+use Rattle.mesh_rules.specs.Legs.{closed, closing_phase, connected, find_leg, is_armed, is_beyond_asked, is_held, is_over, neighbour_over, with_leg, with_phase, without_leg}
 use Rattle.mesh_rules.specs.LocalNodes.{LocalNode}
 use Rattle.mesh_nodes.specs.Kept.{CallFits, CallsFit, LegFits, LegsFit}
 use Rattle.mesh_nodes.specs.Order.{LegsRise}
@@ -81,6 +81,8 @@ later-fits p a b g le fits = record {
   number = λ e. let small : g.lsp.lsp < a = fits.number e in omega arith;
   leaves = fits.leaves;
   short = fits.short;
+  says = fits.says;
+  set = fits.set;
 }
 
 -- a leg more, where there is room
@@ -143,6 +145,8 @@ closed-fits p next g fits = record {
   number = fits.number;
   leaves = fits.leaves;
   short = fits.short;
+  says = fits.says;
+  set = fits.set;
 }
 
 -- the label in as it should be, and a fibre out
@@ -161,7 +165,45 @@ connected-fits p next g label x fits labelled out = record {
   number = fits.number;
   leaves = fits.leaves;
   short = fits.short;
+  says = fits.says;
+  set = fits.set;
 }
+
+-- another phase, where the leg has its labels
+pub phase-fits : (p : LocalNode) (next : ℕ) (f : Phase) (g : Leg) → LegFits p next g →
+    is_beyond_asked g.phase ≡ true → LegFits p next (with_phase f g)
+phase-fits p next f g fits beyond = record {
+  prev = fits.prev;
+  in_fibre = fits.in_fibre;
+  next_node = fits.next_node;
+  out_fibre = fits.out_fibre;
+  upstream = fits.upstream;
+  downstream = fits.downstream;
+  role = fits.role;
+  in_label = λ e. fits.in_label beyond;
+  out_label = λ e. fits.out_label beyond;
+  number = fits.number;
+  leaves = fits.leaves;
+  short = fits.short;
+  says = fits.says;
+  set = fits.set;
+}
+
+pub held-beyond : (f : Phase) → is_held f ≡ true → is_beyond_asked f ≡ true
+held-beyond Asked e = absurd (cc e)
+held-beyond Held e = refl
+held-beyond Armed e = absurd (cc e)
+held-beyond Live e = absurd (cc e)
+held-beyond Closing e = absurd (cc e)
+held-beyond Falling e = absurd (cc e)
+
+pub armed-beyond : (f : Phase) → is_armed f ≡ true → is_beyond_asked f ≡ true
+armed-beyond Asked e = absurd (cc e)
+armed-beyond Held e = absurd (cc e)
+armed-beyond Armed e = refl
+armed-beyond Live e = absurd (cc e)
+armed-beyond Closing e = absurd (cc e)
+armed-beyond Falling e = absurd (cc e)
 
 -- Fibres of a leg
 
@@ -177,6 +219,12 @@ pub beside-fibre : (o : Option NodeId) (f : Option Fibre) (h : Neighbour) → ne
 beside-fibre None f h e = absurd (cc e)
 beside-fibre (Some m) None h e = absurd (cc e)
 beside-fibre (Some m) (Some f) h e = refl
+
+pub beside-node : (o : Option NodeId) (f : Option Fibre) (h : Neighbour) → neighbour_over o f ≡ Some h →
+    is_some o ≡ true
+beside-node None f h e = absurd (cc e)
+beside-node (Some m) None h e = absurd (cc e)
+beside-node (Some m) (Some f) h e = refl
 
 pub alone-fibre : (o : Option NodeId) (f : Option Fibre) → is_some f ≡ is_some o → neighbour_over o f ≡ None →
     is_some f ≡ false

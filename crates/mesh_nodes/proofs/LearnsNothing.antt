@@ -1,10 +1,18 @@
 -- By no message, and by no item of its desk, does a node learn of a link.
-use Rattle.std.proofs.Common.{◌≡◌, Bool, true, cond, nat_eq, nat_lt, not, List, [], ◌∷◌, drop, refl}
+use Rattle.std.proofs.Common.{◌≡◌, Bool, true, false, cond, nat_eq, nat_lt, not, List, [], ◌∷◌, drop, refl}
 use Rattle.std.specs.Prelude.{◌&&◌, ℕ, Option, Some, None, is_some}
-use Rattle.ason_base.specs.Codes.{torn_code}
+use Rattle.ason_base.specs.Codes.{busy_code, torn_code}
 use Rattle.ason_base.specs.Labels.{least}
 use Rattle.ason_base.specs.Risks.{unknown_link}
-use Rattle.ason_base.specs.declared.calls.Cause.TheVariants.{Spent, Full}
+use Rattle.ason_base.specs.Lsps.{has_fibre}
+use Rattle.ason_base.specs.declared.calls.CallState.{CallState}
+use Rattle.ason_base.specs.declared.calls.CallState.TheVariants.{Asking, Bare, Blocked, Guarded, Pairing, Stuck, Turned, Turning}
+use Rattle.ason_base.specs.declared.calls.Cause.TheVariants.{Code, Full, Spent}
+use Rattle.ason_base.specs.declared.calls.Phase.TheVariants.{Held, Live}
+use Rattle.ason_base.specs.declared.ids.Fibre.{Fibre}
+use Rattle.ason_base.specs.declared.ids.Lsp.{Lsp}
+use Rattle.ason_base.specs.declared.messages.PathRole.{PathRole}
+use Rattle.ason_base.specs.declared.messages.PathRole.TheVariants.{Work, Back}
 use Rattle.ason_base.specs.declared.codes.ErrCode.{ErrCode}
 use Rattle.ason_base.specs.declared.commands.Command.TheVariants.{Setup, Release, Protect, Retry, Revert, Fail, Repair}
 use Rattle.ason_base.specs.declared.commands.DeskItem.{DeskItem}
@@ -22,25 +30,32 @@ use Rattle.mesh_rules.specs.declared.arrivals.Arrival.{Arrival}
 use Rattle.mesh_rules.specs.declared.changes.CallChange.TheVariants as call
 use Rattle.mesh_rules.specs.declared.limits.TheConstants.{LAST_NUMBER}
 use Rattle.mesh_rules.specs.declared.neighbours.Neighbour.{Neighbour}
-use Rattle.mesh_rules.specs.CallSteps.{call_answered, call_refused}
-use Rattle.mesh_rules.specs.Calls.{call_with, find_call, is_asking, is_bare, is_pairing}
+use Rattle.mesh_rules.specs.ActivationAnswers.{confirmed, contended, disarmed, is_confirmed, resv_again}
+use Rattle.mesh_rules.specs.Activations.{armed_on, is_contended, path_again}
+use Rattle.mesh_rules.specs.Alarms.{enters, on_alarm, on_clear}
+use Rattle.mesh_rules.specs.CallSteps.{call_answered, call_contended, call_refused, call_turned}
+use Rattle.mesh_rules.specs.Calls.{call_with, find_call, guarded, is_asking, is_bare, is_pairing, is_stuck, is_turning, stuck, turned}
 use Rattle.mesh_rules.specs.Changes.{Answer, changes_calls, followed_by, nothing, puts, removes, to_node}
 use Rattle.mesh_rules.specs.FirstLegs.{first_link, is_full}
 use Rattle.mesh_rules.specs.KnownRows.{known_rows}
 use Rattle.mesh_rules.specs.LeastRoutes.{Trip, least_trip}
-use Rattle.mesh_rules.specs.Legs.{connected, find_leg, following, is_asked, is_closing, is_node, is_over, is_work, leg_of, previous}
+use Rattle.mesh_rules.specs.Legs.{connected, find_leg, following, is_armed, is_asked, is_closing, is_held, is_node, is_over, is_work, leg_of, previous, with_phase}
 use Rattle.mesh_rules.specs.LocalNodes.{LocalNode, leads, own_link}
 use Rattle.mesh_rules.specs.Messages.{arrival, on_message}
+use Rattle.mesh_rules.specs.Notifies.{Notice, notice_passed, notice_told, notify_with}
 use Rattle.mesh_rules.specs.Orders.{on_item}
 use Rattle.mesh_rules.specs.PathErrs.{PathFailure, err_passed, path_err_with, removed}
 use Rattle.mesh_rules.specs.Paths.{PathRequest, admitted, at_egress, checks, first_failure, first_path, in_transit, is_active, judged, path_with}
 use Rattle.mesh_rules.specs.Pairs.{backup_route, over_backup, pair, pair_over, route_from}
 use Rattle.mesh_rules.specs.Protects.{protect_with, protects}
 use Rattle.mesh_rules.specs.Releases.{release_with, releases, tears}
+use Rattle.mesh_rules.specs.Reports.{call_reported, fibre_into, reported, reported_on, with_report}
+use Rattle.mesh_rules.specs.Retries.{retries, retry_with}
 use Rattle.mesh_rules.specs.Resvs.{answered, is_expected, label_back, labels_left, passed_back, resv_with}
 use Rattle.mesh_rules.specs.Setups.{SetupRequest, admitted_setup, begins, is_order_here, is_spent, new_call, over_first, over_found, refused_setup, setup_with}
 use Rattle.mesh_rules.specs.State.{NodeState}
 use Rattle.mesh_rules.specs.Tears.{tear_with, torn}
+use Rattle.mesh_rules.specs.Turns.{decide, decided, has_any, turn}
 use Rattle.mesh_nodes.specs.Learnt.{NothingElseIsLearnt}
 use Rattle.mesh_nodes.proofs.Cases.{if_cases}
 
@@ -88,9 +103,46 @@ first_path-none p s m (Some link) =
     (judged p s m link (first_failure (checks p s m link))) nothing
     (judged-none p s m link (first_failure (checks p s m link))) refl
 
+armed_on-none : (g : Leg) (r : PathRole) (o : Option Neighbour) → LearnsNothing (armed_on g r o)
+armed_on-none g r None = refl
+armed_on-none g r (Some h) = refl
+
+again-none : (p : LocalNode) (s : NodeState) (a : Arrival) (r : PathRole) (g : Leg) →
+    LearnsNothing (path_again p s a r g)
+again-none p s a (Work guard) g = refl
+again-none p s a (Back false work primary) g = refl
+again-none p s a (Back true work primary) g =
+    if_cases LearnsNothing (is_held g.phase && is_over (previous g) a.from a.link) _ _
+    (λ e. if_cases LearnsNothing (is_contended s.legs g g.in_fibre g.in_label) _ _ (λ b. refl)
+    (λ b. armed_on-none g (Back true work primary) (following g)))
+    (λ e. refl)
+
 path-none : (p : LocalNode) (s : NodeState) (m : PathRequest) (o : Option Leg) → LearnsNothing (path_with p s m o)
 path-none p s m None = first_path-none p s m (own_link p m.arrival.link)
-path-none p s m (Some g) = refl
+path-none p s m (Some g) = again-none p s m.arrival m.role g
+
+-- Turning
+
+turn-none : (c : CallRec) (o : Option Leg) → LearnsNothing (turn c o)
+turn-none c None = refl
+turn-none c (Some b) = if_cases LearnsNothing (is_held b.phase) _ _ (λ e. refl) (λ e. refl)
+
+decided-none : (c : CallRec) (o : Option Leg) (state : CallState) (works backs : Bool) →
+    LearnsNothing (decided c o state works backs)
+decided-none c o Asking works backs = refl
+decided-none c o Blocked works backs = refl
+decided-none c o Bare works backs = refl
+decided-none c o Pairing works backs = refl
+decided-none c o Guarded true false = turn-none c o
+decided-none c o Guarded true true = refl
+decided-none c o Guarded false backs = refl
+decided-none c o Turning works backs = refl
+decided-none c o Turned works backs = refl
+decided-none c o Stuck true backs = refl
+decided-none c o Stuck false backs = refl
+
+decide-none : (c : CallRec) (o : Option Leg) → LearnsNothing (decide c o)
+decide-none c o = decided-none c o c.state (has_any c.work_reports) (has_any c.back_reports)
 
 -- Resv
 
@@ -116,7 +168,22 @@ call_answered-none p s g (Some c) =
     if_cases LearnsNothing (is_work g.role) _ _
     (λ e. if_cases LearnsNothing (is_asking c.state) _ _
     (λ e. if_cases LearnsNothing c.protected _ _ (λ e. pair-none p s c g) (λ e. refl)) (λ e. refl))
-    (λ e. if_cases LearnsNothing (is_pairing c.state) _ _ (λ e. refl) (λ e. refl))
+    (λ e. if_cases LearnsNothing (is_pairing c.state) _ _ (λ e. decide-none (guarded c) (Some g)) (λ e. refl))
+
+call_turned-none : (b : Leg) (o : Option CallRec) → LearnsNothing (call_turned b o)
+call_turned-none b None = refl
+call_turned-none b (Some c) =
+    if_cases LearnsNothing (is_turning c.state) _ _ (λ e. decide-none (turned c) (Some b)) (λ e. refl)
+
+confirmed-none : (s : NodeState) (g : Leg) (o : Option Neighbour) → LearnsNothing (confirmed s g o)
+confirmed-none s g None =
+    both (puts (with_phase Live g) []) (call_turned (with_phase Live g) (call_with g.lsp s.calls)) refl
+    (call_turned-none (with_phase Live g) (call_with g.lsp s.calls))
+confirmed-none s g (Some h) = refl
+
+resv_again-none : (s : NodeState) (a : Arrival) (x : ℕ) (g : Leg) → LearnsNothing (resv_again s a x g)
+resv_again-none s a x g =
+    if_cases LearnsNothing (is_confirmed a x g) _ _ (λ e. confirmed-none s g (previous g)) (λ e. refl)
 
 passed_back-none : (p : LocalNode) (a : Arrival) (g : Leg) (h : Neighbour) (x : ℕ) (o : Option ℕ) →
     LearnsNothing (passed_back p a g h x o)
@@ -126,14 +193,15 @@ passed_back-none p a g h x (Some y) = refl
 answered-none : (p : LocalNode) (s : NodeState) (a : Arrival) (x : ℕ) (g : Leg) (o : Option Neighbour) →
     LearnsNothing (answered p s a x g o)
 answered-none p s a x g None =
-    both (puts (connected g None x) []) (call_answered p s g (call_with g.lsp s.calls)) refl
-    (call_answered-none p s g (call_with g.lsp s.calls))
+    both (puts (connected g None x) []) (call_answered p s (connected g None x) (call_with g.lsp s.calls)) refl
+    (call_answered-none p s (connected g None x) (call_with g.lsp s.calls))
 answered-none p s a x g (Some h) = passed_back-none p a g h x (label_back p (labels_left p s g h) x)
 
 resv-none : (p : LocalNode) (s : NodeState) (a : Arrival) (x : ℕ) (o : Option Leg) → LearnsNothing (resv_with p s a x o)
 resv-none p s a x None = refl
 resv-none p s a x (Some g) =
-    either-one (is_expected a x g) (answered p s a x g (previous g)) nothing (answered-none p s a x g (previous g)) refl
+    either-one (is_expected a x g) (answered p s a x g (previous g)) (resv_again s a x g)
+    (answered-none p s a x g (previous g)) (resv_again-none s a x g)
 
 -- PathErr
 
@@ -157,10 +225,26 @@ removed-none s g e =
     (cond (is_closing g.phase) (removes g.lsp []) nothing) (err_passed-none s g e (previous g))
     (either-one (is_closing g.phase) (removes g.lsp []) nothing refl refl)
 
+call_contended-none : (b : Leg) (o : Option CallRec) → LearnsNothing (call_contended b o)
+call_contended-none b None = refl
+call_contended-none b (Some c) =
+    if_cases LearnsNothing (is_turning c.state) _ _ (λ e. decide-none (stuck c (Code busy_code)) (Some b)) (λ e. refl)
+
+disarmed-none : (s : NodeState) (g : Leg) (m : Msg) (o : Option Neighbour) → LearnsNothing (disarmed s g m o)
+disarmed-none s g m None =
+    both (puts (with_phase Held g) []) (call_contended (with_phase Held g) (call_with g.lsp s.calls)) refl
+    (call_contended-none (with_phase Held g) (call_with g.lsp s.calls))
+disarmed-none s g m (Some h) = refl
+
+contended-none : (s : NodeState) (g : Leg) (m : Msg) → LearnsNothing (contended s g m)
+contended-none s g m =
+    if_cases LearnsNothing (is_armed g.phase) _ _ (λ e. disarmed-none s g m (previous g)) (λ e. refl)
+
 path_err-none : (s : NodeState) (u : NodeId) (e : PathFailure) (o : Option Leg) → LearnsNothing (path_err_with s u e o)
 path_err-none s u e None = refl
 path_err-none s u e (Some g) =
-    either-one (e.removed && is_node (following g) u) (removed s g e) nothing (removed-none s g e) refl
+    either-one (is_node (following g) u) (cond e.removed (removed s g e) (contended s g e.msg)) nothing
+    (either-one e.removed (removed s g e) (contended s g e.msg) (removed-none s g e) (contended-none s g e.msg)) refl
 
 -- PathTear
 
@@ -174,6 +258,34 @@ tear-none p a (Some g) =
     let answer = to_node a.from (PathErr g.lsp g.egress p.id true torn_code) in
     either-one (not (is_closing g.phase) && is_over (previous g) a.from a.link) (torn g answer (following g)) nothing
     (torn-none g answer (following g)) refl
+
+-- Notify
+
+call_reported-none : (s : NodeState) (l : Lsp) (down : Bool) (f : Fibre) (o : Option CallRec) →
+    LearnsNothing (call_reported s l down f o)
+call_reported-none s l down f None = refl
+call_reported-none s l down f (Some c) = decide-none (with_report c l down f) (leg_of c.back s.legs)
+
+reported_on-none : (s : NodeState) (g : Leg) (down : Bool) (o : Option Fibre) → LearnsNothing (reported_on s g down o)
+reported_on-none s g down None = refl
+reported_on-none s g down (Some f) = call_reported-none s g.lsp down f (call_with g.lsp s.calls)
+
+notice_passed-none : (p : LocalNode) (s : NodeState) (m : Notice) (g : Leg) (down : Bool) (o : Option Neighbour) →
+    LearnsNothing (notice_passed p s m g down o)
+notice_passed-none p s m g down None = reported_on-none s g down (fibre_into (route_from p g) g.egress m.at m.link)
+notice_passed-none p s m g down (Some h) = refl
+
+notice_told-none : (p : LocalNode) (s : NodeState) (m : Notice) (g : Leg) (o : Option Bool) →
+    LearnsNothing (notice_told p s m g o)
+notice_told-none p s m g None = refl
+notice_told-none p s m g (Some down) = notice_passed-none p s m g down (previous g)
+
+notify-none : (p : LocalNode) (s : NodeState) (u : NodeId) (m : Notice) (o : Option Leg) →
+    LearnsNothing (notify_with p s u m o)
+notify-none p s u m None = refl
+notify-none p s u m (Some g) =
+    either-one (not (is_closing g.phase) && is_node (following g) u) (notice_told p s m g (reported m.code)) nothing
+    (notice_told-none p s m g (reported m.code)) refl
 
 -- Setup
 
@@ -217,6 +329,28 @@ protect-none p s from (Some c) =
     either-one (nat_eq from.0 p.id.0 && is_bare c.state) (protects p s c (leg_of c.work s.legs)) nothing
     (protects-none p s c (leg_of c.work s.legs)) refl
 
+-- Retry
+
+retries-none : (s : NodeState) (c : CallRec) → LearnsNothing (retries s c)
+retries-none s c =
+    if_cases LearnsNothing (is_stuck c.state && (has_any c.work_reports && not (has_any c.back_reports))) _ _
+    (λ e. turn-none c (leg_of c.back s.legs)) (λ e. refl)
+
+retry-none : (p : LocalNode) (s : NodeState) (from : NodeId) (o : Option CallRec) →
+    LearnsNothing (retry_with p s from o)
+retry-none p s from None = refl
+retry-none p s from (Some c) = either-one (nat_eq from.0 p.id.0) (retries s c) nothing (retries-none s c) refl
+
+-- Alarms and clears
+
+alarm-none : (p : LocalNode) (s : NodeState) (f : Fibre) → LearnsNothing (on_alarm p s f)
+alarm-none p s f =
+    if_cases LearnsNothing (enters p f (own_link p f.link) && not (has_fibre s.down f)) _ _ (λ e. refl) (λ e. refl)
+
+clear-none : (p : LocalNode) (s : NodeState) (f : Fibre) → LearnsNothing (on_clear p s f)
+clear-none p s f =
+    if_cases LearnsNothing (enters p f (own_link p f.link) && has_fibre s.down f) _ _ (λ e. refl) (λ e. refl)
+
 -- Release
 
 tears-none : (o : Option Leg) → LearnsNothing (tears o)
@@ -243,21 +377,23 @@ message-learns_nothing p s u (PathTear l e k) = tear-none p (arrival l e u k) (f
 message-learns_nothing p s u (PathErr l e at gone code) =
     path_err-none s u (record { lsp = l; msg = PathErr l e at gone code; removed = gone; code = code })
     (find_leg l s.legs)
-message-learns_nothing p s u (Notify l e at k code) = refl
+message-learns_nothing p s u (Notify l e at k code) =
+    notify-none p s u (record { lsp = l; msg = Notify l e at k code; at = at; link = k; code = code })
+    (find_leg l s.legs)
 
 pub item-learns_nothing : (p : LocalNode) (s : NodeState) (i : DeskItem) → LearnsNothing (on_item p s i)
-item-learns_nothing p s (Order (Setup n from to protected both via backup)) =
+item-learns_nothing p s (Order (Setup n from to protected two via backup)) =
     setup-none p s
-    (record { call = n; from = from; egress = to; protected = protected; both = both; via = via; backup = backup })
+    (record { call = n; from = from; egress = to; protected = protected; both = two; via = via; backup = backup })
     (find_call n s.calls)
 item-learns_nothing p s (Order (Release n from)) = release-none p s from (find_call n s.calls)
 item-learns_nothing p s (Order (Protect n from)) = protect-none p s from (find_call n s.calls)
-item-learns_nothing p s (Order (Retry n from)) = refl
+item-learns_nothing p s (Order (Retry n from)) = retry-none p s from (find_call n s.calls)
 item-learns_nothing p s (Order (Revert n from)) = refl
 item-learns_nothing p s (Order (Fail g)) = refl
 item-learns_nothing p s (Order (Repair g)) = refl
-item-learns_nothing p s (Alarm f) = refl
-item-learns_nothing p s (Clear f) = refl
+item-learns_nothing p s (Alarm f) = alarm-none p s f
+item-learns_nothing p s (Clear f) = clear-none p s f
 
 pub nothing-else : NothingElseIsLearnt
 nothing-else = (message-learns_nothing, item-learns_nothing)

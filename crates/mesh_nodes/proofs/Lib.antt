@@ -1,3 +1,6 @@
+pub mod ActivationAnswers
+pub mod Activations
+pub mod Alarms
 pub mod CallList
 pub mod CallSteps
 pub mod Cases
@@ -12,4 +15,8 @@ pub mod Messages
 pub mod NewNodes
 pub mod Pairs
 pub mod Paths
+pub mod Reports
+pub mod ShortRoutes
+pub mod Stands
+pub mod Turns
 pub mod routes

@@ -1,10 +1,9 @@
 -- What a Resv, a PathErr, a PathTear and every message do fits.
-use Rattle.std.proofs.Common.{◌≡◌, ℕ, true, false, not, nat_eq, [], refl, sym, subst, ◌∙◌, arith}
-use Rattle.std.specs.Prelude.{◌&&◌, Option, Some, None, IfSome, is_some}
+use Rattle.std.proofs.Common.{◌≡◌, ℕ, true, false, not, [], refl, sym, arith}
+use Rattle.std.specs.Prelude.{◌&&◌, Option, Some, None, is_some}
 use Rattle.ason_base.specs.Codes.{torn_code}
 use Rattle.ason_base.specs.Labels.{has}
 use Rattle.ason_base.specs.Writable.{IsWritableMsg}
-use Rattle.ason_base.specs.declared.ids.Lsp.{Lsp}
 use Rattle.ason_base.specs.declared.ids.NodeId.{NodeId}
 use Rattle.ason_base.specs.declared.messages.Msg.TheVariants.{Path, Resv, PathTear, PathErr, Notify}
 use Rattle.ason_base.specs.declared.tables.Leg.{Leg}
@@ -20,59 +19,20 @@ use Rattle.mesh_rules.specs.Resvs.{answered, connected_here, is_expected, label_
 use Rattle.mesh_rules.specs.LocalNodes.{LocalNode}
 use Rattle.mesh_rules.specs.State.{NodeState}
 use Rattle.mesh_rules.specs.Tears.{tear_with, torn}
-use Rattle.mesh_nodes.specs.Kept.{LegFits, LegsFit, NodeFits}
+use Rattle.mesh_nodes.specs.Kept.{LegsFit, NodeFits, RoutesAreShort}
 use Rattle.mesh_nodes.specs.Laws.{MessagesFit}
-use Rattle.mesh_nodes.specs.LocalNodes.{LocalNodeFits, is_downstream, is_neighbour, is_upstream}
+use Rattle.mesh_nodes.specs.LocalNodes.{LocalNodeFits, is_neighbour}
 use Rattle.mesh_nodes.specs.Sent.{AnswerFits, CanBePassedOn}
+use Rattle.mesh_nodes.proofs.ActivationAnswers.{begins-here, begins-put, contended-fits, resv_again-fits}
+use Rattle.mesh_nodes.proofs.Activations.{on_path-fits}
 use Rattle.mesh_nodes.proofs.CallSteps.{answered-call-fits, refused-call-fits}
-use Rattle.mesh_nodes.proofs.Cases.{both_left, both_right, if_cases, not-false}
+use Rattle.mesh_nodes.proofs.Cases.{both_left, both_right, if_cases}
 use Rattle.mesh_nodes.proofs.Followed.{after-puts, after-removes}
 use Rattle.mesh_nodes.proofs.Kept.{alone-fibre, beside-fibre, closed-fits, connected-fits, legs-changed, legs-less, length-replaced, over-fibre}
-use Rattle.mesh_nodes.proofs.LegList.{found-all, found-lsp}
-use Rattle.mesh_nodes.proofs.Links.{downstream-near, over-near, upstream-near}
-use Rattle.mesh_nodes.proofs.Paths.{nothing-fits, on_path-fits}
-
--- A leg that is found
-
-pub record Stands (p : LocalNode) (s : NodeState) (g : Leg) : Type 0 where
-  pub found : find_leg g.lsp s.legs ≡ Some g
-  pub fits : LegFits p s.lsp g
-
-pub leg-stands : (p : LocalNode) (s : NodeState) (l : Lsp) (g : Leg) → NodeFits p s → find_leg l s.legs ≡ Some g →
-    Stands p s g
-leg-stands p s l g fits found = record {
-  found = subst (λ k. find_leg k s.legs ≡ Some g) (sym (found-lsp l s.legs g found)) found;
-  fits = found-all (LegFits p s.lsp) l s.legs g found fits.legs.each;
-}
-
-if-some : {X : Type 0} (P Q : X → Type 0) (o : Option X) → ((x : X) → P x → Q x) → IfSome o P → IfSome o Q
-if-some P Q None f here = tt
-if-some P Q (Some x) f here = f x here
-
-previous-near : (p : LocalNode) (next : ℕ) (g : Leg) → LegFits p next g →
-    IfSome (previous g) (λ h. is_neighbour p h.node ≡ true)
-previous-near p next g fits =
-    if-some (λ h. is_upstream p h ≡ true) (λ h. is_neighbour p h.node ≡ true) (previous g)
-    (λ h. upstream-near p h) fits.upstream
-
-following-near : (p : LocalNode) (next : ℕ) (g : Leg) → LegFits p next g →
-    IfSome (following g) (λ h. is_neighbour p h.node ≡ true)
-following-near p next g fits =
-    if-some (λ h. is_downstream p h ≡ true) (λ h. is_neighbour p h.node ≡ true) (following g)
-    (λ h. downstream-near p h) fits.downstream
-
-some-of : {X : Type 0} (P : X → Type 0) (o : Option X) (x : X) → o ≡ Some x → IfSome o P → P x
-some-of P o x e here = subst (λ y. IfSome y P) e here
-
-pub previous-is_near : (p : LocalNode) (next : ℕ) (g : Leg) (h : Neighbour) → LegFits p next g → previous g ≡ Some h →
-    is_neighbour p h.node ≡ true
-previous-is_near p next g h fits e = some-of (λ k. is_neighbour p k.node ≡ true) (previous g) h e
-    (previous-near p next g fits)
-
-pub following-is_near : (p : LocalNode) (next : ℕ) (g : Leg) (h : Neighbour) → LegFits p next g → following g ≡ Some h →
-    is_neighbour p h.node ≡ true
-following-is_near p next g h fits e = some-of (λ k. is_neighbour p k.node ≡ true) (following g) h e
-    (following-near p next g fits)
+use Rattle.mesh_nodes.proofs.Links.{over-near}
+use Rattle.mesh_nodes.proofs.Paths.{nothing-fits}
+use Rattle.mesh_nodes.proofs.Reports.{notify-fits}
+use Rattle.mesh_nodes.proofs.Stands.{Stands, following-is_near, leg-stands, previous-is_near, following-near, previous-near}
 
 -- Resv
 
@@ -120,18 +80,13 @@ module _ (p : LocalNode) (s : NodeState) (a : Arrival) (x : ℕ) (g : Leg) (W : 
   connected_here-fits is =
       let alone : is_some g.in_fibre ≡ false = alone-fibre g.prev g.in_fibre stands.fits.in_fibre is in
       let legs : LegsFit p s.lsp (with_leg (connected g None x) s.legs) = connected-legs None (sym alone) in
-      after-puts p s W (call_answered p s g (call_with g.lsp s.calls)) (connected g None x)
-      (answered-call-fits p s (with_leg (connected g None x) s.legs) g W place
+      after-puts p s W (call_answered p s (connected g None x) (call_with g.lsp s.calls)) (connected g None x)
+      (answered-call-fits p s (with_leg (connected g None x) s.legs) (connected g None x) W place
       (record { legs = legs; calls = fits.calls; first = fits.first; numbers = fits.numbers })
       (call_with g.lsp s.calls) refl
-      (length-replaced (connected g None x) g s.legs fits.legs.rise stands.found) stands.fits (begins-here alone))
-    where
-      begins-here : is_some g.in_fibre ≡ false → g.lsp.ingress.0 ≡ p.id.0
-      begins-here alone =
-          let far : not (nat_eq g.lsp.ingress.0 p.id.0) ≡ false =
-          sym stands.fits.prev ∙ sym stands.fits.in_fibre ∙ alone in
-          let here : nat_eq g.lsp.ingress.0 p.id.0 ≡ true = not-false (nat_eq g.lsp.ingress.0 p.id.0) far in
-          grind arith
+      (length-replaced (connected g None x) g s.legs fits.legs.rise stands.found)
+      (connected-fits p s.lsp g None x stands.fits (sym alone) out)
+      (begins-put p s (connected g None x) (begins-here p s.lsp g stands.fits is)))
 
   answered-fits : (o : Option Neighbour) → previous g ≡ o → AnswerFits p s W (answered p s a x g o)
   answered-fits None is = connected_here-fits is
@@ -146,7 +101,7 @@ resv-fits p s a x W (Some g) place fits found =
     let rest : (is_over (following g) a.from a.link && has g.sent x) ≡ true = both_right (is_asked g.phase) _ e in
     answered-fits p s a x g W place fits (leg-stands p s a.lsp g fits found)
     (both_left (is_over (following g) a.from a.link) _ rest) (previous g) refl)
-    (λ e. nothing-fits p s W fits)
+    (λ e. resv_again-fits p s a x g W place fits (leg-stands p s a.lsp g fits found))
 
 -- PathErr
 
@@ -202,8 +157,11 @@ err-fits : (p : LocalNode) (s : NodeState) (u : NodeId) (e : PathFailure) (W : T
     LocalNodeFits p → NodeFits p s → find_leg e.lsp s.legs ≡ o → (W → IsWritableMsg e.msg) → AnswerFits p s W (path_err_with s u e o)
 err-fits p s u e W None place fits found writable = nothing-fits p s W fits
 err-fits p s u e W (Some g) place fits found writable =
-    if_cases (AnswerFits p s W) (e.removed && is_node (following g) u) _ _
-    (λ t. removed-fits p s g e W place fits (leg-stands p s e.lsp g fits found) writable) (λ t. nothing-fits p s W fits)
+    let stands = leg-stands p s e.lsp g fits found in
+    if_cases (AnswerFits p s W) (is_node (following g) u) _ _
+    (λ t. if_cases (AnswerFits p s W) e.removed _ _ (λ r. removed-fits p s g e W place fits stands writable)
+    (λ r. contended-fits p s g e.msg W place fits stands writable))
+    (λ t. nothing-fits p s W fits)
 
 -- PathTear
 
@@ -258,11 +216,11 @@ messages-fit p s u (Path l e k route set up r) place fits =
       route = route;
       set = set;
       role = r;
-    }) (CanBePassedOn (Path l e k route set up r)) (λ w. w) place fits
+    }) (CanBePassedOn (Path l e k route set up r) × RoutesAreShort s.legs) (λ w. w.0) (λ w. w.1) place fits
 messages-fit p s u (Resv l e k x) place fits =
-    resv-fits p s (arrival l e u k) x (Unit {0}) (find_leg l s.legs) place fits refl
+    resv-fits p s (arrival l e u k) x (Unit {0} × RoutesAreShort s.legs) (find_leg l s.legs) place fits refl
 messages-fit p s u (PathTear l e k) place fits =
-    tear-fits p s (arrival l e u k) (Unit {0}) (find_leg l s.legs) fits refl
+    tear-fits p s (arrival l e u k) (Unit {0} × RoutesAreShort s.legs) (find_leg l s.legs) fits refl
 messages-fit p s u (PathErr l e at gone code) place fits =
     err-fits p s u (record {
       lsp =
@@ -270,5 +228,13 @@ messages-fit p s u (PathErr l e at gone code) place fits =
       msg = PathErr l e at gone code;
       removed = gone;
       code = code;
-    }) (Unit {0}) (find_leg l s.legs) place fits refl (λ w. tt)
-messages-fit p s u (Notify l e at k code) place fits = nothing-fits p s (Unit {0}) fits
+    }) (Unit {0} × RoutesAreShort s.legs) (find_leg l s.legs) place fits refl (λ w. tt)
+messages-fit p s u (Notify l e at k code) place fits =
+    notify-fits p s (Unit {0} × RoutesAreShort s.legs) fits u (record {
+      lsp =
+          l;
+      msg = Notify l e at k code;
+      at = at;
+      link = k;
+      code = code;
+    }) (find_leg l s.legs) refl (λ w. tt)

@@ -47,7 +47,8 @@ module _ (p : LocalNode) (s : NodeState) (legs : List Leg) (c : CallRec) (w : Le
   bare-fits cause = record {
     kept = record {
       legs = fits.legs;
-      calls = calls-put p (unbacked c cause) s.calls fits.calls (record { backup = here.backup; work = here.work });
+      calls = calls-put p (unbacked c cause) s.calls fits.calls
+          (record { backup = here.backup; work = here.work; back = tt });
       first = fits.first;
       numbers = fits.numbers;
     };
@@ -75,7 +76,7 @@ module _ (p : LocalNode) (s : NodeState) (legs : List Leg) (c : CallRec) (w : Le
         first = fits.first;
         numbers = (let numbers = fits.numbers in omega arith);
       })
-      (record { backup = here.backup; work = here.work })
+      (record { backup = here.backup; work = here.work; back = begins })
       (subst (λ n. n < MOST_LEGS) (sym many) room)
 
   admitted-fits : (hop : Step) (route : List Step) (out : LinkSpec) → first_link p (hop ∷ route) ≡ Some out →

@@ -1,7 +1,8 @@
--- What a Path does fits.
+-- What a Path does where no leg of its LSP stands fits.
 use Rattle.std.proofs.Common.{◌≡◌, ◌≤◌, ◌<◌, ℕ, zero, suc, Bool, true, false, cond, not, nat_eq, nat_le, List, [], ◌∷◌, length, refl, arith}
 use Rattle.std.specs.Prelude.{◌&&◌, Option, Some, None}
 use Rattle.ason_base.specs.Labels.{least, numbers_from, up_to}
+use Rattle.ason_base.specs.Lsps.{has_fibre}
 use Rattle.ason_base.specs.Writable.{IsWritableRole}
 use Rattle.ason_base.specs.declared.codes.ErrCode.{ErrCode}
 use Rattle.ason_base.specs.declared.ids.LinkId.{LinkId}
@@ -10,12 +11,11 @@ use Rattle.ason_base.specs.declared.messages.PathRole.TheVariants.{Work, Back}
 use Rattle.ason_base.specs.declared.network.LinkSpec.{LinkSpec}
 use Rattle.ason_base.specs.declared.risks.Risk.{Risk}
 use Rattle.ason_base.specs.declared.steps.Step.{Step}
-use Rattle.ason_base.specs.declared.tables.Leg.{Leg}
 use Rattle.mesh_rules.specs.declared.limits.TheConstants.{MOST_LEGS, MOST_LINKS_OF_ROUTE}
 use Rattle.mesh_rules.specs.Changes.{nothing}
-use Rattle.mesh_rules.specs.Legs.{find_leg, is_work}
-use Rattle.mesh_rules.specs.Paths.{PathRequest, admitted, at_egress, checks, egress_leg, first_failure, first_path, in_transit, is_active, is_for_work, is_none, is_primary_unknown, judged, leads_on, offered_labels, on_path, path_with, risks_here, role_of, set_on, transit_leg}
-use Rattle.mesh_rules.specs.LocalNodes.{LocalNode, is_link_there, leads, own_link}
+use Rattle.mesh_rules.specs.Legs.{is_work}
+use Rattle.mesh_rules.specs.Paths.{PathRequest, admitted, at_egress, checks, egress_leg, first_failure, first_path, in_transit, is_active, is_for_work, is_none, is_primary_unknown, judged, leads_on, offered_labels, risks_here, role_of, set_on, transit_leg}
+use Rattle.mesh_rules.specs.LocalNodes.{LocalNode, fibre_in, is_link_there, leads, own_link}
 use Rattle.mesh_rules.specs.State.{NodeState}
 use Rattle.mesh_rules.specs.KnownRows.{known_rows}
 use Rattle.mesh_nodes.specs.Kept.{LegFits, NodeFits}
@@ -81,12 +81,23 @@ module _ (p : LocalNode) (s : NodeState) (m : PathRequest) (link : LinkSpec) (W 
     number = away m.arrival.lsp.ingress.0 p.id.0 (m.arrival.lsp.lsp < s.lsp) far;
     leaves = away m.arrival.lsp.ingress.0 p.id.0 (nat_eq m.arrival.egress.0 p.id.0 ≡ false) far;
     short = λ e. omega arith;
+    says = away m.arrival.lsp.ingress.0 p.id.0 (IsWritableRole m.role) far;
+    set = λ e. absurd (cc e);
   }
 
+  -- the set that is sent on isn't empty
+  set-some : (out : LinkSpec) (offered : List ℕ) → 1 ≤ out.labels → is_none (least offered) ≡ false →
+      1 ≤ length (set_on p out offered)
+  set-some out offered labelled some = go p.convert
+    where
+      go : (b : Bool) → 1 ≤ length (cond b (up_to out.labels) offered)
+      go true = some_labels out.labels labelled
+      go false = some_offered offered some
+
   transit-leg-fits : (risks : List Risk) (k : LinkId) (out : LinkSpec) (route : List Step) (offered : List ℕ) →
-      own_link p k ≡ Some out →
-      nat_eq m.arrival.egress.0 p.id.0 ≡ false → LegFits p s.lsp (transit_leg p m link risks out route offered)
-  transit-leg-fits risks k out route offered found on = record {
+      own_link p k ≡ Some out → nat_eq m.arrival.egress.0 p.id.0 ≡ false → is_none (least offered) ≡ false →
+      LegFits p s.lsp (transit_leg p m link risks out route offered)
+  transit-leg-fits risks k out route offered found on some = record {
     prev = rw far refl;
     in_fibre = refl;
     next_node = rw on refl;
@@ -99,6 +110,8 @@ module _ (p : LocalNode) (s : NodeState) (m : PathRequest) (link : LinkSpec) (W 
     number = away m.arrival.lsp.ingress.0 p.id.0 (m.arrival.lsp.lsp < s.lsp) far;
     leaves = λ e. on;
     short = away m.arrival.lsp.ingress.0 p.id.0 (length route < MOST_LINKS_OF_ROUTE) far;
+    says = away m.arrival.lsp.ingress.0 p.id.0 (IsWritableRole m.role) far;
+    set = λ e. set-some out offered (own-is p k out place found).labelled some;
   }
 
   at_egress-fits : (risks : List Risk) (offered : List ℕ) (o : Option ℕ) → length s.legs < MOST_LEGS →
@@ -118,15 +131,6 @@ module _ (p : LocalNode) (s : NodeState) (m : PathRequest) (link : LinkSpec) (W 
     few = omega arith;
   }
 
-  -- the set that is sent on isn't empty
-  set-some : (out : LinkSpec) (offered : List ℕ) → 1 ≤ out.labels → is_none (least offered) ≡ false →
-      1 ≤ length (set_on p out offered)
-  set-some out offered labelled some = go p.convert
-    where
-      go : (b : Bool) → 1 ≤ length (cond b (up_to out.labels) offered)
-      go true = some_labels out.labels labelled
-      go false = some_offered offered some
-
   in_transit-fits : (risks : List Risk) (k : LinkId) (route : List Step) (offered : List ℕ) (o : Option LinkSpec) →
       own_link p k ≡ o → length s.legs < MOST_LEGS → nat_eq m.arrival.egress.0 p.id.0 ≡ false →
       is_none (least offered) ≡ false →
@@ -136,7 +140,7 @@ module _ (p : LocalNode) (s : NodeState) (m : PathRequest) (link : LinkSpec) (W 
     kept = record {
       legs =
           legs-more p s.lsp s.lsp (transit_leg p m link risks out route offered) s.legs (omega arith) fits.legs room
-          (transit-leg-fits risks k out route offered found on);
+          (transit-leg-fits risks k out route offered found on some);
       calls = fits.calls;
       first = fits.first;
       numbers = fits.numbers;
@@ -163,21 +167,22 @@ module _ (p : LocalNode) (s : NodeState) (m : PathRequest) (link : LinkSpec) (W 
       AnswerFits p s W (judged p s m link (first_failure (checks p s m link)))
   judged-fits short =
       go (nat_le MOST_LEGS (length s.legs)) (leads_on p m.arrival m.route) (is_primary_unknown (known_rows p s) m.role)
-      (is_none (least (offered_labels p s m link))) refl refl refl refl
+      (has_fibre s.down (fibre_in link p.id)) (is_none (least (offered_labels p s m link))) refl refl refl refl refl
     where
-      go : (a b d c : Bool) → nat_le MOST_LEGS (length s.legs) ≡ a → leads_on p m.arrival m.route ≡ b →
-          is_primary_unknown (known_rows p s) m.role ≡ d →
+      go : (a b d k c : Bool) → nat_le MOST_LEGS (length s.legs) ≡ a → leads_on p m.arrival m.route ≡ b →
+          is_primary_unknown (known_rows p s) m.role ≡ d → has_fibre s.down (fibre_in link p.id) ≡ k →
           is_none (least (offered_labels p s m link)) ≡ c →
           AnswerFits p s W (judged p s m link (first_failure (checks p s m link)))
-      go true b d c e f h g = rw e (refused-fits _)
-      go false false d c e f h g = rw (e, f) (refused-fits _)
-      go false true true c e f h g = rw (e, f, h) (refused-fits _)
-      go false true false true e f h g = rw (e, f, h, g) (refused-fits _)
-      go false true false false e f h g =
-          rw (e, f, h, g)
+      go true b d k c e f h i g = rw e (refused-fits _)
+      go false false d k c e f h i g = rw (e, f) (refused-fits _)
+      go false true true k c e f h i g = rw (e, f, h) (refused-fits _)
+      go false true false true c e f h i g = rw (e, f, h, i) (refused-fits _)
+      go false true false false true e f h i g = rw (e, f, h, i, g) (refused-fits _)
+      go false true false false false e f h i g =
+          rw (e, f, h, i, g)
           (admitted-fits (risks_here p s m) (offered_labels p s m link) m.route f (below (length s.legs) e) g short)
 
-first-fits : (p : LocalNode) (s : NodeState) (m : PathRequest) (W : Type 0) (o : Option LinkSpec) →
+pub first-fits : (p : LocalNode) (s : NodeState) (m : PathRequest) (W : Type 0) (o : Option LinkSpec) →
     own_link p m.arrival.link ≡ o →
     (W → (length m.route ≤ 64) × IsWritableRole m.role) → LocalNodeFits p → NodeFits p s →
     AnswerFits p s W (first_path p s m o)
@@ -194,14 +199,3 @@ first-fits p s m W (Some link) own short place fits =
     not-true _ (both_right (leads (Some link) m.arrival.from p.id) _ rest) in
     judged-fits p s m link W place fits own led far short)
     (λ e. nothing-fits p s W fits)
-
-path-fits : (p : LocalNode) (s : NodeState) (m : PathRequest) (W : Type 0) (o : Option Leg) →
-    (W → (length m.route ≤ 64) × IsWritableRole m.role) → LocalNodeFits p → NodeFits p s →
-    AnswerFits p s W (path_with p s m o)
-path-fits p s m W None short place fits = first-fits p s m W (own_link p m.arrival.link) refl short place fits
-path-fits p s m W (Some g) short place fits = nothing-fits p s W fits
-
-pub on_path-fits : (p : LocalNode) (s : NodeState) (m : PathRequest) (W : Type 0) →
-    (W → (length m.route ≤ 64) × IsWritableRole m.role) → LocalNodeFits p → NodeFits p s →
-    AnswerFits p s W (on_path p s m)
-on_path-fits p s m W short place fits = path-fits p s m W (find_leg m.arrival.lsp s.legs) short place fits

@@ -3,6 +3,7 @@ use Rattle.std.specs.Prelude.{◌≡◌, ◌<◌, ◌≤◌, ◌==◌, ℕ, fals
 use Rattle.std.specs.List.{AllByRecursion}
 use Rattle.ason_base.specs.declared.tables.CallRec.{CallRec}
 use Rattle.ason_base.specs.declared.tables.Leg.{Leg}
+use Rattle.ason_base.specs.Writable.{IsWritableRole}
 use Rattle.mesh_rules.specs.declared.limits.TheConstants.{MOST_LEGS, MOST_LINKS_OF_ROUTE}
 use Rattle.mesh_rules.specs.Legs.{following, is_beyond_asked, is_work, previous}
 use Rattle.mesh_rules.specs.Paths.{is_for_work}
@@ -32,6 +33,10 @@ pub record LegFits (p : LocalNode) (next : ℕ) (g : Leg) : Type 0 where
   pub number : g.lsp.ingress.0 ≡ p.id.0 → g.lsp.lsp < next
   pub leaves : g.lsp.ingress.0 ≡ p.id.0 → g.egress.0 == p.id.0 ≡ false
   pub short : g.lsp.ingress.0 ≡ p.id.0 → length g.route < MOST_LINKS_OF_ROUTE
+  -- and what its Path says of the primary route can be written
+  pub says : g.lsp.ingress.0 ≡ p.id.0 → IsWritableRole g.path_role
+  -- the set that is sent on isn't empty
+  pub set : IsTrue (is_some g.next) → 1 ≤ length g.sent
 
 -- in order of LSP, each of them at p, and no more than a node keeps
 pub record LegsFit (p : LocalNode) (next : ℕ) (legs : List Leg) : Type 0 where
@@ -39,10 +44,11 @@ pub record LegsFit (p : LocalNode) (next : ℕ) (legs : List Leg) : Type 0 where
   pub each : AllByRecursion (LegFits p next) legs
   pub few : length legs ≤ MOST_LEGS
 
--- the backup route that was given can be followed from p, and the working LSP begins there
+-- the backup route that was given can be followed from p, and the call's LSPs begin there
 pub record CallFits (p : LocalNode) (c : CallRec) : Type 0 where
   pub backup : IsTrue (is_followable p c.backup)
   pub work : IfSome c.work (λ l. l.ingress.0 ≡ p.id.0)
+  pub back : IfSome c.back (λ l. l.ingress.0 ≡ p.id.0)
 
 -- in order of number, each of them at p
 pub record CallsFit (p : LocalNode) (calls : List CallRec) : Type 0 where
@@ -55,3 +61,7 @@ pub record NodeFits (p : LocalNode) (s : NodeState) : Type 0 where
   pub calls : CallsFit p s.calls
   pub first : 1 ≤ s.tunnel
   pub numbers : s.tunnel ≤ s.lsp
+
+-- each leg's route has at most 64 steps, so it can be written again where its LSP is activated
+abbrev pub RoutesAreShort : List Leg → Type 0
+RoutesAreShort legs = AllByRecursion (λ g. length g.route ≤ 64) legs
