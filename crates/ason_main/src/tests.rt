@@ -221,7 +221,7 @@ call c2 c d blocked - - set
     ),
     (
         RUN,
-        "\"fail link 1\"",
+        "\"revert c1\"",
         PAIR,
         &[],
         Status::PlanRefused,

@@ -9,24 +9,28 @@ use Rattle.std.proofs.lemmas.List.Sums.{fold-append}
 use Rattle.toml.specs.Data.{Data, table}
 use Rattle.ason_base.specs.Network.{IsTopology, Network, is_node_id}
 use Rattle.ason_base.specs.declared.commands.Command.{Command}
-use Rattle.ason_base.specs.declared.commands.Command.TheVariants.{Protect, Release}
+use Rattle.ason_base.specs.declared.commands.Command.TheVariants.{Fail, Protect, Release, Repair, Retry}
+use Rattle.ason_base.specs.declared.commands.Group.{Group}
 use Rattle.ason_base.specs.declared.ids.CallNo.{CallNo}
 use Rattle.ason_base.specs.declared.ids.NodeId.{NodeId}
 use Rattle.ason_base.specs.declared.network.LinkSpec.{LinkSpec}
-use Rattle.mesh_rules.specs.Commands.{has_backup_way, has_way, is_again, is_searchable, is_valid}
+use Rattle.mesh_rules.specs.Commands.{has_backup_way, has_way, is_again, is_group, is_searchable, is_valid}
 use Rattle.mesh_rules.proofs.Topologies.{topology_searchable}
 use Rattle.plan_reader.specs.Names.{has_name, is_name, place_of}
+use Rattle.plan_reader.specs.declared.forms.CommandForm.{CommandForm}
+use Rattle.plan_reader.specs.declared.forms.CommandForm.TheVariants as forms
 use Rattle.plan_reader.specs.declared.forms.SetupForm.{SetupForm}
 use Rattle.plan_reader.specs.declared.lines.Line.{Line}
 use Rattle.plan_reader.specs.declared.lines.Line.TheVariants.{Post, Settle, Show}
-use Rattle.plan_reader.specs.declared.limits.TheConstants.{MOST_CALLS, MOST_ROUNDS}
+use Rattle.plan_reader.specs.declared.limits.TheConstants.{MOST_CALLS, MOST_NUMBER, MOST_ROUNDS}
 use Rattle.plan_reader.specs.declared.plan.Plan.{Plan}
 use Rattle.plan_reader.specs.declared.script.Script.{Script}
 use Rattle.plan_reader.specs.declared.setups.RouteIds.{RouteIds}
 use Rattle.plan_reader.specs.declared.setups.Routes.{Routes}
 use Rattle.plan_reader.specs.PlanCalls.{CallList, call_at, calls_with, with_call}
-use Rattle.plan_reader.specs.PlanForms.{is_protect, is_release, is_settle, is_show, is_unbuilt, setup_form}
-use Rattle.plan_reader.specs.PlanScript.{call_of, calls_with_line, known_call, line_as, line_of, no_script, other_line, posted, protect_of, put_behind, release_of, settle_for, settle_of, with_line, by_words}
+use Rattle.plan_reader.specs.PlanCommands.{call_of, command_of, group_numbered, group_of, group_with, known_call}
+use Rattle.plan_reader.specs.PlanForms.{command_form, is_settle, is_show, is_unbuilt, setup_form}
+use Rattle.plan_reader.specs.PlanScript.{by_words, calls_with_line, line_as, line_of, no_script, other_as, other_line, plain_line, posted, put_behind, settle_for, settle_of, with_line}
 use Rattle.plan_reader.specs.PlanSetups.{next_setup, node_at, route_ids, routes_over, setup_between, setup_of, setup_over, steps_given}
 use Rattle.plan_reader.specs.PlanTables.{NodeList, elements_at, has_strange, has_top_counts, has_top_kinds, lacks, text_of, top_kind}
 use Rattle.plan_reader.specs.declared.values.Shape.TheVariants.{OfTop}
@@ -183,22 +187,42 @@ call_is_known t calls before ws call fit h =
     go None r = absurd (cc (r))
     go (Some k) r = known k (slice_get calls.ingresses k) refl r
 
-release_posts :
-    (t : Network) (calls : CallList) (before : List CallNo) (ws : List (List ℕ)) (c : Command)
-    → AreFitting t calls before → release_of calls ws ≡ Ok c → CanPost t calls before ws c
-release_posts t calls before ws c fit h =
+group_is_known : (t : Network) (ws : List (List ℕ)) (g : Group) → group_of t ws ≡ Ok g → is_group t g ≡ true
+group_is_known t ws g h = go (number_up_to MOST_NUMBER (word_at ws 2)) h
+  where
+    known : (f : Group) (b : Bool) → is_group t f ≡ b → cond (not b) (Err kinds.Group) (Ok f) ≡ Ok g → is_group t g ≡ true
+    known f true e k = let same : f ≡ g = cc (k) in subst (λ d. is_group t d ≡ true) same e
+    known f false e k = absurd (cc (k))
+
+    go : (o : Option ℕ) → group_with t ws o ≡ Ok g → is_group t g ≡ true
+    go None k = absurd (cc (k))
+    go (Some n) k = known (group_numbered ws n) (is_group t (group_numbered ws n)) refl k
+
+command_posts :
+    (t : Network) (calls : CallList) (before : List CallNo) (ws : List (List ℕ)) (f : CommandForm) (c : Command)
+    → is_searchable t ≡ true → AreFitting t calls before → command_of t calls ws f ≡ Ok c
+    → CanPost t calls before ws c
+command_posts t calls before ws forms.Release c searchable fit h =
     let call = both_read (call_of calls ws) _ c h in
     let same : Release call.0.0 call.0.1 ≡ c = cc (call.2) in
     subst (CanPost t calls before ws) same (call_is_known t calls before ws call.0 fit call.1, refl, fit)
-
-protect_posts :
-    (t : Network) (calls : CallList) (before : List CallNo) (ws : List (List ℕ)) (c : Command)
-    → is_searchable t ≡ true → AreFitting t calls before → protect_of calls ws ≡ Ok c → CanPost t calls before ws c
-protect_posts t calls before ws c searchable fit h =
+command_posts t calls before ws forms.Protect c searchable fit h =
     let call = both_read (call_of calls ws) _ c h in
     let same : Protect call.0.0 call.0.1 ≡ c = cc (call.2) in
     subst (CanPost t calls before ws) same
     (and_true _ _ (call_is_known t calls before ws call.0 fit call.1) searchable, refl, fit)
+command_posts t calls before ws forms.Retry c searchable fit h =
+    let call = both_read (call_of calls ws) _ c h in
+    let same : Retry call.0.0 call.0.1 ≡ c = cc (call.2) in
+    subst (CanPost t calls before ws) same (call_is_known t calls before ws call.0 fit call.1, refl, fit)
+command_posts t calls before ws forms.Fail c searchable fit h =
+    let group = both_read (group_of t ws) _ c h in
+    let same : Fail group.0 ≡ c = cc (group.2) in
+    subst (CanPost t calls before ws) same (group_is_known t ws group.0 group.1, refl, fit)
+command_posts t calls before ws forms.Repair c searchable fit h =
+    let group = both_read (group_of t ws) _ c h in
+    let same : Repair group.0 ≡ c = cc (group.2) in
+    subst (CanPost t calls before ws) same (group_is_known t ws group.0 group.1, refl, fit)
 
 -- Lines
 
@@ -227,12 +251,10 @@ settle_stands t calls before ws line (Some r) fit h = go (nat_le 1 r) h
     go true k = let same : Settle r ≡ line = cc (k) in subst (CanStand t calls before ws) same (tt, fit)
     go false k = absurd (cc (k))
 
-other_stands :
+plain_stands :
     (t : Network) (calls : CallList) (before : List CallNo) (ws : List (List ℕ)) (line : Line)
-    → is_searchable t ≡ true → AreFitting t calls before → other_line calls ws ≡ Ok line
-    → CanStand t calls before ws line
-other_stands t calls before ws line searchable fit h =
-    go (is_release ws) (is_protect ws) (is_settle ws) (is_show ws) h
+    → AreFitting t calls before → plain_line ws ≡ Ok line → CanStand t calls before ws line
+plain_stands t calls before ws line fit h = go (is_settle ws) (is_show ws) h
   where
     Stands : Type 0
     Stands = CanStand t calls before ws line
@@ -244,18 +266,22 @@ other_stands t calls before ws line searchable fit h =
     none true k = absurd (cc (k))
     none false k = absurd (cc (k))
 
-    go :
-        (r p s w : Bool)
-        → cond r (posted (release_of calls ws))
-        (cond p (posted (protect_of calls ws)) (cond s (settle_of ws) (cond w (Ok Show) other))) ≡ Ok line → Stands
-    go true p s w k =
-        posts t calls before ws line (release_of calls ws) (λ c. release_posts t calls before ws c fit) k
-    go false true s w k =
-        posts t calls before ws line (protect_of calls ws) (λ c. protect_posts t calls before ws c searchable fit) k
-    go false false true w k = settle_stands t calls before ws line (number_up_to MOST_ROUNDS (word_at ws 1)) fit k
-    go false false false true k =
-        let same : Show ≡ line = cc (k) in subst (CanStand t calls before ws) same (tt, fit)
-    go false false false false k = none (is_unbuilt ws) k
+    go : (s w : Bool) → cond s (settle_of ws) (cond w (Ok Show) other) ≡ Ok line → Stands
+    go true w k = settle_stands t calls before ws line (number_up_to MOST_ROUNDS (word_at ws 1)) fit k
+    go false true k = let same : Show ≡ line = cc (k) in subst (CanStand t calls before ws) same (tt, fit)
+    go false false k = none (is_unbuilt ws) k
+
+other_stands :
+    (t : Network) (calls : CallList) (before : List CallNo) (ws : List (List ℕ)) (line : Line)
+    → is_searchable t ≡ true → AreFitting t calls before → other_line t calls ws ≡ Ok line
+    → CanStand t calls before ws line
+other_stands t calls before ws line searchable fit h = go (command_form ws) h
+  where
+    go : (o : Option CommandForm) → other_as t calls ws o ≡ Ok line → CanStand t calls before ws line
+    go None k = plain_stands t calls before ws line fit k
+    go (Some f) k =
+        posts t calls before ws line (command_of t calls ws f)
+        (λ c. command_posts t calls before ws f c searchable fit) k
 
 line_stands :
     (t : Network) (names : List (List ℕ)) (calls : CallList) (before : List CallNo) (ws : List (List ℕ)) (line : Line)

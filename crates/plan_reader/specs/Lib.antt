@@ -1,6 +1,7 @@
 pub mod Entries
 pub mod Names
 pub mod PlanCalls
+pub mod PlanCommands
 pub mod PlanForms
 pub mod PlanScript
 pub mod PlanSetups

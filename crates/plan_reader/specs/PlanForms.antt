@@ -1,5 +1,7 @@
 -- Which words make a line of a script.
 use Rattle.std.specs.Prelude.{ℕ, ◌==◌, ◌&&◌, ◌||◌, Bool, false, true, List, length, codes, Option, Some, None, if◌then◌else◌}
+use Rattle.plan_reader.specs.declared.forms.CommandForm.{CommandForm}
+use Rattle.plan_reader.specs.declared.forms.CommandForm.TheVariants as forms
 use Rattle.plan_reader.specs.declared.forms.SetupForm.{SetupForm}
 use Rattle.plan_reader.specs.PlanTexts.{word_at, is_number, are_numbers}
 use Rattle.plan_reader.specs.Names.{same_text}
@@ -58,7 +60,7 @@ setup_form ws =
     else if is_backed_setup ws then Some (form true (Some 5) (Some 7))
     else None
 
--- Other lines
+-- Other commands
 
 -- `release NAME`
 abbrev pub is_release : List (List ℕ) → Bool
@@ -67,6 +69,35 @@ is_release ws = begins ws (codes "release") 2
 -- `protect NAME`
 abbrev pub is_protect : List (List ℕ) → Bool
 is_protect ws = begins ws (codes "protect") 2
+
+-- `retry NAME`
+abbrev pub is_retry : List (List ℕ) → Bool
+is_retry ws = begins ws (codes "retry") 2
+
+-- `srlg N` or `link N` behind this word
+abbrev pub is_group_line : List (List ℕ) → List ℕ → Bool
+is_group_line ws word =
+    begins ws word 3 && ((is_word ws 1 (codes "srlg") || is_word ws 1 (codes "link")) && is_number_word ws 2)
+
+-- `fail srlg N`, `fail link N`
+abbrev pub is_fail : List (List ℕ) → Bool
+is_fail ws = is_group_line ws (codes "fail")
+
+-- `repair srlg N`, `repair link N`
+abbrev pub is_repair : List (List ℕ) → Bool
+is_repair ws = is_group_line ws (codes "repair")
+
+-- which command other than a setup the line is; none of another line
+abbrev pub command_form : List (List ℕ) → Option CommandForm
+command_form ws =
+    if is_release ws then Some forms.Release
+    else if is_protect ws then Some forms.Protect
+    else if is_retry ws then Some forms.Retry
+    else if is_fail ws then Some forms.Fail
+    else if is_repair ws then Some forms.Repair
+    else None
+
+-- Other lines
 
 -- `settle R`
 abbrev pub is_settle : List (List ℕ) → Bool
@@ -78,15 +109,9 @@ is_show ws = begins ws (codes "show") 1
 
 -- Forms that a plan may have and that aren't built
 
--- `retry NAME`, `revert NAME`
-abbrev pub is_other_command : List (List ℕ) → Bool
-is_other_command ws = begins ws (codes "retry") 2 || begins ws (codes "revert") 2
-
--- `fail srlg N`, `fail link N`, `repair srlg N`, `repair link N`
-abbrev pub is_group_line : List (List ℕ) → Bool
-is_group_line ws =
-    (begins ws (codes "fail") 3 || begins ws (codes "repair") 3)
-    && ((is_word ws 1 (codes "srlg") || is_word ws 1 (codes "link")) && is_number_word ws 2)
+-- `revert NAME`
+abbrev pub is_revert : List (List ℕ) → Bool
+is_revert ws = begins ws (codes "revert") 2
 
 -- `lose A B K`, `repeat A B K`, `hold A B K`
 abbrev pub is_frame_line : List (List ℕ) → Bool
@@ -102,4 +127,4 @@ abbrev pub is_wait : List (List ℕ) → Bool
 is_wait ws = begins ws (codes "wait") 2 && is_number_word ws 1
 
 abbrev pub is_unbuilt : List (List ℕ) → Bool
-is_unbuilt ws = is_other_command ws || (is_group_line ws || (is_channel_line ws || is_wait ws))
+is_unbuilt ws = is_revert ws || (is_channel_line ws || is_wait ws)

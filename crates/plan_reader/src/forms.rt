@@ -2,11 +2,12 @@
 
 ghost use Rattle.std.specs.Prelude.{◌≡◌};
 ghost use Rattle.plan_reader.specs.PlanTexts.{texts};
-ghost use Rattle.plan_reader.specs.PlanForms.{are_numbers_word, begins, form, is_backed_setup, is_channel_line, is_frame_line, is_group_line, is_number_word, is_other_command, is_protect, is_protected_setup, is_protected_via, is_release, is_settle, is_show, is_unbuilt, is_unprotected_setup, is_unprotected_via, is_wait, is_word, setup_form};
+ghost use Rattle.plan_reader.specs.PlanForms.{are_numbers_word, begins, command_form, form, is_backed_setup, is_channel_line, is_fail, is_frame_line, is_group_line, is_number_word, is_protect, is_protected_setup, is_protected_via, is_release, is_repair, is_retry, is_revert, is_settle, is_show, is_unbuilt, is_unprotected_setup, is_unprotected_via, is_wait, is_word, setup_form};
 
 use crate::words::{are_numbers, is_number, word};
 
-fn is_word(words: &[&[u8]], k: usize, text: &str) -> bool
+/// Whether the word at this place is this one.
+pub fn is_word(words: &[&[u8]], k: usize, text: &str) -> bool
     ensures { result ≡ is_word (texts words.now) k text.now }
 {
     word(words, k) == text.as_bytes()
@@ -112,21 +113,82 @@ pub fn setup_form(words: &[&[u8]]) -> Option<SetupForm>
     }
 }
 
-// Other lines
+// Other commands
 
-/// Whether the line is `release NAME`.
-pub fn is_release(words: &[&[u8]]) -> bool
+// `release NAME`
+fn is_release(words: &[&[u8]]) -> bool
     ensures { result ≡ is_release (texts words.now) }
 {
     begins(words, "release", 2)
 }
 
-/// Whether the line is `protect NAME`.
-pub fn is_protect(words: &[&[u8]]) -> bool
+// `protect NAME`
+fn is_protect(words: &[&[u8]]) -> bool
     ensures { result ≡ is_protect (texts words.now) }
 {
     begins(words, "protect", 2)
 }
+
+// `retry NAME`
+fn is_retry(words: &[&[u8]]) -> bool
+    ensures { result ≡ is_retry (texts words.now) }
+{
+    begins(words, "retry", 2)
+}
+
+// `srlg N` or `link N` behind this word.
+fn is_group_line(words: &[&[u8]], text: &str) -> bool
+    ensures { result ≡ is_group_line (texts words.now) text.now }
+{
+    begins(words, text, 3)
+        && (is_word(words, 1, "srlg") || is_word(words, 1, "link"))
+        && is_number_word(words, 2)
+}
+
+// `fail srlg N`, `fail link N`
+fn is_fail(words: &[&[u8]]) -> bool
+    ensures { result ≡ is_fail (texts words.now) }
+{
+    is_group_line(words, "fail")
+}
+
+// `repair srlg N`, `repair link N`
+fn is_repair(words: &[&[u8]]) -> bool
+    ensures { result ≡ is_repair (texts words.now) }
+{
+    is_group_line(words, "repair")
+}
+
+/// Which command other than a setup a line is.
+#[derive(Clone, Copy)]
+pub enum CommandForm {
+    Release,
+    Protect,
+    Retry,
+    Fail,
+    Repair,
+}
+
+/// Which command other than a setup the line is; none of another line.
+pub fn command_form(words: &[&[u8]]) -> Option<CommandForm>
+    ensures { result ≡ command_form (texts words.now) }
+{
+    if is_release(words) {
+        Some(CommandForm::Release)
+    } else if is_protect(words) {
+        Some(CommandForm::Protect)
+    } else if is_retry(words) {
+        Some(CommandForm::Retry)
+    } else if is_fail(words) {
+        Some(CommandForm::Fail)
+    } else if is_repair(words) {
+        Some(CommandForm::Repair)
+    } else {
+        None
+    }
+}
+
+// Other lines
 
 /// Whether the line is `settle R`.
 pub fn is_settle(words: &[&[u8]]) -> bool
@@ -144,18 +206,10 @@ pub fn is_show(words: &[&[u8]]) -> bool
 
 // Forms that aren't built
 
-fn is_other_command(words: &[&[u8]]) -> bool
-    ensures { result ≡ is_other_command (texts words.now) }
+fn is_revert(words: &[&[u8]]) -> bool
+    ensures { result ≡ is_revert (texts words.now) }
 {
-    begins(words, "retry", 2) || begins(words, "revert", 2)
-}
-
-fn is_group_line(words: &[&[u8]]) -> bool
-    ensures { result ≡ is_group_line (texts words.now) }
-{
-    (begins(words, "fail", 3) || begins(words, "repair", 3))
-        && (is_word(words, 1, "srlg") || is_word(words, 1, "link"))
-        && is_number_word(words, 2)
+    begins(words, "revert", 2)
 }
 
 fn is_frame_line(words: &[&[u8]]) -> bool
@@ -181,5 +235,5 @@ fn is_wait(words: &[&[u8]]) -> bool
 pub fn is_unbuilt(words: &[&[u8]]) -> bool
     ensures { result ≡ is_unbuilt (texts words.now) }
 {
-    is_other_command(words) || is_group_line(words) || is_channel_line(words) || is_wait(words)
+    is_revert(words) || is_channel_line(words) || is_wait(words)
 }

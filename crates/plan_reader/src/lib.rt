@@ -2,6 +2,7 @@
 #![tactic(auto)]
 
 mod calls;
+mod commands;
 pub mod faults;
 mod forms;
 pub mod limits;

@@ -2,62 +2,29 @@
 
 ghost use Rattle.std.specs.Prelude.{◌≡◌, ◌≤◌, Err, IfOk, Ok, OnOk, length};
 ghost use Rattle.toml.specs.View.{view};
-ghost use Rattle.plan_reader.specs.Entries.{FailsBy, FailsFirst, and_then};
+ghost use Rattle.plan_reader.specs.Entries.{FailsBy, FailsFirst};
+ghost use Rattle.plan_reader.specs.PlanCalls.{CallList};
 ghost use Rattle.plan_reader.specs.PlanTables.{views};
 ghost use Rattle.plan_reader.specs.PlanTexts.{texts, words_of};
-ghost use Rattle.plan_reader.specs.PlanScript.{by_words, call_of, calls_with_line, line_as, line_of, no_script, other_line, protect_of, release_of, settle_of, with_line};
+ghost use Rattle.plan_reader.specs.PlanScript.{by_words, calls_with_line, line_as, line_of, no_script, other_as, other_line, plain_line, settle_of, with_line};
 ghost use Rattle.plan_reader.specs.Plans.{script_of};
 ghost use Rattle.plan_reader.specs.declared.faults.PlanError.{PlanError};
 ghost use Rattle.plan_reader.specs.declared.faults.PlanFault.{PlanFault};
 ghost use Rattle.plan_reader.specs.declared.faults.PlanKind.{PlanKind};
 
 use crate::calls::Calls;
+use crate::commands::read_command;
 use crate::faults::{EntryError, PlanEntry, PlanError, PlanKind, error_at};
-use crate::forms::{is_protect, is_release, is_settle, is_show, is_unbuilt, setup_form};
+use crate::forms::{command_form, is_settle, is_show, is_unbuilt, setup_form};
 use crate::limits::{MOST_LINES, MOST_ROUNDS};
 use crate::lines::{Line, Lines};
-use crate::names::{Name, Names, is_name};
+use crate::names::Names;
 use crate::setups::read_setup;
 use crate::values::text_of;
 use crate::words::{number, word, words_of};
-use ason_base::{CallNo, Command, NodeId, Topology};
+use ason_base::Topology;
 use std::alloc::Global;
 use toml::Value;
-
-// Commands on a call
-
-// The call that a command names, with its ingress, or the first fault.
-fn read_call(alloc: Global, calls: &Calls, words: &[&[u8]]) -> Result<(CallNo, NodeId), EntryError>
-    ensures call { IfOk result (λ c. call_of calls.now (texts words.now) ≡ Ok c) }
-    ensures fault { FailsBy result (call_of calls.now (texts words.now)) }
-{
-    if !is_name(word(words, 1)) {
-        return Err(EntryError::Fault(PlanKind::Name));
-    }
-    let name = Name::new(alloc, word(words, 1))?;
-    let Some((place, from)) = calls.find(&name) else {
-        return Err(EntryError::Fault(PlanKind::Call));
-    };
-    Ok((CallNo(place as u16), from))
-}
-
-// A release, or its first fault.
-fn read_release(alloc: Global, calls: &Calls, words: &[&[u8]]) -> Result<Command, EntryError>
-    ensures command { IfOk result (λ c. release_of calls.now (texts words.now) ≡ Ok c) }
-    ensures fault { FailsBy result (release_of calls.now (texts words.now)) }
-{
-    let (call, from) = read_call(alloc, calls, words)?;
-    Ok(Command::Release { call, from })
-}
-
-// A protect, or its first fault.
-fn read_protect(alloc: Global, calls: &Calls, words: &[&[u8]]) -> Result<Command, EntryError>
-    ensures command { IfOk result (λ c. protect_of calls.now (texts words.now) ≡ Ok c) }
-    ensures fault { FailsBy result (protect_of calls.now (texts words.now)) }
-{
-    let (call, from) = read_call(alloc, calls, words)?;
-    Ok(Command::Protect { call, from })
-}
 
 // Settles
 
@@ -74,20 +41,12 @@ fn read_settle(words: &[&[u8]]) -> Result<Line, EntryError>
 
 // Lines
 
-// What a line that is no setup says, or its first fault.
-fn read_other_line(alloc: Global, calls: &Calls, words: &[&[u8]]) -> Result<Line, EntryError>
-    ensures line { IfOk result (λ l. other_line calls.now (texts words.now) ≡ Ok l) }
-    ensures calls { IfOk result (λ l. calls_with_line calls.now (texts words.now) l ≡ calls.now) }
-    ensures fault { FailsBy result (other_line calls.now (texts words.now)) }
+// What a line that posts nothing says, or its first fault.
+fn read_plain_line(words: &[&[u8]]) -> Result<Line, EntryError>
+    ensures line { IfOk result (λ l. plain_line (texts words.now) ≡ Ok l) }
+    ensures calls { (cs : CallList) → IfOk result (λ l. calls_with_line cs (texts words.now) l ≡ cs) }
+    ensures fault { FailsBy result (plain_line (texts words.now)) }
 {
-    if is_release(words) {
-        let command = read_release(alloc, calls, words)?;
-        return Ok(Line::Post(command));
-    }
-    if is_protect(words) {
-        let command = read_protect(alloc, calls, words)?;
-        return Ok(Line::Post(command));
-    }
     if is_settle(words) {
         return read_settle(words);
     }
@@ -98,6 +57,26 @@ fn read_other_line(alloc: Global, calls: &Calls, words: &[&[u8]]) -> Result<Line
         return Err(EntryError::Fault(PlanKind::Unbuilt));
     }
     Err(EntryError::Fault(PlanKind::Words))
+}
+
+// What a line that is no setup says, or its first fault.
+fn read_other_line(
+    alloc: Global,
+    t: &Topology,
+    calls: &Calls,
+    words: &[&[u8]],
+) -> Result<Line, EntryError>
+    ensures line { IfOk result (λ l. other_line t.now calls.now (texts words.now) ≡ Ok l) }
+    ensures calls { IfOk result (λ l. calls_with_line calls.now (texts words.now) l ≡ calls.now) }
+    ensures fault { FailsBy result (other_line t.now calls.now (texts words.now)) }
+{
+    match command_form(words) {
+        None => read_plain_line(words),
+        Some(form) => {
+            let command = read_command(alloc, t, calls, words, form)?;
+            Ok(Line::Post(command))
+        }
+    }
 }
 
 // What a line says, or its first fault. The call of a setup is added to the calls.
@@ -113,7 +92,7 @@ fn read_line(
     ensures fault { FailsBy result (line_of t.now names.now calls.old (texts words.now)) }
 {
     match setup_form(words) {
-        None => read_other_line(alloc, calls, words),
+        None => read_other_line(alloc, t, calls, words),
         Some(form) => {
             let command = read_setup(alloc, t, names, calls, words, form)?;
             Ok(Line::Post(command))

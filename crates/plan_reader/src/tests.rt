@@ -53,7 +53,7 @@ labels = 2
 ";
 
 // Script lines, and the first fault of them, if any: the number of its line and its kind.
-const LINES: [(&[&str], Option<(u32, PlanKind)>); 31] = [
+const LINES: [(&[&str], Option<(u32, PlanKind)>); 42] = [
     (&["setup c1 a d"], None),
     (&["setup c1 a d via 1,2"], None),
     (&["setup c1 a d via 1,2 backup 5"], None),
@@ -63,6 +63,16 @@ const LINES: [(&[&str], Option<(u32, PlanKind)>); 31] = [
     (&["setup c1 a d", "protect c1"], None),
     (&["setup c1 a d unprotected", "protect c1"], None),
     (&["setup c1 a d", "release c1", "protect c1"], None),
+    (&["setup c1 a d", "retry c1"], None),
+    (
+        &[
+            "fail srlg 7",
+            "repair srlg 7",
+            "fail link 7",
+            "repair link 7",
+        ],
+        None,
+    ),
     // a backup that shares an SRLG, a link, an inner node
     (
         &["setup c1 a d via 1,2 backup 3,4"],
@@ -103,6 +113,13 @@ const LINES: [(&[&str], Option<(u32, PlanKind)>); 31] = [
     ),
     (&["protect 9x"], Some((1, PlanKind::Name))),
     (&["protect c1"], Some((1, PlanKind::Call))),
+    (&["retry 9x"], Some((1, PlanKind::Name))),
+    (&["retry c1"], Some((1, PlanKind::Call))),
+    (&["fail srlg 4294967296"], Some((1, PlanKind::Range))),
+    // a link or an SRLG that the network doesn't have
+    (&["fail srlg 1"], Some((1, PlanKind::Group))),
+    (&["fail link 0"], Some((1, PlanKind::Group))),
+    (&["repair link 8"], Some((1, PlanKind::Group))),
     // no lines
     (
         &["setup c1 a d unprotected via 1,2 backup 5"],
@@ -118,7 +135,10 @@ const LINES: [(&[&str], Option<(u32, PlanKind)>); 31] = [
         Some((1, PlanKind::Words)),
     ),
     (&["protect c1 c2"], Some((1, PlanKind::Words))),
-    (&["setup c1 a d", "retry c1"], Some((2, PlanKind::Unbuilt))),
+    (&["fail srlg"], Some((1, PlanKind::Words))),
+    (&["fail link 01"], Some((1, PlanKind::Words))),
+    (&["repair node 1"], Some((1, PlanKind::Words))),
+    (&["setup c1 a d", "revert c1"], Some((2, PlanKind::Unbuilt))),
 ];
 
 // The bytes of a plan with these lines.

@@ -1,0 +1,57 @@
+-- The commands of a script other than setups: what each says or its first fault.
+use Rattle.std.specs.Prelude.{ℕ, not, List, Option, Some, None, Result, Ok, Err, codes, if◌then◌else◌}
+use Rattle.ason_base.specs.Network.{Network}
+use Rattle.ason_base.specs.declared.ids.CallNo.{CallNo}
+use Rattle.ason_base.specs.declared.ids.NodeId.{NodeId}
+use Rattle.ason_base.specs.declared.commands.Command.{Command}
+use Rattle.ason_base.specs.declared.commands.Command.TheVariants as commands
+use Rattle.ason_base.specs.declared.commands.Group.{Group}
+use Rattle.ason_base.specs.declared.commands.Group.TheVariants.{Srlg, Link}
+use Rattle.mesh_rules.specs.Commands.{is_group}
+use Rattle.plan_reader.specs.declared.faults.PlanKind.{PlanKind}
+use Rattle.plan_reader.specs.declared.faults.PlanKind.TheVariants as kinds
+use Rattle.plan_reader.specs.declared.forms.CommandForm.{CommandForm}
+use Rattle.plan_reader.specs.declared.forms.CommandForm.TheVariants.{Release, Protect, Retry, Fail, Repair}
+use Rattle.plan_reader.specs.declared.limits.TheConstants.{MOST_NUMBER}
+use Rattle.plan_reader.specs.Entries.{and_then}
+use Rattle.plan_reader.specs.Names.{is_name}
+use Rattle.plan_reader.specs.PlanCalls.{CallList, call_named}
+use Rattle.plan_reader.specs.PlanForms.{is_word}
+use Rattle.plan_reader.specs.PlanTexts.{number_up_to, word_at}
+
+-- Calls
+
+abbrev pub known_call : Option (ℕ × NodeId) → Result (CallNo × NodeId) PlanKind
+known_call None = Err kinds.Call
+known_call (Some call) = Ok (record { 0 = call.0 }, call.1)
+
+-- the call that a command names, with its ingress, or the first fault
+abbrev pub call_of : CallList → List (List ℕ) → Result (CallNo × NodeId) PlanKind
+call_of calls ws =
+    if not (is_name (word_at ws 1)) then Err kinds.Name else known_call (call_named calls (word_at ws 1))
+
+-- Groups
+
+abbrev pub group_numbered : List (List ℕ) → ℕ → Group
+group_numbered ws n = if is_word ws 1 (codes "srlg") then Srlg n else Link (record { 0 = n })
+
+abbrev pub known_group : Network → Group → Result Group PlanKind
+known_group t g = if not (is_group t g) then Err kinds.Group else Ok g
+
+abbrev pub group_with : Network → List (List ℕ) → Option ℕ → Result Group PlanKind
+group_with t ws None = Err kinds.Range
+group_with t ws (Some n) = known_group t (group_numbered ws n)
+
+-- the group that a line names, or the first fault
+abbrev pub group_of : Network → List (List ℕ) → Result Group PlanKind
+group_of t ws = group_with t ws (number_up_to MOST_NUMBER (word_at ws 2))
+
+-- Commands
+
+-- a command of this form, or its first fault
+abbrev pub command_of : Network → CallList → List (List ℕ) → CommandForm → Result Command PlanKind
+command_of t calls ws Release = and_then (call_of calls ws) (λ call. Ok (commands.Release call.0 call.1))
+command_of t calls ws Protect = and_then (call_of calls ws) (λ call. Ok (commands.Protect call.0 call.1))
+command_of t calls ws Retry = and_then (call_of calls ws) (λ call. Ok (commands.Retry call.0 call.1))
+command_of t calls ws Fail = and_then (group_of t ws) (λ g. Ok (commands.Fail g))
+command_of t calls ws Repair = and_then (group_of t ws) (λ g. Ok (commands.Repair g))

@@ -1,0 +1,99 @@
+//! The commands of a script other than setups.
+
+ghost use Rattle.std.specs.Prelude.{◌≡◌, Err, IfOk, Ok};
+ghost use Rattle.plan_reader.specs.Entries.{FailsBy, and_then};
+ghost use Rattle.plan_reader.specs.PlanCalls.{calls_with};
+ghost use Rattle.plan_reader.specs.PlanCommands.{call_of, command_of, group_numbered, group_of, group_with, known_call, known_group};
+ghost use Rattle.plan_reader.specs.PlanTexts.{texts};
+
+use crate::calls::Calls;
+use crate::faults::{EntryError, PlanKind};
+use crate::forms::{CommandForm, is_word};
+use crate::limits::MOST_NUMBER;
+use crate::names::{Name, is_name};
+use crate::words::{number, word};
+use ason_base::{CallNo, Command, Group, LinkId, NodeId, Topology};
+use mesh_rules::commands::has_group;
+use std::alloc::Global;
+
+// Calls
+
+// The call that a command names, with its ingress, or the first fault.
+fn read_call(alloc: Global, calls: &Calls, words: &[&[u8]]) -> Result<(CallNo, NodeId), EntryError>
+    ensures call { IfOk result (λ c. call_of calls.now (texts words.now) ≡ Ok c) }
+    ensures fault { FailsBy result (call_of calls.now (texts words.now)) }
+{
+    if !is_name(word(words, 1)) {
+        return Err(EntryError::Fault(PlanKind::Name));
+    }
+    let name = Name::new(alloc, word(words, 1))?;
+    let Some((place, from)) = calls.find(&name) else {
+        return Err(EntryError::Fault(PlanKind::Call));
+    };
+    Ok((CallNo(place as u16), from))
+}
+
+// Groups
+
+fn group_numbered(words: &[&[u8]], number: u32) -> Group
+    ensures { result ≡ group_numbered (texts words.now) number }
+{
+    if is_word(words, 1, "srlg") {
+        Group::Srlg(number)
+    } else {
+        Group::Link(LinkId(number))
+    }
+}
+
+// The group that a line names, or the first fault.
+fn read_group(t: &Topology, words: &[&[u8]]) -> Result<Group, EntryError>
+    ensures group { IfOk result (λ g. group_of t.now (texts words.now) ≡ Ok g) }
+    ensures fault { FailsBy result (group_of t.now (texts words.now)) }
+{
+    let Some(number) = number(word(words, 2), MOST_NUMBER) else {
+        return Err(EntryError::Fault(PlanKind::Range));
+    };
+    let group = group_numbered(words, number);
+    if !has_group(t, group) {
+        return Err(EntryError::Fault(PlanKind::Group));
+    }
+    Ok(group)
+}
+
+// Commands
+
+/// A command of this form, or its first fault. It sets up no call.
+pub fn read_command(
+    alloc: Global,
+    t: &Topology,
+    calls: &Calls,
+    words: &[&[u8]],
+    form: CommandForm,
+) -> Result<Command, EntryError>
+    ensures says { IfOk result (λ c. command_of t.now calls.now (texts words.now) form ≡ Ok c) }
+    ensures calls { IfOk result (λ c. calls_with calls.now (texts words.now) c ≡ calls.now) }
+    ensures fault { FailsBy result (command_of t.now calls.now (texts words.now) form) }
+{
+    match form {
+        CommandForm::Release => {
+            let (call, from) = read_call(alloc, calls, words)?;
+            Ok(Command::Release { call, from })
+        }
+        CommandForm::Protect => {
+            let (call, from) = read_call(alloc, calls, words)?;
+            Ok(Command::Protect { call, from })
+        }
+        CommandForm::Retry => {
+            let (call, from) = read_call(alloc, calls, words)?;
+            Ok(Command::Retry { call, from })
+        }
+        CommandForm::Fail => {
+            let group = read_group(t, words)?;
+            Ok(Command::Fail { group })
+        }
+        CommandForm::Repair => {
+            let group = read_group(t, words)?;
+            Ok(Command::Repair { group })
+        }
+    }
+}
