@@ -100,6 +100,9 @@ FAULTS: list[tuple[str, str, str | None]] = [
     (plan_text(["setup c1 a c via 4 backup 1"]), "script 1 route", '"setup c1 a c via 4 backup 1",'),
     (plan_text(["setup c1 a c via 4 backup 4"]), "script 1 backup", '"setup c1 a c via 4 backup 4",'),
     (plan_text(["protect c1"]), "script 1 call", '"protect c1",'),
+    (plan_text(["retry c1"]), "script 1 call", '"retry c1",'),
+    (plan_text(["fail srlg 4294967296"]), "script 1 range", '"fail srlg 4294967296",'),
+    (plan_text(["repair link 99"]), "script 1 group", '"repair link 99",'),
 ]
 
 # The plan, and words of the sentence where it tells more than the kind.
@@ -115,6 +118,8 @@ DETAILS: list[tuple[str, str]] = [
     (plan_text(["setup via a c via 4 backup 1"]), "the route ends at b, and the call at c"),
     (plan_text(["setup c1 a c via 4 backup 4"]), "both routes go over link 4"),
     (plan_text(["settle 1001"]), "the R of settle is 1 to 1,000"),
+    (plan_text(["fail link 9"]), "no link has the id 9"),
+    (plan_text(["repair srlg 0"]), "no link has the SRLG 0"),
     ("wait = 1\nwait = 2\n", "cannot overwrite a value"),
 ]
 

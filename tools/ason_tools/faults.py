@@ -220,6 +220,7 @@ def _in_line(top: Placed, row: Placed, number: int, refused: Refused) -> str:
         "route": lambda: _route_fault(top, words),
         "backup": lambda: _backup_fault(top, words),
         "range": lambda: _RANGES[words[0]],
+        "group": lambda: f"no link has the {'SRLG' if words[1] == 'srlg' else 'id'} {words[2]}",
     }
     try:
         detail = details.get(refused.kind or "", lambda: None)()

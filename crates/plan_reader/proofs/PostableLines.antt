@@ -190,7 +190,9 @@ call_is_known t calls before ws call fit h =
 group_is_known : (t : Network) (ws : List (List ℕ)) (g : Group) → group_of t ws ≡ Ok g → is_group t g ≡ true
 group_is_known t ws g h = go (number_up_to MOST_NUMBER (word_at ws 2)) h
   where
-    known : (f : Group) (b : Bool) → is_group t f ≡ b → cond (not b) (Err kinds.Group) (Ok f) ≡ Ok g → is_group t g ≡ true
+    known :
+        (f : Group) (b : Bool) → is_group t f ≡ b → cond (not b) (Err kinds.Group) (Ok f) ≡ Ok g
+        → is_group t g ≡ true
     known f true e k = let same : f ≡ g = cc (k) in subst (λ d. is_group t d ≡ true) same e
     known f false e k = absurd (cc (k))
 

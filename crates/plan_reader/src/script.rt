@@ -44,7 +44,7 @@ fn read_settle(words: &[&[u8]]) -> Result<Line, EntryError>
 // What a line that posts nothing says, or its first fault.
 fn read_plain_line(words: &[&[u8]]) -> Result<Line, EntryError>
     ensures line { IfOk result (λ l. plain_line (texts words.now) ≡ Ok l) }
-    ensures calls { (cs : CallList) → IfOk result (λ l. calls_with_line cs (texts words.now) l ≡ cs) }
+    ensures calls { (k : CallList) → IfOk result (λ l. calls_with_line k (texts words.now) l ≡ k) }
     ensures fault { FailsBy result (plain_line (texts words.now)) }
 {
     if is_settle(words) {
