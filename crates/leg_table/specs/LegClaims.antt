@@ -1,6 +1,6 @@
 -- Which labels the legs of a node take, the claims of its owner that they have, and the risks that they guard
 -- (RFC 4872, section 9).
-use Rattle.std.specs.Prelude.{◌≡◌, ◌≤◌, ◌&&◌, ◌++◌, ℕ, Bool, false, List, [], ◌∷◌, map, Option, Some, None, IfSome, IsTrue, if◌then◌else◌}
+use Rattle.std.specs.Prelude.{◌≡◌, ◌≤◌, ◌⊎◌, ◌&&◌, ◌++◌, ℕ, Bool, true, false, List, [], ◌∷◌, map, Option, Some, None, IfSome, IsSome, IsTrue, if◌then◌else◌}
 use Rattle.std.specs.List.{AllByRecursion, list_any}
 use Rattle.ason_base.specs.Labels.{has}
 use Rattle.ason_base.specs.Lsps.{same_fibre, same_lsp}
@@ -16,11 +16,11 @@ use Rattle.ason_base.specs.declared.risks.Risk.{Risk}
 use Rattle.ason_base.specs.declared.tables.Leg.{Leg}
 use Rattle.link_owner.specs.Claims.{FibreClaims, NoClaim, works_on}
 use Rattle.link_owner.specs.Claims as claims
-use Rattle.link_owner.specs.Owners.{claim_added, claims_of, comes_in, has_label, label_freed, labels_of}
+use Rattle.link_owner.specs.Owners.{claim_added, claims_of, comes_in, has_label, label_armed, label_disarmed, label_freed, labels_of}
 use Rattle.link_owner.specs.declared.claims.Claim.{Claim}
 use Rattle.link_owner.specs.declared.claims.ClaimKind.{ClaimKind}
 use Rattle.link_owner.specs.declared.claims.ClaimKind.TheVariants.{Working, Backup, Armed}
-use Rattle.mesh_rules.specs.Legs.{find_leg, is_beyond_asked, is_work, takes, usable}
+use Rattle.mesh_rules.specs.Legs.{find_leg, is_beyond_asked, is_busy, is_in_use, is_work, leg_changed, reserved, takes, usable}
 use Rattle.mesh_rules.specs.LocalNodes.{LocalNode, fibre_in, own_link}
 use Rattle.mesh_rules.specs.LocalNodes as local
 use Rattle.mesh_rules.specs.declared.changes.LegChange.{LegChange}
@@ -77,6 +77,11 @@ kind_here f x (Some g) = if takes f x g then Some (claim_kind g.role g.phase) el
 abbrev pub IsClaimOfLeg : List Leg → Fibre → Claim → Type 0
 IsClaimOfLeg legs f c = kind_here f c.label (find_leg c.lsp legs) ≡ Some c.kind
 
+-- a working leg that takes a label is Live
+abbrev pub WorksAreLive : List Leg → Type 0
+WorksAreLive legs =
+    (l : Lsp) (g : Leg) → find_leg l legs ≡ Some g → IsSome (taken g) → is_work g.role ≡ true → g.phase ≡ phase.Live
+
 -- the claims are exactly the labels that legs take
 pub record ClaimsFit (legs : List Leg) (o : List FibreClaims) : Type 0 where
   -- each claim is one of a leg
@@ -84,6 +89,10 @@ pub record ClaimsFit (legs : List Leg) (o : List FibreClaims) : Type 0 where
   -- each label that a leg takes is claimed by its LSP
   pub all : (f : Fibre) (x : ℕ) (l : Lsp) (g : Leg) → find_leg l legs ≡ Some g → IsTrue (takes f x g) →
       IsTrue (has_label o f x l)
+  -- and is a label of its fibre
+  pub within : (f : Fibre) (x : ℕ) (l : Lsp) (g : Leg) → find_leg l legs ≡ Some g → IsTrue (takes f x g) →
+      x ≤ labels_of f o
+  pub live : WorksAreLive legs
 
 -- the claims with that of a leg that takes the label
 abbrev pub claimed_by : Leg → TakenLabel → List FibreClaims → List FibreClaims
@@ -150,17 +159,41 @@ abbrev pub freed_of : Lsp → Option TakenLabel → List FibreClaims → List Fi
 freed_of l None o = o
 freed_of l (Some t) o = label_freed t.fibre t.label l o
 
+-- an activation has passed the leg
+abbrev pub is_used_by : Option Leg → Bool
+is_used_by None = false
+is_used_by (Some g) = is_in_use g.phase
+
+-- the claim of a leg that keeps its label: armed where the leg is in use after and wasn't before, disarmed the other way
+abbrev pub kept_claim : Lsp → TakenLabel → Bool → Bool → List FibreClaims → List FibreClaims
+kept_claim l t false true o = label_armed t.fibre t.label l o
+kept_claim l t true false o = label_disarmed t.fibre t.label l o
+kept_claim l t before after o = o
+
 -- Changes of legs
 
 -- a leg, whose LSP took no label, takes one that is usable for it; a backup isn't Armed or Live yet
 pub record MayTake (p : LocalNode) (legs : List Leg) (g : Leg) (t : TakenLabel) : Type 0 where
-  pub first : claim_kind g.role g.phase ≡ first_kind g.role
+  pub first : g.phase ≡ reserved g.role
   pub fresh : taken_of (find_leg g.lsp legs) ≡ None
   pub comes_in : IsTrue (is_fibre_in p t.fibre)
   pub usable : IsTrue (has (usable p legs g.role g.risks t.fibre) t.label)
 
+-- a leg keeps the label that it has: it is activated only where no other leg on the label is Armed or Live
+pub record MayKeep (legs : List Leg) (g : Leg) (t : TakenLabel) : Type 0 where
+  pub before : Leg
+  pub there : find_leg g.lsp legs ≡ Some before
+  pub keeps : taken before ≡ Some t
+  pub role : before.role ≡ g.role
+  pub risks : before.risks ≡ g.risks
+  pub live : is_work g.role ≡ true → g.phase ≡ phase.Live
+  pub alone : is_in_use before.phase ≡ false → is_in_use g.phase ≡ true → is_busy legs g.lsp t.fibre t.label ≡ false
+
+abbrev pub MayHave : LocalNode → List Leg → Leg → TakenLabel → Type 0
+MayHave p legs g t = MayTake p legs g t ⊎ MayKeep legs g t
+
 abbrev pub MayBePut : LocalNode → List Leg → Leg → Type 0
-MayBePut p legs g = IfSome (taken g) (MayTake p legs g)
+MayBePut p legs g = IfSome (taken g) (MayHave p legs g)
 
 abbrev pub MayBeFirst : LocalNode → List Leg → LegChange → Type 0
 MayBeFirst p legs (Goes l) = Unit {0}
@@ -172,7 +205,7 @@ TakesNone (Put g) = taken g ≡ None
 
 -- the same, by the owner: no claim keeps the leg from the label
 pub record MayClaim (o : List FibreClaims) (legs : List Leg) (g : Leg) (t : TakenLabel) : Type 0 where
-  pub first : claim_kind g.role g.phase ≡ first_kind g.role
+  pub first : g.phase ≡ reserved g.role
   pub fresh : taken_of (find_leg g.lsp legs) ≡ None
   pub comes_in : IsTrue (comes_in o t.fibre)
   pub within : t.label ≤ labels_of t.fibre o
@@ -180,13 +213,13 @@ pub record MayClaim (o : List FibreClaims) (legs : List Leg) (g : Leg) (t : Take
 
 abbrev pub MayEnter : List FibreClaims → List Leg → LegChange → Type 0
 MayEnter o legs (Goes l) = Unit {0}
-MayEnter o legs (Put g) = IfSome (taken g) (MayClaim o legs g)
+MayEnter o legs (Put g) = IfSome (taken g) (λ t. MayClaim o legs g t ⊎ MayKeep legs g t)
 
 abbrev pub MayAllEnter : List FibreClaims → List Leg → List LegChange → Type 0
 MayAllEnter o legs [] = Unit {0}
 MayAllEnter o legs (c ∷ cs) = MayEnter o legs c × AllByRecursion TakesNone cs
 
--- of the changes of one answer just the first may take a label
+-- of the changes of one answer just the first may take a label, or keep one
 abbrev pub MayBeMade : LocalNode → List Leg → List LegChange → Type 0
 MayBeMade p legs [] = Unit {0}
 MayBeMade p legs (c ∷ cs) = MayBeFirst p legs c × AllByRecursion TakesNone cs
@@ -195,6 +228,24 @@ MayBeMade p legs (c ∷ cs) = MayBeFirst p legs c × AllByRecursion TakesNone cs
 abbrev pub ChangesNoLabel : List Leg → LegChange → Type 0
 ChangesNoLabel legs (Goes l) = taken_of (find_leg l legs) ≡ None
 ChangesNoLabel legs (Put g) = (taken_of (find_leg g.lsp legs) ≡ None) × (taken g ≡ None)
+
+-- the LSP's leg, which stands, keeps its label, or takes none before and after
+abbrev pub StaysAs : List Leg → Leg → Option TakenLabel → Type 0
+StaysAs legs g None = IsSome (find_leg g.lsp legs) × (taken_of (find_leg g.lsp legs) ≡ None)
+StaysAs legs g (Some t) = MayKeep legs g t
+
+abbrev pub MayStay : List Leg → LegChange → Type 0
+MayStay legs (Goes l) = taken_of (find_leg l legs) ≡ None
+MayStay legs (Put g) = StaysAs legs g (taken g)
+
+-- each in its turn
+abbrev pub MayAllStay : List Leg → List LegChange → Type 0
+MayAllStay legs [] = Unit {0}
+MayAllStay legs (c ∷ cs) = MayStay legs c × MayAllStay (leg_changed c legs) cs
+
+-- shares that were of one node with the tables and the owner still are
+abbrev pub SharesStay : LegTable → List FibreClaims → LegTable → List FibreClaims → Type 0
+SharesStay before o after claimed = (s : List Guard) → AreOfOneNode before o s → AreOfOneNode after claimed s
 
 -- an owner and shares that were of one node with the tables still are
 abbrev pub StaysOfOneNode : LegTable → LegTable → Type 0

@@ -8,7 +8,6 @@ use Rattle.ason_base.specs.declared.ids.Lsp.{Lsp}
 use Rattle.ason_base.specs.declared.ids.NodeId.{NodeId}
 use Rattle.ason_base.specs.declared.calls.CallState.{CallState}
 use Rattle.ason_base.specs.declared.calls.Cause.{Cause}
-use Rattle.ason_base.specs.declared.calls.Phase.{Phase}
 use Rattle.ason_base.specs.declared.calls.Role.{Role}
 use Rattle.ason_base.specs.declared.calls.Role.TheVariants.{Work, Back}
 use Rattle.ason_base.specs.declared.network.LinkSpec.{LinkSpec}
@@ -19,8 +18,9 @@ use Rattle.ason_base.specs.declared.tables.Leg.{Leg}
 use Rattle.ason_base.specs.Network.{Network, find_node, row_of, touches}
 use Rattle.leg_table.specs.declared.tables.PutFault.{PutFault}
 use Rattle.leg_table.specs.declared.tables.PutFault.TheVariants.{Full, OutOfMemory}
-use Rattle.ason_base.specs.Lsps.{has_fibre, is_lsp, lsp_before, same_lsp, without_fibre}
+use Rattle.ason_base.specs.Lsps.{is_lsp, lsp_before, same_lsp, without_fibre}
 use Rattle.mesh_rules.specs.KnownRows.{has_row}
+use Rattle.mesh_rules.specs.Reports.{with_fibre}
 
 -- a node's own links, the links that it knows, the fibres that it knows to be down, and its legs in order of LSP
 pub record LegTable : Type 0 where
@@ -57,9 +57,6 @@ leg_changed l change legs = first_changed (is_of_lsp l) change legs
 -- the table with this leg changed
 abbrev pub with_leg_changed : Lsp → (Leg → Leg) → LegTable → LegTable
 with_leg_changed l change t = record t { legs = leg_changed l change t.legs }
-
-abbrev pub in_phase : Phase → Leg → Leg
-in_phase p g = record g { phase = p }
 
 abbrev pub with_labels : Option ℕ → Option ℕ → Leg → Leg
 with_labels x y g = record g { in_label = x; out_label = y }
@@ -99,10 +96,6 @@ find_own k links = find (λ l. l.id.0 == k.0) links
 -- the rows with this one, unless its link is known
 abbrev pub learnt : TeRow → List TeRow → List TeRow
 learnt r rows = if has_row rows r.link then rows else rows ++ r ∷ []
-
--- the fibres with this one, once
-abbrev pub with_fibre : Fibre → List Fibre → List Fibre
-with_fibre f fibres = if has_fibre fibres f then fibres else fibres ++ f ∷ []
 
 -- Calls
 

@@ -2,8 +2,9 @@
 
 ghost use Rattle.std.specs.Prelude.{◌≡◌, IfOk};
 ghost use Rattle.mesh_rules.specs.declared.changes.LegChange.TheVariants as changes;
+ghost use Rattle.mesh_rules.specs.Legs.{with_phase};
 ghost use Rattle.leg_table.specs.Edits.{change_of};
-ghost use Rattle.leg_table.specs.Tables.{in_phase, with_back_labels, with_labels};
+ghost use Rattle.leg_table.specs.Tables.{with_back_labels, with_labels};
 
 use ason_base::{Copied, Label, Leg, Lsp, OutOfMemory, Phase};
 use std::alloc::Global;
@@ -38,7 +39,7 @@ impl BoxedLeg {
     }
 
     pub fn set_phase(&mut self, phase: Phase)
-        ensures { self.new ≡ in_phase phase self.old }
+        ensures { self.new ≡ with_phase phase self.old }
     {
         self.leg.phase = phase;
     }

@@ -1,12 +1,12 @@
 //! Carrying out what a rule changes: the legs with the labels that they take, the row that is learnt, the calls and
 //! the numbers.
 
-ghost use Rattle.std.specs.Prelude.{◌≡◌, ◌≤◌, ◌<◌, ◌+◌, IfOk, IfSome, None, OnErr, OnOk, Some, length, vec_capacity, vec_len};
+ghost use Rattle.std.specs.Prelude.{◌≡◌, ◌≤◌, ◌<◌, ◌+◌, [], IfOk, IfSome, None, OnErr, OnOk, Some, length, vec_capacity, vec_len};
 ghost use Rattle.std.specs.List.{AllByRecursion};
 ghost use Rattle.std.specs.Option.{option_to_list};
 ghost use Rattle.mesh_rules.specs.Changes.{changed, learnt_after};
 ghost use Rattle.mesh_rules.specs.Legs.{leg_changed, legs_changed, with_leg, without_leg};
-ghost use Rattle.leg_table.specs.LegClaims.{AreOfOneNode, LabelsFit, MayAllEnter, MayBeMade, MayClaim, MayEnter, SameFibres, TakesNone, taken};
+ghost use Rattle.leg_table.specs.LegClaims.{AreOfOneNode, ClaimsFit, LabelsFit, MayAllEnter, MayAllStay, MayBeMade, MayClaim, MayEnter, MayKeep, SameFibres, StaysAs, TakesNone, taken};
 ghost use Rattle.leg_table.specs.States.{local_of, state_of};
 ghost use Rattle.leg_table.specs.Tables.{LegsRise};
 
@@ -15,7 +15,7 @@ use crate::call_table::Calls;
 use crate::changes::Change;
 use crate::labels::{TakenLabel, taken};
 use crate::legs::{set_leg, take_leg};
-use crate::reserving::{free_label, reserve};
+use crate::reserving::{free_label, has_taken, is_used, rearm, reserve};
 use crate::tables::NodeTables;
 use ason_base::{Lsp, OutOfMemory, Outs, TeRow};
 use link_owner::Owner;
@@ -68,6 +68,67 @@ pub(crate) fn change_legs_alone(legs: &mut Vec<BoxedLeg>, changes: Vec<LegEdit>)
                 let _leg = take_leg(legs, lsp);
             }
             BoxedChange::Put(leg) => set_leg(legs, leg),
+        }
+    }
+}
+
+// Puts a leg that keeps this label. There is room for it.
+fn keep_leg(legs: &mut Vec<BoxedLeg>, owner: &mut Owner, leg: BoxedLeg, label: TakenLabel)
+    requires rising { LegsRise legs.old.items }
+    requires room { vec_len legs.old < vec_capacity legs.old }
+    requires fit { ClaimsFit legs.old.items owner.old }
+    requires taken { taken leg ≡ Some label }
+    requires may { MayKeep legs.old.items leg label }
+    ensures items { legs.new.items ≡ with_leg leg legs.old.items }
+    ensures rising { LegsRise legs.new.items }
+    ensures len { vec_len legs.new ≡ vec_len legs.old }
+    ensures capacity { vec_capacity legs.new ≡ vec_capacity legs.old }
+    ensures fit { ClaimsFit legs.new.items owner.new }
+    ensures fibres { SameFibres owner.old owner.new }
+{
+    let was = is_used(legs, leg.leg().lsp);
+    rearm(owner, leg.leg(), &label, was);
+    set_leg(legs, leg);
+}
+
+// Puts a leg of an LSP whose leg stands and takes the same label, or none. There is room for it.
+fn stay_leg(legs: &mut Vec<BoxedLeg>, owner: &mut Owner, leg: BoxedLeg)
+    requires rising { LegsRise legs.old.items }
+    requires room { vec_len legs.old < vec_capacity legs.old }
+    requires fit { ClaimsFit legs.old.items owner.old }
+    requires may { StaysAs legs.old.items leg (taken leg) }
+    ensures items { legs.new.items ≡ with_leg leg legs.old.items }
+    ensures rising { LegsRise legs.new.items }
+    ensures len { vec_len legs.new ≡ vec_len legs.old }
+    ensures capacity { vec_capacity legs.new ≡ vec_capacity legs.old }
+    ensures fit { ClaimsFit legs.new.items owner.new }
+    ensures fibres { SameFibres owner.old owner.new }
+{
+    match taken(leg.leg()) {
+        None => set_leg(legs, leg),
+        Some(label) => keep_leg(legs, owner, leg, label),
+    }
+}
+
+/// Makes the changes, one after the other. Legs keep their labels, and there is room for them.
+pub(crate) fn keep_legs(legs: &mut Vec<BoxedLeg>, owner: &mut Owner, changes: Vec<LegEdit>)
+    requires rising { LegsRise legs.old.items }
+    requires room { vec_len legs.old + vec_len changes ≤ vec_capacity legs.old }
+    requires fit { ClaimsFit legs.old.items owner.old }
+    requires may { MayAllStay legs.old.items changes.items }
+    ensures items { legs.new.items ≡ legs_changed changes.items legs.old.items }
+    ensures rising { LegsRise legs.new.items }
+    ensures len { vec_len legs.new ≤ vec_len legs.old }
+    ensures fit { ClaimsFit legs.new.items owner.new }
+    ensures fibres { SameFibres owner.old owner.new }
+    ensures none { changes.items ≡ [] → owner.new ≡ owner.old }
+{
+    for change in changes {
+        match change.into_change() {
+            BoxedChange::Goes(lsp) => {
+                let _leg = take_leg(legs, lsp);
+            }
+            BoxedChange::Put(leg) => stay_leg(legs, owner, leg),
         }
     }
 }
@@ -156,6 +217,10 @@ fn change_first(
         BoxedChange::Put(leg) => match taken(leg.leg()) {
             None => {
                 put_leg(legs, owner, shares, leg);
+                Ok(())
+            }
+            Some(label) if has_taken(legs, leg.leg().lsp) => {
+                keep_leg(legs, owner, leg, label);
                 Ok(())
             }
             Some(label) => enter_leg(legs, owner, shares, alloc, leg, label),
@@ -277,12 +342,14 @@ pub fn carry_out(
         legs,
         calls: changes,
         numbers,
+        down,
         row,
         sent,
         ..
     } = change;
     calls.list.reserve(changes.len())?;
     carry_out_tables(calls.alloc, tables, owner, shares, legs, row)?;
+    tables.know_down(down);
     calls.list.change(changes);
     calls.give_out(numbers);
     Ok(sent)

@@ -1,11 +1,12 @@
-//! What a rule answers: the legs and calls that change, the row that is learnt, and the messages that are sent.
+//! What a rule answers: the legs and calls that change, the row that is learnt, the fibres that are known to be down,
+//! and the messages that are sent.
 
 ghost use Rattle.std.specs.Prelude.{◌≡◌, [], ◌∷◌, IfOk, OnOk, Some};
 ghost use Rattle.mesh_rules.specs.declared.changes.CallChange.TheVariants as calls;
 ghost use Rattle.mesh_rules.specs.Changes.{changes_calls, followed_by, learns, nothing, puts, removes, sends, to_node};
 
 use crate::boxes::LegEdit;
-use ason_base::{CallNo, CallRec, Leg, Lsp, Msg, NodeId, Out, OutOfMemory, Outs, TeRow};
+use ason_base::{CallNo, CallRec, Fibres, Leg, Lsp, Msg, NodeId, Out, OutOfMemory, Outs, TeRow};
 use mesh_rules::{CallChange, NextNumbers};
 use std::alloc::Global;
 use std::marker::Model;
@@ -17,12 +18,12 @@ pub struct Change {
     pub(crate) legs: Vec<LegEdit>,
     pub(crate) calls: Vec<CallChange>,
     pub(crate) numbers: Option<NextNumbers>,
+    pub(crate) down: Option<Fibres>,
     pub(crate) row: Option<TeRow>,
     pub(crate) sent: Outs,
 }
 
 impl Model for Change {
-    ghost use Rattle.std.specs.Prelude.{None};
     ghost use Rattle.std.specs.Option.{option_to_list};
     ghost use Rattle.mesh_rules.specs.Changes.{Answer};
 
@@ -32,7 +33,7 @@ impl Model for Change {
       legs = c.legs.items;
       calls = c.calls.items;
       numbers = c.numbers;
-      down = None;
+      down = c.down;
       rows = option_to_list c.row;
       sent = c.sent;
     } };
@@ -48,6 +49,7 @@ impl Change {
             legs: Vec::new(alloc),
             calls: Vec::new(alloc),
             numbers: None,
+            down: None,
             row: None,
             sent: Outs::new(alloc),
         }
@@ -136,6 +138,13 @@ impl Change {
         ensures { self.new ≡ record self.old { numbers = Some numbers } }
     {
         self.numbers = Some(numbers);
+    }
+
+    /// Then just these fibres are known to be down.
+    pub fn know_down(&mut self, fibres: Fibres)
+        ensures { self.new ≡ record self.old { down = Some fibres } }
+    {
+        self.down = Some(fibres);
     }
 
     /// The messages that are sent, in order.

@@ -1,14 +1,16 @@
 //! The labels that legs take.
 
-ghost use Rattle.std.specs.Prelude.{◌≡◌, IsTrue};
-ghost use Rattle.mesh_rules.specs.Legs.{usable};
-ghost use Rattle.leg_table.specs.LegClaims.{AreOfOneNode, is_fibre_in, taken, taken_over};
+ghost use Rattle.std.specs.Prelude.{◌≡◌, IsTrue, Some};
+ghost use Rattle.link_owner.specs.Claims.{is_busy};
+ghost use Rattle.mesh_rules.specs.Activations.{is_contended};
+ghost use Rattle.mesh_rules.specs.Legs.{find_leg, is_beyond_asked, usable};
+ghost use Rattle.leg_table.specs.LegClaims.{AreOfOneNode, ClaimsFit, is_fibre_in, taken, taken_over};
 ghost use Rattle.leg_table.specs.States.{local_of};
 
 use crate::one_leg::is_beyond_asked;
 use crate::tables::NodeTables;
-use ason_base::{Fibre, Label, LabelSet, Leg, RiskSet, Role};
-use link_owner::Owner;
+use ason_base::{Fibre, Label, LabelSet, Leg, Lsp, RiskSet, Role};
+use link_owner::{Claim, ClaimKind, Owner};
 use share_check::Shares;
 
 /// A label that a leg takes, and the fibre that it is on.
@@ -58,6 +60,32 @@ pub fn usable(
             let labels = owner.shareable(f);
             labels.rises();
             labels.meet(&shares.fitting(f, risks))
+        }
+    }
+}
+
+// Whether it is another LSP's claim of the label, and in use.
+fn is_busy(claim: &Claim, label: Label, lsp: Lsp) -> bool
+    ensures { result ≡ is_busy label lsp claim.now }
+{
+    claim.label.number() == label.number()
+        && !matches!(claim.kind, ClaimKind::Backup)
+        && claim.lsp != lsp
+}
+
+/// Whether another leg on the leg's label in is Armed or Live, so that the leg can't be activated. No leg is looked at.
+pub fn is_contended(tables: &NodeTables, owner: &Owner, leg: &Leg) -> bool
+    requires claims { ClaimsFit tables.now.legs owner.now }
+    requires there { find_leg leg.now.lsp tables.now.legs ≡ Some leg.now }
+    requires beyond { IsTrue (is_beyond_asked leg.now.phase) }
+    ensures { result ≡ is_contended tables.now.legs leg.now leg.now.in_fibre leg.now.in_label }
+{
+    tables.rises();
+    match taken(leg) {
+        None => false,
+        Some(t) => {
+            let claims = owner.claims(t.fibre);
+            claims.iter().any(|claim| is_busy(claim, t.label, leg.lsp))
         }
     }
 }

@@ -3,8 +3,8 @@
 ghost use Rattle.std.specs.Prelude.{◌≡◌, ◌≤◌, ◌<◌, ◌+◌, IfOk, None, OnErr, OnOk, Some, insert, length, position, slice_get, true, vec_capacity, vec_len};
 ghost use Rattle.std.specs.List.{position_or_len};
 ghost use Rattle.std.specs.Option.{option_copied};
-ghost use Rattle.mesh_rules.specs.Legs.{find_leg, has_lsp, is_at_or_after, with_leg, without_leg};
-ghost use Rattle.leg_table.specs.Tables.{LegsRise, in_phase, is_of_lsp, leg_changed, with_back_labels, with_labels};
+ghost use Rattle.mesh_rules.specs.Legs.{find_leg, has_lsp, is_at_or_after, with_leg, with_phase, without_leg};
+ghost use Rattle.leg_table.specs.Tables.{LegsRise, is_of_lsp, leg_changed, with_back_labels, with_labels};
 
 use crate::boxes::BoxedLeg;
 use crate::edits::{insert_here, replace_here};
@@ -134,7 +134,7 @@ pub(crate) fn take_leg(legs: &mut Vec<BoxedLeg>, lsp: Lsp) -> Option<Leg>
 
 pub(crate) fn set_phase(legs: &mut Vec<BoxedLeg>, lsp: Lsp, phase: Phase)
     requires { LegsRise legs.old.items }
-    ensures changed { legs.new.items ≡ leg_changed lsp (in_phase phase) legs.old.items }
+    ensures changed { legs.new.items ≡ leg_changed lsp (with_phase phase) legs.old.items }
     ensures rising { LegsRise legs.new.items }
     ensures len { length legs.new.items ≡ length legs.old.items }
 {

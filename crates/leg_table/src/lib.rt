@@ -20,4 +20,4 @@ mod tables;
 pub use call_table::Calls;
 pub use changes::Change;
 pub use labels::TakenLabel;
-pub use tables::{NodeTables, PutFault};
+pub use tables::{NodeTables, PutFault, add_fibre};

@@ -1,7 +1,7 @@
 //! One leg: its phase, its neighbours, and what it becomes.
 
 ghost use Rattle.std.specs.Prelude.{◌≡◌, IfOk};
-ghost use Rattle.mesh_rules.specs.Legs.{closed, closing_phase, connected, following, is_asked, is_beyond_asked, is_closing, is_node, is_over, is_work, neighbour_over, previous, reserved};
+ghost use Rattle.mesh_rules.specs.Legs.{closed, closing_phase, connected, following, is_armed, is_asked, is_beyond_asked, is_closing, is_held, is_in_use, is_node, is_over, is_work, neighbour_over, previous, reserved, with_phase};
 
 use ason_base::{Copied, Fibre, Label, Leg, LinkId, NodeId, OutOfMemory, Phase, Role};
 use mesh_rules::Neighbour;
@@ -12,6 +12,27 @@ pub fn is_asked(phase: Phase) -> bool
     ensures { result ≡ is_asked phase }
 {
     matches!(phase, Phase::Asked)
+}
+
+/// Whether the leg's label is reserved, and no activation has passed the leg.
+pub fn is_held(phase: Phase) -> bool
+    ensures { result ≡ is_held phase }
+{
+    matches!(phase, Phase::Held)
+}
+
+/// Whether an activation has passed the leg, and hasn't come back yet.
+pub fn is_armed(phase: Phase) -> bool
+    ensures { result ≡ is_armed phase }
+{
+    matches!(phase, Phase::Armed)
+}
+
+/// Whether the leg is Armed or Live: no other leg on its label can be activated.
+pub fn is_in_use(phase: Phase) -> bool
+    ensures { result ≡ is_in_use phase }
+{
+    matches!(phase, Phase::Armed | Phase::Live)
 }
 
 /// Whether the leg was torn and waits for the next node.
@@ -94,6 +115,15 @@ pub fn closed(alloc: Global, leg: &Leg) -> Result<Leg, OutOfMemory>
     torn.phase = closing_phase(leg.phase, leg.role);
     torn.in_label = None;
     Ok(torn)
+}
+
+/// The leg in this phase.
+pub fn with_phase(alloc: Global, leg: &Leg, phase: Phase) -> Result<Leg, OutOfMemory>
+    ensures { IfOk result (λ g. g ≡ with_phase phase leg.now) }
+{
+    let mut changed = leg.copy(alloc)?;
+    changed.phase = phase;
+    Ok(changed)
 }
 
 /// The phase of a leg that gets its label: a working leg is cross-connected, a backup's label is reserved alone.

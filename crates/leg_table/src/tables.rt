@@ -4,9 +4,11 @@ ghost use Rattle.std.specs.Prelude.{◌≡◌, ◌≤◌, ◌<◌, ◌-◌, [], 
 ghost use Rattle.std.specs.Option.{option_copied};
 ghost use Rattle.ason_base.specs.Lsps.{has_fibre, without_fibre};
 ghost use Rattle.ason_base.specs.Network.{find_node, row_of, touches};
+ghost use Rattle.mesh_rules.specs.Changes.{down_after};
 ghost use Rattle.mesh_rules.specs.KnownRows.{has_row};
-ghost use Rattle.mesh_rules.specs.Legs.{find_leg, with_leg, without_leg};
-ghost use Rattle.leg_table.specs.Tables.{LegsRise, PutRefused, find_own, in_phase, learnt, new_table, node_or_none, with_back_labels, with_fibre, with_labels, with_leg_changed};
+ghost use Rattle.mesh_rules.specs.Legs.{find_leg, with_leg, with_phase, without_leg};
+ghost use Rattle.mesh_rules.specs.Reports.{with_fibre};
+ghost use Rattle.leg_table.specs.Tables.{LegsRise, PutRefused, find_own, learnt, new_table, node_or_none, with_back_labels, with_labels, with_leg_changed};
 
 use crate::boxes::BoxedLeg;
 use crate::legs;
@@ -113,7 +115,7 @@ impl NodeTables {
     /// Sets the phase of the leg of this LSP.
     pub fn set_phase(&mut self, lsp: &Lsp, p: Phase)
         requires { IsSome (find_leg lsp.now self.old.legs) }
-        ensures { self.new ≡ with_leg_changed lsp.now (in_phase p) self.old }
+        ensures { self.new ≡ with_leg_changed lsp.now (with_phase p) self.old }
     {
         legs::set_phase(&mut self.legs, *lsp, p);
     }
@@ -211,6 +213,13 @@ impl NodeTables {
         let _ = self.rows.pop();
     }
 
+    /// The fibres that are known to be down, in the order in which they went down.
+    pub fn down(&self) -> &Fibres
+        ensures { result.now ≡ self.now.down }
+    {
+        &self.down
+    }
+
     /// Whether the fibre is known to be down.
     pub fn is_down(&self, f: Fibre) -> bool
         ensures { result ≡ has_fibre self.now.down f }
@@ -233,6 +242,15 @@ impl NodeTables {
     {
         self.down.remove(f);
     }
+
+    /// Takes just these fibres to be down, if there are any to take.
+    pub(crate) fn know_down(&mut self, down: Option<Fibres>)
+        ensures { self.new ≡ record self.old { down = down_after down self.old.down } }
+    {
+        if let Some(down) = down {
+            self.down = down;
+        }
+    }
 }
 
 impl Copied for NodeTables {
@@ -254,8 +272,8 @@ impl Copied for NodeTables {
     }
 }
 
-/// Adds the fibre, unless it is there.
-pub(crate) fn add_fibre(fibres: &mut Fibres, f: Fibre) -> Result<(), OutOfMemory>
+/// Adds the fibre, unless it is there. After want of memory nothing has changed.
+pub fn add_fibre(fibres: &mut Fibres, f: Fibre) -> Result<(), OutOfMemory>
     ensures ok { OnOk result (fibres.new ≡ with_fibre f fibres.old) }
     ensures err { OnErr result (fibres.new ≡ fibres.old) }
 {
