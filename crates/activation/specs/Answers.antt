@@ -1,0 +1,127 @@
+-- How a backup is activated at a node of these tables (RFC 4872, section 8): a Path that activates, a Resv at a leg that
+-- is Armed, and a PathErr without Path_State_Removed. What becomes of the call at the ingress isn't told here: it's as at
+-- a node without calls.
+use Rattle.std.specs.Prelude.{ℕ, ◌&&◌, Bool, false, not, [], ◌∷◌, Option, Some, None, is_some, if◌then◌else◌}
+use Rattle.ason_base.specs.declared.calls.Phase.TheVariants.{Live}
+use Rattle.ason_base.specs.declared.ids.NodeId.{NodeId}
+use Rattle.ason_base.specs.declared.messages.Msg.{Msg}
+use Rattle.ason_base.specs.declared.messages.Msg.TheVariants.{Path, Resv, PathTear, PathErr, Notify}
+use Rattle.ason_base.specs.declared.messages.PathRole.{PathRole}
+use Rattle.ason_base.specs.declared.tables.Leg.{Leg}
+use Rattle.mesh_rules.specs.declared.arrivals.Arrival.{Arrival}
+use Rattle.mesh_rules.specs.ActivationAnswers.{contended, disarmed, is_confirmed, resv_again}
+use Rattle.mesh_rules.specs.Activations.{activated, busy_to, path_again, resv_to}
+use Rattle.mesh_rules.specs.Changes.{Answer, nothing, puts, sends}
+use Rattle.mesh_rules.specs.Legs.{find_leg, following, is_armed, is_node, previous, with_phase}
+use Rattle.mesh_rules.specs.Messages.{arrival}
+use Rattle.mesh_rules.specs.State.{new_node}
+use Rattle.leg_table.specs.Fits.{legs_after}
+use Rattle.leg_table.specs.States.{legs_state, local_of}
+use Rattle.leg_table.specs.Tables.{LegTable}
+
+-- the LSP begins here
+abbrev pub begins_here : Leg → Bool
+begins_here g = not (is_some (previous g))
+
+-- A Path
+
+-- the activation is refused
+abbrev pub busy_here : LegTable → Leg → NodeId → Answer
+busy_here t g n = sends (busy_to (local_of t) g n ∷ [])
+
+abbrev pub activated_here : LegTable → Arrival → PathRole → Leg → Answer
+activated_here t a r g = activated (local_of t) (legs_state t) a r g
+
+-- a Path of an LSP that has no leg activates none
+abbrev pub path_taken : LegTable → Arrival → PathRole → Option Leg → Answer
+path_taken t a r None = nothing
+path_taken t a r (Some g) = path_again (local_of t) (legs_state t) a r g
+
+abbrev pub path_here : LegTable → Arrival → PathRole → Answer
+path_here t a r = path_taken t a r (find_leg a.lsp t.legs)
+
+-- A Resv
+
+-- the leg is Live, and the Resv goes back; none does where it begins here
+abbrev pub live_here : Leg → Answer
+live_here g = puts (with_phase Live g) (resv_to g (previous g) g.in_label)
+
+abbrev pub connected_here : Arrival → ℕ → Option Leg → Answer
+connected_here a x None = nothing
+connected_here a x (Some g) = resv_again new_node a x g
+
+-- an Armed leg takes it, and its LSP begins here
+abbrev pub carries_leg : Arrival → ℕ → Option Leg → Bool
+carries_leg a x None = false
+carries_leg a x (Some g) = is_confirmed a x g && begins_here g
+
+-- A PathErr without Path_State_Removed
+
+abbrev pub disarmed_here : Leg → Msg → Answer
+disarmed_here g m = disarmed new_node g m (previous g)
+
+-- it comes from the leg's next node
+abbrev pub contended_here : NodeId → Msg → Option Leg → Answer
+contended_here u m None = nothing
+contended_here u m (Some g) = if is_node (following g) u then contended new_node g m else nothing
+
+-- an Armed leg takes it, and its LSP begins here
+abbrev pub contends_leg : NodeId → Option Leg → Bool
+contends_leg u None = false
+contends_leg u (Some g) = is_node (following g) u && (is_armed g.phase && begins_here g)
+
+-- Where the call follows
+
+-- a message of another kind carries none
+abbrev pub carries : LegTable → NodeId → Msg → Bool
+carries t u (Path l e k route set up r) = false
+carries t u (Resv l e k x) = carries_leg (arrival l e u k) x (find_leg l t.legs)
+carries t u (PathTear l e k) = false
+carries t u (PathErr l e at gone code) = false
+carries t u (Notify l e at k code) = false
+
+-- likewise
+abbrev pub contends : LegTable → NodeId → Msg → Bool
+contends t u (Path l e k route set up r) = false
+contends t u (Resv l e k x) = false
+contends t u (PathTear l e k) = false
+contends t u (PathErr l e at gone code) = not gone && contends_leg u (find_leg l t.legs)
+contends t u (Notify l e at k code) = false
+
+-- What is answered
+
+-- a message of another kind does nothing
+abbrev pub activate_answer : LegTable → NodeId → Msg → Answer
+activate_answer t u (Path l e k route set up r) = path_here t (arrival l e u k) r
+activate_answer t u (Resv l e k x) = nothing
+activate_answer t u (PathTear l e k) = nothing
+activate_answer t u (PathErr l e at gone code) = nothing
+activate_answer t u (Notify l e at k code) = nothing
+
+-- likewise
+abbrev pub connect_answer : LegTable → NodeId → Msg → Answer
+connect_answer t u (Path l e k route set up r) = nothing
+connect_answer t u (Resv l e k x) = connected_here (arrival l e u k) x (find_leg l t.legs)
+connect_answer t u (PathTear l e k) = nothing
+connect_answer t u (PathErr l e at gone code) = nothing
+connect_answer t u (Notify l e at k code) = nothing
+
+-- likewise
+abbrev pub busy_answer : LegTable → NodeId → Msg → Answer
+busy_answer t u (Path l e k route set up r) = nothing
+busy_answer t u (Resv l e k x) = nothing
+busy_answer t u (PathTear l e k) = nothing
+busy_answer t u (PathErr l e at gone code) =
+    if gone then nothing else contended_here u (PathErr l e at gone code) (find_leg l t.legs)
+busy_answer t u (Notify l e at k code) = nothing
+
+-- The tables after it
+
+abbrev pub after_activate : LegTable → NodeId → Msg → LegTable
+after_activate t u m = legs_after t (activate_answer t u m)
+
+abbrev pub after_connect : LegTable → NodeId → Msg → LegTable
+after_connect t u m = legs_after t (connect_answer t u m)
+
+abbrev pub after_busy : LegTable → NodeId → Msg → LegTable
+after_busy t u m = legs_after t (busy_answer t u m)

@@ -1,0 +1,14 @@
+//! How a backup is activated along its route: a Path that activates, a Resv at a leg that is Armed,
+//! and a PathErr without Path_State_Removed (RFC 4872, section 8).
+#![tactic(auto)]
+
+//mod handlers;
+mod path_errs;
+mod paths;
+mod phases;
+mod resvs;
+
+//pub use handlers::{activate, busy, connect};
+pub use path_errs::{busy_change, contends};
+pub use paths::activate_change;
+pub use resvs::{carries, connect_change};

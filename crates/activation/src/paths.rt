@@ -1,0 +1,138 @@
+//! A Path that activates a backup whose leg stands here.
+
+ghost use Rattle.std.specs.Prelude.{◌≡◌, IfOk, Some};
+ghost use Rattle.mesh_rules.specs.Activations.{armed_on};
+ghost use Rattle.mesh_rules.specs.Legs.{find_leg, following};
+ghost use Rattle.mesh_rules.specs.Paths.{is_active};
+ghost use Rattle.activation.specs.Answers.{activate_answer, activated_here, busy_here, path_here};
+
+use crate::phases::is_held;
+use crate::resvs::go_live;
+use ason_base::codes::BUSY;
+use ason_base::{Copied, Leg, Msg, NodeId, OutOfMemory, PathRole, Phase};
+use leg_table::labels::is_contended;
+use leg_table::one_leg::{following, is_over, previous, with_phase};
+use leg_table::{Change, NodeTables};
+use link_owner::Owner;
+use mesh_rules::Arrival;
+use std::alloc::Global;
+
+// Another leg on the label is in use: the sender is told, and the leg stays.
+fn refuse(
+    alloc: Global,
+    tables: &NodeTables,
+    leg: &Leg,
+    to: NodeId,
+) -> Result<Change, OutOfMemory>
+    ensures { IfOk result (λ c. c ≡ busy_here tables.now leg.now to) }
+{
+    let msg = Msg::PathErr {
+        lsp: leg.lsp,
+        egress: leg.egress,
+        at: tables.node().id,
+        removed: false,
+        code: BUSY,
+    };
+    Change::sends(alloc, to, msg)
+}
+
+// The leg is Armed and the Path goes on; at the egress it is Live and a Resv goes back.
+fn arm(alloc: Global, leg: &Leg, role: &PathRole) -> Result<Change, OutOfMemory>
+    ensures { IfOk result (λ c. c ≡ armed_on leg.now role.now (following leg.now)) }
+{
+    let Some(next) = following(leg) else {
+        return go_live(alloc, leg);
+    };
+    let msg = Msg::Path {
+        lsp: leg.lsp,
+        egress: leg.egress,
+        link: next.fibre.link,
+        route: leg.route.copy(alloc)?,
+        set: leg.sent.copy(),
+        upstream: None,
+        role: role.copy(alloc)?,
+    };
+    Change::puts(alloc, with_phase(alloc, leg, Phase::Armed)?, next.node, msg)
+}
+
+fn activate_leg(
+    alloc: Global,
+    tables: &NodeTables,
+    owner: &Owner,
+    arrival: Arrival,
+    role: &PathRole,
+    leg: &Leg,
+) -> Result<Change, OutOfMemory>
+    ensures { IfOk result (λ c. c ≡ activated_here tables.now arrival role.now leg.now) }
+{
+    if is_contended(tables, owner, leg) {
+        refuse(alloc, tables, leg, arrival.from)
+    } else {
+        arm(alloc, leg, role)
+    }
+}
+
+fn is_active(role: &PathRole) -> bool
+    ensures { result ≡ is_active role.now }
+{
+    match role {
+        PathRole::Work { .. } => false,
+        PathRole::Back { active, .. } => *active,
+    }
+}
+
+fn on_path(
+    alloc: Global,
+    tables: &NodeTables,
+    owner: &Owner,
+    arrival: Arrival,
+    role: &PathRole,
+) -> Result<Change, OutOfMemory>
+    ensures { IfOk result (λ c. c ≡ path_here tables.now arrival role.now) }
+{
+    match tables.get(&arrival.lsp) {
+        Some(leg)
+            if is_active(role)
+                && is_held(leg.phase)
+                && is_over(previous(leg), arrival.from, arrival.link) =>
+        {
+            activate_leg(alloc, tables, owner, arrival, role, leg)
+        }
+        _ => Ok(Change::nothing(alloc)),
+    }
+}
+
+/// What a Path that activates would change and send at a leg that is Held: the leg is Armed and the
+/// Path goes on; at the egress it is Live and a Resv goes back; where another leg on its label is
+/// Armed or Live it stays, and a PathErr without Path_State_Removed goes back. Another Path, and a
+/// message of another kind, do nothing.
+pub fn activate_change(
+    alloc: Global,
+    tables: &NodeTables,
+    owner: &Owner,
+    from: NodeId,
+    msg: &Msg,
+) -> Result<Change, OutOfMemory>
+    ensures { IfOk result (λ c. c ≡ activate_answer tables.now from msg.now) }
+{
+    match msg {
+        Msg::Path {
+            lsp,
+            egress,
+            link,
+            role,
+            ..
+        } => {
+            let arrival = Arrival {
+                lsp: *lsp,
+                egress: *egress,
+                from,
+                link: *link,
+            };
+            on_path(alloc, tables, owner, arrival, role)
+        }
+        Msg::Resv { .. } | Msg::PathTear { .. } | Msg::PathErr { .. } | Msg::Notify { .. } => {
+            Ok(Change::nothing(alloc))
+        }
+    }
+}
