@@ -1,0 +1,2 @@
+pub mod KeptLegs
+pub mod MayStay

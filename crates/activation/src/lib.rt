@@ -2,13 +2,12 @@
 //! and a PathErr without Path_State_Removed (RFC 4872, section 8).
 #![tactic(auto)]
 
-//mod handlers;
+mod handlers;
 mod path_errs;
 mod paths;
-mod phases;
 mod resvs;
 
-//pub use handlers::{activate, busy, connect};
+pub use handlers::{activate, busy, connect};
 pub use path_errs::{busy_change, contends};
 pub use paths::activate_change;
 pub use resvs::{carries, connect_change};

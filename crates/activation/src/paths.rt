@@ -1,17 +1,17 @@
 //! A Path that activates a backup whose leg stands here.
 
-ghost use Rattle.std.specs.Prelude.{◌≡◌, IfOk, Some};
+ghost use Rattle.std.specs.Prelude.{◌≡◌, IfOk, IsTrue, Some};
 ghost use Rattle.mesh_rules.specs.Activations.{armed_on};
-ghost use Rattle.mesh_rules.specs.Legs.{find_leg, following};
+ghost use Rattle.mesh_rules.specs.Legs.{find_leg, following, is_beyond_asked};
 ghost use Rattle.mesh_rules.specs.Paths.{is_active};
+ghost use Rattle.leg_table.specs.LegClaims.{ClaimsFit};
 ghost use Rattle.activation.specs.Answers.{activate_answer, activated_here, busy_here, path_here};
 
-use crate::phases::is_held;
 use crate::resvs::go_live;
 use ason_base::codes::BUSY;
 use ason_base::{Copied, Leg, Msg, NodeId, OutOfMemory, PathRole, Phase};
 use leg_table::labels::is_contended;
-use leg_table::one_leg::{following, is_over, previous, with_phase};
+use leg_table::one_leg::{following, is_held, is_over, previous, with_phase};
 use leg_table::{Change, NodeTables};
 use link_owner::Owner;
 use mesh_rules::Arrival;
@@ -63,6 +63,9 @@ fn activate_leg(
     role: &PathRole,
     leg: &Leg,
 ) -> Result<Change, OutOfMemory>
+    requires claims { ClaimsFit tables.now.legs owner.now }
+    requires there { find_leg leg.now.lsp tables.now.legs ≡ Some leg.now }
+    requires beyond { IsTrue (is_beyond_asked leg.now.phase) }
     ensures { IfOk result (λ c. c ≡ activated_here tables.now arrival role.now leg.now) }
 {
     if is_contended(tables, owner, leg) {
@@ -88,6 +91,7 @@ fn on_path(
     arrival: Arrival,
     role: &PathRole,
 ) -> Result<Change, OutOfMemory>
+    requires { ClaimsFit tables.now.legs owner.now }
     ensures { IfOk result (λ c. c ≡ path_here tables.now arrival role.now) }
 {
     match tables.get(&arrival.lsp) {
@@ -113,6 +117,7 @@ pub fn activate_change(
     from: NodeId,
     msg: &Msg,
 ) -> Result<Change, OutOfMemory>
+    requires { ClaimsFit tables.now.legs owner.now }
     ensures { IfOk result (λ c. c ≡ activate_answer tables.now from msg.now) }
 {
     match msg {

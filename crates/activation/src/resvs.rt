@@ -3,11 +3,10 @@
 ghost use Rattle.std.specs.Prelude.{◌≡◌, IfOk};
 ghost use Rattle.mesh_rules.specs.ActivationAnswers.{is_confirmed};
 ghost use Rattle.mesh_rules.specs.Legs.{find_leg};
-ghost use Rattle.activation.specs.Answers.{carries, carries_leg, connect_answer, connected_here, live_here};
+ghost use Rattle.activation.specs.Answers.{begins_here, carries, carries_leg, connect_answer, connected_here, live_here};
 
-use crate::phases::{begins_here, is_armed};
 use ason_base::{Label, Leg, Msg, NodeId, OutOfMemory, Phase};
-use leg_table::one_leg::{following, is_over, previous, with_phase};
+use leg_table::one_leg::{following, is_armed, is_over, previous, with_phase};
 use leg_table::{Change, NodeTables};
 use mesh_rules::Arrival;
 use std::alloc::Global;
@@ -44,12 +43,20 @@ fn on_resv(
     arrival: Arrival,
     label: Label,
 ) -> Result<Change, OutOfMemory>
-    ensures { IfOk result (λ c. c ≡ connected_here arrival label (find_leg arrival.lsp tables.now.legs)) }
+    ensures { IfOk result
+        (λ c. c ≡ connected_here arrival label (find_leg arrival.lsp tables.now.legs)) }
 {
     match tables.get(&arrival.lsp) {
         Some(leg) if is_confirmed(arrival, label, leg) => go_live(alloc, leg),
         _ => Ok(Change::nothing(alloc)),
     }
+}
+
+/// Whether the LSP begins here: the leg has no previous node.
+pub(crate) fn begins_here(leg: &Leg) -> bool
+    ensures { result ≡ begins_here leg.now }
+{
+    previous(leg).is_none()
 }
 
 fn carries_leg(tables: &NodeTables, arrival: Arrival, label: Label) -> bool

@@ -1,0 +1,152 @@
+-- The legs fit after each step of an activation.
+use Rattle.std.proofs.Common.{◌≡◌, ◌∙◌, ℕ, Bool, true, false, cond, refl, ap, sym}
+use Rattle.std.specs.Prelude.{◌&&◌, Option, Some, None}
+use Rattle.ason_base.specs.Labels.{has}
+use Rattle.ason_base.specs.declared.calls.Phase.{Phase}
+use Rattle.ason_base.specs.declared.calls.Phase.TheVariants as phase
+use Rattle.ason_base.specs.declared.ids.NodeId.{NodeId}
+use Rattle.ason_base.specs.declared.messages.Msg.{Msg}
+use Rattle.ason_base.specs.declared.messages.Msg.TheVariants.{Path, Resv, PathTear, PathErr, Notify}
+use Rattle.ason_base.specs.declared.messages.PathRole.{PathRole}
+use Rattle.ason_base.specs.declared.messages.PathRole.TheVariants as role
+use Rattle.ason_base.specs.declared.tables.Leg.{Leg}
+use Rattle.mesh_rules.specs.declared.arrivals.Arrival.{Arrival}
+use Rattle.mesh_rules.specs.declared.neighbours.Neighbour.{Neighbour}
+use Rattle.mesh_rules.specs.ActivationAnswers.{confirmed, contended, disarmed, is_confirmed, resv_again}
+use Rattle.mesh_rules.specs.Activations.{path_again}
+use Rattle.mesh_rules.specs.Changes.{Answer, nothing}
+use Rattle.mesh_rules.specs.Legs.{find_leg, following, is_armed, is_asked, is_label, is_node, is_over, previous}
+use Rattle.mesh_rules.specs.Messages.{arrival}
+use Rattle.mesh_rules.specs.PathErrs.{PathFailure, on_path_err, path_err_with, removed}
+use Rattle.mesh_rules.specs.Paths.{PathRequest, path_with}
+use Rattle.mesh_rules.specs.Resvs.{answered, is_expected, on_resv, resv_with}
+use Rattle.mesh_rules.specs.State.{new_node}
+use Rattle.mesh_nodes.specs.LocalNodes.{LocalNodeFits}
+use Rattle.mesh_nodes.proofs.Cases.{both_left, if_cases}
+use Rattle.leg_table.proofs.OwnLegs.{legs-after, next_state}
+use Rattle.leg_table.specs.Fits.{OwnLegsFit, legs_after}
+use Rattle.leg_table.specs.States.{legs_state, local_of}
+use Rattle.leg_table.specs.Tables.{LegTable}
+use Rattle.activation.specs.Answers.{activate_answer, busy_answer, connect_answer, connected_here, contended_here, path_taken}
+
+abbrev Keeps : LegTable → Answer → Type 0
+Keeps t a = OwnLegsFit (legs_after t a)
+
+-- whatever number is next, the machine's rules are these
+
+path-by : (t : LegTable) (next : ℕ) (a : Arrival) (r : PathRole) (g : Leg) →
+    path_again (local_of t) (legs_state t) a r g ≡ path_again (local_of t) (next_state t next) a r g
+path-by t next a (role.Work guard) g = refl
+path-by t next a (role.Back true work primary) g = refl
+path-by t next a (role.Back false work primary) g = refl
+
+armed-asked : (q : Phase) → is_armed q ≡ true → is_asked q ≡ false
+armed-asked phase.Armed e = refl
+armed-asked phase.Asked e = absurd (cc e)
+armed-asked phase.Held e = absurd (cc e)
+armed-asked phase.Live e = absurd (cc e)
+armed-asked phase.Closing e = absurd (cc e)
+armed-asked phase.Falling e = absurd (cc e)
+
+module _ (t : LegTable) (next : ℕ) (a : Arrival) (x : ℕ) (g : Leg) where
+  confirmed-by : (o : Option Neighbour) → (confirmed new_node g o).legs ≡ (confirmed (next_state t next) g o).legs
+  confirmed-by None = refl
+  confirmed-by (Some h) = refl
+
+  resv-is : find_leg a.lsp t.legs ≡ Some g → is_confirmed a x g ≡ true →
+      (confirmed new_node g (previous g)).legs ≡ (on_resv (local_of t) (next_state t next) a x).legs
+  resv-is found takes =
+      let p = local_of t in
+      let s = next_state t next in
+      let later = is_over (following g) a.from a.link in
+      let asked = armed-asked g.phase (both_left (is_armed g.phase) (later && is_label g.out_label x) takes) in
+      confirmed-by (previous g)
+      ∙ sym (ap (λ b. (cond b (confirmed s g (previous g)) nothing).legs) takes)
+      ∙ sym (ap (λ b. (cond (b && (later && has g.sent x)) (answered p s a x g (previous g)) (resv_again s a x g)).legs)
+      asked) ∙ sym (ap (λ o. (resv_with p s a x o).legs) found)
+
+module _ (t : LegTable) (next : ℕ) (g : Leg) (u : NodeId) (e : PathFailure) where
+  disarmed-by : (o : Option Neighbour) →
+      (disarmed new_node g e.msg o).legs ≡ (disarmed (next_state t next) g e.msg o).legs
+  disarmed-by None = refl
+  disarmed-by (Some h) = refl
+
+  contended-by : (contended new_node g e.msg).legs ≡ (contended (next_state t next) g e.msg).legs
+  contended-by = go (is_armed g.phase)
+    where
+      go : (b : Bool) → (cond b (disarmed new_node g e.msg (previous g)) nothing).legs ≡
+          (cond b (disarmed (next_state t next) g e.msg (previous g)) nothing).legs
+      go true = disarmed-by (previous g)
+      go false = refl
+
+  err-is : find_leg e.lsp t.legs ≡ Some g → e.removed ≡ false → is_node (following g) u ≡ true →
+      (contended new_node g e.msg).legs ≡ (on_path_err (next_state t next) u e).legs
+  err-is found stays near =
+      let s = next_state t next in
+      contended-by
+      ∙ sym (ap (λ b. (cond b (removed s g e) (contended s g e.msg)).legs) stays)
+      ∙ sym (ap (λ b. (cond b (cond e.removed (removed s g e) (contended s g e.msg)) nothing).legs) near)
+      ∙ sym (ap (λ o. (path_err_with s u e o).legs) found)
+
+-- Each answer
+
+pub activate-legs : (t : LegTable) (u : NodeId) (m : Msg) → LocalNodeFits (local_of t) → OwnLegsFit t →
+    OwnLegsFit (legs_after t (activate_answer t u m))
+activate-legs t u (Path l e k route set up r) links fits = go (find_leg l t.legs) refl
+  where
+    a : Arrival
+    a = arrival l e u k
+
+    m : PathRequest
+    m = record { arrival = a; route = route; set = set; role = r }
+
+    go : (o : Option Leg) → find_leg l t.legs ≡ o → Keeps t (path_taken t a r o)
+    go None found = fits
+    go (Some g) found =
+        legs-after t u (Path l e k route set up r) (path_again (local_of t) (legs_state t) a r g).legs links fits
+        (λ next. ap (λ w. w.legs) (path-by t next a r g
+        ∙ ap (path_with (local_of t) (next_state t next) m) (sym found)))
+activate-legs t u (Resv l e k x) links fits = fits
+activate-legs t u (PathTear l e k) links fits = fits
+activate-legs t u (PathErr l e at gone code) links fits = fits
+activate-legs t u (Notify l e at k code) links fits = fits
+
+pub connect-legs : (t : LegTable) (u : NodeId) (m : Msg) → LocalNodeFits (local_of t) → OwnLegsFit t →
+    OwnLegsFit (legs_after t (connect_answer t u m))
+connect-legs t u (Path l e k route set up r) links fits = fits
+connect-legs t u (Resv l e k x) links fits = go (find_leg l t.legs) refl
+  where
+    a : Arrival
+    a = arrival l e u k
+
+    go : (o : Option Leg) → find_leg l t.legs ≡ o → Keeps t (connected_here a x o)
+    go None found = fits
+    go (Some g) found =
+        if_cases (Keeps t) (is_confirmed a x g) (confirmed new_node g (previous g)) nothing
+        (λ takes. legs-after t u (Resv l e k x) (confirmed new_node g (previous g)).legs links fits
+        (λ next. resv-is t next a x g found takes)) (λ other. fits)
+connect-legs t u (PathTear l e k) links fits = fits
+connect-legs t u (PathErr l e at gone code) links fits = fits
+connect-legs t u (Notify l e at k code) links fits = fits
+
+pub busy-legs : (t : LegTable) (u : NodeId) (m : Msg) → LocalNodeFits (local_of t) → OwnLegsFit t →
+    OwnLegsFit (legs_after t (busy_answer t u m))
+busy-legs t u (Path l e k route set up r) links fits = fits
+busy-legs t u (Resv l e k x) links fits = fits
+busy-legs t u (PathTear l e k) links fits = fits
+busy-legs t u (PathErr l e at true code) links fits = fits
+busy-legs t u (PathErr l e at false code) links fits = go (find_leg l t.legs) refl
+  where
+    m : Msg
+    m = PathErr l e at false code
+
+    f : PathFailure
+    f = record { lsp = l; msg = m; removed = false; code = code }
+
+    go : (o : Option Leg) → find_leg l t.legs ≡ o → Keeps t (contended_here u m o)
+    go None found = fits
+    go (Some g) found =
+        if_cases (Keeps t) (is_node (following g) u) (contended new_node g m) nothing
+        (λ near. legs-after t u m (contended new_node g m).legs links fits
+        (λ next. err-is t next g u f found refl near)) (λ other. fits)
+busy-legs t u (Notify l e at k code) links fits = fits

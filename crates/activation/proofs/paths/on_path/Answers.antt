@@ -1,0 +1,7 @@
+use Rattle.std.proofs.Common.{sym}
+use Rattle.activation.proofs.MayStay.{found-itself}
+use Rattle.activation.proofs.paths.on_path.Goals as goal
+
+pub activate_leg-requires-clause-there : goal.activate_leg-requires-clause-there
+activate_leg-requires-clause-there c =
+    found-itself c.args.arrival.lsp c.args.tables.now.legs c.in-Some.leg.now (sym c.in-Some.ensures)

@@ -1,0 +1,87 @@
+//! The steps of an activation carried out over a node's tables and its owner.
+
+ghost use Rattle.std.specs.Prelude.{◌≡◌, [], IfOk, OnErr, OnOk};
+ghost use Rattle.leg_table.specs.Fits.{TablesFitOwner};
+ghost use Rattle.leg_table.specs.LegClaims.{SharesStay};
+ghost use Rattle.activation.specs.Answers.{activate_answer, after_activate, after_busy, after_connect, busy_answer, connect_answer};
+
+use crate::path_errs::busy_change;
+use crate::paths::activate_change;
+use crate::resvs::connect_change;
+use ason_base::{Msg, NodeId, OutOfMemory, Outs};
+use leg_table::NodeTables;
+use leg_table::handling::handle_kept;
+use link_owner::Owner;
+use std::alloc::Global;
+
+/// Takes a Path that activates, at a leg that is Held: the leg is Armed and the Path goes on; at the
+/// egress it is Live and a Resv goes back; where another leg on its label is Armed or Live it stays,
+/// and a PathErr without Path_State_Removed goes back. The owner's claim is armed with the leg. Hands
+/// back what is to be sent, in order. Another Path, and a message of another kind, change nothing.
+/// After want of memory nothing has changed.
+pub fn activate(
+    alloc: Global,
+    tables: &mut NodeTables,
+    owner: &mut Owner,
+    from: NodeId,
+    msg: &Msg,
+) -> Result<Outs, OutOfMemory>
+    requires { TablesFitOwner tables.old owner.old }
+    ensures ok { OnOk result (tables.new ≡ after_activate tables.old from msg.now) }
+    ensures sent { IfOk result (λ outs. outs ≡ (activate_answer tables.old from msg.now).sent) }
+    ensures none { (activate_answer tables.old from msg.now).legs ≡ [] → owner.new ≡ owner.old }
+    ensures fits { TablesFitOwner tables.new owner.new }
+    ensures shares { SharesStay tables.old owner.old tables.new owner.new }
+    ensures err { OnErr result (tables.new ≡ tables.old) }
+    ensures err_owner { OnErr result (owner.new ≡ owner.old) }
+{
+    let change = activate_change(alloc, tables, owner, from, msg)?;
+    handle_kept(alloc, tables, owner, change)
+}
+
+/// Takes a Resv at a leg that is Armed: the leg is Live and the Resv goes back. Hands back what is to
+/// be sent, in order. A Resv at another leg, and a message of another kind, change nothing. After
+/// want of memory nothing has changed.
+pub fn connect(
+    alloc: Global,
+    tables: &mut NodeTables,
+    owner: &mut Owner,
+    from: NodeId,
+    msg: &Msg,
+) -> Result<Outs, OutOfMemory>
+    requires { TablesFitOwner tables.old owner.old }
+    ensures ok { OnOk result (tables.new ≡ after_connect tables.old from msg.now) }
+    ensures sent { IfOk result (λ outs. outs ≡ (connect_answer tables.old from msg.now).sent) }
+    ensures none { (connect_answer tables.old from msg.now).legs ≡ [] → owner.new ≡ owner.old }
+    ensures fits { TablesFitOwner tables.new owner.new }
+    ensures shares { SharesStay tables.old owner.old tables.new owner.new }
+    ensures err { OnErr result (tables.new ≡ tables.old) }
+    ensures err_owner { OnErr result (owner.new ≡ owner.old) }
+{
+    let change = connect_change(alloc, tables, from, msg)?;
+    handle_kept(alloc, tables, owner, change)
+}
+
+/// Takes a PathErr without Path_State_Removed at a leg that is Armed: the leg is Held again, its
+/// claim is disarmed, and the PathErr is passed back unchanged. Hands back what is to be sent, in
+/// order. A PathErr at another leg, one that tells that the state was removed, and a message of
+/// another kind, change nothing. After want of memory nothing has changed.
+pub fn busy(
+    alloc: Global,
+    tables: &mut NodeTables,
+    owner: &mut Owner,
+    from: NodeId,
+    msg: &Msg,
+) -> Result<Outs, OutOfMemory>
+    requires { TablesFitOwner tables.old owner.old }
+    ensures ok { OnOk result (tables.new ≡ after_busy tables.old from msg.now) }
+    ensures sent { IfOk result (λ outs. outs ≡ (busy_answer tables.old from msg.now).sent) }
+    ensures none { (busy_answer tables.old from msg.now).legs ≡ [] → owner.new ≡ owner.old }
+    ensures fits { TablesFitOwner tables.new owner.new }
+    ensures shares { SharesStay tables.old owner.old tables.new owner.new }
+    ensures err { OnErr result (tables.new ≡ tables.old) }
+    ensures err_owner { OnErr result (owner.new ≡ owner.old) }
+{
+    let change = busy_change(alloc, tables, from, msg)?;
+    handle_kept(alloc, tables, owner, change)
+}
