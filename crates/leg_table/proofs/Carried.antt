@@ -78,7 +78,7 @@ pub entered-fit : (g : Leg) (legs : List Leg) (o : List FibreClaims) (t : TakenL
     taken g ≡ Some t →
     MayClaim o legs g t → ClaimsFit (with_leg g legs) (claim_added t.fibre (first_claim g.role t.label g.lsp) o)
 entered-fit g legs o t fit has may =
-    claimed-fit g legs (with_leg g legs) o t fit (entered-with g legs may.fresh) has may.first may.comes_in
+    claimed-fit g legs (with_leg g legs) o t fit (entered-with g legs may.fresh) has may.first may.comes_in may.within
 
 -- The fibres stay
 

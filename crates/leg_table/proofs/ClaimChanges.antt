@@ -1,23 +1,26 @@
 -- The claims and the legs, after a leg gives up its label or takes one.
-use Rattle.std.proofs.Common.{◌≡◌, ℕ, Bool, true, false, cond, not, nat_eq, List, [], ◌∷◌, ◌++◌, refl, sym, ap, subst, ◌∙◌, arith}
-use Rattle.std.specs.Prelude.{◌&&◌, ◌||◌, Option, Some, None, filter}
+use Rattle.std.proofs.Common.{◌≡◌, ◌≤◌, ℕ, Bool, true, false, cond, not, nat_eq, List, [], ◌∷◌, ◌++◌, refl, sym, ap, subst, ◌∙◌, arith}
+use Rattle.std.specs.Prelude.{◌&&◌, ◌||◌, Option, Some, None, filter, is_some}
 use Rattle.std.specs.List.{AllByRecursion, list_any}
 use Rattle.std.proofs.lemmas.List.Folds.{list_any-append}
+use Rattle.ason_base.specs.declared.calls.Phase.TheVariants as phase
+use Rattle.ason_base.specs.declared.calls.Role.{Role}
+use Rattle.ason_base.specs.declared.calls.Role.TheVariants.{Work, Back}
 use Rattle.ason_base.specs.declared.ids.Fibre.{Fibre}
 use Rattle.ason_base.specs.declared.ids.Lsp.{Lsp}
 use Rattle.ason_base.specs.declared.tables.Leg.{Leg}
 use Rattle.ason_base.specs.Lsps.{same_fibre, same_lsp}
 use Rattle.link_owner.specs.Claims.{FibreClaims, freed, is_of_lsp}
-use Rattle.link_owner.specs.Owners.{claim_added, claims_of, comes_in, has_label, label_freed}
+use Rattle.link_owner.specs.Owners.{claim_added, claims_of, comes_in, has_label, label_freed, labels_of}
 use Rattle.link_owner.specs.declared.claims.Claim.{Claim}
 use Rattle.link_owner.specs.declared.claims.ClaimKind.{ClaimKind}
-use Rattle.mesh_rules.specs.Legs.{find_leg, takes}
+use Rattle.mesh_rules.specs.Legs.{find_leg, is_work, reserved, takes}
 use Rattle.mesh_nodes.proofs.Cases.{both_right}
 use Rattle.mesh_nodes.proofs.LegList.{same_lsp-eq, same_lsp-refl}
 use Rattle.leg_table.specs.declared.labels.TakenLabel.{TakenLabel}
-use Rattle.leg_table.specs.LegClaims.{ClaimsFit, IsClaimOfLeg, claim_kind, first_claim, first_kind, kind_here, taken, taken_of}
-use Rattle.leg_table.proofs.OwnerFibres.{claimed-comes, claims-elsewhere, claims-there, same_fibre-eq, same_fibre-refl}
-use Rattle.leg_table.proofs.TakenLabels.{none-takes, taken-takes, takes-taken}
+use Rattle.leg_table.specs.LegClaims.{ClaimsFit, IsClaimOfLeg, WorksAreLive, claim_kind, first_claim, first_kind, kind_here, taken, taken_of}
+use Rattle.leg_table.proofs.OwnerFibres.{claimed-comes, claims-elsewhere, claims-there, labels-kept, same_fibre-eq, same_fibre-refl}
+use Rattle.leg_table.proofs.TakenLabels.{none-takes, taken-some, taken-takes, takes-taken}
 
 -- Lists of claims
 
@@ -97,6 +100,31 @@ pub record Left (l : Lsp) (legs after : List Leg) : Type 0 where
   pub others : (m : Lsp) → same_lsp l m ≡ false → find_leg m after ≡ find_leg m legs
   pub none : (f : Fibre) (x : ℕ) → kind_here f x (find_leg l after) ≡ None
 
+-- a leg that takes a label after stood before
+pub left-old : (l : Lsp) (legs after : List Leg) → Left l legs after → (m : Lsp) (g : Leg) (t : TakenLabel) →
+    find_leg m after ≡ Some g → taken g ≡ Some t → find_leg m legs ≡ Some g
+left-old l legs after left m g t found has = go (same_lsp l m) refl
+  where
+    go : (b : Bool) → same_lsp l m ≡ b → find_leg m legs ≡ Some g
+    go true s =
+        let is : l ≡ m = same_lsp-eq l m s in
+        let none : kind_here t.fibre t.label (find_leg m after) ≡ None =
+        subst (λ k. kind_here t.fibre t.label (find_leg k after) ≡ None) is (left.none t.fibre t.label) in
+        let some : kind_here t.fibre t.label (find_leg m after) ≡ Some (claim_kind g.role g.phase) =
+        rw (found, taken-takes g t has) refl in
+        absurd (cc (none, some))
+    go false s = sym (left.others m s) ∙ found
+
+left-within : (l : Lsp) (legs after : List Leg) (o : List FibreClaims) → ClaimsFit legs o → Left l legs after →
+    (f : Fibre) (x : ℕ) (m : Lsp) (g : Leg) → find_leg m after ≡ Some g → takes f x g ≡ true → x ≤ labels_of f o
+left-within l legs after o fit left f x m g found t =
+    fit.within f x m g (left-old l legs after left m g _ found (takes-taken f x g t)) t
+
+left-live : (l : Lsp) (legs after : List Leg) → WorksAreLive legs → Left l legs after → WorksAreLive after
+left-live l legs after live left m g found some work =
+    let has = taken-some g some in
+    live m g (left-old l legs after left m g has.0 found has.1) some work
+
 -- the leg of the LSP took no label: nothing has to be freed
 pub left-fit : (l : Lsp) (legs after : List Leg) (o : List FibreClaims) → ClaimsFit legs o → Left l legs after →
     ((f : Fibre) (x : ℕ) → kind_here f x (find_leg l legs) ≡ None) → ClaimsFit after o
@@ -104,7 +132,10 @@ left-fit l legs after o fit left bare = record {
   each =
       λ f. all-to (IsClaimOfLeg legs f) (IsClaimOfLeg after f) (claims_of f o)
       (λ c e. kept f c (same_lsp l c.lsp) refl e) (fit.each f);
-  all = λ f x m g found t. fit.all f x m g (there f x m g (same_lsp l m) refl found t) t;
+  all =
+      λ f x m g found t. fit.all f x m g (left-old l legs after left m g _ found (takes-taken f x g t)) t;
+  within = left-within l legs after o fit left;
+  live = left-live l legs after fit.live left;
 }
   where
     kept : (f : Fibre) (c : Claim) (b : Bool) → same_lsp l c.lsp ≡ b → IsClaimOfLeg legs f c → IsClaimOfLeg after f c
@@ -116,17 +147,6 @@ left-fit l legs after o fit left bare = record {
         absurd (cc (none', e))
     kept f c false s e = subst (λ o. kind_here f c.label o ≡ Some c.kind) (sym (left.others c.lsp s)) e
 
-    there : (f : Fibre) (x : ℕ) (m : Lsp) (g : Leg) (b : Bool) → same_lsp l m ≡ b → find_leg m after ≡ Some g →
-        takes f x g ≡ true →
-        find_leg m legs ≡ Some g
-    there f x m g true s found t =
-        let is : l ≡ m = same_lsp-eq l m s in
-        let none : kind_here f x (find_leg m after) ≡ None =
-        subst (λ k. kind_here f x (find_leg k after) ≡ None) is (left.none f x) in
-        let some : kind_here f x (find_leg m after) ≡ Some (claim_kind g.role g.phase) = rw (found, t) refl in
-        absurd (cc (none, some))
-    there f x m g false s found t = sym (left.others m s) ∙ found
-
 -- the label that the leg of the LSP took is freed
 pub freed-fit : (l : Lsp) (legs after : List Leg) (o : List FibreClaims) (k : Leg) (t : TakenLabel) →
     ClaimsFit legs o → Left l legs after →
@@ -134,6 +154,9 @@ pub freed-fit : (l : Lsp) (legs after : List Leg) (o : List FibreClaims) (k : Le
 freed-fit l legs after o k t fit left found has = record {
   each = λ f. go f (same_fibre t.fibre f) refl;
   all = λ f x m g there takes. stays f x m g (same_lsp l m) refl there takes;
+  within =
+      λ f x m g there takes. rw (labels-kept t.fibre f rest o) (left-within l legs after o fit left f x m g there takes);
+  live = left-live l legs after fit.live left;
 }
   where
     before : List Claim
@@ -240,6 +263,15 @@ freed-fit l legs after o k t fit left found has = record {
 
 -- A leg that takes a label: its LSP took none before
 
+-- it has the claim that a leg has at first
+pub reserved-kind : (r : Role) → claim_kind r (reserved r) ≡ first_kind r
+reserved-kind Work = refl
+reserved-kind Back = refl
+
+reserved-live : (r : Role) → is_work r ≡ true → reserved r ≡ phase.Live
+reserved-live Work e = refl
+reserved-live Back e = absurd (cc e)
+
 pub record Entered (g : Leg) (legs after : List Leg) : Type 0 where
   pub others : (m : Lsp) → same_lsp g.lsp m ≡ false → find_leg m after ≡ find_leg m legs
   pub here : find_leg g.lsp after ≡ Some g
@@ -247,11 +279,13 @@ pub record Entered (g : Leg) (legs after : List Leg) : Type 0 where
 
 pub claimed-fit : (g : Leg) (legs after : List Leg) (o : List FibreClaims) (t : TakenLabel) → ClaimsFit legs o →
     Entered g legs after →
-    taken g ≡ Some t → claim_kind g.role g.phase ≡ first_kind g.role → comes_in o t.fibre ≡ true →
+    taken g ≡ Some t → g.phase ≡ reserved g.role → comes_in o t.fibre ≡ true → t.label ≤ labels_of t.fibre o →
     ClaimsFit after (claim_added t.fibre (first_claim g.role t.label g.lsp) o)
-claimed-fit g legs after o t fit entered has first comes = record {
+claimed-fit g legs after o t fit entered has first comes below = record {
   each = λ f. go f (same_fibre t.fibre f) refl;
   all = λ f x m h there takes. claimed f x m h (same_lsp g.lsp m) refl there takes;
+  within = λ f x m h there takes. rw (labels-kept t.fibre f more o) (within f x m h (same_lsp g.lsp m) refl there takes);
+  live = λ m h there some work. live m h (same_lsp g.lsp m) refl there some work;
 }
   where
     c0 : Claim
@@ -266,6 +300,27 @@ claimed-fit g legs after o t fit entered has first comes = record {
     o2 : List FibreClaims
     o2 = claim_added t.fibre c0 o
 
+    its : (m : Lsp) (h : Leg) → same_lsp g.lsp m ≡ true → find_leg m after ≡ Some h → h ≡ g
+    its m h s there =
+        let is : g.lsp ≡ m = same_lsp-eq g.lsp m s in
+        let here : find_leg m after ≡ Some g = subst (λ n. find_leg n after ≡ Some g) is entered.here in
+        cc (there, here)
+
+    within : (f : Fibre) (x : ℕ) (m : Lsp) (h : Leg) (b : Bool) → same_lsp g.lsp m ≡ b → find_leg m after ≡ Some h →
+        takes f x h ≡ true → x ≤ labels_of f o
+    within f x m h true s there takes =
+        let same : record { fibre = f; label = x } ≡ t =
+        cc (takes-taken f x h takes, ap taken (its m h s there), has) in
+        subst (λ (u : TakenLabel). u.label ≤ labels_of u.fibre o) (sym same) below
+    within f x m h false s there takes = fit.within f x m h (sym (entered.others m s) ∙ there) takes
+
+    live : (m : Lsp) (h : Leg) (b : Bool) → same_lsp g.lsp m ≡ b → find_leg m after ≡ Some h →
+        is_some (taken h) ≡ true → is_work h.role ≡ true → h.phase ≡ phase.Live
+    live m h true s there some work =
+        let is = its m h s there in
+        ap (λ k. k.phase) is ∙ first ∙ reserved-live g.role (sym (ap (λ k. is_work k.role) is) ∙ work)
+    live m h false s there some work = fit.live m h (sym (entered.others m s) ∙ there) some work
+
     old : (f : Fibre) (c : Claim) (b : Bool) → same_lsp g.lsp c.lsp ≡ b → IsClaimOfLeg legs f c → IsClaimOfLeg after f c
     old f c true s e =
         let is : g.lsp ≡ c.lsp = same_lsp-eq g.lsp c.lsp s in
@@ -277,7 +332,7 @@ claimed-fit g legs after o t fit entered has first comes = record {
     new : IsClaimOfLeg after t.fibre c0
     new =
         subst (λ o. kind_here t.fibre t.label o ≡ Some (first_kind g.role)) (sym entered.here)
-        (rw (taken-takes g t has) (ap Some first))
+        (rw (taken-takes g t has) (ap (λ p. Some (claim_kind g.role p)) first ∙ ap Some (reserved-kind g.role)))
 
     go : (f : Fibre) (b : Bool) → same_fibre t.fibre f ≡ b →
         AllByRecursion (IsClaimOfLeg after f) (claims_of f o2)
@@ -298,8 +353,7 @@ claimed-fit g legs after o t fit entered has first comes = record {
         has_label o2 f x m ≡ true
     claimed f x m h true s there takes =
         let is : g.lsp ≡ m = same_lsp-eq g.lsp m s in
-        let here : find_leg m after ≡ Some g = subst (λ n. find_leg n after ≡ Some g) is entered.here in
-        let leg : h ≡ g = some (sym there ∙ here) in
+        let leg = its m h s there in
         let same : record { fibre = f; label = x } ≡ t = some (sym (takes-taken f x h takes) ∙ ap taken leg ∙ has) in
         let first : has_label o2 t.fibre t.label g.lsp ≡ true =
         subst (λ cs. list_any (is_of_lsp t.label g.lsp) cs ≡ true) (sym (claims-there t.fibre more o comes))
