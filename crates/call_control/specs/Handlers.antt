@@ -1,6 +1,7 @@
--- What commands, Resvs and PathErrs do to the calls at an ingress of these tables.
-use Rattle.std.specs.Prelude.{◌≡◌, ◌&&◌, ℕ, Bool, true, false, List, Option, Some, None, IsTrue, if◌then◌else◌}
+-- What commands, Resvs, PathErrs and Notifies do to the calls at an ingress of these tables.
+use Rattle.std.specs.Prelude.{◌≡◌, ◌&&◌, ◌||◌, ℕ, Bool, true, false, not, List, Option, Some, None, IsTrue, is_some, if◌then◌else◌}
 use Rattle.ason_base.specs.Lsps.{is_lsp}
+use Rattle.ason_base.specs.declared.calls.Phase.{Phase}
 use Rattle.ason_base.specs.declared.calls.Role.{Role}
 use Rattle.ason_base.specs.declared.calls.Role.TheVariants.{Work, Back}
 use Rattle.ason_base.specs.declared.codes.ErrCode.{ErrCode}
@@ -16,17 +17,19 @@ use Rattle.ason_base.specs.declared.tables.Leg.{Leg}
 use Rattle.ason_base.specs.declared.tables.Out.{Out}
 use Rattle.mesh_rules.specs.declared.arrivals.Arrival.{Arrival}
 use Rattle.mesh_rules.specs.declared.neighbours.Neighbour.{Neighbour}
+use Rattle.mesh_rules.specs.ActivationAnswers.{is_confirmed}
 use Rattle.mesh_rules.specs.Calls.{call_with}
 use Rattle.mesh_rules.specs.Changes.{Answer, changed, nothing}
-use Rattle.mesh_rules.specs.Legs.{find_leg, following, is_asked, is_node, previous}
+use Rattle.mesh_rules.specs.Legs.{find_leg, following, is_armed, is_asked, is_closing, is_in_use, is_node, is_work, previous}
 use Rattle.mesh_rules.specs.Messages.{arrival, on_message}
+use Rattle.mesh_rules.specs.Reports.{reported}
 use Rattle.mesh_rules.specs.Resvs.{is_expected}
 use Rattle.mesh_rules.specs.State.{NodeState}
 use Rattle.leg_table.specs.Fits.{legs_after}
 use Rattle.leg_table.specs.States.{legs_state, local_of, state_of}
 use Rattle.leg_table.specs.Tables.{CallTable, LegTable}
 use Rattle.call_control.specs.Ingress.{IngressFits}
-use Rattle.call_control.specs.Rules.{answered_here, protect_here, refused_as, refused_here, release_here, setup_here}
+use Rattle.call_control.specs.Rules.{answered_here, contended_here, protect_here, refused_as, release_here, reported_here, retry_here, setup_here, turned_here}
 use Rattle.call_control.specs.Searches.{IsRouteFor, sought_by_protect, sought_by_resv}
 
 -- Setups
@@ -66,7 +69,7 @@ abbrev pub command_answer : LegTable → CallTable → Command → Answer
 command_answer t c (Setup n from to protected both via backup) = nothing
 command_answer t c (Release n from) = release_here t c n from
 command_answer t c (Protect n from) = protect_here t c n from
-command_answer t c (Retry n from) = nothing
+command_answer t c (Retry n from) = retry_here t c n from
 command_answer t c (Revert n from) = nothing
 command_answer t c (Fail g) = nothing
 command_answer t c (Repair g) = nothing
@@ -84,7 +87,7 @@ sought_by_command t c (Repair g) = None
 abbrev pub after_command : LegTable → CallTable → Command → NodeState
 after_command t c command = changed (state_of t c) (command_answer t c command)
 
--- A Resv and a PathErr, after what they do to the leg
+-- A Resv, a PathErr and a Notify, after what they do to the leg
 
 -- the role of an LSP that the call names
 abbrev pub named_role : CallRec → Lsp → Role
@@ -98,18 +101,38 @@ refused_by_name code l (Some c) = refused_as code (named_role c l) c
 abbrev pub gone_here : CallTable → Lsp → ErrCode → Answer
 gone_here c l code = refused_by_name code l (call_with l c.calls)
 
+-- the leg is a backup's that is in use: the Resv activated it
+abbrev pub is_activated : Leg → Bool
+is_activated g = not (is_work g.role) && is_in_use g.phase
+
+abbrev pub resv_here : LegTable → CallTable → Option Leg → Answer
+resv_here t c None = nothing
+resv_here t c (Some g) = if is_activated g then turned_here c g else answered_here t c g
+
+abbrev pub busy_here : CallTable → Option Leg → Answer
+busy_here c None = nothing
+busy_here c (Some g) = contended_here c g
+
+abbrev pub err_here : LegTable → CallTable → Lsp → Bool → ErrCode → Answer
+err_here t c l true code = gone_here c l code
+err_here t c l false code = busy_here c (find_leg l t.legs)
+
 -- what is done at these tables; a message of another kind does nothing
 abbrev pub answer_here : LegTable → CallTable → Msg → Answer
 answer_here t c (Path l e k route set up r) = nothing
-answer_here t c (Resv l e k x) = answered_here t c l
+answer_here t c (Resv l e k x) = resv_here t c (find_leg l t.legs)
 answer_here t c (PathTear l e k) = nothing
-answer_here t c (PathErr l e at gone code) = gone_here c l code
-answer_here t c (Notify l e at k code) = nothing
+answer_here t c (PathErr l e at gone code) = err_here t c l gone code
+answer_here t c (Notify l e at k code) = reported_here t c (Notify l e at k code)
 
 -- the leg beside whose LSP the message leads to a backup
+abbrev pub sought_at : CallTable → Option Leg → Option Leg
+sought_at c None = None
+sought_at c (Some g) = sought_by_resv c g
+
 abbrev pub sought_by_answer : LegTable → CallTable → Msg → Option Leg
 sought_by_answer t c (Path l e k route set up r) = None
-sought_by_answer t c (Resv l e k x) = sought_by_resv t c l
+sought_by_answer t c (Resv l e k x) = sought_at c (find_leg l t.legs)
 sought_by_answer t c (PathTear l e k) = None
 sought_by_answer t c (PathErr l e at gone code) = None
 sought_by_answer t c (Notify l e at k code) = None
@@ -120,15 +143,26 @@ abbrev pub begins_at : Option Neighbour → Bool
 begins_at None = true
 begins_at (Some h) = false
 
--- the leg takes the Resv, and its LSP begins here
-abbrev pub connects_leg : Arrival → ℕ → Option Leg → Bool
-connects_leg a x None = false
-connects_leg a x (Some g) = is_expected a x g && begins_at (previous g)
+-- the leg gets its labels by the Resv, or is activated by it, and its LSP begins here
+abbrev pub takes_resv : Arrival → ℕ → Option Leg → Bool
+takes_resv a x None = false
+takes_resv a x (Some g) = begins_at (previous g) && (is_expected a x g || is_confirmed a x g)
 
--- the PathErr takes the Asked leg away, and its LSP begins here
-abbrev pub refuses_leg : NodeId → Bool → Option Leg → Bool
-refuses_leg u gone None = false
-refuses_leg u gone (Some g) = (gone && is_node (following g) u) && (is_asked g.phase && begins_at (previous g))
+-- the PathErr takes the Asked leg away, or makes the Armed one Held
+abbrev pub is_let_go : Bool → Phase → Bool
+is_let_go true q = is_asked q
+is_let_go false q = is_armed q
+
+-- the leg takes the PathErr, and its LSP begins here
+abbrev pub takes_err : NodeId → Bool → Option Leg → Bool
+takes_err u gone None = false
+takes_err u gone (Some g) = begins_at (previous g) && (is_node (following g) u && is_let_go gone g.phase)
+
+-- the leg takes the Notify, and its LSP begins here
+abbrev pub takes_notify : NodeId → ErrCode → Option Leg → Bool
+takes_notify u code None = false
+takes_notify u code (Some g) =
+    begins_at (previous g) && ((not (is_closing g.phase) && is_node (following g) u) && is_some (reported code))
 
 -- what the rule of a message does to the legs alone: it's as at a node without calls
 abbrev pub leg_answer : LegTable → NodeId → Msg → Answer
@@ -139,46 +173,40 @@ pub record IsCarriedOut (before : LegTable) (is_for : Bool) (a : Answer) (t : Le
   pub applies : IsTrue is_for
   pub after : t ≡ legs_after before a
 
--- The rule of a Resv or a PathErr, carried out on the leg at the ingress of its LSP, made these tables of those before.
--- A message of another kind left them as they were.
+-- The rule of a Resv, a PathErr or a Notify, carried out on the leg at the ingress of its LSP, made these tables of
+-- those before. A message of another kind left them as they were.
 abbrev pub IsAfterLeg : LegTable → NodeId → Msg → LegTable → Type 0
 IsAfterLeg before u (Path l e k route set up r) t = t ≡ before
 IsAfterLeg before u (Resv l e k x) t =
-    IsCarriedOut before (connects_leg (arrival l e u k) x (find_leg l before.legs))
+    IsCarriedOut before (takes_resv (arrival l e u k) x (find_leg l before.legs))
     (leg_answer before u (Resv l e k x)) t
 IsAfterLeg before u (PathTear l e k) t = t ≡ before
 IsAfterLeg before u (PathErr l e at gone code) t =
-    IsCarriedOut before (refuses_leg u gone (find_leg l before.legs))
+    IsCarriedOut before (takes_err u gone (find_leg l before.legs))
     (leg_answer before u (PathErr l e at gone code)) t
-IsAfterLeg before u (Notify l e at k code) t = t ≡ before
+IsAfterLeg before u (Notify l e at k code) t =
+    IsCarriedOut before (takes_notify u code (find_leg l before.legs)) nothing t
 
 -- before the rule of the message was carried out on the leg, the ingress had these tables, and they fitted
 pub record WereBefore (t : LegTable) (c : CallTable) (u : NodeId) (m : Msg) (before : LegTable) : Type 0 where
   pub leg : IsAfterLeg before u m t
   pub fits : IngressFits before c
 
--- what becomes of the call of the message's LSP, by its rule at the tables before
-abbrev pub call_answer : LegTable → CallTable → Msg → Answer
-call_answer before c (Path l e k route set up r) = nothing
-call_answer before c (Resv l e k x) = answered_here before c l
-call_answer before c (PathTear l e k) = nothing
-call_answer before c (PathErr l e at gone code) = refused_here before c l code
-call_answer before c (Notify l e at k code) = nothing
-
--- the whole rule of a Resv or a PathErr, of the leg and of its call
+-- the whole rule of a Resv, a PathErr or a Notify, of the leg and of its call
 abbrev pub whole_answer : LegTable → CallTable → NodeId → Msg → Answer
 whole_answer before c u (Path l e k route set up r) = nothing
 whole_answer before c u (Resv l e k x) = on_message (local_of before) (state_of before c) u (Resv l e k x)
 whole_answer before c u (PathTear l e k) = nothing
 whole_answer before c u (PathErr l e at gone code) =
     on_message (local_of before) (state_of before c) u (PathErr l e at gone code)
-whole_answer before c u (Notify l e at k code) = nothing
+whole_answer before c u (Notify l e at k code) =
+    on_message (local_of before) (state_of before c) u (Notify l e at k code)
 
 -- this is kept after the whole rule, at whatever tables were before
 abbrev pub IsKeptAfter : LegTable → CallTable → NodeId → Msg → NodeState → Type 0
 IsKeptAfter t c u m s = (before : LegTable) → WereBefore t c u m before →
     s ≡ changed (state_of before c) (whole_answer before c u m)
 
--- these are the messages that the call's part of the rule sends
+-- these are the messages that the whole rule sends: what it does to the leg sends none
 abbrev pub AreSentFor : LegTable → CallTable → NodeId → Msg → List Out → Type 0
-AreSentFor t c u m outs = (before : LegTable) → WereBefore t c u m before → outs ≡ (call_answer before c m).sent
+AreSentFor t c u m outs = (before : LegTable) → WereBefore t c u m before → outs ≡ (whole_answer before c u m).sent

@@ -1,12 +1,12 @@
 -- What is asked of the tables and the calls of an ingress.
-use Rattle.std.specs.Prelude.{◌≡◌, ◌<◌, ℕ, List, Option, Some, None, IfSome}
+use Rattle.std.specs.Prelude.{◌≡◌, ◌<◌, ℕ, true, List, Option, Some, None, IfSome}
 use Rattle.std.specs.List.{AllByRecursion}
 use Rattle.ason_base.specs.declared.calls.Role.{Role}
 use Rattle.ason_base.specs.declared.calls.Role.TheVariants.{Work, Back}
 use Rattle.ason_base.specs.declared.ids.Lsp.{Lsp}
 use Rattle.ason_base.specs.declared.tables.CallRec.{CallRec}
 use Rattle.ason_base.specs.declared.tables.Leg.{Leg}
-use Rattle.mesh_rules.specs.Legs.{find_leg}
+use Rattle.mesh_rules.specs.Legs.{find_leg, is_armed}
 use Rattle.mesh_rules.specs.LocalNodes.{LocalNode}
 use Rattle.mesh_rules.specs.State.{NodeState}
 use Rattle.mesh_nodes.specs.Kept.{NodeFits}
@@ -36,11 +36,19 @@ pub record NamesByRole (n : ℕ) (next : ℕ) (legs : List Leg) (c : CallRec) : 
 abbrev pub AllNameByRole : LocalNode → NodeState → Type 0
 AllNameByRole p s = AllByRecursion (NamesByRole p.id.0 s.lsp s.legs) s.calls
 
+-- Legs
+
+-- a leg that begins at node n and is being activated is a backup's
+abbrev pub IsArmedAsBackup : ℕ → Leg → Type 0
+IsArmedAsBackup n g = g.lsp.ingress.0 ≡ n → is_armed g.phase ≡ true → g.role ≡ Back
+
 -- An ingress
 
--- its links, legs, calls and numbers fit, each call names its LSPs by their roles, and the rows are those that it knows
+-- its links, legs, calls and numbers fit, each call names its LSPs by their roles, backups alone are activated, and the
+-- rows are those that it knows
 pub record IngressFits (t : LegTable) (c : CallTable) : Type 0 where
   pub links : LocalNodeFits (local_of t)
   pub kept : NodeFits (local_of t) (state_of t c)
   pub names : AllNameByRole (local_of t) (state_of t c)
+  pub armed : AllByRecursion (IsArmedAsBackup t.node.id.0) t.legs
   pub rows : RowsAreKnown t

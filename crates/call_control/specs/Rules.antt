@@ -1,24 +1,27 @@
 -- The rules of calls at an ingress of these tables.
-use Rattle.std.specs.Prelude.{[], ◌∷◌, List, Option, Some, None, if◌then◌else◌}
+use Rattle.std.specs.Prelude.{[], ◌∷◌, Bool, List, Option, Some, None, if◌then◌else◌}
 use Rattle.ason_base.specs.Labels.{up_to}
 use Rattle.ason_base.specs.declared.calls.Role.{Role}
 use Rattle.ason_base.specs.declared.codes.ErrCode.{ErrCode}
 use Rattle.ason_base.specs.declared.ids.CallNo.{CallNo}
+use Rattle.ason_base.specs.declared.ids.LinkId.{LinkId}
 use Rattle.ason_base.specs.declared.ids.Lsp.{Lsp}
 use Rattle.ason_base.specs.declared.ids.NodeId.{NodeId}
 use Rattle.ason_base.specs.declared.messages.Msg.{Msg}
-use Rattle.ason_base.specs.declared.messages.Msg.TheVariants.{Path}
+use Rattle.ason_base.specs.declared.messages.Msg.TheVariants.{Path, Resv, PathTear, PathErr, Notify}
 use Rattle.ason_base.specs.declared.network.LinkSpec.{LinkSpec}
 use Rattle.ason_base.specs.declared.steps.Step.{Step}
 use Rattle.ason_base.specs.declared.tables.CallRec.{CallRec}
 use Rattle.ason_base.specs.declared.tables.Leg.{Leg}
 use Rattle.mesh_rules.specs.Calls.{call_with}
-use Rattle.mesh_rules.specs.CallSteps.{backup_refused, call_answered, call_refused, work_refused}
+use Rattle.mesh_rules.specs.CallSteps.{backup_refused, call_answered, call_contended, call_refused, call_turned, work_refused}
 use Rattle.mesh_rules.specs.Changes.{Answer, nothing, puts}
 use Rattle.mesh_rules.specs.FirstLegs.{NewLsp, first_leg, first_link, first_path}
 use Rattle.mesh_rules.specs.Legs.{find_leg, is_work}
 use Rattle.mesh_rules.specs.Protects.{on_protect}
 use Rattle.mesh_rules.specs.Releases.{on_release}
+use Rattle.mesh_rules.specs.Reports.{report_here, reported}
+use Rattle.mesh_rules.specs.Retries.{on_retry}
 use Rattle.mesh_rules.specs.Setups.{SetupRequest, admitted_setup, begins, new_call, on_setup, over_first}
 use Rattle.leg_table.specs.States.{local_of, state_of}
 use Rattle.leg_table.specs.Tables.{CallTable, LegTable}
@@ -59,15 +62,24 @@ begins_here t c w out route = begins (local_of t) (state_of t c) w out route
 abbrev pub protect_here : LegTable → CallTable → CallNo → NodeId → Answer
 protect_here t c n from = on_protect (local_of t) (state_of t c) n from
 
+-- Retry
+
+abbrev pub retry_here : LegTable → CallTable → CallNo → NodeId → Answer
+retry_here t c n from = on_retry (local_of t) (state_of t c) n from
+
 -- After a Resv and a PathErr
 
-abbrev pub answered_for : LegTable → CallTable → Option CallRec → Option Leg → Answer
-answered_for t c call None = nothing
-answered_for t c call (Some g) = call_answered (local_of t) (state_of t c) g call
+-- the call of a leg that has its labels now
+abbrev pub answered_here : LegTable → CallTable → Leg → Answer
+answered_here t c g = call_answered (local_of t) (state_of t c) g (call_with g.lsp c.calls)
 
--- the call of an LSP that has its labels
-abbrev pub answered_here : LegTable → CallTable → Lsp → Answer
-answered_here t c l = answered_for t c (call_with l c.calls) (find_leg l t.legs)
+-- the call of a backup that is Live now, from end to end
+abbrev pub turned_here : CallTable → Leg → Answer
+turned_here c b = call_turned b (call_with b.lsp c.calls)
+
+-- the call of a backup that is Held again, since a label of it is in use
+abbrev pub contended_here : CallTable → Leg → Answer
+contended_here c b = call_contended b (call_with b.lsp c.calls)
 
 -- a call whose LSP of this role is refused
 abbrev pub refused_as : ErrCode → Role → CallRec → Answer
@@ -80,6 +92,21 @@ refused_for code call (Some g) = call_refused code g call
 -- the call of an LSP that is refused
 abbrev pub refused_here : LegTable → CallTable → Lsp → ErrCode → Answer
 refused_here t c l code = refused_for code (call_with l c.calls) (find_leg l t.legs)
+
+-- After a Notify
+
+abbrev pub told_here : LegTable → CallTable → NodeId → LinkId → Option Leg → Option Bool → Answer
+told_here t c n k None down = nothing
+told_here t c n k (Some g) None = nothing
+told_here t c n k (Some g) (Some down) = report_here (local_of t) (state_of t c) g n k down
+
+-- what the Notify tells the call of its LSP; a message of another kind does nothing
+abbrev pub reported_here : LegTable → CallTable → Msg → Answer
+reported_here t c (Path l e k route set up r) = nothing
+reported_here t c (Resv l e k x) = nothing
+reported_here t c (PathTear l e k) = nothing
+reported_here t c (PathErr l e at gone code) = nothing
+reported_here t c (Notify l e at k code) = told_here t c at k (find_leg l t.legs) (reported code)
 
 -- Release
 

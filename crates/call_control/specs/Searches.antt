@@ -2,7 +2,6 @@
 use Rattle.std.specs.Prelude.{◌≡◌, ◌==◌, ◌&&◌, Bool, true, not, List, Option, Some, None, IfSome, is_some, if◌then◌else◌}
 use Rattle.ason_base.specs.Risks.{unknown_link}
 use Rattle.ason_base.specs.declared.ids.CallNo.{CallNo}
-use Rattle.ason_base.specs.declared.ids.Lsp.{Lsp}
 use Rattle.ason_base.specs.declared.ids.NodeId.{NodeId}
 use Rattle.ason_base.specs.declared.network.TeRow.{TeRow}
 use Rattle.ason_base.specs.declared.steps.Step.{Step}
@@ -11,7 +10,7 @@ use Rattle.ason_base.specs.declared.tables.Leg.{Leg}
 use Rattle.mesh_rules.specs.Calls.{call_with, find_call, is_asking, is_bare}
 use Rattle.mesh_rules.specs.KnownRows.{known_rows}
 use Rattle.mesh_rules.specs.LeastRoutes.{Trip, least_backup, least_trip}
-use Rattle.mesh_rules.specs.Legs.{find_leg, is_work, leg_of}
+use Rattle.mesh_rules.specs.Legs.{is_work, leg_of}
 use Rattle.mesh_rules.specs.Pairs.{route_from}
 use Rattle.mesh_rules.specs.Setups.{SetupRequest, is_order_here}
 use Rattle.leg_table.specs.States.{legs_state, local_of}
@@ -60,14 +59,13 @@ is_paired_by_resv c g = is_work g.role && (is_asking c.state && c.protected)
 abbrev pub has_no_backup : CallRec → Bool
 has_no_backup c = not (is_some c.backup)
 
--- the leg beside whose LSP a backup is searched for once this LSP has its labels, if that is so
-abbrev pub sought_of : Option CallRec → Option Leg → Option Leg
-sought_of None o = None
-sought_of (Some c) None = None
-sought_of (Some c) (Some g) = if is_paired_by_resv c g && has_no_backup c then Some g else None
+-- the leg, which has its labels now, if a backup is searched for beside its LSP
+abbrev pub sought_of : Option CallRec → Leg → Option Leg
+sought_of None g = None
+sought_of (Some c) g = if is_paired_by_resv c g && has_no_backup c then Some g else None
 
-abbrev pub sought_by_resv : LegTable → CallTable → Lsp → Option Leg
-sought_by_resv t c l = sought_of (call_with l c.calls) (find_leg l t.legs)
+abbrev pub sought_by_resv : CallTable → Leg → Option Leg
+sought_by_resv c g = sought_of (call_with g.lsp c.calls) g
 
 -- a call that stands without a backup, where the order comes from this ingress
 abbrev pub unprotected_of : LegTable → NodeId → Option CallRec → Option CallRec

@@ -1,9 +1,9 @@
 //! The states of a call.
 
-ghost use Rattle.std.specs.Prelude.{◌≡◌, IfOk};
-ghost use Rattle.mesh_rules.specs.Calls.{bare, blocked, guarded, is_asking, is_bare, pairing, unbacked};
+ghost use Rattle.std.specs.Prelude.{◌≡◌};
+ghost use Rattle.mesh_rules.specs.Calls.{bare, blocked, guarded, is_asking, is_bare, is_stuck, is_turning, pairing, stuck, turned, turning, unbacked};
 
-use ason_base::{CallRec, CallState, Cause, Copied, Fibres, Lsp, OutOfMemory};
+use ason_base::{CallRec, CallState, Cause, Fibres, Lsp};
 use std::alloc::Global;
 
 pub(crate) fn is_asking(state: CallState) -> bool
@@ -18,63 +18,116 @@ pub(crate) fn is_bare(state: CallState) -> bool
     matches!(state, CallState::Bare)
 }
 
-/// The call, without its working LSP and with the cause of that.
-pub(crate) fn blocked(alloc: Global, call: &CallRec, cause: Cause) -> Result<CallRec, OutOfMemory>
-    ensures { IfOk result (λ c. c ≡ blocked call.now cause) }
+pub(crate) fn is_turning(state: CallState) -> bool
+    ensures { result ≡ is_turning state }
 {
-    let mut refused = call.copy(alloc)?;
-    refused.state = CallState::Blocked;
-    refused.work = None;
-    refused.work_reports = Fibres::new(alloc);
-    refused.cause = cause;
-    refused.ticks = 0;
-    Ok(refused)
+    matches!(state, CallState::Turning)
+}
+
+pub(crate) fn is_stuck(state: CallState) -> bool
+    ensures { result ≡ is_stuck state }
+{
+    matches!(state, CallState::Stuck)
+}
+
+/// The call, without its working LSP and with the cause of that.
+pub(crate) fn blocked(alloc: Global, call: CallRec, cause: Cause) -> CallRec
+    ensures { result ≡ blocked call cause }
+{
+    CallRec {
+        state: CallState::Blocked,
+        work: None,
+        work_reports: Fibres::new(alloc),
+        cause,
+        ticks: 0,
+        ..call
+    }
 }
 
 /// The call, whose working LSP stands, without a backup.
-pub(crate) fn bare(alloc: Global, call: &CallRec) -> Result<CallRec, OutOfMemory>
-    ensures { IfOk result (λ c. c ≡ bare call.now) }
+pub(crate) fn bare(call: CallRec) -> CallRec
+    ensures { result ≡ bare call }
 {
-    let mut stands = call.copy(alloc)?;
-    stands.state = CallState::Bare;
-    stands.cause = Cause::Unset;
-    stands.ticks = 0;
-    Ok(stands)
+    CallRec {
+        state: CallState::Bare,
+        cause: Cause::Unset,
+        ticks: 0,
+        ..call
+    }
 }
 
 /// The call, which got no backup for this cause.
-pub(crate) fn unbacked(alloc: Global, call: &CallRec, cause: Cause) -> Result<CallRec, OutOfMemory>
-    ensures { IfOk result (λ c. c ≡ unbacked call.now cause) }
+pub(crate) fn unbacked(alloc: Global, call: CallRec, cause: Cause) -> CallRec
+    ensures { result ≡ unbacked call cause }
 {
-    let mut stands = call.copy(alloc)?;
-    stands.state = CallState::Bare;
-    stands.back = None;
-    stands.back_reports = Fibres::new(alloc);
-    stands.cause = cause;
-    stands.ticks = 0;
-    Ok(stands)
+    CallRec {
+        state: CallState::Bare,
+        back: None,
+        back_reports: Fibres::new(alloc),
+        cause,
+        ticks: 0,
+        ..call
+    }
 }
 
 /// The call, whose backup is this LSP and is asked for.
-pub(crate) fn pairing(alloc: Global, call: &CallRec, back: Lsp) -> Result<CallRec, OutOfMemory>
-    ensures { IfOk result (λ c. c ≡ pairing call.now back) }
+pub(crate) fn pairing(alloc: Global, call: CallRec, back: Lsp) -> CallRec
+    ensures { result ≡ pairing call back }
 {
-    let mut paired = call.copy(alloc)?;
-    paired.state = CallState::Pairing;
-    paired.back = Some(back);
-    paired.back_reports = Fibres::new(alloc);
-    paired.cause = Cause::Unset;
-    paired.ticks = 0;
-    Ok(paired)
+    CallRec {
+        state: CallState::Pairing,
+        back: Some(back),
+        back_reports: Fibres::new(alloc),
+        cause: Cause::Unset,
+        ticks: 0,
+        ..call
+    }
 }
 
 /// The call, whose backup is reserved.
-pub(crate) fn guarded(alloc: Global, call: &CallRec) -> Result<CallRec, OutOfMemory>
-    ensures { IfOk result (λ c. c ≡ guarded call.now) }
+pub(crate) fn guarded(call: CallRec) -> CallRec
+    ensures { result ≡ guarded call }
 {
-    let mut guarded = call.copy(alloc)?;
-    guarded.state = CallState::Guarded;
-    guarded.cause = Cause::Unset;
-    guarded.ticks = 0;
-    Ok(guarded)
+    CallRec {
+        state: CallState::Guarded,
+        cause: Cause::Unset,
+        ticks: 0,
+        ..call
+    }
+}
+
+/// The call, whose backup is being activated.
+pub(crate) fn turning(call: CallRec) -> CallRec
+    ensures { result ≡ turning call }
+{
+    CallRec {
+        state: CallState::Turning,
+        cause: Cause::Unset,
+        ticks: 0,
+        ..call
+    }
+}
+
+/// The call, which its backup carries.
+pub(crate) fn turned(call: CallRec) -> CallRec
+    ensures { result ≡ turned call }
+{
+    CallRec {
+        state: CallState::Turned,
+        cause: Cause::Unset,
+        ticks: 0,
+        ..call
+    }
+}
+
+/// The call, whose backup can't be activated for this cause.
+pub(crate) fn stuck(call: CallRec, cause: Cause) -> CallRec
+    ensures { result ≡ stuck call cause }
+{
+    CallRec {
+        state: CallState::Stuck,
+        cause,
+        ticks: 0,
+        ..call
+    }
 }

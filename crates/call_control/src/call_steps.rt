@@ -6,12 +6,16 @@ ghost use Rattle.mesh_rules.specs.Changes.{followed_by};
 ghost use Rattle.mesh_nodes.specs.LocalNodes.{LocalNodeFits};
 ghost use Rattle.leg_table.specs.States.{local_of};
 ghost use Rattle.call_control.specs.Handlers.{gone_here, named_role};
-ghost use Rattle.call_control.specs.Rules.{answered_here, refused_as, refused_here};
+ghost use Rattle.call_control.specs.Rules.{answered_here, contended_here, refused_as, refused_here, turned_here};
 ghost use Rattle.call_control.specs.Searches.{IsBackupFor, RowsAreKnown, has_no_backup, is_paired_by_resv, sought_by_resv};
 
-use crate::call_states::{bare, blocked, guarded, is_asking};
+use crate::call_states::{bare, blocked, guarded, is_asking, is_turning, stuck, turned};
 use crate::pairs::{PairRequest, leave_bare, pair};
-use ason_base::{CallRec, CallState, Cause, ErrCode, Leg, Lsp, OutOfMemory, Role, Steps};
+use crate::turns::decide;
+use ason_base::codes::BUSY;
+use ason_base::{
+    CallRec, CallState, Cause, Copied, ErrCode, Leg, Lsp, OutOfMemory, Role, Steps,
+};
 use leg_table::one_leg::is_work;
 use leg_table::{Calls, Change, NodeTables};
 use std::alloc::Global;
@@ -31,36 +35,38 @@ pub(crate) fn has_no_backup(call: &CallRec) -> bool
     call.backup.is_none()
 }
 
-/// The leg beside whose LSP a backup route is to be searched for once this LSP, which begins here,
-/// has its labels: that of a protected call that was asked for and was given no backup route.
-pub fn sought_by_resv<'a>(tables: &'a NodeTables, calls: &Calls, lsp: Lsp) -> Option<&'a Leg>
-    ensures { option_copied result ≡ sought_by_resv tables.now calls.now lsp }
+/// The leg beside whose LSP a backup route is to be searched for where this leg, which begins here,
+/// has its labels now: itself, of a protected call that was asked for and was given no backup
+/// route.
+pub fn sought_by_resv<'a>(calls: &Calls, leg: &'a Leg) -> Option<&'a Leg>
+    ensures { option_copied result ≡ sought_by_resv calls.now leg.now }
 {
-    match (calls.with_lsp(lsp), tables.get(&lsp)) {
-        (Some(call), Some(leg)) if is_paired_by_resv(call, leg) && has_no_backup(call) => Some(leg),
+    match calls.with_lsp(leg.lsp) {
+        Some(call) if is_paired_by_resv(call, leg) && has_no_backup(call) => Some(leg),
         _ => None,
     }
 }
 
-/// What becomes of the call of this LSP, which begins here and has its labels now: a call that was
+/// What becomes of the call of this leg, which begins here and has its labels now: a call that was
 /// asked for stands, and a backup is asked for if it is to be protected; a call whose backup was
-/// asked for is guarded. The backup route is the least one that is found where one is sought.
+/// asked for is guarded, and may turn at once. The backup route is the least one that is found
+/// where one is sought.
 pub fn answer_resv(
     alloc: Global,
     change: &mut Change,
     tables: &NodeTables,
     calls: &Calls,
-    lsp: Lsp,
+    leg: &Leg,
     backup: Option<&Steps>,
 ) -> Result<(), OutOfMemory>
     requires links { LocalNodeFits (local_of tables.now) }
     requires rows { RowsAreKnown tables.now }
     requires backup { IsBackupFor tables.now
-        (sought_by_resv tables.now calls.now lsp) (option_copied backup) }
+        (sought_by_resv calls.now leg.now) (option_copied backup) }
     ensures { OnOk result
-        (change.new ≡ followed_by change.old (answered_here tables.now calls.now lsp)) }
+        (change.new ≡ followed_by change.old (answered_here tables.now calls.now leg.now)) }
 {
-    let (Some(call), Some(leg)) = (calls.with_lsp(lsp), tables.get(&lsp)) else {
+    let Some(call) = calls.with_lsp(leg.lsp) else {
         return Ok(());
     };
     if is_paired_by_resv(call, leg) {
@@ -72,13 +78,53 @@ pub fn answer_resv(
         return pair(alloc, change, tables, calls, &request);
     }
     match (leg.role, call.state) {
-        (Role::Work, CallState::Asking) => change.put_call(bare(alloc, call)?),
-        (Role::Back, CallState::Pairing) => change.put_call(guarded(alloc, call)?),
+        (Role::Work, CallState::Asking) => change.put_call(bare(call.copy(alloc)?)),
+        (Role::Back, CallState::Pairing) => {
+            decide(alloc, change, guarded(call.copy(alloc)?), Some(leg))
+        }
+        _ => Ok(()),
+    }
+}
+
+/// What becomes of the call of this leg, which begins here and is Live now: a call that was turning
+/// is turned.
+pub fn answer_confirmed(
+    alloc: Global,
+    change: &mut Change,
+    calls: &Calls,
+    leg: &Leg,
+) -> Result<(), OutOfMemory>
+    ensures { OnOk result (change.new ≡ followed_by change.old (turned_here calls.now leg.now)) }
+{
+    match calls.with_lsp(leg.lsp) {
+        Some(call) if is_turning(call.state) => {
+            decide(alloc, change, turned(call.copy(alloc)?), Some(leg))
+        }
         _ => Ok(()),
     }
 }
 
 // A PathErr
+
+/// What becomes of the call of this leg, which begins here and is Held again, since a label of its
+/// LSP is in use: a call that was turning is stuck.
+pub fn answer_busy(
+    alloc: Global,
+    change: &mut Change,
+    calls: &Calls,
+    leg: &Leg,
+) -> Result<(), OutOfMemory>
+    ensures { OnOk result
+        (change.new ≡ followed_by change.old (contended_here calls.now leg.now)) }
+{
+    match calls.with_lsp(leg.lsp) {
+        Some(call) if is_turning(call.state) => {
+            let call = stuck(call.copy(alloc)?, Cause::Code(BUSY));
+            decide(alloc, change, call, Some(leg))
+        }
+        _ => Ok(()),
+    }
+}
 
 // The call's LSP of this role is refused.
 fn refuse_as(
@@ -93,7 +139,9 @@ fn refuse_as(
 {
     let cause = Cause::Code(code);
     match (role, call.state) {
-        (Role::Work, CallState::Asking) => change.put_call(blocked(alloc, call, cause)?),
+        (Role::Work, CallState::Asking) => {
+            change.put_call(blocked(alloc, call.copy(alloc)?, cause))
+        },
         (Role::Back, CallState::Pairing) => leave_bare(alloc, change, call, cause),
         _ => Ok(()),
     }

@@ -1,20 +1,24 @@
-//! Commands, Resvs and PathErrs at an ingress, carried out over its tables and its calls.
+//! Commands, Resvs, PathErrs and Notifies at an ingress, carried out over its tables and its calls.
 
 ghost use Rattle.std.specs.Prelude.{◌≡◌, IfOk, OnErr, OnOk};
 ghost use Rattle.std.specs.Option.{option_copied};
+ghost use Rattle.mesh_rules.specs.Changes.{followed_by};
+ghost use Rattle.mesh_rules.specs.Legs.{find_leg};
 ghost use Rattle.mesh_nodes.specs.LocalNodes.{LocalNodeFits};
 ghost use Rattle.leg_table.specs.LegClaims.{StaysOfOneNode};
 ghost use Rattle.leg_table.specs.States.{local_of, state_of};
 ghost use Rattle.leg_table.specs.Tables.{LegTable};
-ghost use Rattle.call_control.specs.Handlers.{AreSentFor, IsKeptAfter, IsRouteOf, WereBefore, after_command, after_setup, answer_here, command_answer, setup_answer, sought_by_answer, sought_by_command};
+ghost use Rattle.call_control.specs.Handlers.{AreSentFor, IsKeptAfter, IsRouteOf, WereBefore, after_command, after_setup, answer_here, command_answer, is_activated, resv_here, setup_answer, sought_at, sought_by_answer, sought_by_command};
 ghost use Rattle.call_control.specs.Ingress.{IngressFits};
 ghost use Rattle.call_control.specs.Searches.{IsBackupFor, RowsAreKnown};
 
-use crate::call_steps::{answer_resv, refuse_gone};
+use crate::call_steps::{answer_busy, answer_confirmed, answer_resv, refuse_gone, sought_by_resv};
 use crate::protects::protect;
 use crate::releases::release;
+use crate::reports::answer_report;
+use crate::retries::retry;
 use crate::setups::{SetupRequest, set_up};
-use ason_base::{Command, Msg, NodeId, OutOfMemory, Outs, Steps};
+use ason_base::{Command, Leg, Lsp, Msg, NodeId, OutOfMemory, Outs, Phase, Role, Steps};
 use leg_table::handling::handle_calls;
 use leg_table::{Calls, Change, NodeTables};
 use std::alloc::Global;
@@ -107,18 +111,18 @@ fn command_change(
     match command {
         Command::Release { call, from } => release(alloc, tables, calls, *call, *from),
         Command::Protect { call, from } => protect(alloc, tables, calls, *call, *from, backup),
+        Command::Retry { call, from } => retry(alloc, tables, calls, *call, *from),
         Command::Setup { .. }
-        | Command::Retry { .. }
         | Command::Revert { .. }
         | Command::Fail { .. }
         | Command::Repair { .. } => Ok(Change::nothing(alloc)),
     }
 }
 
-/// Takes the order to release a call, whose LSPs are torn, or to protect one: a backup is asked
-/// for, over the route that was given, else over the least one, which is handed in. Hands back
-/// what is to be sent, in order. Another command changes nothing. After want of memory nothing has
-/// changed.
+/// Takes the order to release a call, whose LSPs are torn, to protect one (a backup is asked for,
+/// over the route that was given, else over the least one, which is handed in), or to try again to
+/// turn one that is stuck. Hands back what is to be sent, in order. Another command changes
+/// nothing. After want of memory nothing has changed.
 pub fn command(
     alloc: Global,
     tables: &mut NodeTables,
@@ -145,6 +149,36 @@ pub fn command(
 
 // Messages
 
+// Whether the leg is a backup's that is in use.
+fn is_activated(leg: &Leg) -> bool
+    ensures { result ≡ is_activated leg.now }
+{
+    leg.role == Role::Back && matches!(leg.phase, Phase::Armed | Phase::Live)
+}
+
+// The call of an LSP whose leg took a Resv.
+fn follow_resv(
+    alloc: Global,
+    change: &mut Change,
+    tables: &NodeTables,
+    calls: &Calls,
+    lsp: Lsp,
+    backup: Option<&Steps>,
+) -> Result<(), OutOfMemory>
+    requires links { LocalNodeFits (local_of tables.now) }
+    requires rows { RowsAreKnown tables.now }
+    requires backup { IsBackupFor tables.now
+        (sought_at calls.now (find_leg lsp tables.now.legs)) (option_copied backup) }
+    ensures { OnOk result (change.new ≡ followed_by change.old
+        (resv_here tables.now calls.now (find_leg lsp tables.now.legs))) }
+{
+    match tables.get(&lsp) {
+        None => Ok(()),
+        Some(leg) if is_activated(leg) => answer_confirmed(alloc, change, calls, leg),
+        Some(leg) => answer_resv(alloc, change, tables, calls, leg, backup),
+    }
+}
+
 fn answer_change(
     alloc: Global,
     tables: &NodeTables,
@@ -161,20 +195,39 @@ fn answer_change(
     let mut change = Change::nothing(alloc);
     match msg {
         Msg::Resv { lsp, .. } => {
-            answer_resv(alloc, &mut change, tables, calls, *lsp, backup)?;
-            Ok(change)
+            follow_resv(alloc, &mut change, tables, calls, *lsp, backup)?;
         }
-        Msg::PathErr { lsp, code, .. } => {
-            refuse_gone(alloc, &mut change, calls, *lsp, *code)?;
-            Ok(change)
+        Msg::PathErr {
+            lsp,
+            removed: true,
+            code,
+            ..
+        } => refuse_gone(alloc, &mut change, calls, *lsp, *code)?,
+        Msg::PathErr { lsp, .. } => {
+            if let Some(leg) = tables.get(lsp) {
+                answer_busy(alloc, &mut change, calls, leg)?;
+            }
         }
-        Msg::Path { .. } | Msg::PathTear { .. } | Msg::Notify { .. } => Ok(change),
+        Msg::Notify { .. } => answer_report(alloc, &mut change, tables, calls, msg)?,
+        Msg::Path { .. } | Msg::PathTear { .. } => {}
+    }
+    Ok(change)
+}
+
+/// The leg beside whose LSP a backup route is to be searched for by `answer`, after the rule of
+/// this message was carried out on the leg.
+pub fn sought_by_answer<'a>(tables: &'a NodeTables, calls: &Calls, msg: &Msg) -> Option<&'a Leg>
+    ensures { option_copied result ≡ sought_by_answer tables.now calls.now msg.now }
+{
+    match msg {
+        Msg::Resv { lsp, .. } => sought_by_resv(calls, tables.get(lsp)?),
+        Msg::Path { .. } | Msg::PathTear { .. } | Msg::PathErr { .. } | Msg::Notify { .. } => None,
     }
 }
 
-/// Takes a Resv or a PathErr at the ingress of its LSP, after its rule was carried out on the leg:
-/// what becomes of the call. Hands back what is to be sent then, in order. A message of another
-/// kind changes nothing. After want of memory nothing has changed.
+/// Takes a Resv, a PathErr or a Notify at the ingress of its LSP, after its rule was carried out on
+/// the leg: what becomes of the call. Hands back what is to be sent then, in order. A message of
+/// another kind changes nothing. After want of memory nothing has changed.
 pub fn answer(
     alloc: Global,
     tables: &mut NodeTables,

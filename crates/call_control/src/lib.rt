@@ -1,5 +1,5 @@
 //! Call control at an ingress (ITU-T G.8080): setups and releases, the backups of protected calls,
-//! and what becomes of a call after its LSPs. What each changes is told, or carried out by a
+//! the turn of a call to its backup, and what becomes of a call after its LSPs. What each changes is told, or carried out by a
 //! handler. Routes that are searched for are handed in.
 #![tactic(auto)]
 
@@ -12,11 +12,16 @@ pub mod laws;
 mod pairs;
 mod protects;
 mod releases;
+mod reports;
+mod retries;
 mod setups;
+mod turns;
 
-pub use call_steps::{answer_resv, refuse_lsp, sought_by_resv};
-pub use handlers::{answer, command, setup};
+pub use call_steps::{answer_busy, answer_confirmed, answer_resv, refuse_lsp, sought_by_resv};
+pub use handlers::{answer, command, setup, sought_by_answer};
 pub use pairs::route_from;
 pub use protects::{protect, sought_by_protect};
 pub use releases::release;
+pub use reports::answer_report;
+pub use retries::retry;
 pub use setups::{SetupRequest, seeks_route, set_up};

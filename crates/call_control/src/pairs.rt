@@ -95,7 +95,7 @@ pub(crate) fn leave_bare(
 ) -> Result<(), OutOfMemory>
     ensures { OnOk result (change.new ≡ followed_by change.old (leaves_bare call.now cause)) }
 {
-    change.put_call(unbacked(alloc, call, cause)?)
+    change.put_call(unbacked(alloc, call.copy(alloc)?, cause))
 }
 
 // The backup, in the tunnel of the working LSP. Its Path names that one and bears its route.
@@ -147,7 +147,8 @@ fn begin_backup(
     let new = backup_lsp(calls, request.work, out, rest, primary.route);
     let lsp = new.lsp;
     ask_for(alloc, change, tables, new, primary.risks)?;
-    change.put_call(pairing(alloc, request.call, lsp)?)?;
+    let call = request.call.copy(alloc)?;
+    change.put_call(pairing(alloc, call, lsp))?;
     change.use_numbers(NextNumbers {
         tunnel: calls.next_tunnel(),
         lsp: calls.next_lsp() + 1,

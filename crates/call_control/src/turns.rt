@@ -1,0 +1,114 @@
+//! A call turns to its backup where its working LSP is hit, as far as the backup isn't (ITU-T
+//! G.8080, call control; RFC 4872, section 8).
+
+ghost use Rattle.std.specs.Prelude.{◌≡◌, IfOk, OnOk};
+ghost use Rattle.std.specs.Option.{option_copied};
+ghost use Rattle.mesh_rules.specs.Changes.{followed_by, sends};
+ghost use Rattle.mesh_rules.specs.Legs.{following, is_held};
+ghost use Rattle.mesh_rules.specs.Turns.{activating, activating_path, arms, decide, has_any, turn};
+
+use crate::call_states::{guarded, stuck, turning};
+use ason_base::{
+    CallRec, CallState, Cause, Copied, Fibres, Leg, Msg, OutOfMemory, PathRole, Phase,
+};
+use leg_table::Change;
+use leg_table::one_leg::{following, with_phase};
+use std::alloc::Global;
+
+// Turning
+
+// The role of a Path that activates.
+fn activating(alloc: Global, role: &PathRole) -> Result<PathRole, OutOfMemory>
+    ensures { IfOk result (λ r. r ≡ activating role.now) }
+{
+    match role {
+        PathRole::Work { guard } => Ok(PathRole::Work { guard: *guard }),
+        PathRole::Back { work, primary, .. } => Ok(PathRole::Back {
+            active: true,
+            work: *work,
+            primary: primary.copy(alloc)?,
+        }),
+    }
+}
+
+// The Path that activates the backup goes to the next node.
+fn send_activation(alloc: Global, change: &mut Change, back: &Leg) -> Result<(), OutOfMemory>
+    ensures { OnOk result (change.new
+        ≡ followed_by change.old (sends (activating_path back.now (following back.now)))) }
+{
+    let Some(next) = following(back) else {
+        return Ok(());
+    };
+    let path = Msg::Path {
+        lsp: back.lsp,
+        egress: back.egress,
+        link: next.fibre.link,
+        route: back.route.copy(alloc)?,
+        set: back.sent.copy(),
+        upstream: None,
+        role: activating(alloc, &back.path_role)?,
+    };
+    change.send(next.node, path)
+}
+
+// The backup is Armed here, and its Path goes out to activate it.
+fn arm(alloc: Global, change: &mut Change, call: CallRec, back: &Leg) -> Result<(), OutOfMemory>
+    ensures { OnOk result (change.new ≡ followed_by change.old (arms call back.now)) }
+{
+    send_activation(alloc, change, back)?;
+    change.put(with_phase(alloc, back, Phase::Armed)?)?;
+    change.put_call(turning(call))
+}
+
+fn is_held(phase: Phase) -> bool
+    ensures { result ≡ is_held phase }
+{
+    matches!(phase, Phase::Held)
+}
+
+/// The call turns to its backup, which begins here: it is activated if it is Held.
+pub(crate) fn turn(
+    alloc: Global,
+    change: &mut Change,
+    call: CallRec,
+    back: Option<&Leg>,
+) -> Result<(), OutOfMemory>
+    ensures { OnOk result
+        (change.new ≡ followed_by change.old (turn call (option_copied back.entry))) }
+{
+    match back {
+        Some(back) if is_held(back.phase) => arm(alloc, change, call, back),
+        _ => change.put_call(call),
+    }
+}
+
+// Decisions
+
+/// Whether a fibre is reported.
+pub(crate) fn has_any(fibres: &Fibres) -> bool
+    ensures { result ≡ has_any fibres.now }
+{
+    !fibres.items().is_empty()
+}
+
+/// What follows of the call's state and of the fibres that are reported down: a guarded call turns
+/// where its working LSP is hit alone, and is stuck where its backup is hit too; a stuck one is
+/// guarded again once its working LSP isn't hit.
+pub(crate) fn decide(
+    alloc: Global,
+    change: &mut Change,
+    call: CallRec,
+    back: Option<&Leg>,
+) -> Result<(), OutOfMemory>
+    ensures { OnOk result
+        (change.new ≡ followed_by change.old (decide call (option_copied back.entry))) }
+{
+    let works = has_any(&call.work_reports);
+    let backs = has_any(&call.back_reports);
+    match (call.state, works, backs) {
+        (CallState::Guarded, true, false) => turn(alloc, change, call, back),
+        (CallState::Guarded, true, true) => change.put_call(stuck(call, Cause::BackDown)),
+        (CallState::Stuck, false, _) => change.put_call(guarded(call)),
+        _ => change.put_call(call),
+    }
+}
