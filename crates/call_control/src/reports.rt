@@ -63,7 +63,8 @@ fn fibre_into(route: &[Step], egress: NodeId, node: NodeId, link: LinkId) -> Opt
 
 // The fibre of the LSP whose leg begins here that comes in at the node over the link.
 fn fibre_of(tables: &NodeTables, leg: &Leg, node: NodeId, link: LinkId) -> Option<Fibre>
-    ensures { result ≡ fibre_into (route_from (local_of tables.now) leg.now) leg.egress node link }
+    ensures { result
+        ≡ fibre_into (route_from (local_of tables.now) leg.now) leg.now.egress node link }
 {
     let route = leg.route.items();
     match leg.out_fibre {
