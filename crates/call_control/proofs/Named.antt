@@ -1,16 +1,22 @@
--- After each rule of calls they name LSPs by their roles, and no leg that changes took a label or takes one.
-use Rattle.std.proofs.Common.{◌≡◌, ◌+◌, Bool, true, false, cond, nat_eq, nat_lt, not, List, [], ◌∷◌, drop, refl, sym, ap, subst, ◌∙◌, arith}
+-- After each rule of calls they name LSPs by their roles, backups alone are Armed, and no leg that changes took a label
+-- or takes one.
+use Rattle.std.proofs.Common.{◌≡◌, ◌+◌, ℕ, Bool, true, false, cond, nat_eq, nat_lt, not, List, [], ◌∷◌, drop, refl, sym, ap, subst, ◌∙◌, arith}
 use Rattle.std.specs.Prelude.{◌&&◌, Option, Some, None, IfSome, is_some}
 use Rattle.std.specs.List.{AllByRecursion}
-use Rattle.ason_base.specs.Lsps.{same_lsp}
+use Rattle.ason_base.specs.Codes.{busy_code}
+use Rattle.ason_base.specs.Lsps.{is_lsp, same_lsp}
 use Rattle.ason_base.specs.Risks.{unknown_link}
-use Rattle.ason_base.specs.declared.calls.CallState.TheVariants.{Asking, Blocked}
+use Rattle.ason_base.specs.declared.calls.CallState.{CallState}
+use Rattle.ason_base.specs.declared.calls.CallState.TheVariants.{Asking, Bare, Blocked, Guarded, Pairing, Stuck, Turned, Turning}
 use Rattle.ason_base.specs.declared.calls.Cause.{Cause}
-use Rattle.ason_base.specs.declared.calls.Cause.TheVariants.{Code, Full, NoBackup, NoRoute, Spent, Unset}
+use Rattle.ason_base.specs.declared.calls.Cause.TheVariants.{BackDown, Code, Full, NoBackup, NoRoute, Spent, Unset}
+use Rattle.ason_base.specs.declared.calls.Phase.{Phase}
+use Rattle.ason_base.specs.declared.calls.Phase.TheVariants.{Asked, Held, Armed, Live, Closing, Falling}
 use Rattle.ason_base.specs.declared.calls.Role.{Role}
 use Rattle.ason_base.specs.declared.calls.Role.TheVariants.{Work, Back}
 use Rattle.ason_base.specs.declared.codes.ErrCode.{ErrCode}
 use Rattle.ason_base.specs.declared.ids.CallNo.{CallNo}
+use Rattle.ason_base.specs.declared.ids.Fibre.{Fibre}
 use Rattle.ason_base.specs.declared.ids.Lsp.{Lsp}
 use Rattle.ason_base.specs.declared.ids.NodeId.{NodeId}
 use Rattle.ason_base.specs.declared.network.LinkSpec.{LinkSpec}
@@ -20,40 +26,61 @@ use Rattle.ason_base.specs.declared.tables.Leg.{Leg}
 use Rattle.mesh_rules.specs.declared.changes.CallChange.TheVariants as call
 use Rattle.mesh_rules.specs.declared.changes.LegChange.TheVariants as leg
 use Rattle.mesh_rules.specs.declared.limits.TheConstants.{LAST_NUMBER}
-use Rattle.mesh_rules.specs.Calls.{bare, blocked, call_with, find_call, guarded, is_asking, is_bare, is_pairing, names, pairing, unbacked, without_call}
-use Rattle.mesh_rules.specs.CallSteps.{call_answered, call_put}
+use Rattle.mesh_rules.specs.Calls.{bare, blocked, call_with, find_call, guarded, is_asking, is_bare, is_pairing, is_stuck, is_turning, names, pairing, stuck, turned, turning, unbacked, without_call}
+use Rattle.mesh_rules.specs.CallSteps.{call_answered, call_contended, call_turned}
 use Rattle.mesh_rules.specs.Changes.{Answer, changed, changes_calls, followed_by, nothing}
-use Rattle.mesh_rules.specs.FirstLegs.{first_leg, first_link, is_full}
+use Rattle.mesh_rules.specs.FirstLegs.{NewLsp, first_leg, first_link, is_full}
 use Rattle.mesh_rules.specs.KnownRows.{known_rows}
 use Rattle.mesh_rules.specs.LeastRoutes.{Trip, least_trip}
-use Rattle.mesh_rules.specs.Legs.{closed, find_leg, is_work, leg_of, with_leg}
+use Rattle.mesh_rules.specs.Legs.{closed, closing_phase, find_leg, is_armed, is_held, is_work, leg_of, legs_changed, with_leg, with_phase}
 use Rattle.mesh_rules.specs.LocalNodes.{LocalNode}
 use Rattle.mesh_rules.specs.Pairs.{backup_lsp, backup_route, begins_backup, beside_lsp, leaves_bare, over_backup, pair, pair_over, route_from}
 use Rattle.mesh_rules.specs.Protects.{protect_with, protects}
 use Rattle.mesh_rules.specs.Releases.{release_with, releases, tears}
+use Rattle.mesh_rules.specs.Reports.{call_reported, reported_on, with_report}
+use Rattle.mesh_rules.specs.Retries.{retries, retry_with}
 use Rattle.mesh_rules.specs.Setups.{SetupRequest, admitted_setup, begins, call_record, is_order_here, is_spent, new_call, next_lsp, over_first, over_found, refused_setup, setup_with, working_lsp}
 use Rattle.mesh_rules.specs.State.{NodeState}
+use Rattle.mesh_rules.specs.Turns.{arms, call_put, decide, decided, has_any, turn}
 use Rattle.mesh_nodes.proofs.CallList.{all-with_call, called-names}
 use Rattle.mesh_nodes.proofs.Cases.{if_cases}
-use Rattle.mesh_nodes.proofs.LegList.{all-filter, find-with_leg, found-lsp, same_lsp-eq}
+use Rattle.mesh_nodes.proofs.LegList.{all-filter, all-with_leg, find-with_leg, found-lsp, same_lsp-eq}
 use Rattle.mesh_nodes.proofs.Links.{found-one}
 use Rattle.leg_table.specs.LegClaims.{ChangesNoLabel, taken_of}
 use Rattle.call_control.specs.Handlers.{named_role, refused_by_name}
-use Rattle.call_control.specs.Ingress.{AllNameByRole, IsNamedAs, NamesByRole, role_at}
+use Rattle.call_control.specs.Ingress.{AllNameByRole, IsArmedAsBackup, IsNamedAs, NamesByRole, role_at}
 use Rattle.call_control.proofs.Roles.{BeginAlone, RolesStay, calls-stay, changed-stay, lone-taken, lsp-stays, named-as, new-stay, none-taken, own-role}
 
 -- of an answer at node p, which keeps s
 pub record Stays (p : LocalNode) (s : NodeState) (a : Answer) : Type 0 where
   pub names : AllNameByRole p (changed s a)
+  pub armed : AllByRecursion (IsArmedAsBackup p.id.0) (legs_changed a.legs s.legs)
   pub labels : AllByRecursion (ChangesNoLabel s.legs) a.legs
+  pub no_down : a.down ≡ None
 
--- a leg that stands and begins here
-record Begins (p : LocalNode) (legs : List Leg) (g : Leg) : Type 0 where
-  found : find_leg g.lsp legs ≡ Some g
-  begun : g.lsp.ingress.0 ≡ p.id.0
-  alone : g.in_fibre ≡ None
+-- a leg of this role that stands and begins here
+pub record Begins (p : LocalNode) (legs : List Leg) (r : Role) (g : Leg) : Type 0 where
+  pub found : find_leg g.lsp legs ≡ Some g
+  pub begun : g.lsp.ingress.0 ≡ p.id.0
+  pub alone : g.in_fibre ≡ None
+  pub role : g.role ≡ r
 
-module _ (p : LocalNode) (s : NodeState) (all : AllNameByRole p s) (alone : BeginAlone p s.legs) where
+-- a closed leg isn't Armed
+not-armed : (n : ℕ) (g : Leg) → IsArmedAsBackup n (closed g)
+not-armed n g begun = go g.phase g.role
+  where
+    go : (q : Phase) (r : Role) → is_armed (closing_phase q r) ≡ true → r ≡ Back
+    go Armed Back e = absurd (cc e)
+    go Live Back e = absurd (cc e)
+    go Asked r e = absurd (cc e)
+    go Held r e = absurd (cc e)
+    go Armed Work e = absurd (cc e)
+    go Live Work e = absurd (cc e)
+    go Closing r e = absurd (cc e)
+    go Falling r e = absurd (cc e)
+
+module _ (p : LocalNode) (s : NodeState) (all : AllNameByRole p s) (alone : BeginAlone p s.legs)
+    (armed : AllByRecursion (IsArmedAsBackup p.id.0) s.legs) where
   abbrev Names : CallRec → Type 0
   Names c = NamesByRole p.id.0 s.lsp s.legs c
 
@@ -61,11 +88,20 @@ module _ (p : LocalNode) (s : NodeState) (all : AllNameByRole p s) (alone : Begi
   none = none-taken p s.legs alone
 
   pub nothing-stays : Stays p s nothing
-  nothing-stays = record { names = all; labels = tt }
+  nothing-stays = record { names = all; armed = armed; labels = tt; no_down = refl }
 
   -- a call is put in its place
   pub put-stays : (c : CallRec) → Names c → Stays p s (call_put c)
-  put-stays c here = record { names = all-with_call Names c s.calls here all; labels = tt }
+  put-stays c here =
+      record { names = all-with_call Names c s.calls here all; armed = armed; labels = tt; no_down = refl }
+
+  armed-with : (g : Leg) → IsArmedAsBackup p.id.0 g → AllByRecursion (IsArmedAsBackup p.id.0) (with_leg g s.legs)
+  armed-with g here = all-with_leg (IsArmedAsBackup p.id.0) g s.legs here armed
+
+  -- the leg of an LSP that is asked for comes
+  asked-with : (n : NewLsp) →
+      AllByRecursion (IsArmedAsBackup p.id.0) (with_leg (first_leg p (known_rows p s) n) s.legs)
+  asked-with n = armed-with (first_leg p (known_rows p s) n) (λ begun e. absurd (cc e))
 
   -- Setups
 
@@ -82,7 +118,9 @@ module _ (p : LocalNode) (s : NodeState) (all : AllNameByRole p s) (alone : Begi
               (record { work = record { ingress = refl; number = omega arith; role = own-role g s.legs }; back = tt })
               (calls-stay p.id.0 s.lsp (s.lsp + 1) s.legs (with_leg g s.legs) s.calls (omega arith)
               (new-stay s.lsp g s.legs refl) all);
+          armed = asked-with (working_lsp p s w out route);
           labels = ((none (next_lsp p s) refl, refl), tt);
+          no_down = refl;
         }
 
     admitted-stays : (out : LinkSpec) (route : List Step) → Stays p s (admitted_setup p s w out route)
@@ -127,7 +165,9 @@ module _ (p : LocalNode) (s : NodeState) (all : AllNameByRole p s) (alone : Begi
                 })
                 (calls-stay p.id.0 s.lsp (s.lsp + 1) s.legs (with_leg g s.legs) s.calls (omega arith)
                 (new-stay s.lsp g s.legs refl) all);
+            armed = asked-with (backup_lsp p s w out route);
             labels = ((none l begun, refl), tt);
+            no_down = refl;
           }
 
       backed-stays : (route : List Step) (o : Option LinkSpec) → Stays p s (over_backup p s c w route o)
@@ -190,34 +230,42 @@ module _ (p : LocalNode) (s : NodeState) (all : AllNameByRole p s) (alone : Begi
         all-filter (NamesByRole p.id.0 s.lsp legs) (λ d. not (nat_eq d.call.0 n.0)) s.calls
         (calls-stay p.id.0 s.lsp s.lsp s.legs legs s.calls (omega arith) stay all)
 
-    closes : (g : Leg) → Begins p s.legs g → ChangesNoLabel s.legs (leg.Put (closed g))
-    closes g here = (none g.lsp here.begun, lone-taken (closed g) here.alone)
+    closes : (r : Role) (g : Leg) → Begins p s.legs r g → ChangesNoLabel s.legs (leg.Put (closed g))
+    closes r g here = (none g.lsp here.begun, lone-taken (closed g) here.alone)
 
-    tears-stay : (a b : Option Leg) → IfSome a (Begins p s.legs) → IfSome b (Begins p s.legs) →
+    tears-stay : (a b : Option Leg) → IfSome a (Begins p s.legs Work) → IfSome b (Begins p s.legs Back) →
         Stays p s (followed_by (tears a) (followed_by (tears b) (changes_calls (call.Goes n ∷ []))))
-    tears-stay None None this that = record { names = less s.legs (λ l r small here. here); labels = tt }
+    tears-stay None None this that =
+        record { names = less s.legs (λ l r small here. here); armed = armed; labels = tt; no_down = refl }
     tears-stay None (Some h) this that = record {
       names = less (with_leg (closed h) s.legs) (changed-stay s.lsp (closed h) s.legs (role-found h that.found));
-      labels = (closes h that, tt);
+      armed = armed-with (closed h) (not-armed p.id.0 h);
+      labels = (closes Back h that, tt);
+      no_down = refl;
     }
     tears-stay (Some g) None this that = record {
       names = less (with_leg (closed g) s.legs) (changed-stay s.lsp (closed g) s.legs (role-found g this.found));
-      labels = (closes g this, tt);
+      armed = armed-with (closed g) (not-armed p.id.0 g);
+      labels = (closes Work g this, tt);
+      no_down = refl;
     }
     tears-stay (Some g) (Some h) this that = record {
       names = less (with_leg (closed h) (with_leg (closed g) s.legs))
           (λ l r small here. changed-stay s.lsp (closed h) (with_leg (closed g) s.legs)
           (role-after g h this.found that.found) l r small
           (changed-stay s.lsp (closed g) s.legs (role-found g this.found) l r small here));
-      labels = (closes g this, (closes h that, tt));
+      armed = all-with_leg (IsArmedAsBackup p.id.0) (closed h) (with_leg (closed g) s.legs) (not-armed p.id.0 h)
+          (armed-with (closed g) (not-armed p.id.0 g));
+      labels = (closes Work g this, (closes Back h that, tt));
+      no_down = refl;
     }
 
   leg_of-begins : (r : Role) (o : Option Lsp) → IfSome o (IsNamedAs p.id.0 s.lsp s.legs r) →
-      IfSome (leg_of o s.legs) (Begins p s.legs)
+      IfSome (leg_of o s.legs) (Begins p s.legs r)
   leg_of-begins r None named = tt
   leg_of-begins r (Some l) named = go (find_leg l s.legs) refl
     where
-      go : (o : Option Leg) → find_leg l s.legs ≡ o → IfSome o (Begins p s.legs)
+      go : (o : Option Leg) → find_leg l s.legs ≡ o → IfSome o (Begins p s.legs r)
       go None found = tt
       go (Some g) found =
           let is : g.lsp ≡ l = found-lsp l s.legs g found in
@@ -226,6 +274,7 @@ module _ (p : LocalNode) (s : NodeState) (all : AllNameByRole p s) (alone : Begi
             found = subst (λ k. find_leg k s.legs ≡ Some g) (sym is) found;
             begun = begun;
             alone = alone l g found named.ingress;
+            role = subst (λ o. IfSome (role_at o) (λ q. q ≡ r)) found named.role;
           }
 
   pub release-stays : (n : CallNo) (from : NodeId) (o : Option CallRec) → find_call n s.calls ≡ o →
@@ -238,25 +287,128 @@ module _ (p : LocalNode) (s : NodeState) (all : AllNameByRole p s) (alone : Begi
       (leg_of-begins Back c.back here.back))
       (λ e. nothing-stays)
 
+  -- Turning
+
+  arms-stay : (c : CallRec) (b : Leg) → Names c → Begins p s.legs Back b → Stays p s (arms c b)
+  arms-stay c b here begins =
+      let g : Leg = with_phase Armed b in
+      let stay = changed-stay s.lsp g s.legs (ap role_at begins.found) in
+      record {
+        names = all-with_call (NamesByRole p.id.0 s.lsp (with_leg g s.legs)) (turning c) s.calls
+            (record {
+              work = lsp-stays p.id.0 s.lsp s.lsp _ s.legs (with_leg g s.legs) c.work (omega arith) stay here.work;
+              back = lsp-stays p.id.0 s.lsp s.lsp _ s.legs (with_leg g s.legs) c.back (omega arith) stay here.back;
+            })
+            (calls-stay p.id.0 s.lsp s.lsp s.legs (with_leg g s.legs) s.calls (omega arith) stay all);
+        armed = armed-with g (λ begun e. begins.role);
+        labels = ((none b.lsp begins.begun, lone-taken g begins.alone), tt);
+        no_down = refl;
+      }
+
+  turn-stays : (c : CallRec) (o : Option Leg) → Names c → IfSome o (Begins p s.legs Back) → Stays p s (turn c o)
+  turn-stays c None here begins = put-stays c here
+  turn-stays c (Some b) here begins =
+      if_cases (Stays p s) (is_held b.phase) _ _ (λ e. arms-stay c b here begins) (λ e. put-stays c here)
+
+  decided-stays : (c : CallRec) (o : Option Leg) → Names c → IfSome o (Begins p s.legs Back) →
+      (q : CallState) (works backs : Bool) → Stays p s (decided c o q works backs)
+  decided-stays c o here begins Guarded true false = turn-stays c o here begins
+  decided-stays c o here begins Guarded true true =
+      put-stays (stuck c BackDown) (record { work = here.work; back = here.back })
+  decided-stays c o here begins Guarded false backs = put-stays c here
+  decided-stays c o here begins Stuck false backs =
+      put-stays (guarded c) (record { work = here.work; back = here.back })
+  decided-stays c o here begins Stuck true backs = put-stays c here
+  decided-stays c o here begins Asking works backs = put-stays c here
+  decided-stays c o here begins Bare works backs = put-stays c here
+  decided-stays c o here begins Pairing works backs = put-stays c here
+  decided-stays c o here begins Turning works backs = put-stays c here
+  decided-stays c o here begins Turned works backs = put-stays c here
+  decided-stays c o here begins Blocked works backs = put-stays c here
+
+  decide-stays : (c : CallRec) (o : Option Leg) → Names c → IfSome o (Begins p s.legs Back) → Stays p s (decide c o)
+  decide-stays c o here begins =
+      decided-stays c o here begins c.state (has_any c.work_reports) (has_any c.back_reports)
+
+  pub retry-stays : (n : CallNo) (from : NodeId) (o : Option CallRec) → find_call n s.calls ≡ o →
+      Stays p s (retry_with p s from o)
+  retry-stays n from None found = nothing-stays
+  retry-stays n from (Some c) found =
+      let here : Names c = found-one Names (λ d. nat_eq d.call.0 n.0) s.calls c found all in
+      if_cases (Stays p s) (nat_eq from.0 p.id.0) (retries s c) nothing
+      (λ e. if_cases (Stays p s) (is_stuck c.state && (has_any c.work_reports && not (has_any c.back_reports))) _ _
+      (λ e. turn-stays c (leg_of c.back s.legs) here (leg_of-begins Back c.back here.back)) (λ e. nothing-stays))
+      (λ e. nothing-stays)
+
   -- After a Resv and a PathErr
 
   called : (l : Lsp) (c : CallRec) → call_with l s.calls ≡ Some c → Names c
   called l c is = found-one Names (names l) s.calls c is all
 
-  pub answered-stays : (g : Leg) (l : Lsp) (o : Option CallRec) → g.lsp ≡ l → call_with l s.calls ≡ o →
-      Stays p s (call_answered p s g o)
-  answered-stays g l None is found = nothing-stays
-  answered-stays g l (Some c) is found =
-      let here = called l c found in
-      let named = named-as p.id.0 s.lsp s.legs c l here (called-names l s.calls c found) in
-      let begun : g.lsp.ingress.0 ≡ p.id.0 = ap (λ (k : Lsp). k.ingress.0) is ∙ named.ingress in
-      if_cases (Stays p s) (is_work g.role) _ _
-      (λ e. if_cases (Stays p s) (is_asking c.state) _ _
-      (λ e. if_cases (Stays p s) c.protected _ _ (λ e. pair-stays c here g begun)
-      (λ e. put-stays (bare c) (record { work = here.work; back = here.back })))
-      (λ e. nothing-stays))
-      (λ e. if_cases (Stays p s) (is_pairing c.state) _ _
-      (λ e. put-stays (guarded c) (record { work = here.work; back = here.back })) (λ e. nothing-stays))
+  back-role : (r : Role) → is_work r ≡ false → r ≡ Back
+  back-role Work e = absurd (cc e)
+  back-role Back e = refl
+
+  -- the leg of a call's LSP, as the message leaves it
+  module _ (g : Leg) (found : find_leg g.lsp s.legs ≡ Some g) where
+    begun-at : (c : CallRec) → call_with g.lsp s.calls ≡ Some c → g.lsp.ingress.0 ≡ p.id.0
+    begun-at c is =
+        (named-as p.id.0 s.lsp s.legs c g.lsp (called g.lsp c is) (called-names g.lsp s.calls c is)).ingress
+
+    backs : (c : CallRec) → call_with g.lsp s.calls ≡ Some c → g.role ≡ Back → Begins p s.legs Back g
+    backs c is role =
+        let begun = begun-at c is in
+        record { found = found; begun = begun; alone = alone g.lsp g found begun; role = role }
+
+    pub answered-stays : (o : Option CallRec) → call_with g.lsp s.calls ≡ o → Stays p s (call_answered p s g o)
+    answered-stays None is = nothing-stays
+    answered-stays (Some c) is =
+        let here = called g.lsp c is in
+        if_cases (Stays p s) (is_work g.role) _ _
+        (λ e. if_cases (Stays p s) (is_asking c.state) _ _
+        (λ e. if_cases (Stays p s) c.protected _ _ (λ e. pair-stays c here g (begun-at c is))
+        (λ e. put-stays (bare c) (record { work = here.work; back = here.back })))
+        (λ e. nothing-stays))
+        (λ work. if_cases (Stays p s) (is_pairing c.state) _ _
+        (λ e. decide-stays (guarded c) (Some g) (record { work = here.work; back = here.back })
+        (backs c is (back-role g.role work)))
+        (λ e. nothing-stays))
+
+    pub turned-stays : g.role ≡ Back → (o : Option CallRec) → call_with g.lsp s.calls ≡ o →
+        Stays p s (call_turned g o)
+    turned-stays role None is = nothing-stays
+    turned-stays role (Some c) is =
+        let here = called g.lsp c is in
+        if_cases (Stays p s) (is_turning c.state) _ _
+        (λ e. decide-stays (turned c) (Some g) (record { work = here.work; back = here.back }) (backs c is role))
+        (λ e. nothing-stays)
+
+    pub contended-stays : g.role ≡ Back → (o : Option CallRec) → call_with g.lsp s.calls ≡ o →
+        Stays p s (call_contended g o)
+    contended-stays role None is = nothing-stays
+    contended-stays role (Some c) is =
+        let here = called g.lsp c is in
+        if_cases (Stays p s) (is_turning c.state) _ _
+        (λ e. decide-stays (stuck c (Code busy_code)) (Some g) (record { work = here.work; back = here.back })
+        (backs c is role))
+        (λ e. nothing-stays)
+
+  -- a report leaves the LSPs of the call, and its number
+  reported-names : (c : CallRec) (l : Lsp) (down : Bool) (f : Fibre) → Names c → Names (with_report c l down f)
+  reported-names c l down f here =
+      if_cases Names (is_lsp c.work l) _ _ (λ e. record { work = here.work; back = here.back })
+      (λ e. record { work = here.work; back = here.back })
+
+  pub reported-stays : (g : Leg) (down : Bool) (f : Option Fibre) → Stays p s (reported_on s g down f)
+  reported-stays g down None = nothing-stays
+  reported-stays g down (Some f) = go (call_with g.lsp s.calls) refl
+    where
+      go : (o : Option CallRec) → call_with g.lsp s.calls ≡ o → Stays p s (call_reported s g.lsp down f o)
+      go None is = nothing-stays
+      go (Some c) is =
+          let here = called g.lsp c is in
+          decide-stays (with_report c g.lsp down f) (leg_of c.back s.legs) (reported-names c g.lsp down f here)
+          (leg_of-begins Back c.back here.back)
 
   pub refused-stays : (code : ErrCode) (l : Lsp) (o : Option CallRec) → call_with l s.calls ≡ o →
       Stays p s (refused_by_name code l o)

@@ -18,8 +18,9 @@ use crate::releases::release;
 use crate::reports::answer_report;
 use crate::retries::retry;
 use crate::setups::{SetupRequest, set_up};
-use ason_base::{Command, Leg, Lsp, Msg, NodeId, OutOfMemory, Outs, Phase, Role, Steps};
+use ason_base::{Command, Leg, Lsp, Msg, NodeId, OutOfMemory, Outs, Steps};
 use leg_table::handling::handle_calls;
+use leg_table::one_leg::{is_in_use, is_work};
 use leg_table::{Calls, Change, NodeTables};
 use std::alloc::Global;
 
@@ -153,7 +154,7 @@ pub fn command(
 fn is_activated(leg: &Leg) -> bool
     ensures { result ≡ is_activated leg.now }
 {
-    leg.role == Role::Back && matches!(leg.phase, Phase::Armed | Phase::Live)
+    !is_work(leg.role) && is_in_use(leg.phase)
 }
 
 // The call of an LSP whose leg took a Resv.

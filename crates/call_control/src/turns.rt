@@ -4,7 +4,7 @@
 ghost use Rattle.std.specs.Prelude.{◌≡◌, IfOk, OnOk};
 ghost use Rattle.std.specs.Option.{option_copied};
 ghost use Rattle.mesh_rules.specs.Changes.{followed_by, sends};
-ghost use Rattle.mesh_rules.specs.Legs.{following, is_held};
+ghost use Rattle.mesh_rules.specs.Legs.{following};
 ghost use Rattle.mesh_rules.specs.Turns.{activating, activating_path, arms, decide, has_any, turn};
 
 use crate::call_states::{guarded, stuck, turning};
@@ -12,7 +12,7 @@ use ason_base::{
     CallRec, CallState, Cause, Copied, Fibres, Leg, Msg, OutOfMemory, PathRole, Phase,
 };
 use leg_table::Change;
-use leg_table::one_leg::{following, with_phase};
+use leg_table::one_leg::{following, is_held, with_phase};
 use std::alloc::Global;
 
 // Turning
@@ -58,12 +58,6 @@ fn arm(alloc: Global, change: &mut Change, call: CallRec, back: &Leg) -> Result<
     send_activation(alloc, change, back)?;
     change.put(with_phase(alloc, back, Phase::Armed)?)?;
     change.put_call(turning(call))
-}
-
-fn is_held(phase: Phase) -> bool
-    ensures { result ≡ is_held phase }
-{
-    matches!(phase, Phase::Held)
 }
 
 /// The call turns to its backup, which begins here: it is activated if it is Held.

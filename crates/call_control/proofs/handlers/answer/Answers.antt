@@ -28,6 +28,13 @@ handle_calls-requires-clause-no_row c =
     let after = follows c.requires.before.0 t calls c.args.from c.args.msg.now c.requires.before.1 in
     rw c.in_ok-change.ensures after.keeps.no_row
 
+pub handle_calls-requires-clause-no_down : goal.handle_calls-requires-clause-no_down
+handle_calls-requires-clause-no_down c =
+    let t = c.args.tables.now in
+    let calls = c.args.calls.now in
+    let after = follows c.requires.before.0 t calls c.args.from c.args.msg.now c.requires.before.1 in
+    rw c.in_ok-change.ensures after.keeps.stays.no_down
+
 pub returns-clause-ok : goal.returns-clause-ok
 returns-clause-ok c =
     let t = c.args.tables.now in

@@ -12,6 +12,11 @@ handle_calls-requires-clause-no_row c =
     rw c.in_ok-change.ensures
     (setup-keeps c.args.tables.now c.args.calls.now c.args.command.now c.requires.fits).no_row
 
+pub handle_calls-requires-clause-no_down : goal.handle_calls-requires-clause-no_down
+handle_calls-requires-clause-no_down c =
+    rw c.in_ok-change.ensures
+    (setup-keeps c.args.tables.now c.args.calls.now c.args.command.now c.requires.fits).stays.no_down
+
 pub returns-clause-fits : goal.returns-clause-fits
 returns-clause-fits c =
     let t = c.args.tables.now in

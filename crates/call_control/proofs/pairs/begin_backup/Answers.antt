@@ -6,6 +6,6 @@ pub returns : goal.returns
 returns c =
     backup-begun c.args.tables.now c.args.calls.now c.args.change.now c.requires.rows c.requires.primary.route_is
     c.request.view_is c.route.view_is c.backup_lsp-new.ensures c.in_ok-ask_for.ensures (ap (λ n. n.lsp) c.new.view_is)
-    c.in_ok-pairing.ensures c.in_ok-put_call.ensures
+    c.in_ok-call.ensures c.pairing.ensures c.in_ok-put_call.ensures
     (λ i. record { tunnel = c.next_tunnel.ensures i; lsp = c.next_lsp.ensures i + 1 })
     c.use_numbers.ensures
