@@ -72,14 +72,14 @@ posted_is_kept t q n = record {
       (posted_delivered t (counted (world_after t h) n.0) n u (frame_at (world_after t h) u n k)) has);
 }
 
-posted_calls : (w : World) (c : Command) → (posted w c).posted ≡ calls_after w.posted c
-posted_calls w (Setup n from to protected both via backup) = refl
-posted_calls w (Release n from) = refl
-posted_calls w (Protect n from) = refl
-posted_calls w (Retry n from) = refl
-posted_calls w (Revert n from) = refl
-posted_calls w (Fail g) = refl
-posted_calls w (Repair g) = refl
+posted_calls : (t : Network) (w : World) (c : Command) → (posted t w c).posted ≡ calls_after w.posted c
+posted_calls t w (Setup n from to protected both via backup) = refl
+posted_calls t w (Release n from) = refl
+posted_calls t w (Protect n from) = refl
+posted_calls t w (Retry n from) = refl
+posted_calls t w (Revert n from) = refl
+posted_calls t w (Fail g) = refl
+posted_calls t w (Repair g) = refl
 
 -- a post that isn't stopped
 pub post_goes : (t : Network) (c : Command) (h : History) → h.stopped ≡ None →
@@ -91,7 +91,7 @@ pub line_posted : (t : Network) (line : Line) (h : History) → h.stopped ≡ No
     (world_after t (line_done t h line)).posted ≡ calls_after_line (world_after t h).posted line
 line_posted t (Post c) h going =
     ap (λ g. (world_after t g).posted) (post_goes t c h going)
-    ∙ (ap (λ (w : World). w.posted) (world-with t h h.waiting (event.Post c)) ∙ posted_calls (world_after t h) c)
+    ∙ (ap (λ (w : World). w.posted) (world-with t h h.waiting (event.Post c)) ∙ posted_calls t (world_after t h) c)
 line_posted t (Settle r) h going =
     (settled_keeps t (HasPosted t (world_after t h).posted) (posted_is_kept t (world_after t h).posted) r h
     (record { calls = refl })).calls

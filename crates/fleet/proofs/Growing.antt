@@ -67,14 +67,14 @@ grows_delivered t w d u (Some (Message p)) a b =
 grows_delivered t w d u (Some (Flood m)) a b =
     if_flooded (nat_eq a d.0) (w.channels a b) (sent_to_node b (sends_after (w.floods a) u m))
 
-grows_posted : (w : World) (c : Command) (a b : ℕ) → Grows (w.channels a b) ((posted w c).channels a b)
-grows_posted w (Setup n from to protected both via backup) a b = same (w.channels a b)
-grows_posted w (Release n from) a b = same (w.channels a b)
-grows_posted w (Protect n from) a b = same (w.channels a b)
-grows_posted w (Retry n from) a b = same (w.channels a b)
-grows_posted w (Revert n from) a b = same (w.channels a b)
-grows_posted w (Fail g) a b = same (w.channels a b)
-grows_posted w (Repair g) a b = same (w.channels a b)
+grows_posted : (t : Network) (w : World) (c : Command) (a b : ℕ) → Grows (w.channels a b) ((posted t w c).channels a b)
+grows_posted t w (Setup n from to protected both via backup) a b = same (w.channels a b)
+grows_posted t w (Release n from) a b = same (w.channels a b)
+grows_posted t w (Protect n from) a b = same (w.channels a b)
+grows_posted t w (Retry n from) a b = same (w.channels a b)
+grows_posted t w (Revert n from) a b = same (w.channels a b)
+grows_posted t w (Fail g) a b = same (w.channels a b)
+grows_posted t w (Repair g) a b = same (w.channels a b)
 
 pub channel-grows : (t : Network) (w : World) (e : Event) (a b : ℕ) →
     Grows (w.channels a b) ((step t w e).channels a b)
@@ -92,7 +92,7 @@ channel-grows t w (Tick n) a b =
 channel-grows t w (Desk n) a b =
     grows_commit (without_item (with_event w n.0) n.0) n.0 (on_first_item (local_node t n) (w.nodes n.0)
     (w.desks n.0)) a b
-channel-grows t w (Post c) a b = grows_posted w c a b
+channel-grows t w (Post c) a b = grows_posted t w c a b
 
 longer : (old new : List Content) → Grows old new → length old ≤ length new
 longer old new is =

@@ -26,42 +26,42 @@ use Rattle.fleet.proofs.Runs.{posts_are_running}
 
 -- What a post leaves of a world
 
-made_posted : (w : World) (c : Command) (n : ℕ) → (posted w c).made n ≡ w.made n
-made_posted w (Setup k from to protected both via backup) n = refl
-made_posted w (Release k from) n = refl
-made_posted w (Protect k from) n = refl
-made_posted w (Retry k from) n = refl
-made_posted w (Revert k from) n = refl
-made_posted w (Fail g) n = refl
-made_posted w (Repair g) n = refl
+made_posted : (t : Network) (w : World) (c : Command) (n : ℕ) → (posted t w c).made n ≡ w.made n
+made_posted t w (Setup k from to protected both via backup) n = refl
+made_posted t w (Release k from) n = refl
+made_posted t w (Protect k from) n = refl
+made_posted t w (Retry k from) n = refl
+made_posted t w (Revert k from) n = refl
+made_posted t w (Fail g) n = refl
+made_posted t w (Repair g) n = refl
 
 -- with one item more on the desk of this node
 abbrev desk_with : World → ℕ → Command → ℕ → List DeskItem
 desk_with w n c m = cond (nat_eq m n) (w.desks m ++ Order c ∷ []) (w.desks m)
 
-desk_posted : (w : World) (c : Command) (n : NodeId) → ingress_of c ≡ Some n → (m : ℕ) →
-    (posted w c).desks m ≡ desk_with w n.0 c m
-desk_posted w (Setup k from to protected both via backup) n e m = let same : from ≡ n = cc (e) in
+desk_posted : (t : Network) (w : World) (c : Command) (n : NodeId) → ingress_of c ≡ Some n → (m : ℕ) →
+    (posted t w c).desks m ≡ desk_with w n.0 c m
+desk_posted t w (Setup k from to protected both via backup) n e m = let same : from ≡ n = cc (e) in
     ap (λ (x : NodeId). desk_with w x.0 (Setup k from to protected both via backup) m) same
-desk_posted w (Release k from) n e m = let same : from ≡ n = cc (e) in
+desk_posted t w (Release k from) n e m = let same : from ≡ n = cc (e) in
     ap (λ (x : NodeId). desk_with w x.0 (Release k from) m) same
-desk_posted w (Protect k from) n e m = let same : from ≡ n = cc (e) in
+desk_posted t w (Protect k from) n e m = let same : from ≡ n = cc (e) in
     ap (λ (x : NodeId). desk_with w x.0 (Protect k from) m) same
-desk_posted w (Retry k from) n e m = let same : from ≡ n = cc (e) in
+desk_posted t w (Retry k from) n e m = let same : from ≡ n = cc (e) in
     ap (λ (x : NodeId). desk_with w x.0 (Retry k from) m) same
-desk_posted w (Revert k from) n e m = let same : from ≡ n = cc (e) in
+desk_posted t w (Revert k from) n e m = let same : from ≡ n = cc (e) in
     ap (λ (x : NodeId). desk_with w x.0 (Revert k from) m) same
-desk_posted w (Fail g) n e m = absurd (cc (e))
-desk_posted w (Repair g) n e m = absurd (cc (e))
+desk_posted t w (Fail g) n e m = absurd (cc (e))
+desk_posted t w (Repair g) n e m = absurd (cc (e))
 
-no_desk_posted : (w : World) (c : Command) → ingress_of c ≡ None → (m : ℕ) → (posted w c).desks m ≡ w.desks m
-no_desk_posted w (Setup k from to protected both via backup) e m = absurd (cc (e))
-no_desk_posted w (Release k from) e m = absurd (cc (e))
-no_desk_posted w (Protect k from) e m = absurd (cc (e))
-no_desk_posted w (Retry k from) e m = absurd (cc (e))
-no_desk_posted w (Revert k from) e m = absurd (cc (e))
-no_desk_posted w (Fail g) e m = refl
-no_desk_posted w (Repair g) e m = refl
+no_desk_posted : (t : Network) (w : World) (c : Command) → ingress_of c ≡ None → (m : ℕ) → (posted t w c).desks m ≡ w.desks m
+no_desk_posted t w (Setup k from to protected both via backup) e m = absurd (cc (e))
+no_desk_posted t w (Release k from) e m = absurd (cc (e))
+no_desk_posted t w (Protect k from) e m = absurd (cc (e))
+no_desk_posted t w (Retry k from) e m = absurd (cc (e))
+no_desk_posted t w (Revert k from) e m = absurd (cc (e))
+no_desk_posted t w (Fail g) e m = refl
+no_desk_posted t w (Repair g) e m = refl
 
 first_and : (a b : Bool) → (a && b) ≡ true → a ≡ true
 first_and true b h = refl
@@ -95,7 +95,7 @@ valid_ingress t (Repair g) n e h = absurd (cc (e))
 
 -- where the desk is what the new world has, a station stands for its node still
 posted-node : (t : Network) (w : World) (c : Command) (n : NodeId) (x : ControllerState) (old items : List DeskItem) →
-    items ≡ (posted w c).desks n.0 → NodeStands t w n x old → NodeStands t (posted w c) n x items
+    items ≡ (posted t w c).desks n.0 → NodeStands t w n x old → NodeStands t (posted t w c) n x items
 posted-node t w c n x old items desk is = record {
   place = is.place;
   stands = record {
@@ -105,30 +105,30 @@ posted-node t w c n x old items desk is = record {
   flood = is.flood ∙ sym untouched.floods;
   hops = is.hops;
   desk = desk;
-  made = is.made ∙ sym (made_posted w c n.0);
+  made = is.made ∙ sym (made_posted t w c n.0);
 }
   where
-    untouched : IsUntouched w (posted w c) n.0
+    untouched : IsUntouched w (posted t w c) n.0
     untouched = others-are-untouched t w (Post c) n.0 refl
 
 posted-wired : (t : Network) (w : World) (c : Command) (rings : ℕ → ℕ → List ℕ) (wires : Wires) (u d : NodeId) →
-    IsWired w rings wires u d → IsWired (posted w c) (refilled w (posted w c) rings) wires u d
+    IsWired w rings wires u d → IsWired (posted t w c) (refilled w (posted t w c) rings) wires u d
 posted-wired t w c rings wires u d is = record {
   peer = is.peer;
   sent = is.sent ∙ ap length (sym same);
-  waits = is.waits ∙ sym (unfilled w (posted w c) rings u.0 d.0 same);
+  waits = is.waits ∙ sym (unfilled w (posted t w c) rings u.0 d.0 same);
   came = subst (λ cs. AreParcelsOf cs (wires d.0 u.0).early) (sym same) is.came;
   going = subst (λ cs. AreParcelsOf cs (wires u.0 d.0).backlog) (sym same) is.going;
 }
   where
-    same : (posted w c).channels u.0 d.0 ≡ w.channels u.0 d.0
+    same : (posted t w c).channels u.0 d.0 ≡ w.channels u.0 d.0
     same = (others-are-untouched t w (Post c) u.0 refl).channels d.0
 
 -- the fleet, over what its stations are
 post-stands : (t : Network) (h : History) (c : Command) (old new : FleetState) → (s : StandsFor t old h) →
     IsEnabled t (world_after t h) (Post c) → new.seats ≡ old.seats → new.posts ≤ 2 ^ 32 - 1 →
-    AreStations t (posted (world_after t h) c) s.wires new.stations →
-    ((n : NodeId) → length ((posted (world_after t h) c).desks n.0) ≤ new.posts) →
+    AreStations t (posted t (world_after t h) c) s.wires new.stations →
+    ((n : NodeId) → length ((posted t (world_after t h) c).desks n.0) ≤ new.posts) →
     StandsFor t new (with_event t h (Post c))
 post-stands t h c old new s on seats few stations fewer = record {
   valid = s.valid;
@@ -137,14 +137,14 @@ post-stands t h c old new s on seats few stations fewer = record {
   seats = subst (λ xs. AreSeats t xs) (sym seats) s.seats;
   wires = s.wires;
   stations = subst (λ w. AreStations t w s.wires new.stations) (sym world) stations;
-  wired = λ u d joined. subst (λ w. IsWired w (refilled (world_after t h) (posted (world_after t h) c) h.waiting)
+  wired = λ u d joined. subst (λ w. IsWired w (refilled (world_after t h) (posted t (world_after t h) c) h.waiting)
       s.wires u d)
       (sym world) (posted-wired t (world_after t h) c h.waiting s.wires u d (s.wired u d joined));
   posted = λ n. subst (λ (w : World). length (w.desks n.0) ≤ new.posts) (sym world) (fewer n);
   few = few;
 }
   where
-    world : world_after t (with_event t h (Post c)) ≡ posted (world_after t h) c
+    world : world_after t (with_event t h (Post c)) ≡ posted t (world_after t h) c
     world = world-with t h h.waiting (Post c)
 
 -- a command that goes to no desk
@@ -157,11 +157,11 @@ nowhere-stands t h c f none s on = post-stands t h c f f s on refl s.few
           let is : IsStationOf t (world_after t h) s.wires n x = s.stations.each place n x id there in
           record {
             node = posted-node t (world_after t h) c n x.controller x.desk x.desk
-                (is.node.desk ∙ sym (no_desk_posted (world_after t h) c none n.0)) is.node;
+                (is.node.desk ∙ sym (no_desk_posted t (world_after t h) c none n.0)) is.node;
             links = is.links;
           };
     })
-    (λ n. subst (λ items. length items ≤ f.posts) (sym (no_desk_posted (world_after t h) c none n.0)) (s.posted n))
+    (λ n. subst (λ items. length items ≤ f.posts) (sym (no_desk_posted t (world_after t h) c none n.0)) (s.posted n))
 
 -- a command that goes to the desk of its ingress
 pub order-stands : (t : Network) (h : History) (c : Command) (old new : FleetState) (n : NodeId) →
@@ -183,33 +183,33 @@ order-stands t h c old new n ingress few orders s on = post-stands t h c old new
     count : length new.stations ≡ length t.nodes
     count = ap length done.order.stations ∙ length-set old.stations done.place after ∙ s.stations.count
 
-    here : (posted w c).desks n.0 ≡ w.desks n.0 ++ Order c ∷ []
-    here = desk_posted w c n ingress n.0
+    here : (posted t w c).desks n.0 ≡ w.desks n.0 ++ Order c ∷ []
+    here = desk_posted t w c n ingress n.0
         ∙ ap (λ b. cond b (w.desks n.0 ++ Order c ∷ []) (w.desks n.0)) (self_test n.0)
 
-    there : (m : NodeId) → nat_eq m.0 n.0 ≡ false → (posted w c).desks m.0 ≡ w.desks m.0
-    there m other = desk_posted w c n ingress m.0
+    there : (m : NodeId) → nat_eq m.0 n.0 ≡ false → (posted t w c).desks m.0 ≡ w.desks m.0
+    there m other = desk_posted t w c n ingress m.0
         ∙ ap (λ b. cond b (w.desks m.0 ++ Order c ∷ []) (w.desks m.0)) other
 
     its : IsStationOf t w s.wires n done.order.before
     its = s.stations.each done.place n done.order.before done.node done.order.there
 
     each : (k : ℕ) (m : NodeId) (z : StationState) → slice_get (ids_of t) k ≡ Some m →
-        slice_get new.stations k ≡ Some z → IsStationOf t (posted w c) s.wires m z
+        slice_get new.stations k ≡ Some z → IsStationOf t (posted t w c) s.wires m z
     each k m z id is = go (nat_eq k done.place) refl
       where
         found : slice_get (slice_set old.stations done.place after) k ≡ Some z
         found = ap (λ xs. slice_get xs k) (sym done.order.stations) ∙ is
 
-        go : (b : Bool) → nat_eq k done.place ≡ b → IsStationOf t (posted w c) s.wires m z
+        go : (b : Bool) → nat_eq k done.place ≡ b → IsStationOf t (posted t w c) s.wires m z
         go true e =
             let at : k ≡ done.place = same_number k done.place e in
             let node : n ≡ m = one_there (ids_of t) k n m
             (subst (λ j. slice_get (ids_of t) j ≡ Some n) (sym at) done.node) id in
             let state : after ≡ z = sym (get-set old.stations done.place after z
             (subst (λ j. slice_get (slice_set old.stations done.place after) j ≡ Some z) at found)) in
-            subst (λ y. IsStationOf t (posted w c) s.wires m y) state
-            (subst (λ (y : NodeId). IsStationOf t (posted w c) s.wires y after) node
+            subst (λ y. IsStationOf t (posted t w c) s.wires m y) state
+            (subst (λ (y : NodeId). IsStationOf t (posted t w c) s.wires y after) node
             (record {
               node = posted-node t w c n done.order.before.controller done.order.before.desk after.desk
                   (ap (λ items. items ++ Order c ∷ []) its.node.desk ∙ sym here) its.node;
@@ -231,13 +231,13 @@ order-stands t h c old new n ingress few orders s on = post-stands t h c old new
     less : (a b d : ℕ) → a ≤ b → d ≡ b + 1 → a ≤ d
     less a b d p q = omega arith
 
-    fewer : (m : NodeId) → length ((posted w c).desks m.0) ≤ new.posts
+    fewer : (m : NodeId) → length ((posted t w c).desks m.0) ≤ new.posts
     fewer m = go (nat_eq m.0 n.0) refl
       where
-        go : (b : Bool) → nat_eq m.0 n.0 ≡ b → length ((posted w c).desks m.0) ≤ new.posts
+        go : (b : Bool) → nat_eq m.0 n.0 ≡ b → length ((posted t w c).desks m.0) ≤ new.posts
         go true e =
             let node : n ≡ m = sym (same_node m n e) in
-            subst (λ (k : NodeId). length ((posted w c).desks k.0) ≤ new.posts) node
+            subst (λ (k : NodeId). length ((posted t w c).desks k.0) ≤ new.posts) node
             (subst (λ items. length items ≤ new.posts) (sym here)
             (subst (λ k. k ≤ new.posts) (sym (length-append (w.desks n.0) (Order c ∷ [])))
             (more (length (w.desks n.0)) old.posts new.posts (s.posted n) done.order.posts)))

@@ -123,14 +123,14 @@ rings_popped w rings u d are = record {
 
 -- Counts: an event of a node is one more of it, and no other event is.
 
-made_posted : (w : World) (c : Command) (n : ℕ) → (posted w c).made n ≡ w.made n
-made_posted w (Setup k from to protected both via backup) n = refl
-made_posted w (Release k from) n = refl
-made_posted w (Protect k from) n = refl
-made_posted w (Retry k from) n = refl
-made_posted w (Revert k from) n = refl
-made_posted w (Fail g) n = refl
-made_posted w (Repair g) n = refl
+made_posted : (t : Network) (w : World) (c : Command) (n : ℕ) → (posted t w c).made n ≡ w.made n
+made_posted t w (Setup k from to protected both via backup) n = refl
+made_posted t w (Release k from) n = refl
+made_posted t w (Protect k from) n = refl
+made_posted t w (Retry k from) n = refl
+made_posted t w (Revert k from) n = refl
+made_posted t w (Fail g) n = refl
+made_posted t w (Repair g) n = refl
 
 -- One event more
 
@@ -240,7 +240,7 @@ settling_is_running t rounds h is = settled_keeps t (IsRunning t) (running_is_ke
 pub posts_are_running : PostsAreRunning
 posts_are_running t h c is going on =
     runs_with t h h.waiting (Post c) is is.rings on (λ n. subst (λ k. k ≤ 50000)
-    (sym (made_posted (world_after t h) c n.0)) (is.most n))
+    (sym (made_posted t (world_after t h) c n.0)) (is.most n))
 
 pub the_start_is_running : TheStartIsRunning
 the_start_is_running t = record {

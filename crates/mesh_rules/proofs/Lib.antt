@@ -1,3 +1,4 @@
 pub mod Conjunctions
 pub mod KnownLinks
+pub mod LinkNews
 pub mod Topologies

@@ -69,7 +69,7 @@ distinct n (l ∷ links) rise = rw (
 
 -- Metrics
 
-at-each-place : (t : Network) → IsTopology t → All (λ l. is_link t.nodes l ≡ true) t.links
+pub at-each-place : (t : Network) → IsTopology t → All (λ l. is_link t.nodes l ≡ true) t.links
 at-each-place t valid k d below =
     let here : is_link_here t.nodes (slice_get t.links k) ≡ true =
     and_second (is_after t.links k) _ (valid.links k below) in

@@ -4,6 +4,8 @@ use Rattle.std.specs.List.{list_any}
 use Rattle.ason_base.specs.Lsps.{same_bool}
 use Rattle.ason_base.specs.Network.{Network}
 use Rattle.ason_base.specs.declared.ids.Fibre.{Fibre}
+use Rattle.ason_base.specs.declared.commands.Command.{Command}
+use Rattle.ason_base.specs.declared.commands.Command.TheVariants.{Setup, Release, Protect, Retry, Revert, Fail, Repair}
 use Rattle.ason_base.specs.declared.commands.DeskItem.{DeskItem}
 use Rattle.ason_base.specs.declared.commands.DeskItem.TheVariants.{Alarm, Clear}
 use Rattle.ason_base.specs.declared.commands.Group.{Group}
@@ -28,6 +30,16 @@ with_group g groups = if has_group groups g then groups else groups ++ g ∷ []
 
 abbrev pub without_group : Group → List Group → List Group
 without_group g groups = filter (λ h. not (same_group g h)) groups
+
+-- which groups have failed after a command, where these had before
+abbrev pub failed_after : Command → List Group → List Group
+failed_after (Setup n from to protected both via backup) groups = groups
+failed_after (Release n from) groups = groups
+failed_after (Protect n from) groups = groups
+failed_after (Retry n from) groups = groups
+failed_after (Revert n from) groups = groups
+failed_after (Fail g) groups = with_group g groups
+failed_after (Repair g) groups = without_group g groups
 
 -- the group is one of the link's risks
 abbrev pub is_risk_of : LinkSpec → Group → Bool

@@ -2,9 +2,9 @@
 
 ghost use Rattle.std.specs.Prelude.{◌≡◌, ◌==◌, IfOk, false};
 ghost use Rattle.std.specs.Option.{option_to_list};
-ghost use Rattle.mesh_rules.specs.Failures.{changed_news, has_group, is_cut, is_risk_of, news, same_group, with_group, without_group};
+ghost use Rattle.mesh_rules.specs.Failures.{changed_news, failed_after, has_group, is_cut, is_risk_of, news, same_group, with_group, without_group};
 
-use ason_base::{DeskItem, Fibre, Group, LinkSpec, NodeId, OutOfMemory};
+use ason_base::{Command, DeskItem, Fibre, Group, LinkSpec, NodeId, OutOfMemory};
 use std::alloc::Global;
 
 // Groups
@@ -25,8 +25,8 @@ fn has_group(groups: &[Group], group: Group) -> bool
     groups.iter().any(|other| is_same(group, *other))
 }
 
-/// These groups and this one, once.
-pub fn with_group(
+// These groups and this one, once.
+fn with_group(
     alloc: Global,
     groups: &[Group],
     group: Group,
@@ -40,8 +40,8 @@ pub fn with_group(
     Ok(all)
 }
 
-/// These groups but this one.
-pub fn without_group(
+// These groups but this one.
+fn without_group(
     alloc: Global,
     groups: &[Group],
     group: Group,
@@ -56,6 +56,23 @@ pub fn without_group(
     }
     Ok(others)
 }
+
+/// Which groups have failed after a command, where these had before.
+pub fn failed_after(
+    alloc: Global,
+    failed: &[Group],
+    command: &Command,
+) -> Result<Vec<Group>, OutOfMemory>
+    ensures { IfOk result (λ v. v.items ≡ failed_after command.now failed.now) }
+{
+    match command {
+        Command::Fail { group } => with_group(alloc, failed, *group),
+        Command::Repair { group } => without_group(alloc, failed, *group),
+        _ => Ok(Vec::from_slice(alloc, failed)?),
+    }
+}
+
+// Whether a link is cut
 
 fn is_risk_of(link: &LinkSpec, group: Group) -> bool
     ensures { result ≡ is_risk_of link.now group }

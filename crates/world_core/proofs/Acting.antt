@@ -78,6 +78,22 @@ posted-left t w (world.Tick d) n of = refl
 posted-left t w (world.Desk d) n of = refl
 posted-left t w (world.Post c) n of = absurd (cc (of))
 
+failed_kept : (t : Network) (w : World) (d u : NodeId) (o : Option Content) → (delivered t w d u o).failed ≡ w.failed
+failed_kept t w d u None = refl
+failed_kept t w d u (Some (Message p)) = go (handed_up w d u p)
+  where
+    go : (ms : List Msg) → (worlds.handled t (taken w d u p) d u ms).failed ≡ w.failed
+    go [] = refl
+    go (m ∷ ms) = refl
+failed_kept t w d u (Some (Flood m)) = refl
+
+failed-left : (t : Network) (w : World) (e : Event) (n : ℕ) → is_event_of n e ≡ true → (step t w e).failed ≡ w.failed
+failed-left t w (world.Deliver d u k) n of = failed_kept t (with_event w d.0) d u (frame_at w u d k)
+failed-left t w (world.Noise d u bytes) n of = refl
+failed-left t w (world.Tick d) n of = refl
+failed-left t w (world.Desk d) n of = refl
+failed-left t w (world.Post c) n of = absurd (cc (of))
+
 not_of : (e : Event) (n m : ℕ) → is_event_of n e ≡ true → nat_eq m n ≡ false → is_event_of m e ≡ false
 not_of (world.Deliver d u k) n m of other = turned m d.0 false (differs d.0 n m of other)
 not_of (world.Noise d u bytes) n m of other = turned m d.0 false (differs d.0 n m of other)
@@ -172,8 +188,8 @@ cannot-act t k w n stands none = go (may_act t w n) refl
 acted-stands : (t : Network) (k after : WorldState) (w : World) (e : Event) (n : NodeId) (i : ℕ) (s new : SeatState) →
     StandsFor t k w → is_event_of n.0 e ≡ true → IsActing t w n s → slice_get k.seats i ≡ Some s → new.node ≡ s.node →
     SeatStands t (step t w e) new → after.seats ≡ set k.seats i new → after.posted ≡ k.posted →
-    StandsFor t after (step t w e)
-acted-stands t k after w e n i s new stands of is at node seat seats posted = record {
+    after.failed ≡ k.failed → StandsFor t after (step t w e)
+acted-stands t k after w e n i s new stands of is at node seat seats posted failed = record {
   nodes = ap (map (λ (x : SeatState). x.node)) seats ∙ nodes-set k.seats i s new at node ∙ stands.nodes;
   apart = ap (λ (xs : List SeatState). is_distinct (map (λ (x : SeatState). x.node.0) xs)) seats
       ∙ ap is_distinct (numbers-set k.seats i s new at node) ∙ stands.apart;
@@ -181,6 +197,7 @@ acted-stands t k after w e n i s new stands of is at node seat seats posted = re
       (all-set (SeatStands t w) (SeatStands t (step t w e)) k.seats i s new at stands.apart stands.seats other seat);
   nowhere = λ m none. still-nowhere t w e n m of is.there none (stands.nowhere m none);
   posted = posted ∙ stands.posted ∙ sym (posted-left t w e n.0 of);
+  failed = failed ∙ stands.failed ∙ sym (failed-left t w e n.0 of);
 }
   where
     other : (x : SeatState) → nat_eq x.node.0 s.node.0 ≡ false → SeatStands t w x → SeatStands t (step t w e) x
@@ -322,7 +339,7 @@ delivered-steps t k after d u number bytes e acted w stands =
           (subst (λ (n : NodeId). SeatStands t (step t w (world.Deliver n u number)) acted.done.new) is.node
           (frame-stands t w acted.seat acted.done.new u number bytes sent.frame.content
           (subst (λ (n : NodeId). frame_at w u n number ≡ Some sent.frame.content) (sym is.node) sent.frame.there)
-          sent.frame.bears is.stands acted.done.done)) acted.done.seats acted.posted,
+          sent.frame.bears is.stands acted.done.done)) acted.done.seats acted.posted acted.failed,
     )
 
 pub undelivered : (t : Network) (k : WorldState) (d u : NodeId) (number : ℕ) → frame_there k.seats u d number ≡ None →
@@ -351,7 +368,7 @@ noise-steps t k after d u bytes on nothing acted w stands =
           acted.there acted.done.done.0.node
           (subst (λ (n : NodeId). SeatStands t (step t w (world.Noise n u bytes)) acted.done.new) is.node
           (noise-stands t w acted.seat acted.done.new u bytes nothing is.stands acted.done.done)) acted.done.seats
-          acted.posted,
+          acted.posted acted.failed,
     )
 
 second : (a b : Bool) → (a && b) ≡ true → b ≡ true
@@ -388,7 +405,7 @@ ticked-steps t k after n acted w stands =
           (self_test n.0) is acted.there
           acted.done.done.0.node
           (subst (λ (m : NodeId). SeatStands t (step t w (world.Tick m)) acted.done.new) is.node
-          (tick-stands t w acted.seat acted.done.new is.stands acted.done.done)) acted.done.seats acted.posted,
+          (tick-stands t w acted.seat acted.done.new is.stands acted.done.done)) acted.done.seats acted.posted acted.failed,
     )
 
 pub not-ticked : (t : Network) (k : WorldState) (n : NodeId) → IsUnable k n act.Tick → IsDisabled t k (world.Tick n)
@@ -406,7 +423,7 @@ handled-steps t k after n acted w stands =
           (self_test n.0) is acted.there
           acted.done.done.2.node
           (subst (λ (m : NodeId). SeatStands t (step t w (world.Desk m)) acted.done.new) is.node
-          (handle-stands t w acted.seat acted.done.new is.stands acted.done.done)) acted.done.seats acted.posted,
+          (handle-stands t w acted.seat acted.done.new is.stands acted.done.done)) acted.done.seats acted.posted acted.failed,
     )
 
 pub not-handled : (t : Network) (k : WorldState) (n : NodeId) → IsUnable k n act.Handle → IsDisabled t k (world.Desk n)
@@ -437,9 +454,9 @@ able-few n seats i s at there =
     less a h = grind arith
 
 pub has-acted : (k after : WorldState) (n : NodeId) (a : Act) (i : ℕ) → position (is_able n.0) k.seats ≡ Some i →
-    after.posted ≡ k.posted →
+    after.posted ≡ k.posted → after.failed ≡ k.failed →
     ((s : SeatState) → slice_get k.seats i ≡ Some s → HasDoneAt k.seats i s a after.seats) → HasActed k n a after
-has-acted k after n a i at posted does =
+has-acted k after n a i at posted failed does =
     let first = is-first (is_able n.0) k.seats i at in
     record {
       place = i;
@@ -448,6 +465,7 @@ has-acted k after n a i at posted does =
       there = first.there;
       done = does first.item first.there;
       posted = posted;
+      failed = failed;
     }
 
 -- the answer of the seat that was found

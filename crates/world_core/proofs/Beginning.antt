@@ -136,13 +136,14 @@ nothing-due t n is none =
     (declared_rows (new_flood n (map (λ (r : TeRow). end_beside r.low r.high n) rows)) rows) ≡ 0) (sym own) refl
 
 pub new-world : (t : Network) → IsTopology t →
-    StandsFor t (record { seats = map (λ (m : NodeSpec). new_seat t m.id) t.nodes; posted = [] }) (start t)
+    StandsFor t (record { seats = map (λ (m : NodeSpec). new_seat t m.id) t.nodes; posted = []; failed = [] }) (start t)
 new-world t is = record {
   nodes = nodes-new t t.nodes;
   apart = ap is_distinct (numbers-new t t.nodes) ∙ distinct 0 t.nodes (rises t is);
   seats = all-new t t.nodes;
   nowhere = λ n none. record { desk = refl; hops = λ d. refl; flood = nothing-due t n is none };
   posted = refl;
+  failed = refl;
 }
 
 -- a node of the topology is found there

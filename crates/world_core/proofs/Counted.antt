@@ -25,14 +25,14 @@ made_delivered t w d u None = refl
 made_delivered t w d u (Some (Message p)) = made_handled t (taken w d u p) d u (handed_up w d u p)
 made_delivered t w d u (Some (Flood m)) = refl
 
-pub made_posted : (w : World) (c : Command) → (posted w c).made ≡ w.made
-made_posted w (Setup n from to protected both via backup) = refl
-made_posted w (Release n from) = refl
-made_posted w (Protect n from) = refl
-made_posted w (Retry n from) = refl
-made_posted w (Revert n from) = refl
-made_posted w (Fail g) = refl
-made_posted w (Repair g) = refl
+pub made_posted : (t : Network) (w : World) (c : Command) → (posted t w c).made ≡ w.made
+made_posted t w (Setup n from to protected both via backup) = refl
+made_posted t w (Release n from) = refl
+made_posted t w (Protect n from) = refl
+made_posted t w (Retry n from) = refl
+made_posted t w (Revert n from) = refl
+made_posted t w (Fail g) = refl
+made_posted t w (Repair g) = refl
 
 -- one more of its node
 more : (w : World) (k n : ℕ) → (with_event w k).made n ≡ w.made n + cond (nat_eq k n) 1 0
@@ -48,7 +48,7 @@ made_step t w (Deliver d u k) n =
 made_step t w (Noise d u bytes) n = more w d.0 n
 made_step t w (Tick m) n = more w m.0 n
 made_step t w (Desk m) n = more w m.0 n
-made_step t w (Post c) n = ap (λ (f : ℕ → ℕ). f n) (made_posted w c) ∙ omega arith
+made_step t w (Post c) n = ap (λ (f : ℕ → ℕ). f n) (made_posted t w c) ∙ omega arith
 
 counted : (t : Network) (events : List Event) (w : World) (n : ℕ) →
     (after t w events).made n ≡ w.made n + events_of n events

@@ -108,15 +108,15 @@ flooded-taken : (t : Network) (w : World) (d u : NodeId) (p : Packet) → AreFlo
 flooded-taken t w d u p =
     stays t w (taken w d u p) (λ m. refl) (λ a b. packets-stay _ (w.channels a b) _) (λ m. refl)
 
-flooded-posted : (t : Network) (w : World) (c : Command) → AreFlooded t w → AreFlooded t (posted w c)
+flooded-posted : (t : Network) (w : World) (c : Command) → AreFlooded t w → AreFlooded t (posted t w c)
 flooded-posted t w (Setup n from to protected both via backup) f =
     record { happened = f.happened; leads = f.leads; known = f.known }
 flooded-posted t w (Release n from) f = record { happened = f.happened; leads = f.leads; known = f.known }
 flooded-posted t w (Protect n from) f = record { happened = f.happened; leads = f.leads; known = f.known }
 flooded-posted t w (Retry n from) f = record { happened = f.happened; leads = f.leads; known = f.known }
 flooded-posted t w (Revert n from) f = record { happened = f.happened; leads = f.leads; known = f.known }
-flooded-posted t w (Fail g) f = f
-flooded-posted t w (Repair g) f = f
+flooded-posted t w (Fail g) f = record { happened = f.happened; leads = f.leads; known = f.known }
+flooded-posted t w (Repair g) f = record { happened = f.happened; leads = f.leads; known = f.known }
 
 -- One event of the flood
 

@@ -8,14 +8,17 @@ use Rattle.ason_base.specs.declared.commands.Command.TheVariants.{Setup, Release
 use Rattle.ason_base.specs.declared.commands.DeskItem.{DeskItem}
 use Rattle.ason_base.specs.declared.commands.DeskItem.TheVariants.{Order}
 use Rattle.ason_base.specs.declared.commands.Event.TheVariants.{Post}
-use Rattle.ason_base.specs.Network.{Network, is_distinct, is_node_id}
+use Rattle.ason_base.specs.declared.commands.Group.{Group}
+use Rattle.ason_base.specs.Network.{IsTopology, Network, is_distinct, is_node_id}
 use Rattle.flood.specs.State.{pending_count}
 use Rattle.hop_reliable.specs.Schedules.{HopEnd}
 use Rattle.mesh_rules.specs.Commands.{has_backup_way, has_way, is_again, is_searchable, is_valid}
+use Rattle.mesh_rules.specs.Failures.{all_news, failed_after}
+use Rattle.mesh_rules.proofs.LinkNews.{no-news}
 use Rattle.mesh_nodes.proofs.Cases.{both_left}
-use Rattle.world_core.specs.Replays.{HasStepped, IsDisabled, IsForNobody, IsGiven, IsNowhere, IsPut, IsPutIf, StandsFor, WorldState, ingress_of, numbers_of}
+use Rattle.world_core.specs.Replays.{HasStepped, IsDisabled, IsForNobody, HaveHeard, IsGiven, IsNowhere, IsPut, StandsFor, WorldState, ingress_of, numbers_of}
 use Rattle.world_core.specs.Runs.{posted}
-use Rattle.world_core.specs.Seats.{SeatStands, SeatState, is_at, with_item}
+use Rattle.world_core.specs.Seats.{SeatStands, SeatState, is_at, told, with_item}
 use Rattle.world_core.specs.Worlds.{World}
 use Rattle.world_core.proofs.Counted.{made_posted}
 use Rattle.world_core.proofs.Finding.{IsFirst, all-get, is-first, not-found, same_number, self_test}
@@ -25,27 +28,37 @@ use Rattle.world_core.proofs.Untouched.{posted_elsewhere}
 
 -- What a post makes of the world
 
-abbrev desk_after : World → Option NodeId → DeskItem → ℕ → List DeskItem
-desk_after w None i m = w.desks m
-desk_after w (Some n) i m = cond (nat_eq m n.0) (w.desks m ++ i ∷ []) (w.desks m)
+abbrev desk_after : Network → World → Command → Option NodeId → ℕ → List DeskItem
+desk_after t w c None m = w.desks m ++ all_news t w.failed (failed_after c w.failed) m
+desk_after t w c (Some n) m = cond (nat_eq m n.0) (w.desks m ++ Order c ∷ []) (w.desks m)
 
-desks-posted : (w : World) (c : Command) (m : ℕ) → (posted w c).desks m ≡ desk_after w (ingress_of c) (Order c) m
-desks-posted w (Setup n from to protected both via backup) m = refl
-desks-posted w (Release n from) m = refl
-desks-posted w (Protect n from) m = refl
-desks-posted w (Retry n from) m = refl
-desks-posted w (Revert n from) m = refl
-desks-posted w (Fail g) m = refl
-desks-posted w (Repair g) m = refl
+desks-posted : (t : Network) (w : World) (c : Command) (m : ℕ) →
+    (posted t w c).desks m ≡ desk_after t w c (ingress_of c) m
+desks-posted t w (Setup n from to protected both via backup) m = refl
+desks-posted t w (Release n from) m = refl
+desks-posted t w (Protect n from) m = refl
+desks-posted t w (Retry n from) m = refl
+desks-posted t w (Revert n from) m = refl
+desks-posted t w (Fail g) m = refl
+desks-posted t w (Repair g) m = refl
 
-numbers-posted : (w : World) (c : Command) → (posted w c).posted ≡ w.posted ++ numbers_of c
-numbers-posted w (Setup n from to protected both via backup) = refl
-numbers-posted w (Release n from) = sym (append-nil w.posted)
-numbers-posted w (Protect n from) = sym (append-nil w.posted)
-numbers-posted w (Retry n from) = sym (append-nil w.posted)
-numbers-posted w (Revert n from) = sym (append-nil w.posted)
-numbers-posted w (Fail g) = sym (append-nil w.posted)
-numbers-posted w (Repair g) = sym (append-nil w.posted)
+failed-posted : (t : Network) (w : World) (c : Command) → (posted t w c).failed ≡ failed_after c w.failed
+failed-posted t w (Setup n from to protected both via backup) = refl
+failed-posted t w (Release n from) = refl
+failed-posted t w (Protect n from) = refl
+failed-posted t w (Retry n from) = refl
+failed-posted t w (Revert n from) = refl
+failed-posted t w (Fail g) = refl
+failed-posted t w (Repair g) = refl
+
+numbers-posted : (t : Network) (w : World) (c : Command) → (posted t w c).posted ≡ w.posted ++ numbers_of c
+numbers-posted t w (Setup n from to protected both via backup) = refl
+numbers-posted t w (Release n from) = sym (append-nil w.posted)
+numbers-posted t w (Protect n from) = sym (append-nil w.posted)
+numbers-posted t w (Retry n from) = sym (append-nil w.posted)
+numbers-posted t w (Revert n from) = sym (append-nil w.posted)
+numbers-posted t w (Fail g) = sym (append-nil w.posted)
+numbers-posted t w (Repair g) = sym (append-nil w.posted)
 
 -- a valid command's ingress is a node
 ingress-is-node : (t : Network) (c : Command) (n : NodeId) → is_valid t c ≡ true → ingress_of c ≡ Some n →
@@ -73,54 +86,90 @@ ingress-is-node t (Repair g) n valid e = absurd (cc (e))
 
 -- What is kept
 
-each : (P Q : SeatState → Type 0) → ((x : SeatState) → P x → Q x) → (seats : List SeatState) → AllByRecursion P seats →
-    AllByRecursion Q seats
-each P Q f [] all = tt
-each P Q f (x ∷ xs) all = (f x all.0, each P Q f xs all.1)
+each-told : (P Q : SeatState → Type 0) (f : SeatState → SeatState) → ((x : SeatState) → P x → Q (f x)) →
+    (seats : List SeatState) → AllByRecursion P seats → AllByRecursion Q (map f seats)
+each-told P Q f does [] all = tt
+each-told P Q f does (x ∷ xs) all = (does x all.0, each-told P Q f does xs all.1)
 
 -- a seat whose desk the post leaves
 seat_left : (t : Network) (w : World) (c : Command) (s : SeatState) →
-    desk_after w (ingress_of c) (Order c) s.node.0 ≡ w.desks s.node.0 → SeatStands t w s → SeatStands t (posted w c) s
+    desk_after t w c (ingress_of c) s.node.0 ≡ w.desks s.node.0 → SeatStands t w s → SeatStands t (posted t w c) s
 seat_left t w c s same stands =
-    still-stands t w (posted w c) s (posted_elsewhere w c s.node.0) (desks-posted w c s.node.0 ∙ same)
-    (ap (λ (f : ℕ → ℕ). f s.node.0) (made_posted w c)) stands
+    still-stands t w (posted t w c) s (posted_elsewhere t w c s.node.0) (desks-posted t w c s.node.0 ∙ same)
+    (ap (λ (f : ℕ → ℕ). f s.node.0) (made_posted t w c)) stands
 
-nowhere_left : (t : Network) (w : World) (c : Command) (m : ℕ) → desk_after w (ingress_of c) (Order c) m ≡ w.desks m →
-    IsNowhere w m → IsNowhere (posted w c) m
+-- one whose node is told what the command changes
+seat_told : (t : Network) (w : World) (c : Command) (s : SeatState) → ingress_of c ≡ None → SeatStands t w s →
+    SeatStands t (posted t w c) (told t w.failed (failed_after c w.failed) s)
+seat_told t w c s none stands =
+    put-stands t w (posted t w c) s (all_news t w.failed (failed_after c w.failed) s.node.0)
+    (posted_elsewhere t w c s.node.0)
+    (desks-posted t w c s.node.0 ∙ ap (λ o. desk_after t w c o s.node.0) none)
+    (ap (λ (f : ℕ → ℕ). f s.node.0) (made_posted t w c)) stands
+
+nowhere_left : (t : Network) (w : World) (c : Command) (m : ℕ) →
+    desk_after t w c (ingress_of c) m ≡ w.desks m → IsNowhere w m → IsNowhere (posted t w c) m
 nowhere_left t w c m same is = record {
-  desk = desks-posted w c m ∙ same ∙ is.desk;
-  hops = λ d. ap (λ (x : HopEnd). x.hop.unacked) ((posted_elsewhere w c m).ends d) ∙ is.hops d;
-  flood = ap pending_count (posted_elsewhere w c m).floods ∙ is.flood;
+  desk = desks-posted t w c m ∙ same ∙ is.desk;
+  hops = λ d. ap (λ (x : HopEnd). x.hop.unacked) ((posted_elsewhere t w c m).ends d) ∙ is.hops d;
+  flood = ap pending_count (posted_elsewhere t w c m).floods ∙ is.flood;
 }
 
-given-stands : (t : Network) (k after : WorldState) (w : World) (c : Command) → is_valid t c ≡ true → StandsFor t k w →
-    IsGiven k c after → StandsFor t after (posted w c)
-given-stands t k after w c valid stands given = go (ingress_of c) refl given.seats
-  where
-    numbers : after.posted ≡ (posted w c).posted
-    numbers = given.posted ∙ ap (λ ns. ns ++ numbers_of c) stands.posted ∙ sym (numbers-posted w c)
+-- where no node is, nothing is told
+nothing_told : (t : Network) (w : World) (c : Command) (m : NodeId) → IsTopology t → ingress_of c ≡ None →
+    is_node_id t.nodes m ≡ false → desk_after t w c (ingress_of c) m.0 ≡ w.desks m.0
+nothing_told t w c m valid none nowhere =
+    ap (λ o. desk_after t w c o m.0) none
+    ∙ ap (λ items. w.desks m.0 ++ items) (no-news t valid w.failed (failed_after c w.failed) m nowhere)
+    ∙ append-nil (w.desks m.0)
 
-    go : (o : Option NodeId) → ingress_of c ≡ o → IsPutIf k.seats o (Order c) after.seats →
-        StandsFor t after (posted w c)
-    go None e same = record {
-      nodes = ap (map (λ (x : SeatState). x.node)) same ∙ stands.nodes;
-      apart = ap (λ (xs : List SeatState). is_distinct (map (λ (x : SeatState). x.node.0) xs)) same ∙ stands.apart;
-      seats = subst (AllByRecursion (SeatStands t (posted w c))) (sym same)
-          (each (SeatStands t w) (SeatStands t (posted w c))
-          (λ s sits. seat_left t w c s (ap (λ o. desk_after w o (Order c) s.node.0) e) sits) k.seats stands.seats);
-      nowhere = λ m none. nowhere_left t w c m.0 (ap (λ o. desk_after w o (Order c) m.0) e) (stands.nowhere m none);
+nodes-told : (t : Network) (before after : List Group) (seats : List SeatState) →
+    map (λ (x : SeatState). x.node) (map (told t before after) seats) ≡ map (λ (x : SeatState). x.node) seats
+nodes-told t before after [] = refl
+nodes-told t before after (s ∷ seats) = ap (λ ns. s.node ∷ ns) (nodes-told t before after seats)
+
+numbers-told : (t : Network) (before after : List Group) (seats : List SeatState) →
+    map (λ (x : SeatState). x.node.0) (map (told t before after) seats) ≡ map (λ (x : SeatState). x.node.0) seats
+numbers-told t before after [] = refl
+numbers-told t before after (s ∷ seats) = ap (λ ns. s.node.0 ∷ ns) (numbers-told t before after seats)
+
+given-stands : (t : Network) (k after : WorldState) (w : World) (c : Command) → IsTopology t → is_valid t c ≡ true →
+    StandsFor t k w → IsGiven t k c after → StandsFor t after (posted t w c)
+given-stands t k after w c topology valid stands given = go (ingress_of c) refl given.seats
+  where
+    numbers : after.posted ≡ (posted t w c).posted
+    numbers = given.posted ∙ ap (λ ns. ns ++ numbers_of c) stands.posted ∙ sym (numbers-posted t w c)
+
+    groups : after.failed ≡ (posted t w c).failed
+    groups = given.failed ∙ ap (failed_after c) stands.failed ∙ sym (failed-posted t w c)
+
+    go : (o : Option NodeId) → ingress_of c ≡ o → HaveHeard t k c o after.seats → StandsFor t after (posted t w c)
+    go None e heard = record {
+      nodes = ap (map (λ (x : SeatState). x.node)) same
+          ∙ nodes-told t w.failed (failed_after c w.failed) k.seats ∙ stands.nodes;
+      apart = ap (λ (xs : List SeatState). is_distinct (map (λ (x : SeatState). x.node.0) xs)) same
+          ∙ ap is_distinct (numbers-told t w.failed (failed_after c w.failed) k.seats) ∙ stands.apart;
+      seats = subst (AllByRecursion (SeatStands t (posted t w c))) (sym same)
+          (each-told (SeatStands t w) (SeatStands t (posted t w c)) (told t w.failed (failed_after c w.failed))
+          (λ s sits. seat_told t w c s e sits) k.seats stands.seats);
+      nowhere = λ m none. nowhere_left t w c m.0 (nothing_told t w c m topology e none) (stands.nowhere m none);
       posted = numbers;
+      failed = groups;
     }
+      where
+        same : after.seats ≡ map (told t w.failed (failed_after c w.failed)) k.seats
+        same = heard ∙ ap (λ groups. map (told t groups (failed_after c groups)) k.seats) stands.failed
     go (Some n) e put = record {
       nodes = ap (map (λ (x : SeatState). x.node)) put.seats
           ∙ nodes-set k.seats put.place put.seat new put.there refl ∙ stands.nodes;
       apart = ap (λ (xs : List SeatState). is_distinct (map (λ (x : SeatState). x.node.0) xs)) put.seats
           ∙ ap is_distinct (numbers-set k.seats put.place put.seat new put.there refl) ∙ stands.apart;
-      seats = subst (AllByRecursion (SeatStands t (posted w c))) (sym put.seats)
-          (all-set (SeatStands t w) (SeatStands t (posted w c)) k.seats put.place put.seat new put.there stands.apart
+      seats = subst (AllByRecursion (SeatStands t (posted t w c))) (sym put.seats)
+          (all-set (SeatStands t w) (SeatStands t (posted t w c)) k.seats put.place put.seat new put.there stands.apart
           stands.seats other here);
       nowhere = λ m none. nowhere_left t w c m.0 (elsewhere m.0 (not_it m none)) (stands.nowhere m none);
       posted = numbers;
+      failed = groups;
     }
       where
         new : SeatState
@@ -134,9 +183,9 @@ given-stands t k after w c valid stands given = go (ingress_of c) refl given.sea
             let same : first.item ≡ put.seat = cc (first.there, put.there) in
             same_number put.seat.node.0 n.0 (ap (is_at n.0) (sym same) ∙ first.passes)
 
-        elsewhere : (m : ℕ) → nat_eq m n.0 ≡ false → desk_after w (ingress_of c) (Order c) m ≡ w.desks m
+        elsewhere : (m : ℕ) → nat_eq m n.0 ≡ false → desk_after t w c (ingress_of c) m ≡ w.desks m
         elsewhere m other =
-            ap (λ o. desk_after w o (Order c) m) e ∙ ap (λ b. cond b (w.desks m ++ Order c ∷ []) (w.desks m)) other
+            ap (λ o. desk_after t w c o m) e ∙ ap (λ b. cond b (w.desks m ++ Order c ∷ []) (w.desks m)) other
 
         not_it : (m : NodeId) → is_node_id t.nodes m ≡ false → nat_eq m.0 n.0 ≡ false
         not_it m none = by (nat_eq m.0 n.0) refl
@@ -152,25 +201,25 @@ given-stands t k after w c valid stands given = go (ingress_of c) refl given.sea
             by false h = refl
 
         other : (x : SeatState) → nat_eq x.node.0 put.seat.node.0 ≡ false → SeatStands t w x →
-            SeatStands t (posted w c) x
+            SeatStands t (posted t w c) x
         other x apart sits = seat_left t w c x (elsewhere x.node.0 (ap (nat_eq x.node.0) (sym node) ∙ apart)) sits
 
-        here : SeatStands t (posted w c) new
+        here : SeatStands t (posted t w c) new
         here =
-            put-stands t w (posted w c) put.seat (Order c) (posted_elsewhere w c put.seat.node.0)
-            (desks-posted w c put.seat.node.0 ∙ ap (λ o. desk_after w o (Order c) put.seat.node.0) e
+            put-stands t w (posted t w c) put.seat (Order c ∷ []) (posted_elsewhere t w c put.seat.node.0)
+            (desks-posted t w c put.seat.node.0 ∙ ap (λ o. desk_after t w c o put.seat.node.0) e
             ∙ ap (λ x. cond (nat_eq put.seat.node.0 x) (w.desks put.seat.node.0 ++ Order c ∷ [])
             (w.desks put.seat.node.0)) (sym node)
             ∙ ap (λ b. cond b (w.desks put.seat.node.0 ++ Order c ∷ []) (w.desks put.seat.node.0))
             (self_test put.seat.node.0))
-            (ap (λ (f : ℕ → ℕ). f put.seat.node.0) (made_posted w c))
+            (ap (λ (f : ℕ → ℕ). f put.seat.node.0) (made_posted t w c))
             (all-get (SeatStands t w) k.seats put.place put.seat stands.seats put.there)
 
-pub posted-steps : (t : Network) (k after : WorldState) (c : Command) → is_valid t c ≡ true →
-    is_again k.posted c ≡ false → IsGiven k c after → HasStepped t k (Post c) after
-posted-steps t k after c valid fresh given w stands = (
+pub posted-steps : (t : Network) (k after : WorldState) (c : Command) → IsTopology t → is_valid t c ≡ true →
+    is_again k.posted c ≡ false → IsGiven t k c after → HasStepped t k (Post c) after
+posted-steps t k after c topology valid fresh given w stands = (
   both (is_valid t c) (is_again w.posted c) valid (ap (λ ns. is_again ns c) (sym stands.posted) ∙ fresh),
-  given-stands t k after w c valid stands given,
+  given-stands t k after w c topology valid stands given,
 )
   where
     both : (a b : Bool) → a ≡ true → b ≡ false → (a && not b) ≡ true

@@ -162,15 +162,15 @@ reached_delivered t w d u k (Some (Message p)) other e r =
     reached_handled t (taken w d u p) d u (handed_up w d u p) (reached-frame w d u k p other e r)
 reached_delivered t w d u k (Some (Flood m)) other e r = reached-flooded t w d u m r
 
-reached_posted : (w : World) (c : Command) → AreReached w → AreReached (posted w c)
-reached_posted w (Setup n from to protected both via backup) r =
+reached_posted : (t : Network) (w : World) (c : Command) → AreReached w → AreReached (posted t w c)
+reached_posted t w (Setup n from to protected both via backup) r =
     record { apart = r.apart; alone = r.alone; channels = r.channels }
-reached_posted w (Release n from) r = record { apart = r.apart; alone = r.alone; channels = r.channels }
-reached_posted w (Protect n from) r = record { apart = r.apart; alone = r.alone; channels = r.channels }
-reached_posted w (Retry n from) r = record { apart = r.apart; alone = r.alone; channels = r.channels }
-reached_posted w (Revert n from) r = record { apart = r.apart; alone = r.alone; channels = r.channels }
-reached_posted w (Fail g) r = r
-reached_posted w (Repair g) r = r
+reached_posted t w (Release n from) r = record { apart = r.apart; alone = r.alone; channels = r.channels }
+reached_posted t w (Protect n from) r = record { apart = r.apart; alone = r.alone; channels = r.channels }
+reached_posted t w (Retry n from) r = record { apart = r.apart; alone = r.alone; channels = r.channels }
+reached_posted t w (Revert n from) r = record { apart = r.apart; alone = r.alone; channels = r.channels }
+reached_posted t w (Fail g) r = record { apart = r.apart; alone = r.alone; channels = r.channels }
+reached_posted t w (Repair g) r = record { apart = r.apart; alone = r.alone; channels = r.channels }
 
 -- the two nodes of a channel aren't one
 pub is-other : (t : Network) (u d : NodeId) (b c : Bool) → (b && is_channel t u d && c) ≡ true → nat_eq u.0 d.0 ≡ false
@@ -193,7 +193,7 @@ are-reached-step t w (Desk n) on r =
     reached-commit (without_item (with_event w n.0) n.0) n.0
     (on_first_item (local_node t n) (w.nodes n.0) (w.desks n.0))
     (reached-item (with_event w n.0) n.0 (reached-event w n.0 r))
-are-reached-step t w (Post c) on r = reached_posted w c r
+are-reached-step t w (Post c) on r = reached_posted t w c r
 
 pub are-reached-run : (t : Network) (events : List Event) (w : World) → IsRun t w events → AreReached w →
     AreReached (after t w events)

@@ -23,7 +23,7 @@ use Rattle.controller.proofs.Reaching.{hop-new, peers-new}
 use Rattle.world_core.specs.declared.acts.Act.TheVariants as act
 use Rattle.world_core.specs.Channels.{AreSent, ChannelState, HasFrames, after_frames, channel_to, receivers}
 use Rattle.world_core.specs.Runs.{step}
-use Rattle.world_core.specs.Seats.{HasDone, HasReacted, SeatStands, SeatState, new_seat, with_item}
+use Rattle.world_core.specs.Seats.{HasDone, HasReacted, SeatStands, SeatState, new_seat}
 use Rattle.world_core.specs.Standing.{IsStepOf, IsUntouched, contents_to}
 use Rattle.world_core.specs.Worlds.{World, delivered, frame_at, handed_up, start, taken, with_event}
 use Rattle.world_core.specs.Worlds as worlds
@@ -234,11 +234,11 @@ still-stands t w new s same desks made stands = record {
       (stands.frames d c found);
 }
 
--- an item more on the desk, here and in the world
-pub put-stands : (t : Network) (w new : World) (s : SeatState) (i : DeskItem) → IsUntouched w new s.node.0 →
-    new.desks s.node.0 ≡ w.desks s.node.0 ++ i ∷ [] → new.made s.node.0 ≡ w.made s.node.0 → SeatStands t w s →
-    SeatStands t new (with_item i s)
-put-stands t w new s i same desks made stands = record {
+-- these items more on the desk, here and in the world
+pub put-stands : (t : Network) (w new : World) (s : SeatState) (more : List DeskItem) → IsUntouched w new s.node.0 →
+    new.desks s.node.0 ≡ w.desks s.node.0 ++ more → new.made s.node.0 ≡ w.made s.node.0 → SeatStands t w s →
+    SeatStands t new (record s { desk = s.desk ++ more })
+put-stands t w new s more same desks made stands = record {
   place = stands.place;
   stands = record {
     state = stands.stands.state ∙ sym same.nodes;
@@ -247,7 +247,7 @@ put-stands t w new s i same desks made stands = record {
   flood = stands.flood ∙ sym same.floods;
   hops = stands.hops;
   made = stands.made ∙ sym made;
-  desk = ap (λ items. items ++ i ∷ []) stands.desk ∙ sym desks;
+  desk = ap (λ items. items ++ more) stands.desk ∙ sym desks;
   channels = stands.channels;
   frames = λ d c found. subst (λ contents. HasFrames s.node contents c.frames) (sym (same.channels d.0))
       (stands.frames d c found);

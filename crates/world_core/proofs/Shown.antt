@@ -49,6 +49,7 @@ image-commit law w r n a = λ i. record {
   mail = λ u d. way-sends (nat_eq u n) (nat_eq d n) (sent_to d a.sent) (sent_to u a.sent) (w.ends u d) (w.ends d u)
       (in-order law w r u d) i;
   posted = w.posted;
+  failed = w.failed;
 }
 
 -- Hops tick
@@ -60,6 +61,7 @@ image-hops w n = λ i. record {
   mail = λ u d. way-same (w.ends u d) (w.ends d u) (end u d) (end d u) (given (nat_eq u n) (w.ends u d))
       (up (nat_eq d n) (w.ends d u)) i;
   posted = w.posted;
+  failed = w.failed;
 }
   where
     end : ℕ → ℕ → HopEnd
@@ -103,6 +105,7 @@ image_unmoved w d u p none = λ i. record {
   mail = λ a b. way-same (w.ends a b) (w.ends b a) ((taken w d u p).ends a b) ((taken w d u p).ends b a)
       (given_taken (nat_eq a d.0 && nat_eq b u.0) p (w.ends a b)) (up_same w d u p none b a) i;
   posted = w.posted;
+  failed = w.failed;
 }
 
 -- A message is handed up: it was the first under way, and the others are left.
@@ -147,6 +150,7 @@ image_taken law w d u p m first = λ i. record {
   desks = w.desks;
   mail = λ a b. by_test a b (nat_eq a u.0 && nat_eq b d.0) refl i;
   posted = w.posted;
+  failed = w.failed;
 }
   where
     swapped : (a b c d : ℕ) → (nat_eq a b && nat_eq c d) ≡ false → (nat_eq c d && nat_eq a b) ≡ false
@@ -210,6 +214,7 @@ image_kept t w d u m none = λ i. record {
   desks = w.desks;
   mail = (image w).mail;
   posted = w.posted;
+  failed = w.failed;
 }
   where
     node : (n : ℕ) (c : Bool) →
@@ -226,6 +231,7 @@ image_learnt t w d u m row new = λ i. record {
   desks = w.desks;
   mail = λ a b. mail (nat_eq a d.0) b ((image w).mail a b) i;
   posted = w.posted;
+  failed = w.failed;
 }
   where
     rule : NodeState → Answer
@@ -272,14 +278,14 @@ shows_delivered law t w d u k (Some (Message p)) other channel each is e r =
     shows_handled law t w d u p (handed_up w d u p) other (reached-frame w d u k p other e r) refl
     (λ m ms h. at_most_one (heard_at w d u p) p m ms h)
 
-shows_posted : (w : World) (c : Command) → mesh_runs.posted (image w) c ≡ image (posted w c)
-shows_posted w (Setup n from to protected both via backup) = refl
-shows_posted w (Release n from) = refl
-shows_posted w (Protect n from) = refl
-shows_posted w (Retry n from) = refl
-shows_posted w (Revert n from) = refl
-shows_posted w (Fail g) = refl
-shows_posted w (Repair g) = refl
+shows_posted : (t : Network) (w : World) (c : Command) → mesh_runs.posted t (image w) c ≡ image (posted t w c)
+shows_posted t w (Setup n from to protected both via backup) = refl
+shows_posted t w (Release n from) = refl
+shows_posted t w (Protect n from) = refl
+shows_posted t w (Retry n from) = refl
+shows_posted t w (Revert n from) = refl
+shows_posted t w (Fail g) = refl
+shows_posted t w (Repair g) = refl
 
 first_holds : (b c : Bool) → (b && c) ≡ true → b ≡ true
 first_holds b c h = grind arith
@@ -321,7 +327,7 @@ shows-step law t each w (Desk n) on is r =
       run = (last_holds (may_act t w n) (has_first (w.desks n.0)) on, tt);
       leads = sym (image-commit law before (reached-item (with_event w n.0) n.0 (reached-event w n.0 r)) n.0 rule);
     }
-shows-step law t each w (Post c) on is r = record { run = (on, tt); leads = shows_posted w c }
+shows-step law t each w (Post c) on is r = record { run = (on, tt); leads = shows_posted t w c }
 
 -- What leaves the image
 

@@ -59,15 +59,15 @@ delivered_elsewhere t w d u (Some (Message p)) m e =
 delivered_elsewhere t w d u (Some (Flood f)) m e =
     record { nodes = rw e refl; ends = λ b. refl; floods = rw e refl; channels = λ b. rw e refl }
 
-pub posted_elsewhere : (w : World) (c : Command) (m : ℕ) → IsUntouched w (posted w c) m
-posted_elsewhere w (Setup n from to protected both via backup) m =
-    same_nodes w (posted w (Setup n from to protected both via backup)) m refl refl refl refl
-posted_elsewhere w (Release n from) m = same_nodes w (posted w (Release n from)) m refl refl refl refl
-posted_elsewhere w (Protect n from) m = same_nodes w (posted w (Protect n from)) m refl refl refl refl
-posted_elsewhere w (Retry n from) m = same_nodes w (posted w (Retry n from)) m refl refl refl refl
-posted_elsewhere w (Revert n from) m = same_nodes w (posted w (Revert n from)) m refl refl refl refl
-posted_elsewhere w (Fail g) m = same_nodes w w m refl refl refl refl
-posted_elsewhere w (Repair g) m = same_nodes w w m refl refl refl refl
+pub posted_elsewhere : (t : Network) (w : World) (c : Command) (m : ℕ) → IsUntouched w (posted t w c) m
+posted_elsewhere t w (Setup n from to protected both via backup) m =
+    same_nodes w (posted t w (Setup n from to protected both via backup)) m refl refl refl refl
+posted_elsewhere t w (Release n from) m = same_nodes w (posted t w (Release n from)) m refl refl refl refl
+posted_elsewhere t w (Protect n from) m = same_nodes w (posted t w (Protect n from)) m refl refl refl refl
+posted_elsewhere t w (Retry n from) m = same_nodes w (posted t w (Retry n from)) m refl refl refl refl
+posted_elsewhere t w (Revert n from) m = same_nodes w (posted t w (Revert n from)) m refl refl refl refl
+posted_elsewhere t w (Fail g) m = same_nodes w (posted t w (Fail g)) m refl refl refl refl
+posted_elsewhere t w (Repair g) m = same_nodes w (posted t w (Repair g)) m refl refl refl refl
 
 event_elsewhere : (w : World) (n m : ℕ) → IsUntouched w (with_event w n) m
 event_elsewhere w n m = same_nodes w (with_event w n) m refl refl refl refl
@@ -92,7 +92,7 @@ others-are-untouched t w (Desk n) m e =
     let other : nat_eq m n.0 ≡ false = turned n.0 m false e in
     then_untouched w before (step t w (Desk n)) m (same_nodes w before m refl refl refl refl)
     (commit_elsewhere before n.0 (on_first_item (local_node t n) (w.nodes n.0) (w.desks n.0)) m other)
-others-are-untouched t w (Post c) m e = posted_elsewhere w c m
+others-are-untouched t w (Post c) m e = posted_elsewhere t w c m
 
 -- Channels and neighbours
 

@@ -9,22 +9,26 @@ use Rattle.ason_base.specs.declared.commands.Command.{Command}
 use Rattle.ason_base.specs.declared.commands.Command.TheVariants.{Setup, Release, Protect, Retry, Revert, Fail, Repair}
 use Rattle.ason_base.specs.declared.commands.DeskItem.{DeskItem}
 use Rattle.ason_base.specs.declared.commands.DeskItem.TheVariants.{Order}
+use Rattle.ason_base.specs.declared.commands.Group.{Group}
 use Rattle.ason_base.specs.declared.commands.Event.{Event}
 use Rattle.ason_base.specs.Network.{Network, is_distinct, is_node_id}
 use Rattle.flood.specs.State.{pending_count}
+use Rattle.mesh_rules.specs.Failures.{failed_after}
 use Rattle.mesh_rules.specs.Rows.{all_call_rows, all_leg_rows}
 use Rattle.world_core.specs.declared.acts.Act.{Act}
 use Rattle.world_core.specs.declared.faults.Fault.{Fault}
 use Rattle.world_core.specs.declared.faults.Fault.TheVariants.{NotEnabled}
 use Rattle.world_core.specs.Images.{IsQuiet, image}
-use Rattle.world_core.specs.Seats.{HasDoneAt, SeatStands, SeatState, can_do, is_able, is_at, with_item}
+use Rattle.world_core.specs.Seats.{HasDoneAt, SeatStands, SeatState, can_do, is_able, is_at, told, with_item}
 use Rattle.world_core.specs.Worlds.{World, start}
 use Rattle.world_core.specs.Runs.{IsEnabled, IsRun, after, step}
 
--- the seats of all nodes, in order of number, and the call numbers of the setups that were posted
+-- the seats of all nodes, in order of number, the call numbers of the setups that were posted, and the groups that have
+-- failed
 pub record WorldState : Type 0 where
   pub seats : List SeatState
   pub posted : List CallNo
+  pub failed : List Group
 
 -- at a number that is no node's, nothing waits
 pub record IsNowhere (w : World) (n : ℕ) : Type 0 where
@@ -39,6 +43,7 @@ pub record StandsFor (t : Network) (k : WorldState) (w : World) : Type 0 where
   pub seats : AllByRecursion (SeatStands t w) k.seats
   pub nowhere : (n : NodeId) → is_node_id t.nodes n ≡ false → IsNowhere w n.0
   pub posted : k.posted ≡ w.posted
+  pub failed : k.failed ≡ w.failed
 
 -- What is read of it, in whatever world it stands for
 
@@ -62,6 +67,7 @@ pub record HasActed (old : WorldState) (n : NodeId) (a : Act) (new : WorldState)
   pub there : slice_get old.seats place ≡ Some seat
   pub done : HasDoneAt old.seats place seat a new.seats
   pub posted : new.posted ≡ old.posted
+  pub failed : new.failed ≡ old.failed
 
 -- there is no such node, or it can't do this
 abbrev pub IsUnable : WorldState → NodeId → Act → Type 0
@@ -98,14 +104,17 @@ pub record IsPut (old : List SeatState) (n : NodeId) (i : DeskItem) (new : List 
   pub there : slice_get old place ≡ Some seat
   pub seats : new ≡ slice_set old place (with_item i seat)
 
-abbrev pub IsPutIf : List SeatState → Option NodeId → DeskItem → List SeatState → Type 0
-IsPutIf old None i new = new ≡ old
-IsPutIf old (Some n) i new = IsPut old n i new
+-- the command goes to the desk of its ingress, or, where it has none, each node is told what it changes
+abbrev pub HaveHeard : Network → WorldState → Command → Option NodeId → List SeatState → Type 0
+HaveHeard t old c None new = new ≡ map (told t old.failed (failed_after c old.failed)) old.seats
+HaveHeard t old c (Some n) new = IsPut old.seats n (Order c) new
 
--- the command goes to the desk of its ingress, and its number to those that were posted
-pub record IsGiven (old : WorldState) (c : Command) (new : WorldState) : Type 0 where
-  pub seats : IsPutIf old.seats (ingress_of c) (Order c) new.seats
+-- the nodes have heard of the command, its number is one of those that were posted, and its group has failed or is
+-- repaired
+pub record IsGiven (t : Network) (old : WorldState) (c : Command) (new : WorldState) : Type 0 where
+  pub seats : HaveHeard t old c (ingress_of c) new.seats
   pub posted : new.posted ≡ old.posted ++ numbers_of c
+  pub failed : new.failed ≡ failed_after c old.failed
 
 -- its ingress is no node
 pub record IsForNobody (seats : List SeatState) (c : Command) : Type 0 where

@@ -2,10 +2,13 @@
 use Rattle.std.specs.Prelude.{◌≡◌, ℕ, ◌==◌, ◌&&◌, nat_lt, Bool, true, List, [], ◌∷◌, ◌++◌, map, Option, Some, None, find, is_some, length, slice_set}
 use Rattle.ason_base.specs.declared.ids.NodeId.{NodeId}
 use Rattle.ason_base.specs.declared.commands.DeskItem.{DeskItem}
+use Rattle.ason_base.specs.declared.commands.Group.{Group}
+use Rattle.ason_base.specs.declared.network.LinkSpec.{LinkSpec}
 use Rattle.ason_base.specs.Network.{Network}
 use Rattle.flood.specs.State.{pending_count}
 use Rattle.mesh_nodes.specs.LocalNodes.{is_neighbour}
 use Rattle.mesh_rules.specs.Events.{has_first}
+use Rattle.mesh_rules.specs.Failures.{all_news, changed_news}
 use Rattle.mesh_rules.specs.LocalNodes.{local_node}
 use Rattle.controller.specs.declared.frames.Frame.{Frame}
 use Rattle.controller.specs.declared.inputs.CoreInput.{CoreInput}
@@ -89,6 +92,14 @@ pub record HasDoneAt (before : List SeatState) (place : ℕ) (seat : SeatState) 
 -- with an item more at the end of the desk
 abbrev pub with_item : DeskItem → SeatState → SeatState
 with_item i s = record s { desk = s.desk ++ i ∷ [] }
+
+-- with what the node is told of a link at the end of the desk, where other groups have failed than before
+abbrev pub told_of : List Group → List Group → LinkSpec → SeatState → SeatState
+told_of before after l s = record s { desk = s.desk ++ changed_news before after s.node.0 l }
+
+-- of each link
+abbrev pub told : Network → List Group → List Group → SeatState → SeatState
+told t before after s = record s { desk = s.desk ++ all_news t before after s.node.0 }
 
 -- nothing waits on the desk, and each message and each row that the node sends is acknowledged
 abbrev pub is_quiet : SeatState → Bool

@@ -1,6 +1,6 @@
 //! The seat of a node in a world.
 
-ghost use Rattle.std.specs.Prelude.{◌≡◌, ◌<◌, [], ◌∷◌, IfErr, IfOk, IsSome, IsTrue, MatchOption, OnOk, false, is_some};
+ghost use Rattle.std.specs.Prelude.{◌≡◌, ◌==◌, ◌<◌, [], ◌∷◌, IfErr, IfOk, IsSome, IsTrue, MatchOption, OnOk, false, is_some};
 ghost use Rattle.std.specs.Option.{option_copied};
 ghost use Rattle.ason_base.specs.Network.{find_node};
 ghost use Rattle.mesh_rules.specs.Rows.{call_rows, leg_rows};
@@ -8,14 +8,15 @@ ghost use Rattle.controller.specs.Kept.{IsFromNeighbour};
 ghost use Rattle.world_core.specs.declared.acts.Act.{Act};
 ghost use Rattle.world_core.specs.declared.faults.Fault.{Fault};
 ghost use Rattle.world_core.specs.Channels.{channel_to, frame_on};
-ghost use Rattle.world_core.specs.Seats.{HasDone, HasReacted, can_do, is_able, is_quiet, new_seat, with_item};
+ghost use Rattle.world_core.specs.Seats.{HasDone, HasReacted, can_do, is_able, is_quiet, new_seat, told, told_of, with_item};
 
 use crate::acts::Act;
 use crate::channel::{Channel, frame_to, is_there, new_channels, send_all};
 use crate::faults::Fault;
-use ason_base::{Bytes, DeskItem, NodeId, OutOfMemory, TableRows, Topology};
+use ason_base::{Bytes, DeskItem, Group, LinkSpec, NodeId, OutOfMemory, TableRows, Topology};
 use controller::controller::MOST_STEPS;
 use controller::{Controller, CoreInput};
+use mesh_rules::failures::news_of;
 use std::alloc::Global;
 use std::collections::VecDeque;
 use std::marker::Model;
@@ -145,6 +146,37 @@ impl Seat {
         ensures { OnOk result (self.new ≡ with_item item self.old) }
     {
         self.desk.push_back(item)?;
+        Ok(())
+    }
+
+    // Puts what the node is told of the link at the end of the desk.
+    fn tell_of(
+        &mut self,
+        before: &[Group],
+        after: &[Group],
+        link: &LinkSpec,
+    ) -> Result<(), OutOfMemory>
+        requires { (link.now.low.0 == link.now.high.0) ≡ false }
+        ensures { OnOk result (self.new ≡ told_of before.now after.now link.now self.old) }
+    {
+        match news_of(before, after, self.node, link) {
+            None => Ok(()),
+            Some(item) => self.put(item),
+        }
+    }
+
+    /// Puts what the node is told at the end of the desk, where other groups have failed than before.
+    pub(crate) fn tell(
+        &mut self,
+        t: &Topology,
+        before: &[Group],
+        after: &[Group],
+    ) -> Result<(), OutOfMemory>
+        ensures { OnOk result (self.new ≡ told t.now before.now after.now self.old) }
+    {
+        for link in t.links() {
+            self.tell_of(before, after, link)?;
+        }
         Ok(())
     }
 

@@ -5,12 +5,12 @@ ghost use Rattle.std.specs.List.{list_all};
 ghost use Rattle.std.specs.Option.{option_copied};
 ghost use Rattle.mesh_rules.specs.Rows.{call_rows, leg_rows};
 ghost use Rattle.world_core.specs.declared.faults.Fault.{Fault};
-ghost use Rattle.world_core.specs.Seats.{HasDoneAt, SeatState, can_do, frame_there, is_able, is_at, is_channel_there, is_quiet, new_seat, with_item};
+ghost use Rattle.world_core.specs.Seats.{HasDoneAt, SeatState, can_do, frame_there, is_able, is_at, is_channel_there, is_quiet, new_seat, told, with_item};
 
 use crate::acts::Act;
 use crate::faults::Fault;
 use crate::seat::Seat;
-use ason_base::{Bytes, CallRows, DeskItem, LegRows, NodeId, OutOfMemory, TableRows, Topology};
+use ason_base::{Bytes, CallRows, DeskItem, Group, LegRows, NodeId, OutOfMemory, TableRows, Topology};
 use std::alloc::Global;
 
 /// A seat for each node.
@@ -62,6 +62,21 @@ pub(crate) fn put_at(seats: &mut Vec<Seat>, place: usize, item: DeskItem) -> Res
 {
     let seat = &mut seats[place];
     seat.put(item)
+}
+
+/// Puts what each node is told at the end of its desk, where other groups have failed than before.
+pub(crate) fn tell_all(
+    seats: &mut [Seat],
+    t: &Topology,
+    before: &[Group],
+    after: &[Group],
+) -> Result<(), OutOfMemory>
+    ensures { OnOk result (seats.new ≡ map (told t.now before.now after.now) seats.old) }
+{
+    for seat in seats.iter_mut() {
+        seat.tell(t, before, after)?;
+    }
+    Ok(())
 }
 
 fn seat_at(seats: &[Seat], n: NodeId) -> Option<&Seat>

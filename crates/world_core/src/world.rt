@@ -1,13 +1,14 @@
 //! A world of controllers, and what each event makes of it.
 
-ghost use Rattle.std.specs.Prelude.{◌≡◌, ◌++◌, ◌∷◌, [], ℕ, IfErr, IfOk, MatchOption, MatchResult, OnOk, position, true, None, Some};
+ghost use Rattle.std.specs.Prelude.{◌≡◌, ◌++◌, ◌∷◌, [], ℕ, map, IfErr, IfOk, MatchOption, MatchResult, OnOk, position, true, None, Some};
 ghost use Rattle.ason_base.specs.Network.{Network};
 ghost use Rattle.ason_base.specs.declared.commands.DeskItem.TheVariants.{Order};
 ghost use Rattle.ason_base.specs.declared.commands.Event.{Event};
 ghost use Rattle.world_core.specs.declared.acts.Act.{Act};
 ghost use Rattle.world_core.specs.declared.faults.Fault.{Fault};
-ghost use Rattle.world_core.specs.Replays.{HasActed, HasStepped, IsDisabled, IsForNobody, IsGiven, IsPut, IsPutIf, IsRefused, IsUnable, ShowsCalls, ShowsLegs, StandsFor, TellsQuiet, ingress_of, numbers_of};
-ghost use Rattle.world_core.specs.Seats.{frame_there, is_at};
+ghost use Rattle.world_core.specs.Replays.{HasActed, HasStepped, IsDisabled, IsForNobody, IsGiven, IsPut, HaveHeard, IsRefused, IsUnable, ShowsCalls, ShowsLegs, StandsFor, TellsQuiet, ingress_of, numbers_of};
+ghost use Rattle.world_core.specs.Seats.{frame_there, is_at, told};
+ghost use Rattle.mesh_rules.specs.Failures.{failed_after};
 ghost use Rattle.world_core.specs.Worlds.{start};
 
 use crate::acts::Act;
@@ -16,21 +17,23 @@ use crate::noise::spells_nothing;
 use crate::seat::Seat;
 use crate::seats::{
     able_place, act_at, are_quiet, frame_there, is_channel_there, new_seats, place_of, put_at,
-    rows_of,
+    rows_of, tell_all,
 };
 use ason_base::{
-    Bytes, CallNo, Command, Copied, DeskItem, Event, NodeId, OutOfMemory, TableRows, Topology,
+    Bytes, CallNo, Command, Copied, DeskItem, Event, Group, NodeId, OutOfMemory, TableRows, Topology,
 };
 use mesh_rules::commands::{is_again, is_valid};
+use mesh_rules::failures::failed_after;
 use std::alloc::Global;
 use std::marker::Model;
 
-/// The controllers of a network with their desks, all that was ever sent on each channel, and the call numbers of the setups
-/// that were posted.
+/// The controllers of a network with their desks, all that was ever sent on each channel, the call numbers of the setups that
+/// were posted, and the groups that have failed.
 #[derive(Debug, Drop)]
 pub struct World {
     seats: Vec<Seat>,
     posted: Vec<CallNo>,
+    failed: Vec<Group>,
 }
 
 impl Model for World {
@@ -38,7 +41,11 @@ impl Model for World {
 
     ghost Value = { WorldState };
 
-    ghost view = { λ w. record { seats = w.seats.items; posted = w.posted.items } };
+    ghost view = { λ w. record {
+      seats = w.seats.items;
+      posted = w.posted.items;
+      failed = w.failed.items;
+    } };
 }
 
 // The node on whose desk a command goes, if it is a call's.
@@ -56,7 +63,7 @@ fn ingress_of(command: &Command) -> Option<NodeId>
 }
 
 impl World {
-    /// Nothing stands, and nothing was sent. The rows of a node's own links are due to each of its neighbours.
+    /// Nothing stands, nothing was sent, and nothing has failed. The rows of a node's own links are due to each of its neighbours.
     pub(crate) fn new(alloc: Global, t: &Topology) -> Result<World, OutOfMemory>
         ensures { IfOk result (λ w. StandsFor t.now w (start t.now)) }
     {
@@ -65,6 +72,7 @@ impl World {
         Ok(World {
             seats,
             posted: Vec::new(alloc),
+            failed: Vec::new(alloc),
         })
     }
 
@@ -155,6 +163,7 @@ impl World {
         ensures done { OnOk result (IsPut self.old.seats node (Order command.now) self.new.seats) }
         ensures refused { IsRefused result (position (is_at node.0) self.old.seats ≡ None) }
         ensures posted { self.new.posted ≡ self.old.posted }
+        ensures failed { self.new.failed ≡ self.old.failed }
     {
         match place_of(&self.seats, node) {
             None => Err(Fault::NotEnabled),
@@ -166,15 +175,34 @@ impl World {
         }
     }
 
-    // A call's command goes to the desk of its ingress.
-    fn order(&mut self, alloc: Global, command: &Command) -> Result<(), Fault>
+    // Each node is told what has changed, where these groups have failed.
+    fn tell(&mut self, t: &Topology, failed: &[Group]) -> Result<(), OutOfMemory>
         ensures done { OnOk result
-            (IsPutIf self.old.seats (ingress_of command.now) (Order command.now) self.new.seats) }
+            (self.new.seats ≡ map (told t.now self.old.failed failed.now) self.old.seats) }
+        ensures posted { self.new.posted ≡ self.old.posted }
+    {
+        tell_all(&mut self.seats, t, &self.failed, failed)
+    }
+
+    // A call's command goes to the desk of its ingress. Of another each node is told what it changes.
+    fn order(
+        &mut self,
+        alloc: Global,
+        t: &Topology,
+        command: &Command,
+        failed: &[Group],
+    ) -> Result<(), Fault>
+        requires { failed.now ≡ failed_after command.now self.old.failed }
+        ensures done { OnOk result
+            (HaveHeard t.now self.old command.now (ingress_of command.now) self.new.seats) }
         ensures refused { IsRefused result (IsForNobody self.old.seats command.now) }
         ensures posted { self.new.posted ≡ self.old.posted }
     {
         match ingress_of(command) {
-            None => Ok(()),
+            None => {
+                self.tell(t, failed)?;
+                Ok(())
+            }
             Some(node) => self.put(alloc, node, command),
         }
     }
@@ -183,6 +211,7 @@ impl World {
     fn take_number(&mut self, command: &Command) -> Result<(), OutOfMemory>
         ensures done { OnOk result (self.new.posted ≡ self.old.posted ++ numbers_of command.now) }
         ensures seats { self.new.seats ≡ self.old.seats }
+        ensures failed { self.new.failed ≡ self.old.failed }
     {
         if let Command::Setup { call, .. } = command {
             self.posted.push(*call)?;
@@ -190,12 +219,14 @@ impl World {
         Ok(())
     }
 
-    fn give(&mut self, alloc: Global, command: &Command) -> Result<(), Fault>
-        ensures done { OnOk result (IsGiven self.old command.now self.new) }
+    fn give(&mut self, alloc: Global, t: &Topology, command: &Command) -> Result<(), Fault>
+        ensures done { OnOk result (IsGiven t.now self.old command.now self.new) }
         ensures refused { IsRefused result (IsForNobody self.old.seats command.now) }
     {
-        self.order(alloc, command)?;
+        let failed = failed_after(alloc, &self.failed, command)?;
+        self.order(alloc, t, command, &failed)?;
         self.take_number(command)?;
+        self.failed = failed;
         Ok(())
     }
 
@@ -203,13 +234,14 @@ impl World {
         ensures done { OnOk result (HasStepped t.now self.old (Event.Post command.now) self.new) }
         ensures refused { IsRefused result (IsDisabled t.now self.old (Event.Post command.now)) }
     {
+        let _links = t.links();
         if !is_valid(t, command) {
             return Err(Fault::NotEnabled);
         }
         if is_again(&self.posted, command) {
             return Err(Fault::NotEnabled);
         }
-        self.give(alloc, command)
+        self.give(alloc, t, command)
     }
 
     /// Makes an event, where it is enabled.

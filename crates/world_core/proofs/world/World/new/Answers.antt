@@ -1,6 +1,6 @@
 use Rattle.std.proofs.Common.{map, sym, subst}
 use Rattle.ason_base.specs.declared.network.NodeSpec.{NodeSpec}
-use Rattle.world_core.specs.Replays.{StandsFor}
+use Rattle.world_core.specs.Replays.{StandsFor, WorldState}
 use Rattle.world_core.specs.Seats.{new_seat}
 use Rattle.world_core.specs.Worlds.{start}
 use Rattle.world_core.proofs.Beginning.{new-world}
@@ -9,11 +9,13 @@ use Rattle.world_core.proofs.world.World.new.Goals as goal
 pub returns : goal.returns
 returns c =
     let t = c.args.t.now in
-    subst (λ seats. StandsFor t (record { seats = seats; posted = c.new.result.items }) (start t))
-    (sym c.in_ok-seats.ensures)
-    (subst (λ posted. StandsFor t (record {
-      seats = map (λ (m : NodeSpec). new_seat t m.id) t.nodes;
-      posted =
-          posted;
-    }) (start t))
-    (sym c.new.ensures.items) (new-world t c.nodes-nodes.ensures.valid))
+    let made : WorldState = record {
+      seats = c.in_ok-seats.seats.items;
+      posted = c.new.result.items;
+      failed = c.new-2.result.items;
+    } in
+    let seated : WorldState = record made { seats = map (λ (m : NodeSpec). new_seat t m.id) t.nodes } in
+    subst (λ seats. StandsFor t (record made { seats = seats }) (start t)) (sym c.in_ok-seats.ensures)
+    (subst (λ posted. StandsFor t (record seated { posted = posted }) (start t)) (sym c.new.ensures.items)
+    (subst (λ failed. StandsFor t (record seated { posted = []; failed = failed }) (start t))
+    (sym c.new-2.ensures.items) (new-world t c.nodes-nodes.ensures.valid)))
