@@ -1,4 +1,5 @@
--- By no message, and by no item of its desk, does a node learn of a link.
+-- By no message, and by no item of its desk, does a node learn of a link; by no message and no order does it learn that a
+-- fibre went down.
 use Rattle.std.proofs.Common.{◌≡◌, Bool, true, false, cond, nat_eq, nat_lt, not, List, [], ◌∷◌, drop, refl}
 use Rattle.std.specs.Prelude.{◌&&◌, ℕ, Option, Some, None, is_some}
 use Rattle.ason_base.specs.Codes.{busy_code, torn_code}
@@ -14,6 +15,7 @@ use Rattle.ason_base.specs.declared.ids.Lsp.{Lsp}
 use Rattle.ason_base.specs.declared.messages.PathRole.{PathRole}
 use Rattle.ason_base.specs.declared.messages.PathRole.TheVariants.{Work, Back}
 use Rattle.ason_base.specs.declared.codes.ErrCode.{ErrCode}
+use Rattle.ason_base.specs.declared.commands.Command.{Command}
 use Rattle.ason_base.specs.declared.commands.Command.TheVariants.{Setup, Release, Protect, Retry, Revert, Fail, Repair}
 use Rattle.ason_base.specs.declared.commands.DeskItem.{DeskItem}
 use Rattle.ason_base.specs.declared.commands.DeskItem.TheVariants.{Order, Alarm, Clear}
@@ -43,7 +45,7 @@ use Rattle.mesh_rules.specs.Legs.{connected, find_leg, following, is_armed, is_a
 use Rattle.mesh_rules.specs.LocalNodes.{LocalNode, leads, own_link}
 use Rattle.mesh_rules.specs.Messages.{arrival, on_message}
 use Rattle.mesh_rules.specs.Notifies.{Notice, notice_passed, notice_told, notify_with}
-use Rattle.mesh_rules.specs.Orders.{on_item}
+use Rattle.mesh_rules.specs.Orders.{on_item, on_order}
 use Rattle.mesh_rules.specs.PathErrs.{PathFailure, err_passed, path_err_with, removed}
 use Rattle.mesh_rules.specs.Paths.{PathRequest, admitted, at_egress, checks, first_failure, first_path, in_transit, is_active, judged, path_with}
 use Rattle.mesh_rules.specs.Pairs.{backup_route, over_backup, pair, pair_over, route_from}
@@ -59,8 +61,9 @@ use Rattle.mesh_rules.specs.Turns.{decide, decided, has_any, turn}
 use Rattle.mesh_nodes.specs.Learnt.{NothingElseIsLearnt}
 use Rattle.mesh_nodes.proofs.Cases.{if_cases}
 
+-- no link, and no fibre that went down or came up
 abbrev LearnsNothing : Answer → Type 0
-LearnsNothing a = a.rows ≡ []
+LearnsNothing a = (a.rows ≡ []) × (a.down ≡ None)
 
 -- of a choice of two such answers
 either-one : (b : Bool) (x y : Answer) → LearnsNothing x → LearnsNothing y → LearnsNothing (cond b x y)
@@ -68,19 +71,19 @@ either-one b x y this that = if_cases LearnsNothing b x y (λ e. this) (λ e. th
 
 -- and of one after the other
 both : (a b : Answer) → LearnsNothing a → LearnsNothing b → LearnsNothing (followed_by a b)
-both a b this that = rw (this, that) refl
+both a b this that = (rw (this.0, that.0) refl, rw (this.1, that.1) refl)
 
 -- Path
 
 at_egress-none : (p : LocalNode) (m : PathRequest) (link : LinkSpec) (risks : List Risk) (offered : List ℕ)
     (o : Option ℕ) → LearnsNothing (at_egress p m link risks offered o)
-at_egress-none p m link risks offered None = refl
-at_egress-none p m link risks offered (Some x) = refl
+at_egress-none p m link risks offered None = (refl, refl)
+at_egress-none p m link risks offered (Some x) = (refl, refl)
 
 in_transit-none : (p : LocalNode) (m : PathRequest) (link : LinkSpec) (risks : List Risk) (route : List Step)
     (offered : List ℕ) (o : Option LinkSpec) → LearnsNothing (in_transit p m link risks route offered o)
-in_transit-none p m link risks route offered None = refl
-in_transit-none p m link risks route offered (Some out) = refl
+in_transit-none p m link risks route offered None = (refl, refl)
+in_transit-none p m link risks route offered (Some out) = (refl, refl)
 
 admitted-none : (p : LocalNode) (m : PathRequest) (link : LinkSpec) (risks : List Risk) (offered : List ℕ)
     (route : List Step) → LearnsNothing (admitted p m link risks offered route)
@@ -90,32 +93,32 @@ admitted-none p m link risks offered (hop ∷ route) =
 
 judged-none : (p : LocalNode) (s : NodeState) (m : PathRequest) (link : LinkSpec) (o : Option ErrCode) →
     LearnsNothing (judged p s m link o)
-judged-none p s m link (Some code) = refl
+judged-none p s m link (Some code) = (refl, refl)
 judged-none p s m link None = admitted-none p m link _ _ m.route
 
 first_path-none : (p : LocalNode) (s : NodeState) (m : PathRequest) (o : Option LinkSpec) →
     LearnsNothing (first_path p s m o)
-first_path-none p s m None = refl
+first_path-none p s m None = (refl, refl)
 first_path-none p s m (Some link) =
     either-one
     (not (is_active m.role) && (leads (Some link) m.arrival.from p.id
     && not (nat_eq m.arrival.lsp.ingress.0 p.id.0)))
     (judged p s m link (first_failure (checks p s m link))) nothing
-    (judged-none p s m link (first_failure (checks p s m link))) refl
+    (judged-none p s m link (first_failure (checks p s m link))) (refl, refl)
 
 armed_on-none : (g : Leg) (r : PathRole) (o : Option Neighbour) → LearnsNothing (armed_on g r o)
-armed_on-none g r None = refl
-armed_on-none g r (Some h) = refl
+armed_on-none g r None = (refl, refl)
+armed_on-none g r (Some h) = (refl, refl)
 
 again-none : (p : LocalNode) (s : NodeState) (a : Arrival) (r : PathRole) (g : Leg) →
     LearnsNothing (path_again p s a r g)
-again-none p s a (Work guard) g = refl
-again-none p s a (Back false work primary) g = refl
+again-none p s a (Work guard) g = (refl, refl)
+again-none p s a (Back false work primary) g = (refl, refl)
 again-none p s a (Back true work primary) g =
     if_cases LearnsNothing (is_held g.phase && is_over (previous g) a.from a.link) _ _
-    (λ e. if_cases LearnsNothing (is_contended s.legs g g.in_fibre g.in_label) _ _ (λ b. refl)
+    (λ e. if_cases LearnsNothing (is_contended s.legs g g.in_fibre g.in_label) _ _ (λ b. (refl, refl))
     (λ b. armed_on-none g (Back true work primary) (following g)))
-    (λ e. refl)
+    (λ e. (refl, refl))
 
 path-none : (p : LocalNode) (s : NodeState) (m : PathRequest) (o : Option Leg) → LearnsNothing (path_with p s m o)
 path-none p s m None = first_path-none p s m (own_link p m.arrival.link)
@@ -124,22 +127,22 @@ path-none p s m (Some g) = again-none p s m.arrival m.role g
 -- Turning
 
 turn-none : (c : CallRec) (o : Option Leg) → LearnsNothing (turn c o)
-turn-none c None = refl
-turn-none c (Some b) = if_cases LearnsNothing (is_held b.phase) _ _ (λ e. refl) (λ e. refl)
+turn-none c None = (refl, refl)
+turn-none c (Some b) = if_cases LearnsNothing (is_held b.phase) _ _ (λ e. (refl, refl)) (λ e. (refl, refl))
 
 decided-none : (c : CallRec) (o : Option Leg) (state : CallState) (works backs : Bool) →
     LearnsNothing (decided c o state works backs)
-decided-none c o Asking works backs = refl
-decided-none c o Blocked works backs = refl
-decided-none c o Bare works backs = refl
-decided-none c o Pairing works backs = refl
+decided-none c o Asking works backs = (refl, refl)
+decided-none c o Blocked works backs = (refl, refl)
+decided-none c o Bare works backs = (refl, refl)
+decided-none c o Pairing works backs = (refl, refl)
 decided-none c o Guarded true false = turn-none c o
-decided-none c o Guarded true true = refl
-decided-none c o Guarded false backs = refl
-decided-none c o Turning works backs = refl
-decided-none c o Turned works backs = refl
-decided-none c o Stuck true backs = refl
-decided-none c o Stuck false backs = refl
+decided-none c o Guarded true true = (refl, refl)
+decided-none c o Guarded false backs = (refl, refl)
+decided-none c o Turning works backs = (refl, refl)
+decided-none c o Turned works backs = (refl, refl)
+decided-none c o Stuck true backs = (refl, refl)
+decided-none c o Stuck false backs = (refl, refl)
 
 decide-none : (c : CallRec) (o : Option Leg) → LearnsNothing (decide c o)
 decide-none c o = decided-none c o c.state (has_any c.work_reports) (has_any c.back_reports)
@@ -148,57 +151,57 @@ decide-none c o = decided-none c o c.state (has_any c.work_reports) (has_any c.b
 
 pair-none : (p : LocalNode) (s : NodeState) (c : CallRec) (w : Leg) → LearnsNothing (pair p s c w)
 pair-none p s c w =
-    if_cases LearnsNothing (is_some (unknown_link (known_rows p s) (route_from p w))) _ _ (λ e. refl)
+    if_cases LearnsNothing (is_some (unknown_link (known_rows p s) (route_from p w))) _ _ (λ e. (refl, refl))
     (λ e. along (backup_route p s c w))
   where
     over : (route : List Step) (o : Option LinkSpec) → LearnsNothing (over_backup p s c w route o)
-    over route None = refl
+    over route None = (refl, refl)
     over route (Some out) =
-        if_cases LearnsNothing (nat_lt LAST_NUMBER s.lsp) _ _ (λ e. refl)
-        (λ e. if_cases LearnsNothing (is_full s) _ _ (λ e. refl) (λ e. refl))
+        if_cases LearnsNothing (nat_lt LAST_NUMBER s.lsp) _ _ (λ e. (refl, refl))
+        (λ e. if_cases LearnsNothing (is_full s) _ _ (λ e. (refl, refl)) (λ e. (refl, refl)))
 
     along : (o : Option (List Step)) → LearnsNothing (pair_over p s c w o)
-    along None = refl
+    along None = (refl, refl)
     along (Some route) = over route (first_link p route)
 
 call_answered-none : (p : LocalNode) (s : NodeState) (g : Leg) (o : Option CallRec) →
     LearnsNothing (call_answered p s g o)
-call_answered-none p s g None = refl
+call_answered-none p s g None = (refl, refl)
 call_answered-none p s g (Some c) =
     if_cases LearnsNothing (is_work g.role) _ _
     (λ e. if_cases LearnsNothing (is_asking c.state) _ _
-    (λ e. if_cases LearnsNothing c.protected _ _ (λ e. pair-none p s c g) (λ e. refl)) (λ e. refl))
-    (λ e. if_cases LearnsNothing (is_pairing c.state) _ _ (λ e. decide-none (guarded c) (Some g)) (λ e. refl))
+    (λ e. if_cases LearnsNothing c.protected _ _ (λ e. pair-none p s c g) (λ e. (refl, refl))) (λ e. (refl, refl)))
+    (λ e. if_cases LearnsNothing (is_pairing c.state) _ _ (λ e. decide-none (guarded c) (Some g)) (λ e. (refl, refl)))
 
 call_turned-none : (b : Leg) (o : Option CallRec) → LearnsNothing (call_turned b o)
-call_turned-none b None = refl
+call_turned-none b None = (refl, refl)
 call_turned-none b (Some c) =
-    if_cases LearnsNothing (is_turning c.state) _ _ (λ e. decide-none (turned c) (Some b)) (λ e. refl)
+    if_cases LearnsNothing (is_turning c.state) _ _ (λ e. decide-none (turned c) (Some b)) (λ e. (refl, refl))
 
 confirmed-none : (s : NodeState) (g : Leg) (o : Option Neighbour) → LearnsNothing (confirmed s g o)
 confirmed-none s g None =
-    both (puts (with_phase Live g) []) (call_turned (with_phase Live g) (call_with g.lsp s.calls)) refl
+    both (puts (with_phase Live g) []) (call_turned (with_phase Live g) (call_with g.lsp s.calls)) (refl, refl)
     (call_turned-none (with_phase Live g) (call_with g.lsp s.calls))
-confirmed-none s g (Some h) = refl
+confirmed-none s g (Some h) = (refl, refl)
 
 resv_again-none : (s : NodeState) (a : Arrival) (x : ℕ) (g : Leg) → LearnsNothing (resv_again s a x g)
 resv_again-none s a x g =
-    if_cases LearnsNothing (is_confirmed a x g) _ _ (λ e. confirmed-none s g (previous g)) (λ e. refl)
+    if_cases LearnsNothing (is_confirmed a x g) _ _ (λ e. confirmed-none s g (previous g)) (λ e. (refl, refl))
 
 passed_back-none : (p : LocalNode) (a : Arrival) (g : Leg) (h : Neighbour) (x : ℕ) (o : Option ℕ) →
     LearnsNothing (passed_back p a g h x o)
-passed_back-none p a g h x None = refl
-passed_back-none p a g h x (Some y) = refl
+passed_back-none p a g h x None = (refl, refl)
+passed_back-none p a g h x (Some y) = (refl, refl)
 
 answered-none : (p : LocalNode) (s : NodeState) (a : Arrival) (x : ℕ) (g : Leg) (o : Option Neighbour) →
     LearnsNothing (answered p s a x g o)
 answered-none p s a x g None =
-    both (puts (connected g None x) []) (call_answered p s (connected g None x) (call_with g.lsp s.calls)) refl
+    both (puts (connected g None x) []) (call_answered p s (connected g None x) (call_with g.lsp s.calls)) (refl, refl)
     (call_answered-none p s (connected g None x) (call_with g.lsp s.calls))
 answered-none p s a x g (Some h) = passed_back-none p a g h x (label_back p (labels_left p s g h) x)
 
 resv-none : (p : LocalNode) (s : NodeState) (a : Arrival) (x : ℕ) (o : Option Leg) → LearnsNothing (resv_with p s a x o)
-resv-none p s a x None = refl
+resv-none p s a x None = (refl, refl)
 resv-none p s a x (Some g) =
     either-one (is_expected a x g) (answered p s a x g (previous g)) (resv_again s a x g)
     (answered-none p s a x g (previous g)) (resv_again-none s a x g)
@@ -206,86 +209,88 @@ resv-none p s a x (Some g) =
 -- PathErr
 
 call_refused-none : (code : ErrCode) (g : Leg) (o : Option CallRec) → LearnsNothing (call_refused code g o)
-call_refused-none code g None = refl
+call_refused-none code g None = (refl, refl)
 call_refused-none code g (Some c) =
     if_cases LearnsNothing (is_work g.role) _ _
-    (λ e. if_cases LearnsNothing (is_asking c.state) _ _ (λ e. refl) (λ e. refl))
-    (λ e. if_cases LearnsNothing (is_pairing c.state) _ _ (λ e. refl) (λ e. refl))
+    (λ e. if_cases LearnsNothing (is_asking c.state) _ _ (λ e. (refl, refl)) (λ e. (refl, refl)))
+    (λ e. if_cases LearnsNothing (is_pairing c.state) _ _ (λ e. (refl, refl)) (λ e. (refl, refl)))
 
 err_passed-none : (s : NodeState) (g : Leg) (e : PathFailure) (o : Option Neighbour) →
     LearnsNothing (err_passed s g e o)
 err_passed-none s g e None =
-    both (removes g.lsp []) (call_refused e.code g (call_with g.lsp s.calls)) refl
+    both (removes g.lsp []) (call_refused e.code g (call_with g.lsp s.calls)) (refl, refl)
     (call_refused-none e.code g (call_with g.lsp s.calls))
-err_passed-none s g e (Some h) = refl
+err_passed-none s g e (Some h) = (refl, refl)
 
 removed-none : (s : NodeState) (g : Leg) (e : PathFailure) → LearnsNothing (removed s g e)
 removed-none s g e =
     either-one (is_asked g.phase) (err_passed s g e (previous g))
     (cond (is_closing g.phase) (removes g.lsp []) nothing) (err_passed-none s g e (previous g))
-    (either-one (is_closing g.phase) (removes g.lsp []) nothing refl refl)
+    (either-one (is_closing g.phase) (removes g.lsp []) nothing (refl, refl) (refl, refl))
 
 call_contended-none : (b : Leg) (o : Option CallRec) → LearnsNothing (call_contended b o)
-call_contended-none b None = refl
+call_contended-none b None = (refl, refl)
 call_contended-none b (Some c) =
-    if_cases LearnsNothing (is_turning c.state) _ _ (λ e. decide-none (stuck c (Code busy_code)) (Some b)) (λ e. refl)
+    if_cases LearnsNothing (is_turning c.state) _ _ (λ e. decide-none (stuck c (Code busy_code)) (Some b))
+    (λ e. (refl, refl))
 
 disarmed-none : (s : NodeState) (g : Leg) (m : Msg) (o : Option Neighbour) → LearnsNothing (disarmed s g m o)
 disarmed-none s g m None =
-    both (puts (with_phase Held g) []) (call_contended (with_phase Held g) (call_with g.lsp s.calls)) refl
+    both (puts (with_phase Held g) []) (call_contended (with_phase Held g) (call_with g.lsp s.calls)) (refl, refl)
     (call_contended-none (with_phase Held g) (call_with g.lsp s.calls))
-disarmed-none s g m (Some h) = refl
+disarmed-none s g m (Some h) = (refl, refl)
 
 contended-none : (s : NodeState) (g : Leg) (m : Msg) → LearnsNothing (contended s g m)
 contended-none s g m =
-    if_cases LearnsNothing (is_armed g.phase) _ _ (λ e. disarmed-none s g m (previous g)) (λ e. refl)
+    if_cases LearnsNothing (is_armed g.phase) _ _ (λ e. disarmed-none s g m (previous g)) (λ e. (refl, refl))
 
 path_err-none : (s : NodeState) (u : NodeId) (e : PathFailure) (o : Option Leg) → LearnsNothing (path_err_with s u e o)
-path_err-none s u e None = refl
+path_err-none s u e None = (refl, refl)
 path_err-none s u e (Some g) =
     either-one (is_node (following g) u) (cond e.removed (removed s g e) (contended s g e.msg)) nothing
-    (either-one e.removed (removed s g e) (contended s g e.msg) (removed-none s g e) (contended-none s g e.msg)) refl
+    (either-one e.removed (removed s g e) (contended s g e.msg) (removed-none s g e) (contended-none s g e.msg))
+    (refl, refl)
 
 -- PathTear
 
 torn-none : (g : Leg) (answer : Out) (o : Option Neighbour) → LearnsNothing (torn g answer o)
-torn-none g answer None = refl
-torn-none g answer (Some h) = refl
+torn-none g answer None = (refl, refl)
+torn-none g answer (Some h) = (refl, refl)
 
 tear-none : (p : LocalNode) (a : Arrival) (o : Option Leg) → LearnsNothing (tear_with p a o)
-tear-none p a None = refl
+tear-none p a None = (refl, refl)
 tear-none p a (Some g) =
     let answer = to_node a.from (PathErr g.lsp g.egress p.id true torn_code) in
     either-one (not (is_closing g.phase) && is_over (previous g) a.from a.link) (torn g answer (following g)) nothing
-    (torn-none g answer (following g)) refl
+    (torn-none g answer (following g)) (refl, refl)
 
 -- Notify
 
 call_reported-none : (s : NodeState) (l : Lsp) (down : Bool) (f : Fibre) (o : Option CallRec) →
     LearnsNothing (call_reported s l down f o)
-call_reported-none s l down f None = refl
+call_reported-none s l down f None = (refl, refl)
 call_reported-none s l down f (Some c) = decide-none (with_report c l down f) (leg_of c.back s.legs)
 
 reported_on-none : (s : NodeState) (g : Leg) (down : Bool) (o : Option Fibre) → LearnsNothing (reported_on s g down o)
-reported_on-none s g down None = refl
+reported_on-none s g down None = (refl, refl)
 reported_on-none s g down (Some f) = call_reported-none s g.lsp down f (call_with g.lsp s.calls)
 
 notice_passed-none : (p : LocalNode) (s : NodeState) (m : Notice) (g : Leg) (down : Bool) (o : Option Neighbour) →
     LearnsNothing (notice_passed p s m g down o)
 notice_passed-none p s m g down None = reported_on-none s g down (fibre_into (route_from p g) g.egress m.at m.link)
-notice_passed-none p s m g down (Some h) = refl
+notice_passed-none p s m g down (Some h) = (refl, refl)
 
 notice_told-none : (p : LocalNode) (s : NodeState) (m : Notice) (g : Leg) (o : Option Bool) →
     LearnsNothing (notice_told p s m g o)
-notice_told-none p s m g None = refl
+notice_told-none p s m g None = (refl, refl)
 notice_told-none p s m g (Some down) = notice_passed-none p s m g down (previous g)
 
 notify-none : (p : LocalNode) (s : NodeState) (u : NodeId) (m : Notice) (o : Option Leg) →
     LearnsNothing (notify_with p s u m o)
-notify-none p s u m None = refl
+notify-none p s u m None = (refl, refl)
 notify-none p s u m (Some g) =
     either-one (not (is_closing g.phase) && is_node (following g) u) (notice_told p s m g (reported m.code)) nothing
-    (notice_told-none p s m g (reported m.code)) refl
+    (notice_told-none p s m g (reported m.code)) (refl, refl)
 
 -- Setup
 
@@ -293,17 +298,17 @@ admitted_setup-none : (p : LocalNode) (s : NodeState) (w : SetupRequest) (out : 
     LearnsNothing (admitted_setup p s w out route)
 admitted_setup-none p s w out route =
     either-one (is_spent s) (refused_setup w Spent)
-    (cond (is_full s) (refused_setup w Full) (begins p s w out route)) refl
-    (either-one (is_full s) (refused_setup w Full) (begins p s w out route) refl refl)
+    (cond (is_full s) (refused_setup w Full) (begins p s w out route)) (refl, refl)
+    (either-one (is_full s) (refused_setup w Full) (begins p s w out route) (refl, refl) (refl, refl))
 
 over_first-none : (p : LocalNode) (s : NodeState) (w : SetupRequest) (route : List Step) (o : Option LinkSpec) →
     LearnsNothing (over_first p s w route o)
-over_first-none p s w route None = refl
+over_first-none p s w route None = (refl, refl)
 over_first-none p s w route (Some out) = admitted_setup-none p s w out (drop 1 route)
 
 over_found-none : (p : LocalNode) (s : NodeState) (w : SetupRequest) (o : Option Trip) →
     LearnsNothing (over_found p s w o)
-over_found-none p s w None = refl
+over_found-none p s w None = (refl, refl)
 over_found-none p s w (Some r) = over_first-none p s w r.steps (first_link p r.steps)
 
 new_call-none : (p : LocalNode) (s : NodeState) (w : SetupRequest) (via : Option (List Step)) →
@@ -313,87 +318,103 @@ new_call-none p s w (Some route) = over_first-none p s w route (first_link p rou
 
 setup-none : (p : LocalNode) (s : NodeState) (w : SetupRequest) (o : Option CallRec) →
     LearnsNothing (setup_with p s w o)
-setup-none p s w (Some c) = refl
-setup-none p s w None = either-one (is_order_here p w) (new_call p s w w.via) nothing (new_call-none p s w w.via) refl
+setup-none p s w (Some c) = (refl, refl)
+setup-none p s w None =
+    either-one (is_order_here p w) (new_call p s w w.via) nothing (new_call-none p s w w.via) (refl, refl)
 
 -- Protect
 
 protects-none : (p : LocalNode) (s : NodeState) (c : CallRec) (o : Option Leg) → LearnsNothing (protects p s c o)
-protects-none p s c None = refl
+protects-none p s c None = (refl, refl)
 protects-none p s c (Some w) = pair-none p s c w
 
 protect-none : (p : LocalNode) (s : NodeState) (from : NodeId) (o : Option CallRec) →
     LearnsNothing (protect_with p s from o)
-protect-none p s from None = refl
+protect-none p s from None = (refl, refl)
 protect-none p s from (Some c) =
     either-one (nat_eq from.0 p.id.0 && is_bare c.state) (protects p s c (leg_of c.work s.legs)) nothing
-    (protects-none p s c (leg_of c.work s.legs)) refl
+    (protects-none p s c (leg_of c.work s.legs)) (refl, refl)
 
 -- Retry
 
 retries-none : (s : NodeState) (c : CallRec) → LearnsNothing (retries s c)
 retries-none s c =
     if_cases LearnsNothing (is_stuck c.state && (has_any c.work_reports && not (has_any c.back_reports))) _ _
-    (λ e. turn-none c (leg_of c.back s.legs)) (λ e. refl)
+    (λ e. turn-none c (leg_of c.back s.legs)) (λ e. (refl, refl))
 
 retry-none : (p : LocalNode) (s : NodeState) (from : NodeId) (o : Option CallRec) →
     LearnsNothing (retry_with p s from o)
-retry-none p s from None = refl
-retry-none p s from (Some c) = either-one (nat_eq from.0 p.id.0) (retries s c) nothing (retries-none s c) refl
+retry-none p s from None = (refl, refl)
+retry-none p s from (Some c) = either-one (nat_eq from.0 p.id.0) (retries s c) nothing (retries-none s c) (refl, refl)
 
 -- Alarms and clears
 
-alarm-none : (p : LocalNode) (s : NodeState) (f : Fibre) → LearnsNothing (on_alarm p s f)
+alarm-none : (p : LocalNode) (s : NodeState) (f : Fibre) → (on_alarm p s f).rows ≡ []
 alarm-none p s f =
-    if_cases LearnsNothing (enters p f (own_link p f.link) && not (has_fibre s.down f)) _ _ (λ e. refl) (λ e. refl)
+    if_cases (λ (a : Answer). a.rows ≡ []) (enters p f (own_link p f.link) && not (has_fibre s.down f)) _ _
+    (λ e. refl) (λ e. refl)
 
-clear-none : (p : LocalNode) (s : NodeState) (f : Fibre) → LearnsNothing (on_clear p s f)
+clear-none : (p : LocalNode) (s : NodeState) (f : Fibre) → (on_clear p s f).rows ≡ []
 clear-none p s f =
-    if_cases LearnsNothing (enters p f (own_link p f.link) && has_fibre s.down f) _ _ (λ e. refl) (λ e. refl)
+    if_cases (λ (a : Answer). a.rows ≡ []) (enters p f (own_link p f.link) && has_fibre s.down f) _ _ (λ e. refl)
+    (λ e. refl)
 
 -- Release
 
 tears-none : (o : Option Leg) → LearnsNothing (tears o)
-tears-none None = refl
-tears-none (Some g) = refl
+tears-none None = (refl, refl)
+tears-none (Some g) = (refl, refl)
 
 release-none : (p : LocalNode) (s : NodeState) (from : NodeId) (o : Option CallRec) →
     LearnsNothing (release_with p s from o)
-release-none p s from None = refl
+release-none p s from None = (refl, refl)
 release-none p s from (Some c) =
     let goes = changes_calls (call.Goes c.call ∷ []) in
     let back = tears (leg_of c.back s.legs) in
     either-one (nat_eq from.0 p.id.0) (releases s c) nothing
     (both (tears (leg_of c.work s.legs)) (followed_by back goes) (tears-none (leg_of c.work s.legs))
-    (both back goes (tears-none (leg_of c.back s.legs)) refl)) refl
+    (both back goes (tears-none (leg_of c.back s.legs)) (refl, refl))) (refl, refl)
 
 -- Every message, and every item
 
-pub message-learns_nothing : (p : LocalNode) (s : NodeState) (u : NodeId) (m : Msg) → LearnsNothing (on_message p s u m)
-message-learns_nothing p s u (Path l e k route set up r) =
+message-none : (p : LocalNode) (s : NodeState) (u : NodeId) (m : Msg) → LearnsNothing (on_message p s u m)
+message-none p s u (Path l e k route set up r) =
     path-none p s (record { arrival = arrival l e u k; route = route; set = set; role = r }) (find_leg l s.legs)
-message-learns_nothing p s u (Resv l e k x) = resv-none p s (arrival l e u k) x (find_leg l s.legs)
-message-learns_nothing p s u (PathTear l e k) = tear-none p (arrival l e u k) (find_leg l s.legs)
-message-learns_nothing p s u (PathErr l e at gone code) =
+message-none p s u (Resv l e k x) = resv-none p s (arrival l e u k) x (find_leg l s.legs)
+message-none p s u (PathTear l e k) = tear-none p (arrival l e u k) (find_leg l s.legs)
+message-none p s u (PathErr l e at gone code) =
     path_err-none s u (record { lsp = l; msg = PathErr l e at gone code; removed = gone; code = code })
     (find_leg l s.legs)
-message-learns_nothing p s u (Notify l e at k code) =
+message-none p s u (Notify l e at k code) =
     notify-none p s u (record { lsp = l; msg = Notify l e at k code; at = at; link = k; code = code })
     (find_leg l s.legs)
 
-pub item-learns_nothing : (p : LocalNode) (s : NodeState) (i : DeskItem) → LearnsNothing (on_item p s i)
-item-learns_nothing p s (Order (Setup n from to protected two via backup)) =
+order-none : (p : LocalNode) (s : NodeState) (c : Command) → LearnsNothing (on_order p s c)
+order-none p s (Setup n from to protected two via backup) =
     setup-none p s
     (record { call = n; from = from; egress = to; protected = protected; both = two; via = via; backup = backup })
     (find_call n s.calls)
-item-learns_nothing p s (Order (Release n from)) = release-none p s from (find_call n s.calls)
-item-learns_nothing p s (Order (Protect n from)) = protect-none p s from (find_call n s.calls)
-item-learns_nothing p s (Order (Retry n from)) = retry-none p s from (find_call n s.calls)
-item-learns_nothing p s (Order (Revert n from)) = refl
-item-learns_nothing p s (Order (Fail g)) = refl
-item-learns_nothing p s (Order (Repair g)) = refl
+order-none p s (Release n from) = release-none p s from (find_call n s.calls)
+order-none p s (Protect n from) = protect-none p s from (find_call n s.calls)
+order-none p s (Retry n from) = retry-none p s from (find_call n s.calls)
+order-none p s (Revert n from) = (refl, refl)
+order-none p s (Fail g) = (refl, refl)
+order-none p s (Repair g) = (refl, refl)
+
+pub message-learns_nothing : (p : LocalNode) (s : NodeState) (u : NodeId) (m : Msg) → (on_message p s u m).rows ≡ []
+message-learns_nothing p s u m = (message-none p s u m).0
+
+pub item-learns_nothing : (p : LocalNode) (s : NodeState) (i : DeskItem) → (on_item p s i).rows ≡ []
+item-learns_nothing p s (Order c) = (order-none p s c).0
 item-learns_nothing p s (Alarm f) = alarm-none p s f
 item-learns_nothing p s (Clear f) = clear-none p s f
+
+-- what is known to be down stays so after every message and every order
+pub message-keeps_down : (p : LocalNode) (s : NodeState) (u : NodeId) (m : Msg) → (on_message p s u m).down ≡ None
+message-keeps_down p s u m = (message-none p s u m).1
+
+pub order-keeps_down : (p : LocalNode) (s : NodeState) (c : Command) → (on_order p s c).down ≡ None
+order-keeps_down p s c = (order-none p s c).1
 
 pub nothing-else : NothingElseIsLearnt
 nothing-else = (message-learns_nothing, item-learns_nothing)
