@@ -7,5 +7,6 @@ pub mod LabelLaw
 pub mod Laws
 pub mod LearntLaw
 pub mod NodeLaw
+pub mod ReportLaw
 pub mod RiskLaw
 pub mod SafeLaw

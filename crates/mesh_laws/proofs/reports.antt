@@ -1,0 +1,4 @@
+pub mod Desks
+pub mod KnownFibres
+pub mod LinkNews
+pub mod OwnLinks
