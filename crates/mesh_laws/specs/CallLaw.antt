@@ -1,12 +1,13 @@
--- In every state of every run the state of a call fits its legs at the ingress, and each leg there is of one call.
-use Rattle.std.specs.Prelude.{◌≡◌, ◌<◌, ◌==◌, ◌&&◌, ℕ, Bool, true, false, not, List, [], Option, Some, None, IsTrue, All, IfSome}
+-- In every state of every run the state of a call fits its legs at the ingress and its reports, and each leg there is of
+-- one call.
+use Rattle.std.specs.Prelude.{◌≡◌, ◌<◌, ◌==◌, ◌&&◌, ◌||◌, ℕ, Bool, true, false, not, List, Option, Some, None, IsTrue, All, IfSome}
 use Rattle.std.specs.List.{AllPairs, count_by}
 use Rattle.ason_base.specs.declared.ids.NodeId.{NodeId}
 use Rattle.ason_base.specs.declared.ids.Lsp.{Lsp}
 use Rattle.ason_base.specs.declared.calls.CallState.{CallState}
-use Rattle.ason_base.specs.declared.calls.CallState.TheVariants.{Asking, Bare, Blocked, Guarded, Pairing}
+use Rattle.ason_base.specs.declared.calls.CallState.TheVariants.{Asking, Bare, Blocked, Guarded, Pairing, Stuck, Turned, Turning}
 use Rattle.ason_base.specs.declared.calls.Phase.{Phase}
-use Rattle.ason_base.specs.declared.calls.Phase.TheVariants.{Asked, Held, Live}
+use Rattle.ason_base.specs.declared.calls.Phase.TheVariants.{Armed, Asked, Held, Live}
 use Rattle.ason_base.specs.declared.calls.Role.{Role}
 use Rattle.ason_base.specs.declared.calls.Role.TheVariants.{Work, Back}
 use Rattle.ason_base.specs.declared.messages.PathRole.{PathRole}
@@ -19,6 +20,7 @@ use Rattle.mesh_rules.specs.Calls.{names}
 use Rattle.mesh_rules.specs.Legs.{find_leg, is_closing, leg_of}
 use Rattle.mesh_rules.specs.Pairs.{beside_lsp}
 use Rattle.mesh_rules.specs.State.{NodeState}
+use Rattle.mesh_rules.specs.Turns.{has_any}
 use Rattle.mesh_rules.specs.Machine.{start}
 use Rattle.mesh_rules.specs.Events.{IsRun, after}
 
@@ -29,15 +31,29 @@ abbrev pub phase_of : Option Leg → Option Phase
 phase_of None = None
 phase_of (Some g) = Some g.phase
 
--- The state of a call with the phases of its working and its backup leg, none where no leg stands. These are all that
--- the rules give: no backup is switched, and no call is in another state.
+-- the state of a call with the phases of its working and its backup leg, none where no leg stands
 abbrev pub fits : CallState → Option Phase → Option Phase → Bool
 fits Asking (Some Asked) None = true
 fits Bare (Some Live) None = true
 fits Pairing (Some Live) (Some Asked) = true
 fits Guarded (Some Live) (Some Held) = true
+fits Turning (Some Live) (Some Armed) = true
+fits Turned (Some Live) (Some Live) = true
+fits Stuck (Some Live) (Some Held) = true
 fits Blocked None None = true
 fits state work back = false
+
+-- by the state, whether fibres of the working LSP may be reported down, and whether fibres of the backup may be: a call
+-- without a backup has no report of one, a guarded call none of its working LSP, and a stuck call has one of that
+abbrev pub fits_reports : CallState → Bool → Bool → Bool
+fits_reports Asking works backs = not backs
+fits_reports Bare works backs = not backs
+fits_reports Pairing works backs = true
+fits_reports Guarded works backs = not works
+fits_reports Turning works backs = true
+fits_reports Turned works backs = true
+fits_reports Stuck works backs = works
+fits_reports Blocked works backs = not (works || backs)
 
 -- an LSP that a call names: it begins at this node, its number was given out, and its leg stands here
 pub record IsNamed (n : ℕ) (next : ℕ) (legs : List Leg) (role : Role) (egress : NodeId) (l : Lsp) : Type 0 where
@@ -50,7 +66,7 @@ abbrev pub GuardsWork : Lsp → Lsp → PathRole → Type 0
 GuardsWork w b (path.Work guard) = ⊥
 GuardsWork w b (path.Back active work primary) = w ≡ beside_lsp b work
 
--- the state of a call fits its legs at its ingress n, and no fibre of them is reported down
+-- the state of a call fits its legs at its ingress n, and its reports
 pub record FitsLegs (n : ℕ) (next : ℕ) (legs : List Leg) (c : CallRec) : Type 0 where
   pub state : IsTrue (fits c.state (phase_of (leg_of c.work legs)) (phase_of (leg_of c.back legs)))
   pub work : IfSome c.work (IsNamed n next legs Work c.egress)
@@ -58,8 +74,7 @@ pub record FitsLegs (n : ℕ) (next : ℕ) (legs : List Leg) (c : CallRec) : Typ
   -- the backup's Path names the working LSP
   pub guards : (w b : Lsp) (g : Leg) → c.work ≡ Some w → c.back ≡ Some b → find_leg b legs ≡ Some g →
       GuardsWork w b g.path_role
-  pub work_reports : c.work_reports ≡ []
-  pub back_reports : c.back_reports ≡ []
+  pub reports : IsTrue (fits_reports c.state (has_any c.work_reports) (has_any c.back_reports))
 
 -- The legs of a call
 
@@ -71,8 +86,8 @@ wants_call n g = g.lsp.ingress.0 == n && not (is_closing g.phase)
 abbrev pub IsOfOneCall : List CallRec → Leg → Type 0
 IsOfOneCall calls g = count_by (names g.lsp) calls ≡ 1
 
--- At one node: the calls stand in order of number, no number twice; each fits its legs; and each leg that begins here
--- and isn't torn is of just one call.
+-- At one node: the calls stand in order of number, no number twice; each fits its legs and its reports; and each leg that
+-- begins here and isn't torn is of just one call.
 pub record CallsFit (n : ℕ) (s : NodeState) : Type 0 where
   pub rising : AllPairs (λ c d. c.call.0 < d.call.0) s.calls
   pub calls : All (FitsLegs n s.lsp s.legs) s.calls

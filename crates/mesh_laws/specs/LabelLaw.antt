@@ -1,28 +1,17 @@
--- In every state of every run a label of a fibre is one LSP's at the node into which the fibre leads, or backups share
--- it
+-- In every state of every run a label of a fibre is one LSP's at the node into which the fibre leads, or backups share it
 -- whose primaries have no risk in common (RFC 4872, section 8); and a Live leg has a label for each fibre.
-use Rattle.std.specs.Prelude.{◌≡◌, ◌&&◌, ℕ, Bool, true, false, List, IsTrue, All, is_some}
+use Rattle.std.specs.Prelude.{◌≡◌, ◌&&◌, ℕ, false, List, IsTrue, All, is_some}
 use Rattle.std.specs.List.{AllPairs}
-use Rattle.ason_base.specs.declared.calls.Phase.{Phase}
-use Rattle.ason_base.specs.declared.calls.Phase.TheVariants.{Asked, Held, Armed, Live, Closing, Falling}
+use Rattle.ason_base.specs.declared.calls.Phase.TheVariants.{Live}
 use Rattle.ason_base.specs.declared.calls.Role.TheVariants.{Back}
 use Rattle.ason_base.specs.declared.ids.Fibre.{Fibre}
 use Rattle.ason_base.specs.declared.tables.Leg.{Leg}
 use Rattle.ason_base.specs.Network.{Network}
 use Rattle.ason_base.specs.Risks.{AreDisjoint}
 use Rattle.mesh_rules.specs.declared.events.MeshEvent.{MeshEvent}
-use Rattle.mesh_rules.specs.Legs.{takes}
+use Rattle.mesh_rules.specs.Legs.{is_in_use, takes}
 use Rattle.mesh_rules.specs.Machine.{start}
 use Rattle.mesh_rules.specs.Events.{IsRun, after}
-
--- an activation has passed the leg
-abbrev pub is_in_use : Phase → Bool
-is_in_use Asked = false
-is_in_use Held = false
-is_in_use Armed = true
-is_in_use Live = true
-is_in_use Closing = false
-is_in_use Falling = false
 
 -- Two legs that may take one label: backups whose primaries have no risk in common, at most one of them Armed or Live.
 pub record MayShare (g h : Leg) : Type 0 where

@@ -19,7 +19,7 @@ use Rattle.mesh_laws.specs.LabelLaw.{LabelsAreShared}
 
 -- A desk
 
--- a valid command of a call that begins at node n
+-- a valid command of a call that begins at node n, or an alarm or a clear of whatever fibre
 abbrev pub FitsDesk : Network → ℕ → DeskItem → Type 0
 FitsDesk t n (Order (Setup call from to protected both via backup)) =
     IsTrue (is_valid t (Setup call from to protected both via backup)) × (from.0 ≡ n)
@@ -29,8 +29,8 @@ FitsDesk t n (Order (Retry call from)) = IsTrue (is_valid t (Retry call from)) �
 FitsDesk t n (Order (Revert call from)) = IsTrue (is_valid t (Revert call from)) × (from.0 ≡ n)
 FitsDesk t n (Order (Fail g)) = ⊥
 FitsDesk t n (Order (Repair g)) = ⊥
-FitsDesk t n (Alarm f) = ⊥
-FitsDesk t n (Clear f) = ⊥
+FitsDesk t n (Alarm f) = Unit {0}
+FitsDesk t n (Clear f) = Unit {0}
 
 abbrev pub DeskFits : Network → ℕ → List DeskItem → Type 0
 DeskFits t n items = AllByRecursion (FitsDesk t n) items
