@@ -1,5 +1,5 @@
--- In every state of every run the state of a call fits its legs at the ingress and its reports, and each leg there is of
--- one call.
+-- In every state of every run the state of a call fits its legs at the ingress and its reports, and each leg there is
+-- of one call.
 use Rattle.std.specs.Prelude.{◌≡◌, ◌<◌, ◌==◌, ◌&&◌, ◌||◌, ℕ, Bool, true, false, not, List, Option, Some, None, IsTrue, All, IfSome}
 use Rattle.std.specs.List.{AllPairs, count_by}
 use Rattle.ason_base.specs.declared.ids.NodeId.{NodeId}
@@ -86,8 +86,8 @@ wants_call n g = g.lsp.ingress.0 == n && not (is_closing g.phase)
 abbrev pub IsOfOneCall : List CallRec → Leg → Type 0
 IsOfOneCall calls g = count_by (names g.lsp) calls ≡ 1
 
--- At one node: the calls stand in order of number, no number twice; each fits its legs and its reports; and each leg that
--- begins here and isn't torn is of just one call.
+-- At one node: the calls stand in order of number, no number twice; each fits its legs and its reports; and each leg
+-- that begins here and isn't torn is of just one call.
 pub record CallsFit (n : ℕ) (s : NodeState) : Type 0 where
   pub rising : AllPairs (λ c d. c.call.0 < d.call.0) s.calls
   pub calls : All (FitsLegs n s.lsp s.legs) s.calls

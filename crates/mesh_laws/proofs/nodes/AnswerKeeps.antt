@@ -22,36 +22,13 @@ use Rattle.mesh_nodes.proofs.Cases.{if_cases, both_left, both_right, not-true}
 use Rattle.mesh_laws.proofs.nodes.Facts.{LegFacts, NodeFacts}
 use Rattle.mesh_nodes.proofs.LegList.{found-lsp}
 use Rattle.mesh_laws.proofs.nodes.NewLegs.{beside, alone, alone_fibre, back-has, closed-stands, connected-stands, ingress-stands}
+use Rattle.mesh_laws.proofs.nodes.ActivationKeeps.{keeps-contended, keeps-resv_again}
 use Rattle.mesh_laws.proofs.nodes.CallStepKeeps.{keeps-connected_here, keeps-refused_here}
+use Rattle.mesh_laws.proofs.nodes.LegEnds.{has_previous-away, no_previous-here, over-some, previous-away}
 use Rattle.mesh_laws.proofs.nodes.Parts.{call_part, unnamed-away, unnamed-torn, keeps-leg, keeps-gone}
 use Rattle.mesh_laws.proofs.nodes.PathKeeps.{Keeps}
 
--- What a leg's neighbours tell
-
--- a leg with a previous node is away from its ingress
-has_previous-away : (n next : ℕ) (g : Leg) (h : Neighbour) → LegFacts n next g → previous g ≡ Some h →
-    nat_eq g.lsp.ingress.0 n ≡ false
-has_previous-away n next g h facts is =
-    let node : is_some g.prev ≡ true = ap is_some (beside g.prev g.in_fibre h is).node in
-    not-true (nat_eq g.lsp.ingress.0 n) (sym facts.prev ∙ node)
-
--- a leg without one is at its ingress
-no_previous-here : (n next : ℕ) (g : Leg) → LegFacts n next g → previous g ≡ None → g.lsp.ingress.0 ≡ n
-no_previous-here n next g facts none =
-    let no : is_some g.prev ≡ false = ap is_some (alone g.prev g.in_fibre facts.in_fibre none) in
-    let test : not (nat_eq g.lsp.ingress.0 n) ≡ false = sym facts.prev ∙ no in
-    grind arith
-
-over-some : (o : Option NodeId) (f : Option Fibre) (n : NodeId) (k : LinkId) →
-    is_over (neighbour_over o f) n k ≡ true → is_some o ≡ true
-over-some None f n k e = absurd (cc e)
-over-some (Some m) f n k e = refl
-
-over-neighbour : (o : Option Neighbour) (n : NodeId) (k : LinkId) → o ≡ None → is_over o n k ≡ true → ⊥
-over-neighbour None n k none e = cc e
-over-neighbour (Some h) n k none e = cc none
-
-asked-is : (f : Phase) → is_asked f ≡ true → f ≡ Asked
+pub asked-is : (f : Phase) → is_asked f ≡ true → f ≡ Asked
 asked-is Asked e = refl
 asked-is Held e = absurd (cc e)
 asked-is Armed e = absurd (cc e)
@@ -60,9 +37,6 @@ asked-is Closing e = absurd (cc e)
 asked-is Falling e = absurd (cc e)
 
 -- Resv
-
-phase_answered : (f : Phase) → is_asked f ≡ true → is_closing f ≡ false
-phase_answered f e = ap is_closing (asked-is f e)
 
 keeps-passed_back : (p : LocalNode) (s : NodeState) (a : Arrival) (g : Leg) (h : Neighbour) (x : ℕ) (o : Option ℕ) →
     NodeFacts p.id.0 s → LegFacts p.id.0 s.lsp g → previous g ≡ Some h → is_some g.next ≡ true → has g.sent x ≡ true →
@@ -99,7 +73,8 @@ keeps-on_resv p s a x (Some g) facts is =
     keeps-answered p s a x g (previous g) facts here (asked-is g.phase (both_left (is_asked g.phase) _ e))
     (over-some g.next g.out_fibre a.from a.link (both_left _ _ test))
     (both_right (is_over (following g) a.from a.link) _ test) refl)
-    (λ e. facts)
+    (λ e. keeps-resv_again p s a x g facts
+    (subst (λ l. find_leg l s.legs ≡ Some g) (sym (found-lsp a.lsp s.legs g is)) is))
 
 -- PathErr
 
@@ -133,7 +108,10 @@ keeps-on_path_err p s u l e None facts is = facts
 keeps-on_path_err p s u l e (Some g) facts is =
     let here : find_leg g.lsp s.legs ≡ Some g =
     subst (λ k. find_leg k s.legs ≡ Some g) (sym (found-lsp l s.legs g is)) is in
-    if_cases (Keeps p s) (e.removed && is_node (following g) u) _ _ (λ h. keeps-removed p s g e facts here) (λ h. facts)
+    if_cases (Keeps p s) (is_node (following g) u) _ _
+    (λ h. if_cases (Keeps p s) e.removed _ _ (λ r. keeps-removed p s g e facts here)
+    (λ r. keeps-contended p s g e.msg facts here))
+    (λ h. facts)
 
 -- PathTear
 
@@ -148,12 +126,6 @@ keeps-torn p s g answer None facts here away is =
 keeps-torn p s g answer (Some h) facts here away is =
     keeps-leg p.id.0 s (closed g) away (closed-stands p.id.0 s.lsp s.legs g (following-some g.next g.out_fibre h is)
     (facts.leg g.lsp g here)) facts
-
--- a leg to which a message comes from its previous node is away from its ingress
-previous-away : (n next : ℕ) (g : Leg) (u : NodeId) (k : LinkId) → LegFacts n next g →
-    is_over (previous g) u k ≡ true → nat_eq g.lsp.ingress.0 n ≡ false
-previous-away n next g u k facts over =
-    not-true (nat_eq g.lsp.ingress.0 n) (sym facts.prev ∙ over-some g.prev g.in_fibre u k over)
 
 pub keeps-on_tear : (p : LocalNode) (s : NodeState) (a : Arrival) (o : Option Leg) → NodeFacts p.id.0 s →
     find_leg a.lsp s.legs ≡ o → Keeps p s (tear_with p a o)

@@ -20,7 +20,7 @@ use Rattle.mesh_nodes.specs.Order.{CallsRise}
 use Rattle.mesh_nodes.proofs.Cases.{both_right}
 use Rattle.mesh_laws.specs.NodeLaw.{FitsDesk}
 use Rattle.mesh_laws.proofs.nodes.Facts.{CanBeBacked}
-use Rattle.mesh_laws.proofs.nodes.CallsHold.{ArePut, EachCall, IsSameCall, each-after, message-holds, protect-holds, release-holds, setup-holds}
+use Rattle.mesh_laws.proofs.nodes.CallsHold.{ArePut, EachCall, IsSameCall, alarm-holds, clear-holds, each-after, message-holds, protect-holds, release-holds, retry-holds, setup-holds}
 
 abbrev pub AreBacked : Network → List CallChange → Type 0
 AreBacked t cs = ArePut (CanBeBacked t) cs
@@ -59,9 +59,12 @@ backs-item t n p s rise backed (Order (Release k from)) fits =
     release-holds (CanBeBacked t) (CanBeBacked t) (still-backed t) p s rise backed from (find_call k s.calls)
 backs-item t n p s rise backed (Order (Protect k from)) fits =
     protect-holds (CanBeBacked t) (CanBeBacked t) (still-backed t) p s rise backed k from (find_call k s.calls) refl
-backs-item t n p s rise backed (Order (Retry k from)) fits = tt
+backs-item t n p s rise backed (Order (Retry k from)) fits =
+    retry-holds (CanBeBacked t) (CanBeBacked t) (still-backed t) p s rise backed k from (find_call k s.calls) refl
 backs-item t n p s rise backed (Order (Revert k from)) fits = tt
 backs-item t n p s rise backed (Order (Fail g)) fits = tt
 backs-item t n p s rise backed (Order (Repair g)) fits = tt
-backs-item t n p s rise backed (Alarm f) fits = tt
-backs-item t n p s rise backed (Clear f) fits = tt
+backs-item t n p s rise backed (Alarm f) fits =
+    alarm-holds (CanBeBacked t) (CanBeBacked t) (still-backed t) p s rise backed f
+backs-item t n p s rise backed (Clear f) fits =
+    clear-holds (CanBeBacked t) (CanBeBacked t) (still-backed t) p s rise backed f

@@ -17,22 +17,24 @@ use Rattle.mesh_rules.specs.Calls.{find_call, call_with, bare, blocked, guarded,
 use Rattle.mesh_rules.specs.State.{NodeState}
 use Rattle.mesh_nodes.proofs.LegList.{same_lsp-eq, same_lsp-refl, find-with_leg, find-without_leg}
 use Rattle.mesh_nodes.proofs.CallList.{called-found, called-names, not_called, rise-with_call}
-use Rattle.mesh_laws.specs.CallLaw.{FitsLegs, GuardsWork, IsNamed, phase_of}
+use Rattle.mesh_laws.specs.CallLaw.{FitsLegs, IsNamed, fits_reports, phase_of}
+use Rattle.mesh_rules.specs.Turns.{has_any}
+use Rattle.mesh_laws.proofs.nodes.CallTouched.{touched-changes}
 use Rattle.mesh_laws.proofs.nodes.Facts.{NodeFacts}
 use Rattle.mesh_laws.proofs.nodes.CallParts.{Becomes, CallPart, itself-became, leg_of-stays, named-by, named-lsp, named-stays, names-back, names-work, other-stays, put-once, together-part}
 use Rattle.mesh_laws.proofs.nodes.Parts.{back-row, call_part, work-row}
 use Rattle.mesh_laws.proofs.nodes.States.{Row, asked-back, asked-work}
 
--- an Asked leg at its ingress has a call
+-- a leg that isn't torn has a call at its ingress
 pub must_have_call : (n : ℕ) (s : NodeState) (g : Leg) → NodeFacts n s → find_leg g.lsp s.legs ≡ Some g →
-    g.phase ≡ Asked → g.lsp.ingress.0 ≡ n → call_with g.lsp s.calls ≡ None → ⊥
-must_have_call n s g facts here asked ingress none =
-    let has = facts.has_call g.lsp g here ingress (ap is_closing asked) in
+    is_closing g.phase ≡ false → g.lsp.ingress.0 ≡ n → call_with g.lsp s.calls ≡ None → ⊥
+must_have_call n s g facts here standing ingress none =
+    let has = facts.has_call g.lsp g here ingress standing in
     not_called g.lsp s.calls has.call.call has.call none has.found has.named
 
 -- an LSP that a call names has a leg, so where no leg is found it names none
-pub no_leg : (n next : ℕ) (legs : List Leg) (r : Role) (e : NodeId) (o : Option Lsp) → IfSome o (IsNamed n next legs r e) →
-    phase_of (leg_of o legs) ≡ None → o ≡ None
+pub no_leg : (n next : ℕ) (legs : List Leg) (r : Role) (e : NodeId) (o : Option Lsp) →
+    IfSome o (IsNamed n next legs r e) → phase_of (leg_of o legs) ≡ None → o ≡ None
 no_leg n next legs r e None named none = refl
 no_leg n next legs r e (Some l) named none =
     let found : find_leg l legs ≡ Some named.leg.0 = named.leg.1 in
@@ -51,7 +53,7 @@ work-is : (r : Role) → is_work r ≡ true → r ≡ Work
 work-is Work e = refl
 work-is Back e = absurd (cc e)
 
-back-is : (r : Role) → is_work r ≡ false → r ≡ Back
+pub back-is : (r : Role) → is_work r ≡ false → r ≡ Back
 back-is Work e = absurd (cc e)
 back-is Back e = refl
 
@@ -89,46 +91,12 @@ module _ (n : ℕ) (s : NodeState) (facts : NodeFacts n s) (g : Leg) (here : fin
     | inr back ↦ back
   ]
 
-  -- its LSP is no other call's
-  of-no-other : (m : CallNo) (d : CallRec) (x : Lsp) → nat_eq c.call.0 m.0 ≡ false → find_call m s.calls ≡ Some d →
-      names x d ≡ true → same_lsp g.lsp x ≡ false
-  of-no-other m d x other there has = go (same_lsp g.lsp x) refl
-    where
-      go : (b : Bool) → same_lsp g.lsp x ≡ b → b ≡ false
-      go false e = refl
-      go true e =
-          let is = same_lsp-eq g.lsp x e in
-          let mine : names x c ≡ true = subst (λ y. names y c ≡ true) is named in
-          let one : c.call ≡ m = facts.one_call x c.call m c d call-found there mine has in
-          let same : nat_eq c.call.0 m.0 ≡ true = (let q : c.call.0 ≡ m.0 = ap (λ y. y.0) one in grind arith) in
-          absurd (cc (same, other))
-
-  -- its leg becomes o, and it becomes d, which names no other LSP than it did, and this one where a leg stands
+  -- its leg becomes o, and the call becomes d
   call-changes : (d : CallRec) (o : Option Leg) (legs' : List Leg) → Becomes g.lsp o s.legs legs' → d.call ≡ c.call →
       FitsLegs n s.lsp legs' d → ((x : Lsp) → names x d ≡ true → names x c ≡ true) →
       ((x : Lsp) → names x c ≡ true → same_lsp g.lsp x ≡ false → names x d ≡ true) →
       ((h : Leg) → o ≡ Some h → names g.lsp d ≡ true) → CallPart n s.lsp legs' (with_call d s.calls)
-  call-changes d o legs' becomes number fits had keeps stands =
-      together-part n s.lsp s.lsp (same_lsp g.lsp) c.call (Some d) s.legs legs' s.calls (with_call d s.calls)
-      (omega arith) (rise-with_call d s.calls facts.calls_rise)
-      (put-once c.call d s.calls number)
-      (record {
-        stay = λ x other. other-stays g.lsp x o s.legs legs' becomes other;
-        apart = of-no-other;
-        only = λ e x is has. inr
-            (let one : d ≡ e = cc is in
-            (c, call-found, had x (subst (λ y. names x y ≡ true) (sym one) has)));
-        kept = λ e x there has never.
-            (let mine = call-found in let one : e ≡ c = cc (mine, there) in
-            (d, refl, keeps x (subst (λ y. names x y ≡ true) one has) never));
-        facts = λ e is. (let one : d ≡ e = cc is in subst (FitsLegs n s.lsp legs') one fits);
-        number = λ e is. (let one : d ≡ e = cc is in subst (λ y. y.call ≡ c.call) one number);
-        wanted = λ x h same there ingress standing.
-            (let is = same_lsp-eq g.lsp x same in
-            let became = itself-became g.lsp x o h s.legs legs' becomes same there in
-            (d, refl, subst (λ y. names y d ≡ true) is (stands h became)));
-      })
-      (call_part n s facts)
+  call-changes = touched-changes n s facts c call-found g.lsp named
 
   asked-row : is_work g.role ≡ true → g.phase ≡ Asked → Row c.state (Some Asked) (phase_of (leg_of c.back s.legs))
   asked-row e asked =
@@ -200,44 +168,13 @@ module _ (n : ℕ) (s : NodeState) (facts : NodeFacts n s) (g : Leg) (here : fin
               (named-still Work (named-lsp n s.lsp s.legs Work c.egress c.work g.lsp fit.work work));
           back = subst (λ o. IfSome o (IsNamed n s.lsp legs' Back c.egress)) (sym alone) tt;
           guards = λ w b h is_work is_back found. absurd (cc (alone, is_back));
-          work_reports = fit.work_reports;
-          back_reports = fit.back_reports;
+          reports = subst (λ state. fits_reports state (has_any c.work_reports) (has_any c.back_reports) ≡ true)
+              (is-asking e asked) fit.reports;
         }
 
     pub call-bare : is_work g.role ≡ true → g.phase ≡ Asked → CallPart n s.lsp legs' (with_call (bare c) s.calls)
     call-bare e asked =
         call-changes (bare c) (Some (connected g None x)) legs' becomes refl (bare-fits e asked)
-        (λ y has. has) (λ y has never. has) (λ h is. named)
-
-    -- of a backup: its call is guarded
-    guarded-fits : is_work g.role ≡ false → g.phase ≡ Asked → FitsLegs n s.lsp legs' (guarded c)
-    guarded-fits e asked =
-        let stays = work-stays e (Some (connected g None x)) legs' becomes in
-        let back = is-backup e in
-        let found = connected-found in
-        let role : reserved g.role ≡ Held = ap reserved (back-is g.role e) in
-        let first = leg_of-stays c.work s.legs legs' stays in
-        let standing = (waits e asked).1 in
-        record {
-          state = rw (first, standing, back, found, role) refl;
-          work = named-stays n s.lsp s.lsp Work c.egress c.work s.legs legs' (omega arith) stays fit.work;
-          back = subst (λ o. IfSome o (IsNamed n s.lsp legs' Back c.egress)) (sym back)
-              (named-still Back (named-lsp n s.lsp s.legs Back c.egress c.back g.lsp fit.back back));
-          guards = λ w b h is_work is_back there.
-              (let own : g.lsp ≡ b = cc (back, is_back) in
-              let there' : find_leg g.lsp legs' ≡ Some h =
-              subst (λ k. find_leg k legs' ≡ Some h) (sym own) there in
-              let one : connected g None x ≡ h = cc (found, there') in
-              let before = fit.guards w g.lsp g is_work back here in
-              subst (λ (k : Leg). GuardsWork w b k.path_role) one
-              (subst (λ k. GuardsWork w k g.path_role) own before));
-          work_reports = fit.work_reports;
-          back_reports = fit.back_reports;
-        }
-
-    pub call-guarded : is_work g.role ≡ false → g.phase ≡ Asked → CallPart n s.lsp legs' (with_call (guarded c) s.calls)
-    call-guarded e asked =
-        call-changes (guarded c) (Some (connected g None x)) legs' becomes refl (guarded-fits e asked)
         (λ y has. has) (λ y has never. has) (λ h is. named)
 
   -- The PathErr came
@@ -266,8 +203,8 @@ module _ (n : ℕ) (s : NodeState) (facts : NodeFacts n s) (g : Leg) (here : fin
           work = tt;
           back = subst (λ o. IfSome o (IsNamed n s.lsp legs_left Back c.egress)) (sym none) tt;
           guards = λ w b h is_work is_back found. absurd (cc is_work);
-          work_reports = refl;
-          back_reports = fit.back_reports;
+          reports = subst (λ state. fits_reports state (has_any c.work_reports) (has_any c.back_reports) ≡ true)
+              (is-asking e asked) fit.reports;
         })
         (λ y has. elim (named-by (blocked c cause) y has) [
           | inl work ↦ absurd (cc work)
@@ -292,8 +229,7 @@ module _ (n : ℕ) (s : NodeState) (facts : NodeFacts n s) (g : Leg) (here : fin
           work = named-stays n s.lsp s.lsp Work c.egress c.work s.legs legs_left (omega arith) stays fit.work;
           back = tt;
           guards = λ w b h is_work is_back found. absurd (cc is_back);
-          work_reports = fit.work_reports;
-          back_reports = refl;
+          reports = refl;
         })
         (λ y has. elim (named-by (unbacked c cause) y has) [
           | inl work ↦ names-work c y work

@@ -84,8 +84,7 @@ call-stays n a b legs legs' c le stay facts = record {
   work = named-stays n a b _ c.egress c.work legs legs' le work facts.work;
   back = named-stays n a b _ c.egress c.back legs legs' le back facts.back;
   guards = λ w l g is_work is_back found. facts.guards w l g is_work is_back (sym (back l is_back) ∙ found);
-  work_reports = facts.work_reports;
-  back_reports = facts.back_reports;
+  reports = facts.reports;
 }
   where
     work : (m : Lsp) → c.work ≡ Some m → find_leg m legs' ≡ find_leg m legs

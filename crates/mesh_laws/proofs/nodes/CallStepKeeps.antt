@@ -1,15 +1,17 @@
 -- What becomes of a call after a Resv or a PathErr at its ingress keeps the facts of the node.
 use Rattle.std.proofs.Common.{◌≡◌, ℕ, true, false, nat_eq, [], refl, ap, arith}
 use Rattle.std.specs.Prelude.{Option, Some, None}
-use Rattle.ason_base.specs.declared.calls.Cause.TheVariants.{Code}
+use Rattle.ason_base.specs.declared.calls.CallState.TheVariants.{Guarded}
+use Rattle.ason_base.specs.declared.calls.Cause.TheVariants.{Code, Unset}
 use Rattle.ason_base.specs.declared.calls.Phase.TheVariants.{Asked}
 use Rattle.ason_base.specs.declared.codes.ErrCode.{ErrCode}
 use Rattle.ason_base.specs.declared.tables.CallRec.{CallRec}
 use Rattle.ason_base.specs.declared.tables.Leg.{Leg}
-use Rattle.mesh_rules.specs.CallSteps.{call_answered, call_put, call_refused}
+use Rattle.mesh_rules.specs.CallSteps.{call_answered, call_refused}
+use Rattle.mesh_rules.specs.Turns.{call_put, decide}
 use Rattle.mesh_rules.specs.Calls.{bare, blocked, call_with, guarded, is_asking, is_pairing, unbacked, with_call}
 use Rattle.mesh_rules.specs.Changes.{Answer, changed, followed_by, puts, removes}
-use Rattle.mesh_rules.specs.Legs.{connected, find_leg, is_work, with_leg}
+use Rattle.mesh_rules.specs.Legs.{connected, find_leg, is_closing, is_work, reserved, with_leg}
 use Rattle.mesh_rules.specs.LocalNodes.{LocalNode}
 use Rattle.mesh_rules.specs.Pairs.{pair}
 use Rattle.mesh_rules.specs.PathErrs.{refused_here}
@@ -18,16 +20,18 @@ use Rattle.mesh_rules.specs.State.{NodeState}
 use Rattle.mesh_nodes.proofs.Cases.{if_cases}
 use Rattle.mesh_nodes.proofs.CallList.{find-with_call}
 use Rattle.mesh_nodes.proofs.Followed.{later-none}
+use Rattle.mesh_nodes.proofs.LegList.{find-with_leg}
 use Rattle.mesh_laws.proofs.nodes.Facts.{NodeFacts}
-use Rattle.mesh_laws.proofs.nodes.CallKeeps.{call-bare, call-blocked, call-guarded, call-unbacked, connected-found, is-asking, is-pairing, is-working, must_have_call}
+use Rattle.mesh_laws.proofs.nodes.CallKeeps.{back-is, call-bare, call-blocked, call-found, call-unbacked, connected-found, is-asking, is-backup, is-pairing, is-working, must_have_call}
 use Rattle.mesh_laws.proofs.nodes.CallParts.{put-twice}
+use Rattle.mesh_laws.proofs.nodes.Decides.{decide-after}
 use Rattle.mesh_laws.proofs.nodes.LegParts.{LegPart, MayStand, part-with_leg, part-without_leg}
 use Rattle.mesh_laws.proofs.nodes.PairKeeps.{keeps-pair}
 use Rattle.mesh_laws.proofs.nodes.Parts.{leg_part, node_facts}
 use Rattle.mesh_laws.proofs.nodes.PathKeeps.{Keeps}
 
 -- the leg is put in its place, and then the answer is carried out
-after-puts : (p : LocalNode) (s : NodeState) (a : Answer) (h : Leg) →
+pub after-puts : (p : LocalNode) (s : NodeState) (a : Answer) (h : Leg) →
     NodeFacts p.id.0 (changed (record s { legs = with_leg h s.legs }) a) → Keeps p s (followed_by (puts h []) a)
 after-puts p s a h facts = rw (later-none a.numbers, later-none a.down) facts
 
@@ -44,9 +48,9 @@ module _ (p : LocalNode) (s : NodeState) (g : Leg) (facts : NodeFacts p.id.0 s) 
 
     module _ (c : CallRec) (called : call_with g.lsp s.calls ≡ Some c) where
       -- a protected call is bare first, and then gets its backup
-      keeps-protected : is_work g.role ≡ true → Connects (pair p s c g)
+      keeps-protected : is_work g.role ≡ true → Connects (pair p s c (connected g None x))
       keeps-protected e =
-          after-puts p s (pair p s c g) (connected g None x)
+          after-puts p s (pair p s c (connected g None x)) (connected g None x)
           (keeps-pair p s (with_leg (connected g None x) s.legs) (with_call (bare c) s.calls) (bare c) (connected g None x)
           legs_kept (call-bare p.id.0 s facts g here c called x e asked)
           (record {
@@ -65,12 +69,16 @@ module _ (p : LocalNode) (s : NodeState) (g : Leg) (facts : NodeFacts p.id.0 s) 
           node_facts p.id.0 (changed s (followed_by (puts (connected g None x) []) (call_put (bare c)))) legs_kept
           (call-bare p.id.0 s facts g here c called x e asked)
 
-      keeps-guarded : is_work g.role ≡ false → Connects (call_put (guarded c))
+      -- a call that is guarded from now on decides at once
+      keeps-guarded : is_work g.role ≡ false → Connects (decide (guarded c) (Some (connected g None x)))
       keeps-guarded e =
-          node_facts p.id.0 (changed s (followed_by (puts (connected g None x) []) (call_put (guarded c)))) legs_kept
-          (call-guarded p.id.0 s facts g here c called x e asked)
+          after-puts p s (decide (guarded c) (Some (connected g None x))) (connected g None x)
+          (decide-after p.id.0 s facts c (call-found p.id.0 s facts g here c called) g here
+          (is-backup p.id.0 s facts g here c called e) (reserved g.role) None (Some x)
+          (with_leg (connected g None x) s.legs) (find-with_leg (connected g None x) s.legs) legs_kept c.work_reports
+          c.back_reports Unset 0 Guarded (rw (back-is g.role e) refl))
 
-      keeps-call_answered : Connects (call_answered p s g (Some c))
+      keeps-call_answered : Connects (call_answered p s (connected g None x) (Some c))
       keeps-call_answered =
           if_cases Connects (is_work g.role) _ _
           (λ e.
@@ -83,8 +91,9 @@ module _ (p : LocalNode) (s : NodeState) (g : Leg) (facts : NodeFacts p.id.0 s) 
     pub keeps-connected_here : Keeps p s (connected_here p s x g)
     keeps-connected_here = go (call_with g.lsp s.calls) refl
       where
-        go : (o : Option CallRec) → call_with g.lsp s.calls ≡ o → Connects (call_answered p s g o)
-        go None none = absurd (must_have_call p.id.0 s g facts here asked begins none)
+        go : (o : Option CallRec) → call_with g.lsp s.calls ≡ o →
+            Connects (call_answered p s (connected g None x) o)
+        go None none = absurd (must_have_call p.id.0 s g facts here (ap is_closing asked) begins none)
         go (Some c) called = keeps-call_answered c called
 
   -- A PathErr
@@ -111,5 +120,5 @@ module _ (p : LocalNode) (s : NodeState) (g : Leg) (facts : NodeFacts p.id.0 s) 
     keeps-refused_here = go (call_with g.lsp s.calls) refl
       where
         go : (o : Option CallRec) → call_with g.lsp s.calls ≡ o → Removes (call_refused code g o)
-        go None none = absurd (must_have_call p.id.0 s g facts here asked begins none)
+        go None none = absurd (must_have_call p.id.0 s g facts here (ap is_closing asked) begins none)
         go (Some c) called = keeps-call_refused c called

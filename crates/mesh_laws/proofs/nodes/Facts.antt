@@ -5,12 +5,13 @@ use Rattle.ason_base.specs.declared.ids.Fibre.{Fibre}
 use Rattle.ason_base.specs.declared.ids.Lsp.{Lsp}
 use Rattle.ason_base.specs.declared.calls.Phase.{Phase}
 use Rattle.ason_base.specs.declared.calls.Phase.TheVariants.{Asked, Held, Armed, Live, Closing, Falling}
+use Rattle.ason_base.specs.declared.calls.Role.TheVariants.{Back}
 use Rattle.ason_base.specs.declared.tables.CallRec.{CallRec}
 use Rattle.ason_base.specs.declared.tables.Leg.{Leg}
 use Rattle.ason_base.specs.Labels.{has}
 use Rattle.ason_base.specs.Network.{Network}
 use Rattle.mesh_rules.specs.Commands.{is_searchable}
-use Rattle.mesh_rules.specs.Legs.{find_leg, is_closing, takes}
+use Rattle.mesh_rules.specs.Legs.{find_leg, is_armed, is_closing, is_held, takes}
 use Rattle.mesh_rules.specs.Calls.{find_call, names}
 use Rattle.mesh_rules.specs.Paths.{role_of}
 use Rattle.mesh_rules.specs.State.{NodeState}
@@ -41,8 +42,7 @@ FitsPhase Closing g = IsTornLeg g
 FitsPhase Falling g = IsTornLeg g
 
 -- A leg at node n, whose next LSP number is this one. The ingress has no previous node and no fibre in, every other
--- node has
--- both; the egress has no next node and no fibre out, every other node has both; no node is both ends.
+-- node has both; the egress has no next node and no fibre out, every other node has both; no node is both ends.
 pub record LegFacts (n : ℕ) (next : ℕ) (g : Leg) : Type 0 where
   pub prev : is_some g.prev ≡ not (g.lsp.ingress.0 == n)
   pub in_fibre : is_some g.in_fibre ≡ is_some g.prev
@@ -52,6 +52,8 @@ pub record LegFacts (n : ℕ) (next : ℕ) (g : Leg) : Type 0 where
   pub number : g.lsp.ingress.0 ≡ n → g.lsp.lsp < next
   -- the leg's role is that of the Path that is sent or came
   pub role : g.role ≡ role_of g.path_role
+  -- a leg that is Held or Armed is a backup's
+  pub held : IsTrue (is_held g.phase || is_armed g.phase) → g.role ≡ Back
   pub phase : FitsPhase g.phase g
   -- the label in is one of those that were offered, the label out one of those that were sent on
   pub offered : IfSome g.in_label (λ x. IsTrue (has g.offered x))

@@ -6,8 +6,8 @@ use Rattle.ason_base.specs.declared.ids.Fibre.{Fibre}
 use Rattle.ason_base.specs.declared.ids.Lsp.{Lsp}
 use Rattle.ason_base.specs.declared.tables.Leg.{Leg}
 use Rattle.ason_base.specs.Lsps.{same_lsp, same_fibre, same_bool}
-use Rattle.mesh_rules.specs.Legs.{find_leg, with_leg, without_leg, takes, is_usable, is_on, is_label, is_beyond_asked}
-use Rattle.mesh_laws.specs.LabelLaw.{MayShare, is_in_use}
+use Rattle.mesh_rules.specs.Legs.{find_leg, with_leg, without_leg, takes, is_in_use, is_usable, is_on, is_label, is_beyond_asked}
+use Rattle.mesh_laws.specs.LabelLaw.{MayShare}
 use Rattle.mesh_laws.proofs.nodes.Facts.{LabelsFit, LegFacts}
 use Rattle.mesh_laws.proofs.nodes.Sharing.{may_share-flip, usable-shares}
 use Rattle.mesh_nodes.specs.Order.{LegsRise}
@@ -34,6 +34,16 @@ same_fibre-eq a b e = go a.forward b.forward refl refl (nat_eq a.link.0 b.link.0
     go true false f g true h = let no : false ≡ true = rw (h, f, g) at e in cc no
     go false true f g true h = let no : false ≡ true = rw (h, f, g) at e in cc no
 
+same_fibre-refl : (f : Fibre) → same_fibre f f ≡ true
+same_fibre-refl f = rw (number f.link.0) (go f.forward)
+  where
+    number : (x : ℕ) → nat_eq x x ≡ true
+    number x = grind arith
+
+    go : (b : Bool) → same_bool b b ≡ true
+    go true = refl
+    go false = refl
+
 pub record Taken (f : Fibre) (x : ℕ) (g : Leg) : Type 0 where
   pub phase : is_beyond_asked g.phase ≡ true
   pub fibre : g.in_fibre ≡ Some f
@@ -55,6 +65,13 @@ taken f x g e = go (is_beyond_asked g.phase) (is_on g.in_fibre f) refl refl e
     go true true p q h = record { phase = p; fibre = on-is g.in_fibre f q; label = label-is g.in_label x h }
     go true false p q h = cc h
     go false b p q h = cc h
+
+pub takes-by : (f : Fibre) (x : ℕ) (g : Leg) → Taken f x g → takes f x g ≡ true
+takes-by f x g is =
+    rw (is.phase, is.fibre, is.label, same_fibre-refl f) (number x)
+  where
+    number : (x : ℕ) → nat_eq x x ≡ true
+    number x = grind arith
 
 -- A leg that may stand
 
@@ -84,6 +101,7 @@ later-facts n a b g le facts = record {
   one_end = facts.one_end;
   number = λ e. let small : g.lsp.lsp < a = facts.number e in omega arith;
   role = facts.role;
+  held = facts.held;
   phase = facts.phase;
   offered = facts.offered;
   sent = facts.sent;

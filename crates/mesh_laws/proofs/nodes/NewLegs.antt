@@ -17,12 +17,11 @@ use Rattle.ason_base.specs.declared.tables.Leg.{Leg}
 use Rattle.mesh_rules.specs.declared.neighbours.Neighbour.{Neighbour}
 use Rattle.mesh_rules.specs.FirstLegs.{NewLsp, first_leg}
 use Rattle.mesh_rules.specs.LocalNodes.{LocalNode, own_link, labels_of, fibre_in}
-use Rattle.mesh_rules.specs.Legs.{is_usable, usable, closed, closing_phase, connected, neighbour_over, reserved}
+use Rattle.mesh_rules.specs.Legs.{is_armed, is_held, is_in_use, is_usable, usable, closed, closing_phase, connected, neighbour_over, reserved}
 use Rattle.mesh_rules.specs.State.{NodeState}
 use Rattle.mesh_rules.specs.Paths.{PathRequest, egress_leg, transit_leg, offered_labels, risks_here, role_of}
 use Rattle.mesh_rules.specs.Resvs.{label_back, only}
 use Rattle.mesh_nodes.proofs.Cases.{both_left, both_right, not-true}
-use Rattle.mesh_laws.specs.LabelLaw.{is_in_use}
 use Rattle.mesh_laws.proofs.nodes.Facts.{FitsPhase, HasItsLabels, LegFacts}
 use Rattle.mesh_laws.proofs.nodes.LegParts.{MayStand, taken, with_usable}
 
@@ -93,6 +92,7 @@ first-stands p rows l next legs here away small =
       one_end = refl;
       number = λ e. small;
       role = refl;
+      held = λ e. absurd (cc e);
       phase = (refl, refl, refl);
       offered = tt;
       sent = tt;
@@ -117,6 +117,11 @@ reserved-idle : (r : Role) → r ≡ Back → is_in_use (reserved r) ≡ false
 reserved-idle Work e = absurd (cc e)
 reserved-idle Back e = refl
 
+-- reserved without a cross-connection it is a backup's
+reserved-back : (r : Role) → (is_held (reserved r) || is_armed (reserved r)) ≡ true → r ≡ Back
+reserved-back Work e = absurd (cc e)
+reserved-back Back e = refl
+
 module _ (p : LocalNode) (s : NodeState) (m : PathRequest) (link : LinkSpec) (next : ℕ)
     (far : nat_eq m.arrival.lsp.ingress.0 p.id.0 ≡ false) where
   abbrev risks : List Risk
@@ -134,6 +139,7 @@ module _ (p : LocalNode) (s : NodeState) (m : PathRequest) (link : LinkSpec) (ne
         one_end = refl;
         number = away m.arrival.lsp.ingress.0 p.id.0 (m.arrival.lsp.lsp < next) far;
         role = refl;
+        held = reserved-back (role_of m.role);
         phase =
             phase_reserved (role_of m.role) (egress_leg p m link risks (offered_labels p s m link) x) (refl, refl);
         offered = offered;
@@ -162,6 +168,7 @@ module _ (p : LocalNode) (s : NodeState) (m : PathRequest) (link : LinkSpec) (ne
         one_end = refl;
         number = away m.arrival.lsp.ingress.0 p.id.0 (m.arrival.lsp.lsp < next) far;
         role = refl;
+        held = λ e. absurd (cc e);
         phase = (refl, refl, refl);
         offered = tt;
         sent = tt;
@@ -181,6 +188,16 @@ phase_closed Live Back g next = (refl, next)
 phase_closed Closing r g next = (refl, next)
 phase_closed Falling r g next = (refl, next)
 
+closed-idle : (f : Phase) (r : Role) → (is_held (closing_phase f r) || is_armed (closing_phase f r)) ≡ true → ⊥
+closed-idle Asked r e = cc e
+closed-idle Held r e = cc e
+closed-idle Armed Work e = cc e
+closed-idle Armed Back e = cc e
+closed-idle Live Work e = cc e
+closed-idle Live Back e = cc e
+closed-idle Closing r e = cc e
+closed-idle Falling r e = cc e
+
 pub closed-stands : (n next : ℕ) (legs : List Leg) (g : Leg) → IsTrue (is_some g.next) → LegFacts n next g →
     MayStand n next legs (closed g)
 closed-stands n next legs g goes_on facts = no_label n next legs (closed g) refl (record {
@@ -191,6 +208,7 @@ closed-stands n next legs g goes_on facts = no_label n next legs (closed g) refl
   one_end = facts.one_end;
   number = facts.number;
   role = facts.role;
+  held = λ e. absurd (closed-idle g.phase g.role e);
   phase = phase_closed g.phase g.role g goes_on;
   offered = tt;
   sent = facts.sent;
@@ -238,6 +256,7 @@ connected-facts n next g label x facts fits goes_on offered sent = record {
   one_end = facts.one_end;
   number = facts.number;
   role = facts.role;
+  held = reserved-back g.role;
   phase = phase_reserved g.role (connected g label x) (fits, sym (facts.out_fibre ∙ goes_on));
   offered = offered;
   sent = sent;

@@ -1,4 +1,4 @@
--- Orders keep the facts of a node.
+-- Orders, alarms and clears keep the facts of a node.
 use Rattle.std.proofs.Common.{◌≡◌, true, nat_eq, List, refl, sym, ap, subst}
 use Rattle.std.specs.Prelude.{◌&&◌, Option, Some, None}
 use Rattle.ason_base.specs.declared.calls.CallState.{CallState}
@@ -23,6 +23,8 @@ use Rattle.mesh_nodes.proofs.CallList.{found-number}
 use Rattle.mesh_nodes.proofs.LegList.{found-lsp}
 use Rattle.mesh_laws.proofs.nodes.Facts.{NodeFacts}
 use Rattle.mesh_laws.proofs.nodes.CallParts.{put-once}
+use Rattle.mesh_laws.proofs.nodes.LegEnds.{leg_of-own}
+use Rattle.mesh_laws.proofs.nodes.NotifyKeeps.{keeps-alarm, keeps-clear, keeps-retry}
 use Rattle.mesh_laws.proofs.nodes.PairKeeps.{keeps-pair}
 use Rattle.mesh_laws.proofs.nodes.Parts.{call_part, leg_part}
 use Rattle.mesh_laws.proofs.nodes.PathKeeps.{Keeps}
@@ -40,13 +42,6 @@ bare-is Turning e = absurd (cc e)
 bare-is Turned e = absurd (cc e)
 bare-is Stuck e = absurd (cc e)
 bare-is Blocked e = absurd (cc e)
-
--- the leg of an LSP is found by its own
-pub leg_of-own : (o : Option Lsp) (legs : List Leg) (w : Leg) → leg_of o legs ≡ Some w →
-    (o ≡ Some w.lsp) × (find_leg w.lsp legs ≡ Some w)
-leg_of-own None legs w e = absurd (cc e)
-leg_of-own (Some l) legs w e =
-    let is = sym (found-lsp l legs w e) in (ap Some is, subst (λ k. find_leg k legs ≡ Some w) is e)
 
 module _ (p : LocalNode) (s : NodeState) (c : CallRec) (found : find_call c.call s.calls ≡ Some c)
     (facts : NodeFacts p.id.0 s) where
@@ -77,12 +72,12 @@ keeps-on_order p s (Setup n from to protected both via backup) facts =
     (find_call n s.calls) refl facts
 keeps-on_order p s (Release n from) facts = keeps-release p s n from (find_call n s.calls) refl facts
 keeps-on_order p s (Protect n from) facts = keeps-protect p s n from (find_call n s.calls) refl facts
-keeps-on_order p s (Retry n from) facts = facts
+keeps-on_order p s (Retry n from) facts = keeps-retry p s n from (find_call n s.calls) refl facts
 keeps-on_order p s (Revert n from) facts = facts
 keeps-on_order p s (Fail g) facts = facts
 keeps-on_order p s (Repair g) facts = facts
 
 pub keeps-on_item : (p : LocalNode) (s : NodeState) (i : DeskItem) → NodeFacts p.id.0 s → Keeps p s (on_item p s i)
 keeps-on_item p s (Order c) facts = keeps-on_order p s c facts
-keeps-on_item p s (Alarm f) facts = facts
-keeps-on_item p s (Clear f) facts = facts
+keeps-on_item p s (Alarm f) facts = keeps-alarm p s f facts
+keeps-on_item p s (Clear f) facts = keeps-clear p s f facts

@@ -106,8 +106,7 @@ module _ (p : LocalNode) (s : NodeState) (legs : List Leg) (calls : List CallRec
           work = fit.work;
           back = tt;
           guards = λ x b h is_work is_back there. absurd (cc is_back);
-          work_reports = fit.work_reports;
-          back_reports = refl;
+          reports = refl;
         }));
         number = λ e is. (let one : d ≡ e = cc is in ap (λ y. y.call) (sym one));
         wanted = λ l h t found here stands. absurd (cc t);
@@ -164,8 +163,7 @@ module _ (p : LocalNode) (s : NodeState) (legs : List Leg) (calls : List CallRec
               let one : g ≡ h = cc (found, there'') in
               subst (λ (k : Leg). GuardsWork x b k.path_role) one (subst (λ k. GuardsWork x k g.path_role) own
               (subst (λ k. GuardsWork k l g.path_role) first_work refl)));
-          work_reports = fit.work_reports;
-          back_reports = refl;
+          reports = refl;
         }
 
     pub keeps-begins_backup : After (begins_backup p s c w out route)

@@ -1,16 +1,15 @@
--- A Path keeps the facts of a node.
+-- A Path where no leg of its LSP stands keeps the facts of a node.
 use Rattle.std.proofs.Common.{◌≡◌, ℕ, Bool, true, false, cond, not, nat_eq, List, [], ◌∷◌, refl, arith}
 use Rattle.std.specs.Prelude.{◌&&◌, Option, Some, None}
 use Rattle.ason_base.specs.Labels.{least}
 use Rattle.ason_base.specs.declared.codes.ErrCode.{ErrCode}
 use Rattle.ason_base.specs.declared.steps.Step.{Step}
 use Rattle.ason_base.specs.declared.network.LinkSpec.{LinkSpec}
-use Rattle.ason_base.specs.declared.tables.Leg.{Leg}
 use Rattle.mesh_rules.specs.Changes.{Answer, changed}
 use Rattle.mesh_rules.specs.LocalNodes.{LocalNode, own_link, leads}
 use Rattle.mesh_rules.specs.State.{NodeState}
 use Rattle.mesh_rules.specs.Paths.{PathRequest, Check, is_active, leads_on, first_failure, checks, offered_labels, egress_leg, risks_here, transit_leg}
-use Rattle.mesh_rules.specs.Paths.{at_egress, in_transit, admitted, judged, first_path, path_with}
+use Rattle.mesh_rules.specs.Paths.{at_egress, in_transit, admitted, judged, first_path}
 use Rattle.mesh_nodes.proofs.Cases.{if_cases, both_left, both_right, not-true}
 use Rattle.mesh_laws.proofs.nodes.Facts.{NodeFacts}
 use Rattle.mesh_laws.proofs.nodes.NewLegs.{least-has, egress-stands, transit-stands}
@@ -83,6 +82,5 @@ module _ (p : LocalNode) (s : NodeState) (m : PathRequest) (facts : NodeFacts p.
       (first_failure (checks p s m link)) refl)
       (λ h. facts)
 
-  pub keeps-on_path : (o : Option Leg) → Keeps p s (path_with p s m o)
-  keeps-on_path None = keeps-first_path (own_link p m.arrival.link)
-  keeps-on_path (Some g) = facts
+  pub keeps-first : Keeps p s (first_path p s m (own_link p m.arrival.link))
+  keeps-first = keeps-first_path (own_link p m.arrival.link)

@@ -10,10 +10,14 @@ use Rattle.ason_base.specs.declared.messages.Msg.{Msg}
 use Rattle.ason_base.specs.declared.network.LinkSpec.{LinkSpec}
 use Rattle.ason_base.specs.declared.network.TeRow.{TeRow}
 use Rattle.ason_base.specs.Network.{Network, find_link, row_of}
-use Rattle.std.specs.Prelude.{Option, Some, None}
+use Rattle.std.specs.Prelude.{Option, Some, None, flat_map}
 use Rattle.mesh_rules.specs.declared.events.MeshEvent.{MeshEvent}
 use Rattle.mesh_rules.specs.declared.events.MeshEvent.TheVariants.{Take, Desk, Tick, Learn, Post}
 use Rattle.mesh_rules.specs.Changes.{Answer, changed, learns, nothing}
+use Rattle.ason_base.specs.Lsps.{same_bool}
+use Rattle.ason_base.specs.declared.commands.Group.{Group}
+use Rattle.ason_base.specs.declared.ids.Fibre.{Fibre}
+use Rattle.mesh_rules.specs.Failures.{all_news, changed_news, is_cut, link_news, news, news_at, with_failed, with_group, without_group}
 use Rattle.mesh_rules.specs.KnownRows.{has_row, known_rows}
 use Rattle.mesh_rules.specs.Learnt.{on_link, on_row}
 use Rattle.mesh_rules.specs.LocalNodes.{LocalNode, local_node}
@@ -140,7 +144,51 @@ more-facts t s n i here facts m =
     (subst (λ k. FitsDesk t k i) (sym is) here))
     (λ e. facts.desk m)
 
-keeps-posted : (t : Network) (s : Mesh) (c : Command) → is_valid t c ≡ true → MeshFacts t s → MeshFacts t (posted s c)
+-- Failures
+
+fits-append : (t : Network) (n : ℕ) (items more : List DeskItem) → DeskFits t n items → DeskFits t n more →
+    DeskFits t n (items ++ more)
+fits-append t n [] more fits these = these
+fits-append t n (i ∷ items) more fits these = (fits.0, fits-append t n items more fits.1 these)
+
+news-fits : (t : Network) (n : ℕ) (cut : Bool) (f : Fibre) → FitsDesk t n (news cut f)
+news-fits t n true f = tt
+news-fits t n false f = tt
+
+-- what a node is told of a fibre, of a link and of all links
+news_at-fit : (t : Network) (n receiver : ℕ) (cut : Bool) (f : Fibre) → DeskFits t n (news_at n receiver cut f)
+news_at-fit t n receiver cut f =
+    if_cases (DeskFits t n) (nat_eq receiver n) (news cut f ∷ []) [] (λ e. (news-fits t n cut f, tt)) (λ e. tt)
+
+link_news-fit : (t : Network) (n : ℕ) (cut : Bool) (l : LinkSpec) → DeskFits t n (link_news n cut l)
+link_news-fit t n cut l =
+    fits-append t n (news_at n l.high.0 cut (record { link = l.id; forward = true })) _
+    (news_at-fit t n l.high.0 cut (record { link = l.id; forward = true }))
+    (news_at-fit t n l.low.0 cut (record { link = l.id; forward = false }))
+
+changed_news-fit : (t : Network) (before after : List Group) (n : ℕ) (l : LinkSpec) →
+    DeskFits t n (changed_news before after n l)
+changed_news-fit t before after n l =
+    if_cases (DeskFits t n) (same_bool (is_cut before l) (is_cut after l)) [] (link_news n (is_cut after l) l)
+    (λ e. tt) (λ e. link_news-fit t n (is_cut after l) l)
+
+each_news-fit : (t : Network) (before after : List Group) (n : ℕ) (links : List LinkSpec) →
+    DeskFits t n (flat_map (changed_news before after n) links)
+each_news-fit t before after n [] = tt
+each_news-fit t before after n (l ∷ links) =
+    fits-append t n (changed_news before after n l) _ (changed_news-fit t before after n l)
+    (each_news-fit t before after n links)
+
+keeps-failed : (t : Network) (s : Mesh) (groups : List Group) → MeshFacts t s → MeshFacts t (with_failed t s groups)
+keeps-failed t s groups facts = record {
+  node = facts.node;
+  desk = λ m. fits-append t m (s.desks m) (all_news t s.failed groups m) (facts.desk m)
+      (each_news-fit t s.failed groups m t.links);
+  backed = facts.backed;
+  learnt = facts.learnt;
+}
+
+keeps-posted : (t : Network) (s : Mesh) (c : Command) → is_valid t c ≡ true → MeshFacts t s → MeshFacts t (posted t s c)
 keeps-posted t s (Setup n from to protected both via backup) valid facts = record {
   node = facts.node;
   desk = more-facts t s from.0 (Order (Setup n from to protected both via backup)) (valid, refl) facts;
@@ -171,8 +219,8 @@ keeps-posted t s (Revert n from) valid facts = record {
   backed = facts.backed;
   learnt = facts.learnt;
 }
-keeps-posted t s (Fail g) valid facts = facts
-keeps-posted t s (Repair g) valid facts = facts
+keeps-posted t s (Fail g) valid facts = keeps-failed t s (with_group g s.failed) facts
+keeps-posted t s (Repair g) valid facts = keeps-failed t s (without_group g s.failed) facts
 
 -- A link that a neighbour knows
 

@@ -37,7 +37,7 @@ after-commit t s n a here fit m = go (nat_eq m.0 n.0) refl
     go true e = subst (λ k. RowsFit (local_node t k) (changed (s.nodes k.0) a)) (same-node e) here
     go false e = fit m
 
-after-posted : (t : Network) (s : Mesh) (c : Command) → CanSearch t s → CanSearch t (posted s c)
+after-posted : (t : Network) (s : Mesh) (c : Command) → CanSearch t s → CanSearch t (posted t s c)
 after-posted t s (Setup n from to protected both via backup) fit = fit
 after-posted t s (Release n from) fit = fit
 after-posted t s (Protect n from) fit = fit

@@ -45,8 +45,7 @@ module _ (p : LocalNode) (s : NodeState) (w : SetupRequest) (away : nat_eq w.egr
         work = tt;
         back = tt;
         guards = λ x b h is_work is_back there. absurd (cc is_back);
-        work_reports = refl;
-        back_reports = refl;
+        reports = refl;
       })
       (call_part p.id.0 s facts))
 
@@ -79,8 +78,7 @@ module _ (p : LocalNode) (s : NodeState) (w : SetupRequest) (away : nat_eq w.egr
           work = record { ingress = refl; number = omega arith; leg = (g, found, refl, refl) };
           back = tt;
           guards = λ x b h is_work is_back there'. absurd (cc is_back);
-          work_reports = refl;
-          back_reports = refl;
+          reports = refl;
         }
 
     keeps-begins : Keeps p s (begins p s w out route)

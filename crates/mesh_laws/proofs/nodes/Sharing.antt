@@ -11,9 +11,9 @@ use Rattle.ason_base.specs.declared.tables.Leg.{Leg}
 use Rattle.ason_base.specs.Lsps.{same_lsp}
 use Rattle.ason_base.specs.Risks.{AreDisjoint, have_common}
 use Rattle.ason_base.proofs.RiskOrder.{disjoint-flip, there-common}
-use Rattle.mesh_rules.specs.Legs.{find_leg, is_apart, is_free, is_shareable, is_usable, is_work, takes}
+use Rattle.mesh_rules.specs.Legs.{find_leg, is_apart, is_free, is_in_use, is_shareable, is_usable, is_work, takes}
 use Rattle.mesh_nodes.proofs.Cases.{both_left, both_right, not-true}
-use Rattle.mesh_laws.specs.LabelLaw.{MayShare, is_in_use}
+use Rattle.mesh_laws.specs.LabelLaw.{MayShare}
 
 pub may_share-flip : (g h : Leg) → MayShare g h → MayShare h g
 may_share-flip g h s = record {
@@ -36,7 +36,7 @@ or-last true b e = refl
 or-last false b e = e
 
 -- no leg of the list passes a test, so none that is found does
-none-found : (q : Leg → Bool) (m : Lsp) (legs : List Leg) (h : Leg) → not (list_any q legs) ≡ true →
+pub none-found : (q : Leg → Bool) (m : Lsp) (legs : List Leg) (h : Leg) → not (list_any q legs) ≡ true →
     find_leg m legs ≡ Some h → q h ≡ true → ⊥
 none-found q m [] h none found passes = cc
 none-found q m (g ∷ legs) h none found passes =
