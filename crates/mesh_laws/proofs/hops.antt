@@ -1,3 +1,5 @@
+pub mod Activation
+pub mod ActivationRule
 pub mod Chain
 pub mod Changed
 pub mod ErrRule

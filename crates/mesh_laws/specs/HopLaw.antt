@@ -1,6 +1,6 @@
 -- What holds of each LSP, and of each hop of its route, in every state of every run.
 use Rattle.std.specs.Prelude.{◌≡◌, ◌≢◌, ◌<◌, ◌&&◌, ℕ, Bool, true, false, not, ◌⊎◌, List, [], ◌∷◌, map, filter, length, slice_get, Option, Some, None, IsTrue}
-use Rattle.std.specs.List.{Contains}
+use Rattle.std.specs.List.{AllByRecursion, Contains}
 use Rattle.ason_base.specs.declared.ids.NodeId.{NodeId}
 use Rattle.ason_base.specs.declared.ids.Lsp.{Lsp}
 use Rattle.ason_base.specs.declared.steps.Step.{Step}
@@ -109,6 +109,29 @@ pub record IsHop (t : Network) (route : List Step) (a b : NodeId) : Type 0 where
 abbrev pub IsOnRoute : List Step → NodeId → Type 0
 IsOnRoute route n = (i : ℕ) × (hop : Step) × (slice_get route i ≡ Some hop) × (n ≡ hop.node)
 
+-- the node is the end e of the route, or that of a step after the one at this place
+abbrev pub IsBeyond : List Step → NodeId → ℕ → NodeId → Type 0
+IsBeyond route e i n = (n ≡ e) ⊎ ((j : ℕ) × (hop : Step) × (i < j) × (slice_get route j ≡ Some hop) × (n ≡ hop.node))
+
+abbrev pub NamesBeyond : List Step → NodeId → ℕ → Msg → Type 0
+NamesBeyond route e i (Path l k link steps set up r) = ⊥
+NamesBeyond route e i (Resv l k link x) = ⊥
+NamesBeyond route e i (PathTear l k link) = ⊥
+NamesBeyond route e i (PathErr l k at gone code) = ⊥
+NamesBeyond route e i (Notify l k at link code) = IsBeyond route e i at
+
+-- A Notify from a to b, of an LSP whose route ends at e: it goes up a step of the route, from the node at the far end of
+-- its link to the one that the step leaves. It names the node that it comes from, or one beyond it.
+pub record GoesUp (t : Network) (route : List Step) (e a b : NodeId) (m : Msg) : Type 0 where
+  pub place : ℕ
+  pub hop : Step
+  pub link : LinkSpec
+  pub there : slice_get route place ≡ Some hop
+  pub found : find_link t hop.link ≡ Some link
+  pub from : a ≡ other_end link hop.node
+  pub to : b ≡ hop.node
+  pub names : NamesBeyond route e place m
+
 -- An LSP of this role with this route, which ends at e
 pub record RouteFits (t : Network) (s : Mesh) (r : Role) (l : Lsp) (route : List Step) (e : NodeId) : Type 0 where
   pub long : 0 < length route
@@ -122,8 +145,8 @@ pub record RouteFits (t : Network) (s : Mesh) (r : Role) (l : Lsp) (route : List
   -- each leg has the LSP's role, and names the end of the route as its egress
   pub roles : (n : NodeId) (g : Leg) → leg_at s l n ≡ Some g → g.role ≡ r
   pub ends : (n : NodeId) (g : Leg) → leg_at s l n ≡ Some g → g.egress ≡ e
-  -- no Notify is under way
-  pub notices : (a b : NodeId) → notices_between s l a b ≡ []
+  -- Notifies go up the route alone
+  pub notices : (a b : NodeId) → AllByRecursion (GoesUp t route e a b) (notices_between s l a b)
 
 -- nothing of the LSP is anywhere
 pub record IsBlank (s : Mesh) (l : Lsp) : Type 0 where

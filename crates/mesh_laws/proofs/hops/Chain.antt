@@ -1,6 +1,7 @@
 -- The legs and messages of one LSP along its route: what is carried from state to state.
 use Rattle.std.proofs.Common.{◌≡◌, ◌≢◌, ◌<◌, ◌≤◌, ℕ, zero, suc, true, false, nat_eq, nat_lt, List, [], drop, refl, arith, inl, inr}
 use Rattle.std.specs.Prelude.{◌⊎◌, map, Option, Some, None, if◌then◌else◌}
+use Rattle.ason_base.specs.Labels.{has}
 use Rattle.ason_base.specs.Network.{Network}
 use Rattle.ason_base.specs.Risks.{route_risks}
 use Rattle.ason_base.specs.declared.ids.Fibre.{Fibre}
@@ -42,17 +43,18 @@ HasIn (suc i) label = (y : ℕ) × (label ≡ Some y)
 abbrev pub HasOut : ℕ → ℕ → Option ℕ → Type 0
 HasOut i n label = i < n → (x : ℕ) × (label ≡ Some x)
 
--- Which phases come up, for each purpose, at a place of n hops, and the labels in and out in each. A working leg is
--- never Held, a backup's never Live, and none is Armed or Falling: no backup is activated.
+-- Which phases come up, for each purpose, at a place of n hops, and the labels in and out in each. Only a backup's leg is
+-- Held, Armed or Falling, and none is Armed at the egress.
 abbrev pub PhaseFits : Purpose → Phase → ℕ → ℕ → Option ℕ → Option ℕ → Type 0
 PhaseFits q Asked i n enter leave = (i < n) × (enter ≡ None) × (leave ≡ None)
 PhaseFits Carries Held i n enter leave = ⊥
 PhaseFits (Guards w r) Held i n enter leave = HasIn i enter × HasOut i n leave
-PhaseFits q Armed i n enter leave = ⊥
-PhaseFits Carries Live i n enter leave = HasIn i enter × HasOut i n leave
-PhaseFits (Guards w r) Live i n enter leave = ⊥
+PhaseFits Carries Armed i n enter leave = ⊥
+PhaseFits (Guards w r) Armed i n enter leave = (i < n) × HasIn i enter × HasOut i n leave
+PhaseFits q Live i n enter leave = HasIn i enter × HasOut i n leave
 PhaseFits q Closing i n enter leave = (i < n) × (enter ≡ None)
-PhaseFits q Falling i n enter leave = ⊥
+PhaseFits Carries Falling i n enter leave = ⊥
+PhaseFits (Guards w r) Falling i n enter leave = (i < n) × (enter ≡ None) × HasOut i n leave
 
 pub asked_fits : (q : Purpose) (i n : ℕ) → i < n → PhaseFits q Asked i n None None
 asked_fits Carries i n small = (small, refl, refl)
@@ -70,6 +72,11 @@ abbrev pub RisksFit : Network → Purpose → List Risk → Type 0
 RisksFit t Carries risks = risks ≡ []
 RisksFit t (Guards w route) risks = is_searchable t ≡ true → risks ≡ route_risks (rows_of t) route
 
+-- a label out is one of those that were sent on
+abbrev pub WasSent : List ℕ → Option ℕ → Type 0
+WasSent sent None = Unit {0}
+WasSent sent (Some x) = has sent x ≡ true
+
 pub record LegFits (t : Network) (q : Purpose) (l : Lsp) (p : Plan) (i : ℕ) (g : Leg) : Type 0 where
   pub own : g.lsp ≡ l
   pub egress : g.egress ≡ p.egress
@@ -81,6 +88,7 @@ pub record LegFits (t : Network) (q : Purpose) (l : Lsp) (p : Plan) (i : ℕ) (g
   pub next : g.next ≡ next_at p i
   pub out_fibre : g.out_fibre ≡ out_fibre_at t p i
   pub route : g.route ≡ drop (suc i) p.route
+  pub sent : WasSent g.sent g.out_label
   pub phase : PhaseFits q g.phase i (hops p) g.in_label g.out_label
 
 abbrev pub Fits : Network → Purpose → Lsp → Plan → ℕ → Option Leg → Type 0

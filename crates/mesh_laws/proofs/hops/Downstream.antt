@@ -52,7 +52,7 @@ module _ (q : Purpose) (p : Plan) (i : ℕ) (u : Option Leg) where
         Hop q p i u (Some g) rest (up ++ [])
     path_passed g asked within = rw path_quiet (record {
       shape = rw asked taken.passed;
-      rest = downstream_asked q p i u None g rest bare
+      rest = downstream_asked q p i u None g rest bare path_last
           (offer_path u g set (Path l e k r set label s) (λ sent is. is) h.rest.sets.0 within) left;
     })
 
@@ -63,7 +63,7 @@ module _ (q : Purpose) (p : Plan) (i : ℕ) (u : Option Leg) where
       shape = rw kind taken.answered;
       rest = up_sent q p i u (Some g) (Resv l e' k' x) rest [] over
           (λ reserved. (here, sent_path u set x (Path l e k r set label s) (λ sent is. is) h.rest.sets.0 within))
-          (downstream_takes q p i u None g rest bare (reserved_kind g kind) left);
+          (downstream_takes q p i u None g rest bare path_last (reserved_kind g kind) left);
     })
 
     pub path_refused : (e' at : NodeId) (code : ErrCode) → Hop q p i u None rest (up ++ PathErr l e' at true code ∷ [])
@@ -122,7 +122,7 @@ module _ (q : Purpose) (p : Plan) (i : ℕ) (u : Option Leg) where
           rest = up_sent q p i u (Some g') (Resv l e k y) down [] over
               (λ reserved. (here, sent_offer u g y asked h.rest.offer offered))
               (downstream_takes q p i u (Some g) g' down
-              (h.rest.bare (inr (rw asked refl))) (reserved_kind g' kind) before);
+              (h.rest.bare (inr (rw asked refl))) (no_path_down down a.down_is) (reserved_kind g' kind) before);
         })
 
     pub asked_lets_go : (d : Option Leg) (l : Lsp) (e at : NodeId) (code : ErrCode) → g.phase ≡ Asked →

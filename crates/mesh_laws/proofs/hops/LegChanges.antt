@@ -1,6 +1,7 @@
 -- A leg of a route that closes or is connected, its kind, and its neighbours.
 use Rattle.std.proofs.Common.{◌≡◌, ◌<◌, ◌≤◌, ℕ, zero, suc, true, false, List, refl, ap, ◌∙◌, inl, inr}
 use Rattle.std.specs.Prelude.{◌⊎◌, Option, Some, None}
+use Rattle.ason_base.specs.Labels.{has}
 use Rattle.ason_base.specs.Lsps.{same_lsp}
 use Rattle.ason_base.specs.Network.{Network}
 use Rattle.ason_base.specs.declared.ids.Lsp.{Lsp}
@@ -10,13 +11,14 @@ use Rattle.ason_base.specs.declared.calls.Role.{Role}
 use Rattle.ason_base.specs.declared.calls.Role.TheVariants as role
 use Rattle.ason_base.specs.declared.steps.Step.{Step}
 use Rattle.ason_base.specs.declared.tables.Leg.{Leg}
-use Rattle.mesh_rules.specs.Legs.{closed, closing_phase, connected, previous, following, is_asked, is_closing, reserved}
-use Rattle.mesh_laws.specs.HopShapes.{NoLeg, AskedLeg, HeldLeg, ArmedLeg, LiveLeg, IsTorn, Closes, Falls, leg_kind, phase_kind}
+use Rattle.mesh_rules.specs.Legs.{closed, closing_phase, connected, previous, following, is_asked, is_beyond_asked, is_closing, reserved, with_phase}
+use Rattle.mesh_laws.specs.HopShapes.{NoLeg, AskedLeg, HeldLeg, ArmedLeg, LiveLeg, FallingLeg, IsTorn, Closes, Falls, leg_kind, phase_kind}
 use Rattle.mesh_nodes.proofs.LegList.{same_lsp-refl}
 use Rattle.mesh_laws.proofs.hops.Plans.{Plan, hops, node_at, fibre_at, lt_true, lt_false}
 use Rattle.mesh_laws.proofs.hops.Rest.{Purpose, Carries, Guards, role_of}
 use Rattle.mesh_laws.proofs.hops.Rows.{Stands, AskedStands, HeldStands, ArmedStands, LiveStands, reserved_leg, torn_leg}
-use Rattle.mesh_laws.proofs.hops.Chain.{LegFits, Fits, HasIn, PhaseFits, reserved_fits}
+use Rattle.mesh_laws.proofs.hops.Chain.{LegFits, Fits, HasIn, PhaseFits, WasSent, reserved_fits}
+use Rattle.mesh_laws.proofs.hops.Activation.{UsedHasOut}
 
 pub same_of : (k l : Lsp) → k ≡ l → same_lsp k l ≡ true
 same_of k l is = rw is (same_lsp-refl l)
@@ -51,7 +53,15 @@ live_phase Live e = refl
 live_phase Closing e = absurd cc
 live_phase Falling e = absurd cc
 
-held_phase : (f : Phase) → phase_kind f ≡ HeldLeg → f ≡ Held
+pub armed_phase : (f : Phase) → phase_kind f ≡ ArmedLeg → f ≡ Armed
+armed_phase Asked e = absurd cc
+armed_phase Held e = absurd cc
+armed_phase Armed e = refl
+armed_phase Live e = absurd cc
+armed_phase Closing e = absurd cc
+armed_phase Falling e = absurd cc
+
+pub held_phase : (f : Phase) → phase_kind f ≡ HeldLeg → f ≡ Held
 held_phase Asked e = absurd cc
 held_phase Held e = refl
 held_phase Armed e = absurd cc
@@ -128,7 +138,7 @@ module _ (t : Network) (q : Purpose) (l : Lsp) (p : Plan) where
           IsTorn (role_of q) (phase_kind f)
       go q Closing phase e = Closes
       go Carries Falling phase e = absurd phase
-      go (Guards w r) Falling phase e = absurd phase
+      go (Guards w r) Falling phase e = Falls
       go q Asked phase e = absurd cc
       go q Held phase e = absurd cc
       go q Armed phase e = absurd cc
@@ -163,6 +173,7 @@ module _ (t : Network) (q : Purpose) (l : Lsp) (p : Plan) where
     next = fits.next;
     out_fibre = fits.out_fibre;
     route = fits.route;
+    sent = fits.sent;
     phase = rw fits.role (go q g.phase fits.phase);
   }
     where
@@ -176,10 +187,10 @@ module _ (t : Network) (q : Purpose) (l : Lsp) (p : Plan) where
       go Carries Falling phase = absurd phase
       go (Guards w r) Asked phase = (small, refl)
       go (Guards w r) Held phase = (small, refl)
-      go (Guards w r) Armed phase = absurd phase
-      go (Guards w r) Live phase = absurd phase
+      go (Guards w r) Armed phase = (small, refl, phase.2)
+      go (Guards w r) Live phase = (small, refl, phase.1)
       go (Guards w r) Closing phase = (small, refl)
-      go (Guards w r) Falling phase = absurd phase
+      go (Guards w r) Falling phase = (small, refl)
 
   -- Neighbours
 
@@ -199,8 +210,8 @@ module _ (t : Network) (q : Purpose) (l : Lsp) (p : Plan) where
 
   -- the leg of a Resv
   pub connected_fits : (i : ℕ) (g : Leg) (label : Option ℕ) (x : ℕ) → LegFits t q l p i g → HasIn i label →
-      LegFits t q l p i (connected g label x)
-  connected_fits i g label x fits enters = record {
+      has g.sent x ≡ true → LegFits t q l p i (connected g label x)
+  connected_fits i g label x fits enters sent = record {
     own = fits.own;
     egress = fits.egress;
     role = fits.role;
@@ -211,6 +222,7 @@ module _ (t : Network) (q : Purpose) (l : Lsp) (p : Plan) where
     next = fits.next;
     out_fibre = fits.out_fibre;
     route = fits.route;
+    sent = sent;
     phase = rw fits.role (reserved_fits q i (hops p) label (Some x) enters (λ small. (x, refl)));
   }
 
@@ -219,32 +231,107 @@ module _ (t : Network) (q : Purpose) (l : Lsp) (p : Plan) where
       leg_kind (Some (connected g label x)) ≡ reserved_leg (role_of q)
   connected_kind i g label x fits = ap (λ r. phase_kind (reserved r)) fits.role ∙ reserved_kind (role_of q)
 
-  -- Phases that don't come up: no backup is activated
+  -- a leg that changes its phase alone
+  pub phase_fits : (i : ℕ) (g : Leg) (f : Phase) → LegFits t q l p i g →
+      PhaseFits q f i (hops p) g.in_label g.out_label → LegFits t q l p i (with_phase f g)
+  phase_fits i g f fits phase = record {
+    own = fits.own;
+    egress = fits.egress;
+    role = fits.role;
+    tells = fits.tells;
+    risks = fits.risks;
+    prev = fits.prev;
+    in_fibre = fits.in_fibre;
+    next = fits.next;
+    out_fibre = fits.out_fibre;
+    route = fits.route;
+    sent = fits.sent;
+    phase = phase;
+  }
 
-  pub never_armed : (i : ℕ) (g : Leg) → LegFits t q l p i g → leg_kind (Some g) ≡ ArmedLeg → ⊥
-  never_armed i g fits e = go q g.phase fits.phase e
+  out_label : (i : ℕ) (g : Leg) → LegFits t q l p i g → (x : ℕ) × (g.out_label ≡ Some x) →
+      (x : ℕ) × (g.out_label ≡ Some x) × (has g.sent x ≡ true)
+  out_label i g fits (x, is) = (x, is, go g.out_label is fits.sent)
     where
-      go : (q : Purpose) (f : Phase) → PhaseFits q f i (hops p) g.in_label g.out_label → phase_kind f ≡ ArmedLeg → ⊥
-      go Carries Armed phase e = phase
-      go (Guards w r) Armed phase e = phase
-      go q Asked phase e = cc
-      go q Held phase e = cc
-      go q Live phase e = cc
-      go q Closing phase e = cc
-      go q Falling phase e = cc
+      go : (o : Option ℕ) → o ≡ Some x → WasSent g.sent o → has g.sent x ≡ true
+      go None e sent = absurd (cc e)
+      go (Some y) e sent = let same : y ≡ x = cc e in rw (← same) sent
 
-  -- the leg of a backup isn't Live
-  pub live_carries : (i : ℕ) (g : Leg) → LegFits t q l p i g → g.phase ≡ Live → q ≡ Carries
-  live_carries i g fits e = go q g.phase fits.phase e
+  -- an Armed or a Falling leg has a label out, which was sent on
+  pub in_use_out : (i : ℕ) (u : Option Leg) → Fits t q l p i u → i < hops p → UsedHasOut u
+  in_use_out i None fits small which = tt
+  in_use_out i (Some g) fits small which = out_label i g fits (go q g.phase which fits.phase)
     where
-      go : (q : Purpose) (f : Phase) → PhaseFits q f i (hops p) g.in_label g.out_label → f ≡ Live → q ≡ Carries
-      go Carries f phase e = refl
-      go (Guards w r) Live phase e = absurd phase
-      go (Guards w r) Asked phase e = absurd cc
-      go (Guards w r) Held phase e = absurd cc
-      go (Guards w r) Armed phase e = absurd cc
-      go (Guards w r) Closing phase e = absurd cc
-      go (Guards w r) Falling phase e = absurd cc
+      go : (q : Purpose) (f : Phase) → (phase_kind f ≡ ArmedLeg) ⊎ (phase_kind f ≡ FallingLeg) →
+          PhaseFits q f i (hops p) g.in_label g.out_label → (x : ℕ) × (g.out_label ≡ Some x)
+      go (Guards w r) Armed which phase = phase.2 small
+      go (Guards w r) Falling which phase = phase.2 small
+      go Carries Armed which phase = absurd phase
+      go Carries Falling which phase = absurd phase
+      go q Asked which phase = absurd (elim which [ inl e ↦ cc e | inr e ↦ cc e ])
+      go q Held which phase = absurd (elim which [ inl e ↦ cc e | inr e ↦ cc e ])
+      go q Live which phase = absurd (elim which [ inl e ↦ cc e | inr e ↦ cc e ])
+      go q Closing which phase = absurd (elim which [ inl e ↦ cc e | inr e ↦ cc e ])
+
+  -- An Armed leg and a Held one may change into each other, and become Live
+
+  -- a Held leg that isn't at the egress may be Armed
+  pub armed_fits : (i : ℕ) (g : Leg) → LegFits t q l p i g → g.phase ≡ Held → i < hops p →
+      LegFits t q l p i (with_phase Armed g)
+  armed_fits i g fits held small =
+      phase_fits i g Armed fits
+      (go q (let phase = fits.phase in rw held at phase))
+    where
+      go : (q : Purpose) → PhaseFits q Held i (hops p) g.in_label g.out_label →
+          PhaseFits q Armed i (hops p) g.in_label g.out_label
+      go Carries phase = absurd phase
+      go (Guards w r) phase = (small, phase.0, phase.1)
+
+  -- and Live
+  pub held_live_fits : (i : ℕ) (g : Leg) → LegFits t q l p i g → g.phase ≡ Held → LegFits t q l p i (with_phase Live g)
+  held_live_fits i g fits held =
+      phase_fits i g Live fits (go q (let phase = fits.phase in rw held at phase))
+    where
+      go : (q : Purpose) → PhaseFits q Held i (hops p) g.in_label g.out_label →
+          PhaseFits q Live i (hops p) g.in_label g.out_label
+      go Carries phase = absurd phase
+      go (Guards w r) phase = phase
+
+  -- an Armed leg may be Live
+  pub live_fits : (i : ℕ) (g : Leg) → LegFits t q l p i g → g.phase ≡ Armed → LegFits t q l p i (with_phase Live g)
+  live_fits i g fits armed =
+      phase_fits i g Live fits (go q (let phase = fits.phase in rw armed at phase))
+    where
+      go : (q : Purpose) → PhaseFits q Armed i (hops p) g.in_label g.out_label →
+          PhaseFits q Live i (hops p) g.in_label g.out_label
+      go Carries phase = absurd phase
+      go (Guards w r) phase = (phase.1, phase.2)
+
+  -- and Held again
+  pub held_fits : (i : ℕ) (g : Leg) → LegFits t q l p i g → g.phase ≡ Armed → LegFits t q l p i (with_phase Held g)
+  held_fits i g fits armed =
+      phase_fits i g Held fits (go q (let phase = fits.phase in rw armed at phase))
+    where
+      go : (q : Purpose) → PhaseFits q Armed i (hops p) g.in_label g.out_label →
+          PhaseFits q Held i (hops p) g.in_label g.out_label
+      go Carries phase = absurd phase
+      go (Guards w r) phase = (phase.1, phase.2)
+
+  -- a leg beyond Asked has a label in, away from the ingress
+  pub in_label_is : (i : ℕ) (g : Leg) → LegFits t q l p (suc i) g → is_beyond_asked g.phase ≡ true →
+      (y : ℕ) × (g.in_label ≡ Some y)
+  in_label_is i g fits beyond = go q g.phase beyond fits.phase
+    where
+      go : (q : Purpose) (f : Phase) → is_beyond_asked f ≡ true →
+          PhaseFits q f (suc i) (hops p) g.in_label g.out_label → (y : ℕ) × (g.in_label ≡ Some y)
+      go (Guards w r) Held beyond phase = phase.0
+      go (Guards w r) Armed beyond phase = phase.1
+      go q Live beyond phase = phase.0
+      go Carries Held beyond phase = absurd phase
+      go Carries Armed beyond phase = absurd phase
+      go q Asked beyond phase = absurd cc
+      go q Closing beyond phase = absurd cc
+      go q Falling beyond phase = absurd cc
 
   -- a Held leg is that of a backup
   pub held_guards : (i : ℕ) (g : Leg) → LegFits t q l p i g → g.phase ≡ Held →
@@ -260,13 +347,6 @@ module _ (t : Network) (q : Purpose) (l : Lsp) (p : Plan) where
       go Carries Live phase e = absurd cc
       go Carries Closing phase e = absurd cc
       go Carries Falling phase e = absurd cc
-
-  pub never_live_backup : (i : ℕ) (o : Option Leg) → Fits t q l p i o → role_of q ≡ role.Back → leg_kind o ≡ LiveLeg → ⊥
-  never_live_backup i None fits back e = cc
-  never_live_backup i (Some g) fits back e =
-      let carries = live_carries i g fits (live_phase g.phase e) in
-      let work : role_of q ≡ role.Work = rw carries refl in
-      cc (back, work)
 
 -- the place before, if there is one
 abbrev pub Before : ℕ → Type 0

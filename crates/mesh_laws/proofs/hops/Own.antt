@@ -1,6 +1,6 @@
--- What a message's rule changes and sends is of the message's LSP, and its node begins no LSP by it.
-use Rattle.std.proofs.Common.{◌≡◌, ℕ, Bool, true, false, cond, not, nat_eq, List, [], ◌∷◌, ◌++◌, refl, ◌∙◌, arith, append-nil}
-use Rattle.std.specs.Prelude.{◌&&◌, filter, map, Option, Some, None}
+-- What a message's rule changes and sends is of the message's LSP.
+use Rattle.std.proofs.Common.{◌≡◌, ℕ, Bool, true, false, cond, nat_eq, List, [], ◌∷◌, ◌++◌, refl, ◌∙◌, arith, append-nil}
+use Rattle.std.specs.Prelude.{◌&&◌, not, filter, map, Option, Some, None}
 use Rattle.std.proofs.lemmas.List.Elements.{filter-append}
 use Rattle.ason_base.specs.Codes.{torn_code}
 use Rattle.ason_base.specs.Labels.{least}
@@ -11,6 +11,8 @@ use Rattle.ason_base.specs.declared.ids.NodeId.{NodeId}
 use Rattle.ason_base.specs.declared.steps.Step.{Step}
 use Rattle.ason_base.specs.declared.network.LinkSpec.{LinkSpec}
 use Rattle.ason_base.specs.declared.risks.Risk.{Risk}
+use Rattle.ason_base.specs.declared.messages.PathRole.{PathRole}
+use Rattle.ason_base.specs.declared.messages.PathRole.TheVariants.{Work, Back}
 use Rattle.ason_base.specs.declared.messages.Msg.{Msg}
 use Rattle.ason_base.specs.declared.messages.Msg.TheVariants.{Path, Resv, PathTear, PathErr, Notify}
 use Rattle.ason_base.specs.declared.tables.Leg.{Leg}
@@ -20,9 +22,11 @@ use Rattle.mesh_rules.specs.declared.changes.LegChange.{LegChange}
 use Rattle.mesh_rules.specs.declared.changes.LegChange.TheVariants.{Goes, Put}
 use Rattle.mesh_rules.specs.declared.neighbours.Neighbour.{Neighbour}
 use Rattle.mesh_rules.specs.State.{NodeState}
+use Rattle.mesh_rules.specs.Activations.{armed_on, is_contended, path_again, resv_to}
+use Rattle.mesh_rules.specs.ActivationAnswers.{is_confirmed}
 use Rattle.mesh_rules.specs.Changes.{Answer, nothing, to_node}
 use Rattle.mesh_rules.specs.LocalNodes.{LocalNode, own_link, leads}
-use Rattle.mesh_rules.specs.Legs.{find_leg, is_asked, is_closing, previous, following, is_node, is_over}
+use Rattle.mesh_rules.specs.Legs.{find_leg, is_armed, is_asked, is_closing, is_held, previous, following, is_node, is_over}
 use Rattle.mesh_rules.specs.Paths.{PathRequest, is_active, risks_here, first_failure, checks, offered_labels, at_egress, in_transit, admitted, judged, first_path, path_with}
 use Rattle.mesh_rules.specs.Resvs.{is_expected, label_back, labels_left, passed_back}
 use Rattle.mesh_rules.specs.PathErrs.{PathFailure}
@@ -31,11 +35,11 @@ use Rattle.mesh_rules.specs.Messages.{arrival}
 use Rattle.mesh_rules.specs.Machine.{Mesh, commit, sent_to}
 use Rattle.mesh_rules.specs.Events.{whole_route, first_route}
 use Rattle.mesh_laws.specs.HopLaw.{lsp_of, is_notice, is_message_of, messages_of, leg_at, mail_between}
-use Rattle.mesh_nodes.proofs.Cases.{both_right, if_cases, not-true}
+use Rattle.mesh_nodes.proofs.Cases.{if_cases}
 use Rattle.mesh_nodes.proofs.LegList.{found-lsp}
-use Rattle.mesh_laws.proofs.hops.InParts.{leg_answers, leg_of_resv, leg_refused, leg_removed, leg_of_err, leg_part}
+use Rattle.mesh_laws.proofs.hops.InParts.{leg_answers, leg_contended, leg_disarmed, leg_lit, leg_of_err, leg_of_resv, leg_part, leg_refused, leg_removed}
 use Rattle.mesh_laws.proofs.hops.Tables.{leg_after}
-use Rattle.mesh_laws.proofs.hops.Views.{leg-here}
+use Rattle.mesh_laws.proofs.hops.Views.{SendsNoNotice, leg-here}
 use Rattle.mesh_laws.proofs.hops.Sending.{sent_by}
 
 abbrev pub AllLegs : Lsp → List LegChange → Type 0
@@ -53,12 +57,11 @@ pub record IsOf (l : Lsp) (a : Answer) : Type 0 where
   pub legs : AllLegs l a.legs
   pub sent : AllSent l a.sent
 
--- of one LSP, and none begins at the node n
-pub record Own (n : ℕ) (l : Lsp) (a : Answer) : Type 0 where
+-- of one LSP, and no number is given out
+pub record Own (l : Lsp) (a : Answer) : Type 0 where
   pub legs : AllLegs l a.legs
   pub sent : AllSent l a.sent
   pub numbers : a.numbers ≡ None
-  pub none_begins : (k : Lsp) → nat_eq k.ingress.0 n ≡ true → first_route k a.sent ≡ None
 
 -- an answer that changes no leg and sends nothing: what a call does alone
 pub record IsQuiet (a : Answer) : Type 0 where
@@ -74,161 +77,175 @@ pub found-is : (l : Lsp) (legs : List Leg) (o : Option Leg) → find_leg l legs 
 found-is l legs None e = tt
 found-is l legs (Some g) e = found-lsp l legs g e
 
-own-nothing : (n : ℕ) (l : Lsp) → Own n l nothing
-own-nothing n l = record { legs = tt; sent = tt; numbers = refl; none_begins = λ k e. refl }
+own-nothing : (l : Lsp) → Own l nothing
+own-nothing l = record { legs = tt; sent = tt; numbers = refl }
 
 -- Path
 
-own-at_egress : (n : ℕ) (p : LocalNode) (m : PathRequest) (link : LinkSpec) (risks : List Risk) (offered : List ℕ)
+own-at_egress : (p : LocalNode) (m : PathRequest) (link : LinkSpec) (risks : List Risk) (offered : List ℕ)
     (x : Option ℕ) →
-    Own n m.arrival.lsp (at_egress p m link risks offered x)
-own-at_egress n p m link risks offered None = own-nothing n m.arrival.lsp
-own-at_egress n p m link risks offered (Some x) =
-    record { legs = (refl, tt); sent = (refl, refl, tt); numbers = refl; none_begins = λ k e. refl }
+    Own m.arrival.lsp (at_egress p m link risks offered x)
+own-at_egress p m link risks offered None = own-nothing m.arrival.lsp
+own-at_egress p m link risks offered (Some x) = record { legs = (refl, tt); sent = (refl, refl, tt); numbers = refl }
 
-other_ingress : (l k : Lsp) (n : ℕ) → nat_eq l.ingress.0 n ≡ false → nat_eq k.ingress.0 n ≡ true → same_lsp l k ≡ false
-other_ingress l k n e f = grind arith
-
--- the Path that goes on is of another node's LSP
 own-in_transit : (p : LocalNode) (m : PathRequest) (link : LinkSpec) (risks : List Risk) (route : List Step)
-    (offered : List ℕ) (o : Option LinkSpec) →
-    nat_eq m.arrival.lsp.ingress.0 p.id.0 ≡ false → Own p.id.0 m.arrival.lsp (in_transit p m link risks route offered o)
-own-in_transit p m link risks route offered None away = own-nothing p.id.0 m.arrival.lsp
-own-in_transit p m link risks route offered (Some out) away = record {
-  legs = (refl, tt);
-  sent = (refl, refl, tt);
-  numbers = refl;
-  none_begins = λ k e. rw (other_ingress m.arrival.lsp k p.id.0 away e) refl;
-}
+    (offered : List ℕ) (o : Option LinkSpec) → Own m.arrival.lsp (in_transit p m link risks route offered o)
+own-in_transit p m link risks route offered None = own-nothing m.arrival.lsp
+own-in_transit p m link risks route offered (Some out) =
+    record { legs = (refl, tt); sent = (refl, refl, tt); numbers = refl }
 
 own-admitted : (p : LocalNode) (m : PathRequest) (link : LinkSpec) (risks : List Risk) (offered : List ℕ)
-    (route : List Step) →
-    nat_eq m.arrival.lsp.ingress.0 p.id.0 ≡ false → Own p.id.0 m.arrival.lsp (admitted p m link risks offered route)
-own-admitted p m link risks offered [] away = own-at_egress p.id.0 p m link risks offered (least offered)
-own-admitted p m link risks offered (hop ∷ route) away =
-    own-in_transit p m link risks route offered (own_link p hop.link) away
+    (route : List Step) → Own m.arrival.lsp (admitted p m link risks offered route)
+own-admitted p m link risks offered [] = own-at_egress p m link risks offered (least offered)
+own-admitted p m link risks offered (hop ∷ route) =
+    own-in_transit p m link risks route offered (own_link p hop.link)
 
 own-judged : (p : LocalNode) (s : NodeState) (m : PathRequest) (link : LinkSpec) (o : Option ErrCode) →
-    nat_eq m.arrival.lsp.ingress.0 p.id.0 ≡ false → Own p.id.0 m.arrival.lsp (judged p s m link o)
-own-judged p s m link (Some code) away =
-    record { legs = tt; sent = (refl, refl, tt); numbers = refl; none_begins = λ k e. refl }
-own-judged p s m link None away = own-admitted p m link (risks_here p s m) (offered_labels p s m link) m.route away
+    Own m.arrival.lsp (judged p s m link o)
+own-judged p s m link (Some code) = record { legs = tt; sent = (refl, refl, tt); numbers = refl }
+own-judged p s m link None = own-admitted p m link (risks_here p s m) (offered_labels p s m link) m.route
 
 own-first_path : (p : LocalNode) (s : NodeState) (m : PathRequest) (o : Option LinkSpec) →
-    Own p.id.0 m.arrival.lsp (first_path p s m o)
-own-first_path p s m None = own-nothing p.id.0 m.arrival.lsp
+    Own m.arrival.lsp (first_path p s m o)
+own-first_path p s m None = own-nothing m.arrival.lsp
 own-first_path p s m (Some link) =
-    if_cases (Own p.id.0 m.arrival.lsp)
+    if_cases (Own m.arrival.lsp)
     (not (is_active m.role) && (leads (Some link) m.arrival.from p.id
     && not (nat_eq m.arrival.lsp.ingress.0 p.id.0))) _ _
-    (λ h.
-    let away = both_right (leads (Some link) m.arrival.from p.id) _ (both_right (not (is_active m.role)) _ h) in
-    own-judged p s m link (first_failure (checks p s m link)) (not-true (nat_eq m.arrival.lsp.ingress.0 p.id.0) away))
-    (λ h. own-nothing p.id.0 m.arrival.lsp)
+    (λ h. own-judged p s m link (first_failure (checks p s m link)))
+    (λ h. own-nothing m.arrival.lsp)
 
-own-on_path : (p : LocalNode) (s : NodeState) (m : PathRequest) (o : Option Leg) →
-    Own p.id.0 m.arrival.lsp (path_with p s m o)
-own-on_path p s m None = own-first_path p s m (own_link p m.arrival.link)
-own-on_path p s m (Some g) = own-nothing p.id.0 m.arrival.lsp
+own-resv_to : (l : Lsp) (g : Leg) (h : Option Neighbour) (x : Option ℕ) → g.lsp ≡ l → AllSent l (resv_to g h x)
+own-resv_to l g None x is = tt
+own-resv_to l g (Some h) None is = tt
+own-resv_to l g (Some h) (Some x) is = (is, refl, tt)
+
+own-armed_on : (l : Lsp) (g : Leg) (r : PathRole) (h : Option Neighbour) → g.lsp ≡ l → Own l (armed_on g r h)
+own-armed_on l g r None is =
+    record { legs = (is, tt); sent = own-resv_to l g (previous g) g.in_label is; numbers = refl }
+own-armed_on l g r (Some h) is = record { legs = (is, tt); sent = (is, refl, tt); numbers = refl }
+
+own-path_again : (l : Lsp) (p : LocalNode) (s : NodeState) (a : Arrival) (r : PathRole) (g : Leg) → g.lsp ≡ l →
+    Own l (path_again p s a r g)
+own-path_again l p s a (Work guard) g is = own-nothing l
+own-path_again l p s a (Back true work primary) g is =
+    if_cases (Own l) (is_held g.phase && is_over (previous g) a.from a.link) _ _
+    (λ h. if_cases (Own l) (is_contended s.legs g g.in_fibre g.in_label) _ _
+    (λ c. record { legs = tt; sent = (is, refl, tt); numbers = refl })
+    (λ c. own-armed_on l g (Back true work primary) (following g) is))
+    (λ h. own-nothing l)
+own-path_again l p s a (Back false work primary) g is = own-nothing l
+
+own-on_path : (p : LocalNode) (s : NodeState) (m : PathRequest) (o : Option Leg) → IsLegOf m.arrival.lsp o →
+    Own m.arrival.lsp (path_with p s m o)
+own-on_path p s m None is = own-first_path p s m (own_link p m.arrival.link)
+own-on_path p s m (Some g) is = own-path_again m.arrival.lsp p s m.arrival m.role g is
 
 -- Resv
 
-own-passed_back : (n : ℕ) (l : Lsp) (p : LocalNode) (a : Arrival) (g : Leg) (h : Neighbour) (x : ℕ) (o : Option ℕ) →
-    g.lsp ≡ l →
-    Own n l (passed_back p a g h x o)
-own-passed_back n l p a g h x None is =
-    record { legs = (is, tt); sent = (is, refl, (is, refl, tt)); numbers = refl; none_begins = λ k e. refl }
-own-passed_back n l p a g h x (Some y) is =
-    record { legs = (is, tt); sent = (is, refl, tt); numbers = refl; none_begins = λ k e. refl }
+own-passed_back : (l : Lsp) (p : LocalNode) (a : Arrival) (g : Leg) (h : Neighbour) (x : ℕ) (o : Option ℕ) →
+    g.lsp ≡ l → Own l (passed_back p a g h x o)
+own-passed_back l p a g h x None is =
+    record { legs = (is, tt); sent = (is, refl, (is, refl, tt)); numbers = refl }
+own-passed_back l p a g h x (Some y) is = record { legs = (is, tt); sent = (is, refl, tt); numbers = refl }
 
-own-leg_answers : (n : ℕ) (l : Lsp) (p : LocalNode) (s : NodeState) (a : Arrival) (x : ℕ) (g : Leg)
-    (o : Option Neighbour) →
-    g.lsp ≡ l →
-    Own n l (leg_answers p s a x g o)
-own-leg_answers n l p s a x g None is =
-    record { legs = (is, tt); sent = tt; numbers = refl; none_begins = λ k e. refl }
-own-leg_answers n l p s a x g (Some h) is =
-    own-passed_back n l p a g h x (label_back p (labels_left p s g h) x) is
+own-leg_answers : (l : Lsp) (p : LocalNode) (s : NodeState) (a : Arrival) (x : ℕ) (g : Leg)
+    (o : Option Neighbour) → g.lsp ≡ l → Own l (leg_answers p s a x g o)
+own-leg_answers l p s a x g None is = record { legs = (is, tt); sent = tt; numbers = refl }
+own-leg_answers l p s a x g (Some h) is = own-passed_back l p a g h x (label_back p (labels_left p s g h) x) is
 
-own-leg_of_resv : (n : ℕ) (l : Lsp) (p : LocalNode) (s : NodeState) (a : Arrival) (x : ℕ) (o : Option Leg) →
-    IsLegOf l o → Own n l (leg_of_resv p s a x o)
-own-leg_of_resv n l p s a x None is = own-nothing n l
-own-leg_of_resv n l p s a x (Some g) is =
-    if_cases (Own n l) (is_expected a x g) _ _ (λ h. own-leg_answers n l p s a x g (previous g) is)
-    (λ h. own-nothing n l)
+own-leg_lit : (l : Lsp) (g : Leg) (o : Option Neighbour) → g.lsp ≡ l → Own l (leg_lit g o)
+own-leg_lit l g None is = record { legs = (is, tt); sent = tt; numbers = refl }
+own-leg_lit l g (Some h) is =
+    record { legs = (is, tt); sent = own-resv_to l g (Some h) g.in_label is; numbers = refl }
+
+own-leg_of_resv : (l : Lsp) (p : LocalNode) (s : NodeState) (a : Arrival) (x : ℕ) (o : Option Leg) →
+    IsLegOf l o → Own l (leg_of_resv p s a x o)
+own-leg_of_resv l p s a x None is = own-nothing l
+own-leg_of_resv l p s a x (Some g) is =
+    if_cases (Own l) (is_expected a x g) _ _ (λ h. own-leg_answers l p s a x g (previous g) is)
+    (λ h. if_cases (Own l) (is_confirmed a x g) _ _ (λ c. own-leg_lit l g (previous g) is) (λ c. own-nothing l))
 
 -- PathErr
 
--- a message of this LSP that is neither a Path nor a Notify
+-- a message of this LSP that isn't a Notify
 pub record PassesOn (l : Lsp) (m : Msg) : Type 0 where
   pub own : lsp_of m ≡ l
   pub plain : is_notice m ≡ false
-  pub begins_none : (k : Lsp) → whole_route k m ≡ None
 
-own-leg_refused : (n : ℕ) (l : Lsp) (g : Leg) (e : PathFailure) (o : Option Neighbour) → g.lsp ≡ l →
-    PassesOn l e.msg → Own n l (leg_refused g e o)
-own-leg_refused n l g e None is on =
-    record { legs = (is, tt); sent = tt; numbers = refl; none_begins = λ k f. refl }
-own-leg_refused n l g e (Some h) is on = record {
-  legs = (is, tt);
-  sent = (on.own, on.plain, tt);
-  numbers = refl;
-  none_begins = λ k f. rw (on.begins_none k) refl;
-}
+own-leg_refused : (l : Lsp) (g : Leg) (e : PathFailure) (o : Option Neighbour) → g.lsp ≡ l →
+    PassesOn l e.msg → Own l (leg_refused g e o)
+own-leg_refused l g e None is on = record { legs = (is, tt); sent = tt; numbers = refl }
+own-leg_refused l g e (Some h) is on = record { legs = (is, tt); sent = (on.own, on.plain, tt); numbers = refl }
 
-own-leg_removed : (n : ℕ) (l : Lsp) (g : Leg) (e : PathFailure) → g.lsp ≡ l → PassesOn l e.msg →
-    Own n l (leg_removed g e)
-own-leg_removed n l g e is on =
-    if_cases (Own n l) (is_asked g.phase) _ _ (λ h. own-leg_refused n l g e (previous g) is on) (λ h.
-    if_cases (Own n l) (is_closing g.phase) _ _
-    (λ f. record { legs = (is, tt); sent = tt; numbers = refl; none_begins = λ k e. refl }) (λ f. own-nothing n l))
+own-leg_removed : (l : Lsp) (g : Leg) (e : PathFailure) → g.lsp ≡ l → PassesOn l e.msg → Own l (leg_removed g e)
+own-leg_removed l g e is on =
+    if_cases (Own l) (is_asked g.phase) _ _ (λ h. own-leg_refused l g e (previous g) is on) (λ h.
+    if_cases (Own l) (is_closing g.phase) _ _
+    (λ f. record { legs = (is, tt); sent = tt; numbers = refl }) (λ f. own-nothing l))
 
-own-leg_of_err : (n : ℕ) (l : Lsp) (u : NodeId) (e : PathFailure) (o : Option Leg) → IsLegOf l o →
-    PassesOn l e.msg → Own n l (leg_of_err u e o)
-own-leg_of_err n l u e None is on = own-nothing n l
-own-leg_of_err n l u e (Some g) is on =
-    if_cases (Own n l) (e.removed && is_node (following g) u) _ _ (λ h. own-leg_removed n l g e is on)
-    (λ h. own-nothing n l)
+own-leg_disarmed : (l : Lsp) (g : Leg) (m : Msg) (o : Option Neighbour) → g.lsp ≡ l → PassesOn l m →
+    Own l (leg_disarmed g m o)
+own-leg_disarmed l g m None is on = record { legs = (is, tt); sent = tt; numbers = refl }
+own-leg_disarmed l g m (Some h) is on = record { legs = (is, tt); sent = (on.own, on.plain, tt); numbers = refl }
+
+own-leg_contended : (l : Lsp) (g : Leg) (m : Msg) → g.lsp ≡ l → PassesOn l m → Own l (leg_contended g m)
+own-leg_contended l g m is on =
+    if_cases (Own l) (is_armed g.phase) _ _ (λ h. own-leg_disarmed l g m (previous g) is on) (λ h. own-nothing l)
+
+own-leg_of_err : (l : Lsp) (u : NodeId) (e : PathFailure) (o : Option Leg) → IsLegOf l o →
+    PassesOn l e.msg → Own l (leg_of_err u e o)
+own-leg_of_err l u e None is on = own-nothing l
+own-leg_of_err l u e (Some g) is on =
+    if_cases (Own l) (is_node (following g) u) _ _
+    (λ h. if_cases (Own l) e.removed _ _ (λ r. own-leg_removed l g e is on)
+    (λ r. own-leg_contended l g e.msg is on))
+    (λ h. own-nothing l)
 
 -- PathTear
 
-own-torn : (n : ℕ) (l : Lsp) (g : Leg) (to : NodeId) (m : Msg) (o : Option Neighbour) → g.lsp ≡ l → PassesOn l m →
-    Own n l (torn g (to_node to m) o)
-own-torn n l g to m None is on =
-    record {
-      legs =
-          (is, tt);
-      sent = (on.own, on.plain, tt);
-      numbers = refl;
-      none_begins = λ k e. rw (on.begins_none k) refl;
-    }
-own-torn n l g to m (Some h) is on = record {
-  legs = (is, tt);
-  sent = (on.own, on.plain, (is, refl, tt));
-  numbers = refl;
-  none_begins = λ k e. rw (on.begins_none k) refl;
-}
+own-torn : (l : Lsp) (g : Leg) (to : NodeId) (m : Msg) (o : Option Neighbour) → g.lsp ≡ l → PassesOn l m →
+    Own l (torn g (to_node to m) o)
+own-torn l g to m None is on = record { legs = (is, tt); sent = (on.own, on.plain, tt); numbers = refl }
+own-torn l g to m (Some h) is on =
+    record { legs = (is, tt); sent = (on.own, on.plain, (is, refl, tt)); numbers = refl }
 
-own-on_tear : (n : ℕ) (l : Lsp) (p : LocalNode) (a : Arrival) (o : Option Leg) → IsLegOf l o → Own n l (tear_with p a o)
-own-on_tear n l p a None is = own-nothing n l
-own-on_tear n l p a (Some g) is =
-    if_cases (Own n l) (not (is_closing g.phase) && is_over (previous g) a.from a.link) _ _
-    (λ h. own-torn n l g a.from (PathErr g.lsp g.egress p.id true torn_code) (following g) is
-    (record { own = is; plain = refl; begins_none = λ k. refl }))
-    (λ h. own-nothing n l)
+own-on_tear : (l : Lsp) (p : LocalNode) (a : Arrival) (o : Option Leg) → IsLegOf l o → Own l (tear_with p a o)
+own-on_tear l p a None is = own-nothing l
+own-on_tear l p a (Some g) is =
+    if_cases (Own l) (not (is_closing g.phase) && is_over (previous g) a.from a.link) _ _
+    (λ h. own-torn l g a.from (PathErr g.lsp g.egress p.id true torn_code) (following g) is
+    (record { own = is; plain = refl }))
+    (λ h. own-nothing l)
 
-pub own-leg_part : (p : LocalNode) (s : NodeState) (u : NodeId) (m : Msg) → Own p.id.0 (lsp_of m) (leg_part p s u m)
-own-leg_part p s u (Path l e k route set up r) =
+-- a Notify is the one message that makes Notifies
+pub own-leg_part : (p : LocalNode) (s : NodeState) (u : NodeId) (m : Msg) → is_notice m ≡ false →
+    Own (lsp_of m) (leg_part p s u m)
+own-leg_part p s u (Path l e k route set up r) plain =
     own-on_path p s (record { arrival = arrival l e u k; route = route; set = set; role = r }) (find_leg l s.legs)
-own-leg_part p s u (Resv l e k x) =
-    own-leg_of_resv p.id.0 l p s (arrival l e u k) x (find_leg l s.legs) (found-is l s.legs (find_leg l s.legs) refl)
-own-leg_part p s u (PathTear l e k) =
-    own-on_tear p.id.0 l p (arrival l e u k) (find_leg l s.legs) (found-is l s.legs (find_leg l s.legs) refl)
-own-leg_part p s u (PathErr l e at gone code) =
-    own-leg_of_err p.id.0 l u
+    (found-is l s.legs (find_leg l s.legs) refl)
+own-leg_part p s u (Resv l e k x) plain =
+    own-leg_of_resv l p s (arrival l e u k) x (find_leg l s.legs) (found-is l s.legs (find_leg l s.legs) refl)
+own-leg_part p s u (PathTear l e k) plain =
+    own-on_tear l p (arrival l e u k) (find_leg l s.legs) (found-is l s.legs (find_leg l s.legs) refl)
+own-leg_part p s u (PathErr l e at gone code) plain =
+    own-leg_of_err l u
     (record { lsp = l; msg = PathErr l e at gone code; removed = gone; code = code }) (find_leg l s.legs)
-    (found-is l s.legs (find_leg l s.legs) refl) (record { own = refl; plain = refl; begins_none = λ k. refl })
-own-leg_part p s u (Notify l e at k code) = own-nothing p.id.0 l
+    (found-is l s.legs (find_leg l s.legs) refl) (record { own = refl; plain = refl })
+own-leg_part p s u (Notify l e at k code) plain = absurd (cc plain)
+
+-- no route of another LSP is sent
+whole-other : (l k : Lsp) (m : Msg) → lsp_of m ≡ l → same_lsp l k ≡ false → whole_route k m ≡ None
+whole-other l k (Path j e link route set up r) own apart = rw (own, apart) refl
+whole-other l k (Resv j e link x) own apart = refl
+whole-other l k (PathTear j e link) own apart = refl
+whole-other l k (PathErr j e at gone code) own apart = refl
+whole-other l k (Notify j e at link code) own apart = refl
+
+pub route-other : (l k : Lsp) (outs : List Out) → AllSent l outs → same_lsp l k ≡ false → first_route k outs ≡ None
+route-other l k [] own apart = refl
+route-other l k (o ∷ outs) own apart =
+    rw (whole-other l k o.msg own.0 apart) (route-other l k outs own.2 apart)
 
 -- What is of another LSP stays
 
@@ -237,6 +254,11 @@ leg_after-other : (l k : Lsp) (cs : List LegChange) (o : Option Leg) → AllLegs
 leg_after-other l k [] o own apart = refl
 leg_after-other l k (Goes m ∷ cs) o own apart = rw (own.0, apart) (leg_after-other l k cs o own.1 apart)
 leg_after-other l k (Put g ∷ cs) o own apart = rw (own.0, apart) (leg_after-other l k cs o own.1 apart)
+
+-- no Notify is sent
+pub sent-plain : (l : Lsp) (outs : List Out) → AllSent l outs → SendsNoNotice outs
+sent-plain l [] own = tt
+sent-plain l (o ∷ outs) own = (own.1, sent-plain l outs own.2)
 
 sent-other : (l k : Lsp) (b : NodeId) (outs : List Out) → AllSent l outs → same_lsp l k ≡ false → sent_by k outs b ≡ []
 sent-other l k b [] own apart = refl

@@ -10,10 +10,11 @@ use Rattle.mesh_rules.specs.Changes.{Answer, changed}
 use Rattle.mesh_rules.specs.Machine.{Mesh, commit}
 use Rattle.mesh_rules.specs.Events.{or_route}
 use Rattle.mesh_rules.specs.Pairs.{beside_lsp}
-use Rattle.mesh_laws.specs.HopLaw.{leg_at, mail_between}
+use Rattle.mesh_laws.specs.HopLaw.{leg_at, mail_between, notices_between}
 use Rattle.mesh_laws.proofs.hops.Plans.{Plan, plan, IsRoute}
 use Rattle.mesh_laws.proofs.hops.Rest.{Purpose, Carries, Guards}
 use Rattle.mesh_laws.proofs.hops.Chain.{Chain}
+use Rattle.mesh_laws.proofs.hops.Notices.{NoticesFit, notices_same}
 
 -- the whole route of the first Path that its ingress sent for each LSP
 abbrev pub Routes : Type 0
@@ -34,6 +35,7 @@ pub record Planned (t : Network) (s : Mesh) (o : Routes) (l : Lsp) (q : Purpose)
   pub route : IsRoute t l.ingress p
   pub made : makes_route t l.ingress p.egress p.route ≡ true
   pub chain : Chain t q l p (leg_at s l) (mail_between s l)
+  pub notices : NoticesFit p (notices_between s l)
   pub number : l.lsp < (s.nodes l.ingress.0).lsp
   pub guards : IsGuarded o l q
   pub beside : StandsBeside t l q p
@@ -42,6 +44,7 @@ pub record Planned (t : Network) (s : Mesh) (o : Routes) (l : Lsp) (q : Purpose)
 pub record IsUntouched (s : Mesh) (l : Lsp) : Type 0 where
   pub legs : (n : NodeId) → leg_at s l n ≡ None
   pub mail : (a b : NodeId) → mail_between s l a b ≡ []
+  pub notices : (a b : NodeId) → notices_between s l a b ≡ []
 
 abbrev pub Follows : Network → Mesh → Routes → Lsp → Option (List Step) → Type 0
 Follows t s o l None = IsUntouched s l
@@ -51,35 +54,57 @@ Follows t s o l (Some route) = (e : NodeId) × (q : Purpose) × Planned t s o l 
 abbrev pub EachFollows : Network → Mesh → Routes → Type 0
 EachFollows t s o = (l : Lsp) → Follows t s o l (o l)
 
--- the same legs and messages of the LSP, and no smaller next number
-pub record SameOf (s s' : Mesh) (l : Lsp) : Type 0 where
+-- the same legs and messages of the LSP, Notifies aside, and no smaller next number
+pub record StillOf (s s' : Mesh) (l : Lsp) : Type 0 where
   pub legs : (n : NodeId) → leg_at s' l n ≡ leg_at s l n
   pub mail : (a b : NodeId) → mail_between s' l a b ≡ mail_between s l a b
   pub next : (s.nodes l.ingress.0).lsp ≤ (s'.nodes l.ingress.0).lsp
 
-chain_same : (t : Network) (q : Purpose) (s s' : Mesh) (l : Lsp) (p : Plan) → SameOf s s' l →
+-- and the same Notifies
+pub record SameOf (s s' : Mesh) (l : Lsp) : Type 0 where
+  pub still : StillOf s s' l
+  pub notices : (a b : NodeId) → notices_between s' l a b ≡ notices_between s l a b
+
+chain_same : (t : Network) (q : Purpose) (s s' : Mesh) (l : Lsp) (p : Plan) → StillOf s s' l →
     Chain t q l p (leg_at s l) (mail_between s l) → Chain t q l p (leg_at s' l) (mail_between s' l)
 chain_same t q s s' l p same chain =
     let legs : leg_at s l ≡ leg_at s' l = λ i n. sym (same.legs n) i in
     let mail : mail_between s l ≡ mail_between s' l = λ i x y. sym (same.mail x y) i in
     subst (Chain t q l p (leg_at s' l)) mail (subst (λ f. Chain t q l p f (mail_between s l)) legs chain)
 
-planned_same : (t : Network) (s s' : Mesh) (o : Routes) (l : Lsp) (q : Purpose) (p : Plan) → SameOf s s' l →
-    Planned t s o l q p → Planned t s' o l q p
-planned_same t s s' o l q p same b = record {
+-- an LSP whose legs and messages stay, while these Notifies are under way
+planned_noticed : (t : Network) (s s' : Mesh) (o : Routes) (l : Lsp) (q : Purpose) (p : Plan) → StillOf s s' l →
+    NoticesFit p (notices_between s' l) → Planned t s o l q p → Planned t s' o l q p
+planned_noticed t s s' o l q p same fit b = record {
   route = b.route;
   made = b.made;
   chain = chain_same t q s s' l p same b.chain;
+  notices = fit;
   number = (let n = b.number in let m = same.next in omega arith);
   guards = b.guards;
   beside = b.beside;
 }
 
+-- what holds of the Notifies of an LSP that has this route, if any, is so still
+abbrev pub NoticesStay : Network → Mesh → Mesh → Routes → Lsp → Option (List Step) → Type 0
+NoticesStay t s s' o l None = (a b : NodeId) → notices_between s' l a b ≡ []
+NoticesStay t s s' o l (Some route) = (e : NodeId) (q : Purpose) → Planned t s o l q (plan route e) →
+    NoticesFit (plan route e) (notices_between s' l)
+
+pub follows_noticed : (t : Network) (s s' : Mesh) (o : Routes) (l : Lsp) (c : Option (List Step)) → StillOf s s' l →
+    NoticesStay t s s' o l c → Follows t s o l c → Follows t s' o l c
+follows_noticed t s s' o l None same stay b =
+    record { legs = λ n. same.legs n ∙ b.legs n; mail = λ x y. same.mail x y ∙ b.mail x y; notices = stay }
+follows_noticed t s s' o l (Some route) same stay (e, q, b) =
+    (e, q, planned_noticed t s s' o l q (plan route e) same (stay e q b) b)
+
 pub follows_same : (t : Network) (s s' : Mesh) (o : Routes) (l : Lsp) (c : Option (List Step)) → SameOf s s' l →
     Follows t s o l c → Follows t s' o l c
 follows_same t s s' o l None same b =
-    record { legs = λ n. same.legs n ∙ b.legs n; mail = λ x y. same.mail x y ∙ b.mail x y }
-follows_same t s s' o l (Some route) same (e, q, b) = (e, q, planned_same t s s' o l q (plan route e) same b)
+    follows_noticed t s s' o l None same.still (λ x y. same.notices x y ∙ b.notices x y) b
+follows_same t s s' o l (Some route) same b =
+    follows_noticed t s s' o l (Some route) same.still
+    (λ e q pl. notices_same (plan route e) (notices_between s l) (notices_between s' l) same.notices pl.notices) b
 
 -- What was sent first stays
 
@@ -100,6 +125,7 @@ follows_grown t s o o' l (Some route) grow (e, q, b) = (
     route = b.route;
     made = b.made;
     chain = b.chain;
+    notices = b.notices;
     number = b.number;
     guards = guarded_grown o o' l q grow b.guards;
     beside = b.beside;

@@ -5,15 +5,18 @@ use Rattle.ason_base.specs.declared.ids.NodeId.{NodeId}
 use Rattle.mesh_rules.specs.Changes.{Answer}
 use Rattle.mesh_rules.specs.Machine.{Mesh, commit}
 use Rattle.mesh_laws.specs.HopLaw.{leg_at, mail_between}
-use Rattle.mesh_laws.proofs.hops.Views.{leg-here, mail-from}
+use Rattle.mesh_laws.proofs.hops.Views.{leg-here, mail-from, notices-plain}
 use Rattle.mesh_laws.proofs.hops.Own.{IsQuiet}
 use Rattle.mesh_laws.proofs.hops.Planned.{SameOf, next_same}
 
 pub same_quiet : (s : Mesh) (n : NodeId) (a : Answer) (l : Lsp) → IsQuiet a → SameOf s (commit s n.0 a) l
 same_quiet s n a l quiet = record {
-  legs = λ m. leg m (nat_eq m.0 n.0) refl;
-  mail = λ x b. mail x b (nat_eq x.0 n.0) refl;
-  next = (let e = next_same s n.0 l.ingress.0 a quiet.numbers in omega arith);
+  still = record {
+    legs = λ m. leg m (nat_eq m.0 n.0) refl;
+    mail = λ x b. mail x b (nat_eq x.0 n.0) refl;
+    next = (let e = next_same s n.0 l.ingress.0 a quiet.numbers in omega arith);
+  };
+  notices = λ x b. notices-plain s n x b l a (rw quiet.sent tt);
 }
   where
     leg : (m : NodeId) (b : Bool) → nat_eq m.0 n.0 ≡ b → leg_at (commit s n.0 a) l m ≡ leg_at s l m

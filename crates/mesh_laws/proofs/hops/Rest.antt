@@ -1,7 +1,7 @@
 -- What is said of a hop beside its row: labels, sets and routes; and what each small change of a hop leaves of it.
 -- u is the leg at the upstream node, d the one at the downstream node.
 use Rattle.std.proofs.Common.{◌≡◌, ℕ, suc, Bool, true, false, List, [], ◌∷◌, ◌++◌, drop, refl, inl, inr}
-use Rattle.std.specs.Prelude.{◌⊎◌, map, Option, Some, None}
+use Rattle.std.specs.Prelude.{◌⊎◌, ◌||◌, not, map, Option, Some, None}
 use Rattle.ason_base.specs.Labels.{has}
 use Rattle.ason_base.specs.declared.calls.Phase.TheVariants.{Asked}
 use Rattle.ason_base.specs.declared.calls.Role.{Role}
@@ -14,7 +14,7 @@ use Rattle.ason_base.specs.declared.steps.Step.{Step}
 use Rattle.ason_base.specs.declared.tables.Leg.{Leg}
 use Rattle.mesh_rules.specs.Paths.{is_active}
 use Rattle.mesh_rules.specs.Paths.{role_of as asked_role}
-use Rattle.mesh_laws.specs.HopShapes.{LegKind, NoLeg, AskedLeg, HasLetGo, MsgKind, PlainPath, Tear, leg_kind, msg_kind, path_kind}
+use Rattle.mesh_laws.specs.HopShapes.{LegKind, NoLeg, AskedLeg, HasLetGo, MsgKind, PlainPath, ActivePath, Tear, leg_kind, msg_kind, path_kind}
 use Rattle.mesh_laws.proofs.hops.Plans.{Plan, link_at}
 use Rattle.mesh_laws.proofs.hops.Rows.{is_reserved, let_go_free, let_go_not_asked}
 
@@ -27,34 +27,23 @@ abbrev pub role_of : Purpose → Role
 role_of Carries = role.Work
 role_of (Guards work route) = role.Back
 
--- the role that a Path or a leg tells is this purpose's; no Path activates a backup
+-- the role that a Path or a leg tells is this purpose's
 abbrev pub Tells : Purpose → PathRole → Type 0
 Tells Carries (Work guard) = Unit {0}
 Tells Carries (Back active work primary) = ⊥
 Tells (Guards w route) (Work guard) = ⊥
-Tells (Guards w route) (Back true work primary) = ⊥
-Tells (Guards w route) (Back false work primary) = (work ≡ w) × (primary ≡ route)
+Tells (Guards w route) (Back active work primary) = (work ≡ w) × (primary ≡ route)
 
-pub tells_plain : (q : Purpose) (r : PathRole) → Tells q r → path_kind r ≡ PlainPath
-tells_plain Carries (Work guard) tells = refl
-tells_plain Carries (Back active work primary) tells = absurd tells
-tells_plain (Guards w route) (Work guard) tells = absurd tells
-tells_plain (Guards w route) (Back true work primary) tells = absurd tells
-tells_plain (Guards w route) (Back false work primary) tells = refl
-
-pub tells_inactive : (q : Purpose) (r : PathRole) → Tells q r → is_active r ≡ false
-tells_inactive Carries (Work guard) tells = refl
-tells_inactive Carries (Back active work primary) tells = absurd tells
-tells_inactive (Guards w route) (Work guard) tells = absurd tells
-tells_inactive (Guards w route) (Back true work primary) tells = absurd tells
-tells_inactive (Guards w route) (Back false work primary) tells = refl
+pub plain_inactive : (r : PathRole) → path_kind r ≡ PlainPath → is_active r ≡ false
+plain_inactive (Work guard) plain = refl
+plain_inactive (Back true work primary) plain = absurd cc
+plain_inactive (Back false work primary) plain = refl
 
 pub tells_role : (q : Purpose) (r : PathRole) → Tells q r → asked_role r ≡ role_of q
 tells_role Carries (Work guard) tells = refl
 tells_role Carries (Back active work primary) tells = absurd tells
 tells_role (Guards w route) (Work guard) tells = absurd tells
-tells_role (Guards w route) (Back true work primary) tells = absurd tells
-tells_role (Guards w route) (Back false work primary) tells = refl
+tells_role (Guards w route) (Back active work primary) tells = refl
 
 -- Messages
 
@@ -62,11 +51,11 @@ abbrev pub Each : (Msg → Type 0) → List Msg → Type 0
 Each Q [] = Unit {0}
 Each Q (m ∷ ms) = Q m × Each Q ms
 
-each-append : (Q : Msg → Type 0) (xs ys : List Msg) → Each Q xs → Each Q ys → Each Q (xs ++ ys)
+pub each-append : (Q : Msg → Type 0) (xs ys : List Msg) → Each Q xs → Each Q ys → Each Q (xs ++ ys)
 each-append Q [] ys h k = k
 each-append Q (x ∷ xs) ys h k = (h.0, each-append Q xs ys h.1 k)
 
-each-map : (P Q : Msg → Type 0) (xs : List Msg) → ((m : Msg) → P m → Q m) → Each P xs → Each Q xs
+pub each-map : (P Q : Msg → Type 0) (xs : List Msg) → ((m : Msg) → P m → Q m) → Each P xs → Each Q xs
 each-map P Q [] f h = tt
 each-map P Q (x ∷ xs) f h = (f x h.0, each-map P Q xs f h.1)
 
@@ -105,6 +94,18 @@ has_path (Resv l e k x ∷ ms) = has_path ms
 has_path (PathTear l e k ∷ ms) = has_path ms
 has_path (PathErr l e at gone code ∷ ms) = has_path ms
 has_path (Notify l e at k code ∷ ms) = has_path ms
+
+-- a Path that doesn't activate
+abbrev pub is_plain : Msg → Bool
+is_plain (Path l e k route set up r) = not (is_active r)
+is_plain (Resv l e k x) = false
+is_plain (PathTear l e k) = false
+is_plain (PathErr l e at gone code) = false
+is_plain (Notify l e at k code) = false
+
+abbrev pub has_plain : List Msg → Bool
+has_plain [] = false
+has_plain (m ∷ ms) = is_plain m || has_plain ms
 
 -- Labels over a hop
 
@@ -163,6 +164,8 @@ pub record Rest (q : Purpose) (p : Plan) (i : ℕ) (u d : Option Leg) (down up :
   pub answers : Each (AnswerFits u d) up
   pub offer : OfferSent u d
   pub sets : Each (SetSent u) down
+  -- a Path that doesn't activate is the first one: none takes an activation back
+  pub first : has_plain down ≡ true → leg_kind d ≡ NoLeg
   -- until d answers, u has no label out
   pub bare : IsPending (leg_kind d) down → out_label_of u ≡ None
 
@@ -216,6 +219,60 @@ path-append (Resv l e k x ∷ ms) m other h = path-append ms m other h
 path-append (PathTear l e k ∷ ms) m other h = path-append ms m other h
 path-append (PathErr l e at gone code ∷ ms) m other h = path-append ms m other h
 path-append (Notify l e at k code ∷ ms) m other h = path-append ms m other h
+
+later_plain : (a b : Bool) → b ≡ true → (a || b) ≡ true
+later_plain true b h = refl
+later_plain false b h = h
+
+plain_path : (ms : List Msg) → has_plain ms ≡ true → has_path ms ≡ true
+plain_path [] h = h
+plain_path (Path l e k route set up r ∷ ms) h = refl
+plain_path (Resv l e k x ∷ ms) h = plain_path ms h
+plain_path (PathTear l e k ∷ ms) h = plain_path ms h
+plain_path (PathErr l e at gone code ∷ ms) h = plain_path ms h
+plain_path (Notify l e at k code ∷ ms) h = plain_path ms h
+
+-- where no Path is under way, no first one is
+no_plain : (ms : List Msg) → has_path ms ≡ false → has_plain ms ≡ true → ⊥
+no_plain ms none plain = let path = plain_path ms plain in cc (none, path)
+
+plain-append : (ms : List Msg) (m : Msg) → is_plain m ≡ false → has_plain (ms ++ m ∷ []) ≡ true → has_plain ms ≡ true
+plain-append [] m other h = absurd (both (is_plain m) other h)
+  where
+    both : (b : Bool) → b ≡ false → (b || false) ≡ true → ⊥
+    both true e h = cc e
+    both false e h = cc h
+plain-append (n ∷ ms) m other h = go (is_plain n) (plain-append ms m other) h
+  where
+    go : (b : Bool) → (has_plain (ms ++ m ∷ []) ≡ true → has_plain ms ≡ true) →
+        (b || has_plain (ms ++ m ∷ [])) ≡ true → (b || has_plain ms) ≡ true
+    go true further h = refl
+    go false further h = further h
+
+-- a message of this kind stands first
+pub plain_first : (ms : List Msg) (kinds : List MsgKind) → map msg_kind ms ≡ PlainPath ∷ kinds → has_plain ms ≡ true
+plain_first [] kinds e = absurd cc
+plain_first (m ∷ ms) kinds e = let is : msg_kind m ≡ PlainPath = cc in rw (plain_kind m is) refl
+  where
+    plain_kind : (m : Msg) → msg_kind m ≡ PlainPath → is_plain m ≡ true
+    plain_kind (Path l e k route set up (Work guard)) is = refl
+    plain_kind (Path l e k route set up (Back true work primary)) is = absurd cc
+    plain_kind (Path l e k route set up (Back false work primary)) is = refl
+    plain_kind (Resv l e k x) is = absurd cc
+    plain_kind (PathTear l e k) is = absurd cc
+    plain_kind (PathErr l e at true code) is = absurd cc
+    plain_kind (PathErr l e at false code) is = absurd cc
+    plain_kind (Notify l e at k code) is = absurd cc
+
+-- a Path that activates isn't the first one
+pub active_other : (m : Msg) → msg_kind m ≡ ActivePath → is_plain m ≡ false
+active_other (Path l e k route set up (Work guard)) is = absurd cc
+active_other (Path l e k route set up (Back true work primary)) is = refl
+active_other (Path l e k route set up (Back false work primary)) is = absurd cc
+active_other (Resv l e k x) is = refl
+active_other (PathTear l e k) is = refl
+active_other (PathErr l e at gone code) is = refl
+active_other (Notify l e at k code) is = refl
 
 not_asked : (k : LegKind) → is_reserved k ≡ true → k ≡ AskedLeg → ⊥
 not_asked k reserved asked = let never : false ≡ true = rw asked at reserved in cc
@@ -287,6 +344,7 @@ module _ (q : Purpose) (p : Plan) (i : ℕ) where
     answers = h.answers;
     offer = h.offer;
     sets = h.sets.1;
+    first = λ plain. h.first (later_plain (is_plain m) (has_plain down) plain);
     bare = λ pending. h.bare (elim pending [
       | inl first ↦ inl (first.0, path-later m down first.1)
       | inr asked ↦ inr asked
@@ -303,19 +361,21 @@ module _ (q : Purpose) (p : Plan) (i : ℕ) where
     answers = h.answers.1;
     offer = h.offer;
     sets = h.sets;
+    first = h.first;
     bare = h.bare;
   }
 
   -- 3. a message is sent down
   pub down_sent : (u d : Option Leg) (m : Msg) (down up : List Msg) → DownFits q p i m → SetSent u m →
-      (leg_kind d ≡ NoLeg → is_path m ≡ false) → Rest q p i u d down up → Rest q p i u d (down ++ m ∷ []) up
-  down_sent u d m down up fits set later h = record {
+      is_plain m ≡ false → (leg_kind d ≡ NoLeg → is_path m ≡ false) → Rest q p i u d down up → Rest q p i u d (down ++ m ∷ []) up
+  down_sent u d m down up fits set other later h = record {
     going_down = each-append (DownFits q p i) down _ h.going_down (fits, tt);
     going_up = h.going_up;
     labels = h.labels;
     answers = h.answers;
     offer = h.offer;
     sets = each-append (SetSent u) down _ h.sets (set, tt);
+    first = λ plain. h.first (plain-append down m other plain);
     bare = λ pending. h.bare (elim pending [
       | inl first ↦ inl (first.0, path-append down m (later first.0) first.1)
       | inr asked ↦ inr asked
@@ -332,6 +392,7 @@ module _ (q : Purpose) (p : Plan) (i : ℕ) where
     answers = each-append (AnswerFits u d) up _ h.answers (answer, tt);
     offer = h.offer;
     sets = h.sets;
+    first = h.first;
     bare = h.bare;
   }
 
@@ -347,6 +408,7 @@ module _ (q : Purpose) (p : Plan) (i : ℕ) where
         each-map (AnswerFits u (Some g)) (AnswerFits u (Some g')) up (λ m. answer_downstream u g g' m is was) h.answers;
     offer = offer_idle u (Some g') (not_asked (leg_kind (Some g')) reserved);
     sets = h.sets;
+    first = λ plain. absurd (not_gone (leg_kind (Some g)) was (h.first plain));
     bare = λ pending. absurd (never_pending (leg_kind (Some g')) down reserved pending);
   }
 
@@ -360,36 +422,39 @@ module _ (q : Purpose) (p : Plan) (i : ℕ) where
     answers = each-any (AnswerFits u d') up (λ m. answer_idle u d' m (let_go_free (role_of q) (leg_kind d') gone));
     offer = offer_idle u d' (let_go_not_asked (role_of q) (leg_kind d') gone);
     sets = h.sets;
+    first = λ plain. absurd (no_plain down no_path plain);
     bare = λ pending. elim pending [
       | inl first ↦ (let path = first.1 in absurd (cc (no_path, path)))
       | inr asked ↦ absurd (let_go_not_asked (role_of q) (leg_kind d') gone asked)
     ];
   }
 
-  -- 7. d takes its label, while u has none and no answer is under way
+  -- 7. d takes its label, while u has none, no Path is on the hop and no answer is under way
   pub downstream_takes : (u d : Option Leg) (g' : Leg) (down : List Msg) → out_label_of u ≡ None →
-      is_reserved (leg_kind (Some g')) ≡ true → Rest q p i u d down [] → Rest q p i u (Some g') down []
-  downstream_takes u d g' down bare reserved h = record {
+      has_path down ≡ false → is_reserved (leg_kind (Some g')) ≡ true → Rest q p i u d down [] → Rest q p i u (Some g') down []
+  downstream_takes u d g' down bare no_path reserved h = record {
     going_down = h.going_down;
     going_up = tt;
     labels = rw bare tt;
     answers = tt;
     offer = offer_idle u (Some g') (not_asked (leg_kind (Some g')) reserved);
     sets = h.sets;
+    first = λ plain. absurd (no_plain down no_path plain);
     bare = λ pending. bare;
   }
 
   -- 8. d is Asked, with labels that u sent on
   pub downstream_asked : (u d : Option Leg) (g' : Leg) (down : List Msg) → out_label_of u ≡ None →
-      OfferSent u (Some g') →
+      has_path down ≡ false → OfferSent u (Some g') →
       Rest q p i u d down [] → Rest q p i u (Some g') down []
-  downstream_asked u d g' down bare offer h = record {
+  downstream_asked u d g' down bare no_path offer h = record {
     going_down = h.going_down;
     going_up = tt;
     labels = rw bare tt;
     answers = tt;
     offer = offer;
     sets = h.sets;
+    first = λ plain. absurd (no_plain down no_path plain);
     bare = λ pending. bare;
   }
 
@@ -405,6 +470,7 @@ module _ (q : Purpose) (p : Plan) (i : ℕ) where
         each-map (AnswerFits (Some g) d) (AnswerFits (Some g') d) up (λ m. answer_upstream g g' d m sent) h.answers;
     offer = offer_upstream g g' d sent h.offer;
     sets = each-map (SetSent (Some g)) (SetSent (Some g')) down (λ m. set_upstream g g' m sent) h.sets;
+    first = h.first;
     bare = λ pending. still (h.bare pending);
   }
     where
@@ -423,6 +489,7 @@ module _ (q : Purpose) (p : Plan) (i : ℕ) where
         each-map (AnswerFits (Some g) d) (AnswerFits (Some g') d) up (λ m. answer_upstream g g' d m sent) h.answers;
     offer = offer_upstream g g' d sent h.offer;
     sets = each-map (SetSent (Some g)) (SetSent (Some g')) down (λ m. set_upstream g g' m sent) h.sets;
+    first = h.first;
     bare = λ pending. absurd (never_pending (leg_kind d) down reserved pending);
   }
 
@@ -436,6 +503,7 @@ module _ (q : Purpose) (p : Plan) (i : ℕ) where
     answers = each-map (AnswerFits (Some g) d) (AnswerFits None d) up (answer_gone g d) h.answers;
     offer = tt;
     sets = each-any (SetSent None) down (λ m. tt);
+    first = h.first;
     bare = λ pending. refl;
   }
 

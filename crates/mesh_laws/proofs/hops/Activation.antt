@@ -1,0 +1,144 @@
+-- What the activation of a backup leaves of the hop before a node and of the hop after it.
+use Rattle.std.proofs.Common.{◌≡◌, ℕ, true, false, List, [], ◌∷◌, ◌++◌, refl, inl, inr, append-nil}
+use Rattle.std.specs.Prelude.{◌⊎◌, map, Option, Some, None}
+use Rattle.std.proofs.lemmas.List.{map-append}
+use Rattle.ason_base.specs.Labels.{has}
+use Rattle.ason_base.specs.declared.codes.ErrCode.{ErrCode}
+use Rattle.ason_base.specs.declared.ids.Lsp.{Lsp}
+use Rattle.ason_base.specs.declared.ids.NodeId.{NodeId}
+use Rattle.ason_base.specs.declared.ids.LinkId.{LinkId}
+use Rattle.ason_base.specs.declared.calls.Phase.{Phase}
+use Rattle.ason_base.specs.declared.calls.Phase.TheVariants.{Held, Armed, Live}
+use Rattle.ason_base.specs.declared.calls.Role.{Role}
+use Rattle.ason_base.specs.declared.messages.Msg.{Msg}
+use Rattle.ason_base.specs.declared.messages.Msg.TheVariants.{Resv, PathErr}
+use Rattle.ason_base.specs.declared.tables.Leg.{Leg}
+use Rattle.mesh_rules.specs.Legs.{with_phase}
+use Rattle.mesh_laws.specs.HopShapes.{LegKind, NoLeg, HeldLeg, ArmedLeg, FallingLeg, MsgKind, ActivePath, Label, Contention}
+use Rattle.mesh_laws.specs.HopShapes.{IsTorn, Shape, Standby, leg_kind, msg_kind}
+use Rattle.mesh_laws.proofs.hops.Plans.{Plan, link_at}
+use Rattle.mesh_laws.proofs.hops.Rows.{is_reserved, ActiveTaken, active_taken, activates, resv_armed, armed_answers}
+use Rattle.mesh_laws.proofs.hops.Rows.{ContentionTaken, HeldAgain, Ignored, contention_taken}
+use Rattle.mesh_laws.proofs.hops.Rest.{Purpose, Rest, DownFits, LabelsMeet, SentOn, SetSent, role_of, is_path, no_kinds}
+use Rattle.mesh_laws.proofs.hops.Rest.{active_other, out_label_of, down_taken, down_sent, up_taken, up_sent}
+use Rattle.mesh_laws.proofs.hops.Rest.{downstream_keeps, upstream_keeps}
+use Rattle.mesh_laws.proofs.hops.Chain.{Hop}
+
+-- the upstream leg of an activation has its label out, which was sent on: Armed and Falling legs have one
+abbrev pub OutWasSent : Option Leg → Type 0
+OutWasSent None = Unit {0}
+OutWasSent (Some g) = (x : ℕ) × (g.out_label ≡ Some x) × (has g.sent x ≡ true)
+
+abbrev pub UsedHasOut : Option Leg → Type 0
+UsedHasOut u = (leg_kind u ≡ ArmedLeg) ⊎ (leg_kind u ≡ FallingLeg) → OutWasSent u
+
+-- so a label that the downstream leg has was sent on
+was_sent : (u : Option Leg) (y : ℕ) (into : Option ℕ) → OutWasSent u → into ≡ Some y →
+    LabelsMeet (out_label_of u) into → SentOn u y
+was_sent None y into out is meets = tt
+was_sent (Some g) y into out is meets = let one : out.0 ≡ y = rw (out.1, is) at meets in rw (← one) out.2
+
+module _ (q : Purpose) (p : Plan) (i : ℕ) where
+  -- An active Path is taken by a Held leg
+
+  module _ (u : Option Leg) (g : Leg) (m : Msg) (down up : List Msg) (held : g.phase ≡ Held)
+      (active : msg_kind m ≡ ActivePath) (h : Hop q p i u (Some g) (m ∷ down) up) where
+    taken : ActiveTaken (role_of q) (leg_kind u) HeldLeg (map msg_kind down) (map msg_kind up)
+    taken = active_taken (role_of q) (leg_kind u) HeldLeg (map msg_kind down) (map msg_kind up)
+        (rw (held, active) at h.shape)
+
+    moved : (f : Phase) → is_reserved (leg_kind (Some (with_phase f g))) ≡ true →
+        Rest q p i u (Some (with_phase f g)) down up
+    moved f has_it =
+        downstream_keeps q p i u g (with_phase f g) down up refl (rw held refl) has_it
+        (down_taken q p i u (Some g) m down up h.rest)
+
+    pub arms : Hop q p i u (Some (with_phase Armed g)) down up
+    arms = record { shape = rw taken.quiet taken.armed; rest = moved Armed refl }
+
+    -- it is refused
+    pub contends : (l : Lsp) (e at : NodeId) (code : ErrCode) →
+        Hop q p i u (Some g) down (up ++ PathErr l e at false code ∷ [])
+    contends l e at code = record {
+      shape = rw (held, map-append, taken.quiet) taken.contended;
+      rest = up_sent q p i u (Some g) (PathErr l e at false code) down up tt tt
+          (down_taken q p i u (Some g) m down up h.rest);
+    }
+
+    -- at the egress its label goes back
+    pub connects : (l : Lsp) (e : NodeId) (k : LinkId) (y : ℕ) → k ≡ link_at p i → g.in_label ≡ Some y →
+        UsedHasOut u → Hop q p i u (Some (with_phase Live g)) down (up ++ Resv l e k y ∷ [])
+    connects l e k y over here out =
+        let sent : SentOn u y = was_sent u y g.in_label (out taken.marked) here h.rest.labels in
+        record {
+          shape = rw (map-append, taken.quiet) taken.activated;
+          rest = up_sent q p i u (Some (with_phase Live g)) (Resv l e k y) down up over (λ has_it. (here, sent))
+              (moved Live refl);
+        }
+
+  -- and goes on
+  pub arms_on : (g : Leg) (d : Option Leg) (m : Msg) (down up : List Msg) → g.phase ≡ Held →
+      msg_kind m ≡ ActivePath → DownFits q p i m → SetSent (Some g) m → (leg_kind d ≡ NoLeg → is_path m ≡ false) →
+      Hop q p i (Some g) d down up → Hop q p i (Some (with_phase Armed g)) d (down ++ m ∷ []) up
+  arms_on g d m down up held active fits set later h = record {
+    shape = rw (map-append, active)
+        (activates (role_of q) (leg_kind d) (map msg_kind down) (map msg_kind up) (rw held at h.shape));
+    rest = upstream_keeps q p i g (with_phase Armed g) d (down ++ m ∷ []) up refl refl
+        (down_sent q p i (Some g) d m down up fits set (active_other m active) later h.rest);
+  }
+
+  -- A Resv is taken by an Armed leg
+  pub lights : (g : Leg) (d : Option Leg) (m : Msg) (down up : List Msg) → g.phase ≡ Armed → msg_kind m ≡ Label →
+      Hop q p i (Some g) d down (m ∷ up) → Hop q p i (Some (with_phase Live g)) d (down ++ []) up
+  lights g d m down up armed label h =
+      let t = resv_armed (role_of q) (leg_kind d) (map msg_kind down) (map msg_kind up)
+      (rw (armed, label) at h.shape) in
+      rw append-nil (record {
+        shape = rw (t.none, t.last) t.connected;
+        rest = upstream_keeps q p i g (with_phase Live g) d down up refl refl
+            (up_taken q p i (Some g) d m down up h.rest);
+      })
+
+  -- and one goes back
+  pub lit_answers : (u : Option Leg) (g : Leg) (l : Lsp) (e : NodeId) (k : LinkId) (y : ℕ) (down up : List Msg) →
+      g.phase ≡ Armed → k ≡ link_at p i → g.in_label ≡ Some y → UsedHasOut u → Hop q p i u (Some g) down up →
+      Hop q p i u (Some (with_phase Live g)) down (up ++ Resv l e k y ∷ [])
+  lit_answers u g l e k y down up armed over here out h =
+      let t = armed_answers (role_of q) (leg_kind u) (map msg_kind down) (map msg_kind up) (rw armed at h.shape) in
+      let sent : SentOn u y = was_sent u y g.in_label (out t.marked) here h.rest.labels in
+      let kept : Rest q p i u (Some (with_phase Live g)) down up =
+      downstream_keeps q p i u g (with_phase Live g) down up refl (rw armed refl) refl h.rest in
+      record {
+        shape = rw (map-append, t.quiet) t.activated;
+        rest = up_sent q p i u (Some (with_phase Live g)) (Resv l e k y) down up over (λ has_it. (here, sent)) kept;
+      }
+
+  -- A PathErr that removes nothing is taken by an Armed leg, which is Held again
+  held_again : (r : Role) (u d : LegKind) (down up : List MsgKind) → u ≡ ArmedLeg → ContentionTaken r u d down up →
+      Shape r HeldLeg d down up
+  held_again _ _ _ _ _ is HeldAgain = Standby
+  held_again r u d down up is (Ignored t) = let torn : IsTorn r ArmedLeg = rw is at t in elim torn [ ]
+
+  pub disarms : (g : Leg) (d : Option Leg) (m : Msg) (down up : List Msg) → g.phase ≡ Armed →
+      msg_kind m ≡ Contention → Hop q p i (Some g) d down (m ∷ up) →
+      Hop q p i (Some (with_phase Held g)) d (down ++ []) up
+  disarms g d m down up armed contention h = rw append-nil (record {
+    shape = held_again (role_of q) ArmedLeg (leg_kind d) (map msg_kind down) (map msg_kind up) refl
+        (contention_taken (role_of q) ArmedLeg (leg_kind d) (map msg_kind down) (map msg_kind up)
+        (rw (armed, contention) at h.shape));
+    rest = upstream_keeps q p i g (with_phase Held g) d down up refl refl
+        (up_taken q p i (Some g) d m down up h.rest);
+  })
+
+  -- and is passed back
+  pub contention_passes : (u : Option Leg) (g : Leg) (l : Lsp) (e at : NodeId) (code : ErrCode) (down up : List Msg) →
+      g.phase ≡ Armed → Hop q p i u (Some g) down up →
+      Hop q p i u (Some (with_phase Held g)) down (up ++ PathErr l e at false code ∷ [])
+  contention_passes u g l e at code down up armed h =
+      let t = armed_answers (role_of q) (leg_kind u) (map msg_kind down) (map msg_kind up) (rw armed at h.shape) in
+      let kept : Rest q p i u (Some (with_phase Held g)) down up =
+      downstream_keeps q p i u g (with_phase Held g) down up refl (rw armed refl) refl h.rest in
+      record {
+        shape = rw (map-append, t.quiet) t.contended;
+        rest = up_sent q p i u (Some (with_phase Held g)) (PathErr l e at false code) down up tt tt kept;
+      }

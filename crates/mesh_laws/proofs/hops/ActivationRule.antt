@@ -1,0 +1,1 @@
+-- An active Path is taken at a node of its backup's route.
