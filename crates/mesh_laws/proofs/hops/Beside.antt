@@ -40,8 +40,7 @@ module _ (t : Network) (events : List MeshEvent) (run : IsRun t start events) wh
       g.egress ≡ p.egress → StandsBeside t g.lsp q p → LegGoesBeside t events g r
   told Carries p g r back tells guards sent at_end beside = absurd (cc back)
   told (Guards w route) p g (Work guard) back tells guards sent at_end beside = absurd tells
-  told (Guards w route) p g (Back true work primary) back tells guards sent at_end beside = absurd tells
-  told (Guards w route) p g (Back false work primary) back tells guards sent at_end beside = record {
+  told (Guards w route) p g (Back active work primary) back tells guards sent at_end beside = record {
     primary = route;
     backup = p.route;
     work_sent = ap (λ n. route_of t start events (beside_lsp g.lsp n)) tells.0 ∙ guards;

@@ -6,12 +6,12 @@ use Rattle.ason_base.specs.Network.{Network}
 use Rattle.ason_base.specs.declared.codes.ErrCode.{ErrCode}
 use Rattle.ason_base.specs.declared.ids.Lsp.{Lsp}
 use Rattle.ason_base.specs.declared.ids.NodeId.{NodeId}
-use Rattle.ason_base.specs.declared.calls.Phase.TheVariants.{Asked}
+use Rattle.ason_base.specs.declared.calls.Phase.TheVariants.{Asked, Armed, Held}
 use Rattle.ason_base.specs.declared.messages.Msg.{Msg}
 use Rattle.ason_base.specs.declared.messages.Msg.TheVariants.{PathErr}
 use Rattle.ason_base.specs.declared.tables.Leg.{Leg}
-use Rattle.mesh_rules.specs.Changes.{Answer, nothing, removes, to_node}
-use Rattle.mesh_rules.specs.Legs.{previous}
+use Rattle.mesh_rules.specs.Changes.{Answer, nothing, puts, removes, to_node}
+use Rattle.mesh_rules.specs.Legs.{previous, with_phase}
 use Rattle.mesh_rules.specs.PathErrs.{PathFailure}
 use Rattle.mesh_rules.specs.Machine.{Mesh}
 use Rattle.mesh_laws.specs.HopShapes.{AskedLeg, IsTorn, NothingLeft, leg_kind}
@@ -23,10 +23,11 @@ use Rattle.mesh_laws.proofs.hops.Rest.{Purpose, role_of, no_path_down}
 use Rattle.mesh_laws.proofs.hops.Chain.{LegFits, Hop, Chain}
 use Rattle.mesh_laws.proofs.hops.Changed.{Sends}
 use Rattle.mesh_laws.proofs.hops.Sending.{sent_by, sends_none, sends_back}
-use Rattle.mesh_laws.proofs.hops.LegChanges.{Before, before_or_first, same_of, asked_phase, never_armed, torn_is_closing, torn_not_asked, previous_is, previous_none, following_is}
+use Rattle.mesh_laws.proofs.hops.LegChanges.{Before, before_or_first, same_of, asked_phase, armed_phase, held_fits, torn_not_armed, torn_is_closing, torn_not_asked, previous_is, previous_none, following_is}
+use Rattle.mesh_laws.proofs.hops.Activation.{contention_passes, disarms}
 use Rattle.mesh_laws.proofs.hops.Downstream.{asked_lets_go, torn_goes}
 use Rattle.mesh_laws.proofs.hops.Upstream.{contention_kept, removal_leaves}
-use Rattle.mesh_laws.proofs.hops.InParts.{leg_of_err, leg_refused, leg_removed}
+use Rattle.mesh_laws.proofs.hops.InParts.{leg_contended, leg_disarmed, leg_of_err, leg_refused, leg_removed}
 use Rattle.mesh_laws.proofs.hops.Taken.{KeepsUp, up_hop, up_taken}
 
 module _ (t : Network) (q : Purpose) (s : Mesh) (l : Lsp) (p : Plan) (i : ℕ) (route : IsRoute t l.ingress p)
@@ -117,7 +118,58 @@ module _ (t : Network) (q : Purpose) (s : Mesh) (l : Lsp) (p : Plan) (i : ℕ) (
     goes (inl asked) = let is = asked_phase g.phase asked in rw is (asked_goes is (before_or_first i))
     goes (inr is_torn) = rw (torn_not_asked (role_of q) g.phase is_torn, torn_is_closing (role_of q) g.phase is_torn) (torn is_torn)
 
-  -- one that removes nothing comes to a torn leg, which stays
+  -- one that removes nothing comes to an Armed leg, which is Held again
+
+  module _ (removes_none : gone ≡ false) (g : Leg) (here : leg_at s l (node_at p i) ≡ Some g)
+      (fits : LegFits t q l p i g) (armed : g.phase ≡ Armed) where
+    again_mine : same_lsp g.lsp l ≡ true
+    again_mine = same_of g.lsp l fits.own
+
+    again_after : Hop q p i (Some (with_phase Held g)) (leg_at s l (node_at p (suc i)))
+        (mail_between s l n (node_at p (suc i)) ++ []) (messages_of l rest)
+    again_after =
+        disarms q p i g (leg_at s l (node_at p (suc i))) (PathErr l e at false code) _ _ armed refl
+        (rw (here, removes_none) at hop)
+
+    again_before : (k : ℕ) → suc k ≡ i →
+        Hop q p k (leg_at s l (node_at p k)) (Some g) (mail_between s l (node_at p k) n)
+        (mail_between s l n (node_at p k))
+    again_before k eq =
+        let before : Hop q p k (leg_at s l (node_at p k)) (leg_at s l n) (mail_between s l (node_at p k) n)
+        (mail_between s l n (node_at p k)) =
+        rw (← eq) (chain.each k (omega arith)) in
+        rw here at before
+
+    first_again : i ≡ 0 → Keeps (leg_disarmed g message None)
+    first_again first =
+        up_taken t q s l p i route chain below message rest was own
+        (puts (with_phase Held g) []) (Some (with_phase Held g)) [] []
+        (rw again_mine refl) (sends_none l p i) (held_fits t q l p i g fits armed)
+        (λ k eq. absurd (omega arith)) again_after (λ k eq none. absurd cc) refl
+
+    -- it is passed back
+    again_back : (j : ℕ) → suc j ≡ i →
+        Keeps (leg_disarmed g message (Some (record { node = node_at p j; fibre = fibre_at t p j })))
+    again_back j before =
+        up_taken t q s l p i route chain below message rest was own
+        (puts (with_phase Held g) (to_node (node_at p j) message ∷ [])) (Some (with_phase Held g)) (message ∷ []) []
+        (rw again_mine refl)
+        (subst (λ i. Sends p i (sent_by l (to_node (node_at p j) message ∷ [])) (message ∷ []) []) before
+        (sends_back t l l.ingress p route j message (omega arith) own))
+        (held_fits t q l p i g fits armed)
+        (λ k eq. rw removes_none
+        (contention_passes q p k (leg_at s l (node_at p k)) g l e at code _ _ armed (again_before k eq)))
+        again_after (λ k eq none. absurd cc) refl
+
+    again : Before i → Keeps (leg_contended g message)
+    again (inl first) =
+        let fits' : LegFits t q l p 0 g = rw first at fits in
+        rw (armed, previous_none t q l p g fits') (first_again first)
+    again (inr (j, before)) =
+        let fits' : LegFits t q l p (suc j) g = rw before fits in
+        rw (armed, previous_is t q l p j g fits') (again_back j before)
+
+  -- or to a torn leg, which stays
   stays : gone ≡ false → (g : Leg) → leg_at s l (node_at p i) ≡ Some g → LegFits t q l p i g →
       IsTorn (role_of q) (leg_kind (Some g)) → Keeps nothing
   stays keeps g here fits is_torn =
@@ -140,8 +192,14 @@ module _ (t : Network) (q : Purpose) (s : Mesh) (l : Lsp) (p : Plan) (i : ℕ) (
   err_keeps false eq (Some g) here =
       let fits : LegFits t q l p i g = rw here at (chain.fits i (omega arith)) in
       elim (contention_to (role_of q) _ _ _ _ (rw (here, eq) at hop.shape)) [
-        | inl armed ↦ absurd (never_armed t q l p i g fits armed)
-        | inr is_torn ↦ stays eq g here fits is_torn
+        | inl armed ↦ (let is = armed_phase g.phase armed in
+            let kept : Keeps (leg_contended g message) = again eq g here fits is (before_or_first i) in
+            rw (following_is t q l p i g fits below, same (node_at p (suc i)).0) kept)
+        | inr is_torn ↦ rw (
+          following_is t q l p i g fits below,
+          same (node_at p (suc i)).0,
+          torn_not_armed (role_of q) g.phase is_torn,
+        ) (stays eq g here fits is_torn)
       ]
   err_keeps true eq None here =
       absurd (elim (removal_taken (role_of q) _ _ _ _ (rw (here, eq) at hop.shape)).which

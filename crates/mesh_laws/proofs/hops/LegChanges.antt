@@ -11,7 +11,7 @@ use Rattle.ason_base.specs.declared.calls.Role.{Role}
 use Rattle.ason_base.specs.declared.calls.Role.TheVariants as role
 use Rattle.ason_base.specs.declared.steps.Step.{Step}
 use Rattle.ason_base.specs.declared.tables.Leg.{Leg}
-use Rattle.mesh_rules.specs.Legs.{closed, closing_phase, connected, previous, following, is_asked, is_beyond_asked, is_closing, reserved, with_phase}
+use Rattle.mesh_rules.specs.Legs.{closed, closing_phase, connected, previous, following, is_armed, is_asked, is_beyond_asked, is_closing, reserved, with_phase}
 use Rattle.mesh_laws.specs.HopShapes.{NoLeg, AskedLeg, HeldLeg, ArmedLeg, LiveLeg, FallingLeg, IsTorn, Closes, Falls, leg_kind, phase_kind}
 use Rattle.mesh_nodes.proofs.LegList.{same_lsp-refl}
 use Rattle.mesh_laws.proofs.hops.Plans.{Plan, hops, node_at, fibre_at, lt_true, lt_false}
@@ -103,6 +103,14 @@ torn_not_asked r Asked torn = elim torn [ ]
 torn_not_asked r Held torn = refl
 torn_not_asked r Armed torn = refl
 torn_not_asked r Live torn = refl
+
+pub torn_not_armed : (r : Role) (f : Phase) → IsTorn r (phase_kind f) → is_armed f ≡ false
+torn_not_armed r Closing torn = refl
+torn_not_armed r Falling torn = refl
+torn_not_armed r Asked torn = refl
+torn_not_armed r Held torn = refl
+torn_not_armed r Armed torn = elim torn [ ]
+torn_not_armed r Live torn = refl
 
 -- the phase that a leg gets with its label
 pub reserved_kind : (r : Role) → phase_kind (reserved r) ≡ reserved_leg r

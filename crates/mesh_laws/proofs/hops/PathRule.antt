@@ -1,6 +1,6 @@
 -- A first Path is taken at a node of its route.
 use Rattle.std.proofs.Common.{◌≡◌, ◌≢◌, ◌<◌, ◌≤◌, ℕ, zero, suc, true, false, nat_eq, nat_lt, List, [], ◌∷◌, length, drop, refl, sym, ap, ◌∙◌, subst, arith, inl, inr, append-nil}
-use Rattle.std.specs.Prelude.{slice_get, Option, Some, None}
+use Rattle.std.specs.Prelude.{map, slice_get, Option, Some, None}
 use Rattle.ason_base.specs.Labels.{has, least}
 use Rattle.ason_base.specs.Network.{Network}
 use Rattle.ason_base.specs.declared.codes.ErrCode.{ErrCode}
@@ -24,7 +24,7 @@ use Rattle.mesh_rules.specs.Paths.{offered_labels, risks_here, at_egress, in_tra
 use Rattle.mesh_rules.specs.Paths.{role_of as asked_role}
 use Rattle.mesh_rules.specs.Messages.{arrival, on_message}
 use Rattle.mesh_rules.specs.Machine.{Mesh}
-use Rattle.mesh_laws.specs.HopShapes.{NoLeg, PlainPath, leg_kind, path_kind, phase_kind}
+use Rattle.mesh_laws.specs.HopShapes.{NoLeg, PlainPath, leg_kind, msg_kind, path_kind, phase_kind}
 use Rattle.mesh_laws.specs.HopLaw.{is_message_of, messages_of, leg_at, mail_between}
 use Rattle.mesh_laws.proofs.hops.Plans.{Plan, hops, node_at, link_at, fibre_at, IsRoute, Leads, distinct, other, lt_true, lt_false, joined, own_near, own_far, fibre_in_is, fibre_out_is}
 use Rattle.mesh_laws.proofs.hops.Labels.{has_least, has_meet}
@@ -32,12 +32,12 @@ use Rattle.mesh_nodes.proofs.LegList.{same_lsp-refl}
 use Rattle.mesh_laws.proofs.nodes.PathKeeps.{none_fails}
 use Rattle.mesh_nodes.specs.Routes.{AreRowsOf}
 use Rattle.mesh_nodes.proofs.routes.Nodes.{known-are}
-use Rattle.mesh_laws.proofs.hops.Rest.{Purpose, Tells, role_of, tells_plain, tells_inactive, tells_role, has_path}
+use Rattle.mesh_laws.proofs.hops.Rest.{Purpose, Tells, role_of, tells_role, has_path, plain_first, plain_inactive}
 use Rattle.mesh_laws.proofs.hops.Risks.{recorded-fit}
-use Rattle.mesh_laws.proofs.hops.Rows.{plain_taken, reserved_leg}
+use Rattle.mesh_laws.proofs.hops.Rows.{reserved_leg}
 use Rattle.mesh_laws.proofs.hops.Chain.{Hop, IsVacant, Chain, RisksFit, asked_fits, reserved_fits}
 use Rattle.mesh_laws.proofs.hops.Sending.{sends_back, sends_on}
-use Rattle.mesh_laws.proofs.hops.LegChanges.{gone_none, never_live_backup, reserved_kind}
+use Rattle.mesh_laws.proofs.hops.LegChanges.{gone_none, reserved_kind}
 use Rattle.mesh_laws.proofs.hops.Downstream.{path_last, path_passed, path_answered, path_refused}
 use Rattle.mesh_laws.proofs.hops.Upstream.{hop_idle, hop_asks}
 use Rattle.mesh_laws.proofs.hops.Taken.{KeepsDown, down_hop, down_mine, down_taken}
@@ -79,7 +79,7 @@ drop-some (suc j) (x ∷ xs) h r e =
 some_label : (p : LocalNode) (s : NodeState) (m : PathRequest) (link : LinkSpec) →
     first_failure (checks p s m link) ≡ None →
     is_none (least (offered_labels p s m link)) ≡ false
-some_label p s m link none = (none_fails (checks p s m link) none).1.1.1.0
+some_label p s m link none = (none_fails (checks p s m link) none).1.1.1.1.0
 
 -- and each link of its primary's route is known
 primary_known : (p : LocalNode) (s : NodeState) (m : PathRequest) (link : LinkSpec) →
@@ -91,7 +91,7 @@ module _ (t : Network) (q : Purpose) (s : Mesh) (l : Lsp) (p : Plan) (i : ℕ) (
     (chain : Chain t q l p (leg_at s l) (mail_between s l)) (below : i < hops p)
     (e : NodeId) (k : LinkId) (r : List Step) (set : List ℕ) (label : Option ℕ) (purpose : PathRole) (rest : List Msg)
     (was : s.mail (node_at p i).0 (node_at p (suc i)).0 ≡ Path l e k r set label purpose ∷ rest)
-    (learnt : AreRowsOf t (s.nodes (node_at p (suc i)).0).learnt) where
+    (learnt : AreRowsOf t (s.nodes (node_at p (suc i)).0).learnt) (plain : path_kind purpose ≡ PlainPath) where
   abbrev u : NodeId
   u = node_at p i
 
@@ -133,9 +133,6 @@ module _ (t : Network) (q : Purpose) (s : Mesh) (l : Lsp) (p : Plan) (i : ℕ) (
 
   over : Leads t k u d
   over = rw what.1 (route.links i below)
-
-  plain : path_kind purpose ≡ PlainPath
-  plain = tells_plain q purpose what.3
 
   asked_for : asked_role purpose ≡ role_of q
   asked_for = tells_role q purpose what.3
@@ -224,6 +221,7 @@ module _ (t : Network) (q : Purpose) (s : Mesh) (l : Lsp) (p : Plan) (i : ℕ) (
             next = rw stop refl;
             out_fibre = rw stop refl;
             route = drop-further (suc i) p.route done;
+            sent = tt;
             phase = rw asked_for (reserved_fits q (suc i) (hops p) (Some y) None (y, refl) (λ small. absurd (omega arith)));
           })
           (path_answered q p i (leg_at s l u) l e k r set label purpose (messages_of l rest) _ plain hop_here
@@ -257,6 +255,7 @@ module _ (t : Network) (q : Purpose) (s : Mesh) (l : Lsp) (p : Plan) (i : ℕ) (
             out_fibre = rw more (ap Some (fibre_out_is t p (suc i)
                 (distinct t l.ingress p route (suc i) (suc (suc i)) (omega arith) (omega arith) (omega arith)) n));
             route = is;
+            sent = tt;
             phase = asked_fits q (suc i) (hops p) small;
           })
           (path_passed q p i (leg_at s l u) l e k r set label purpose (messages_of l rest) _ plain
@@ -292,13 +291,12 @@ module _ (t : Network) (q : Purpose) (s : Mesh) (l : Lsp) (p : Plan) (i : ℕ) (
       (distinct t l.ingress p route 0 (suc i) (omega arith) (omega arith) (omega arith)))
 
   no_leg : leg_kind (leg_at s l (node_at p (suc i))) ≡ NoLeg
-  no_leg = elim (plain_taken (role_of q) _ _ _ _ (rw plain at hop.shape)) [
-    | inl gone ↦ gone
-    | inr back ↦ absurd (never_live_backup t q l p (suc i) _ (chain.fits (suc i) below) back.backup back.live)
-  ]
+  no_leg =
+      hop.rest.first (plain_first (message ∷ messages_of l rest) (map msg_kind (messages_of l rest))
+      (ap (λ m. m ∷ map msg_kind (messages_of l rest)) plain))
 
   pub path_keeps : Keeps (on_message place state u message)
   path_keeps =
       let none : leg_at s l d ≡ None = gone_none (leg_at s l d) no_leg in
-      rw (none, own_far t k u d far over, tells_inactive q purpose what.3, (joined t k u d far over).leads, away)
+      rw (none, own_far t k u d far over, plain_inactive purpose plain, (joined t k u d far over).leads, away)
       (judges none (first_failure (checks place state asks over.link)) refl)

@@ -37,8 +37,7 @@ module _ (t : Network) (events : List MeshEvent) (searchable : is_searchable t �
       IsGuarded (route_of t start events) g.lsp q → RisksFit t q g.risks → RecordsRisks t events g r
   told Carries g r back tells guards risks = absurd (cc back)
   told (Guards w route) g (Work guard) back tells guards risks = absurd tells
-  told (Guards w route) g (Back true work primary) back tells guards risks = absurd tells
-  told (Guards w route) g (Back false work primary) back tells guards risks = record {
+  told (Guards w route) g (Back active work primary) back tells guards risks = record {
     sent = ap (λ n. route_of t start events (beside_lsp g.lsp n)) tells.0 ∙ guards ∙ ap Some (sym tells.1);
     risks = risks searchable ∙ ap (route_risks (rows_of t)) (sym tells.1);
   }

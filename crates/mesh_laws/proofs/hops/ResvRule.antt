@@ -1,5 +1,5 @@
 -- A Resv is taken at a node of its LSP's route: the leg there.
-use Rattle.std.proofs.Common.{◌≡◌, ◌<◌, ℕ, suc, true, List, [], ◌∷◌, refl, subst, arith, inl, inr, append-nil}
+use Rattle.std.proofs.Common.{◌≡◌, ◌<◌, ℕ, suc, true, List, [], ◌∷◌, ◌++◌, refl, sym, ap, ◌∙◌, subst, arith, inl, inr, append-nil}
 use Rattle.std.specs.Prelude.{Option, Some, None}
 use Rattle.ason_base.specs.Codes.{label_code}
 use Rattle.ason_base.specs.Labels.{has, meet}
@@ -8,16 +8,17 @@ use Rattle.ason_base.specs.Network.{Network}
 use Rattle.ason_base.specs.declared.ids.Lsp.{Lsp}
 use Rattle.ason_base.specs.declared.ids.NodeId.{NodeId}
 use Rattle.ason_base.specs.declared.ids.LinkId.{LinkId}
-use Rattle.ason_base.specs.declared.calls.Phase.TheVariants.{Asked}
+use Rattle.ason_base.specs.declared.calls.Phase.TheVariants.{Asked, Armed, Live}
 use Rattle.ason_base.specs.declared.calls.Role.{Role}
 use Rattle.ason_base.specs.declared.messages.Msg.{Msg}
 use Rattle.ason_base.specs.declared.messages.Msg.TheVariants.{Resv, PathTear, PathErr}
 use Rattle.ason_base.specs.declared.tables.Leg.{Leg}
 use Rattle.mesh_rules.specs.declared.arrivals.Arrival.{Arrival}
+use Rattle.mesh_rules.specs.declared.neighbours.Neighbour.{Neighbour}
 use Rattle.mesh_rules.specs.State.{NodeState}
 use Rattle.mesh_rules.specs.Changes.{Answer, nothing, puts, to_node}
 use Rattle.mesh_rules.specs.LocalNodes.{LocalNode, local_node}
-use Rattle.mesh_rules.specs.Legs.{closed, connected, previous, usable}
+use Rattle.mesh_rules.specs.Legs.{closed, connected, previous, usable, with_phase}
 use Rattle.mesh_rules.specs.Resvs.{is_expected, label_back, passed_back}
 use Rattle.mesh_rules.specs.Messages.{arrival}
 use Rattle.mesh_rules.specs.Machine.{Mesh}
@@ -26,15 +27,17 @@ use Rattle.mesh_laws.specs.HopLaw.{is_message_of, messages_of, leg_at, mail_betw
 use Rattle.mesh_laws.proofs.hops.Plans.{Plan, hops, node_at, link_at, fibre_at, IsRoute, same}
 use Rattle.mesh_laws.proofs.hops.Labels.{has_label_back, has_meet}
 use Rattle.mesh_nodes.proofs.LegList.{same_lsp-refl}
-use Rattle.mesh_laws.proofs.hops.Rows.{nothing_torn, TakesResv, ByAsked, ByArmed, ByTorn, takes_resv, reserved_leg}
-use Rattle.mesh_laws.proofs.hops.Rest.{Purpose, role_of}
+use Rattle.mesh_laws.proofs.hops.Rows.{nothing_torn, TakesResv, ByAsked, ByArmed, ByTorn, takes_resv, reserved_leg, resv_armed}
+use Rattle.mesh_laws.proofs.hops.Rest.{Purpose, LabelsMeet, in_label_of, role_of}
 use Rattle.mesh_laws.proofs.hops.Chain.{LegFits, Hop, Chain}
 use Rattle.mesh_laws.proofs.hops.Changed.{Sends}
 use Rattle.mesh_laws.proofs.hops.Sending.{sent_by, sends_none, sends_back, sends_on_back}
-use Rattle.mesh_laws.proofs.hops.LegChanges.{Before, before_or_first, same_of, asked_phase, torn_not_asked, closed_torn, closed_fits, connected_fits, connected_kind, never_armed, previous_is, previous_none, following_is}
+use Rattle.mesh_laws.proofs.hops.LegChanges.{Before, before_or_first, same_of, asked_phase, armed_phase, in_label_is, in_use_out, live_fits, torn_not_armed, torn_not_asked, closed_torn, closed_fits, connected_fits, connected_kind, previous_is, previous_none, following_is}
+use Rattle.mesh_laws.proofs.hops.Activation.{lights, lit_answers}
+use Rattle.mesh_laws.proofs.hops.ActivationRule.{resv-is}
 use Rattle.mesh_laws.proofs.hops.Downstream.{asked_reserved, asked_lets_go}
 use Rattle.mesh_laws.proofs.hops.Upstream.{resv_connects, resv_closes, resv_kept, resv_sent}
-use Rattle.mesh_laws.proofs.hops.InParts.{leg_answers, leg_of_resv}
+use Rattle.mesh_laws.proofs.hops.InParts.{leg_answers, leg_lit, leg_of_resv}
 use Rattle.mesh_laws.proofs.hops.Taken.{KeepsUp, up_hop, up_taken}
 
 module _ (t : Network) (q : Purpose) (s : Mesh) (l : Lsp) (p : Plan) (i : ℕ) (route : IsRoute t l.ingress p)
@@ -101,7 +104,8 @@ module _ (t : Network) (q : Purpose) (s : Mesh) (l : Lsp) (p : Plan) (i : ℕ) (
       first_connects first =
           up_taken t q s l p i route chain below (Resv l e k x) rest was own
           (puts (connected g None x) []) (Some (connected g None x)) [] []
-          (rw mine refl) (sends_none l p i) (connected_fits t q l p i g None x fits (rw first refl))
+          (rw mine refl) (sends_none l p i) (connected_fits t q l p i g None x fits (rw first refl)
+          (resv_sent q p i _ _ _ g l e k x asked hop_of))
           (λ j eq. absurd (omega arith))
           (resv_connects q p i _ _ _ g l e k x asked hop_of (connected g None x)
           (kind None) refl refl)
@@ -137,7 +141,8 @@ module _ (t : Network) (q : Purpose) (s : Mesh) (l : Lsp) (p : Plan) (i : ℕ) (
           (rw mine refl)
           (subst (λ m. Sends p m (sent_by l (to_node (node_at p j) resv ∷ [])) (resv ∷ []) []) before
           (sends_back t l l.ingress p route j resv (omega arith) mine))
-          (connected_fits t q l p i g (Some y) x fits (rw (← before) (y, refl)))
+          (connected_fits t q l p i g (Some y) x fits (rw (← before) (y, refl))
+          (resv_sent q p i _ _ _ g l e k x asked hop_of))
           (λ m eq. let at_j : m ≡ j = omega arith in
           asked_reserved q p m _ _ _ g (hop_before m eq) (connected g (Some y) x) g.lsp g.egress (link_at p j) y
           asked (kind (Some y)) refl offered (rw at_j refl))
@@ -176,13 +181,78 @@ module _ (t : Network) (q : Purpose) (s : Mesh) (l : Lsp) (p : Plan) (i : ℕ) (
           ) sent in
           rw test (answers (before_or_first i))
 
+    -- an Armed leg is Live
+
+    module _ (armed : g.phase ≡ Armed) where
+      far_has : Hop q p i (Some (with_phase Live g)) (leg_at s l far) (mail_between s l n far ++ []) (messages_of l rest)
+      far_has = lights q p i g (leg_at s l far) (Resv l e k x) _ _ armed refl hop_of
+
+      -- at the ingress
+      first_lit : i ≡ 0 → Keeps (leg_lit g None)
+      first_lit first =
+          up_taken t q s l p i route chain below (Resv l e k x) rest was own
+          (puts (with_phase Live g) []) (Some (with_phase Live g)) [] []
+          (rw mine refl) (sends_none l p i) (live_fits t q l p i g fits armed)
+          (λ j eq. absurd (omega arith)) far_has (λ j eq gone. absurd cc) refl
+
+      -- elsewhere its label goes back
+      lit_back : (j : ℕ) → suc j ≡ i → LegFits t q l p (suc j) g →
+          Keeps (leg_lit g (Some (record { node = node_at p j; fibre = fibre_at t p j })))
+      lit_back j before fits' =
+          let into = in_label_is t q l p j g fits' (rw armed refl) in
+          let resv : Msg = Resv g.lsp g.egress (link_at p j) into.0 in
+          let before_it : Neighbour = record { node = node_at p j; fibre = fibre_at t p j } in
+          subst (λ outs. Keeps (puts (with_phase Live g) outs))
+          (sym (resv-is g before_it into.0 (Some before_it) g.in_label refl into.1))
+          (up_taken t q s l p i route chain below (Resv l e k x) rest was own
+          (puts (with_phase Live g) (to_node (node_at p j) resv ∷ [])) (Some (with_phase Live g)) (resv ∷ []) []
+          (rw mine refl)
+          (subst (λ m. Sends p m (sent_by l (to_node (node_at p j) resv ∷ [])) (resv ∷ []) []) before
+          (sends_back t l l.ingress p route j resv (omega arith) mine))
+          (live_fits t q l p i g fits armed)
+          (λ m eq. let at_j : m ≡ j = omega arith in
+          lit_answers q p m (leg_at s l (node_at p m)) g g.lsp g.egress (link_at p j) into.0 _ _ armed (rw at_j refl)
+          into.1 (in_use_out t q l p m (leg_at s l (node_at p m)) (chain.fits m (omega arith)) (omega arith))
+          (hop_before m eq))
+          far_has (λ m eq gone. absurd cc) refl)
+
+      lit : Before i → Keeps (leg_lit g (previous g))
+      lit (inl first) =
+          let fits' : LegFits t q l p 0 g = rw first at fits in
+          rw (previous_none t q l p g fits') (first_lit first)
+      lit (inr (j, before)) =
+          let fits' : LegFits t q l p (suc j) g = rw before fits in
+          rw (previous_is t q l p j g fits') (lit_back j before fits')
+
+      -- the label is its label out
+      its_label : g.out_label ≡ Some x
+      its_label =
+          let out = in_use_out t q l p i (Some g) fits below (inl (rw armed refl)) in
+          let live = resv_armed (role_of q) _ _ _ (rw armed at hop_of.shape) in
+          let there : in_label_of (leg_at s l far) ≡ Some x = (hop_of.rest.answers.0 (rw (live.live) refl)).0 in
+          let meets : LabelsMeet g.out_label (in_label_of (leg_at s l far)) = hop_of.rest.labels in
+          let one : out.0 ≡ x = rw (out.1, there) at meets in
+          out.1 ∙ ap Some one
+
+      confirms : Keeps (leg_of_resv place state came x (Some g))
+      confirms =
+          rw (
+            armed,
+            following_is t q l p i g fits below,
+            same (node_at p (suc i)).0,
+            over,
+            same (link_at p i).0,
+            its_label,
+            same x,
+          ) (lit (before_or_first i))
+
     by_kind : (r : Role) (k : LegKind) → role_of q ≡ r → leg_kind (Some g) ≡ k → TakesResv r k →
         Keeps (leg_of_resv place state came x (Some g))
     by_kind _ _ role is ByAsked = taken (asked_phase g.phase is)
-    by_kind _ _ role is ByArmed = absurd (never_armed t q l p i g fits is)
+    by_kind _ _ role is ByArmed = confirms (armed_phase g.phase is)
     by_kind r k role is (ByTorn torn) =
         let torn' : IsTorn (role_of q) (leg_kind (Some g)) = rw (role, is) torn in
-        rw (torn_not_asked (role_of q) g.phase torn') (kept torn')
+        rw (torn_not_asked (role_of q) g.phase torn', torn_not_armed (role_of q) g.phase torn') (kept torn')
 
   pub resv_keeps : (o : Option Leg) → leg_at s l (node_at p i) ≡ o →
       Keeps (leg_of_resv (local_node t (node_at p i)) (s.nodes (node_at p i).0) (arrival l e (node_at p (suc i)) k) x o)

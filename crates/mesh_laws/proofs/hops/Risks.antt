@@ -70,6 +70,5 @@ pub recorded-fit : (t : Network) (q : Purpose) (rows : List TeRow) (r : PathRole
 recorded-fit t Carries rows (Work guard) are tells known = refl
 recorded-fit t Carries rows (Back active work primary) are tells known = absurd tells
 recorded-fit t (Guards w route) rows (Work guard) are tells known = absurd tells
-recorded-fit t (Guards w route) rows (Back true work primary) are tells known = absurd tells
-recorded-fit t (Guards w route) rows (Back false work primary) are tells known =
+recorded-fit t (Guards w route) rows (Back active work primary) are tells known =
     λ searchable. known-risks t searchable rows (are searchable) primary known ∙ ap (route_risks (rows_of t)) tells.1
