@@ -12,6 +12,7 @@ pub mod LegChanges
 pub mod Recorded
 pub mod Rest
 pub mod Risks
+pub mod NoticeRule
 pub mod Notices
 pub mod Own
 pub mod PathRule
@@ -26,6 +27,7 @@ pub mod Views
 pub mod Paired
 pub mod Planned
 pub mod Traced
+pub mod Turned
 pub mod Quiet
 pub mod Released
 pub mod Begun

@@ -81,7 +81,7 @@ module _ (t : Network) (q : Purpose) (s : Mesh) (l : Lsp) (p : Plan) (i : ℕ) (
     abbrev asks : PathRequest
     asks = record { arrival = arrival l e u k; route = r; set = set; role = role }
 
-    own : is_message_of l message ≡ true
+    pub own : is_message_of l message ≡ true
     own = same_lsp-refl l
 
     abbrev Keeps : Answer → Type 0

@@ -40,13 +40,14 @@ use Rattle.mesh_nodes.specs.Routes.{AreRowsOf}
 use Rattle.mesh_nodes.proofs.Cases.{if_cases}
 use Rattle.mesh_nodes.proofs.routes.Nodes.{found-leads}
 use Rattle.mesh_nodes.proofs.LegList.{same_lsp-eq, same_lsp-refl}
-use Rattle.mesh_laws.proofs.hops.Views.{leg-here, leg-there, mail-from, mail-else}
-use Rattle.mesh_laws.proofs.hops.Rest.{Purpose, Carries, DownFits, Tells, tells_plain, tells_role}
+use Rattle.mesh_laws.proofs.hops.Views.{leg-here, leg-there, mail-from, mail-else, notices-plain}
+use Rattle.mesh_laws.proofs.hops.Rest.{Purpose, Carries, DownFits, Each, Tells, tells_role}
 use Rattle.mesh_laws.proofs.hops.Chain.{LegFits, RisksFit, Fits, HopAt, OnRoute, IsPlace, Chain, asked_fits, is_or_not, at_or_else}
 use Rattle.mesh_laws.proofs.hops.Sending.{sent_by, sent-first, sent-past}
 use Rattle.mesh_laws.proofs.hops.Upstream.{hop_idle, hop_asks}
 use Rattle.mesh_laws.proofs.hops.Own.{IsOf, IsQuiet, leg-other, mail-other}
 use Rattle.mesh_laws.proofs.hops.Planned.{Planned, Routes, IsGuarded, StandsBeside, Follows, EachFollows, IsUntouched, SameOf, Grow, follows_same, follows_grown, guarded_grown, or_assoc, or_none}
+use Rattle.mesh_laws.proofs.hops.Notices.{ComesUp}
 use Rattle.mesh_laws.proofs.hops.FollowedBy.{commit-then}
 use Rattle.mesh_laws.proofs.hops.Quiet.{same_quiet}
 
@@ -118,18 +119,23 @@ pub record Stepped (t : Network) (s : Mesh) (n : NodeId) (o : Routes) (l : Lsp) 
 abbrev pub EachStepped : Network → Mesh → NodeId → Routes → Answer → Type 0
 EachStepped t s n o a = (l : Lsp) → Stepped t s n o l a
 
-none_of : (l : Lsp) (b : Bool) (sent : List Out) → first_route l sent ≡ None → first_route l (cond b sent []) ≡ None
-none_of l true sent none = none
-none_of l false sent none = refl
-
-pub stepped_none : (t : Network) (s : Mesh) (n : NodeId) (o : Routes) (l : Lsp) (a : Answer) →
-    Follows t (commit s n.0 a) o l (o l) → first_route l a.sent ≡ None → Stepped t s n o l a
-stepped_none t s n o l a f none =
-    let is : grown n o a l ≡ o l = rw (none_of l (nat_eq n.0 l.ingress.0) a.sent none, or_none) refl in
+-- no route that the answer sends is new, so the routes stay
+pub stepped_kept : (t : Network) (s : Mesh) (n : NodeId) (o : Routes) (l : Lsp) (a : Answer) →
+    Follows t (commit s n.0 a) o l (o l) → or_route (o l) (first_route l a.sent) ≡ o l → Stepped t s n o l a
+stepped_kept t s n o l a f none =
+    let is : grown n o a l ≡ o l = kept (nat_eq n.0 l.ingress.0) in
     record {
       follows = subst (Follows t (commit s n.0 a) (grown n o a) l) (sym is)
           (follows_grown t (commit s n.0 a) o (grown n o a) l (o l) (grown-grow n o a) f);
     }
+  where
+    kept : (b : Bool) → or_route (o l) (first_route l (cond b a.sent [])) ≡ o l
+    kept true = none
+    kept false = or_none (o l)
+
+pub stepped_none : (t : Network) (s : Mesh) (n : NodeId) (o : Routes) (l : Lsp) (a : Answer) →
+    Follows t (commit s n.0 a) o l (o l) → first_route l a.sent ≡ None → Stepped t s n o l a
+stepped_none t s n o l a f none = stepped_kept t s n o l a f (rw none (or_none (o l)))
 
 pub stepped_quiet : (t : Network) (s : Mesh) (n : NodeId) (o : Routes) (a : Answer) → EachFollows t s o → IsQuiet a →
     EachStepped t s n o a
@@ -145,9 +151,15 @@ first-append l (x ∷ a) b =
     ap (or_route (whole_route l x.msg)) (first-append l a b) ∙
     sym (or_assoc (whole_route l x.msg) (first_route l a) (first_route l b))
 
--- the first one begins no LSP at its node
-pub stepped_then : (t : Network) (s : Mesh) (n : NodeId) (o : Routes) (a b : Answer) →
-    ((l : Lsp) → nat_eq n.0 l.ingress.0 ≡ true → first_route l a.sent ≡ None) →
+-- an answer of the node n that sends no first Path of an LSP that begins there
+abbrev pub BeginsNone : NodeId → Routes → Answer → Type 0
+BeginsNone n o a = (l : Lsp) → nat_eq n.0 l.ingress.0 ≡ true → or_route (o l) (first_route l a.sent) ≡ o l
+
+pub begins-none : (n : NodeId) (o : Routes) (a : Answer) → ((l : Lsp) → first_route l a.sent ≡ None) → BeginsNone n o a
+begins-none n o a none l here = rw (none l) (or_none (o l))
+
+-- the first one is such an answer
+pub stepped_then : (t : Network) (s : Mesh) (n : NodeId) (o : Routes) (a b : Answer) → BeginsNone n o a →
     EachStepped t (commit s n.0 a) n o b → EachStepped t s n o (followed_by a b)
 stepped_then t s n o a b none steps l = record {
   follows = subst (λ x. Follows t (commit s n.0 (followed_by a b)) x l (x l)) all
@@ -155,13 +167,15 @@ stepped_then t s n o a b none steps l = record {
 }
   where
     sent : (l : Lsp) (c : Bool) → nat_eq n.0 l.ingress.0 ≡ c →
-        first_route l (cond c b.sent []) ≡ first_route l (cond c (a.sent ++ b.sent) [])
+        or_route (o l) (first_route l (cond c b.sent [])) ≡ or_route (o l) (first_route l (cond c (a.sent ++ b.sent) []))
     sent l true e =
-        sym (first-append l a.sent b.sent ∙ ap (λ x. or_route x (first_route l b.sent)) (none l e))
+        sym (ap (or_route (o l)) (first-append l a.sent b.sent) ∙
+        sym (or_assoc (o l) (first_route l a.sent) (first_route l b.sent)) ∙
+        ap (λ x. or_route x (first_route l b.sent)) (none l e))
     sent l false e = refl
 
     all : grown n o b ≡ grown n o (followed_by a b)
-    all = λ i l. or_route (o l) (sent l (nat_eq n.0 l.ingress.0) refl i)
+    all = λ i l. sent l (nat_eq n.0 l.ingress.0) refl i
 
 -- The link of the first step
 
@@ -188,6 +202,7 @@ module _ (t : Network) (s : Mesh) (n : NodeId) (o : Routes) (st : NodeState) (q 
     (c : CallRec) (next : NextNumbers) (made : makes_route t n w.egress (hop ∷ w.route) ≡ true)
     (over : own_link (local_node t n) hop.link ≡ Some w.out) (from : w.lsp.ingress ≡ n)
     (number : w.lsp.lsp ≡ (s.nodes n.0).lsp) (more : w.lsp.lsp < next.lsp) (tells : Tells q w.role)
+    (plain : path_kind w.role ≡ PlainPath)
     (risks : RisksFit t q (recorded (known_rows (local_node t n) st) w.role)) (guards : IsGuarded o w.lsp q)
     (beside : StandsBeside t w.lsp q (plan (hop ∷ w.route) w.egress)) where
   abbrev p : Plan
@@ -246,6 +261,7 @@ module _ (t : Network) (s : Mesh) (n : NodeId) (o : Routes) (st : NodeState) (q 
         next = rw some (ap Some end_is);
         out_fibre = rw some (ap Some fibre_is);
         route = refl;
+        sent = tt;
         phase = asked_fits q 0 (suc (length w.route)) (omega arith);
       }
 
@@ -259,7 +275,7 @@ module _ (t : Network) (s : Mesh) (n : NodeId) (o : Routes) (st : NodeState) (q 
       Chain t q w.lsp p (leg_at (commit s n.0 answer) w.lsp) (mail_between (commit s n.0 answer) w.lsp)
   new_chain blank =
       chain_begun t q w.lsp p _ _ leg w.egress w.out.id w.route (up_to w.out.labels) w.role
-      (tells_plain q w.role tells) route
+      plain route
       (rw at_n (leg-here s n w.lsp answer ∙ rw (same_lsp-refl w.lsp) refl)) leg_fits refl refl
       (λ m ne. leg-there s n m w.lsp answer (rw at_n at ne) ∙ blank.legs m)
       (rw at_n (mail-from s n (node_at p 1) w.lsp answer ∙ rw (blank.mail n (node_at p 1)) comes_to))
@@ -282,6 +298,8 @@ module _ (t : Network) (s : Mesh) (n : NodeId) (o : Routes) (st : NodeState) (q 
         route = route;
         made = makes;
         chain = new_chain blank;
+        notices = λ a b. subst (Each (ComesUp p a b))
+            (sym (notices-plain s n a b w.lsp answer (refl, tt) ∙ blank.notices a b)) tt;
         number = rw here more;
         guards = guarded_grown o (grown n o answer) w.lsp q (grown-grow n o answer) guards;
         beside = beside;
@@ -309,9 +327,12 @@ module _ (t : Network) (s : Mesh) (n : NodeId) (o : Routes) (st : NodeState) (q 
   other_same l apart =
       let of : IsOf w.lsp answer = record { legs = (refl, tt); sent = (refl, refl, tt) } in
       record {
-        legs = λ m. leg-other s n m w.lsp l answer of apart;
-        mail = λ a b. mail-other s n a b w.lsp l answer of apart;
-        next = later (nat_eq l.ingress.0 n.0) refl;
+        still = record {
+          legs = λ m. leg-other s n m w.lsp l answer of apart;
+          mail = λ a b. mail-other s n a b w.lsp l answer of apart;
+          next = later (nat_eq l.ingress.0 n.0) refl;
+        };
+        notices = λ a b. notices-plain s n a b l answer (refl, tt);
       }
     where
       later : (b : Bool) → nat_eq l.ingress.0 n.0 ≡ b →
@@ -370,7 +391,7 @@ module _ (t : Network) (s : Mesh) (n : NodeId) (o : Routes) (f : EachFollows t s
         begins_stepped t s n o state Carries (working_lsp place state w out further) hop
         (call_record w Asking (Some (next_lsp place state)) Unset)
         (record { tunnel = state.tunnel + 1; lsp = state.lsp + 1 })
-        made over refl refl (omega arith) tt refl tt tt f))
+        made over refl refl (omega arith) tt refl refl tt tt f))
 
     route_stepped : (route : List Step) → makes_route t n w.egress route ≡ true → (out : Option LinkSpec) →
         first_link place route ≡ out → Steps (over_first place state w route out)

@@ -11,12 +11,12 @@ use Rattle.ason_base.specs.declared.messages.Msg.{Msg}
 use Rattle.ason_base.specs.declared.messages.Msg.TheVariants.{PathErr}
 use Rattle.ason_base.specs.declared.tables.Leg.{Leg}
 use Rattle.mesh_rules.specs.Changes.{Answer, nothing, puts, removes, to_node}
-use Rattle.mesh_rules.specs.Legs.{previous, with_phase}
+use Rattle.mesh_rules.specs.Legs.{is_armed, previous, with_phase}
 use Rattle.mesh_rules.specs.PathErrs.{PathFailure}
 use Rattle.mesh_rules.specs.Machine.{Mesh}
 use Rattle.mesh_laws.specs.HopShapes.{AskedLeg, IsTorn, NothingLeft, leg_kind}
 use Rattle.mesh_laws.specs.HopLaw.{is_message_of, messages_of, leg_at, mail_between}
-use Rattle.mesh_laws.proofs.hops.Plans.{Plan, hops, node_at, IsRoute, same}
+use Rattle.mesh_laws.proofs.hops.Plans.{Plan, hops, node_at, fibre_at, IsRoute, same}
 use Rattle.mesh_nodes.proofs.LegList.{same_lsp-refl}
 use Rattle.mesh_laws.proofs.hops.Rows.{contention_to, nothing_torn, removal_taken, asked_answers, torn_leaves}
 use Rattle.mesh_laws.proofs.hops.Rest.{Purpose, role_of, no_path_down}
@@ -161,13 +161,16 @@ module _ (t : Network) (q : Purpose) (s : Mesh) (l : Lsp) (p : Plan) (i : ℕ) (
         (contention_passes q p k (leg_at s l (node_at p k)) g l e at code _ _ armed (again_before k eq)))
         again_after (λ k eq none. absurd cc) refl
 
+    is_armed_it : is_armed g.phase ≡ true
+    is_armed_it = rw armed refl
+
     again : Before i → Keeps (leg_contended g message)
     again (inl first) =
         let fits' : LegFits t q l p 0 g = rw first at fits in
-        rw (armed, previous_none t q l p g fits') (first_again first)
+        rw (is_armed_it, previous_none t q l p g fits') (first_again first)
     again (inr (j, before)) =
         let fits' : LegFits t q l p (suc j) g = rw before fits in
-        rw (armed, previous_is t q l p j g fits') (again_back j before)
+        rw (is_armed_it, previous_is t q l p j g fits') (again_back j before)
 
   -- or to a torn leg, which stays
   stays : gone ≡ false → (g : Leg) → leg_at s l (node_at p i) ≡ Some g → LegFits t q l p i g →

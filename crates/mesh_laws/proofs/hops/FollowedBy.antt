@@ -53,7 +53,7 @@ changed-then s a b = λ i. record s {
   learnt = learnt-then a.rows b.rows s.learnt i;
 }
 
-sent-then : (d : ℕ) (a b : List Out) → sent_to d (a ++ b) ≡ sent_to d a ++ sent_to d b
+pub sent-then : (d : ℕ) (a b : List Out) → sent_to d (a ++ b) ≡ sent_to d a ++ sent_to d b
 sent-then d a b =
     ap (map (λ o. o.msg)) (filter-append _ a b) ∙
     map-append (λ o. o.msg) (filter (λ o. nat_eq o.to.0 d) a) (filter (λ o. nat_eq o.to.0 d) b)

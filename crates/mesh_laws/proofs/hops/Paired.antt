@@ -19,7 +19,8 @@ use Rattle.mesh_rules.specs.LocalNodes.{LocalNode, local_node, own_link}
 use Rattle.mesh_rules.specs.Commands.{is_searchable}
 use Rattle.mesh_rules.specs.declared.limits.TheConstants.{LAST_NUMBER}
 use Rattle.mesh_rules.specs.Calls.{bare, blocked, call_with, guarded, is_asking, is_pairing, pairing}
-use Rattle.mesh_rules.specs.CallSteps.{call_answered, call_put, call_refused}
+use Rattle.mesh_rules.specs.CallSteps.{call_answered, call_refused}
+use Rattle.mesh_rules.specs.Turns.{call_put}
 use Rattle.mesh_rules.specs.FirstLegs.{first_link, is_full}
 use Rattle.mesh_rules.specs.KnownRows.{known_rows}
 use Rattle.mesh_rules.specs.LeastRoutes.{Trip, least_backup}
@@ -37,6 +38,7 @@ use Rattle.mesh_laws.proofs.hops.Rest.{Purpose, Guards}
 use Rattle.mesh_laws.proofs.hops.Risks.{recorded-fit}
 use Rattle.mesh_laws.proofs.hops.Chain.{LegFits}
 use Rattle.mesh_laws.proofs.hops.Own.{IsQuiet}
+use Rattle.mesh_laws.proofs.hops.Turned.{BeginsHere, decide_stepped}
 use Rattle.mesh_laws.proofs.hops.Planned.{Routes, Follows, EachFollows}
 use Rattle.mesh_laws.proofs.hops.Begun.{EachStepped, starts_over, stepped_quiet, begins_stepped}
 
@@ -140,7 +142,7 @@ module _ (t : Network) (s : Mesh) (n : NodeId) (o : Routes) (f : EachFollows t s
           if_cases Steps (is_full st) _ _ (λ h. bare_stepped Full) (λ h.
           begins_stepped t s n o st (Guards w.lsp.lsp (route_from place w)) (backup_lsp place st w out further) hop
           (pairing c (beside_lsp w.lsp st.lsp)) (record { tunnel = st.tunnel; lsp = st.lsp + 1 })
-          made over here number (omega arith) (refl, refl)
+          made over here number (omega arith) (refl, refl) refl
           (recorded-fit t (Guards w.lsp.lsp (route_from place w)) (known_rows place st)
           (backup_lsp place st w out further).role
           (λ searchable. known-are t n st searchable are) (refl, refl) known)
@@ -172,18 +174,24 @@ module _ (t : Network) (s : Mesh) (n : NodeId) (o : Routes) (f : EachFollows t s
 
   -- the leg of the LSP begins here; that of a working LSP whose call wants a backup may have one beside it
   module _ (g : Leg) (here : g.lsp.ingress ≡ n) (sent : o g.lsp ≡ Some (route_from (local_node t n) g)) where
-    pub answered_stepped : (called : Option CallRec) →
+    pub answered_stepped : leg_at s g.lsp n ≡ Some g → (called : Option CallRec) →
         ((c : CallRec) → called ≡ Some c → is_work g.role ≡ true → c.protected ≡ true → MayPair t n o c g) →
         EachStepped t s n o (call_answered (local_node t n) st g called)
-    answered_stepped None may = none_stepped
-    answered_stepped (Some c) may =
+    answered_stepped stands None may = none_stepped
+    answered_stepped stands (Some c) may =
         if_cases Steps (is_work g.role) _ _
         (λ work. if_cases Steps (is_asking c.state) _ _
         (λ h. if_cases Steps c.protected _ _
         (λ protected. pair_stepped c g here (may c refl work protected) sent)
         (λ h. put_stepped (bare c)))
         (λ h. none_stepped))
-        (λ h. if_cases Steps (is_pairing c.state) _ _ (λ h. put_stepped (guarded c)) (λ h. none_stepped))
+        (λ h. if_cases Steps (is_pairing c.state) _ _ (λ h. decide_stepped t s n o f (guarded c) (Some g) begins)
+        (λ h. none_stepped))
+      where
+        begins : (b : Leg) → Some g ≡ Some b → BeginsHere s n b
+        begins b is =
+            let one : g ≡ b = cc is in
+            subst (BeginsHere s n) one (record { there = stands; ingress = ap (λ (m : NodeId). m.0) here })
 
     pub refused_stepped : (code : ErrCode) (called : Option CallRec) →
         EachStepped t s n o (call_refused code g called)

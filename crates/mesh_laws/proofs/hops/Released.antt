@@ -19,10 +19,10 @@ use Rattle.mesh_rules.specs.Legs.{find_leg, closed, following, is_closing, leg_o
 use Rattle.mesh_rules.specs.Releases.{tear_to, tears, releases, release_with}
 use Rattle.mesh_rules.specs.Machine.{Mesh, commit}
 use Rattle.mesh_rules.specs.Events.{first_route}
-use Rattle.mesh_laws.specs.HopLaw.{leg_at, mail_between}
+use Rattle.mesh_laws.specs.HopLaw.{leg_at, mail_between, notices_between}
 use Rattle.mesh_laws.proofs.hops.Plans.{Plan, hops, plan, node_at, link_at, distinct, same_node}
 use Rattle.mesh_nodes.proofs.LegList.{same_lsp-eq}
-use Rattle.mesh_laws.proofs.hops.Views.{mail-else}
+use Rattle.mesh_laws.proofs.hops.Views.{SendsNoNotice, mail-else, notices-plain}
 use Rattle.mesh_laws.proofs.hops.Rest.{Purpose}
 use Rattle.mesh_laws.proofs.hops.Chain.{LegFits, Chain}
 use Rattle.mesh_laws.proofs.hops.Changed.{place_changed}
@@ -31,10 +31,11 @@ use Rattle.mesh_laws.proofs.hops.LegChanges.{same_of, phase_stands, closed_kind,
 use Rattle.mesh_laws.proofs.hops.Upstream.{leg_closes}
 use Rattle.mesh_laws.proofs.hops.Taken.{path_before}
 use Rattle.mesh_nodes.proofs.Cases.{if_cases}
-use Rattle.mesh_laws.proofs.hops.Own.{AllSent, IsOf, found-is, leg-other, mail-other}
+use Rattle.mesh_laws.proofs.hops.Own.{AllSent, IsOf, found-is, leg-other, mail-other, sent-plain}
+use Rattle.mesh_laws.proofs.hops.Notices.{notices_same}
 use Rattle.mesh_laws.proofs.hops.Planned.{Planned, Routes, Follows, EachFollows, SameOf, follows_same, next_same}
 use Rattle.mesh_laws.proofs.hops.Quiet.{same_quiet}
-use Rattle.mesh_laws.proofs.hops.Begun.{EachStepped, stepped_quiet, stepped_then}
+use Rattle.mesh_laws.proofs.hops.Begun.{EachStepped, begins-none, stepped_quiet, stepped_then}
 
 -- the leg of an LSP that a call names begins here and isn't torn
 abbrev pub NamedStands : ℕ → NodeState → Option Lsp → Type 0
@@ -79,6 +80,16 @@ module _ (t : Network) (s : Mesh) (o : Routes) where
         path = path_before (mail_between s l (node_at p 0) (node_at p 1)) (tear ∷ []) refl path;
       }))
 
+  own_tears : (l : Lsp) (g : Leg) → g.lsp ≡ l → IsOf l (tears (Some g))
+  own_tears l g is = record { legs = (is, tt); sent = to_next (following g) }
+    where
+      to_next : (o : Option Neighbour) → AllSent l (tear_to g o)
+      to_next None = tt
+      to_next (Some h) = (is, refl, tt)
+
+  tears_plain : (g : Leg) → SendsNoNotice (tears (Some g)).sent
+  tears_plain g = sent-plain g.lsp (tears (Some g)).sent (own_tears g.lsp g refl).sent
+
   tears_planned : (n : NodeId) (l : Lsp) (q : Purpose) (p : Plan) (g : Leg) → Planned t s o l q p →
       l.ingress.0 ≡ n.0 → leg_at s l n ≡ Some g → is_closing g.phase ≡ false →
       Planned t (commit s n.0 (tears (Some g))) o l q p
@@ -89,24 +100,22 @@ module _ (t : Network) (s : Mesh) (o : Routes) where
         route = pl.route;
         made = pl.made;
         chain = rw is (tears_chain l q p g pl here' stands);
+        notices = notices_same p (notices_between s l) (notices_between (commit s n.0 (tears (Some g))) l)
+            (λ a b. notices-plain s n a b l (tears (Some g)) (tears_plain g)) pl.notices;
         number = rw (next_same s n.0 l.ingress.0 (tears (Some g)) refl) pl.number;
         guards = pl.guards;
         beside = pl.beside;
       }
 
-  own_tears : (l : Lsp) (g : Leg) → g.lsp ≡ l → IsOf l (tears (Some g))
-  own_tears l g is = record { legs = (is, tt); sent = to_next (following g) }
-    where
-      to_next : (o : Option Neighbour) → AllSent l (tear_to g o)
-      to_next None = tt
-      to_next (Some h) = (is, refl, tt)
-
   tears_other : (n : NodeId) (w l : Lsp) (g : Leg) → g.lsp ≡ w → same_lsp w l ≡ false →
       SameOf s (commit s n.0 (tears (Some g))) l
   tears_other n w l g is apart = record {
-    legs = λ m. leg-other s n m w l (tears (Some g)) (own_tears w g is) apart;
-    mail = λ x y. mail-other s n x y w l (tears (Some g)) (own_tears w g is) apart;
-    next = (let e = next_same s n.0 l.ingress.0 (tears (Some g)) refl in omega arith);
+    still = record {
+      legs = λ m. leg-other s n m w l (tears (Some g)) (own_tears w g is) apart;
+      mail = λ x y. mail-other s n x y w l (tears (Some g)) (own_tears w g is) apart;
+      next = (let e = next_same s n.0 l.ingress.0 (tears (Some g)) refl in omega arith);
+    };
+    notices = λ x y. notices-plain s n x y l (tears (Some g)) (tears_plain g);
   }
 
   module _ (n : NodeId) (f : EachFollows t s o) where
@@ -141,9 +150,9 @@ module _ (t : Network) (s : Mesh) (o : Routes) where
   leg_beside : (n : NodeId) (w l : Lsp) (h : Option Leg) → leg_at s w n ≡ h →
       ((g : Leg) → h ≡ Some g → same_lsp w l ≡ false) → leg_at (commit s n.0 (tears h)) l n ≡ leg_at s l n
   leg_beside n w l None here apart =
-      (same_quiet s n nothing l (record { legs = refl; sent = refl; numbers = refl })).legs n
+      (same_quiet s n nothing l (record { legs = refl; sent = refl; numbers = refl })).still.legs n
   leg_beside n w l (Some g) here apart =
-      (tears_other n w l g (found-is w (s.nodes n.0).legs (Some g) here) (apart g refl)).legs n
+      (tears_other n w l g (found-is w (s.nodes n.0).legs (Some g) here) (apart g refl)).still.legs n
 
 no_route_sent : (l : Lsp) (h : Option Leg) → first_route l (tears h).sent ≡ None
 no_route_sent l None = refl
@@ -166,7 +175,7 @@ module _ (t : Network) (s : Mesh) (o : Routes) (n : NodeId) (f : EachFollows t s
   beside : (work : Option Lsp) (l : Lsp) →
       ((k : Lsp) (g : Leg) → work ≡ Some k → find_leg k legs ≡ Some g → same_lsp k l ≡ false) →
       leg_at (commit s n.0 (tears (leg_of work legs))) l n ≡ find_leg l legs
-  beside None l apart = (same_quiet s n nothing l (record { legs = refl; sent = refl; numbers = refl })).legs n
+  beside None l apart = (same_quiet s n nothing l (record { legs = refl; sent = refl; numbers = refl })).still.legs n
   beside (Some k) l apart = leg_beside t s o n k l (find_leg k legs) refl (λ g e. apart k g refl e)
 
   after_back : (work back : Option Lsp) → NamedStands n.0 (s.nodes n.0) work → NamedStands n.0 (s.nodes n.0) back →
@@ -183,8 +192,8 @@ module _ (t : Network) (s : Mesh) (o : Routes) (n : NodeId) (f : EachFollows t s
       let work : Answer = tears (leg_of c.work legs) in
       let back : Answer = tears (leg_of c.back legs) in
       let calls : Answer = changes_calls (call.Goes c.call ∷ []) in
-      stepped_then t s n o work (followed_by back calls) (λ l e. no_route_sent l (leg_of c.work legs))
-      (stepped_then t (commit s n.0 work) n o back calls (λ l e. no_route_sent l (leg_of c.back legs))
+      stepped_then t s n o work (followed_by back calls) (begins-none n o work (λ l. no_route_sent l (leg_of c.work legs)))
+      (stepped_then t (commit s n.0 work) n o back calls (begins-none n o back (λ l. no_route_sent l (leg_of c.back legs)))
       (stepped_quiet t (commit (commit s n.0 work) n.0 back) n o calls
       (after_back c.work c.back facts.work facts.back facts.apart)
       (record { legs = refl; sent = refl; numbers = refl })))

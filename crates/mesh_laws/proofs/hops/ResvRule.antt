@@ -1,5 +1,5 @@
 -- A Resv is taken at a node of its LSP's route: the leg there.
-use Rattle.std.proofs.Common.{◌≡◌, ◌<◌, ℕ, suc, true, List, [], ◌∷◌, ◌++◌, refl, sym, ap, ◌∙◌, subst, arith, inl, inr, append-nil}
+use Rattle.std.proofs.Common.{◌≡◌, ◌<◌, ℕ, suc, true, false, List, [], ◌∷◌, ◌++◌, refl, sym, ap, ◌∙◌, subst, arith, inl, inr, append-nil}
 use Rattle.std.specs.Prelude.{Option, Some, None}
 use Rattle.ason_base.specs.Codes.{label_code}
 use Rattle.ason_base.specs.Labels.{has, meet}
@@ -16,6 +16,7 @@ use Rattle.ason_base.specs.declared.tables.Leg.{Leg}
 use Rattle.mesh_rules.specs.declared.arrivals.Arrival.{Arrival}
 use Rattle.mesh_rules.specs.declared.neighbours.Neighbour.{Neighbour}
 use Rattle.mesh_rules.specs.State.{NodeState}
+use Rattle.mesh_rules.specs.ActivationAnswers.{is_confirmed}
 use Rattle.mesh_rules.specs.Changes.{Answer, nothing, puts, to_node}
 use Rattle.mesh_rules.specs.LocalNodes.{LocalNode, local_node}
 use Rattle.mesh_rules.specs.Legs.{closed, connected, previous, usable, with_phase}
@@ -236,6 +237,8 @@ module _ (t : Network) (q : Purpose) (s : Mesh) (l : Lsp) (p : Plan) (i : ℕ) (
 
       confirms : Keeps (leg_of_resv place state came x (Some g))
       confirms =
+          let waits : is_expected came x g ≡ false = rw armed refl in
+          let test : is_confirmed came x g ≡ true =
           rw (
             armed,
             following_is t q l p i g fits below,
@@ -243,8 +246,8 @@ module _ (t : Network) (q : Purpose) (s : Mesh) (l : Lsp) (p : Plan) (i : ℕ) (
             over,
             same (link_at p i).0,
             its_label,
-            same x,
-          ) (lit (before_or_first i))
+          ) (same x) in
+          rw (waits, test) (lit (before_or_first i))
 
     by_kind : (r : Role) (k : LegKind) → role_of q ≡ r → leg_kind (Some g) ≡ k → TakesResv r k →
         Keeps (leg_of_resv place state came x (Some g))
