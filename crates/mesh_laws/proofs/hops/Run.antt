@@ -1,6 +1,6 @@
 -- Each LSP with its route in every state of every run.
 use Rattle.std.proofs.Common.{◌≡◌, ℕ, true, nat_eq, List, [], ◌∷◌, refl, sym, subst, arith}
-use Rattle.std.specs.Prelude.{◌&&◌, Option, Some, None}
+use Rattle.std.specs.Prelude.{◌&&◌, not, Option, Some, None}
 use Rattle.ason_base.specs.declared.network.LinkSpec.{LinkSpec}
 use Rattle.ason_base.specs.Network.{Network, find_link, is_node_id, row_of}
 use Rattle.ason_base.specs.declared.ids.CallNo.{CallNo}
@@ -21,8 +21,10 @@ use Rattle.mesh_rules.specs.KnownRows.{has_row, known_rows}
 use Rattle.mesh_rules.specs.Learnt.{on_link}
 use Rattle.mesh_rules.specs.LocalNodes.{LocalNode, local_node}
 use Rattle.mesh_rules.specs.State.{NodeState}
-use Rattle.mesh_rules.specs.Calls.{call_with, find_call, is_bare}
+use Rattle.mesh_rules.specs.Calls.{call_with, find_call, is_bare, is_stuck}
 use Rattle.mesh_rules.specs.Legs.{is_work, leg_of}
+use Rattle.mesh_rules.specs.Retries.{retry_with}
+use Rattle.mesh_rules.specs.Turns.{has_any}
 use Rattle.mesh_rules.specs.Protects.{protect_with, protects}
 use Rattle.mesh_rules.specs.Orders.{on_order, on_item}
 use Rattle.mesh_rules.specs.Commands.{has_way, is_searchable, is_valid}
@@ -34,15 +36,19 @@ use Rattle.mesh_nodes.specs.Order.{CallsRise}
 use Rattle.mesh_nodes.specs.Routes.{AreRowsOf}
 use Rattle.mesh_nodes.proofs.Cases.{if_cases}
 use Rattle.mesh_laws.proofs.hops.GivenBackups.{EachGivenBeside, given-step}
+use Rattle.mesh_nodes.proofs.LegList.{found-lsp}
+use Rattle.mesh_laws.proofs.hops.NoticeRule.{EachStands, alarm_stepped, clear_stepped}
+use Rattle.mesh_laws.proofs.hops.Turned.{BeginsHere, turn_stepped}
 use Rattle.mesh_laws.proofs.hops.Own.{IsQuiet}
 use Rattle.mesh_laws.proofs.hops.Quiet.{same_quiet}
 use Rattle.mesh_laws.proofs.hops.Planned.{Routes, EachFollows, SameOf, follows_same, or_assoc, or_none}
-use Rattle.mesh_laws.proofs.hops.Traced.{traced_take}
+use Rattle.mesh_laws.proofs.hops.Traced.{CallsBackHere, traced_take}
 use Rattle.mesh_laws.proofs.hops.Begun.{EachStepped, stepped_nothing, setup_stepped}
 use Rattle.mesh_laws.proofs.hops.Paired.{CallsMayPair, MayPair, pair_stepped, whole-route}
 use Rattle.mesh_laws.proofs.hops.Released.{CallStands, release_stepped}
 
--- What a step needs to know: of the calls of each node, of the items on each desk, and of the rows that a node learnt
+-- What a step needs to know: of the calls and legs of each node, of the items on each desk, and of the rows that a node
+-- learnt
 
 abbrev pub ItemFits : Network → DeskItem → Type 0
 ItemFits t (Order c) = is_valid t c ≡ true
@@ -70,6 +76,8 @@ pub record StepFacts (t : Network) (s : Mesh) : Type 0 where
       call_with g.lsp (s.nodes n.0).calls ≡ Some c → is_work g.role ≡ true → c.protected ≡ true → WorksFor t s n c g
   pub protect : (n : NodeId) (k : CallNo) (c : CallRec) (w : Leg) → find_call k (s.nodes n.0).calls ≡ Some c →
       leg_of c.work (s.nodes n.0).legs ≡ Some w → is_searchable t ≡ true → CanBeProtected t s n c w
+  pub backs : CallsBackHere s
+  pub stand : (n : ℕ) → EachStands (s.nodes n)
   pub desk : (n : ℕ) (i : DeskItem) (items : List DeskItem) → s.desks n ≡ i ∷ items → ItemFits t i
   pub learnt : (n : ℕ) → AreRowsOf t (s.nodes n).learnt
 
@@ -123,6 +131,27 @@ module _ (t : Network) (s : Mesh) (o : Routes) (n : NodeId) (f : EachFollows t s
       if_cases Steps (nat_eq from.0 n.0 && is_bare c.state) _ _
       (λ h. protects_stepped k c e searchable (leg_of c.work (s.nodes n.0).legs) refl) (λ h. none_stepped)
 
+  -- the leg of a call's backup is the one that stands where it begins
+  back_begins : (k : CallNo) (c : CallRec) → find_call k (s.nodes n.0).calls ≡ Some c → (back : Option Lsp) →
+      c.back ≡ back → (b : Leg) → leg_of back (s.nodes n.0).legs ≡ Some b → BeginsHere s n b
+  back_begins k c found None is b here = absurd (cc here)
+  back_begins k c found (Some l) is b here =
+      let own : b.lsp ≡ l = found-lsp l (s.nodes n.0).legs b here in
+      record {
+        there = subst (λ j. leg_at s j n ≡ Some b) (sym own) here;
+        ingress = subst (λ (j : Lsp). j.ingress.0 ≡ n.0) (sym own) ((facts.call n.0 k c found).back l b is here).0;
+      }
+
+  retry_stepped : (k : CallNo) (from : NodeId) (c : Option CallRec) → find_call k (s.nodes n.0).calls ≡ c →
+      Steps (retry_with (local_node t n) (s.nodes n.0) from c)
+  retry_stepped k from None e = none_stepped
+  retry_stepped k from (Some c) e =
+      if_cases Steps (nat_eq from.0 n.0) _ _
+      (λ h. if_cases Steps (is_stuck c.state && (has_any c.work_reports && not (has_any c.back_reports))) _ _
+      (λ stuck. turn_stepped t s n o f c (leg_of c.back (s.nodes n.0).legs) (λ b. back_begins k c e c.back refl b))
+      (λ stuck. none_stepped))
+      (λ h. none_stepped)
+
   order_stepped : (c : Command) → is_valid t c ≡ true → Steps (on_order (local_node t n) (s.nodes n.0) c)
   order_stepped (Setup k from to protected both via backup) valid =
       setup_stepped t s n o f
@@ -134,15 +163,15 @@ module _ (t : Network) (s : Mesh) (o : Routes) (n : NodeId) (f : EachFollows t s
       release_stepped t s o n f from (find_call k (s.nodes n.0).calls) (λ d e. facts.call n.0 k d e)
   order_stepped (Protect k from) valid =
       protect_stepped k from (and_second (is_node_id t.nodes from) _ valid) (find_call k (s.nodes n.0).calls) refl
-  order_stepped (Retry k from) valid = none_stepped
+  order_stepped (Retry k from) valid = retry_stepped k from (find_call k (s.nodes n.0).calls) refl
   order_stepped (Revert k from) valid = none_stepped
   order_stepped (Fail g) valid = none_stepped
   order_stepped (Repair g) valid = none_stepped
 
   item_stepped : (i : DeskItem) → ItemFits t i → Steps (on_item (local_node t n) (s.nodes n.0) i)
   item_stepped (Order c) fits = order_stepped c fits
-  item_stepped (Alarm g) fits = none_stepped
-  item_stepped (Clear g) fits = none_stepped
+  item_stepped (Alarm g) fits = alarm_stepped t s n o f (facts.stand n.0) g
+  item_stepped (Clear g) fits = clear_stepped t s n o f (facts.stand n.0) g
 
   first_stepped : (items : List DeskItem) → s.desks n.0 ≡ items →
       Steps (on_first_item (local_node t n) (s.nodes n.0) items)
@@ -151,20 +180,43 @@ module _ (t : Network) (s : Mesh) (o : Routes) (n : NodeId) (f : EachFollows t s
 
 -- Every event
 
-posted_same : (s : Mesh) (c : Command) (l : Lsp) → SameOf s (posted s c) l
-posted_same s (Setup k from to protected both via backup) l =
-    record { legs = λ n. refl; mail = λ a b. refl; next = omega arith }
-posted_same s (Release k from) l = record { legs = λ n. refl; mail = λ a b. refl; next = omega arith }
-posted_same s (Protect k from) l = record { legs = λ n. refl; mail = λ a b. refl; next = omega arith }
-posted_same s (Retry k from) l = record { legs = λ n. refl; mail = λ a b. refl; next = omega arith }
-posted_same s (Revert k from) l = record { legs = λ n. refl; mail = λ a b. refl; next = omega arith }
-posted_same s (Fail g) l = record { legs = λ n. refl; mail = λ a b. refl; next = omega arith }
-posted_same s (Repair g) l = record { legs = λ n. refl; mail = λ a b. refl; next = omega arith }
+posted_same : (t : Network) (s : Mesh) (c : Command) (l : Lsp) → SameOf s (posted t s c) l
+posted_same t s (Setup k from to protected both via backup) l = record {
+  still = record { legs = λ n. refl; mail = λ a b. refl; next = omega arith };
+  notices = λ a b. refl;
+}
+posted_same t s (Release k from) l = record {
+  still = record { legs = λ n. refl; mail = λ a b. refl; next = omega arith };
+  notices = λ a b. refl;
+}
+posted_same t s (Protect k from) l = record {
+  still = record { legs = λ n. refl; mail = λ a b. refl; next = omega arith };
+  notices = λ a b. refl;
+}
+posted_same t s (Retry k from) l = record {
+  still = record { legs = λ n. refl; mail = λ a b. refl; next = omega arith };
+  notices = λ a b. refl;
+}
+posted_same t s (Revert k from) l = record {
+  still = record { legs = λ n. refl; mail = λ a b. refl; next = omega arith };
+  notices = λ a b. refl;
+}
+posted_same t s (Fail g) l = record {
+  still = record { legs = λ n. refl; mail = λ a b. refl; next = omega arith };
+  notices = λ a b. refl;
+}
+posted_same t s (Repair g) l = record {
+  still = record { legs = λ n. refl; mail = λ a b. refl; next = omega arith };
+  notices = λ a b. refl;
+}
 
 -- an item less on a desk leaves the legs and messages
 desk_same : (t : Network) (s : Mesh) (n : NodeId) (a : Answer) (l : Lsp) →
     SameOf (commit s n.0 a) (commit (without_item s n.0) n.0 a) l
-desk_same t s n a l = record { legs = λ m. refl; mail = λ x b. refl; next = omega arith }
+desk_same t s n a l = record {
+  still = record { legs = λ m. refl; mail = λ x b. refl; next = omega arith };
+  notices = λ x b. refl;
+}
 
 -- a row that is learnt leaves the legs and messages
 link_quiet : (p : LocalNode) (s : NodeState) (found : Option LinkSpec) → IsQuiet (on_link p s found)
@@ -198,7 +250,7 @@ step_follows : (t : Network) (s : Mesh) (e : MeshEvent) (o : Routes) → is_enab
     StepFacts t s → Carried t s o → EachFollows t (step t s e) (step_routes t s e o)
 step_follows t s (Take d u) o enabled facts c l =
     (traced_take t s o d u (s.mail u.0 d.0) refl enabled (facts.learnt d.0) c.follows
-    (calls_may_pair t s o facts c.given) l).follows
+    (calls_may_pair t s o facts c.given) facts.backs l).follows
 step_follows t s (Desk n) o enabled facts c l =
     let a = on_first_item (local_node t n) (s.nodes n.0) (s.desks n.0) in
     follows_same t (commit s n.0 a) (step t s (Desk n)) (step_routes t s (Desk n) o) l _ (desk_same t s n a l)
@@ -209,7 +261,7 @@ step_follows t s (Learn n k) o enabled facts c l =
     unsent t (step t s (Learn n k)) o (λ l. follows_same t s (commit s n.0 a) o l (o l)
     (same_quiet s n a l (link_quiet (local_node t n) (s.nodes n.0) (find_link t k))) (c.follows l)) l
 step_follows t s (Post d) o enabled facts c l =
-    unsent t (posted s d) o (λ l. follows_same t s (posted s d) o l (o l) (posted_same s d l) (c.follows l)) l
+    unsent t (posted t s d) o (λ l. follows_same t s (posted t s d) o l (o l) (posted_same t s d l) (c.follows l)) l
 
 pub step_carries : (t : Network) (s : Mesh) (e : MeshEvent) (o : Routes) → is_enabled t s e ≡ true →
     StepFacts t s → Carried t s o → Carried t (step t s e) (step_routes t s e o)
