@@ -5,6 +5,7 @@ use Rattle.ason_base.specs.declared.ids.NodeId.{NodeId}
 use Rattle.ason_base.specs.declared.ids.Lsp.{Lsp}
 use Rattle.ason_base.specs.declared.steps.Step.{Step}
 use Rattle.ason_base.specs.declared.network.LinkSpec.{LinkSpec}
+use Rattle.ason_base.specs.declared.calls.Phase.TheVariants.{Live}
 use Rattle.ason_base.specs.declared.calls.Role.{Role}
 use Rattle.ason_base.specs.declared.messages.Msg.{Msg}
 use Rattle.ason_base.specs.declared.messages.Msg.TheVariants.{Path, Resv, PathTear, PathErr, Notify}
@@ -137,8 +138,9 @@ pub record RouteFits (t : Network) (s : Mesh) (r : Role) (l : Lsp) (route : List
   pub long : 0 < length route
   pub leads : IsTrue (makes_route t l.ingress e route)
   pub hops : (i : ℕ) (hop : Step) → slice_get route i ≡ Some hop → StepFits t s r l hop
-  -- its leg at the egress has from the first the phase that a leg gets with its label
-  pub egress : (g : Leg) → leg_at s l e ≡ Some g → g.phase ≡ reserved r
+  -- its leg at the egress has from the first the phase that a leg gets with its label; that of a backup which is
+  -- activated is Live
+  pub egress : (g : Leg) → leg_at s l e ≡ Some g → (g.phase ≡ reserved r) ⊎ (g.phase ≡ Live)
   -- legs stand at the nodes of the route alone, and messages are on its hops alone
   pub legs : (n : NodeId) (g : Leg) → leg_at s l n ≡ Some g → (n ≡ e) ⊎ IsOnRoute route n
   pub mail : (a b : NodeId) → (mail_between s l a b ≡ []) ⊎ IsHop t route a b

@@ -9,6 +9,7 @@ use Rattle.ason_base.specs.declared.ids.NodeId.{NodeId}
 use Rattle.ason_base.specs.declared.ids.LinkId.{LinkId}
 use Rattle.ason_base.specs.declared.steps.Step.{Step}
 use Rattle.ason_base.specs.declared.calls.Phase.TheVariants.{Held, Armed, Live}
+use Rattle.ason_base.specs.declared.calls.Role.{Role}
 use Rattle.ason_base.specs.declared.messages.PathRole.{PathRole}
 use Rattle.ason_base.specs.declared.messages.PathRole.TheVariants.{Back}
 use Rattle.ason_base.specs.declared.messages.Msg.{Msg}
@@ -33,7 +34,7 @@ use Rattle.mesh_laws.proofs.hops.LegChanges.{armed_fits, following_is, following
 use Rattle.mesh_laws.proofs.hops.LegChanges.{in_label_is, in_use_out, previous_is, same_of}
 use Rattle.mesh_laws.proofs.hops.Plans.{Plan, hops, node_at, link_at, fibre_at, IsRoute, same}
 use Rattle.mesh_laws.proofs.hops.Rest.{Purpose, Tells, role_of}
-use Rattle.mesh_laws.proofs.hops.Rows.{active_taken, held_upstream}
+use Rattle.mesh_laws.proofs.hops.Rows.{active_taken, is_reserved, reserved_upstream}
 use Rattle.mesh_laws.proofs.hops.Sending.{sends_back, sends_on}
 use Rattle.mesh_laws.proofs.hops.Taken.{KeepsDown, down_hop, down_taken}
 
@@ -45,11 +46,11 @@ resv-is g h y (Some k) None before is = absurd (cc is)
 resv-is g h y (Some k) (Some z) before is = let a : k ≡ h = cc before in let b : z ≡ y = cc is in rw (a, b) refl
 
 -- beyond a Held leg there is one
-pub beyond_held : (r : _) (d : LegKind) (down up : List MsgKind) → Shape r HeldLeg d down up → d ≡ NoLeg → ⊥
-beyond_held r d down up shape gone = elim (held_upstream r d down up shape) [
-  | inl held ↦ cc (held, gone)
-  | inr live ↦ cc (live, gone)
-]
+pub beyond_held : (r : Role) (d : LegKind) (down up : List MsgKind) → Shape r HeldLeg d down up → d ≡ NoLeg → ⊥
+beyond_held r d down up shape gone =
+    let reserved : is_reserved d ≡ true = reserved_upstream r HeldLeg d down up shape refl in
+    let never : false ≡ true = rw gone at reserved in
+    cc never
 
 module _ (t : Network) (q : Purpose) (s : Mesh) (l : Lsp) (p : Plan) (i : ℕ) (route : IsRoute t l.ingress p)
     (chain : Chain t q l p (leg_at s l) (mail_between s l)) (below : i < hops p)

@@ -1,8 +1,13 @@
 -- The backup route that a call was given stands beside the route of its working LSP, in every state of every run.
-use Rattle.std.proofs.Common.{◌≡◌, ◌<◌, ◌⊎◌, inl, inr, ℕ, Bool, true, false, cond, nat_eq, nat_lt, List, [], ◌∷◌, drop, length, refl, sym, ap, ◌∙◌, subst, arith}
-use Rattle.std.specs.Prelude.{◌&&◌, Option, Some, None}
+use Rattle.std.proofs.Common.{◌≡◌, ◌<◌, ◌⊎◌, inl, inr, ℕ, Bool, true, false, cond, nat_eq, nat_lt, List, [], ◌∷◌, ◌++◌, drop, length, refl, sym, ap, ◌∙◌, subst, arith}
+use Rattle.std.specs.Prelude.{◌&&◌, not, Option, Some, None}
+use Rattle.ason_base.specs.Codes.{fibre_down_code, fibre_up_code}
+use Rattle.ason_base.specs.Lsps.{has_fibre, without_fibre}
 use Rattle.ason_base.specs.Network.{Network, find_link, row_of}
 use Rattle.ason_base.specs.Routes.{is_beside}
+use Rattle.ason_base.specs.declared.codes.ErrCode.{ErrCode}
+use Rattle.ason_base.specs.declared.ids.CallNo.{CallNo}
+use Rattle.ason_base.specs.declared.ids.Fibre.{Fibre}
 use Rattle.ason_base.specs.declared.ids.Lsp.{Lsp}
 use Rattle.ason_base.specs.declared.ids.NodeId.{NodeId}
 use Rattle.ason_base.specs.declared.steps.Step.{Step}
@@ -13,15 +18,20 @@ use Rattle.ason_base.specs.declared.commands.DeskItem.{DeskItem}
 use Rattle.ason_base.specs.declared.commands.DeskItem.TheVariants.{Order, Alarm, Clear}
 use Rattle.ason_base.specs.declared.messages.Msg.{Msg}
 use Rattle.ason_base.specs.declared.tables.CallRec.{CallRec}
+use Rattle.ason_base.specs.declared.tables.Leg.{Leg}
 use Rattle.mesh_rules.specs.declared.events.MeshEvent.{MeshEvent}
 use Rattle.mesh_rules.specs.declared.events.MeshEvent.TheVariants.{Take, Desk, Tick, Learn, Post}
-use Rattle.mesh_rules.specs.Calls.{find_call}
+use Rattle.mesh_rules.specs.Alarms.{enters, knows_down}
+use Rattle.mesh_rules.specs.Calls.{find_call, is_stuck, turning}
 use Rattle.mesh_rules.specs.Changes.{Answer, changed, learns, nothing}
 use Rattle.mesh_rules.specs.Commands.{has_backup_way, is_valid}
 use Rattle.mesh_rules.specs.Events.{first_route, on_first, on_first_item, or_route, posted, sent_at_ingress, step}
 use Rattle.mesh_rules.specs.FirstLegs.{first_link}
 use Rattle.mesh_rules.specs.KnownRows.{has_row, known_rows}
 use Rattle.mesh_rules.specs.Learnt.{on_link}
+use Rattle.mesh_rules.specs.Legs.{is_held, leg_of}
+use Rattle.mesh_rules.specs.Retries.{retries, retry_with}
+use Rattle.mesh_rules.specs.Turns.{arms, call_put, has_any, turn}
 use Rattle.mesh_rules.specs.LocalNodes.{LocalNode, local_node, own_link}
 use Rattle.mesh_rules.specs.Machine.{Mesh, commit, without_first, without_item}
 use Rattle.mesh_rules.specs.Orders.{on_item}
@@ -167,6 +177,33 @@ module _ (t : Network) (s : Mesh) (n : NodeId) (o : Routes) (f : EachFollows t s
             let number : w.from.0 ≡ n.0 = grind arith in
             same_node w.from n number
 
+    same-puts : (a : Answer) (c d : CallRec) → IsSameCall c d → GivenBeside t o n c →
+        GivenBeside t (grown n o a) n d × Unit {0}
+    same-puts a c d is here = (keeps a c d is here, tt)
+
+    turn-puts : (c : CallRec) (b : Option Leg) → GivenBeside t o n c → Puts (turn c b)
+    turn-puts c None here = same-puts (turn c None) c c (same-call c) here
+    turn-puts c (Some b) here =
+        if_cases Puts (is_held b.phase) (arms c b) (call_put c)
+        (λ h. same-puts (arms c b) c (turning c)
+        (record { egress = refl; protected = refl; backup = refl; work = inl refl }) here)
+        (λ h. same-puts (call_put c) c c (same-call c) here)
+
+    retry-puts : (from : NodeId) (k : CallNo) (c : Option CallRec) → find_call k (s.nodes n.0).calls ≡ c →
+        Puts (retry_with (local_node t n) (s.nodes n.0) from c)
+    retry-puts from k None is = tt
+    retry-puts from k (Some c) is =
+        if_cases Puts (nat_eq from.0 n.0) (retries (s.nodes n.0) c) nothing
+        (λ h. if_cases Puts (is_stuck c.state && (has_any c.work_reports && not (has_any c.back_reports)))
+        (turn c (leg_of c.back (s.nodes n.0).legs)) nothing
+        (λ stuck. turn-puts c (leg_of c.back (s.nodes n.0).legs) (each n k c is)) (λ stuck. tt))
+        (λ h. tt)
+
+    told-puts : (f : Fibre) (code : ErrCode) (fibres : List Fibre) (b : Bool) →
+        Puts (cond b (knows_down (local_node t n) (s.nodes n.0) f code fibres) nothing)
+    told-puts f code fibres true = tt
+    told-puts f code fibres false = tt
+
     item-puts : (i : DeskItem) → ((c : Command) → i ≡ Order c → is_valid t c ≡ true) →
         Puts (on_item (local_node t n) (s.nodes n.0) i)
     item-puts (Order (Setup k from to protected both via backup)) valid =
@@ -180,12 +217,16 @@ module _ (t : Network) (s : Mesh) (n : NodeId) (o : Routes) (f : EachFollows t s
     item-puts (Order (Protect k from)) valid =
         protect-holds (GivenBeside t o n) _ (keeps (on_item place (s.nodes n.0) (Order (Protect k from)))) place
         (s.nodes n.0) rise (each n) k from (find_call k (s.nodes n.0).calls) refl
-    item-puts (Order (Retry k from)) valid = tt
+    item-puts (Order (Retry k from)) valid = retry-puts from k (find_call k (s.nodes n.0).calls) refl
     item-puts (Order (Revert k from)) valid = tt
     item-puts (Order (Fail g)) valid = tt
     item-puts (Order (Repair g)) valid = tt
-    item-puts (Alarm g) valid = tt
-    item-puts (Clear g) valid = tt
+    item-puts (Alarm g) valid =
+        told-puts g fibre_down_code ((s.nodes n.0).down ++ g ∷ [])
+        (enters place g (own_link place g.link) && not (has_fibre (s.nodes n.0).down g))
+    item-puts (Clear g) valid =
+        told-puts g fibre_up_code (without_fibre g (s.nodes n.0).down)
+        (enters place g (own_link place g.link) && has_fibre (s.nodes n.0).down g)
 
     first_item-puts : (items : List DeskItem) →
         ((c : Command) (rest : List DeskItem) → items ≡ Order c ∷ rest → is_valid t c ≡ true) →
@@ -210,14 +251,14 @@ link-puts t o n p s (Some l) =
     if_cases (λ a. ArePut (GivenBeside t o n) a.calls) (has_row (known_rows p s) l.id) nothing (learns (row_of l))
     (λ known. tt) (λ new. tt)
 
-posted-nodes : (s : Mesh) (c : Command) → (posted s c).nodes ≡ s.nodes
-posted-nodes s (Setup k from to protected both via backup) = refl
-posted-nodes s (Release k from) = refl
-posted-nodes s (Protect k from) = refl
-posted-nodes s (Retry k from) = refl
-posted-nodes s (Revert k from) = refl
-posted-nodes s (Fail g) = refl
-posted-nodes s (Repair g) = refl
+posted-nodes : (t : Network) (s : Mesh) (c : Command) → (posted t s c).nodes ≡ s.nodes
+posted-nodes t s (Setup k from to protected both via backup) = refl
+posted-nodes t s (Release k from) = refl
+posted-nodes t s (Protect k from) = refl
+posted-nodes t s (Retry k from) = refl
+posted-nodes t s (Revert k from) = refl
+posted-nodes t s (Fail g) = refl
+posted-nodes t s (Repair g) = refl
 
 pub given-step : (t : Network) (s : Mesh) (e : MeshEvent) (o : Routes) → EachFollows t s o →
     ((n : ℕ) → CallsRise (s.nodes n).calls) →
@@ -243,4 +284,4 @@ given-step t s (Learn n k) o f rise valid each =
 given-step t s (Post c) o f rise valid each =
     let o' : Routes = λ l. or_route (o l) None in
     subst (λ (nodes : ℕ → NodeState). (n : NodeId) → EachCall (GivenBeside t o' n) (nodes n.0).calls)
-    (sym (posted-nodes s c)) (grown-beside t s o o' (λ l route sent. rw sent refl) each)
+    (sym (posted-nodes t s c)) (grown-beside t s o o' (λ l route sent. rw sent refl) each)

@@ -1,6 +1,7 @@
 -- From what is carried along a run to what is said of each hop.
 use Rattle.std.proofs.Common.{◌≡◌, ◌<◌, ◌≤◌, ℕ, zero, suc, true, List, [], ◌∷◌, length, refl, sym, ap, ◌∙◌, subst, arith, inl, inr}
 use Rattle.std.specs.Prelude.{◌⊎◌, slice_get, Option, Some, None}
+use Rattle.std.specs.List.{AllByRecursion}
 use Rattle.std.proofs.lemmas.Option.{slice_get_within, slice_get_past}
 use Rattle.ason_base.specs.Labels.{has}
 use Rattle.ason_base.specs.Network.{Network, find_link, other_end}
@@ -16,6 +17,8 @@ use Rattle.mesh_rules.specs.Legs.{is_beyond_asked, reserved}
 use Rattle.mesh_rules.specs.Machine.{Mesh}
 use Rattle.mesh_laws.specs.HopShapes.{leg_kind, phase_kind}
 use Rattle.mesh_laws.specs.HopLaw.{leg_at, mail_between, notices_between, EachLabel, HopFits, StepFits, IsHop, RouteFits, LspFits}
+use Rattle.mesh_laws.specs.HopLaw.{GoesUp, IsBeyond, NamesBeyond}
+use Rattle.mesh_laws.proofs.hops.Notices.{ComesUp, NoticeFits}
 use Rattle.mesh_laws.proofs.hops.Plans.{Plan, hops, plan, node_at, link_at, IsRoute, distinct, same_node, lt_true, joined, fibre_in_is, fibre_out_is}
 use Rattle.mesh_laws.proofs.hops.Rows.{is_reserved}
 use Rattle.mesh_laws.proofs.hops.Rest.{Purpose, Carries, Guards, role_of, Each, AnswerFits, LabelsMeet}
@@ -114,19 +117,21 @@ module _ (t : Network) (s : Mesh) (o : Routes) (l : Lsp) (q : Purpose) (steps : 
       n ≡ node_at (plan steps e) i → LegFits t q l (plan steps e) i g
   fits_place n g here i small is = fits_at t q s l (plan steps e) pl.route pl.chain i g small (rw (← is) here)
 
-  end_reserved : (g : Leg) → LegFits t q l (plan steps e) (length steps) g → g.phase ≡ reserved (role_of q)
+  end_reserved : (g : Leg) → LegFits t q l (plan steps e) (length steps) g →
+      (g.phase ≡ reserved (role_of q)) ⊎ (g.phase ≡ Live)
   end_reserved g fits = go q g.phase fits.phase
     where
       go : (q : Purpose) (f : Phase) → PhaseFits q f (length steps) (length steps) g.in_label g.out_label →
-          f ≡ reserved (role_of q)
+          (f ≡ reserved (role_of q)) ⊎ (f ≡ Live)
       go q Asked fits = (let less : length steps < length steps = fits.0 in absurd (omega arith))
       go q Closing fits = (let less : length steps < length steps = fits.0 in absurd (omega arith))
-      go q Armed fits = absurd fits
-      go q Falling fits = absurd fits
+      go Carries Armed fits = absurd fits
+      go (Guards w r) Armed fits = (let less : length steps < length steps = fits.0 in absurd (omega arith))
+      go Carries Falling fits = absurd fits
+      go (Guards w r) Falling fits = (let less : length steps < length steps = fits.0 in absurd (omega arith))
       go Carries Held fits = absurd fits
-      go Carries Live fits = refl
-      go (Guards w r) Held fits = refl
-      go (Guards w r) Live fits = absurd fits
+      go (Guards w r) Held fits = inl refl
+      go q Live fits = inr refl
 
   on_step : (n : NodeId) → (i : ℕ) → i ≤ length steps → n ≡ node_at (plan steps e) i →
       (i < length steps) ⊎ (length steps ≤ i) →
@@ -155,8 +160,44 @@ module _ (t : Network) (s : Mesh) (o : Routes) (l : Lsp) (q : Purpose) (steps : 
       let at_place = place_of n g here in
       (at_place.0, fits_place n g here at_place.0 at_place.1 (same_node n _ at_place.2))
 
-  pub route_fits : ((a b : NodeId) → notices_between s l a b ≡ []) → RouteFits t s (role_of q) l steps e
-  route_fits notices = record {
+  -- a place of the route is its end or that of a step
+  beyond : (n : NodeId) (i j : ℕ) → i < j → j ≤ length steps → n ≡ node_at (plan steps e) j → IsBeyond steps e i n
+  beyond n i j after small is = elim (below_or_not j (length steps)) [
+    | inl below ↦ (let st = step_at steps j below in inr (j, st.0, after, st.1, is ∙ node_is j st.0 st.1))
+    | inr end ↦ (let at_end : j ≡ length steps = omega arith in
+        inl (is ∙ ap (node_at (plan steps e)) at_end ∙ last_is))
+  ]
+
+  names_beyond : (i : ℕ) (m : Msg) → NoticeFits (plan steps e) i m → NamesBeyond steps e i m
+  names_beyond i (Path k d link route set up r) fits = absurd fits
+  names_beyond i (Resv k d link x) fits = absurd fits
+  names_beyond i (PathTear k d link) fits = absurd fits
+  names_beyond i (PathErr k d at gone code) fits = absurd fits
+  names_beyond i (Notify k d at link code) fits =
+      let after = fits.beyond in
+      let small = fits.within in
+      beyond at i (suc fits.place) (omega arith) (omega arith) fits.node
+
+  goes_up : (a b : NodeId) (m : Msg) → ComesUp (plan steps e) a b m → GoesUp t steps e a b m
+  goes_up a b m up =
+      let st = step_at steps up.place up.below in
+      record {
+        place = up.place;
+        hop = st.0;
+        link = (pl.route.links up.place up.below).link;
+        there = st.1;
+        found = link_there up.place st.0 st.1 up.below;
+        from = same_node a _ up.from ∙ far_is up.place st.0 st.1 up.below;
+        to = same_node b _ up.to ∙ node_is up.place st.0 st.1;
+        names = names_beyond up.place m up.names;
+      }
+
+  each_up : (a b : NodeId) (ms : List Msg) → Each (ComesUp (plan steps e) a b) ms → AllByRecursion (GoesUp t steps e a b) ms
+  each_up a b [] each = tt
+  each_up a b (m ∷ ms) each = (goes_up a b m each.0, each_up a b ms each.1)
+
+  pub route_fits : RouteFits t s (role_of q) l steps e
+  route_fits = record {
     long = pl.route.long;
     leads = pl.made;
     hops = step_fits;
@@ -167,10 +208,10 @@ module _ (t : Network) (s : Mesh) (o : Routes) (l : Lsp) (q : Purpose) (steps : 
     mail = λ a b. elim (pl.chain.ways a b) [ inl none ↦ inl none | inr on ↦ inr (on_hop a b on) ];
     roles = λ n g here. (place_fits n g here).1.role;
     ends = λ n g here. (place_fits n g here).1.egress;
-    notices = notices;
+    notices = λ a b. each_up a b (notices_between s l a b) (pl.notices a b);
   }
 
-pub lsp_fits : (t : Network) (s : Mesh) (o : Routes) (l : Lsp) (c : Option (List Step)) →
-    ((a b : NodeId) → notices_between s l a b ≡ []) → Follows t s o l c → LspFits t s l c
-lsp_fits t s o l None notices f = record { legs = f.legs; mail = f.mail; notices = notices }
-lsp_fits t s o l (Some steps) notices (e, q, pl) = (role_of q, e, route_fits t s o l q steps e pl notices)
+pub lsp_fits : (t : Network) (s : Mesh) (o : Routes) (l : Lsp) (c : Option (List Step)) → Follows t s o l c →
+    LspFits t s l c
+lsp_fits t s o l None f = record { legs = f.legs; mail = f.mail; notices = f.notices }
+lsp_fits t s o l (Some steps) (e, q, pl) = (role_of q, e, route_fits t s o l q steps e pl)

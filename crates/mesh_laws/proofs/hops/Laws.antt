@@ -1,7 +1,7 @@
 -- Every hop of every LSP has a shape, in every state of every run.
 use Rattle.std.proofs.Common.{◌≡◌, ℕ, Bool, true, false, List, ◌∷◌, refl, sym, ap, ◌∙◌, subst}
 use Rattle.std.specs.Prelude.{◌||◌, Option, Some, None, IfSome}
-use Rattle.std.specs.List.{Contains}
+use Rattle.std.specs.List.{AllByRecursion, Contains}
 use Rattle.std.proofs.lemmas.List.Elements.{All-contains, All-from_recursion}
 use Rattle.ason_base.specs.Lsps.{is_lsp, same_lsp}
 use Rattle.ason_base.specs.Network.{Network}
@@ -34,7 +34,7 @@ use Rattle.mesh_nodes.proofs.LegList.{all-found, found-lsp, same_lsp-eq}
 use Rattle.mesh_laws.proofs.nodes.Runs.{facts-start, facts-step, facts-hold}
 use Rattle.mesh_laws.proofs.hops.Plans.{same_node}
 use Rattle.mesh_laws.proofs.hops.Planned.{EachFollows}
-use Rattle.mesh_laws.proofs.hops.Notices.{no_notices}
+use Rattle.mesh_laws.proofs.hops.Traced.{CallsBackHere}
 use Rattle.mesh_laws.proofs.hops.Released.{CallStands, NamedStands}
 use Rattle.mesh_laws.proofs.hops.Run.{CanBeProtected, ItemFits, StepFacts, WorksFor, follows_run}
 use Rattle.mesh_laws.proofs.hops.Law.{lsp_fits}
@@ -186,6 +186,29 @@ module _ (t : Network) (s : Mesh) (facts : MeshFacts t s) where
       leg_of c.work (s.nodes n.0).legs ≡ Some w → is_searchable t ≡ true → CanBeProtected t s n c w
   protects_call n k c w found here searchable = protects_named n k c w found c.work refl here searchable
 
+-- The leg of a call's backup
+
+backs_here : (t : Network) (s : Mesh) → MeshFacts t s → CallsBackHere s
+backs_here t s facts n l c called b here = go c.back refl here
+  where
+    stands : CallStands n.0 (s.nodes n.0) c
+    stands =
+        call_stands n.0 (s.nodes n.0) c
+        ((facts.node n.0).call c.call c
+        (called-found l (s.nodes n.0).calls c (facts.node n.0).calls_rise called))
+
+    go : (back : Option Lsp) → c.back ≡ back → leg_of back (s.nodes n.0).legs ≡ Some b → b.lsp.ingress.0 ≡ n.0
+    go None is here = absurd (cc here)
+    go (Some k) is here =
+        let own : b.lsp ≡ k = found-lsp k (s.nodes n.0).legs b here in
+        subst (λ (j : Lsp). j.ingress.0 ≡ n.0) (sym own) (stands.back k b is here).0
+
+-- each leg of a list in order is the one of its LSP
+each_stands : (legs : List Leg) → LegsRise legs → AllByRecursion (λ g. find_leg g.lsp legs ≡ Some g) legs
+each_stands legs rise =
+    all-found (λ h. find_leg h.lsp legs ≡ Some h) legs rise
+    (λ l h found. subst (λ k. find_leg k legs ≡ Some h) (sym (found-lsp l legs h found)) found)
+
 -- What each step needs
 
 item_fits : (t : Network) (n : ℕ) (i : DeskItem) → FitsDesk t n i → ItemFits t i
@@ -196,8 +219,8 @@ item_fits t n (Order (Retry k from)) fits = fits.0
 item_fits t n (Order (Revert k from)) fits = fits.0
 item_fits t n (Order (Fail g)) fits = absurd fits
 item_fits t n (Order (Repair g)) fits = absurd fits
-item_fits t n (Alarm f) fits = absurd fits
-item_fits t n (Clear f) fits = absurd fits
+item_fits t n (Alarm f) fits = tt
+item_fits t n (Clear f) fits = tt
 
 step_facts : (t : Network) (s : Mesh) → MeshFacts t s → StepFacts t s
 step_facts t s facts = record {
@@ -205,6 +228,8 @@ step_facts t s facts = record {
   rise = λ n. (facts.node n).calls_rise;
   pair = pairs t s facts;
   protect = protects_call t s facts;
+  backs = backs_here t s facts;
+  stand = λ n. each_stands (s.nodes n).legs (facts.node n).legs_rise;
   desk = λ n i items is. item_fits t n i (let fits : DeskFits t n (i ∷ items) = rw is at (facts.desk n) in fits.0);
   learnt = facts.learnt;
 }
@@ -215,17 +240,14 @@ pub follows : (t : Network) (events : List MeshEvent) → IsRun t start events �
 follows t events run =
     (follows_run t (MeshFacts t) (step_facts t) (facts-step t) start events run (facts-start t) (λ l. None)
     (record {
-      follows = λ l. record { legs = λ n. refl; mail = λ a b. refl };
+      follows = λ l. record { legs = λ n. refl; mail = λ a b. refl; notices = λ a b. refl };
       given = λ n k c found. absurd (cc found);
     })).follows
 
 pub found_of : (legs : List Leg) → LegsRise legs → (g : Leg) → Contains legs g → find_leg g.lsp legs ≡ Some g
 found_of legs rise g has =
     All-contains (λ h. find_leg h.lsp legs ≡ Some h) legs g
-    (All-from_recursion (λ h. find_leg h.lsp legs ≡ Some h) legs
-    (all-found (λ h. find_leg h.lsp legs ≡ Some h) legs rise
-    (λ l h found. subst (λ k. find_leg k legs ≡ Some h) (sym (found-lsp l legs h found)) found)))
-    has
+    (All-from_recursion (λ h. find_leg h.lsp legs ≡ Some h) legs (each_stands legs rise)) has
 
 pub one_leg_each : (t : Network) (s : Mesh) → MeshFacts t s → HasOneLegEach s
 one_leg_each t s facts n g has = found_of (s.nodes n.0).legs (facts.node n.0).legs_rise g has
@@ -234,6 +256,5 @@ pub every_hop : EveryHopHasAShape
 every_hop t events run =
     let s : Mesh = after t start events in (
       one_leg_each t s (facts-hold t events run),
-      λ l. lsp_fits t s (route_of t start events) l (route_of t start events l) (no_notices t events l)
-          (follows t events run l),
+      λ l. lsp_fits t s (route_of t start events) l (route_of t start events l) (follows t events run l),
     )

@@ -517,14 +517,47 @@ live_upstream r _ down up (TornConnected was may) = elim was [ ]
 live_upstream r _ down up (TornStandby torn may) = elim torn [ ]
 live_upstream r d down up (LetGo torn gone confirms) = elim torn [ ]
 
--- While the upstream leg is Held the downstream one is, too, or it is Live and a Path goes to it.
+-- While the upstream leg is Held the downstream one is, too, or it is Live and a Path goes to it that takes back.
 pub held_upstream : (r : Role) (d : LegKind) (down up : List MsgKind) → Shape r HeldLeg d down up →
-    (d ≡ HeldLeg) ⊎ (d ≡ LiveLeg)
+    (d ≡ HeldLeg) ⊎ ((d ≡ LiveLeg) × (down ≡ PlainPath ∷ []))
 held_upstream _ _ _ _ Standby = inl refl
-held_upstream _ _ _ _ Deactivating = inr refl
+held_upstream _ _ _ _ Deactivating = inr (refl, refl)
 held_upstream r _ down up (TornConnected was may) = elim was [ ]
 held_upstream r _ down up (TornStandby torn may) = elim torn [ ]
 held_upstream r d down up (LetGo torn gone confirms) = elim torn [ ]
+
+torn_not_reserved : (r : Role) (u : LegKind) → IsTorn r u → is_reserved u ≡ true → ⊥
+torn_not_reserved r u torn reserved = let free = let_go_free r u (StillWaits torn) in cc (free, reserved)
+
+-- While the upstream leg has a label in, so has the downstream one.
+pub reserved_upstream : (r : Role) (u d : LegKind) (down up : List MsgKind) → Shape r u d down up →
+    is_reserved u ≡ true → is_reserved d ≡ true
+reserved_upstream r _ _ _ _ Connected e = refl
+reserved_upstream r _ _ _ _ Standby e = refl
+reserved_upstream r _ _ _ _ Activating e = refl
+reserved_upstream r _ _ _ _ BothArmed e = refl
+reserved_upstream r _ _ _ _ Activated e = refl
+reserved_upstream r _ _ _ _ Contended e = refl
+reserved_upstream r _ _ _ _ Deactivating e = refl
+reserved_upstream r _ _ _ _ Reactivating e = refl
+reserved_upstream r u _ _ up (TornConnected was may) e = absurd (torn_not_reserved r u (was_torn r u was) e)
+reserved_upstream r u _ _ up (TornStandby torn may) e = absurd (torn_not_reserved r u torn e)
+reserved_upstream r u d _ up (LetGo torn gone confirms) e = absurd (torn_not_reserved r u torn e)
+reserved_upstream r _ _ _ _ Idle e = absurd (cc e)
+reserved_upstream r _ _ _ _ Asking e = absurd (cc e)
+reserved_upstream r _ _ _ _ Passed e = absurd (cc e)
+reserved_upstream r _ d _ _ (Refused gone) e = absurd (cc e)
+reserved_upstream r _ _ _ _ Answered e = absurd (cc e)
+reserved_upstream r _ _ _ _ Reserved e = absurd (cc e)
+reserved_upstream r _ _ _ _ TornAsking e = absurd (cc e)
+reserved_upstream r _ _ _ _ TornPassed e = absurd (cc e)
+reserved_upstream r _ d _ _ (TornRefused gone) e = absurd (cc e)
+reserved_upstream r _ _ _ _ TornActivating e = absurd (cc e)
+reserved_upstream r _ _ _ _ TornArmed e = absurd (cc e)
+reserved_upstream r _ _ _ _ TornDeactivating e = absurd (cc e)
+reserved_upstream r _ _ _ _ TornReactivating e = absurd (cc e)
+reserved_upstream r _ d _ _ (Left gone) e = absurd (cc e)
+reserved_upstream r _ d _ _ (Ahead torn) e = absurd (cc e)
 
 -- Nothing is under way: both legs are as one, or the upstream one is gone.
 pub data Settled : Role → LegKind → LegKind → Type 0 where

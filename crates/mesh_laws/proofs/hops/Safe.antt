@@ -9,22 +9,21 @@ use Rattle.ason_base.specs.declared.ids.NodeId.{NodeId}
 use Rattle.ason_base.specs.declared.steps.Step.{Step}
 use Rattle.ason_base.specs.declared.network.LinkSpec.{LinkSpec}
 use Rattle.ason_base.specs.declared.calls.Phase.TheVariants.{Live}
-use Rattle.ason_base.specs.declared.calls.Role.TheVariants as role
 use Rattle.ason_base.specs.declared.tables.Leg.{Leg}
 use Rattle.mesh_rules.specs.LocalNodes.{leads}
-use Rattle.mesh_rules.specs.Legs.{takes}
+use Rattle.mesh_rules.specs.Legs.{is_in_use, takes}
 use Rattle.mesh_rules.specs.Machine.{Mesh, start}
 use Rattle.mesh_rules.specs.Events.{after, route_of}
 use Rattle.mesh_laws.specs.HopLaw.{leg_at, mail_between, HasOneLegEach}
-use Rattle.mesh_laws.specs.LabelLaw.{MayShare, is_in_use}
+use Rattle.mesh_laws.specs.LabelLaw.{MayShare}
 use Rattle.mesh_laws.specs.SafeLaw.{StandsAt, EveryRunIsSafe}
 use Rattle.mesh_laws.proofs.nodes.Facts.{MeshFacts}
 use Rattle.mesh_laws.proofs.nodes.Runs.{facts-hold}
 use Rattle.mesh_laws.proofs.hops.Plans.{Plan, hops, plan, node_at, link_at, fibre_at, IsRoute, Leads, distinct, same, same_node, lt_true, lt_false, joined}
 use Rattle.mesh_laws.proofs.hops.Rows.{live_upstream}
-use Rattle.mesh_laws.proofs.hops.Rest.{Carries, LabelsMeet}
+use Rattle.mesh_laws.proofs.hops.Rest.{Purpose, LabelsMeet, role_of}
 use Rattle.mesh_laws.proofs.hops.Chain.{LegFits, HasOut, Hop, Chain, out_fibre_at, below_or_not}
-use Rattle.mesh_laws.proofs.hops.LegChanges.{live_carries, live_leg}
+use Rattle.mesh_laws.proofs.hops.LegChanges.{live_leg}
 use Rattle.mesh_laws.proofs.hops.Planned.{Routes, Follows, EachFollows}
 use Rattle.mesh_laws.proofs.hops.Laws.{follows, one_leg_each}
 
@@ -104,19 +103,19 @@ out_below t p i f e = go (below_or_not i (hops p)) e
     go (inl small) e = let is : Some (fibre_at t p i) ≡ Some f = rw (lt_true small) at e in (small, cc is)
     go (inr end) e = let is : ◌≡◌ {A = Option Fibre} None (Some f) = rw (lt_false end) at e in absurd (cc is)
 
-module _ (t : Network) (s : Mesh) (l : Lsp) (p : Plan) (route : IsRoute t l.ingress p)
-    (chain : Chain t Carries l p (leg_at s l) (mail_between s l)) (f : Fibre) (x : ℕ) (g : Leg)
+module _ (t : Network) (s : Mesh) (q : Purpose) (l : Lsp) (p : Plan) (route : IsRoute t l.ingress p)
+    (chain : Chain t q l p (leg_at s l) (mail_between s l)) (f : Fibre) (x : ℕ) (g : Leg)
     (live : g.phase ≡ Live) (leaves : g.out_fibre ≡ Some f) (label : g.out_label ≡ Some x) where
   -- at place i of its route
   owner_at : (i : ℕ) → leg_at s l (node_at p i) ≡ Some g → i ≤ hops p → Owner t s f x l
   owner_at i here small =
-      let fits : LegFits t Carries l p i g = rw here at (chain.fits i small) in
+      let fits : LegFits t q l p i g = rw here at (chain.fits i small) in
       let out = out_below t p i f (sym fits.out_fibre ∙ leaves) in
-      let hop : Hop Carries p i (Some g) (leg_at s l (node_at p (suc i)))
+      let hop : Hop q p i (Some g) (leg_at s l (node_at p (suc i)))
       (mail_between s l (node_at p i) (node_at p (suc i)))
       (mail_between s l (node_at p (suc i)) (node_at p i)) = rw here at (chain.each i out.0) in
       let next =
-      live_leg (leg_at s l (node_at p (suc i))) (live_upstream role.Work _ _ _ (rw live at hop.shape)).live in
+      live_leg (leg_at s l (node_at p (suc i))) (live_upstream (role_of q) _ _ _ (rw live at hop.shape)).live in
       owned i here out.0 out.1 next.0 next.1 next.2 hop
     where
       in_label : (i y : ℕ) (h : Leg) → LabelsMeet g.out_label h.in_label → h.in_label ≡ Some y → h.in_label ≡ Some x
@@ -124,11 +123,11 @@ module _ (t : Network) (s : Mesh) (l : Lsp) (p : Plan) (route : IsRoute t l.ingr
 
       owned : (i : ℕ) → leg_at s l (node_at p i) ≡ Some g → i < hops p → fibre_at t p i ≡ f → (h : Leg) →
           leg_at s l (node_at p (suc i)) ≡ Some h → h.phase ≡ Live →
-          Hop Carries p i (Some g) (leg_at s l (node_at p (suc i)))
+          Hop q p i (Some g) (leg_at s l (node_at p (suc i)))
           (mail_between s l (node_at p i) (node_at p (suc i)))
           (mail_between s l (node_at p (suc i)) (node_at p i)) → Owner t s f x l
       owned i here small is h there there_live hop =
-          let fits : LegFits t Carries l p (suc i) h = rw there at (chain.fits (suc i) small) in
+          let fits : LegFits t q l p (suc i) h = rw there at (chain.fits (suc i) small) in
           let phase : ((y : ℕ) × (h.in_label ≡ Some y)) × HasOut (suc i) (hops p) h.out_label =
           rw there_live at fits.phase in
           let enters : (y : ℕ) × (h.in_label ≡ Some y) = phase.0 in
@@ -144,7 +143,6 @@ module _ (t : Network) (s : Mesh) (l : Lsp) (p : Plan) (route : IsRoute t l.ingr
             label = in_label i enters.0 h meets enters.1;
           }
 
--- a leg that is Live carries a call: no backup is activated
 sender_owner : (t : Network) (s : Mesh) (o : Routes) (l : Lsp) (c : Option (List Step)) → Follows t s o l c →
     (n : NodeId) (f : Fibre) (x : ℕ) (g : Leg) → leg_at s l n ≡ Some g → g.phase ≡ Live → g.out_fibre ≡ Some f →
     g.out_label ≡ Some x → Owner t s f x l
@@ -155,11 +153,7 @@ sender_owner t s o l (Some steps) (e, q, pl) n f x g here live leaves label =
       | inr (i, small, at_n) ↦ (let is : n ≡ node_at (plan steps e) i =
           same_node n (node_at (plan steps e) i) at_n in
           let here' : leg_at s l (node_at (plan steps e) i) ≡ Some g = rw (← is) here in
-          let fits : LegFits t q l (plan steps e) i g = rw here' at (pl.chain.fits i small) in
-          let chain : Chain t Carries l (plan steps e) (leg_at s l) (mail_between s l) =
-          subst (λ q. Chain t q l (plan steps e) (leg_at s l) (mail_between s l))
-          (live_carries t q l (plan steps e) i g fits live) pl.chain in
-          owner_at t s l (plan steps e) pl.route chain f x g live leaves label i here' small)
+          owner_at t s q l (plan steps e) pl.route pl.chain f x g live leaves label i here' small)
     ]
 
 owner : (t : Network) (s : Mesh) (o : Routes) → HasOneLegEach s → EachFollows t s o →
