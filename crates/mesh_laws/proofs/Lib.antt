@@ -1,4 +1,5 @@
 pub mod EveryRun
+pub mod alone
 mod examples
 pub mod hops
 pub mod nodes

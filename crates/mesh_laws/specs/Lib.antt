@@ -1,3 +1,4 @@
+pub mod AloneLaw
 pub mod BesideLaw
 pub mod CallLaw
 pub mod HopLaw

@@ -1,0 +1,9 @@
+pub mod Calls
+pub mod Facts
+pub mod Failures
+pub mod Fine
+pub mod Items
+pub mod Legs
+pub mod Messages
+pub mod Risks
+pub mod Runs

@@ -1,0 +1,132 @@
+-- A group that is a risk of a route is among the risks that are recorded of it, and isn't a risk of a route beside it.
+use Rattle.std.proofs.Common.{◌≡◌, ℕ, Bool, true, false, cond, nat_eq, nat_lt, List, [], ◌∷◌, ◌++◌, map, refl, subst, arith, Contains}
+use Rattle.std.specs.Prelude.{◌||◌, Option, Some, None, find}
+use Rattle.std.specs.List.{list_any}
+use Rattle.std.proofs.lemmas.List.Elements.{Contains-append_left}
+use Rattle.ason_base.specs.InOrder.{in_order}
+use Rattle.ason_base.specs.Network.{Network, find_link, row_of}
+use Rattle.ason_base.specs.Risks.{has_risk, risks_of, route_risks}
+use Rattle.ason_base.specs.Routes.{routes_share_risk, shares_risk}
+use Rattle.ason_base.specs.declared.commands.Group.{Group}
+use Rattle.ason_base.specs.declared.commands.Group.TheVariants as group
+use Rattle.ason_base.specs.declared.ids.LinkId.{LinkId}
+use Rattle.ason_base.specs.declared.network.LinkSpec.{LinkSpec}
+use Rattle.ason_base.specs.declared.risks.Risk.{Risk}
+use Rattle.ason_base.specs.declared.risks.Risk.TheVariants.{Srlg, Link}
+use Rattle.ason_base.specs.declared.steps.Step.{Step}
+use Rattle.ason_base.proofs.Ordered.{any-there, in_order-has, there-any}
+use Rattle.ason_base.proofs.RisingNumbers.{nat_order}
+use Rattle.ason_base.proofs.RiskOrder.{contains-has_risk, has_risk-contains}
+use Rattle.ason_base.proofs.RiskUnion.{route_risks-are}
+use Rattle.mesh_rules.specs.Failures.{is_risk_of}
+use Rattle.mesh_nodes.proofs.routes.Lists.{contains-map}
+use Rattle.mesh_nodes.proofs.routes.Nodes.{find-there}
+use Rattle.mesh_laws.specs.AloneLaw.{is_on_link, is_on_route, is_risk_there, risk_of}
+use Rattle.mesh_laws.specs.RiskLaw.{rows_of}
+
+-- Tests of lists
+
+pub or-last : (a b : Bool) → b ≡ true → (a || b) ≡ true
+or-last true b e = refl
+or-last false b e = e
+
+pub found-passes : {X : Type 0} (p : X → Bool) (xs : List X) (x : X) → find p xs ≡ Some x → p x ≡ true
+found-passes p [] x e = cc
+found-passes p (y ∷ xs) x e = go (p y) refl e (found-passes p xs x)
+  where
+    go : (b : Bool) → p y ≡ b → cond b (Some y) (find p xs) ≡ Some x → (find p xs ≡ Some x → p x ≡ true) → p x ≡ true
+    go true test e later = let is : y ≡ x = cc e in subst (λ z. p z ≡ true) is test
+    go false test e later = later e
+
+-- Links
+
+-- an SRLG of a link, in whatever order these stand
+srlg-there : (s : ℕ) (srlgs : List ℕ) (more : List Risk) → list_any (λ r. nat_eq r s) srlgs ≡ true →
+    has_risk (map Srlg (in_order nat_lt srlgs) ++ more) (Srlg s) ≡ true
+srlg-there s srlgs more e =
+    let one = any-there (λ r. nat_eq r s) srlgs e in
+    let is : one.0 ≡ s = (let test = one.2 in grind arith) in
+    let there : Contains (in_order nat_lt srlgs) s =
+    (in_order-has nat_lt nat_order srlgs s).1 (subst (Contains srlgs) is one.1) in
+    contains-has_risk (map Srlg (in_order nat_lt srlgs) ++ more) (Srlg s)
+    (Contains-append_left (map Srlg (in_order nat_lt srlgs)) more (Srlg s)
+    (contains-map Srlg (in_order nat_lt srlgs) s there))
+
+link-there : (k l : LinkId) (srlgs : List ℕ) → nat_eq l.0 k.0 ≡ true →
+    has_risk (map Srlg srlgs ++ (Link l ∷ [])) (Link k) ≡ true
+link-there k l [] e = let same : nat_eq k.0 l.0 ≡ true = grind arith in rw same refl
+link-there k l (r ∷ srlgs) e = link-there k l srlgs e
+
+-- a group of a link is one of its risks
+pub group-risk : (g : Group) (l : LinkSpec) → is_risk_of l g ≡ true → has_risk (risks_of (row_of l)) (risk_of g) ≡ true
+group-risk (group.Srlg s) l e = srlg-there s l.srlgs (Link l.id ∷ []) e
+group-risk (group.Link k) l e = link-there k l.id (in_order nat_lt l.srlgs) e
+
+-- two links with one group share a risk
+pub common-risk : (g : Group) (l m : LinkSpec) → is_risk_of l g ≡ true → is_risk_of m g ≡ true →
+    shares_risk (Some l) (Some m) ≡ true
+common-risk (group.Srlg s) l m on_l on_m =
+    or-last (nat_eq l.id.0 m.id.0) _ (one l.srlgs on_l)
+  where
+    one : (srlgs : List ℕ) → list_any (λ r. nat_eq r s) srlgs ≡ true →
+        list_any (λ s. list_any (λ r. nat_eq r s) m.srlgs) srlgs ≡ true
+    one [] e = absurd (cc e)
+    one (r ∷ srlgs) e = go (nat_eq r s) refl e (one srlgs)
+      where
+        go : (b : Bool) → nat_eq r s ≡ b → (b || list_any (λ r. nat_eq r s) srlgs) ≡ true →
+            (list_any (λ r. nat_eq r s) srlgs ≡ true →
+            list_any (λ s. list_any (λ r. nat_eq r s) m.srlgs) srlgs ≡ true) →
+            (list_any (λ q. nat_eq q r) m.srlgs || list_any (λ s. list_any (λ r. nat_eq r s) m.srlgs) srlgs) ≡ true
+        go true test e later =
+            let is : r ≡ s = grind arith in
+            let here : list_any (λ q. nat_eq q r) m.srlgs ≡ true = rw is on_m in
+            rw here refl
+        go false test e later = or-last (list_any (λ q. nat_eq q r) m.srlgs) _ (later e)
+common-risk (group.Link k) l m on_l on_m = let same : nat_eq l.id.0 m.id.0 ≡ true = grind arith in rw same refl
+
+module _ (t : Network) (g : Group) where
+  -- the link that is found
+  pub link-found : (k : LinkId) → is_on_link t g k ≡ true → (l : LinkSpec) × (find_link t k ≡ Some l) ×
+      (is_risk_of l g ≡ true)
+  link-found k e = go (find_link t k) refl e
+    where
+      go : (c : Option LinkSpec) → find_link t k ≡ c → is_risk_there c g ≡ true → (l : LinkSpec) ×
+          (find_link t k ≡ Some l) × (is_risk_of l g ≡ true)
+      go None is e = absurd (cc e)
+      go (Some l) is e = (l, is, e)
+
+  -- Routes
+
+  pub recorded-risk : (route : List Step) → is_on_route t g route ≡ true →
+      has_risk (route_risks (rows_of t) route) (risk_of g) ≡ true
+  recorded-risk route e =
+      let hop = any-there (λ (h : Step). is_on_link t g h.link) route e in
+      let its = link-found hop.0.link hop.2 in
+      let l : LinkSpec = its.0 in
+      let there = find-there (λ m. nat_eq m.id.0 hop.0.link.0) t.links l its.1 in
+      let number : nat_eq l.id.0 hop.0.link.0 ≡ true =
+      found-passes (λ m. nat_eq m.id.0 hop.0.link.0) t.links l its.1 in
+      let same : l.id ≡ hop.0.link = (let n : l.id.0 ≡ hop.0.link.0 = grind arith in λ i. record { 0 = n i }) in
+      contains-has_risk (route_risks (rows_of t) route) (risk_of g)
+      ((route_risks-are (rows_of t) route (risk_of g)).1 (
+        row_of l,
+        hop.0,
+        contains-map row_of t.links l there,
+        hop.1,
+        same,
+        has_risk-contains (risks_of (row_of l)) (risk_of g) (group-risk g l its.2),
+      ))
+
+  pub not_beside : (a b : List Step) → routes_share_risk t a b ≡ false → is_on_route t g a ≡ true →
+      is_on_route t g b ≡ true → ⊥
+  not_beside a b apart on_a on_b =
+      let h = any-there (λ (x : Step). is_on_link t g x.link) a on_a in
+      let k = any-there (λ (x : Step). is_on_link t g x.link) b on_b in
+      let at_h = link-found h.0.link h.2 in
+      let at_k = link-found k.0.link k.2 in
+      let share : shares_risk (find_link t h.0.link) (find_link t k.0.link) ≡ true =
+      rw (at_h.1, at_k.1) (common-risk g at_h.0 at_k.0 at_h.2 at_k.2) in
+      let all : routes_share_risk t a b ≡ true =
+      there-any (λ (x : Step). list_any (λ (y : Step). shares_risk (find_link t x.link) (find_link t y.link)) b) a h.0
+      h.1 (there-any (λ (y : Step). shares_risk (find_link t h.0.link) (find_link t y.link)) b k.0 k.1 share) in
+      cc (all, apart)

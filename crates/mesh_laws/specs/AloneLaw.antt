@@ -1,0 +1,205 @@
+-- While one group alone fails after a calm state, no activation of a backup is refused: a label is shared by backups
+-- whose primaries have no risk in common, and all that is activated concerns the one group (RFC 4872, section 8).
+use Rattle.std.specs.Prelude.{◌≡◌, ◌≢◌, ◌&&◌, ℕ, Bool, true, false, not, List, [], ◌∷◌, ◌++◌, Option, Some, None, IsTrue}
+use Rattle.std.specs.List.{AllByRecursion, list_any}
+use Rattle.ason_base.specs.Codes.{busy_code}
+use Rattle.ason_base.specs.Network.{IsTopology, Network, find_link}
+use Rattle.ason_base.specs.Risks.{has_risk}
+use Rattle.ason_base.specs.declared.ids.Fibre.{Fibre}
+use Rattle.ason_base.specs.declared.ids.LinkId.{LinkId}
+use Rattle.ason_base.specs.declared.network.LinkSpec.{LinkSpec}
+use Rattle.ason_base.specs.declared.calls.CallState.TheVariants.{Stuck}
+use Rattle.ason_base.specs.declared.calls.Phase.{Phase}
+use Rattle.ason_base.specs.declared.calls.Phase.TheVariants.{Asked, Held, Armed, Live, Closing, Falling}
+use Rattle.ason_base.specs.declared.calls.Role.TheVariants as role
+use Rattle.ason_base.specs.declared.commands.Command.TheVariants.{Setup, Release, Protect, Retry, Revert, Fail, Repair}
+use Rattle.ason_base.specs.declared.commands.DeskItem.{DeskItem}
+use Rattle.ason_base.specs.declared.commands.DeskItem.TheVariants.{Order, Alarm, Clear}
+use Rattle.ason_base.specs.declared.commands.Group.{Group}
+use Rattle.ason_base.specs.declared.commands.Group.TheVariants as group
+use Rattle.ason_base.specs.declared.messages.Msg.{Msg}
+use Rattle.ason_base.specs.declared.messages.Msg.TheVariants.{Path, Resv, PathTear, PathErr, Notify}
+use Rattle.ason_base.specs.declared.messages.PathRole.{PathRole}
+use Rattle.ason_base.specs.declared.messages.PathRole.TheVariants.{Work, Back}
+use Rattle.ason_base.specs.declared.risks.Risk.{Risk}
+use Rattle.ason_base.specs.declared.risks.Risk.TheVariants as risk
+use Rattle.ason_base.specs.declared.steps.Step.{Step}
+use Rattle.ason_base.specs.declared.tables.CallRec.{CallRec}
+use Rattle.ason_base.specs.declared.tables.Leg.{Leg}
+use Rattle.ason_base.specs.declared.tables.Out.{Out}
+use Rattle.mesh_rules.specs.declared.events.MeshEvent.{MeshEvent}
+use Rattle.mesh_rules.specs.declared.events.MeshEvent.TheVariants.{Take, Desk, Tick, Learn, Post}
+use Rattle.mesh_rules.specs.Events.{IsRun, after, on_first, on_first_item, step}
+use Rattle.mesh_rules.specs.Failures.{is_risk_of}
+use Rattle.mesh_rules.specs.Learnt.{on_link}
+use Rattle.mesh_rules.specs.Legs.{is_in_use}
+use Rattle.mesh_rules.specs.LocalNodes.{local_node}
+use Rattle.mesh_rules.specs.Machine.{Mesh, start}
+use Rattle.mesh_rules.specs.Orders.{on_tick}
+use Rattle.mesh_rules.specs.Paths.{is_active}
+use Rattle.mesh_rules.specs.Reports.{same_code}
+use Rattle.mesh_rules.specs.State.{NodeState}
+
+-- A group
+
+abbrev pub risk_of : Group → Risk
+risk_of (group.Srlg s) = risk.Srlg s
+risk_of (group.Link k) = risk.Link k
+
+abbrev pub is_risk_there : Option LinkSpec → Group → Bool
+is_risk_there None g = false
+is_risk_there (Some l) g = is_risk_of l g
+
+-- the group is one of the risks of the network's link
+abbrev pub is_on_link : Network → Group → LinkId → Bool
+is_on_link t g k = is_risk_there (find_link t k) g
+
+-- or of a link of the route
+abbrev pub is_on_route : Network → Group → List Step → Bool
+is_on_route t g route = list_any (λ hop. is_on_link t g hop.link) route
+
+-- What concerns the group
+
+-- the recorded risks of a backup that is Armed or Live have it
+abbrev pub LegConcerns : Group → Leg → Type 0
+LegConcerns g b = b.role ≡ role.Back → IsTrue (is_in_use b.phase) → IsTrue (has_risk b.risks (risk_of g))
+
+abbrev pub FibreConcerns : Network → Group → Fibre → Type 0
+FibreConcerns t g f = IsTrue (is_on_link t g f.link)
+
+-- the fibres that are reported down are on its links, and the call isn't stuck
+pub record CallConcerns (t : Network) (g : Group) (c : CallRec) : Type 0 where
+  pub work_reports : AllByRecursion (FibreConcerns t g) c.work_reports
+  pub back_reports : AllByRecursion (FibreConcerns t g) c.back_reports
+  pub free : c.state ≢ Stuck
+
+-- of a Path that activates a backup, the primary's route
+abbrev pub RoleConcerns : Network → Group → PathRole → Type 0
+RoleConcerns t g (Work guard) = Unit {0}
+RoleConcerns t g (Back true work primary) = IsTrue (is_on_route t g primary)
+RoleConcerns t g (Back false work primary) = Unit {0}
+
+-- and of a Notify its link; and no PathErr without Path_State_Removed is under way
+abbrev pub MsgConcerns : Network → Group → Msg → Type 0
+MsgConcerns t g (Path l e k route set up r) = RoleConcerns t g r
+MsgConcerns t g (Resv l e k x) = Unit {0}
+MsgConcerns t g (PathTear l e k) = Unit {0}
+MsgConcerns t g (PathErr l e at true code) = Unit {0}
+MsgConcerns t g (PathErr l e at false code) = ⊥
+MsgConcerns t g (Notify l e at k code) = IsTrue (is_on_link t g k)
+
+abbrev pub ItemConcerns : Network → Group → DeskItem → Type 0
+ItemConcerns t g (Order c) = Unit {0}
+ItemConcerns t g (Alarm f) = FibreConcerns t g f
+ItemConcerns t g (Clear f) = FibreConcerns t g f
+
+pub record NodeConcerns (t : Network) (g : Group) (s : NodeState) : Type 0 where
+  pub legs : AllByRecursion (LegConcerns g) s.legs
+  pub calls : AllByRecursion (CallConcerns t g) s.calls
+  -- the fibres in that are known to be down
+  pub down : AllByRecursion (FibreConcerns t g) s.down
+
+-- everywhere in the mesh; and no other group has failed
+pub record AllConcern (t : Network) (g : Group) (s : Mesh) : Type 0 where
+  pub nodes : (n : ℕ) → NodeConcerns t g (s.nodes n)
+  pub desks : (n : ℕ) → AllByRecursion (ItemConcerns t g) (s.desks n)
+  pub mail : (u d : ℕ) → AllByRecursion (MsgConcerns t g) (s.mail u d)
+  pub failed : AllByRecursion (λ h. h ≡ g) s.failed
+
+-- Calm
+
+-- no activation has passed a backup's leg
+abbrev pub is_idle : Phase → Bool
+is_idle Asked = true
+is_idle Held = true
+is_idle Armed = false
+is_idle Live = false
+is_idle Closing = true
+is_idle Falling = false
+
+abbrev pub LegIsCalm : Leg → Type 0
+LegIsCalm g = g.role ≡ role.Back → IsTrue (is_idle g.phase)
+
+-- no fibre is reported down
+abbrev pub CallIsCalm : CallRec → Type 0
+CallIsCalm c = (c.work_reports ≡ []) × (c.back_reports ≡ [])
+
+-- no Path that activates, no PathErr without Path_State_Removed, and no Notify
+abbrev pub is_calm_msg : Msg → Bool
+is_calm_msg (Path l e k route set up r) = not (is_active r)
+is_calm_msg (Resv l e k x) = true
+is_calm_msg (PathTear l e k) = true
+is_calm_msg (PathErr l e at gone code) = gone
+is_calm_msg (Notify l e at k code) = false
+
+-- no alarm and no clear
+abbrev pub is_calm_item : DeskItem → Bool
+is_calm_item (Order c) = true
+is_calm_item (Alarm f) = false
+is_calm_item (Clear f) = false
+
+-- no group has failed, and nothing of an earlier failure is left
+pub record Calm (s : Mesh) : Type 0 where
+  pub failed : s.failed ≡ []
+  pub desks : (n : ℕ) → AllByRecursion (λ i. IsTrue (is_calm_item i)) (s.desks n)
+  pub down : (n : ℕ) → (s.nodes n).down ≡ []
+  pub reports : (n : ℕ) → AllByRecursion CallIsCalm (s.nodes n).calls
+  pub legs : (n : ℕ) → AllByRecursion LegIsCalm (s.nodes n).legs
+  pub mail : (u d : ℕ) → AllByRecursion (λ m. IsTrue (is_calm_msg m)) (s.mail u d)
+
+-- Alone
+
+-- no other group fails in this event
+abbrev pub FailsOnly : Group → MeshEvent → Type 0
+FailsOnly g (Take d u) = Unit {0}
+FailsOnly g (Desk n) = Unit {0}
+FailsOnly g (Tick n) = Unit {0}
+FailsOnly g (Learn n k) = Unit {0}
+FailsOnly g (Post (Setup n from to protected both via backup)) = Unit {0}
+FailsOnly g (Post (Release n from)) = Unit {0}
+FailsOnly g (Post (Protect n from)) = Unit {0}
+FailsOnly g (Post (Retry n from)) = Unit {0}
+FailsOnly g (Post (Revert n from)) = Unit {0}
+FailsOnly g (Post (Fail h)) = h ≡ g
+FailsOnly g (Post (Repair h)) = Unit {0}
+
+-- the first events lead to a calm state, and in the later ones only this group fails
+pub record Alone (t : Network) (before since : List MeshEvent) (g : Group) : Type 0 where
+  pub calm : Calm (after t start before)
+  pub only : AllByRecursion (FailsOnly g) since
+
+-- Refusals
+
+-- a PathErr without Path_State_Removed: a label of the backup is in use
+abbrev pub is_refusal : Msg → Bool
+is_refusal (Path l e k route set up r) = false
+is_refusal (Resv l e k x) = false
+is_refusal (PathTear l e k) = false
+is_refusal (PathErr l e at gone code) = not gone && same_code code busy_code
+is_refusal (Notify l e at k code) = false
+
+-- what a step sends
+abbrev pub sent_in : Network → Mesh → MeshEvent → List Out
+sent_in t s (Take d u) = (on_first (local_node t d) (s.nodes d.0) u (s.mail u.0 d.0)).sent
+sent_in t s (Desk n) = (on_first_item (local_node t n) (s.nodes n.0) (s.desks n.0)).sent
+sent_in t s (Tick n) = (on_tick (local_node t n) (s.nodes n.0)).sent
+sent_in t s (Learn n k) = (on_link (local_node t n) (s.nodes n.0) (find_link t k)).sent
+sent_in t s (Post c) = []
+
+-- in no step from here on an activation is refused, and no refusal is passed back
+abbrev pub NoneRefused : Network → Mesh → List MeshEvent → Type 0
+NoneRefused t s [] = Unit {0}
+NoneRefused t s (e ∷ es) =
+    AllByRecursion (λ o. is_refusal o.msg ≡ false) (sent_in t s e) × NoneRefused t (step t s e) es
+
+-- while the group alone has failed no activation is refused, and all that is activated, reported, under way or waiting
+-- for a failure concerns the group
+pub record IsAdmitted (t : Network) (before since : List MeshEvent) (g : Group) : Type 0 where
+  pub none_refused : NoneRefused t (after t start before) since
+  pub concerned : AllConcern t g (after t start (before ++ since))
+
+-- over every topology and every run, from each calm state of it on
+abbrev pub EveryActivationIsAdmitted : Type 0
+EveryActivationIsAdmitted =
+    (t : Network) (before since : List MeshEvent) (g : Group) → IsTopology t → IsRun t start (before ++ since) →
+    Alone t before since g → IsAdmitted t before since g
