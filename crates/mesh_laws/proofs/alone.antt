@@ -3,6 +3,8 @@ pub mod Facts
 pub mod Failures
 pub mod Fine
 pub mod Items
+pub mod Known
+pub mod Law
 pub mod Legs
 pub mod Messages
 pub mod Risks

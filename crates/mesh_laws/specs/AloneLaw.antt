@@ -163,8 +163,11 @@ FailsOnly g (Post (Revert n from)) = Unit {0}
 FailsOnly g (Post (Fail h)) = h ≡ g
 FailsOnly g (Post (Repair h)) = Unit {0}
 
--- the first events lead to a calm state, and in the later ones only this group fails
-pub record Alone (t : Network) (before since : List MeshEvent) (g : Group) : Type 0 where
+-- since a calm state of the run only this group failed
+pub record Alone (t : Network) (events : List MeshEvent) (g : Group) : Type 0 where
+  pub before : List MeshEvent
+  pub since : List MeshEvent
+  pub parts : before ++ since ≡ events
   pub calm : Calm (after t start before)
   pub only : AllByRecursion (FailsOnly g) since
 
@@ -192,14 +195,18 @@ NoneRefused t s [] = Unit {0}
 NoneRefused t s (e ∷ es) =
     AllByRecursion (λ o. is_refusal o.msg ≡ false) (sent_in t s e) × NoneRefused t (step t s e) es
 
--- while the group alone has failed no activation is refused, and all that is activated, reported, under way or waiting
--- for a failure concerns the group
-pub record IsAdmitted (t : Network) (before since : List MeshEvent) (g : Group) : Type 0 where
-  pub none_refused : NoneRefused t (after t start before) since
-  pub concerned : AllConcern t g (after t start (before ++ since))
+-- While one group alone has failed no activation is refused; and all that is activated, reported, under way or waiting
+-- for a failure concerns the group.
+abbrev pub ActivationsAreAdmitted : Network → List MeshEvent → Type 0
+ActivationsAreAdmitted t events =
+    (g : Group) (alone : Alone t events g) →
+    NoneRefused t (after t start alone.before) alone.since × AllConcern t g (after t start events)
 
--- over every topology and every run, from each calm state of it on
+-- over every topology and every run
 abbrev pub EveryActivationIsAdmitted : Type 0
 EveryActivationIsAdmitted =
-    (t : Network) (before since : List MeshEvent) (g : Group) → IsTopology t → IsRun t start (before ++ since) →
-    Alone t before since g → IsAdmitted t before since g
+    (t : Network) (events : List MeshEvent) → IsTopology t → IsRun t start events → ActivationsAreAdmitted t events
+
+-- every run begins with a calm state
+abbrev pub EveryRunStartsCalm : Type 0
+EveryRunStartsCalm = Calm start

@@ -217,14 +217,15 @@ abbrev pub EachKnows : Network → Type 0
 EachKnows t = (events : List MeshEvent) → IsRun t start events →
     MeshKnows t (route_of t start events) (after t start events)
 
-pub record Goes (t : Network) (g : Group) (before since : List MeshEvent) : Type 0 where
+-- from a state of the run on
+pub record KeptSince (t : Network) (g : Group) (before since : List MeshEvent) : Type 0 where
   pub none_refused : NoneRefused t (after t start before) since
   pub holds : MeshHolds t g (route_of t start (before ++ since)) (after t start (before ++ since))
 
 module _ (t : Network) (g : Group) (distinct : is_distinct (map (λ l. l.id.0) t.links) ≡ true) (knows : EachKnows t)
   where
   goes-on : (before since : List MeshEvent) → IsRun t start (before ++ since) → AllByRecursion (FailsOnly g) since →
-      MeshHolds t g (route_of t start before) (after t start before) → Goes t g before since
+      MeshHolds t g (route_of t start before) (after t start before) → KeptSince t g before since
   goes-on before [] run only old = record {
     none_refused = tt;
     holds = subst (λ es. MeshHolds t g (route_of t start es) (after t start es)) (sym (append-none before)) old;
@@ -249,7 +250,7 @@ module _ (t : Network) (g : Group) (distinct : is_distinct (map (λ l. l.id.0) t
       }
 
   pub from-calm : (before since : List MeshEvent) → IsRun t start (before ++ since) →
-      AllByRecursion (FailsOnly g) since → Calm (after t start before) → Goes t g before since
+      AllByRecursion (FailsOnly g) since → Calm (after t start before) → KeptSince t g before since
   from-calm before since run only calm =
       goes-on before since run only
       (calm-holds t g (route_of t start before) (after t start before)
@@ -269,7 +270,7 @@ mesh-concerns t g o s holds = record {
   failed = holds.failed;
 }
 
-pub all-concern : (t : Network) (g : Group) (before since : List MeshEvent) → Goes t g before since →
+pub all-concern : (t : Network) (g : Group) (before since : List MeshEvent) → KeptSince t g before since →
     AllConcern t g (after t start (before ++ since))
-all-concern t g before since goes =
-    mesh-concerns t g (route_of t start (before ++ since)) (after t start (before ++ since)) goes.holds
+all-concern t g before since kept =
+    mesh-concerns t g (route_of t start (before ++ since)) (after t start (before ++ since)) kept.holds

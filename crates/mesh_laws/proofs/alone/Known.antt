@@ -1,0 +1,177 @@
+-- What an activation needs to know of a state is told by the laws of every run.
+use Rattle.std.proofs.Common.{◌≡◌, ℕ, suc, Bool, true, false, not, List, [], ◌∷◌, sym, ap, ◌∙◌, subst, inl, inr}
+use Rattle.std.specs.Prelude.{◌⊎◌, Option, Some, None}
+use Rattle.std.proofs.lemmas.List.Elements.{recursion_from_All}
+use Rattle.ason_base.specs.Network.{Network}
+use Rattle.ason_base.specs.Risks.{route_risks}
+use Rattle.ason_base.specs.Routes.{makes_route, routes_share_risk}
+use Rattle.ason_base.specs.declared.ids.LinkId.{LinkId}
+use Rattle.ason_base.specs.declared.ids.Lsp.{Lsp}
+use Rattle.ason_base.specs.declared.ids.NodeId.{NodeId}
+use Rattle.ason_base.specs.declared.steps.Step.{Step}
+use Rattle.ason_base.specs.declared.calls.CallState.{CallState}
+use Rattle.ason_base.specs.declared.calls.CallState.TheVariants.{Stuck}
+use Rattle.ason_base.specs.declared.calls.Role.{Role}
+use Rattle.ason_base.specs.declared.calls.Role.TheVariants as role
+use Rattle.ason_base.specs.declared.messages.Msg.{Msg}
+use Rattle.ason_base.specs.declared.messages.Msg.TheVariants.{Path, Resv, PathTear, PathErr, Notify}
+use Rattle.ason_base.specs.declared.messages.PathRole.{PathRole}
+use Rattle.ason_base.specs.declared.messages.PathRole.TheVariants.{Work, Back}
+use Rattle.ason_base.specs.declared.tables.CallRec.{CallRec}
+use Rattle.ason_base.specs.declared.tables.Leg.{Leg}
+use Rattle.mesh_rules.specs.declared.events.MeshEvent.{MeshEvent}
+use Rattle.mesh_rules.specs.Commands.{is_searchable}
+use Rattle.mesh_rules.specs.Events.{after, route_of}
+use Rattle.mesh_rules.specs.Legs.{find_leg, previous}
+use Rattle.mesh_rules.specs.LocalNodes.{local_node}
+use Rattle.mesh_rules.specs.Machine.{Mesh, start}
+use Rattle.mesh_rules.specs.Pairs.{route_from}
+use Rattle.mesh_rules.specs.Turns.{has_any}
+use Rattle.mesh_nodes.proofs.CallList.{all-calls_found, found-call-all}
+use Rattle.mesh_nodes.proofs.Cases.{both_left, both_right, not-true}
+use Rattle.mesh_nodes.proofs.LegList.{found-all, found-lsp, same_lsp-refl}
+use Rattle.mesh_laws.specs.BesideLaw.{BackupsGoBeside, CallGoesBeside, GoBeside}
+use Rattle.mesh_laws.specs.CallLaw.{FitsLegs, IsNamed, fits_reports}
+use Rattle.mesh_laws.specs.HopLaw.{leg_at, mail_between}
+use Rattle.mesh_laws.specs.RiskLaw.{BackupsRecordRisks, RecordsRisks, rows_of}
+use Rattle.mesh_laws.proofs.alone.Facts.{CallKnows, MeshKnows, MsgKnows, NodeKnows, Records, Routes}
+use Rattle.mesh_laws.proofs.hops.Chain.{LegFits, OnRoute, RisksFit}
+use Rattle.mesh_laws.proofs.hops.Paired.{no_previous, whole-route}
+use Rattle.mesh_laws.proofs.hops.Planned.{EachFollows, Follows, Planned}
+use Rattle.mesh_laws.proofs.hops.Plans.{Plan, node_at, plan, same_node}
+use Rattle.mesh_laws.proofs.hops.Rest.{Carries, Guards, Purpose, Tells, role_of}
+use Rattle.mesh_laws.proofs.hops.Rows.{no_active_up}
+use Rattle.mesh_laws.proofs.hops.Taken.{down_hop, mine, up_hop}
+use Rattle.mesh_laws.proofs.nodes.CallParts.{named-lsp}
+use Rattle.mesh_laws.proofs.nodes.Facts.{MeshFacts}
+
+-- A Path that activates
+
+-- It comes down the route of its LSP, and tells the same as the leg that it comes to.
+module _ (t : Network) (s : Mesh) (o : Routes) (searchable : is_searchable t ≡ true) (follows : EachFollows t s o) where
+  told : (q : Purpose) (b : Leg) (work : ℕ) (primary : List Step) → Tells q (Back true work primary) →
+      RisksFit t q b.risks → b.risks ≡ route_risks (rows_of t) primary
+  told Carries b work primary tells risks = absurd tells
+  told (Guards w route) b work primary tells risks = risks searchable ∙ ap (route_risks (rows_of t)) (sym tells.1)
+
+  module _ (l : Lsp) (e : NodeId) (k : LinkId) (steps : List Step) (set : List ℕ) (up : Option ℕ) (work : ℕ)
+      (primary : List Step) (rest : List Msg) (b : Leg) where
+    abbrev m : Msg
+    m = Path l e k steps set up (Back true work primary)
+
+    on_way : (u d : NodeId) (q : Purpose) (p : Plan) → Planned t s o l q p → s.mail u.0 d.0 ≡ m ∷ rest →
+        find_leg l (s.nodes d.0).legs ≡ Some b → (mail_between s l u d ≡ []) ⊎ OnRoute p u d →
+        b.risks ≡ route_risks (rows_of t) primary
+    on_way u d q p planned was here (inl none) =
+        let some = mine s l u d m rest was (same_lsp-refl l) in absurd (cc (none, some))
+    on_way u d q p planned was here (inr (i, below, inl (at_u, at_d))) =
+        let u_is = same_node u (node_at p i) at_u in
+        let d_is = same_node d (node_at p (suc i)) at_d in
+        let there : s.mail (node_at p i).0 (node_at p (suc i)).0 ≡ m ∷ rest = rw (u_is, d_is) at was in
+        let stands : leg_at s l (node_at p (suc i)) ≡ Some b = rw d_is at here in
+        let hop = down_hop t q s l p i planned.route planned.chain below m rest there (same_lsp-refl l) in
+        let fits : LegFits t q l p (suc i) b = rw stands at (planned.chain.fits (suc i) below) in
+        told q b work primary hop.rest.going_down.0.3 fits.risks
+    on_way u d q p planned was here (inr (i, below, inr (at_u, at_d))) =
+        let u_is = same_node u (node_at p (suc i)) at_u in
+        let d_is = same_node d (node_at p i) at_d in
+        let there : s.mail (node_at p (suc i)).0 (node_at p i).0 ≡ m ∷ rest = rw (u_is, d_is) at was in
+        absurd (no_active_up (role_of q) _ _ _ _
+        (up_hop t q s l p i planned.route planned.chain below m rest there (same_lsp-refl l)).shape)
+
+    first-knows : (u d : NodeId) → s.mail u.0 d.0 ≡ m ∷ rest → find_leg l (s.nodes d.0).legs ≡ Some b →
+        b.risks ≡ route_risks (rows_of t) primary
+    first-knows u d was here = go (o l) (follows l)
+      where
+        go : (c : Option (List Step)) → Follows t s o l c → b.risks ≡ route_risks (rows_of t) primary
+        go None f = let none = f.legs d in absurd (cc (none, here))
+        go (Some route) (e, q, planned) =
+            on_way u d q (plan route e) planned was here (planned.chain.ways u d)
+
+  pub msg-knows : (u d : NodeId) (m : Msg) (ms : List Msg) → s.mail u.0 d.0 ≡ m ∷ ms → MsgKnows t (s.nodes d.0) m
+  msg-knows u d (Path l e k route set up (Work guard)) ms was = tt
+  msg-knows u d (Path l e k route set up (Back true work primary)) ms was =
+      λ b here back. first-knows l e k route set up work primary ms b u d was here
+  msg-knows u d (Path l e k route set up (Back false work primary)) ms was = tt
+  msg-knows u d (Resv l e k x) ms was = tt
+  msg-knows u d (PathTear l e k) ms was = tt
+  msg-knows u d (PathErr l e at gone code) ms was = tt
+  msg-knows u d (Notify l e at k code) ms was = tt
+
+-- Legs and calls
+
+module _ (t : Network) (events : List MeshEvent) (facts : MeshFacts t (after t start events))
+    (follows : EachFollows t (after t start events) (route_of t start events)) (risks : BackupsRecordRisks t events)
+    (beside : BackupsGoBeside t events) where
+  abbrev s : Mesh
+  s = after t start events
+
+  abbrev o : Routes
+  o = route_of t start events
+
+  -- the leg of an LSP that a call names
+  named-role : (n next : ℕ) (legs : List Leg) (r : Role) (e : NodeId) (l : Lsp) (b : Leg) → IsNamed n next legs r e l →
+      find_leg l legs ≡ Some b → b.role ≡ r
+  named-role n next legs r e l b named here =
+      let is : named.leg.0 ≡ b = (let there = named.leg.1 in cc (there, here)) in
+      subst (λ (x : Leg). x.role ≡ r) is named.leg.2
+
+  apart-risks : (e : NodeId) (w l : Lsp) (primary backup : List Step) → GoBeside t events e w l → o w ≡ Some primary →
+      o l ≡ Some backup → routes_share_risk t primary backup ≡ false
+  apart-risks e w l primary backup go sent sent' =
+      let this : go.primary ≡ primary = (let was = go.work_sent in cc (was, sent)) in
+      let that : go.backup ≡ backup = (let was = go.back_sent in cc (was, sent')) in
+      let both = both_left (not (routes_share_risk t go.primary go.backup)) _
+          (both_right (makes_route t l.ingress e go.backup) _ go.beside) in
+      subst (λ x. routes_share_risk t primary x ≡ false) that
+      (subst (λ x. routes_share_risk t x go.backup ≡ false) this
+      (not-true (routes_share_risk t go.primary go.backup) both))
+
+  stuck-reports : (state : CallState) (works backs : Bool) → state ≡ Stuck → fits_reports state works backs ≡ true →
+      works ≡ true
+  stuck-reports state works backs is fits = rw is at fits
+
+  call-knows : (n : ℕ) (c : CallRec) → FitsLegs n (s.nodes n).lsp (s.nodes n).legs c → CallGoesBeside t events c →
+      CallKnows t o (s.nodes n).legs c
+  call-knows n c fits goes = record {
+    work_role = λ w b is here. named-role n (s.nodes n).lsp (s.nodes n).legs role.Work c.egress w b
+        (named-lsp n (s.nodes n).lsp (s.nodes n).legs role.Work c.egress c.work w fits.work is) here;
+    back_role = λ l b is here. named-role n (s.nodes n).lsp (s.nodes n).legs role.Back c.egress l b
+        (named-lsp n (s.nodes n).lsp (s.nodes n).legs role.Back c.egress c.back l fits.back is) here;
+    guards = fits.guards;
+    apart = λ w l primary backup is_work is_back sent sent'.
+        apart-risks c.egress w l primary backup (goes w l is_work is_back) sent sent';
+    stuck = λ is. stuck-reports c.state (has_any c.work_reports) (has_any c.back_reports) is fits.reports;
+  }
+
+  records : (b : Leg) (r : PathRole) → RecordsRisks t events b r → Records t o b r
+  records b (Work guard) its = its
+  records b (Back active work primary) its = (its.sent, its.risks)
+
+  begins : (n : NodeId) (l : Lsp) (b : Leg) → find_leg l (s.nodes n.0).legs ≡ Some b → previous b ≡ None →
+      o b.lsp ≡ Some (route_from (local_node t n) b)
+  begins n l b here first =
+      let stands : leg_at s b.lsp n ≡ Some b =
+      subst (λ k. leg_at s k n ≡ Some b) (sym (found-lsp l (s.nodes n.0).legs b here)) here in
+      whole-route t s o b.lsp n b (o b.lsp) (follows b.lsp)
+      (no_previous t s o b.lsp n b (o b.lsp) (follows b.lsp) stands first) stands
+
+  node-knows : (n : NodeId) → NodeKnows t o (local_node t n) (s.nodes n.0)
+  node-knows n =
+      let its = facts.node n.0 in
+      record {
+        rise = its.legs_rise;
+        labels = its.labels;
+        records = λ l b here back. records b b.path_role
+            (found-all (λ x. x.role ≡ role.Back → RecordsRisks t events x x.path_role) l (s.nodes n.0).legs b here
+            (recursion_from_All (λ x. x.role ≡ role.Back → RecordsRisks t events x x.path_role) (s.nodes n.0).legs
+            (risks n.0)) back);
+        begins = begins n;
+        calls = all-calls_found (CallKnows t o (s.nodes n.0).legs) (s.nodes n.0).calls its.calls_rise
+            (λ k c found. call-knows n.0 c (its.call k c found)
+            (found-call-all (CallGoesBeside t events) k (s.nodes n.0).calls c found
+            (recursion_from_All (CallGoesBeside t events) (s.nodes n.0).calls (beside.calls n.0))));
+      }
+
+  pub mesh-knows : is_searchable t ≡ true → MeshKnows t o s
+  mesh-knows searchable = record { nodes = node-knows; firsts = msg-knows t s o searchable follows }
