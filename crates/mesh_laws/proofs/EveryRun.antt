@@ -5,6 +5,7 @@ use Rattle.mesh_rules.specs.declared.events.MeshEvent.{MeshEvent}
 use Rattle.mesh_rules.specs.Machine.{Mesh, start}
 use Rattle.mesh_rules.specs.Events.{IsRun, step}
 use Rattle.mesh_laws.specs.Laws.{EveryRunKeepsTheLaws, LawsHold}
+use Rattle.mesh_laws.proofs.alone.Law.{every_activation_admitted}
 use Rattle.mesh_laws.proofs.hops.Beside.{every_backup_beside}
 use Rattle.mesh_laws.proofs.hops.Joined.{every_call_joined}
 use Rattle.mesh_laws.proofs.hops.Laws.{every_hop}
@@ -26,6 +27,7 @@ laws_hold t events run =
       learnt = every_learnt_row t events run;
       beside = every_backup_beside t events run;
       risks = λ valid. every_backup_records t events valid run;
+      admitted = λ valid. every_activation_admitted t events valid run;
     }
 
 run_so_far : (t : Network) (s : Mesh) (events later : List MeshEvent) → IsRun t s (events ++ later) → IsRun t s events

@@ -5,6 +5,7 @@ use Rattle.ason_base.specs.Network.{IsTopology, Network}
 use Rattle.mesh_rules.specs.declared.events.MeshEvent.{MeshEvent}
 use Rattle.mesh_rules.specs.Machine.{start}
 use Rattle.mesh_rules.specs.Events.{IsRun, after, route_of}
+use Rattle.mesh_laws.specs.AloneLaw.{ActivationsAreAdmitted}
 use Rattle.mesh_laws.specs.BesideLaw.{BackupsGoBeside}
 use Rattle.mesh_laws.specs.CallLaw.{CallsFit}
 use Rattle.mesh_laws.specs.HopLaw.{HasOneLegEach, LspFits}
@@ -34,6 +35,8 @@ pub record LawsHold (t : Network) (events : List MeshEvent) : Type 0 where
   pub beside : BackupsGoBeside t events
   -- over a topology each backup's leg records the risks of the working LSP's route
   pub risks : IsTopology t → BackupsRecordRisks t events
+  -- and while one group alone has failed no activation is refused
+  pub admitted : IsTopology t → ActivationsAreAdmitted t events
 
 -- over every network and every run
 abbrev pub EveryRunKeepsTheLaws : Type 0

@@ -1,5 +1,6 @@
 //! Laws over every run of the mesh.
 
+ghost use Rattle.mesh_laws.specs.AloneLaw.{EveryActivationIsAdmitted, EveryRunStartsCalm};
 ghost use Rattle.mesh_laws.specs.BesideLaw.{EveryBackupGoesBeside};
 ghost use Rattle.mesh_laws.specs.CallLaw.{EveryCallFitsItsLegs};
 ghost use Rattle.mesh_laws.specs.HopLaw.{EveryHopHasAShape};
@@ -21,7 +22,10 @@ ghost use Rattle.mesh_laws.specs.SafeLaw.{EveryRunIsSafe};
 /// end, has no risk in common with that of the working LSP which its call has, or had, and shares no node with it between the
 /// ends. What a node learnt of links are rows of the network; over a topology routes can be asked of what it knows.
 /// Over a topology the leg of a backup, at any node, records the risks of the route of the working LSP that its Path names, also
-/// where that LSP is gone. The last clause says all but the searching of one state, in one word.
+/// where that LSP is gone. A state is calm where no group has failed and nothing of an earlier failure is left, as at the start.
+/// Over a topology, while since a calm state one group alone has failed, no activation of a backup is refused, no call is
+/// stuck, and all that is activated, reported, under way or waiting for a failure concerns that group. The last clause says all
+/// but the searching of one state, in one word.
 pub fn every_run()
     ensures labels { EveryLabelIsShared }
     ensures labelled { EveryLiveLegIsLabelled }
@@ -33,6 +37,8 @@ pub fn every_run()
     ensures searchable { EveryNodeCanSearch }
     ensures beside { EveryBackupGoesBeside }
     ensures risks { EveryBackupRecordsItsRisks }
+    ensures calm { EveryRunStartsCalm }
+    ensures admitted { EveryActivationIsAdmitted }
     ensures together { EveryRunKeepsTheLaws }
 {}
 

@@ -1,4 +1,5 @@
 use Rattle.mesh_laws.proofs.EveryRun.{laws_hold}
+use Rattle.mesh_laws.proofs.alone.Law.{every_activation_admitted, run_starts_calm}
 use Rattle.mesh_laws.proofs.hops.Beside.{every_backup_beside}
 use Rattle.mesh_laws.proofs.hops.Joined.{every_call_joined}
 use Rattle.mesh_laws.proofs.hops.Laws.{every_hop}
@@ -37,6 +38,12 @@ returns-clause-beside c = every_backup_beside
 
 pub returns-clause-risks : goal.returns-clause-risks
 returns-clause-risks c = every_backup_records
+
+pub returns-clause-calm : goal.returns-clause-calm
+returns-clause-calm c = run_starts_calm
+
+pub returns-clause-admitted : goal.returns-clause-admitted
+returns-clause-admitted c = every_activation_admitted
 
 pub returns-clause-together : goal.returns-clause-together
 returns-clause-together c = laws_hold
