@@ -105,8 +105,8 @@ module _ (legs : List Leg) (o : List FibreClaims) (l : Lsp) (g : Leg) (fits : Cl
   pub phase-may : (q : Phase) → is_beyond_asked q ≡ true → Alone q → MayAllStay legs (change.Put (with_phase q g) ∷ [])
   phase-may q after alone = (
     subst (StaysAs legs (with_phase q g))
-    (sym (ap (λ b. cond b (taken_over g.in_fibre g.in_label) None) after))
-    (stays q g.in_fibre g.in_label refl refl alone),
+        (sym (ap (λ b. cond b (taken_over g.in_fibre g.in_label) None) after))
+        (stays q g.in_fibre g.in_label refl refl alone),
     tt,
   )
 

@@ -45,9 +45,7 @@ fn contends_leg(tables: &NodeTables, from: NodeId, lsp: Lsp) -> bool
 {
     match tables.get(&lsp) {
         None => false,
-        Some(leg) => {
-            is_node(following(leg), from) && is_armed(leg.phase) && begins_here(leg)
-        }
+        Some(leg) => { is_node(following(leg), from) && is_armed(leg.phase) && begins_here(leg) }
     }
 }
 

@@ -18,12 +18,7 @@ use mesh_rules::Arrival;
 use std::alloc::Global;
 
 // Another leg on the label is in use: the sender is told, and the leg stays.
-fn refuse(
-    alloc: Global,
-    tables: &NodeTables,
-    leg: &Leg,
-    to: NodeId,
-) -> Result<Change, OutOfMemory>
+fn refuse(alloc: Global, tables: &NodeTables, leg: &Leg, to: NodeId) -> Result<Change, OutOfMemory>
     ensures { IfOk result (λ c. c ≡ busy_here tables.now leg.now to) }
 {
     let msg = Msg::PathErr {
@@ -98,8 +93,7 @@ fn on_path(
         Some(leg)
             if is_active(role)
                 && is_held(leg.phase)
-                && is_over(previous(leg), arrival.from, arrival.link) =>
-        {
+                && is_over(previous(leg), arrival.from, arrival.link) => {
             activate_leg(alloc, tables, owner, arrival, role, leg)
         }
         _ => Ok(Change::nothing(alloc)),

@@ -179,7 +179,7 @@ module _ (before t : LegTable) (c : CallTable) (u : NodeId) (l : Lsp) (e : NodeI
             })
             by_kind false other =
                 let armed : is_confirmed a x g ≡ true =
-                    ap (λ b. b || is_confirmed a x g) (sym other) ∙ both_right (begins_at (previous g)) _ applies in
+                ap (λ b. b || is_confirmed a x g) (sym other) ∙ both_right (begins_at (previous g)) _ applies in
                 confirms g (both_left (is_armed g.phase) _ armed) (record {
                   found = found;
                   first = first;

@@ -222,8 +222,8 @@ module _ (before : LegTable) (c : CallTable) (u : NodeId) (fits : IngressFits be
     pub armed-role : (d : CallRec) → call_with h.lsp c.calls ≡ Some d → is_armed g.phase ≡ true → h.role ≡ Back
     armed-role d named armed =
         let n = named-as p.id.0 c.lsp after.legs d h.lsp
-            (found-one (NamesByRole p.id.0 c.lsp after.legs) (names h.lsp) c.calls d named names-after)
-            (called-names h.lsp c.calls d named) in
+        (found-one (NamesByRole p.id.0 c.lsp after.legs) (names h.lsp) c.calls d named names-after)
+        (called-names h.lsp c.calls d named) in
         became.role
         ∙ found-all (IsArmedAsBackup p.id.0) l before.legs g became.found fits.armed
         (ap (λ (k : Lsp). k.ingress.0) (sym became.lsp) ∙ n.ingress) armed
@@ -233,7 +233,7 @@ module _ (before : LegTable) (c : CallTable) (u : NodeId) (fits : IngressFits be
         Stays p (state_of after c) a → Follows before after c u m
     leg-follows whole part stays =
         let state : changed s (whole_answer before c u m) ≡ changed (state_of after c) (answer_here after c m) =
-            ap (changed s) (whole ∙ became.whole) ∙ puts-then s h a ∙ ap (changed (state_of after c)) (sym part) in
+        ap (changed s) (whole ∙ became.whole) ∙ puts-then s h a ∙ ap (changed (state_of after c)) (sym part) in
         record {
           links = fits.links;
           known = fits.rows;

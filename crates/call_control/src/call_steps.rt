@@ -13,9 +13,7 @@ use crate::call_states::{bare, blocked, guarded, is_asking, is_turning, stuck, t
 use crate::pairs::{PairRequest, leave_bare, pair};
 use crate::turns::decide;
 use ason_base::codes::BUSY;
-use ason_base::{
-    CallRec, CallState, Cause, Copied, ErrCode, Leg, Lsp, OutOfMemory, Role, Steps,
-};
+use ason_base::{CallRec, CallState, Cause, Copied, ErrCode, Leg, Lsp, OutOfMemory, Role, Steps};
 use leg_table::one_leg::is_work;
 use leg_table::{Calls, Change, NodeTables};
 use std::alloc::Global;

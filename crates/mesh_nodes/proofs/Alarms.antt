@@ -69,10 +69,10 @@ module _ (p : LocalNode) (s : NodeState) (f : Fibre) (W : Type 0) (fits : NodeFi
     near = notices-near p s.lsp f code s.legs fits.legs.each;
     written = λ w. notices-written p s.lsp f code s.legs fits.legs.each;
     few = (
-      let told = notices-few p s.lsp f code s.legs fits.legs.each in
-      let most : length s.legs ≤ MOST_LEGS = fits.legs.few in
-      omega arith
-    );
+        let told = notices-few p s.lsp f code s.legs fits.legs.each in
+        let most : length s.legs ≤ MOST_LEGS = fits.legs.few in
+        omega arith
+        );
   }
 
   pub alarm-fits : AnswerFits p s W (on_alarm p s f)

@@ -50,64 +50,64 @@ path-sent p next b (Some h) fits begins is = record {
 
 -- s is what the rule reads; these legs stand when it is carried out
 module _ (p : LocalNode) (s : NodeState) (legs : List Leg) (W : Type 0) (fits : NodeFits p (record s { legs = legs }))
-    where
-  pub put-fits : (c : CallRec) → CallFits p c → AnswerFits p (record s { legs = legs }) W (call_put c)
-  put-fits c here = record {
-    kept = record {
-      legs = fits.legs;
-      calls = calls-put p c s.calls fits.calls here;
-      first = fits.first;
-      numbers = fits.numbers;
-    };
-    near = tt;
-    written = λ x. tt;
-    few = omega arith;
-  }
+  where
+    pub put-fits : (c : CallRec) → CallFits p c → AnswerFits p (record s { legs = legs }) W (call_put c)
+    put-fits c here = record {
+      kept = record {
+        legs = fits.legs;
+        calls = calls-put p c s.calls fits.calls here;
+        first = fits.first;
+        numbers = fits.numbers;
+      };
+      near = tt;
+      written = λ x. tt;
+      few = omega arith;
+    }
 
-  arms-fit : (c : CallRec) (b : Leg) → CallFits p c → BeginsHere p legs b → is_held b.phase ≡ true →
-      AnswerFits p (record s { legs = legs }) W (arms c b)
-  arms-fit c b here stands held =
-      let leg : LegFits p s.lsp b = found-all (LegFits p s.lsp) b.lsp legs b stands.found fits.legs.each in
-      let sent = path-sent p s.lsp b (following b) leg stands.begins refl in
-      record {
-        kept = record {
-          legs =
-              legs-changed p s.lsp (with_phase Armed b) b legs fits.legs stands.found
-              (phase-fits p s.lsp Armed b leg (held-beyond b.phase held));
-          calls =
-              calls-put p (turning c) s.calls fits.calls
-              (record { backup = here.backup; work = here.work; back = here.back });
-          first = fits.first;
-          numbers = fits.numbers;
-        };
-        near = sent.near;
-        written = λ w. sent.written;
-        few = (let few = sent.few in omega arith);
-      }
+    arms-fit : (c : CallRec) (b : Leg) → CallFits p c → BeginsHere p legs b → is_held b.phase ≡ true →
+        AnswerFits p (record s { legs = legs }) W (arms c b)
+    arms-fit c b here stands held =
+        let leg : LegFits p s.lsp b = found-all (LegFits p s.lsp) b.lsp legs b stands.found fits.legs.each in
+        let sent = path-sent p s.lsp b (following b) leg stands.begins refl in
+        record {
+          kept = record {
+            legs =
+                legs-changed p s.lsp (with_phase Armed b) b legs fits.legs stands.found
+                (phase-fits p s.lsp Armed b leg (held-beyond b.phase held));
+            calls =
+                calls-put p (turning c) s.calls fits.calls
+                (record { backup = here.backup; work = here.work; back = here.back });
+            first = fits.first;
+            numbers = fits.numbers;
+          };
+          near = sent.near;
+          written = λ w. sent.written;
+          few = (let few = sent.few in omega arith);
+        }
 
-  pub turn-fits : (c : CallRec) (o : Option Leg) → CallFits p c → IfSome o (BeginsHere p legs) →
-      AnswerFits p (record s { legs = legs }) W (turn c o)
-  turn-fits c None here stands = put-fits c here
-  turn-fits c (Some b) here stands =
-      if_cases (AnswerFits p (record s { legs = legs }) W) (is_held b.phase) _ _ (λ e. arms-fit c b here stands e)
-      (λ e. put-fits c here)
+    pub turn-fits : (c : CallRec) (o : Option Leg) → CallFits p c → IfSome o (BeginsHere p legs) →
+        AnswerFits p (record s { legs = legs }) W (turn c o)
+    turn-fits c None here stands = put-fits c here
+    turn-fits c (Some b) here stands =
+        if_cases (AnswerFits p (record s { legs = legs }) W) (is_held b.phase) _ _ (λ e. arms-fit c b here stands e)
+        (λ e. put-fits c here)
 
-  decided-fits : (c : CallRec) (o : Option Leg) (state : CallState) (works backs : Bool) → CallFits p c →
-      IfSome o (BeginsHere p legs) → AnswerFits p (record s { legs = legs }) W (decided c o state works backs)
-  decided-fits c o Asking works backs here stands = put-fits c here
-  decided-fits c o Blocked works backs here stands = put-fits c here
-  decided-fits c o Bare works backs here stands = put-fits c here
-  decided-fits c o Pairing works backs here stands = put-fits c here
-  decided-fits c o Guarded true false here stands = turn-fits c o here stands
-  decided-fits c o Guarded true true here stands =
-      put-fits (stuck c BackDown) (record { backup = here.backup; work = here.work; back = here.back })
-  decided-fits c o Guarded false backs here stands = put-fits c here
-  decided-fits c o Turning works backs here stands = put-fits c here
-  decided-fits c o Turned works backs here stands = put-fits c here
-  decided-fits c o Stuck true backs here stands = put-fits c here
-  decided-fits c o Stuck false backs here stands =
-      put-fits (guarded c) (record { backup = here.backup; work = here.work; back = here.back })
+    decided-fits : (c : CallRec) (o : Option Leg) (state : CallState) (works backs : Bool) → CallFits p c →
+        IfSome o (BeginsHere p legs) → AnswerFits p (record s { legs = legs }) W (decided c o state works backs)
+    decided-fits c o Asking works backs here stands = put-fits c here
+    decided-fits c o Blocked works backs here stands = put-fits c here
+    decided-fits c o Bare works backs here stands = put-fits c here
+    decided-fits c o Pairing works backs here stands = put-fits c here
+    decided-fits c o Guarded true false here stands = turn-fits c o here stands
+    decided-fits c o Guarded true true here stands =
+        put-fits (stuck c BackDown) (record { backup = here.backup; work = here.work; back = here.back })
+    decided-fits c o Guarded false backs here stands = put-fits c here
+    decided-fits c o Turning works backs here stands = put-fits c here
+    decided-fits c o Turned works backs here stands = put-fits c here
+    decided-fits c o Stuck true backs here stands = put-fits c here
+    decided-fits c o Stuck false backs here stands =
+        put-fits (guarded c) (record { backup = here.backup; work = here.work; back = here.back })
 
-  pub decide-fits : (c : CallRec) (o : Option Leg) → CallFits p c → IfSome o (BeginsHere p legs) →
-      AnswerFits p (record s { legs = legs }) W (decide c o)
-  decide-fits c o here stands = decided-fits c o c.state (has_any c.work_reports) (has_any c.back_reports) here stands
+    pub decide-fits : (c : CallRec) (o : Option Leg) → CallFits p c → IfSome o (BeginsHere p legs) →
+        AnswerFits p (record s { legs = legs }) W (decide c o)
+    decide-fits c o here stands = decided-fits c o c.state (has_any c.work_reports) (has_any c.back_reports) here stands

@@ -26,11 +26,7 @@ fn has_group(groups: &[Group], group: Group) -> bool
 }
 
 // These groups and this one, once.
-fn with_group(
-    alloc: Global,
-    groups: &[Group],
-    group: Group,
-) -> Result<Vec<Group>, OutOfMemory>
+fn with_group(alloc: Global, groups: &[Group], group: Group) -> Result<Vec<Group>, OutOfMemory>
     ensures { IfOk result (λ v. v.items ≡ with_group group groups.now) }
 {
     let mut all = Vec::from_slice(alloc, groups)?;
@@ -41,11 +37,7 @@ fn with_group(
 }
 
 // These groups but this one.
-fn without_group(
-    alloc: Global,
-    groups: &[Group],
-    group: Group,
-) -> Result<Vec<Group>, OutOfMemory>
+fn without_group(alloc: Global, groups: &[Group], group: Group) -> Result<Vec<Group>, OutOfMemory>
     ensures { IfOk result (λ v. v.items ≡ without_group group groups.now) }
 {
     let mut others = Vec::new(alloc);
@@ -95,17 +87,16 @@ pub fn is_cut(failed: &[Group], link: &LinkSpec) -> bool
 fn news(cut: bool, fibre: Fibre) -> DeskItem
     ensures { result ≡ news cut fibre }
 {
-    if cut { DeskItem::Alarm(fibre) } else { DeskItem::Clear(fibre) }
+    if cut {
+        DeskItem::Alarm(fibre)
+    } else {
+        DeskItem::Clear(fibre)
+    }
 }
 
 /// What the node is told of the link where other groups have failed than before: that the fibre which comes in there went down or
 /// is up again. Nothing where the link is cut as before, or is none of the node.
-pub fn news_of(
-    before: &[Group],
-    after: &[Group],
-    node: NodeId,
-    link: &LinkSpec,
-) -> Option<DeskItem>
+pub fn news_of(before: &[Group], after: &[Group], node: NodeId, link: &LinkSpec) -> Option<DeskItem>
     requires { (link.now.low.0 == link.now.high.0) ≡ false }
     ensures { changed_news before.now after.now node.0 link.now ≡ option_to_list result }
 {

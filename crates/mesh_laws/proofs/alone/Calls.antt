@@ -153,7 +153,7 @@ module _ (t : Network) (g : Group) (o : Routes) where
         go None at_w exposed = absurd exposed
         go (Some w) at_w (route, sent, on) =
             let both = told w route b.path_role sent on (call.guards w l b at_w is found)
-                (knows.records l b found (call.back_role l b is found)) in
+            (knows.records l b found (call.back_role l b is found)) in
             record { records = both.0; role = both.1 }
 
     -- the leg of the call's backup, as it stands
@@ -212,11 +212,14 @@ module _ (t : Network) (g : Group) (o : Routes) where
         Fine t g o (begins_backup p s c w out route)
     begins-fine c w out route of = record {
       legs = ((λ back used. absurd (cc used)), tt);
-      calls = (record {
-        concerns = record { work_reports = of.concerns.work_reports; back_reports = tt; free = λ e. cc e };
-        work = of.work;
-        back = λ e. absurd (cc e);
-      }, tt);
+      calls = (
+        record {
+          concerns = record { work_reports = of.concerns.work_reports; back_reports = tt; free = λ e. cc e };
+          work = of.work;
+          back = λ e. absurd (cc e);
+        },
+        tt,
+      );
       down = tt;
       sent = (tt, tt);
     }

@@ -64,12 +64,12 @@ module _ (t : Network) (g : Group) where
         if_cases (AllByRecursion (ItemConcerns t g)) (same_bool (is_cut before l) (is_cut later l)) []
         (link_news n (is_cut later l) l) (λ e. tt)
         (λ e.
-            let found : find_link t l.id ≡ Some l = found-link t.links l distinct there in
-            let on : is_on_link t g l.id ≡ true = rw found (changed-by before later l all all' e) in
-            all-append (ItemConcerns t g)
-            (news_at n l.high.0 (is_cut later l) (record { link = l.id; forward = true })) _
-            (news_at-concern n l.high.0 (is_cut later l) (record { link = l.id; forward = true }) on)
-            (news_at-concern n l.low.0 (is_cut later l) (record { link = l.id; forward = false }) on))
+        let found : find_link t l.id ≡ Some l = found-link t.links l distinct there in
+        let on : is_on_link t g l.id ≡ true = rw found (changed-by before later l all all' e) in
+        all-append (ItemConcerns t g)
+        (news_at n l.high.0 (is_cut later l) (record { link = l.id; forward = true })) _
+        (news_at-concern n l.high.0 (is_cut later l) (record { link = l.id; forward = true }) on)
+        (news_at-concern n l.low.0 (is_cut later l) (record { link = l.id; forward = false }) on))
 
     all-concern : (before later : List Group) (n : ℕ) (links : List LinkSpec) →
         ((l : LinkSpec) → Contains links l → Contains t.links l) → AreThis before → AreThis later →

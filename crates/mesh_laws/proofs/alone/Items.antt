@@ -70,11 +70,14 @@ module _ (t : Network) (g : Group) (o : Routes) where
     begins-fine : (w : SetupRequest) (out : LinkSpec) (route : List Step) → Fine t g o (begins p s w out route)
     begins-fine w out route = record {
       legs = ((λ back used. absurd (cc used)), tt);
-      calls = (record {
-        concerns = record { work_reports = tt; back_reports = tt; free = λ e. cc e };
-        work = λ e. absurd (cc e);
-        back = λ e. absurd (cc e);
-      }, tt);
+      calls = (
+        record {
+          concerns = record { work_reports = tt; back_reports = tt; free = λ e. cc e };
+          work = λ e. absurd (cc e);
+          back = λ e. absurd (cc e);
+        },
+        tt,
+      );
       down = tt;
       sent = (tt, tt);
     }

@@ -122,7 +122,7 @@ module _ (t : Network) (events : List MeshEvent) (facts : MeshFacts t (after t s
       let this : go.primary ≡ primary = (let was = go.work_sent in cc (was, sent)) in
       let that : go.backup ≡ backup = (let was = go.back_sent in cc (was, sent')) in
       let both = both_left (not (routes_share_risk t go.primary go.backup)) _
-          (both_right (makes_route t l.ingress e go.backup) _ go.beside) in
+      (both_right (makes_route t l.ingress e go.backup) _ go.beside) in
       subst (λ x. routes_share_risk t primary x ≡ false) that
       (subst (λ x. routes_share_risk t x go.backup ≡ false) this
       (not-true (routes_share_risk t go.primary go.backup) both))

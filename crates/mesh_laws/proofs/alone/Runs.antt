@@ -224,37 +224,37 @@ pub record KeptSince (t : Network) (g : Group) (before since : List MeshEvent) :
 
 module _ (t : Network) (g : Group) (distinct : is_distinct (map (λ l. l.id.0) t.links) ≡ true) (knows : EachKnows t)
   where
-  goes-on : (before since : List MeshEvent) → IsRun t start (before ++ since) → AllByRecursion (FailsOnly g) since →
-      MeshHolds t g (route_of t start before) (after t start before) → KeptSince t g before since
-  goes-on before [] run only old = record {
-    none_refused = tt;
-    holds = subst (λ es. MeshHolds t g (route_of t start es) (after t start es)) (sym (append-none before)) old;
-  }
-  goes-on before (e ∷ es) run only old =
-      let s : Mesh = after t start before in
-      let told = knows before (run-first t start before (e ∷ es) run) in
-      let next : after t start (before ++ e ∷ []) ≡ step t s e = after-append t start before (e ∷ []) in
-      let same = append-one before e es in
-      let later = goes-on (before ++ e ∷ []) es (subst (IsRun t start) (sym same) run) only.1
-          (mesh-grown t g (route_of t start before) (route_of t start (before ++ e ∷ []))
-          (routes-grow t start before (e ∷ [])) (after t start (before ++ e ∷ []))
-          (subst (MeshHolds t g (route_of t start before)) (sym next)
-          (step-holds t g distinct (route_of t start before) s told old e only.0)))
-      in
-      record {
-        none_refused = (
-          step-admits t g distinct (route_of t start before) s told old e,
-          subst (λ x. NoneRefused t x es) next later.none_refused,
-        );
-        holds = subst (λ xs. MeshHolds t g (route_of t start xs) (after t start xs)) same later.holds;
-      }
+    goes-on : (before since : List MeshEvent) → IsRun t start (before ++ since) → AllByRecursion (FailsOnly g) since →
+        MeshHolds t g (route_of t start before) (after t start before) → KeptSince t g before since
+    goes-on before [] run only old = record {
+      none_refused = tt;
+      holds = subst (λ es. MeshHolds t g (route_of t start es) (after t start es)) (sym (append-none before)) old;
+    }
+    goes-on before (e ∷ es) run only old =
+        let s : Mesh = after t start before in
+        let told = knows before (run-first t start before (e ∷ es) run) in
+        let next : after t start (before ++ e ∷ []) ≡ step t s e = after-append t start before (e ∷ []) in
+        let same = append-one before e es in
+        let later = goes-on (before ++ e ∷ []) es (subst (IsRun t start) (sym same) run) only.1
+        (mesh-grown t g (route_of t start before) (route_of t start (before ++ e ∷ []))
+        (routes-grow t start before (e ∷ [])) (after t start (before ++ e ∷ []))
+        (subst (MeshHolds t g (route_of t start before)) (sym next)
+        (step-holds t g distinct (route_of t start before) s told old e only.0)))
+        in
+        record {
+          none_refused = (
+            step-admits t g distinct (route_of t start before) s told old e,
+            subst (λ x. NoneRefused t x es) next later.none_refused,
+          );
+          holds = subst (λ xs. MeshHolds t g (route_of t start xs) (after t start xs)) same later.holds;
+        }
 
-  pub from-calm : (before since : List MeshEvent) → IsRun t start (before ++ since) →
-      AllByRecursion (FailsOnly g) since → Calm (after t start before) → KeptSince t g before since
-  from-calm before since run only calm =
-      goes-on before since run only
-      (calm-holds t g (route_of t start before) (after t start before)
-      (knows before (run-first t start before since run)) calm)
+    pub from-calm : (before since : List MeshEvent) → IsRun t start (before ++ since) →
+        AllByRecursion (FailsOnly g) since → Calm (after t start before) → KeptSince t g before since
+    from-calm before since run only calm =
+        goes-on before since run only
+        (calm-holds t g (route_of t start before) (after t start before)
+        (knows before (run-first t start before since run)) calm)
 
 -- In the words of the law
 

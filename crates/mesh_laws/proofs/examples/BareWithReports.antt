@@ -35,8 +35,8 @@ abbrev as_reached : Seen
 as_reached = record {
   legs =
       (leg 1 1 Live None (Some 1) 0 3 0
-          ∷ leg 1 3 Armed None (Some 2) 0 3 2
-          ∷ leg 1 2 Live None (Some 1) 0 3 0 ∷ [])
+      ∷ leg 1 3 Armed None (Some 2) 0 3 2
+      ∷ leg 1 2 Live None (Some 1) 0 3 0 ∷ [])
       ∷ []
       ∷ (leg 1 1 Live (Some 1) None 3 0 0 ∷ leg 1 3 Held (Some 1) None 1 0 0 ∷ [])
       ∷ (leg 1 3 Held (Some 2) (Some 1) 2 1 1 ∷ leg 1 2 Live (Some 1) None 3 0 0 ∷ [])

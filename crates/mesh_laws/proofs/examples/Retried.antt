@@ -42,12 +42,12 @@ as_reached = record {
       ∷ (leg 4 1 Live (Some 1) (Some 1) 1 2 1 ∷ [])
       ∷ (leg 4 1 Live (Some 1) (Some 1) 2 1 0 ∷ [])
       ∷ (leg 1 2 Held (Some 1) (Some 1) 2 3 0
-          ∷ leg 4 1 Live None (Some 1) 0 1 2
-          ∷ leg 4 2 Live None (Some 1) 0 3 0 ∷ [])
+      ∷ leg 4 1 Live None (Some 1) 0 1 2
+      ∷ leg 4 2 Live None (Some 1) 0 3 0 ∷ [])
       ∷ (leg 1 1 Live (Some 1) None 1 0 0
-          ∷ leg 1 2 Held (Some 1) None 3 0 0
-          ∷ leg 4 1 Live (Some 1) None 1 0 0
-          ∷ leg 4 2 Live (Some 1) None 3 0 0 ∷ [])
+      ∷ leg 1 2 Held (Some 1) None 3 0 0
+      ∷ leg 4 1 Live (Some 1) None 1 0 0
+      ∷ leg 4 2 Live (Some 1) None 3 0 0 ∷ [])
       ∷ []
       ∷ [];
   calls =
@@ -55,8 +55,8 @@ as_reached = record {
       ∷ []
       ∷ []
       ∷ (reported 1 Turned Unset 1 0
-          ∷ called 3 Blocked (Code set_code)
-          ∷ called 4 Blocked (Code set_code) ∷ [])
+      ∷ called 3 Blocked (Code set_code)
+      ∷ called 4 Blocked (Code set_code) ∷ [])
       ∷ []
       ∷ []
       ∷ [];

@@ -37,8 +37,8 @@ as_reached = record {
       ∷ []
       ∷ []
       ∷ (leg 1 1 Live (Some 1) None 1 0 0
-          ∷ leg 1 2 Held (Some 1) None 1 0 0
-          ∷ leg 5 1 Asked None None 0 1 0 ∷ [])
+      ∷ leg 1 2 Held (Some 1) None 1 0 0
+      ∷ leg 5 1 Asked None None 0 1 0 ∷ [])
       ∷ (leg 5 1 Live (Some 1) None 1 0 0 ∷ [])
       ∷ [];
   calls =

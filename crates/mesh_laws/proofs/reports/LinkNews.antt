@@ -127,11 +127,11 @@ module _ (before after : List Group) (n : NodeId) where
     | inl same ↦ subst (λ (x : LinkSpec). after_items (fibre_in x n) (is_cut before x) (news-of (k ∷ links))
         ≡ is_cut after x) same (here (touches-first same))
     | inr later ↦ (
-      let beyond : k.id.0 < l.id.0 = above-all k.id.0 links l rise.1 later in
-      items-after (fibre_in l n) (is_cut before l) (changed_news before after n.0 k) (news-of links)
-      ∙ ap (λ b. after_items (fibre_in l n) b (news-of links))
-      (changed-other (fibre_in l n) (is_cut before l) k (apart-earlier k.id.0 l.id.0 beyond))
-      ∙ news-tell k.id.0 links l rise.1 later end)
+        let beyond : k.id.0 < l.id.0 = above-all k.id.0 links l rise.1 later in
+        items-after (fibre_in l n) (is_cut before l) (changed_news before after n.0 k) (news-of links)
+        ∙ ap (λ b. after_items (fibre_in l n) b (news-of links))
+        (changed-other (fibre_in l n) (is_cut before l) k (apart-earlier k.id.0 l.id.0 beyond))
+        ∙ news-tell k.id.0 links l rise.1 later end)
   ]
     where
       apart-earlier : (a b : ℕ) → a < b → nat_eq b a ≡ false

@@ -12,9 +12,9 @@ above-all m [] l rise there = absurd (contains-none l there)
 above-all m (k ∷ links) l rise there = elim (contains-cases k l links there) [
   | inl same ↦ subst (λ (x : LinkSpec). m < x.id.0) same rise.0
   | inr later ↦ (
-    let beyond : k.id.0 < l.id.0 = above-all k.id.0 links l rise.1 later in
-    let above : m < k.id.0 = rise.0 in
-    omega arith)
+      let beyond : k.id.0 < l.id.0 = above-all k.id.0 links l rise.1 later in
+      let above : m < k.id.0 = rise.0 in
+      omega arith)
 ]
 
 pub found-own : (n : NodeId) (m : ℕ) (links : List LinkSpec) (l : LinkSpec) → Rises m links → Contains links l →
