@@ -1,5 +1,5 @@
--- In every state of every run a call that stands is cross-connected from its ingress to its egress, and the backup of a
--- guarded call is reserved so.
+-- In every state of every run a call that stands is cross-connected from its ingress to its egress; the backup of a
+-- guarded call, and of one that is stuck, is reserved so, and that of a turned call is cross-connected.
 use Rattle.std.specs.Prelude.{◌≡◌, ℕ, List, Option, Some, None, IsTrue, All, slice_get}
 use Rattle.ason_base.specs.declared.ids.Lsp.{Lsp}
 use Rattle.ason_base.specs.declared.ids.NodeId.{NodeId}
@@ -15,45 +15,65 @@ use Rattle.ason_base.specs.Network.{Network, find_link, other_end}
 use Rattle.ason_base.specs.Routes.{makes_route}
 use Rattle.mesh_rules.specs.declared.events.MeshEvent.{MeshEvent}
 use Rattle.mesh_rules.specs.LocalNodes.{fibre_in, fibre_out}
+use Rattle.mesh_rules.specs.Legs.{is_beyond_asked}
 use Rattle.mesh_rules.specs.Machine.{Mesh, start}
 use Rattle.mesh_rules.specs.Events.{IsRun, after, route_of}
 use Rattle.mesh_laws.specs.HopLaw.{leg_at}
 
--- Over the link of this step the LSP is joined in this phase: its legs at both ends are in it, and the label out of the
--- one is the label in of the other, on the link's fibre.
-pub record HopIsJoined (t : Network) (s : Mesh) (phase : Phase) (l : Lsp) (hop : Step) : Type 0 where
+-- Over the link of this step the LSP is joined in such phases: its legs at both ends are in them, and the label out of
+-- the one is the label in of the other, on the link's fibre.
+pub record HopIsJoined (t : Network) (s : Mesh) (InPhase : Phase → Type 0) (l : Lsp) (hop : Step) : Type 0 where
   pub link : LinkSpec
   pub found : find_link t hop.link ≡ Some link
   pub from : Leg
   pub to : Leg
   pub from_there : leg_at s l hop.node ≡ Some from
   pub to_there : leg_at s l (other_end link hop.node) ≡ Some to
-  pub from_phase : from.phase ≡ phase
-  pub to_phase : to.phase ≡ phase
+  pub from_phase : InPhase from.phase
+  pub to_phase : InPhase to.phase
   pub label : ℕ
   pub leaves : from.out_label ≡ Some label
   pub enters : to.in_label ≡ Some label
   pub out_fibre : from.out_fibre ≡ Some (fibre_out link hop.node)
   pub in_fibre : to.in_fibre ≡ Some (fibre_in link (other_end link hop.node))
 
--- The LSP is joined in this phase from its ingress to the node e, over the route that its ingress sent it on.
-pub record LspIsJoined (t : Network) (events : List MeshEvent) (phase : Phase) (e : NodeId) (l : Lsp) : Type 0 where
-  pub route : List Step
-  pub sent : route_of t start events l ≡ Some route
-  pub leads : IsTrue (makes_route t l.ingress e route)
-  pub hops : (i : ℕ) (hop : Step) → slice_get route i ≡ Some hop → HopIsJoined t (after t start events) phase l hop
+-- The LSP is joined in such phases from its ingress to the node e, over the route that its ingress sent it on.
+pub record LspIsJoined (t : Network) (events : List MeshEvent) (InPhase : Phase → Type 0) (e : NodeId) (l : Lsp) : Type 0
+  where
+    pub route : List Step
+    pub sent : route_of t start events l ≡ Some route
+    pub leads : IsTrue (makes_route t l.ingress e route)
+    pub hops : (i : ℕ) (hop : Step) → slice_get route i ≡ Some hop → HopIsJoined t (after t start events) InPhase l hop
 
-abbrev pub IsJoined : Network → List MeshEvent → Phase → NodeId → Option Lsp → Type 0
-IsJoined t events phase e None = ⊥
-IsJoined t events phase e (Some l) = LspIsJoined t events phase e l
+abbrev pub IsJoined : Network → List MeshEvent → (Phase → Type 0) → NodeId → Option Lsp → Type 0
+IsJoined t events InPhase e None = ⊥
+IsJoined t events InPhase e (Some l) = LspIsJoined t events InPhase e l
+
+abbrev pub IsLive : Phase → Type 0
+IsLive phase = phase ≡ Live
+
+abbrev pub IsHeld : Phase → Type 0
+IsHeld phase = phase ≡ Held
+
+-- Held, Armed or Live
+abbrev pub HasItsLabel : Phase → Type 0
+HasItsLabel phase = IsTrue (is_beyond_asked phase)
 
 -- the working LSP is cross-connected
 abbrev pub IsConnected : Network → List MeshEvent → CallRec → Type 0
-IsConnected t events c = IsJoined t events Live c.egress c.work
+IsConnected t events c = IsJoined t events IsLive c.egress c.work
 
 -- the labels of the backup are reserved
 abbrev pub IsReserved : Network → List MeshEvent → CallRec → Type 0
-IsReserved t events c = IsJoined t events Held c.egress c.back
+IsReserved t events c = IsJoined t events IsHeld c.egress c.back
+
+-- the backup is on its way from reserved to cross-connected: its labels are joined, whatever the phases
+abbrev pub IsBeingActivated : Network → List MeshEvent → CallRec → Type 0
+IsBeingActivated t events c = IsJoined t events HasItsLabel c.egress c.back
+
+-- the backup is cross-connected
+abbrev pub IsActivated : Network → List MeshEvent → CallRec → Type 0
+IsActivated t events c = IsJoined t events IsLive c.egress c.back
 
 -- which LSPs of a call are joined, in each of its states
 abbrev pub CallIsJoined : Network → List MeshEvent → CallRec → CallState → Type 0
@@ -61,9 +81,9 @@ CallIsJoined t events c Asking = Unit {0}
 CallIsJoined t events c Bare = IsConnected t events c
 CallIsJoined t events c Pairing = IsConnected t events c
 CallIsJoined t events c Guarded = IsConnected t events c × IsReserved t events c
-CallIsJoined t events c Turning = IsConnected t events c
-CallIsJoined t events c Turned = IsConnected t events c
-CallIsJoined t events c Stuck = IsConnected t events c
+CallIsJoined t events c Turning = IsConnected t events c × IsBeingActivated t events c
+CallIsJoined t events c Turned = IsConnected t events c × IsActivated t events c
+CallIsJoined t events c Stuck = IsConnected t events c × IsReserved t events c
 CallIsJoined t events c Blocked = Unit {0}
 
 -- at each node, each call that begins there

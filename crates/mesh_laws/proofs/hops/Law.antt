@@ -15,7 +15,7 @@ use Rattle.ason_base.specs.declared.messages.Msg.TheVariants.{Path, Resv, PathTe
 use Rattle.ason_base.specs.declared.tables.Leg.{Leg}
 use Rattle.mesh_rules.specs.Legs.{is_beyond_asked, reserved}
 use Rattle.mesh_rules.specs.Machine.{Mesh}
-use Rattle.mesh_laws.specs.HopShapes.{leg_kind, phase_kind}
+use Rattle.mesh_laws.specs.HopShapes.{leg_kind}
 use Rattle.mesh_laws.specs.HopLaw.{leg_at, mail_between, notices_between, EachLabel, HopFits, StepFits, IsHop, RouteFits, LspFits}
 use Rattle.mesh_laws.specs.HopLaw.{GoesUp, IsBeyond, NamesBeyond}
 use Rattle.mesh_laws.proofs.hops.Notices.{ComesUp, NoticeFits}
@@ -23,20 +23,13 @@ use Rattle.mesh_laws.proofs.hops.Plans.{Plan, hops, plan, node_at, link_at, IsRo
 use Rattle.mesh_laws.proofs.hops.Rows.{is_reserved}
 use Rattle.mesh_laws.proofs.hops.Rest.{Purpose, Carries, Guards, role_of, Each, AnswerFits, LabelsMeet}
 use Rattle.mesh_laws.proofs.hops.Chain.{LegFits, PhaseFits, IsPlace, OnRoute, Chain, below_or_not}
+use Rattle.mesh_laws.proofs.hops.LegChanges.{beyond_reserved}
 use Rattle.mesh_laws.proofs.hops.Planned.{Planned, Routes, Follows}
 
 meets : (a b : Option ℕ) (x y : ℕ) → LabelsMeet a b → a ≡ Some x → b ≡ Some y → x ≡ y
 meets None b x y h e f = cc
 meets (Some v) None x y h e f = cc
 meets (Some v) (Some w) x y h e f = let p : v ≡ x = cc in let q : w ≡ y = cc in sym p ∙ h ∙ q
-
-beyond_reserved : (f : Phase) → is_beyond_asked f ≡ true → is_reserved (phase_kind f) ≡ true
-beyond_reserved Asked e = cc
-beyond_reserved Held e = refl
-beyond_reserved Armed e = refl
-beyond_reserved Live e = refl
-beyond_reserved Closing e = cc
-beyond_reserved Falling e = cc
 
 each_label : (g h : Leg) (ms : List Msg) → is_reserved (leg_kind (Some h)) ≡ true →
     Each (AnswerFits (Some g) (Some h)) ms →

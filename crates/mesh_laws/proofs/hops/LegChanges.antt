@@ -16,8 +16,8 @@ use Rattle.mesh_laws.specs.HopShapes.{NoLeg, AskedLeg, HeldLeg, ArmedLeg, LiveLe
 use Rattle.mesh_nodes.proofs.LegList.{same_lsp-refl}
 use Rattle.mesh_laws.proofs.hops.Plans.{Plan, hops, node_at, fibre_at, lt_true, lt_false}
 use Rattle.mesh_laws.proofs.hops.Rest.{Purpose, Carries, Guards, role_of}
-use Rattle.mesh_laws.proofs.hops.Rows.{Stands, AskedStands, HeldStands, ArmedStands, LiveStands, reserved_leg, torn_leg}
-use Rattle.mesh_laws.proofs.hops.Chain.{LegFits, Fits, HasIn, PhaseFits, WasSent, reserved_fits}
+use Rattle.mesh_laws.proofs.hops.Rows.{Stands, AskedStands, HeldStands, ArmedStands, LiveStands, is_reserved, reserved_leg, torn_leg}
+use Rattle.mesh_laws.proofs.hops.Chain.{LegFits, Fits, HasIn, HasOut, PhaseFits, WasSent, reserved_fits}
 use Rattle.mesh_laws.proofs.hops.Activation.{UsedHasOut}
 
 pub same_of : (k l : Lsp) → k ≡ l → same_lsp k l ≡ true
@@ -78,6 +78,28 @@ held_leg (Some g) e = (g, refl, held_phase g.phase e)
 pub live_leg : (o : Option Leg) → leg_kind o ≡ LiveLeg → (g : Leg) × (o ≡ Some g) × (g.phase ≡ Live)
 live_leg None e = absurd cc
 live_leg (Some g) e = (g, refl, live_phase g.phase e)
+
+pub beyond_reserved : (f : Phase) → is_beyond_asked f ≡ true → is_reserved (phase_kind f) ≡ true
+beyond_reserved Asked e = cc
+beyond_reserved Held e = refl
+beyond_reserved Armed e = refl
+beyond_reserved Live e = refl
+beyond_reserved Closing e = cc
+beyond_reserved Falling e = cc
+
+-- there is a leg beyond Asked where the kind says so
+pub reserved_there : (o : Option Leg) → is_reserved (leg_kind o) ≡ true →
+    (g : Leg) × (o ≡ Some g) × (is_beyond_asked g.phase ≡ true)
+reserved_there None e = absurd (cc e)
+reserved_there (Some g) e = (g, refl, go g.phase e)
+  where
+    go : (f : Phase) → is_reserved (phase_kind f) ≡ true → is_beyond_asked f ≡ true
+    go Asked e = absurd (cc e)
+    go Held e = refl
+    go Armed e = refl
+    go Live e = refl
+    go Closing e = absurd (cc e)
+    go Falling e = absurd (cc e)
 
 pub phase_stands : (f : Phase) → is_closing f ≡ false → Stands (phase_kind f)
 phase_stands Asked e = AskedStands
@@ -325,36 +347,26 @@ module _ (t : Network) (q : Purpose) (l : Lsp) (p : Plan) where
       go Carries phase = absurd phase
       go (Guards w r) phase = (phase.1, phase.2)
 
-  -- a leg beyond Asked has a label in, away from the ingress
-  pub in_label_is : (i : ℕ) (g : Leg) → LegFits t q l p (suc i) g → is_beyond_asked g.phase ≡ true →
-      (y : ℕ) × (g.in_label ≡ Some y)
-  in_label_is i g fits beyond = go q g.phase beyond fits.phase
+  -- a leg beyond Asked has its labels
+  pub beyond_labels : (i : ℕ) (g : Leg) → LegFits t q l p i g → is_beyond_asked g.phase ≡ true →
+      HasIn i g.in_label × HasOut i (hops p) g.out_label
+  beyond_labels i g fits beyond = go q g.phase beyond fits.phase
     where
       go : (q : Purpose) (f : Phase) → is_beyond_asked f ≡ true →
-          PhaseFits q f (suc i) (hops p) g.in_label g.out_label → (y : ℕ) × (g.in_label ≡ Some y)
-      go (Guards w r) Held beyond phase = phase.0
-      go (Guards w r) Armed beyond phase = phase.1
-      go q Live beyond phase = phase.0
+          PhaseFits q f i (hops p) g.in_label g.out_label → HasIn i g.in_label × HasOut i (hops p) g.out_label
+      go (Guards w r) Held beyond phase = phase
+      go (Guards w r) Armed beyond phase = (phase.1, phase.2)
+      go q Live beyond phase = phase
       go Carries Held beyond phase = absurd phase
       go Carries Armed beyond phase = absurd phase
       go q Asked beyond phase = absurd cc
       go q Closing beyond phase = absurd cc
       go q Falling beyond phase = absurd cc
 
-  -- a Held leg is that of a backup
-  pub held_guards : (i : ℕ) (g : Leg) → LegFits t q l p i g → g.phase ≡ Held →
-      (work : ℕ) × (route : List Step) × (q ≡ Guards work route)
-  held_guards i g fits e = go q g.phase fits.phase e
-    where
-      go : (q : Purpose) (f : Phase) → PhaseFits q f i (hops p) g.in_label g.out_label → f ≡ Held →
-          (work : ℕ) × (route : List Step) × (q ≡ Guards work route)
-      go (Guards w r) f phase e = (w, r, refl)
-      go Carries Held phase e = absurd phase
-      go Carries Asked phase e = absurd cc
-      go Carries Armed phase e = absurd cc
-      go Carries Live phase e = absurd cc
-      go Carries Closing phase e = absurd cc
-      go Carries Falling phase e = absurd cc
+  -- so a label in, away from the ingress
+  pub in_label_is : (i : ℕ) (g : Leg) → LegFits t q l p (suc i) g → is_beyond_asked g.phase ≡ true →
+      (y : ℕ) × (g.in_label ≡ Some y)
+  in_label_is i g fits beyond = (beyond_labels (suc i) g fits beyond).0
 
 -- the place before, if there is one
 abbrev pub Before : ℕ → Type 0
