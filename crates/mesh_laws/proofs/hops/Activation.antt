@@ -1,5 +1,5 @@
 -- What the activation of a backup leaves of the hop before a node and of the hop after it.
-use Rattle.std.proofs.Common.{◌≡◌, ℕ, true, false, List, [], ◌∷◌, ◌++◌, refl, inl, inr, append-nil}
+use Rattle.std.proofs.Common.{◌≡◌, ℕ, true, false, List, [], ◌∷◌, ◌++◌, refl, append-nil}
 use Rattle.std.specs.Prelude.{◌⊎◌, map, Option, Some, None}
 use Rattle.std.proofs.lemmas.List.{map-append}
 use Rattle.ason_base.specs.Labels.{has}
@@ -19,7 +19,7 @@ use Rattle.mesh_laws.specs.HopShapes.{IsTorn, Shape, Standby, leg_kind, msg_kind
 use Rattle.mesh_laws.proofs.hops.Plans.{Plan, link_at}
 use Rattle.mesh_laws.proofs.hops.Rows.{is_reserved, ActiveTaken, active_taken, activates, resv_armed, armed_answers}
 use Rattle.mesh_laws.proofs.hops.Rows.{ContentionTaken, HeldAgain, Ignored, contention_taken}
-use Rattle.mesh_laws.proofs.hops.Rest.{Purpose, Rest, DownFits, LabelsMeet, SentOn, SetSent, role_of, is_path, no_kinds}
+use Rattle.mesh_laws.proofs.hops.Rest.{Purpose, Rest, DownFits, LabelsMeet, SentOn, SetSent, role_of, is_path}
 use Rattle.mesh_laws.proofs.hops.Rest.{active_other, out_label_of, down_taken, down_sent, up_taken, up_sent}
 use Rattle.mesh_laws.proofs.hops.Rest.{downstream_keeps, upstream_keeps}
 use Rattle.mesh_laws.proofs.hops.Chain.{Hop}

@@ -1,6 +1,6 @@
 -- A Path that activates a backup is taken at a node of its route.
-use Rattle.std.proofs.Common.{◌≡◌, ◌<◌, ◌≤◌, ℕ, suc, true, false, List, [], ◌∷◌, ◌++◌, refl, sym, ◌∙◌, subst, arith, inl, inr, append-nil}
-use Rattle.std.specs.Prelude.{◌⊎◌, map, Option, Some, None}
+use Rattle.std.proofs.Common.{◌≡◌, ◌<◌, ◌≤◌, ℕ, suc, true, false, List, [], ◌∷◌, refl, sym, ◌∙◌, subst, arith, inl, inr, append-nil}
+use Rattle.std.specs.Prelude.{◌⊎◌, Option, Some, None}
 use Rattle.ason_base.specs.Codes.{busy_code}
 use Rattle.ason_base.specs.Lsps.{same_lsp}
 use Rattle.ason_base.specs.Network.{Network}
@@ -17,7 +17,7 @@ use Rattle.ason_base.specs.declared.messages.Msg.TheVariants.{Path, Resv, PathEr
 use Rattle.ason_base.specs.declared.tables.Leg.{Leg}
 use Rattle.mesh_rules.specs.declared.neighbours.Neighbour.{Neighbour}
 use Rattle.mesh_rules.specs.State.{NodeState}
-use Rattle.mesh_rules.specs.Activations.{activated, armed_on, busy_to, is_contended, resv_to}
+use Rattle.mesh_rules.specs.Activations.{armed_on, busy_to, is_contended, resv_to}
 use Rattle.mesh_rules.specs.Changes.{Answer, puts, sends, to_node}
 use Rattle.mesh_rules.specs.LocalNodes.{LocalNode, local_node}
 use Rattle.mesh_rules.specs.Legs.{following, previous, with_phase}

@@ -1,6 +1,6 @@
 -- Alarms and clears send Notifies of many LSPs, and a Notify is passed back: what is left of each LSP.
 use Rattle.std.proofs.Common.{◌≡◌, ◌≤◌, ℕ, zero, suc, Bool, true, false, cond, nat_eq, List, [], ◌∷◌, ◌++◌, drop, refl, sym, ap, ◌∙◌, subst, arith, inl, inr, append-nil}
-use Rattle.std.specs.Prelude.{◌&&◌, ◌⊎◌, not, filter, map, Option, Some, None}
+use Rattle.std.specs.Prelude.{◌&&◌, not, filter, map, Option, Some, None}
 use Rattle.std.specs.List.{AllByRecursion}
 use Rattle.std.proofs.lemmas.List.Elements.{filter-append}
 use Rattle.ason_base.specs.Codes.{fibre_down_code, fibre_up_code}
@@ -29,16 +29,16 @@ use Rattle.mesh_rules.specs.Reports.{reported}
 use Rattle.mesh_laws.specs.HopLaw.{is_notice, is_notice_of, leg_at, mail_between, messages_of, notices_between, notices_of}
 use Rattle.mesh_nodes.proofs.Cases.{both_left, if_cases}
 use Rattle.mesh_nodes.proofs.LegList.{same_lsp-eq}
-use Rattle.mesh_laws.proofs.hops.Begun.{EachStepped, Stepped, stepped_none, stepped_quiet}
-use Rattle.mesh_laws.proofs.hops.Chain.{LegFits, IsPlace}
+use Rattle.mesh_laws.proofs.hops.Begun.{EachStepped, stepped_none, stepped_quiet}
+use Rattle.mesh_laws.proofs.hops.Chain.{LegFits}
 use Rattle.mesh_laws.proofs.hops.FollowedBy.{sent-then}
 use Rattle.mesh_laws.proofs.hops.InParts.{leg_of_notice, leg_part, notice_back, notice_goes}
 use Rattle.mesh_laws.proofs.hops.LegChanges.{previous_is, previous_none}
-use Rattle.mesh_laws.proofs.hops.Notices.{ComesUp, NoticeFits, NoticesFit}
+use Rattle.mesh_laws.proofs.hops.Notices.{ComesUp, NoticesFit}
 use Rattle.mesh_laws.proofs.hops.Planned.{Planned, Routes, Follows, EachFollows, NoticesStay, StillOf, follows_noticed, next_same}
-use Rattle.mesh_laws.proofs.hops.Plans.{Plan, hops, plan, fibre_at, link_at, node_at, same_node}
+use Rattle.mesh_laws.proofs.hops.Plans.{Plan, hops, plan, fibre_at, node_at, same_node}
 use Rattle.mesh_laws.proofs.hops.Rest.{Purpose, Each, each-append}
-use Rattle.mesh_laws.proofs.hops.Views.{leg-here, leg-there, mail-from, mail-else, notices-from, without-other}
+use Rattle.mesh_laws.proofs.hops.Views.{leg-here, mail-from, notices-from, without-other}
 
 -- each of these messages is a Notify
 abbrev pub SendsNotices : List Out → Type 0

@@ -1,5 +1,5 @@
 -- The legs of backups record the risks of the working LSPs that they guard.
-use Rattle.std.proofs.Common.{◌≡◌, ℕ, true, false, List, sym, ap, ◌∙◌, subst, inl, inr}
+use Rattle.std.proofs.Common.{◌≡◌, ℕ, true, List, sym, ap, ◌∙◌, subst, inl, inr}
 use Rattle.std.specs.Prelude.{Option, Some, None}
 use Rattle.std.proofs.lemmas.List.Elements.{All-from_recursion}
 use Rattle.ason_base.specs.Network.{Network}

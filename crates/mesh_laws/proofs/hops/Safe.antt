@@ -1,5 +1,5 @@
 -- No wavelength of a fibre is cross-connected for two LSPs.
-use Rattle.std.proofs.Common.{◌≡◌, ◌≢◌, ◌<◌, ◌≤◌, ℕ, suc, Bool, true, false, nat_eq, List, refl, sym, ap, ◌∙◌, subst, arith, inl, inr}
+use Rattle.std.proofs.Common.{◌≡◌, ◌≢◌, ◌<◌, ◌≤◌, ℕ, suc, Bool, true, false, nat_eq, List, refl, sym, ap, ◌∙◌, arith, inl, inr}
 use Rattle.std.specs.Prelude.{◌⊎◌, ◌&&◌, ◌||◌, Option, Some, None}
 use Rattle.ason_base.specs.Lsps.{same_bool, same_fibre}
 use Rattle.ason_base.specs.Network.{Network, far_end, receiver_of, sender_of}

@@ -1,6 +1,6 @@
 -- A backup is activated at its ingress, and what becomes of a call whose working LSP or backup is hit.
-use Rattle.std.proofs.Common.{◌≡◌, ◌<◌, ℕ, Bool, true, false, List, [], ◌∷◌, ◌++◌, refl, sym, ap, ◌∙◌, subst, arith}
-use Rattle.std.specs.Prelude.{Option, Some, None, if◌then◌else◌}
+use Rattle.std.proofs.Common.{◌≡◌, ◌<◌, ℕ, Bool, true, false, List, [], ◌∷◌, refl, sym, ap, ◌∙◌, subst, arith}
+use Rattle.std.specs.Prelude.{Option, Some, None}
 use Rattle.ason_base.specs.Codes.{busy_code}
 use Rattle.ason_base.specs.Lsps.{same_lsp}
 use Rattle.ason_base.specs.Network.{Network}
@@ -34,7 +34,7 @@ use Rattle.mesh_laws.proofs.hops.ActivationRule.{beyond_held}
 use Rattle.mesh_laws.proofs.hops.Begun.{EachStepped, Stepped, stepped_kept, stepped_quiet}
 use Rattle.mesh_laws.proofs.hops.Chain.{Chain, LegFits, PhaseFits}
 use Rattle.mesh_laws.proofs.hops.Changed.{place_changed}
-use Rattle.mesh_laws.proofs.hops.LegChanges.{armed_fits, following_is, held_phase, same_of}
+use Rattle.mesh_laws.proofs.hops.LegChanges.{armed_fits, following_is, same_of}
 use Rattle.mesh_laws.proofs.hops.Notices.{notices_same}
 use Rattle.mesh_laws.proofs.hops.Own.{AllSent, IsOf, IsQuiet, leg-other, mail-other, route-other, sent-plain}
 use Rattle.mesh_laws.proofs.hops.Planned.{Planned, Routes, Follows, EachFollows, SameOf, follows_same, next_same, or_none}
