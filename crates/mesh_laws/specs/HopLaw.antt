@@ -121,8 +121,8 @@ NamesBeyond route e i (PathTear l k link) = ⊥
 NamesBeyond route e i (PathErr l k at gone code) = ⊥
 NamesBeyond route e i (Notify l k at link code) = IsBeyond route e i at
 
--- A Notify from a to b, of an LSP whose route ends at e: it goes up a step of the route, from the node at the far end of
--- its link to the one that the step leaves. It names the node that it comes from, or one beyond it.
+-- A Notify from a to b, of an LSP whose route ends at e: it goes up a step of the route, from the node at the far end
+-- of its link to the one that the step leaves. It names the node that it comes from, or one beyond it.
 pub record GoesUp (t : Network) (route : List Step) (e a b : NodeId) (m : Msg) : Type 0 where
   pub place : ℕ
   pub hop : Step

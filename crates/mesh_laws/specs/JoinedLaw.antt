@@ -38,8 +38,8 @@ pub record HopIsJoined (t : Network) (s : Mesh) (InPhase : Phase → Type 0) (l 
   pub in_fibre : to.in_fibre ≡ Some (fibre_in link (other_end link hop.node))
 
 -- The LSP is joined in such phases from its ingress to the node e, over the route that its ingress sent it on.
-pub record LspIsJoined (t : Network) (events : List MeshEvent) (InPhase : Phase → Type 0) (e : NodeId) (l : Lsp) : Type 0
-  where
+pub record LspIsJoined (t : Network) (events : List MeshEvent) (InPhase : Phase → Type 0) (e : NodeId) (l : Lsp) :
+  Type 0 where
     pub route : List Step
     pub sent : route_of t start events l ≡ Some route
     pub leads : IsTrue (makes_route t l.ingress e route)

@@ -39,8 +39,8 @@ use Rattle.mesh_laws.proofs.hops.Sending.{sends_back, sends_on}
 use Rattle.mesh_laws.proofs.hops.Taken.{KeepsDown, down_hop, down_taken}
 
 -- the Resv that a leg sends back
-pub resv-is : (g : Leg) (h : Neighbour) (y : ℕ) (o : Option Neighbour) (label : Option ℕ) → o ≡ Some h → label ≡ Some y →
-    resv_to g o label ≡ to_node h.node (Resv g.lsp g.egress h.fibre.link y) ∷ []
+pub resv-is : (g : Leg) (h : Neighbour) (y : ℕ) (o : Option Neighbour) (label : Option ℕ) → o ≡ Some h →
+    label ≡ Some y → resv_to g o label ≡ to_node h.node (Resv g.lsp g.egress h.fibre.link y) ∷ []
 resv-is g h y None label before is = absurd (cc before)
 resv-is g h y (Some k) None before is = absurd (cc is)
 resv-is g h y (Some k) (Some z) before is = let a : k ≡ h = cc before in let b : z ≡ y = cc is in rw (a, b) refl

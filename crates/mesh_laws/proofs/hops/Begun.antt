@@ -54,14 +54,16 @@ use Rattle.mesh_laws.proofs.hops.Quiet.{same_quiet}
 -- the chain of an LSP that has sent its first Path and nothing else
 chain_begun : (t : Network) (q : Purpose) (l : Lsp) (p : Plan) (leg : NodeId → Option Leg)
     (mail : NodeId → NodeId → List Msg) (g : Leg)
-    (e : NodeId) (k : LinkId) (r : List Step) (set : List ℕ) (role : PathRole) → path_kind role ≡ PlainPath → IsRoute t l.ingress p →
+    (e : NodeId) (k : LinkId) (r : List Step) (set : List ℕ) (role : PathRole) →
+    path_kind role ≡ PlainPath → IsRoute t l.ingress p →
     leg (node_at p 0) ≡ Some g → LegFits t q l p 0 g → g.phase ≡ Asked → g.out_label ≡ None →
     ((n : NodeId) → n.0 ≢ (node_at p 0).0 → leg n ≡ None) →
     mail (node_at p 0) (node_at p 1) ≡ Path l e k r set None role ∷ [] → set ≡ g.sent →
     DownFits q p 0 (Path l e k r set None role) →
     ((a b : NodeId) → (a.0 ≢ (node_at p 0).0) ⊎ (b.0 ≢ (node_at p 1).0) → mail a b ≡ []) →
     Chain t q l p leg mail
-chain_begun t q l p leg mail g e k r set role plain route here fits asked bare else_none sent is_sent down_fits else_empty = record {
+chain_begun t q l p leg mail g e k r set role plain route here fits asked bare else_none sent is_sent down_fits
+    else_empty = record {
   fits = λ n small. at_or_else (λ n. Fits t q l p n (leg (node_at p n))) n 0
       (λ at. rw here fits) (λ ne. rw (no_leg n small ne) tt);
   legs = λ n. stands n (is_or_not n.0 (node_at p 0).0);
@@ -167,7 +169,8 @@ stepped_then t s n o a b none steps l = record {
 }
   where
     sent : (l : Lsp) (c : Bool) → nat_eq n.0 l.ingress.0 ≡ c →
-        or_route (o l) (first_route l (cond c b.sent [])) ≡ or_route (o l) (first_route l (cond c (a.sent ++ b.sent) []))
+        or_route (o l) (first_route l (cond c b.sent [])) ≡
+        or_route (o l) (first_route l (cond c (a.sent ++ b.sent) []))
     sent l true e =
         sym (ap (or_route (o l)) (first-append l a.sent b.sent) ∙
         sym (or_assoc (o l) (first_route l a.sent) (first_route l b.sent)) ∙

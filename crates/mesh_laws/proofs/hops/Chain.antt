@@ -43,8 +43,8 @@ HasIn (suc i) label = (y : ℕ) × (label ≡ Some y)
 abbrev pub HasOut : ℕ → ℕ → Option ℕ → Type 0
 HasOut i n label = i < n → (x : ℕ) × (label ≡ Some x)
 
--- Which phases come up, for each purpose, at a place of n hops, and the labels in and out in each. Only a backup's leg is
--- Held, Armed or Falling, and none is Armed at the egress.
+-- Which phases come up, for each purpose, at a place of n hops, and the labels in and out in each. Only a backup's leg
+-- is Held, Armed or Falling, and none is Armed at the egress.
 abbrev pub PhaseFits : Purpose → Phase → ℕ → ℕ → Option ℕ → Option ℕ → Type 0
 PhaseFits q Asked i n enter leave = (i < n) × (enter ≡ None) × (leave ≡ None)
 PhaseFits Carries Held i n enter leave = ⊥

@@ -101,7 +101,8 @@ module _ (t : Network) (q : Purpose) (s : Mesh) (l : Lsp) (p : Plan) (i : ℕ) (
         leaves
         (λ k eq _ path.
         let none =
-        no_path_down _ (asked_answers (role_of q) _ _ _ (rw asked at (hop_before k eq).shape)).down_is in cc (none, path))
+        no_path_down _ (asked_answers (role_of q) _ _ _ (rw asked at (hop_before k eq).shape)).down_is in
+        cc (none, path))
         refl
 
     asked_goes : g.phase ≡ Asked → Before i →
@@ -116,7 +117,8 @@ module _ (t : Network) (q : Purpose) (s : Mesh) (l : Lsp) (p : Plan) (i : ℕ) (
     goes : (leg_kind (Some g) ≡ AskedLeg) ⊎ IsTorn (role_of q) (leg_kind (Some g)) →
         Keeps (leg_removed g failure)
     goes (inl asked) = let is = asked_phase g.phase asked in rw is (asked_goes is (before_or_first i))
-    goes (inr is_torn) = rw (torn_not_asked (role_of q) g.phase is_torn, torn_is_closing (role_of q) g.phase is_torn) (torn is_torn)
+    goes (inr is_torn) =
+        rw (torn_not_asked (role_of q) g.phase is_torn, torn_is_closing (role_of q) g.phase is_torn) (torn is_torn)
 
   -- one that removes nothing comes to an Armed leg, which is Held again
 

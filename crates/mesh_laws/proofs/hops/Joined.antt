@@ -73,8 +73,8 @@ record JoinedLegs (s : Mesh) (l : Lsp) (P : Phase → Type 0) (u d : NodeId) : T
   leaves : from.out_label ≡ Some label
   enters : to.in_label ≡ Some label
 
--- Phases that go all along a route: where the upstream leg of a hop is in one, so is the downstream one. A leg in one is
--- beyond Asked, so it has its labels.
+-- Phases that go all along a route: where the upstream leg of a hop is in one, so is the downstream one. A leg in one
+-- is beyond Asked, so it has its labels.
 record GoesAlong (t : Network) (s : Mesh) (q : Purpose) (l : Lsp) (p : Plan) (P : Phase → Type 0) : Type 0 where
   next : (i : ℕ) → i < hops p → InPhase s l P (node_at p i) → InPhase s l P (node_at p (suc i))
   beyond : (f : Phase) → P f → is_beyond_asked f ≡ true

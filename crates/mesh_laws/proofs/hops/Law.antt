@@ -185,7 +185,8 @@ module _ (t : Network) (s : Mesh) (o : Routes) (l : Lsp) (q : Purpose) (steps : 
         names = names_beyond up.place m up.names;
       }
 
-  each_up : (a b : NodeId) (ms : List Msg) → Each (ComesUp (plan steps e) a b) ms → AllByRecursion (GoesUp t steps e a b) ms
+  each_up : (a b : NodeId) (ms : List Msg) → Each (ComesUp (plan steps e) a b) ms →
+      AllByRecursion (GoesUp t steps e a b) ms
   each_up a b [] each = tt
   each_up a b (m ∷ ms) each = (goes_up a b m each.0, each_up a b ms each.1)
 

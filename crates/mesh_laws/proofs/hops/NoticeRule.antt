@@ -437,7 +437,8 @@ module _ (t : Network) (s : Mesh) (o : Routes) (d u : NodeId) (k : Lsp) (e at : 
           let is : x ≡ d = same_node x d number in
           subst (λ z. Each (λ m. ⊥) (notices_between later l z b)) (sym is)
           (subst (Each (λ m. ⊥)) (sym (notices-from (without_first s u.0 d.0) d b l passed))
-          (each-append (λ m. ⊥) (notices_between (without_first s u.0 d.0) l d b) (notices_of l (sent_to b.0 passed.sent))
+          (each-append (λ m. ⊥) (notices_between (without_first s u.0 d.0) l d b)
+          (notices_of l (sent_to b.0 passed.sent))
           (dropped d b)
           (leg_each notice l b (λ m. ⊥) u (find_leg k (s.nodes d.0).legs)
           (λ g found own h before to. came_up l (λ x y m. ⊥) own (λ x y. none-of _ (blank.notices x y))))))

@@ -222,7 +222,8 @@ module _ (t : Network) (q : Purpose) (s : Mesh) (l : Lsp) (p : Plan) (i : ℕ) (
             out_fibre = rw stop refl;
             route = drop-further (suc i) p.route done;
             sent = tt;
-            phase = rw asked_for (reserved_fits q (suc i) (hops p) (Some y) None (y, refl) (λ small. absurd (omega arith)));
+            phase = rw asked_for
+                (reserved_fits q (suc i) (hops p) (Some y) None (y, refl) (λ small. absurd (omega arith)));
           })
           (path_answered q p i (leg_at s l u) l e k r set label purpose (messages_of l rest) _ plain hop_here
           (egress_leg place asks over.link risks offered y) e over.link.id y kind refl
@@ -234,7 +235,8 @@ module _ (t : Network) (q : Purpose) (s : Mesh) (l : Lsp) (p : Plan) (i : ℕ) (
       -- elsewhere
       goes_on : (n : Leads t (link_at p (suc i)) (node_at p (suc i)) (node_at p (suc (suc i)))) (further : List Step) →
           suc i < hops p →
-          further ≡ drop (suc (suc i)) p.route → Keeps (in_transit place asks over.link risks further offered (Some n.link))
+          further ≡ drop (suc (suc i)) p.route →
+          Keeps (in_transit place asks over.link risks further offered (Some n.link))
       goes_on n further small is =
           let more : nat_lt (suc i) (hops p) ≡ true = lt_true small in
           let g : Leg = transit_leg place asks over.link risks n.link further offered in

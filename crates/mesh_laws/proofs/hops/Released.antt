@@ -192,8 +192,10 @@ module _ (t : Network) (s : Mesh) (o : Routes) (n : NodeId) (f : EachFollows t s
       let work : Answer = tears (leg_of c.work legs) in
       let back : Answer = tears (leg_of c.back legs) in
       let calls : Answer = changes_calls (call.Goes c.call ∷ []) in
-      stepped_then t s n o work (followed_by back calls) (begins-none n o work (λ l. no_route_sent l (leg_of c.work legs)))
-      (stepped_then t (commit s n.0 work) n o back calls (begins-none n o back (λ l. no_route_sent l (leg_of c.back legs)))
+      stepped_then t s n o work (followed_by back calls)
+      (begins-none n o work (λ l. no_route_sent l (leg_of c.work legs)))
+      (stepped_then t (commit s n.0 work) n o back calls
+      (begins-none n o back (λ l. no_route_sent l (leg_of c.back legs)))
       (stepped_quiet t (commit (commit s n.0 work) n.0 back) n o calls
       (after_back c.work c.back facts.work facts.back facts.apart)
       (record { legs = refl; sent = refl; numbers = refl })))

@@ -367,7 +367,8 @@ module _ (q : Purpose) (p : Plan) (i : ℕ) where
 
   -- 3. a message is sent down
   pub down_sent : (u d : Option Leg) (m : Msg) (down up : List Msg) → DownFits q p i m → SetSent u m →
-      is_plain m ≡ false → (leg_kind d ≡ NoLeg → is_path m ≡ false) → Rest q p i u d down up → Rest q p i u d (down ++ m ∷ []) up
+      is_plain m ≡ false → (leg_kind d ≡ NoLeg → is_path m ≡ false) → Rest q p i u d down up →
+      Rest q p i u d (down ++ m ∷ []) up
   down_sent u d m down up fits set other later h = record {
     going_down = each-append (DownFits q p i) down _ h.going_down (fits, tt);
     going_up = h.going_up;
@@ -431,7 +432,8 @@ module _ (q : Purpose) (p : Plan) (i : ℕ) where
 
   -- 7. d takes its label, while u has none, no Path is on the hop and no answer is under way
   pub downstream_takes : (u d : Option Leg) (g' : Leg) (down : List Msg) → out_label_of u ≡ None →
-      has_path down ≡ false → is_reserved (leg_kind (Some g')) ≡ true → Rest q p i u d down [] → Rest q p i u (Some g') down []
+      has_path down ≡ false → is_reserved (leg_kind (Some g')) ≡ true → Rest q p i u d down [] →
+      Rest q p i u (Some g') down []
   downstream_takes u d g' down bare no_path reserved h = record {
     going_down = h.going_down;
     going_up = tt;

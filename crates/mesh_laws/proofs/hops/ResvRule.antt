@@ -185,7 +185,8 @@ module _ (t : Network) (q : Purpose) (s : Mesh) (l : Lsp) (p : Plan) (i : ℕ) (
     -- an Armed leg is Live
 
     module _ (armed : g.phase ≡ Armed) where
-      far_has : Hop q p i (Some (with_phase Live g)) (leg_at s l far) (mail_between s l n far ++ []) (messages_of l rest)
+      far_has :
+          Hop q p i (Some (with_phase Live g)) (leg_at s l far) (mail_between s l n far ++ []) (messages_of l rest)
       far_has = lights q p i g (leg_at s l far) (Resv l e k x) _ _ armed refl hop_of
 
       -- at the ingress
