@@ -39,11 +39,11 @@ pub record HopIsJoined (t : Network) (s : Mesh) (InPhase : Phase → Type 0) (l 
 
 -- The LSP is joined in such phases from its ingress to the node e, over the route that its ingress sent it on.
 pub record LspIsJoined (t : Network) (events : List MeshEvent) (InPhase : Phase → Type 0) (e : NodeId) (l : Lsp) :
-  Type 0 where
-    pub route : List Step
-    pub sent : route_of t start events l ≡ Some route
-    pub leads : IsTrue (makes_route t l.ingress e route)
-    pub hops : (i : ℕ) (hop : Step) → slice_get route i ≡ Some hop → HopIsJoined t (after t start events) InPhase l hop
+    Type 0 where
+  pub route : List Step
+  pub sent : route_of t start events l ≡ Some route
+  pub leads : IsTrue (makes_route t l.ingress e route)
+  pub hops : (i : ℕ) (hop : Step) → slice_get route i ≡ Some hop → HopIsJoined t (after t start events) InPhase l hop
 
 abbrev pub IsJoined : Network → List MeshEvent → (Phase → Type 0) → NodeId → Option Lsp → Type 0
 IsJoined t events InPhase e None = ⊥

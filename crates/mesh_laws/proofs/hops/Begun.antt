@@ -64,22 +64,22 @@ chain_begun : (t : Network) (q : Purpose) (l : Lsp) (p : Plan) (leg : NodeId →
     Chain t q l p leg mail
 chain_begun t q l p leg mail g e k r set role plain route here fits asked bare else_none sent is_sent down_fits
     else_empty = record {
-  fits = λ n small. at_or_else (λ n. Fits t q l p n (leg (node_at p n))) n 0
-      (λ at. rw here fits) (λ ne. rw (no_leg n small ne) tt);
-  legs = λ n. stands n (is_or_not n.0 (node_at p 0).0);
-  ways = λ a b. way a b (is_or_not a.0 (node_at p 0).0) (is_or_not b.0 (node_at p 1).0);
-  each = λ n small. at_or_else (λ n. HopAt q p leg mail n) n 0
-      (λ at. rw (here, no_leg 1 (omega arith) (omega arith), sent, no_up 0 route.long)
-      (hop_asks q p 0 g l e k r set None role plain asked bare is_sent down_fits))
-      (λ ne. rw
-      (no_leg n (omega arith) ne, no_leg (suc n) (omega arith) (omega arith), no_down n small ne, no_up n small)
-      (hop_idle q p n));
-  fresh = λ n small path j after within. record {
-    no_leg = no_leg j within (omega arith);
-    no_down = λ below. no_down j below (omega arith);
-    no_up = λ below. no_up j below;
-  };
-}
+      fits = λ n small. at_or_else (λ n. Fits t q l p n (leg (node_at p n))) n 0
+          (λ at. rw here fits) (λ ne. rw (no_leg n small ne) tt);
+      legs = λ n. stands n (is_or_not n.0 (node_at p 0).0);
+      ways = λ a b. way a b (is_or_not a.0 (node_at p 0).0) (is_or_not b.0 (node_at p 1).0);
+      each = λ n small. at_or_else (λ n. HopAt q p leg mail n) n 0
+          (λ at. rw (here, no_leg 1 (omega arith) (omega arith), sent, no_up 0 route.long)
+          (hop_asks q p 0 g l e k r set None role plain asked bare is_sent down_fits))
+          (λ ne. rw
+          (no_leg n (omega arith) ne, no_leg (suc n) (omega arith) (omega arith), no_down n small ne, no_up n small)
+          (hop_idle q p n));
+      fresh = λ n small path j after within. record {
+        no_leg = no_leg j within (omega arith);
+        no_down = λ below. no_down j below (omega arith);
+        no_up = λ below. no_up j below;
+      };
+    }
   where
     long : 0 < hops p
     long = route.long
