@@ -15,7 +15,7 @@ ghost use Rattle.mesh_laws.specs.SafeLaw.{EveryRunIsSafe};
 /// In each state of each run, at each node: a label of a fibre is taken by one leg alone, or by backups whose primaries have
 /// no risk in common, at most one of them Armed or Live; a Live leg has a label in exactly where it has a fibre in, and a label
 /// out exactly where it has a fibre out; and the state of each call that begins there fits its legs, each of which is of one
-/// call. Each hop of each LSP, its legs at both ends with the messages between them, has a shape of the table, and each leg
+/// call, and its reports. Each hop of each LSP, its legs at both ends with the messages between them, has a shape of the table, and each leg
 /// names the end of its LSP's route as its egress. No label of a fibre is cross-connected for two LSPs. Each call that is
 /// neither asking nor blocked is joined: its working LSP is Live at each node of its route, each label out being the next
 /// node's label in; and the backup of a guarded call is joined so, Held at each node. The route of each backup leads from end to
@@ -42,8 +42,8 @@ pub fn every_run()
     ensures together { EveryRunKeepsTheLaws }
 {}
 
-/// At each node, whatever messages come to it, of whatever senders, and whatever rows it learns, in whatever order with the
-/// orders of its own calls: a label of a fibre is taken by one leg alone, or by backups whose primaries have no risk in common,
+/// At each node, whatever messages come to it, of whatever senders, whatever rows it learns, and whatever fibres it is told to
+/// be down or up, in whatever order with the orders of its own calls: a label of a fibre is taken by one leg alone, or by backups whose primaries have no risk in common,
 /// at most one of them Armed or Live.
 pub fn every_node()
     ensures { EveryNodeSharesLawfully }
