@@ -13,19 +13,21 @@ ghost use Rattle.mesh_laws.specs.RiskLaw.{EveryBackupRecordsItsRisks};
 ghost use Rattle.mesh_laws.specs.SafeLaw.{EveryRunIsSafe};
 
 /// In each state of each run, at each node: a label of a fibre is taken by one leg alone, or by backups whose primaries have
-/// no risk in common, at most one of them Armed or Live; a Live leg has a label in exactly where it has a fibre in, and a label
-/// out exactly where it has a fibre out; and the state of each call that begins there fits its legs, each of which is of one
-/// call, and its reports. Each hop of each LSP, its legs at both ends with the messages between them, has a shape of the table, and each leg
-/// names the end of its LSP's route as its egress. No label of a fibre is cross-connected for two LSPs. Each call that is
+/// no risk in common, at most one of them Armed or Live; a Live leg has a label in exactly where it has a fibre in, and a
+/// label out exactly where it has a fibre out; and the state of each call that begins there fits its legs, each of which is
+/// of one call, and its reports. Each hop of each LSP, its legs at both ends with the messages between them, has a shape of
+/// the table, and each leg names the end of its LSP's route as its egress; Notifies go up these hops alone, and each names
+/// the node that it comes from or one beyond it. No label of a fibre is cross-connected for two LSPs. Each call that is
 /// neither asking nor blocked is joined: its working LSP is Live at each node of its route, each label out being the next
-/// node's label in; and the backup of a guarded call is joined so, Held at each node. The route of each backup leads from end to
-/// end, has no risk in common with that of the working LSP which its call has, or had, and shares no node with it between the
-/// ends. What a node learnt of links are rows of the network; over a topology routes can be asked of what it knows.
-/// Over a topology the leg of a backup, at any node, records the risks of the route of the working LSP that its Path names, also
-/// where that LSP is gone. A state is calm where no group has failed and nothing of an earlier failure is left, as at the start.
-/// Over a topology, while since a calm state one group alone has failed, no activation of a backup is refused, no call is
-/// stuck, and all that is activated, reported, under way or waiting for a failure concerns that group. The last clause says all
-/// but the searching of one state, in one word.
+/// node's label in; and the backup of a guarded or a stuck call is joined so, Held at each node, that of a turned call Live
+/// at each node, and that of a turning call Held, Armed or Live. The route of each backup leads from end to end, has no risk
+/// in common with that of the working LSP which its call has, or had, and shares no node with it between the ends. What a
+/// node learnt of links are rows of the network; over a topology routes can be asked of what it knows. Over a topology the
+/// leg of a backup, at any node, records the risks of the route of the working LSP that its Path names, also where that LSP
+/// is gone. A state is calm where no group has failed and nothing of an earlier failure is left, as at the start. Over a
+/// topology, while since a calm state one group alone has failed, no activation of a backup is refused, no call is stuck, and
+/// all that is activated, reported, under way or waiting for a failure concerns that group. The last clause says all but the
+/// searching of one state, in one word.
 pub fn every_run()
     ensures labels { EveryLabelIsShared }
     ensures labelled { EveryLiveLegIsLabelled }
