@@ -88,9 +88,9 @@ module _ (q : Purpose) (p : Plan) (i : ℕ) where
   }
 
   -- A Resv is taken by an Armed leg
-  pub lights : (g : Leg) (d : Option Leg) (m : Msg) (down up : List Msg) → g.phase ≡ Armed → msg_kind m ≡ Label →
+  pub goes_live : (g : Leg) (d : Option Leg) (m : Msg) (down up : List Msg) → g.phase ≡ Armed → msg_kind m ≡ Label →
       Hop q p i (Some g) d down (m ∷ up) → Hop q p i (Some (with_phase Live g)) d (down ++ []) up
-  lights g d m down up armed label h =
+  goes_live g d m down up armed label h =
       let t = resv_armed (role_of q) (leg_kind d) (map msg_kind down) (map msg_kind up)
       (rw (armed, label) at h.shape) in
       rw append-nil (record {
@@ -100,10 +100,10 @@ module _ (q : Purpose) (p : Plan) (i : ℕ) where
       })
 
   -- and one goes back
-  pub lit_answers : (u : Option Leg) (g : Leg) (l : Lsp) (e : NodeId) (k : LinkId) (y : ℕ) (down up : List Msg) →
+  pub live_answers : (u : Option Leg) (g : Leg) (l : Lsp) (e : NodeId) (k : LinkId) (y : ℕ) (down up : List Msg) →
       g.phase ≡ Armed → k ≡ link_at p i → g.in_label ≡ Some y → UsedHasOut u → Hop q p i u (Some g) down up →
       Hop q p i u (Some (with_phase Live g)) down (up ++ Resv l e k y ∷ [])
-  lit_answers u g l e k y down up armed over here out h =
+  live_answers u g l e k y down up armed over here out h =
       let t = armed_answers (role_of q) (leg_kind u) (map msg_kind down) (map msg_kind up) (rw armed at h.shape) in
       let sent : SentOn u y = was_sent u y g.in_label (out t.marked) here h.rest.labels in
       let kept : Rest q p i u (Some (with_phase Live g)) down up =

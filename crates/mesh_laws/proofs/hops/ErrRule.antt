@@ -163,16 +163,16 @@ module _ (t : Network) (q : Purpose) (s : Mesh) (l : Lsp) (p : Plan) (i : ℕ) (
         (contention_passes q p k (leg_at s l (node_at p k)) g l e at code _ _ armed (again_before k eq)))
         again_after (λ k eq none. absurd cc) refl
 
-    is_armed_it : is_armed g.phase ≡ true
-    is_armed_it = rw armed refl
+    armed_test : is_armed g.phase ≡ true
+    armed_test = rw armed refl
 
     again : Before i → Keeps (leg_contended g message)
     again (inl first) =
         let fits' : LegFits t q l p 0 g = rw first at fits in
-        rw (is_armed_it, previous_none t q l p g fits') (first_again first)
+        rw (armed_test, previous_none t q l p g fits') (first_again first)
     again (inr (j, before)) =
         let fits' : LegFits t q l p (suc j) g = rw before fits in
-        rw (is_armed_it, previous_is t q l p j g fits') (again_back j before)
+        rw (armed_test, previous_is t q l p j g fits') (again_back j before)
 
   -- or to a torn leg, which stays
   stays : gone ≡ false → (g : Leg) → leg_at s l (node_at p i) ≡ Some g → LegFits t q l p i g →

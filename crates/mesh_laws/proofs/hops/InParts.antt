@@ -30,12 +30,12 @@ leg_answers p s a x g None = puts (connected g None x) []
 leg_answers p s a x g (Some h) = passed_back p a g h x (label_back p (labels_left p s g h) x)
 
 -- an Armed leg is Live
-abbrev pub leg_lit : Leg → Option Neighbour → Answer
-leg_lit g None = puts (with_phase Live g) []
-leg_lit g (Some h) = puts (with_phase Live g) (resv_to g (Some h) g.in_label)
+abbrev pub leg_confirmed : Leg → Option Neighbour → Answer
+leg_confirmed g None = puts (with_phase Live g) []
+leg_confirmed g (Some h) = puts (with_phase Live g) (resv_to g (Some h) g.in_label)
 
 abbrev pub leg_again : Arrival → ℕ → Leg → Answer
-leg_again a x g = if is_confirmed a x g then leg_lit g (previous g) else nothing
+leg_again a x g = if is_confirmed a x g then leg_confirmed g (previous g) else nothing
 
 abbrev pub leg_of_resv : LocalNode → NodeState → Arrival → ℕ → Option Leg → Answer
 leg_of_resv p s a x None = nothing
@@ -171,15 +171,15 @@ answered-parts p s a x g (Some h) = sym (then-nothing (leg_answers p s a x g (So
 
 confirmed-parts : (s : NodeState) (g : Leg) (o : Option Neighbour) →
     confirmed s g o ≡
-    followed_by (leg_lit g o) (at_ingress o (call_turned (with_phase Live g) (call_with g.lsp s.calls)))
+    followed_by (leg_confirmed g o) (at_ingress o (call_turned (with_phase Live g) (call_with g.lsp s.calls)))
 confirmed-parts s g None = refl
-confirmed-parts s g (Some h) = sym (then-nothing (leg_lit g (Some h)))
+confirmed-parts s g (Some h) = sym (then-nothing (leg_confirmed g (Some h)))
 
 again-parts : (s : NodeState) (a : Arrival) (x : ℕ) (g : Leg) →
     resv_again s a x g ≡ followed_by (leg_again a x g) (call_again s a x g)
 again-parts s a x g =
     elim (is_confirmed a x g) as (λ b. cond b (confirmed s g (previous g)) nothing ≡
-    followed_by (cond b (leg_lit g (previous g)) nothing)
+    followed_by (cond b (leg_confirmed g (previous g)) nothing)
     (cond b (at_ingress (previous g) (call_turned (with_phase Live g) (call_with g.lsp s.calls))) nothing)) [
       | true ↦ confirmed-parts s g (previous g)
       | false ↦ refl

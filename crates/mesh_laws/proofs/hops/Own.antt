@@ -37,7 +37,7 @@ use Rattle.mesh_rules.specs.Events.{whole_route, first_route}
 use Rattle.mesh_laws.specs.HopLaw.{lsp_of, is_notice, is_message_of, messages_of, leg_at, mail_between}
 use Rattle.mesh_nodes.proofs.Cases.{if_cases}
 use Rattle.mesh_nodes.proofs.LegList.{found-lsp}
-use Rattle.mesh_laws.proofs.hops.InParts.{leg_answers, leg_contended, leg_disarmed, leg_lit, leg_of_err, leg_of_resv, leg_part, leg_refused, leg_removed}
+use Rattle.mesh_laws.proofs.hops.InParts.{leg_answers, leg_contended, leg_disarmed, leg_confirmed, leg_of_err, leg_of_resv, leg_part, leg_refused, leg_removed}
 use Rattle.mesh_laws.proofs.hops.Tables.{leg_after}
 use Rattle.mesh_laws.proofs.hops.Views.{SendsNoNotice, leg-here}
 use Rattle.mesh_laws.proofs.hops.Sending.{sent_by}
@@ -154,9 +154,9 @@ own-leg_answers : (l : Lsp) (p : LocalNode) (s : NodeState) (a : Arrival) (x : �
 own-leg_answers l p s a x g None is = record { legs = (is, tt); sent = tt; numbers = refl }
 own-leg_answers l p s a x g (Some h) is = own-passed_back l p a g h x (label_back p (labels_left p s g h) x) is
 
-own-leg_lit : (l : Lsp) (g : Leg) (o : Option Neighbour) → g.lsp ≡ l → Own l (leg_lit g o)
-own-leg_lit l g None is = record { legs = (is, tt); sent = tt; numbers = refl }
-own-leg_lit l g (Some h) is =
+own-leg_confirmed : (l : Lsp) (g : Leg) (o : Option Neighbour) → g.lsp ≡ l → Own l (leg_confirmed g o)
+own-leg_confirmed l g None is = record { legs = (is, tt); sent = tt; numbers = refl }
+own-leg_confirmed l g (Some h) is =
     record { legs = (is, tt); sent = own-resv_to l g (Some h) g.in_label is; numbers = refl }
 
 own-leg_of_resv : (l : Lsp) (p : LocalNode) (s : NodeState) (a : Arrival) (x : ℕ) (o : Option Leg) →
@@ -164,7 +164,7 @@ own-leg_of_resv : (l : Lsp) (p : LocalNode) (s : NodeState) (a : Arrival) (x : �
 own-leg_of_resv l p s a x None is = own-nothing l
 own-leg_of_resv l p s a x (Some g) is =
     if_cases (Own l) (is_expected a x g) _ _ (λ h. own-leg_answers l p s a x g (previous g) is)
-    (λ h. if_cases (Own l) (is_confirmed a x g) _ _ (λ c. own-leg_lit l g (previous g) is) (λ c. own-nothing l))
+    (λ h. if_cases (Own l) (is_confirmed a x g) _ _ (λ c. own-leg_confirmed l g (previous g) is) (λ c. own-nothing l))
 
 -- PathErr
 

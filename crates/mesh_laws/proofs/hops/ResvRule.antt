@@ -34,11 +34,11 @@ use Rattle.mesh_laws.proofs.hops.Chain.{LegFits, Hop, Chain}
 use Rattle.mesh_laws.proofs.hops.Changed.{Sends}
 use Rattle.mesh_laws.proofs.hops.Sending.{sent_by, sends_none, sends_back, sends_on_back}
 use Rattle.mesh_laws.proofs.hops.LegChanges.{Before, before_or_first, same_of, asked_phase, armed_phase, in_label_is, in_use_out, live_fits, torn_not_armed, torn_not_asked, closed_torn, closed_fits, connected_fits, connected_kind, previous_is, previous_none, following_is}
-use Rattle.mesh_laws.proofs.hops.Activation.{lights, lit_answers}
+use Rattle.mesh_laws.proofs.hops.Activation.{goes_live, live_answers}
 use Rattle.mesh_laws.proofs.hops.ActivationRule.{resv-is}
 use Rattle.mesh_laws.proofs.hops.Downstream.{asked_reserved, asked_lets_go}
 use Rattle.mesh_laws.proofs.hops.Upstream.{resv_connects, resv_closes, resv_kept, resv_sent}
-use Rattle.mesh_laws.proofs.hops.InParts.{leg_answers, leg_lit, leg_of_resv}
+use Rattle.mesh_laws.proofs.hops.InParts.{leg_answers, leg_confirmed, leg_of_resv}
 use Rattle.mesh_laws.proofs.hops.Taken.{KeepsUp, up_hop, up_taken}
 
 module _ (t : Network) (q : Purpose) (s : Mesh) (l : Lsp) (p : Plan) (i : ℕ) (route : IsRoute t l.ingress p)
@@ -187,20 +187,20 @@ module _ (t : Network) (q : Purpose) (s : Mesh) (l : Lsp) (p : Plan) (i : ℕ) (
     module _ (armed : g.phase ≡ Armed) where
       far_has :
           Hop q p i (Some (with_phase Live g)) (leg_at s l far) (mail_between s l n far ++ []) (messages_of l rest)
-      far_has = lights q p i g (leg_at s l far) (Resv l e k x) _ _ armed refl hop_of
+      far_has = goes_live q p i g (leg_at s l far) (Resv l e k x) _ _ armed refl hop_of
 
       -- at the ingress
-      first_lit : i ≡ 0 → Keeps (leg_lit g None)
-      first_lit first =
+      first_confirmed : i ≡ 0 → Keeps (leg_confirmed g None)
+      first_confirmed first =
           up_taken t q s l p i route chain below (Resv l e k x) rest was own
           (puts (with_phase Live g) []) (Some (with_phase Live g)) [] []
           (rw mine refl) (sends_none l p i) (live_fits t q l p i g fits armed)
           (λ j eq. absurd (omega arith)) far_has (λ j eq gone. absurd cc) refl
 
       -- elsewhere its label goes back
-      lit_back : (j : ℕ) → suc j ≡ i → LegFits t q l p (suc j) g →
-          Keeps (leg_lit g (Some (record { node = node_at p j; fibre = fibre_at t p j })))
-      lit_back j before fits' =
+      confirmed_back : (j : ℕ) → suc j ≡ i → LegFits t q l p (suc j) g →
+          Keeps (leg_confirmed g (Some (record { node = node_at p j; fibre = fibre_at t p j })))
+      confirmed_back j before fits' =
           let into = in_label_is t q l p j g fits' (rw armed refl) in
           let resv : Msg = Resv g.lsp g.egress (link_at p j) into.0 in
           let before_it : Neighbour = record { node = node_at p j; fibre = fibre_at t p j } in
@@ -213,18 +213,18 @@ module _ (t : Network) (q : Purpose) (s : Mesh) (l : Lsp) (p : Plan) (i : ℕ) (
           (sends_back t l l.ingress p route j resv (omega arith) mine))
           (live_fits t q l p i g fits armed)
           (λ m eq. let at_j : m ≡ j = omega arith in
-          lit_answers q p m (leg_at s l (node_at p m)) g g.lsp g.egress (link_at p j) into.0 _ _ armed (rw at_j refl)
+          live_answers q p m (leg_at s l (node_at p m)) g g.lsp g.egress (link_at p j) into.0 _ _ armed (rw at_j refl)
           into.1 (in_use_out t q l p m (leg_at s l (node_at p m)) (chain.fits m (omega arith)) (omega arith))
           (hop_before m eq))
           far_has (λ m eq gone. absurd cc) refl)
 
-      lit : Before i → Keeps (leg_lit g (previous g))
-      lit (inl first) =
+      confirmed_at : Before i → Keeps (leg_confirmed g (previous g))
+      confirmed_at (inl first) =
           let fits' : LegFits t q l p 0 g = rw first at fits in
-          rw (previous_none t q l p g fits') (first_lit first)
-      lit (inr (j, before)) =
+          rw (previous_none t q l p g fits') (first_confirmed first)
+      confirmed_at (inr (j, before)) =
           let fits' : LegFits t q l p (suc j) g = rw before fits in
-          rw (previous_is t q l p j g fits') (lit_back j before fits')
+          rw (previous_is t q l p j g fits') (confirmed_back j before fits')
 
       -- the label is its label out
       its_label : g.out_label ≡ Some x
@@ -248,7 +248,7 @@ module _ (t : Network) (q : Purpose) (s : Mesh) (l : Lsp) (p : Plan) (i : ℕ) (
             same (link_at p i).0,
             its_label,
           ) (same x) in
-          rw (waits, test) (lit (before_or_first i))
+          rw (waits, test) (confirmed_at (before_or_first i))
 
     by_kind : (r : Role) (k : LegKind) → role_of q ≡ r → leg_kind (Some g) ≡ k → TakesResv r k →
         Keeps (leg_of_resv place state came x (Some g))
