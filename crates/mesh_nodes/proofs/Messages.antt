@@ -154,7 +154,8 @@ module _ (p : LocalNode) (s : NodeState) (g : Leg) (e : PathFailure) (W : Type 0
       (λ t. if_cases (AnswerFits p s W) (is_closing g.phase) _ _ (λ c. gone-fits) (λ c. nothing-fits p s W fits))
 
 err-fits : (p : LocalNode) (s : NodeState) (u : NodeId) (e : PathFailure) (W : Type 0) (o : Option Leg) →
-    LocalNodeFits p → NodeFits p s → find_leg e.lsp s.legs ≡ o → (W → IsWritableMsg e.msg) → AnswerFits p s W (path_err_with s u e o)
+    LocalNodeFits p → NodeFits p s → find_leg e.lsp s.legs ≡ o → (W → IsWritableMsg e.msg) →
+    AnswerFits p s W (path_err_with s u e o)
 err-fits p s u e W None place fits found writable = nothing-fits p s W fits
 err-fits p s u e W (Some g) place fits found writable =
     let stands = leg-stands p s e.lsp g fits found in

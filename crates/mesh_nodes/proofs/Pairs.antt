@@ -40,8 +40,9 @@ route-written p next w fits here =
     (fits.out_fibre ∙ fits.next_node ∙ ap not (fits.leaves here)) (fits.short here)
 
 -- s is what the rule reads, w the leg of the working LSP; these legs stand when the rule is carried out
-module _ (p : LocalNode) (s : NodeState) (legs : List Leg) (c : CallRec) (w : Leg) (W : Type 0) (place : LocalNodeFits p)
-    (fits : NodeFits p (record s { legs = legs })) (many : length legs ≡ length s.legs) (leg : LegFits p s.lsp w)
+module _ (p : LocalNode) (s : NodeState) (legs : List Leg) (c : CallRec) (w : Leg) (W : Type 0)
+    (place : LocalNodeFits p) (fits : NodeFits p (record s { legs = legs }))
+    (many : length legs ≡ length s.legs) (leg : LegFits p s.lsp w)
     (begins : w.lsp.ingress.0 ≡ p.id.0) (here : CallFits p c) where
   pub bare-fits : (cause : Cause) → AnswerFits p (record s { legs = legs }) W (leaves_bare c cause)
   bare-fits cause = record {

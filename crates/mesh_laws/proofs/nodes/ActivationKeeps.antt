@@ -1,11 +1,11 @@
 -- A Path that activates a backup, and the answers to it, keep the facts of a node.
-use Rattle.std.proofs.Common.{◌≡◌, ℕ, true, false, nat_eq, [], ◌∷◌, refl, sym, ap, subst, arith}
+use Rattle.std.proofs.Common.{◌≡◌, ℕ, true, false, nat_eq, [], refl, sym, ap, subst, arith}
 use Rattle.std.specs.Prelude.{◌&&◌, Option, Some, None}
 use Rattle.ason_base.specs.Codes.{busy_code}
 use Rattle.ason_base.specs.declared.calls.CallState.{CallState}
 use Rattle.ason_base.specs.declared.calls.Cause.{Cause}
 use Rattle.ason_base.specs.declared.calls.Cause.TheVariants.{Code, Unset}
-use Rattle.ason_base.specs.declared.calls.CallState.TheVariants.{Stuck, Turned, Turning}
+use Rattle.ason_base.specs.declared.calls.CallState.TheVariants.{Stuck, Turned}
 use Rattle.ason_base.specs.declared.calls.Phase.{Phase}
 use Rattle.ason_base.specs.declared.calls.Phase.TheVariants.{Armed, Held, Live}
 use Rattle.ason_base.specs.declared.calls.Role.TheVariants.{Back}
@@ -17,12 +17,12 @@ use Rattle.ason_base.specs.declared.tables.Leg.{Leg}
 use Rattle.mesh_rules.specs.declared.arrivals.Arrival.{Arrival}
 use Rattle.mesh_rules.specs.declared.neighbours.Neighbour.{Neighbour}
 use Rattle.mesh_rules.specs.ActivationAnswers.{confirmed, contended, disarmed, is_confirmed, resv_again}
-use Rattle.mesh_rules.specs.Activations.{activated, armed_on, is_contended, path_again}
+use Rattle.mesh_rules.specs.Activations.{armed_on, is_contended, path_again}
 use Rattle.mesh_rules.specs.CallSteps.{call_contended, call_turned}
 use Rattle.mesh_rules.specs.Calls.{call_with, find_call, is_turning}
-use Rattle.mesh_rules.specs.Changes.{Answer, changed, followed_by, puts}
-use Rattle.mesh_rules.specs.Legs.{find_leg, following, is_armed, is_beyond_asked, is_closing, is_held, is_in_use, is_over, is_work, leg_of, previous, with_leg, with_phase}
-use Rattle.mesh_rules.specs.LocalNodes.{LocalNode, own_link}
+use Rattle.mesh_rules.specs.Changes.{changed, followed_by, puts}
+use Rattle.mesh_rules.specs.Legs.{find_leg, following, is_armed, is_beyond_asked, is_closing, is_held, is_over, is_work, leg_of, previous, with_leg, with_phase}
+use Rattle.mesh_rules.specs.LocalNodes.{LocalNode}
 use Rattle.mesh_rules.specs.Paths.{PathRequest, path_with}
 use Rattle.mesh_rules.specs.State.{NodeState}
 use Rattle.mesh_rules.specs.Turns.{decide}

@@ -1,8 +1,7 @@
 -- A Resv, a PathErr and a PathTear keep the facts of a node.
-use Rattle.std.proofs.Common.{◌≡◌, ℕ, true, false, not, nat_eq, refl, sym, ap, subst, ◌∙◌, arith}
+use Rattle.std.proofs.Common.{◌≡◌, ℕ, true, false, not, nat_eq, refl, sym, ap, subst}
 use Rattle.std.specs.Prelude.{◌&&◌, Option, Some, None, is_some}
 use Rattle.ason_base.specs.Labels.{has}
-use Rattle.ason_base.specs.declared.ids.LinkId.{LinkId}
 use Rattle.ason_base.specs.declared.ids.Lsp.{Lsp}
 use Rattle.ason_base.specs.declared.ids.Fibre.{Fibre}
 use Rattle.ason_base.specs.declared.ids.NodeId.{NodeId}
@@ -18,10 +17,10 @@ use Rattle.mesh_rules.specs.State.{NodeState}
 use Rattle.mesh_rules.specs.Resvs.{is_expected, label_back, labels_left, passed_back, answered, resv_with}
 use Rattle.mesh_rules.specs.PathErrs.{PathFailure, err_passed, removed, path_err_with}
 use Rattle.mesh_rules.specs.Tears.{torn, tear_with}
-use Rattle.mesh_nodes.proofs.Cases.{if_cases, both_left, both_right, not-true}
+use Rattle.mesh_nodes.proofs.Cases.{if_cases, both_left, both_right}
 use Rattle.mesh_laws.proofs.nodes.Facts.{LegFacts, NodeFacts}
 use Rattle.mesh_nodes.proofs.LegList.{found-lsp}
-use Rattle.mesh_laws.proofs.nodes.NewLegs.{beside, alone, alone_fibre, back-has, closed-stands, connected-stands, ingress-stands}
+use Rattle.mesh_laws.proofs.nodes.NewLegs.{beside, alone_fibre, back-has, closed-stands, connected-stands, ingress-stands}
 use Rattle.mesh_laws.proofs.nodes.ActivationKeeps.{keeps-contended, keeps-resv_again}
 use Rattle.mesh_laws.proofs.nodes.CallStepKeeps.{keeps-connected_here, keeps-refused_here}
 use Rattle.mesh_laws.proofs.nodes.LegEnds.{has_previous-away, no_previous-here, over-some, previous-away}

@@ -1,28 +1,27 @@
 -- A call changes together with its leg at the ingress, when the Resv or the PathErr comes.
-use Rattle.std.proofs.Common.{◌≡◌, ℕ, Bool, true, false, nat_eq, List, refl, sym, ap, subst, arith, inl, inr}
+use Rattle.std.proofs.Common.{◌≡◌, ℕ, Bool, true, false, List, refl, sym, ap, subst, arith, inl, inr}
 use Rattle.std.specs.Prelude.{Option, Some, None, IfSome}
-use Rattle.ason_base.specs.declared.ids.CallNo.{CallNo}
 use Rattle.ason_base.specs.declared.ids.Lsp.{Lsp}
 use Rattle.ason_base.specs.declared.ids.NodeId.{NodeId}
 use Rattle.ason_base.specs.declared.calls.CallState.TheVariants.{Asking, Pairing}
 use Rattle.ason_base.specs.declared.calls.Cause.{Cause}
-use Rattle.ason_base.specs.declared.calls.Phase.TheVariants.{Asked, Held, Live}
+use Rattle.ason_base.specs.declared.calls.Phase.TheVariants.{Asked, Live}
 use Rattle.ason_base.specs.declared.calls.Role.{Role}
 use Rattle.ason_base.specs.declared.calls.Role.TheVariants.{Work, Back}
 use Rattle.ason_base.specs.declared.tables.CallRec.{CallRec}
 use Rattle.ason_base.specs.declared.tables.Leg.{Leg}
 use Rattle.ason_base.specs.Lsps.{same_lsp}
 use Rattle.mesh_rules.specs.Legs.{find_leg, is_closing, is_work, connected, reserved, with_leg, without_leg, leg_of}
-use Rattle.mesh_rules.specs.Calls.{find_call, call_with, bare, blocked, guarded, names, unbacked, with_call}
+use Rattle.mesh_rules.specs.Calls.{find_call, call_with, bare, blocked, names, unbacked, with_call}
 use Rattle.mesh_rules.specs.State.{NodeState}
 use Rattle.mesh_nodes.proofs.LegList.{same_lsp-eq, same_lsp-refl, find-with_leg, find-without_leg}
-use Rattle.mesh_nodes.proofs.CallList.{called-found, called-names, not_called, rise-with_call}
+use Rattle.mesh_nodes.proofs.CallList.{called-found, called-names, not_called}
 use Rattle.mesh_laws.specs.CallLaw.{FitsLegs, IsNamed, fits_reports, phase_of}
 use Rattle.mesh_rules.specs.Turns.{has_any}
 use Rattle.mesh_laws.proofs.nodes.CallTouched.{touched-changes}
 use Rattle.mesh_laws.proofs.nodes.Facts.{NodeFacts}
-use Rattle.mesh_laws.proofs.nodes.CallParts.{Becomes, CallPart, itself-became, leg_of-stays, named-by, named-lsp, named-stays, names-back, names-work, other-stays, put-once, together-part}
-use Rattle.mesh_laws.proofs.nodes.Parts.{back-row, call_part, work-row}
+use Rattle.mesh_laws.proofs.nodes.CallParts.{Becomes, CallPart, leg_of-stays, named-by, named-lsp, named-stays, names-back, names-work, other-stays}
+use Rattle.mesh_laws.proofs.nodes.Parts.{back-row, work-row}
 use Rattle.mesh_laws.proofs.nodes.States.{Row, asked-back, asked-work}
 
 -- a leg that isn't torn has a call at its ingress

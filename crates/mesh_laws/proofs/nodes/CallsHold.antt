@@ -32,7 +32,7 @@ use Rattle.mesh_rules.specs.declared.changes.CallChange.TheVariants.{Goes, Put}
 use Rattle.mesh_rules.specs.declared.changes.CallChange.{CallChange}
 use Rattle.mesh_rules.specs.declared.limits.TheConstants.{LAST_NUMBER}
 use Rattle.mesh_rules.specs.declared.neighbours.Neighbour.{Neighbour}
-use Rattle.mesh_rules.specs.ActivationAnswers.{confirmed, contended, disarmed, is_confirmed, resv_again}
+use Rattle.mesh_rules.specs.ActivationAnswers.{confirmed, disarmed, is_confirmed}
 use Rattle.mesh_rules.specs.Activations.{armed_on, is_contended, path_again}
 use Rattle.mesh_rules.specs.Alarms.{enters, on_alarm, on_clear}
 use Rattle.mesh_rules.specs.CallSteps.{call_answered, call_contended, call_refused, call_turned}

@@ -1,5 +1,5 @@
 -- Orders, alarms and clears keep the facts of a node.
-use Rattle.std.proofs.Common.{◌≡◌, true, nat_eq, List, refl, sym, ap, subst}
+use Rattle.std.proofs.Common.{◌≡◌, true, nat_eq, refl, sym, subst}
 use Rattle.std.specs.Prelude.{◌&&◌, Option, Some, None}
 use Rattle.ason_base.specs.declared.calls.CallState.{CallState}
 use Rattle.ason_base.specs.declared.calls.CallState.TheVariants.{Asking, Bare, Pairing, Guarded, Turning, Turned, Stuck, Blocked}
@@ -8,19 +8,17 @@ use Rattle.ason_base.specs.declared.commands.Command.TheVariants.{Setup, Release
 use Rattle.ason_base.specs.declared.commands.DeskItem.{DeskItem}
 use Rattle.ason_base.specs.declared.commands.DeskItem.TheVariants.{Order, Alarm, Clear}
 use Rattle.ason_base.specs.declared.ids.CallNo.{CallNo}
-use Rattle.ason_base.specs.declared.ids.Lsp.{Lsp}
 use Rattle.ason_base.specs.declared.ids.NodeId.{NodeId}
 use Rattle.ason_base.specs.declared.tables.CallRec.{CallRec}
 use Rattle.ason_base.specs.declared.tables.Leg.{Leg}
 use Rattle.mesh_rules.specs.Calls.{find_call, is_bare}
-use Rattle.mesh_rules.specs.Legs.{find_leg, leg_of}
+use Rattle.mesh_rules.specs.Legs.{leg_of}
 use Rattle.mesh_rules.specs.LocalNodes.{LocalNode}
 use Rattle.mesh_rules.specs.Orders.{on_item, on_order}
 use Rattle.mesh_rules.specs.Protects.{protect_with, protects}
 use Rattle.mesh_rules.specs.State.{NodeState}
 use Rattle.mesh_nodes.proofs.Cases.{both_right, if_cases}
 use Rattle.mesh_nodes.proofs.CallList.{found-number}
-use Rattle.mesh_nodes.proofs.LegList.{found-lsp}
 use Rattle.mesh_laws.proofs.nodes.Facts.{NodeFacts}
 use Rattle.mesh_laws.proofs.nodes.CallParts.{put-once}
 use Rattle.mesh_laws.proofs.nodes.LegEnds.{leg_of-own}

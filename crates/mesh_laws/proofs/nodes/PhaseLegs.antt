@@ -1,7 +1,6 @@
 -- A leg that stands and gets another phase may stand: an activation passes it, is confirmed or is refused.
-use Rattle.std.proofs.Common.{◌≡◌, ℕ, Bool, true, false, not, nat_eq, List, [], ◌∷◌, refl, sym, subst, ap, ◌∙◌, arith, inl, inr}
-use Rattle.std.specs.Prelude.{◌⊎◌, is_some, ◌||◌, ◌&&◌, Option, Some, None, IsTrue}
-use Rattle.std.specs.List.{list_any}
+use Rattle.std.proofs.Common.{◌≡◌, ℕ, Bool, true, false, not, nat_eq, List, refl, sym, subst, ap, ◌∙◌, arith, inl, inr}
+use Rattle.std.specs.Prelude.{is_some, ◌||◌, ◌&&◌, Option, Some, None}
 use Rattle.ason_base.specs.declared.calls.Phase.{Phase}
 use Rattle.ason_base.specs.declared.calls.Phase.TheVariants.{Asked, Held, Armed, Live, Closing, Falling}
 use Rattle.ason_base.specs.declared.calls.Role.TheVariants.{Back}
@@ -14,7 +13,7 @@ use Rattle.mesh_rules.specs.Legs.{find_leg, is_armed, is_beyond_asked, is_busy, 
 use Rattle.mesh_nodes.proofs.LegList.{found-lsp, same_lsp-eq, same_lsp-refl}
 use Rattle.mesh_laws.specs.LabelLaw.{MayShare}
 use Rattle.mesh_laws.proofs.nodes.Facts.{FitsPhase, HasItsLabels, LegFacts}
-use Rattle.mesh_laws.proofs.nodes.LegParts.{LegPart, MayStand, Taken, taken, takes-by}
+use Rattle.mesh_laws.proofs.nodes.LegParts.{LegPart, MayStand, taken, takes-by}
 use Rattle.mesh_laws.proofs.nodes.Sharing.{none-found}
 
 -- Phases

@@ -1,6 +1,6 @@
 -- What the state of a call tells of the phases of its legs, and of its reports.
-use Rattle.std.proofs.Common.{◌≡◌, Bool, true, false, refl, inl, inr}
-use Rattle.std.specs.Prelude.{◌⊎◌, ◌||◌, Option, Some, None}
+use Rattle.std.proofs.Common.{◌≡◌, Bool, true, refl}
+use Rattle.std.specs.Prelude.{Option, Some, None}
 use Rattle.ason_base.specs.declared.calls.CallState.{CallState}
 use Rattle.ason_base.specs.declared.calls.CallState.TheVariants.{Asking, Bare, Pairing, Guarded, Turning, Turned, Stuck, Blocked}
 use Rattle.ason_base.specs.declared.calls.Phase.{Phase}
