@@ -1,0 +1,2 @@
+pub mod NoCall
+pub mod Notices

@@ -1,0 +1,87 @@
+-- What an alarm, a clear and a Notify do at a node of these tables (RFC 3473, section 4.3). What becomes of the call at the
+-- ingress isn't told here: it's as at a node without calls.
+use Rattle.std.specs.Prelude.{◌&&◌, Bool, false, not, [], ◌∷◌, Option, Some, None, is_some, if◌then◌else◌}
+use Rattle.ason_base.specs.declared.codes.ErrCode.{ErrCode}
+use Rattle.ason_base.specs.declared.ids.Fibre.{Fibre}
+use Rattle.ason_base.specs.declared.ids.NodeId.{NodeId}
+use Rattle.ason_base.specs.declared.messages.Msg.{Msg}
+use Rattle.ason_base.specs.declared.messages.Msg.TheVariants.{Path, Resv, PathTear, PathErr, Notify}
+use Rattle.ason_base.specs.declared.tables.Leg.{Leg}
+use Rattle.mesh_rules.specs.declared.neighbours.Neighbour.{Neighbour}
+use Rattle.mesh_rules.specs.Alarms.{on_alarm, on_clear}
+use Rattle.mesh_rules.specs.Changes.{Answer, down_after, nothing, sends, to_node}
+use Rattle.mesh_rules.specs.Legs.{find_leg, following, is_closing, is_node, previous}
+use Rattle.mesh_rules.specs.Notifies.{on_notify}
+use Rattle.mesh_rules.specs.Reports.{reported}
+use Rattle.leg_table.specs.States.{legs_state, local_of}
+use Rattle.leg_table.specs.Tables.{LegTable}
+
+-- Alarms and clears
+
+abbrev pub alarm_answer : LegTable → Fibre → Answer
+alarm_answer t f = on_alarm (local_of t) (legs_state t) f
+
+abbrev pub clear_answer : LegTable → Fibre → Answer
+clear_answer t f = on_clear (local_of t) (legs_state t) f
+
+-- Notifies
+
+-- it comes from the next node of a leg that isn't torn, and tells that a fibre went down or came up
+abbrev pub takes_notify : NodeId → ErrCode → Leg → Bool
+takes_notify u code g = not (is_closing g.phase) && (is_node (following g) u && is_some (reported code))
+
+-- to this previous node, unchanged
+abbrev pub passed_to : Msg → Option Neighbour → Answer
+passed_to m None = nothing
+passed_to m (Some h) = sends (to_node h.node m ∷ [])
+
+abbrev pub passed_back : Leg → Msg → Answer
+passed_back g m = passed_to m (previous g)
+
+abbrev pub passed_here : NodeId → ErrCode → Msg → Option Leg → Answer
+passed_here u code m None = nothing
+passed_here u code m (Some g) = if takes_notify u code g then passed_back g m else nothing
+
+-- the LSP begins here
+abbrev pub begins_here : Leg → Bool
+begins_here g = not (is_some (previous g))
+
+-- the leg takes the Notify, and its LSP begins here
+abbrev pub reports_leg : NodeId → ErrCode → Option Leg → Bool
+reports_leg u code None = false
+reports_leg u code (Some g) = takes_notify u code g && begins_here g
+
+-- Where the call follows
+
+-- a message of another kind reports nothing
+abbrev pub reports : LegTable → NodeId → Msg → Bool
+reports t u (Path l e k route set up r) = false
+reports t u (Resv l e k x) = false
+reports t u (PathTear l e k) = false
+reports t u (PathErr l e at gone code) = false
+reports t u (Notify l e at k code) = reports_leg u code (find_leg l t.legs)
+
+-- What is answered
+
+-- a message of another kind does nothing
+abbrev pub pass_answer : LegTable → NodeId → Msg → Answer
+pass_answer t u (Path l e k route set up r) = nothing
+pass_answer t u (Resv l e k x) = nothing
+pass_answer t u (PathTear l e k) = nothing
+pass_answer t u (PathErr l e at gone code) = nothing
+pass_answer t u (Notify l e at k code) =
+    on_notify (local_of t) (legs_state t) u (record {
+      lsp = l;
+      msg = Notify l e at k code;
+      at = at;
+      link = k;
+      code = code;
+    })
+
+-- The tables after it
+
+abbrev pub after_alarm : LegTable → Fibre → LegTable
+after_alarm t f = record t { down = down_after (alarm_answer t f).down t.down }
+
+abbrev pub after_clear : LegTable → Fibre → LegTable
+after_clear t f = record t { down = down_after (clear_answer t f).down t.down }
