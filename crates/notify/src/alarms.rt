@@ -117,11 +117,7 @@ fn know_down(
 /// What an alarm of a fibre would change and send: the fibre is known to be down, and the previous
 /// node of each leg that it leads to is told, in order of LSP. An alarm of a fibre that doesn't come
 /// in here, or that is known to be down, does nothing.
-pub fn alarm_change(
-    alloc: Global,
-    tables: &NodeTables,
-    fibre: Fibre,
-) -> Result<Change, OutOfMemory>
+pub fn alarm_change(alloc: Global, tables: &NodeTables, fibre: Fibre) -> Result<Change, OutOfMemory>
     ensures { IfOk result (λ c. c ≡ alarm_answer tables.now fibre) }
 {
     if !enters(tables, fibre) || tables.is_down(fibre) {
@@ -135,11 +131,7 @@ pub fn alarm_change(
 /// What a clear of a fibre would change and send: the fibre is up again, and the previous node of
 /// each leg that it leads to is told, in order of LSP. A clear of a fibre that isn't known to be
 /// down does nothing.
-pub fn clear_change(
-    alloc: Global,
-    tables: &NodeTables,
-    fibre: Fibre,
-) -> Result<Change, OutOfMemory>
+pub fn clear_change(alloc: Global, tables: &NodeTables, fibre: Fibre) -> Result<Change, OutOfMemory>
     ensures { IfOk result (λ c. c ≡ clear_answer tables.now fibre) }
 {
     if !enters(tables, fibre) || !tables.is_down(fibre) {
