@@ -1,5 +1,5 @@
 -- One change of a leg, and the claims after it.
-use Rattle.std.proofs.Common.{◌≡◌, ◌≤◌, ◌++◌, ℕ, Bool, true, false, not, List, [], ◌∷◌, refl, sym, ap, subst, ◌∙◌}
+use Rattle.std.proofs.Common.{◌≡◌, ◌≤◌, ◌⊎◌, inl, inr, ◌++◌, ℕ, Bool, true, false, not, List, [], ◌∷◌, refl, sym, ap, subst, ◌∙◌}
 use Rattle.std.specs.Prelude.{◌||◌, Option, Some, None, IfSome}
 use Rattle.std.specs.List.{AllByRecursion, list_any}
 use Rattle.ason_base.specs.declared.ids.Fibre.{Fibre}
@@ -19,7 +19,7 @@ use Rattle.mesh_nodes.proofs.Cases.{both_right}
 use Rattle.mesh_nodes.proofs.LegList.{find-with_leg, find-without_leg, same_lsp-eq, same_lsp-refl}
 use Rattle.mesh_nodes.proofs.Links.{any-left}
 use Rattle.leg_table.specs.declared.labels.TakenLabel.{TakenLabel}
-use Rattle.leg_table.specs.LegClaims.{ClaimsFit, IsClaimOfLeg, LabelsFit, MayAllEnter, MayBeFirst, MayBeMade, MayClaim, MayEnter, MayTake, OwnerFits, SameFibres, first_claim, freed_of, kind_here, taken, taken_of}
+use Rattle.leg_table.specs.LegClaims.{ClaimsFit, IsClaimOfLeg, LabelsFit, MayAllEnter, MayBeFirst, MayBeMade, MayClaim, MayEnter, MayHave, MayKeep, MayTake, OwnerFits, SameFibres, first_claim, freed_of, kind_here, taken, taken_of}
 use Rattle.leg_table.proofs.ClaimChanges.{Entered, Left, claimed-fit, freed-fit, kind-none, left-fit, none-kind}
 use Rattle.leg_table.proofs.OwnerFibres.{comes-kept, labels-kept}
 use Rattle.leg_table.proofs.TakenLabels.{taken-takes}
@@ -105,9 +105,8 @@ pub may-enter : (p : LocalNode) (legs : List Leg) (o : List FibreClaims) (s : Li
 may-enter p legs o s (Goes l) rise fit owner may = tt
 may-enter p legs o s (Put g) rise fit owner may = go (taken g) may
   where
-    go : (t : Option TakenLabel) → IfSome t (MayTake p legs g) → IfSome t (MayClaim o legs g)
-    go None may = tt
-    go (Some t) may =
+    claims : (t : TakenLabel) → MayTake p legs g t → MayClaim o legs g t
+    claims t may =
         let comes : comes_in o t.fibre ≡ true = owner.fibres t.fibre ∙ may.comes_in in
         record {
           first = may.first;
@@ -118,6 +117,11 @@ may-enter p legs o s (Put g) rise fit owner may = go (taken g) may
               (usable-within p legs g.role g.risks t.fibre t.label may.usable);
           free = ap not (usable-unclaimed p legs g.role g.risks o s t.fibre t.label rise fit may.usable);
         }
+
+    go : (t : Option TakenLabel) → IfSome t (MayHave p legs g) → IfSome t (λ t. MayClaim o legs g t ⊎ MayKeep legs g t)
+    go None may = tt
+    go (Some t) (inl take) = inl (claims t take)
+    go (Some t) (inr keep) = inr keep
 
 no-true : (b : Bool) → not b ≡ true → b ≡ true → ⊥
 no-true true e f = cc e

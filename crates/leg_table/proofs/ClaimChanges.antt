@@ -74,7 +74,7 @@ number a b e = grind arith
 pub same_number : (n : ℕ) → nat_eq n n ≡ true
 same_number n = grind arith
 
-not-of : (b : Bool) → not b ≡ true → b ≡ false
+pub not-of : (b : Bool) → not b ≡ true → b ≡ false
 not-of true e = absurd (cc e)
 not-of false e = refl
 

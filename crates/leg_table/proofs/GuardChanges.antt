@@ -25,7 +25,7 @@ and_none true = refl
 and_none false = refl
 
 -- the label that a leg takes is this one exactly where it takes this one
-taken-place : (g : Leg) (t : TakenLabel) (f : Fibre) (x : ℕ) → taken g ≡ Some t →
+pub taken-place : (g : Leg) (t : TakenLabel) (f : Fibre) (x : ℕ) → taken g ≡ Some t →
     (same_fibre t.fibre f && nat_eq t.label x) ≡ takes f x g
 taken-place g t f x has = go (same_fibre t.fibre f && nat_eq t.label x) (takes f x g) refl refl
   where

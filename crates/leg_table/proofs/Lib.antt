@@ -1,4 +1,5 @@
 pub mod AtStart
+pub mod BusyLabels
 mod CallIndexes
 mod CallsByLsp
 pub mod Carried
@@ -7,6 +8,8 @@ pub mod GuardChanges
 mod Halved
 pub mod InFibres
 mod IndexChanges
+pub mod KeptClaims
+pub mod KeptTables
 mod LabelsKept
 pub mod LegOrder
 mod LspIndex

@@ -27,7 +27,7 @@ set-again f claims later (r ∷ o) = go (same_fibre r.fibre f) refl (set-again f
     go true e rest = rw e refl
     go false e rest = rw e (ap (λ s. r ∷ s) rest)
 
-set-same : (f : Fibre) (o : List FibreClaims) → with_claims f (claims_of f o) o ≡ o
+pub set-same : (f : Fibre) (o : List FibreClaims) → with_claims f (claims_of f o) o ≡ o
 set-same f [] = refl
 set-same f (r ∷ o) = go (same_fibre r.fibre f) (set-same f o)
   where

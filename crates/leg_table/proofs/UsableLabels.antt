@@ -36,7 +36,7 @@ or_last : (a b : Bool) → b ≡ true → (a || b) ≡ true
 or_last true b e = refl
 or_last false b e = e
 
-iff : (a b : Bool) → (a ≡ true → b ≡ true) → (b ≡ true → a ≡ true) → a ≡ b
+pub iff : (a b : Bool) → (a ≡ true → b ≡ true) → (b ≡ true → a ≡ true) → a ≡ b
 iff true true f g = refl
 iff true false f g = sym (f refl)
 iff false true f g = g refl
@@ -66,7 +66,7 @@ claims_take legs f x (c ∷ claims) each h = go (nat_eq c.label x) refl h (claim
     go false e h later = later h
 
 -- a label that a leg takes is claimed
-of_each : {X : Type 0} (p : X → Bool) (P : Type 0) (xs : List X) → AllByRecursion (λ x. p x ≡ true → P) xs →
+pub of_each : {X : Type 0} (p : X → Bool) (P : Type 0) (xs : List X) → AllByRecursion (λ x. p x ≡ true → P) xs →
     list_any p xs ≡ true → P
 of_each p P [] all h = absurd (cc h)
 of_each {X} p P (x ∷ xs) all h = go (p x) refl h (of_each p P xs all.1)
@@ -101,7 +101,7 @@ unclaimed-usable p legs risks o f rise fit owner comes =
 -- Labels that a backup may share
 
 -- what each claim that passes one test tells, that it passes another
-any-told : {X : Type 0} (P : X → Type 0) (p q : X → Bool) (xs : List X) → ((x : X) → P x → p x ≡ true → q x ≡ true) →
+pub any-told : {X : Type 0} (P : X → Type 0) (p q : X → Bool) (xs : List X) → ((x : X) → P x → p x ≡ true → q x ≡ true) →
     AllByRecursion P xs → list_any p xs ≡ true → list_any q xs ≡ true
 any-told P p q [] told all e = absurd (cc e)
 any-told {X} P p q (x ∷ xs) told all e = go (p x) refl e (any-told P p q xs told all.1)

@@ -94,6 +94,10 @@ pub record ClaimsFit (legs : List Leg) (o : List FibreClaims) : Type 0 where
       x ≤ labels_of f o
   pub live : WorksAreLive legs
 
+-- claims that fitted the legs still do
+abbrev pub ClaimsStay : List Leg → List Leg → Type 0
+ClaimsStay before after = (o : List FibreClaims) → ClaimsFit before o → ClaimsFit after o
+
 -- the claims with that of a leg that takes the label
 abbrev pub claimed_by : Leg → TakenLabel → List FibreClaims → List FibreClaims
 claimed_by g t o = claim_added t.fibre (first_claim g.role t.label g.lsp) o

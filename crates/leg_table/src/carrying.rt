@@ -1,12 +1,12 @@
 //! Carrying out what a rule changes: the legs with the labels that they take, the row that is learnt, the calls and
 //! the numbers.
 
-ghost use Rattle.std.specs.Prelude.{◌≡◌, ◌≤◌, ◌<◌, ◌+◌, [], IfOk, IfSome, None, OnErr, OnOk, Some, length, vec_capacity, vec_len};
+ghost use Rattle.std.specs.Prelude.{◌≡◌, ◌≤◌, ◌<◌, ◌+◌, ◌⊎◌, IfOk, IfSome, None, OnErr, OnOk, Some, length, vec_capacity, vec_len};
 ghost use Rattle.std.specs.List.{AllByRecursion};
 ghost use Rattle.std.specs.Option.{option_to_list};
 ghost use Rattle.mesh_rules.specs.Changes.{changed, learnt_after};
-ghost use Rattle.mesh_rules.specs.Legs.{leg_changed, legs_changed, with_leg, without_leg};
-ghost use Rattle.leg_table.specs.LegClaims.{AreOfOneNode, ClaimsFit, LabelsFit, MayAllEnter, MayAllStay, MayBeMade, MayClaim, MayEnter, MayKeep, SameFibres, StaysAs, TakesNone, taken};
+ghost use Rattle.mesh_rules.specs.Legs.{find_leg, leg_changed, legs_changed, with_leg, without_leg};
+ghost use Rattle.leg_table.specs.LegClaims.{AreOfOneNode, ClaimsFit, ClaimsStay, LabelsFit, MayAllEnter, MayAllStay, MayBeMade, MayClaim, MayEnter, MayKeep, OwnerFits, SameFibres, SharesStay, StaysAs, TakesNone, taken, taken_of};
 ghost use Rattle.leg_table.specs.States.{local_of, state_of};
 ghost use Rattle.leg_table.specs.Tables.{LegsRise};
 
@@ -81,7 +81,7 @@ fn keep_leg(legs: &mut Vec<BoxedLeg>, owner: &mut Owner, leg: BoxedLeg, label: T
     requires may { MayKeep legs.old.items leg label }
     ensures items { legs.new.items ≡ with_leg leg legs.old.items }
     ensures rising { LegsRise legs.new.items }
-    ensures len { vec_len legs.new ≡ vec_len legs.old }
+    ensures len { length legs.new.items ≡ length legs.old.items }
     ensures capacity { vec_capacity legs.new ≡ vec_capacity legs.old }
     ensures fit { ClaimsFit legs.new.items owner.new }
     ensures fibres { SameFibres owner.old owner.new }
@@ -99,7 +99,7 @@ fn stay_leg(legs: &mut Vec<BoxedLeg>, owner: &mut Owner, leg: BoxedLeg)
     requires may { StaysAs legs.old.items leg (taken leg) }
     ensures items { legs.new.items ≡ with_leg leg legs.old.items }
     ensures rising { LegsRise legs.new.items }
-    ensures len { vec_len legs.new ≡ vec_len legs.old }
+    ensures len { length legs.new.items ≡ length legs.old.items }
     ensures capacity { vec_capacity legs.new ≡ vec_capacity legs.old }
     ensures fit { ClaimsFit legs.new.items owner.new }
     ensures fibres { SameFibres owner.old owner.new }
@@ -110,24 +110,34 @@ fn stay_leg(legs: &mut Vec<BoxedLeg>, owner: &mut Owner, leg: BoxedLeg)
     }
 }
 
-/// Makes the changes, one after the other. Legs keep their labels, and there is room for them.
-pub(crate) fn keep_legs(legs: &mut Vec<BoxedLeg>, owner: &mut Owner, changes: Vec<LegEdit>)
+// Takes a leg off that takes no label.
+fn drop_leg(legs: &mut Vec<BoxedLeg>, lsp: Lsp)
+    requires rising { LegsRise legs.old.items }
+    requires none { taken_of (find_leg lsp legs.old.items) ≡ None }
+    ensures items { legs.new.items ≡ without_leg lsp legs.old.items }
+    ensures rising { LegsRise legs.new.items }
+    ensures len { length legs.new.items ≤ length legs.old.items }
+    ensures capacity { vec_capacity legs.new ≡ vec_capacity legs.old }
+    ensures claims { ClaimsStay legs.old.items legs.new.items }
+{
+    let _leg = take_leg(legs, lsp);
+}
+
+// Makes the changes, one after the other. Legs keep their labels, and there is room for them.
+fn keep_legs(legs: &mut Vec<BoxedLeg>, owner: &mut Owner, changes: Vec<LegEdit>)
     requires rising { LegsRise legs.old.items }
     requires room { vec_len legs.old + vec_len changes ≤ vec_capacity legs.old }
     requires fit { ClaimsFit legs.old.items owner.old }
     requires may { MayAllStay legs.old.items changes.items }
     ensures items { legs.new.items ≡ legs_changed changes.items legs.old.items }
     ensures rising { LegsRise legs.new.items }
-    ensures len { vec_len legs.new ≤ vec_len legs.old }
+    ensures len { length legs.new.items ≤ length legs.old.items }
     ensures fit { ClaimsFit legs.new.items owner.new }
     ensures fibres { SameFibres owner.old owner.new }
-    ensures none { changes.items ≡ [] → owner.new ≡ owner.old }
 {
     for change in changes {
         match change.into_change() {
-            BoxedChange::Goes(lsp) => {
-                let _leg = take_leg(legs, lsp);
-            }
+            BoxedChange::Goes(lsp) => drop_leg(legs, lsp),
             BoxedChange::Put(leg) => stay_leg(legs, owner, leg),
         }
     }
@@ -187,7 +197,41 @@ fn enter_leg(
     Ok(())
 }
 
-// Makes the first change, which may take a label. There is room for it. After want of memory nothing has changed.
+// Puts a leg that takes this label, or keeps it. There is room for it. After want of memory nothing has changed.
+fn label_leg(
+    legs: &mut Vec<BoxedLeg>,
+    owner: &mut Owner,
+    shares: &mut Shares,
+    alloc: Global,
+    leg: BoxedLeg,
+    label: TakenLabel,
+) -> Result<(), OutOfMemory>
+    requires rising { LegsRise legs.old.items }
+    requires room { vec_len legs.old < vec_capacity legs.old }
+    requires fit { LabelsFit legs.old.items owner.old shares.old }
+    requires taken { taken leg ≡ Some label }
+    requires may { MayClaim owner.old legs.old.items leg label ⊎ MayKeep legs.old.items leg label }
+    ensures ok { OnOk result (legs.new.items ≡ with_leg leg legs.old.items) }
+    ensures err { OnErr result (legs.new.items ≡ legs.old.items) }
+    ensures err_owner { OnErr result (owner.new ≡ owner.old) }
+    ensures err_shares { OnErr result (shares.new ≡ shares.old) }
+    ensures rising { LegsRise legs.new.items }
+    ensures len { vec_len legs.new ≤ vec_len legs.old + 1 }
+    ensures capacity { vec_capacity legs.new ≡ vec_capacity legs.old }
+    ensures fit { LabelsFit legs.new.items owner.new shares.new }
+    ensures fibres { SameFibres owner.old owner.new }
+{
+    let lsp = leg.leg().lsp;
+    if has_taken(legs, lsp) {
+        keep_leg(legs, owner, leg, label);
+        Ok(())
+    } else {
+        enter_leg(legs, owner, shares, alloc, leg, label)
+    }
+}
+
+// Makes the first change, which may take a label, or keep one. There is room for it. After want of memory nothing has
+// changed.
 fn change_first(
     legs: &mut Vec<BoxedLeg>,
     owner: &mut Owner,
@@ -219,11 +263,7 @@ fn change_first(
                 put_leg(legs, owner, shares, leg);
                 Ok(())
             }
-            Some(label) if has_taken(legs, leg.leg().lsp) => {
-                keep_leg(legs, owner, leg, label);
-                Ok(())
-            }
-            Some(label) => enter_leg(legs, owner, shares, alloc, leg, label),
+            Some(label) => label_leg(legs, owner, shares, alloc, leg, label),
         },
     }
 }
@@ -313,6 +353,31 @@ pub(crate) fn carry_out_tables(
     tables.legs.reserve(changes.len())?;
     change_legs(&mut tables.legs, owner, shares, alloc, changes)?;
     put_row(&mut tables.rows, row);
+    Ok(())
+}
+
+/// Carries out changes of legs that stand and keep their labels, one after the other. The owner's claims are armed and
+/// disarmed with the legs. After want of memory nothing has changed.
+pub(crate) fn carry_out_kept(
+    tables: &mut NodeTables,
+    owner: &mut Owner,
+    changes: Vec<LegEdit>,
+) -> Result<(), OutOfMemory>
+    requires claims { ClaimsFit tables.old.legs owner.old }
+    requires fibres { OwnerFits (local_of tables.old) owner.old }
+    requires may { MayAllStay tables.old.legs changes.items }
+    ensures ok { OnOk result
+        (tables.new ≡ record tables.old {
+          legs = legs_changed changes.items tables.old.legs;
+        }) }
+    ensures err { OnErr result (tables.new ≡ tables.old) }
+    ensures err_owner { OnErr result (owner.new ≡ owner.old) }
+    ensures claims { ClaimsFit tables.new.legs owner.new }
+    ensures fibres { OwnerFits (local_of tables.new) owner.new }
+    ensures shares { SharesStay tables.old owner.old tables.new owner.new }
+{
+    tables.legs.reserve(changes.len())?;
+    keep_legs(&mut tables.legs, owner, changes);
     Ok(())
 }
 

@@ -9,7 +9,7 @@ ghost use Rattle.leg_table.specs.LegClaims.{ChangesNoLabel, MayAllStay, MayBeMad
 ghost use Rattle.leg_table.specs.States.{local_of, state_of};
 
 use crate::call_table::Calls;
-use crate::carrying::{carry_out_tables, change_legs_alone, keep_legs};
+use crate::carrying::{carry_out_kept, carry_out_tables, change_legs_alone};
 use crate::changes::Change;
 use crate::tables::NodeTables;
 use ason_base::{OutOfMemory, Outs};
@@ -65,8 +65,9 @@ pub fn handle_kept(
     ensures err_owner { OnErr result (owner.new ≡ owner.old) }
 {
     let Change { legs, sent, .. } = change;
-    tables.legs.reserve(legs.len())?;
-    keep_legs(&mut tables.legs, owner, legs);
+    if !legs.is_empty() {
+        carry_out_kept(tables, owner, legs)?;
+    }
     Ok(sent)
 }
 

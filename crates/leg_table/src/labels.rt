@@ -1,6 +1,7 @@
 //! The labels that legs take.
 
 ghost use Rattle.std.specs.Prelude.{◌≡◌, IsTrue, Some};
+ghost use Rattle.std.specs.List.{list_any};
 ghost use Rattle.link_owner.specs.Claims.{is_busy};
 ghost use Rattle.mesh_rules.specs.Activations.{is_contended};
 ghost use Rattle.mesh_rules.specs.Legs.{find_leg, is_beyond_asked, usable};
@@ -73,6 +74,12 @@ fn is_busy(claim: &Claim, label: Label, lsp: Lsp) -> bool
         && claim.lsp != lsp
 }
 
+fn has_busy(claims: &[Claim], label: Label, lsp: Lsp) -> bool
+    ensures { result ≡ list_any (is_busy label lsp) claims.now }
+{
+    claims.iter().any(|claim| is_busy(claim, label, lsp))
+}
+
 /// Whether another leg on the leg's label in is Armed or Live, so that the leg can't be activated. No leg is looked at.
 pub fn is_contended(tables: &NodeTables, owner: &Owner, leg: &Leg) -> bool
     requires claims { ClaimsFit tables.now.legs owner.now }
@@ -83,9 +90,6 @@ pub fn is_contended(tables: &NodeTables, owner: &Owner, leg: &Leg) -> bool
     tables.rises();
     match taken(leg) {
         None => false,
-        Some(t) => {
-            let claims = owner.claims(t.fibre);
-            claims.iter().any(|claim| is_busy(claim, t.label, leg.lsp))
-        }
+        Some(t) => has_busy(owner.claims(t.fibre), t.label, leg.lsp),
     }
 }
