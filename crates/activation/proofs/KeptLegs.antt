@@ -1,5 +1,5 @@
 -- The legs fit after each step of an activation.
-use Rattle.std.proofs.Common.{◌≡◌, ◌∙◌, ℕ, Bool, true, false, cond, refl, ap, sym}
+use Rattle.std.proofs.Common.{◌≡◌, ◌∙◌, ℕ, Bool, true, false, cond, refl, ap, sym, List, drop}
 use Rattle.std.specs.Prelude.{◌&&◌, Option, Some, None}
 use Rattle.ason_base.specs.Labels.{has}
 use Rattle.ason_base.specs.declared.calls.Phase.{Phase}
@@ -10,6 +10,7 @@ use Rattle.ason_base.specs.declared.messages.Msg.TheVariants.{Path, Resv, PathTe
 use Rattle.ason_base.specs.declared.messages.PathRole.{PathRole}
 use Rattle.ason_base.specs.declared.messages.PathRole.TheVariants as role
 use Rattle.ason_base.specs.declared.tables.Leg.{Leg}
+use Rattle.ason_base.specs.declared.steps.Step.{Step}
 use Rattle.mesh_rules.specs.declared.arrivals.Arrival.{Arrival}
 use Rattle.mesh_rules.specs.declared.neighbours.Neighbour.{Neighbour}
 use Rattle.mesh_rules.specs.ActivationAnswers.{confirmed, contended, disarmed, is_confirmed, resv_again}
@@ -34,11 +35,11 @@ Keeps t a = OwnLegsFit (legs_after t a)
 
 -- whatever number is next, the machine's rules are these
 
-path-by : (t : LegTable) (next : ℕ) (a : Arrival) (r : PathRole) (g : Leg) →
-    path_again (local_of t) (legs_state t) a r g ≡ path_again (local_of t) (next_state t next) a r g
-path-by t next a (role.Work guard) g = refl
-path-by t next a (role.Back true work primary) g = refl
-path-by t next a (role.Back false work primary) g = refl
+path-by : (t : LegTable) (next : ℕ) (a : Arrival) (route : List Step) (r : PathRole) (g : Leg) →
+    path_again (local_of t) (legs_state t) a route r g ≡ path_again (local_of t) (next_state t next) a route r g
+path-by t next a route (role.Work guard) g = refl
+path-by t next a route (role.Back true work primary) g = refl
+path-by t next a route (role.Back false work primary) g = refl
 
 armed-asked : (q : Phase) → is_armed q ≡ true → is_asked q ≡ false
 armed-asked phase.Armed e = refl
@@ -100,11 +101,11 @@ activate-legs t u (Path l e k route set up r) links fits = go (find_leg l t.legs
     m : PathRequest
     m = record { arrival = a; route = route; set = set; role = r }
 
-    go : (o : Option Leg) → find_leg l t.legs ≡ o → Keeps t (path_taken t a r o)
+    go : (o : Option Leg) → find_leg l t.legs ≡ o → Keeps t (path_taken t a (drop 1 route) r o)
     go None found = fits
     go (Some g) found =
-        legs-after t u (Path l e k route set up r) (path_again (local_of t) (legs_state t) a r g).legs links fits
-        (λ next. ap (λ w. w.legs) (path-by t next a r g
+        legs-after t u (Path l e k route set up r) (path_again (local_of t) (legs_state t) a (drop 1 route) r g).legs links fits
+        (λ next. ap (λ w. w.legs) (path-by t next a (drop 1 route) r g
         ∙ ap (path_with (local_of t) (next_state t next) m) (sym found)))
 activate-legs t u (Resv l e k x) links fits = fits
 activate-legs t u (PathTear l e k) links fits = fits

@@ -1,5 +1,5 @@
 -- The legs that an activation changes stand, and keep their labels.
-use Rattle.std.proofs.Common.{◌≡◌, ◌∙◌, ℕ, Bool, true, false, cond, List, [], ◌∷◌, refl, sym, ap, subst}
+use Rattle.std.proofs.Common.{◌≡◌, ◌∙◌, ℕ, Bool, true, false, cond, List, [], ◌∷◌, refl, sym, ap, subst, drop}
 use Rattle.std.specs.Prelude.{◌&&◌, Option, Some, None, IsSome}
 use Rattle.ason_base.specs.declared.calls.Phase.{Phase}
 use Rattle.ason_base.specs.declared.calls.Phase.TheVariants as phase
@@ -12,6 +12,7 @@ use Rattle.ason_base.specs.declared.messages.PathRole.{PathRole}
 use Rattle.ason_base.specs.declared.messages.PathRole.TheVariants as role
 use Rattle.ason_base.specs.declared.tables.Leg.{Leg}
 use Rattle.link_owner.specs.Claims.{FibreClaims}
+use Rattle.ason_base.specs.declared.steps.Step.{Step}
 use Rattle.mesh_rules.specs.declared.arrivals.Arrival.{Arrival}
 use Rattle.mesh_rules.specs.declared.changes.LegChange.TheVariants as change
 use Rattle.mesh_rules.specs.declared.neighbours.Neighbour.{Neighbour}
@@ -116,31 +117,31 @@ abbrev Stays : LegTable → Answer → Type 0
 Stays t a = MayAllStay t.legs a.legs
 
 -- the leg gets into use, and no other leg on its label is
-armed_on-may : (t : LegTable) (o : List FibreClaims) (l : Lsp) (g : Leg) (r : PathRole) → ClaimsFit t.legs o →
-    find_leg l t.legs ≡ Some g → is_held g.phase ≡ true →
-    is_contended t.legs g g.in_fibre g.in_label ≡ false → Stays t (armed_on g r (following g))
-armed_on-may t o l g r fits found held alone = go (following g)
+armed_on-may : (t : LegTable) (o : List FibreClaims) (l : Lsp) (g : Leg) (route : List Step) (r : PathRole) →
+    ClaimsFit t.legs o → find_leg l t.legs ≡ Some g → is_held g.phase ≡ true →
+    is_contended t.legs g g.in_fibre g.in_label ≡ false → Stays t (armed_on g route r (following g))
+armed_on-may t o l g route r fits found held alone = go (following g)
   where
     may : (q : Phase) → is_beyond_asked q ≡ true → MayAllStay t.legs (change.Put (with_phase q g) ∷ [])
     may q after =
         phase-may t.legs o l g fits found (held-beyond g.phase held) (held-waits g.phase held) q after
         (λ unused used. alone)
 
-    go : (h : Option Neighbour) → Stays t (armed_on g r h)
+    go : (h : Option Neighbour) → Stays t (armed_on g route r h)
     go None = may phase.Live refl
     go (Some h) = may phase.Armed refl
 
-path-stays : (t : LegTable) (o : List FibreClaims) (a : Arrival) (r : PathRole) (g : Option Leg) → ClaimsFit t.legs o →
-    find_leg a.lsp t.legs ≡ g → Stays t (path_taken t a r g)
-path-stays t o a r None fits found = tt
-path-stays t o a (role.Work guard) (Some g) fits found = tt
-path-stays t o a (role.Back false work primary) (Some g) fits found = tt
-path-stays t o a (role.Back true work primary) (Some g) fits found =
+path-stays : (t : LegTable) (o : List FibreClaims) (a : Arrival) (route : List Step) (r : PathRole) (g : Option Leg) →
+    ClaimsFit t.legs o → find_leg a.lsp t.legs ≡ g → Stays t (path_taken t a route r g)
+path-stays t o a route r None fits found = tt
+path-stays t o a route (role.Work guard) (Some g) fits found = tt
+path-stays t o a route (role.Back false work primary) (Some g) fits found = tt
+path-stays t o a route (role.Back true work primary) (Some g) fits found =
     let r = role.Back true work primary in
-    if_cases (Stays t) (is_held g.phase && is_over (previous g) a.from a.link) (activated_here t a r g) nothing
+    if_cases (Stays t) (is_held g.phase && is_over (previous g) a.from a.link) (activated_here t a route r g) nothing
     (λ takes. if_cases (Stays t) (is_contended t.legs g g.in_fibre g.in_label)
-    (sends (busy_to (local_of t) g a.from ∷ [])) (armed_on g r (following g)) (λ busy. tt)
-    (λ alone. armed_on-may t o a.lsp g r fits found
+    (sends (busy_to (local_of t) g a.from ∷ [])) (armed_on g route r (following g)) (λ busy. tt)
+    (λ alone. armed_on-may t o a.lsp g route r fits found
     (both_left (is_held g.phase) (is_over (previous g) a.from a.link) takes) alone)) (λ other. tt)
 
 -- an Armed leg was in use before
@@ -177,7 +178,7 @@ err-stays t o u l m (Some g) fits found =
 
 pub activate-may : (t : LegTable) (o : List FibreClaims) (u : NodeId) (m : Msg) → ClaimsFit t.legs o →
     MayAllStay t.legs (activate_answer t u m).legs
-activate-may t o u (Path l e k route set up r) fits = path-stays t o (arrival l e u k) r (find_leg l t.legs) fits refl
+activate-may t o u (Path l e k route set up r) fits = path-stays t o (arrival l e u k) (drop 1 route) r (find_leg l t.legs) fits refl
 activate-may t o u (Resv l e k x) fits = tt
 activate-may t o u (PathTear l e k) fits = tt
 activate-may t o u (PathErr l e at gone code) fits = tt

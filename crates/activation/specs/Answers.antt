@@ -1,12 +1,13 @@
 -- How a backup is activated at a node of these tables (RFC 4872, section 8): a Path that activates, a Resv at a leg that
 -- is Armed, and a PathErr without Path_State_Removed. What becomes of the call at the ingress isn't told here: it's as at
 -- a node without calls.
-use Rattle.std.specs.Prelude.{ℕ, ◌&&◌, Bool, false, not, [], ◌∷◌, Option, Some, None, is_some, if◌then◌else◌}
+use Rattle.std.specs.Prelude.{ℕ, ◌&&◌, Bool, false, not, [], ◌∷◌, Option, Some, None, is_some, if◌then◌else◌, List, drop}
 use Rattle.ason_base.specs.declared.calls.Phase.TheVariants.{Live}
 use Rattle.ason_base.specs.declared.ids.NodeId.{NodeId}
 use Rattle.ason_base.specs.declared.messages.Msg.{Msg}
 use Rattle.ason_base.specs.declared.messages.Msg.TheVariants.{Path, Resv, PathTear, PathErr, Notify}
 use Rattle.ason_base.specs.declared.messages.PathRole.{PathRole}
+use Rattle.ason_base.specs.declared.steps.Step.{Step}
 use Rattle.ason_base.specs.declared.tables.Leg.{Leg}
 use Rattle.mesh_rules.specs.declared.arrivals.Arrival.{Arrival}
 use Rattle.mesh_rules.specs.ActivationAnswers.{contended, disarmed, is_confirmed, resv_again}
@@ -29,16 +30,16 @@ begins_here g = not (is_some (previous g))
 abbrev pub busy_here : LegTable → Leg → NodeId → Answer
 busy_here t g n = sends (busy_to (local_of t) g n ∷ [])
 
-abbrev pub activated_here : LegTable → Arrival → PathRole → Leg → Answer
-activated_here t a r g = activated (local_of t) (legs_state t) a r g
+abbrev pub activated_here : LegTable → Arrival → List Step → PathRole → Leg → Answer
+activated_here t a route r g = activated (local_of t) (legs_state t) a route r g
 
 -- a Path of an LSP that has no leg activates none
-abbrev pub path_taken : LegTable → Arrival → PathRole → Option Leg → Answer
-path_taken t a r None = nothing
-path_taken t a r (Some g) = path_again (local_of t) (legs_state t) a r g
+abbrev pub path_taken : LegTable → Arrival → List Step → PathRole → Option Leg → Answer
+path_taken t a route r None = nothing
+path_taken t a route r (Some g) = path_again (local_of t) (legs_state t) a route r g
 
-abbrev pub path_here : LegTable → Arrival → PathRole → Answer
-path_here t a r = path_taken t a r (find_leg a.lsp t.legs)
+abbrev pub path_here : LegTable → Arrival → List Step → PathRole → Answer
+path_here t a route r = path_taken t a route r (find_leg a.lsp t.legs)
 
 -- A Resv
 
@@ -92,7 +93,7 @@ contends t u (Notify l e at k code) = false
 
 -- a message of another kind does nothing
 abbrev pub activate_answer : LegTable → NodeId → Msg → Answer
-activate_answer t u (Path l e k route set up r) = path_here t (arrival l e u k) r
+activate_answer t u (Path l e k route set up r) = path_here t (arrival l e u k) (drop 1 route) r
 activate_answer t u (Resv l e k x) = nothing
 activate_answer t u (PathTear l e k) = nothing
 activate_answer t u (PathErr l e at gone code) = nothing

@@ -1,6 +1,6 @@
 //! A Path that activates a backup whose leg stands here.
 
-ghost use Rattle.std.specs.Prelude.{◌≡◌, IfOk, IsTrue, Some};
+ghost use Rattle.std.specs.Prelude.{◌≡◌, IfOk, IsTrue, Some, drop};
 ghost use Rattle.mesh_rules.specs.Activations.{armed_on};
 ghost use Rattle.mesh_rules.specs.Legs.{find_leg, following, is_beyond_asked};
 ghost use Rattle.mesh_rules.specs.Paths.{is_active};
@@ -9,7 +9,7 @@ ghost use Rattle.activation.specs.Answers.{activate_answer, activated_here, busy
 
 use crate::resvs::go_live;
 use ason_base::codes::BUSY;
-use ason_base::{Copied, Leg, Msg, NodeId, OutOfMemory, PathRole, Phase};
+use ason_base::{Copied, Leg, Msg, NodeId, OutOfMemory, PathRole, Phase, Steps};
 use leg_table::labels::is_contended;
 use leg_table::one_leg::{following, is_held, is_over, previous, with_phase};
 use leg_table::{Change, NodeTables};
@@ -31,9 +31,19 @@ fn refuse(alloc: Global, tables: &NodeTables, leg: &Leg, to: NodeId) -> Result<C
     Change::sends(alloc, to, msg)
 }
 
-// The leg is Armed and the Path goes on; at the egress it is Live and a Resv goes back.
-fn arm(alloc: Global, leg: &Leg, role: &PathRole) -> Result<Change, OutOfMemory>
-    ensures { IfOk result (λ c. c ≡ armed_on leg.now role.now (following leg.now)) }
+// A Path where a leg of its LSP stands: from where it came, over which steps from here, and for what.
+#[derive(Clone, Copy, Drop)]
+struct PathAgain<'a> {
+    arrival: Arrival,
+    route: &'a Steps,
+    role: &'a PathRole,
+}
+
+// The leg is Armed and the Path goes on, over the steps that are left; at the egress it is Live and
+// a Resv goes back.
+fn arm(alloc: Global, leg: &Leg, route: &Steps, role: &PathRole) -> Result<Change, OutOfMemory>
+    ensures { IfOk result
+        (λ c. c ≡ armed_on leg.now (drop 1 route.now) role.now (following leg.now)) }
 {
     let Some(next) = following(leg) else {
         return go_live(alloc, leg);
@@ -42,7 +52,7 @@ fn arm(alloc: Global, leg: &Leg, role: &PathRole) -> Result<Change, OutOfMemory>
         lsp: leg.lsp,
         egress: leg.egress,
         link: next.fibre.link,
-        route: leg.route.copy(alloc)?,
+        route: route.copy_from(alloc, 1)?,
         set: leg.sent.copy(),
         upstream: None,
         role: role.copy(alloc)?,
@@ -54,19 +64,19 @@ fn activate_leg(
     alloc: Global,
     tables: &NodeTables,
     owner: &Owner,
-    arrival: Arrival,
-    role: &PathRole,
+    path: PathAgain<'_>,
     leg: &Leg,
 ) -> Result<Change, OutOfMemory>
     requires claims { ClaimsFit tables.now.legs owner.now }
     requires there { find_leg leg.now.lsp tables.now.legs ≡ Some leg.now }
     requires beyond { IsTrue (is_beyond_asked leg.now.phase) }
-    ensures { IfOk result (λ c. c ≡ activated_here tables.now arrival role.now leg.now) }
+    ensures { IfOk result (λ c. c
+        ≡ activated_here tables.now path.arrival (drop 1 path.route.now) path.role.now leg.now) }
 {
     if is_contended(tables, owner, leg) {
-        refuse(alloc, tables, leg, arrival.from)
+        refuse(alloc, tables, leg, path.arrival.from)
     } else {
-        arm(alloc, leg, role)
+        arm(alloc, leg, path.route, path.role)
     }
 }
 
@@ -83,18 +93,18 @@ fn on_path(
     alloc: Global,
     tables: &NodeTables,
     owner: &Owner,
-    arrival: Arrival,
-    role: &PathRole,
+    path: PathAgain<'_>,
 ) -> Result<Change, OutOfMemory>
     requires { ClaimsFit tables.now.legs owner.now }
-    ensures { IfOk result (λ c. c ≡ path_here tables.now arrival role.now) }
+    ensures { IfOk result (λ c. c
+        ≡ path_here tables.now path.arrival (drop 1 path.route.now) path.role.now) }
 {
-    match tables.get(&arrival.lsp) {
+    match tables.get(&path.arrival.lsp) {
         Some(leg)
-            if is_active(role)
+            if is_active(path.role)
                 && is_held(leg.phase)
-                && is_over(previous(leg), arrival.from, arrival.link) => {
-            activate_leg(alloc, tables, owner, arrival, role, leg)
+                && is_over(previous(leg), path.arrival.from, path.arrival.link) => {
+            activate_leg(alloc, tables, owner, path, leg)
         }
         _ => Ok(Change::nothing(alloc)),
     }
@@ -119,6 +129,7 @@ pub fn activate_change(
             lsp,
             egress,
             link,
+            route,
             role,
             ..
         } => {
@@ -128,7 +139,12 @@ pub fn activate_change(
                 from,
                 link: *link,
             };
-            on_path(alloc, tables, owner, arrival, role)
+            let path = PathAgain {
+                arrival,
+                route,
+                role,
+            };
+            on_path(alloc, tables, owner, path)
         }
         Msg::Resv { .. } | Msg::PathTear { .. } | Msg::PathErr { .. } | Msg::Notify { .. } => {
             Ok(Change::nothing(alloc))

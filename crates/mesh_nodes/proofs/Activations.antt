@@ -1,11 +1,12 @@
 -- What a Path does where a leg of its LSP stands fits, and so does every Path.
-use Rattle.std.proofs.Common.{◌≡◌, ◌≤◌, true, false, [], ◌∷◌, length, refl, arith}
+use Rattle.std.proofs.Common.{◌≡◌, ◌≤◌, true, false, [], ◌∷◌, length, refl, arith, List, drop}
 use Rattle.std.specs.Prelude.{◌&&◌, Option, Some, None}
 use Rattle.ason_base.specs.Writable.{IsWritableRole}
 use Rattle.ason_base.specs.declared.calls.Phase.{Phase}
 use Rattle.ason_base.specs.declared.calls.Phase.TheVariants.{Armed, Live}
 use Rattle.ason_base.specs.declared.messages.PathRole.{PathRole}
 use Rattle.ason_base.specs.declared.messages.PathRole.TheVariants.{Work, Back}
+use Rattle.ason_base.specs.declared.steps.Step.{Step}
 use Rattle.ason_base.specs.declared.tables.Leg.{Leg}
 use Rattle.mesh_rules.specs.declared.arrivals.Arrival.{Arrival}
 use Rattle.mesh_rules.specs.declared.neighbours.Neighbour.{Neighbour}
@@ -15,7 +16,7 @@ use Rattle.mesh_rules.specs.Legs.{find_leg, following, is_held, is_over, previou
 use Rattle.mesh_rules.specs.LocalNodes.{LocalNode, own_link}
 use Rattle.mesh_rules.specs.Paths.{PathRequest, on_path, path_with}
 use Rattle.mesh_rules.specs.State.{NodeState}
-use Rattle.mesh_nodes.specs.Kept.{LegsFit, NodeFits, RoutesAreShort}
+use Rattle.mesh_nodes.specs.Kept.{LegsFit, NodeFits}
 use Rattle.mesh_nodes.specs.LocalNodes.{LocalNodeFits}
 use Rattle.mesh_nodes.specs.Sent.{AnswerFits}
 use Rattle.mesh_nodes.proofs.Cases.{both_left, both_right, if_cases}
@@ -25,8 +26,9 @@ use Rattle.mesh_nodes.proofs.Links.{over-near}
 use Rattle.mesh_nodes.proofs.Paths.{first-fits, nothing-fits}
 use Rattle.mesh_nodes.proofs.Stands.{Stands, following-is_near, leg-stands, previous-near, resv-sent}
 
--- A Held leg, and a Path from its previous node. W: the Path can be written, and so can the legs' routes.
-module _ (p : LocalNode) (s : NodeState) (a : Arrival) (r : PathRole) (g : Leg) (W : Type 0) (fits : NodeFits p s)
+-- A Held leg, and a Path from its previous node. W: the Path can be written.
+module _ (p : LocalNode) (s : NodeState) (a : Arrival) (route : List Step) (r : PathRole) (g : Leg) (W : Type 0)
+    (fits : NodeFits p s)
     (stands : Stands p s g) (held : is_held g.phase ≡ true)
     (over : is_over (previous g) a.from a.link ≡ true) where
   busy-fits : AnswerFits p s W (sends (busy_to p g a.from ∷ []))
@@ -42,8 +44,8 @@ module _ (p : LocalNode) (s : NodeState) (a : Arrival) (r : PathRole) (g : Leg) 
       legs-changed p s.lsp (with_phase f g) g s.legs fits.legs stands.found
       (phase-fits p s.lsp f g stands.fits (held-beyond g.phase held))
 
-  armed_on-fits : (o : Option Neighbour) → following g ≡ o → (W → IsWritableRole r) → (W → length g.route ≤ 64) →
-      AnswerFits p s W (armed_on g r o)
+  armed_on-fits : (o : Option Neighbour) → following g ≡ o → (W → IsWritableRole r) → (W → length route ≤ 64) →
+      AnswerFits p s W (armed_on g route r o)
   armed_on-fits None is role short =
       let sent = resv-sent p s.lsp g (previous g) g.in_label stands.fits refl in
       record {
@@ -69,32 +71,38 @@ module _ (p : LocalNode) (s : NodeState) (a : Arrival) (r : PathRole) (g : Leg) 
     few = omega arith;
   }
 
-  activated-fits : (W → IsWritableRole r) → (W → length g.route ≤ 64) → AnswerFits p s W (activated p s a r g)
+  activated-fits : (W → IsWritableRole r) → (W → length route ≤ 64) → AnswerFits p s W (activated p s a route r g)
   activated-fits role short =
       if_cases (AnswerFits p s W) (is_contended s.legs g g.in_fibre g.in_label) _ _ (λ e. busy-fits)
       (λ e. armed_on-fits (following g) refl role short)
 
-again-fits : (p : LocalNode) (s : NodeState) (a : Arrival) (r : PathRole) (g : Leg) (W : Type 0) → NodeFits p s →
-    Stands p s g → (W → IsWritableRole r) → (W → length g.route ≤ 64) → AnswerFits p s W (path_again p s a r g)
-again-fits p s a (Work guard) g W fits stands role short = nothing-fits p s W fits
-again-fits p s a (Back false work primary) g W fits stands role short = nothing-fits p s W fits
-again-fits p s a (Back true work primary) g W fits stands role short =
+again-fits : (p : LocalNode) (s : NodeState) (a : Arrival) (route : List Step) (r : PathRole) (g : Leg) (W : Type 0) →
+    NodeFits p s → Stands p s g → (W → IsWritableRole r) → (W → length route ≤ 64) →
+    AnswerFits p s W (path_again p s a route r g)
+again-fits p s a route (Work guard) g W fits stands role short = nothing-fits p s W fits
+again-fits p s a route (Back false work primary) g W fits stands role short = nothing-fits p s W fits
+again-fits p s a route (Back true work primary) g W fits stands role short =
     if_cases (AnswerFits p s W) (is_held g.phase && is_over (previous g) a.from a.link) _ _
-    (λ e. activated-fits p s a (Back true work primary) g W fits stands (both_left (is_held g.phase) _ e)
+    (λ e. activated-fits p s a route (Back true work primary) g W fits stands (both_left (is_held g.phase) _ e)
     (both_right (is_held g.phase) _ e) role short)
     (λ e. nothing-fits p s W fits)
 
+-- without its first step a route is no longer
+rest-short : (route : List Step) → length route ≤ 64 → length (drop 1 route) ≤ 64
+rest-short [] short = short
+rest-short (hop ∷ route) short = omega arith
+
 path-fits : (p : LocalNode) (s : NodeState) (m : PathRequest) (W : Type 0) (o : Option Leg) →
-    (W → (length m.route ≤ 64) × IsWritableRole m.role) → (W → RoutesAreShort s.legs) → LocalNodeFits p →
-    NodeFits p s → find_leg m.arrival.lsp s.legs ≡ o → AnswerFits p s W (path_with p s m o)
-path-fits p s m W None written short place fits found =
+    (W → (length m.route ≤ 64) × IsWritableRole m.role) → LocalNodeFits p → NodeFits p s → find_leg m.arrival.lsp s.legs ≡ o → AnswerFits p s W (path_with p s m o)
+path-fits p s m W None written place fits found =
     first-fits p s m W (own_link p m.arrival.link) refl written place fits
-path-fits p s m W (Some g) written short place fits found =
-    again-fits p s m.arrival m.role g W fits (leg-stands p s m.arrival.lsp g fits found) (λ w. (written w).1)
-    (λ w. found-all (λ h. length h.route ≤ 64) m.arrival.lsp s.legs g found (short w))
+path-fits p s m W (Some g) written place fits found =
+    again-fits p s m.arrival (drop 1 m.route) m.role g W fits (leg-stands p s m.arrival.lsp g fits found)
+    (λ w. (written w).1)
+    (λ w. rest-short m.route (written w).0)
 
 pub on_path-fits : (p : LocalNode) (s : NodeState) (m : PathRequest) (W : Type 0) →
-    (W → (length m.route ≤ 64) × IsWritableRole m.role) → (W → RoutesAreShort s.legs) → LocalNodeFits p →
-    NodeFits p s → AnswerFits p s W (on_path p s m)
-on_path-fits p s m W written short place fits =
-    path-fits p s m W (find_leg m.arrival.lsp s.legs) written short place fits refl
+    (W → (length m.route ≤ 64) × IsWritableRole m.role) → LocalNodeFits p → NodeFits p s →
+    AnswerFits p s W (on_path p s m)
+on_path-fits p s m W written place fits =
+    path-fits p s m W (find_leg m.arrival.lsp s.legs) written place fits refl

@@ -106,23 +106,23 @@ first_path-none p s m (Some link) =
     (judged p s m link (first_failure (checks p s m link))) nothing
     (judged-none p s m link (first_failure (checks p s m link))) (refl, refl)
 
-armed_on-none : (g : Leg) (r : PathRole) (o : Option Neighbour) → LearnsNothing (armed_on g r o)
-armed_on-none g r None = (refl, refl)
-armed_on-none g r (Some h) = (refl, refl)
+armed_on-none : (g : Leg) (route : List Step) (r : PathRole) (o : Option Neighbour) → LearnsNothing (armed_on g route r o)
+armed_on-none g route r None = (refl, refl)
+armed_on-none g route r (Some h) = (refl, refl)
 
-again-none : (p : LocalNode) (s : NodeState) (a : Arrival) (r : PathRole) (g : Leg) →
-    LearnsNothing (path_again p s a r g)
-again-none p s a (Work guard) g = (refl, refl)
-again-none p s a (Back false work primary) g = (refl, refl)
-again-none p s a (Back true work primary) g =
+again-none : (p : LocalNode) (s : NodeState) (a : Arrival) (route : List Step) (r : PathRole) (g : Leg) →
+    LearnsNothing (path_again p s a route r g)
+again-none p s a route (Work guard) g = (refl, refl)
+again-none p s a route (Back false work primary) g = (refl, refl)
+again-none p s a route (Back true work primary) g =
     if_cases LearnsNothing (is_held g.phase && is_over (previous g) a.from a.link) _ _
     (λ e. if_cases LearnsNothing (is_contended s.legs g g.in_fibre g.in_label) _ _ (λ b. (refl, refl))
-    (λ b. armed_on-none g (Back true work primary) (following g)))
+    (λ b. armed_on-none g route (Back true work primary) (following g)))
     (λ e. (refl, refl))
 
 path-none : (p : LocalNode) (s : NodeState) (m : PathRequest) (o : Option Leg) → LearnsNothing (path_with p s m o)
 path-none p s m None = first_path-none p s m (own_link p m.arrival.link)
-path-none p s m (Some g) = again-none p s m.arrival m.role g
+path-none p s m (Some g) = again-none p s m.arrival (drop 1 m.route) m.role g
 
 -- Turning
 

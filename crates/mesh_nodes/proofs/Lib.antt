@@ -16,7 +16,6 @@ pub mod NewNodes
 pub mod Pairs
 pub mod Paths
 pub mod Reports
-pub mod ShortRoutes
 pub mod Stands
 pub mod Turns
 pub mod routes

@@ -19,7 +19,7 @@ use Rattle.mesh_rules.specs.Resvs.{answered, connected_here, is_expected, label_
 use Rattle.mesh_rules.specs.LocalNodes.{LocalNode}
 use Rattle.mesh_rules.specs.State.{NodeState}
 use Rattle.mesh_rules.specs.Tears.{tear_with, torn}
-use Rattle.mesh_nodes.specs.Kept.{LegsFit, NodeFits, RoutesAreShort}
+use Rattle.mesh_nodes.specs.Kept.{LegsFit, NodeFits}
 use Rattle.mesh_nodes.specs.Laws.{MessagesFit}
 use Rattle.mesh_nodes.specs.LocalNodes.{LocalNodeFits, is_neighbour}
 use Rattle.mesh_nodes.specs.Sent.{AnswerFits, CanBePassedOn}
@@ -217,11 +217,11 @@ messages-fit p s u (Path l e k route set up r) place fits =
       route = route;
       set = set;
       role = r;
-    }) (CanBePassedOn (Path l e k route set up r) × RoutesAreShort s.legs) (λ w. w.0) (λ w. w.1) place fits
+    }) (CanBePassedOn (Path l e k route set up r)) (λ w. w) place fits
 messages-fit p s u (Resv l e k x) place fits =
-    resv-fits p s (arrival l e u k) x (Unit {0} × RoutesAreShort s.legs) (find_leg l s.legs) place fits refl
+    resv-fits p s (arrival l e u k) x (Unit {0}) (find_leg l s.legs) place fits refl
 messages-fit p s u (PathTear l e k) place fits =
-    tear-fits p s (arrival l e u k) (Unit {0} × RoutesAreShort s.legs) (find_leg l s.legs) fits refl
+    tear-fits p s (arrival l e u k) (Unit {0}) (find_leg l s.legs) fits refl
 messages-fit p s u (PathErr l e at gone code) place fits =
     err-fits p s u (record {
       lsp =
@@ -229,9 +229,9 @@ messages-fit p s u (PathErr l e at gone code) place fits =
       msg = PathErr l e at gone code;
       removed = gone;
       code = code;
-    }) (Unit {0} × RoutesAreShort s.legs) (find_leg l s.legs) place fits refl (λ w. tt)
+    }) (Unit {0}) (find_leg l s.legs) place fits refl (λ w. tt)
 messages-fit p s u (Notify l e at k code) place fits =
-    notify-fits p s (Unit {0} × RoutesAreShort s.legs) fits u (record {
+    notify-fits p s (Unit {0}) fits u (record {
       lsp =
           l;
       msg = Notify l e at k code;

@@ -61,7 +61,3 @@ pub record NodeFits (p : LocalNode) (s : NodeState) : Type 0 where
   pub calls : CallsFit p s.calls
   pub first : 1 ≤ s.tunnel
   pub numbers : s.tunnel ≤ s.lsp
-
--- each leg's route has at most 64 steps, so it can be written again where its LSP is activated
-abbrev pub RoutesAreShort : List Leg → Type 0
-RoutesAreShort legs = AllByRecursion (λ g. length g.route ≤ 64) legs

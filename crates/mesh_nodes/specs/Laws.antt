@@ -9,7 +9,7 @@ use Rattle.mesh_rules.specs.Messages.{on_message}
 use Rattle.mesh_rules.specs.Orders.{on_item}
 use Rattle.mesh_rules.specs.LocalNodes.{LocalNode, local_node}
 use Rattle.mesh_rules.specs.State.{NodeState, new_node}
-use Rattle.mesh_nodes.specs.Kept.{NodeFits, RoutesAreShort}
+use Rattle.mesh_nodes.specs.Kept.{NodeFits}
 use Rattle.mesh_nodes.specs.LocalNodes.{LocalNodeFits}
 use Rattle.mesh_nodes.specs.Sent.{AnswerFits, CanBePassedOn}
 
@@ -18,10 +18,10 @@ abbrev pub NewNodesFit : Type 0
 NewNodesFit = (t : Network) (n : NodeId) → IsTopology t → LocalNodeFits (local_node t n) ×
     NodeFits (local_node t n) new_node
 
--- a message of whatever sender; where it activates a backup, the route of the leg that stands is sent on
+-- a message of whatever sender
 abbrev pub MessagesFit : Type 0
 MessagesFit = (p : LocalNode) (s : NodeState) (u : NodeId) (m : Msg) → LocalNodeFits p → NodeFits p s →
-    AnswerFits p s (CanBePassedOn m × RoutesAreShort s.legs) (on_message p s u m)
+    AnswerFits p s (CanBePassedOn m) (on_message p s u m)
 
 -- an item of a desk, whatever it orders
 abbrev pub ItemsFit : Type 0
@@ -31,11 +31,3 @@ ItemsFit = (p : LocalNode) (s : NodeState) (i : DeskItem) → LocalNodeFits p �
 -- a tick: nothing is answered
 abbrev pub NothingFits : Type 0
 NothingFits = (p : LocalNode) (s : NodeState) → NodeFits p s → AnswerFits p s (Unit {0}) nothing
-
--- the legs' routes stay short, where the message can be passed on
-abbrev pub RoutesStayShort : Type 0
-RoutesStayShort =
-    ((p : LocalNode) (s : NodeState) (u : NodeId) (m : Msg) → CanBePassedOn m → RoutesAreShort s.legs →
-    RoutesAreShort (changed s (on_message p s u m)).legs)
-    × ((p : LocalNode) (s : NodeState) (i : DeskItem) → RoutesAreShort s.legs →
-    RoutesAreShort (changed s (on_item p s i)).legs)

@@ -1,19 +1,17 @@
 //! The laws of one node, and of the routes that it finds.
 
-ghost use Rattle.mesh_nodes.specs.Laws.{ItemsFit, MessagesFit, NewNodesFit, NothingFits, RoutesStayShort};
+ghost use Rattle.mesh_nodes.specs.Laws.{ItemsFit, MessagesFit, NewNodesFit, NothingFits};
 ghost use Rattle.mesh_nodes.specs.Learnt.{LearningFits, LearntIsKnown, LearntStayTrue, NetworkRowsMayBeLearnt, NothingElseIsLearnt, RowsStayFit};
 ghost use Rattle.mesh_nodes.specs.Routes.{FoundBackupsLead, FoundBackupsStandBeside, FoundRoutesAreFollowed, FoundRoutesLead, LeastBackupIsLeast, LeastBackupVisitsOnce, LeastTripIsLeast, LeastTripVisitsOnce, NewRowsFit, NoBackupIsNone, NoTripIsNoWalk};
 
 /// The node of a topology knows its own links and keeps nothing that doesn't fit them. Whatever comes then, a message, an item
 /// of the desk or a tick: what the node keeps after it fits again; and what it sends goes to neighbours, can be written where
-/// the routes of the message that came and those of the legs that stood aren't too long, and is of 65,536 messages at most.
-/// Where the message's routes aren't too long, those of the legs stay so.
+/// the routes of the message that came aren't too long, and is of 65,536 messages at most.
 pub fn every_answer()
     ensures new { NewNodesFit }
     ensures messages { MessagesFit }
     ensures items { ItemsFit }
     ensures nothing { NothingFits }
-    ensures short { RoutesStayShort }
 {}
 
 /// The route that a rule names, and the backup beside a route, as functions of the rows that a node knows: each is the least of

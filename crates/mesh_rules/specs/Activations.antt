@@ -8,6 +8,7 @@ use Rattle.ason_base.specs.declared.calls.Phase.TheVariants.{Armed, Live}
 use Rattle.ason_base.specs.declared.messages.Msg.TheVariants.{Path, Resv, PathErr}
 use Rattle.ason_base.specs.declared.messages.PathRole.{PathRole}
 use Rattle.ason_base.specs.declared.messages.PathRole.TheVariants.{Work, Back}
+use Rattle.ason_base.specs.declared.steps.Step.{Step}
 use Rattle.ason_base.specs.declared.tables.Leg.{Leg}
 use Rattle.ason_base.specs.declared.tables.Out.{Out}
 use Rattle.mesh_rules.specs.declared.arrivals.Arrival.{Arrival}
@@ -19,9 +20,9 @@ use Rattle.mesh_rules.specs.Legs.{following, is_busy, is_held, is_over, previous
 
 -- Messages
 
--- the Path of the leg, for this role, to the next node
-abbrev pub path_to : Leg → PathRole → Neighbour → Out
-path_to g r h = to_node h.node (Path g.lsp g.egress h.fibre.link g.route g.sent None r)
+-- a Path of the leg, over these steps from the next node on and for this role
+abbrev pub path_to : Leg → List Step → PathRole → Neighbour → Out
+path_to g route r h = to_node h.node (Path g.lsp g.egress h.fibre.link route g.sent None r)
 
 -- a Resv with the leg's label in, to the previous node
 abbrev pub resv_to : Leg → Option Neighbour → Option ℕ → List Out
@@ -41,20 +42,21 @@ is_contended legs g None x = false
 is_contended legs g (Some f) None = false
 is_contended legs g (Some f) (Some x) = is_busy legs g.lsp f x
 
--- the leg is Armed and the Path goes on, for the role that came; at the egress it is Live and a Resv goes back
-abbrev pub armed_on : Leg → PathRole → Option Neighbour → Answer
-armed_on g r None = puts (with_phase Live g) (resv_to g (previous g) g.in_label)
-armed_on g r (Some h) = puts (with_phase Armed g) (path_to g r h ∷ [])
+-- the leg is Armed and the Path goes on as it came, over the steps that are left; at the egress it is Live and a Resv goes
+-- back
+abbrev pub armed_on : Leg → List Step → PathRole → Option Neighbour → Answer
+armed_on g route r None = puts (with_phase Live g) (resv_to g (previous g) g.in_label)
+armed_on g route r (Some h) = puts (with_phase Armed g) (path_to g route r h ∷ [])
 
-abbrev pub activated : LocalNode → NodeState → Arrival → PathRole → Leg → Answer
-activated p s a r g =
+abbrev pub activated : LocalNode → NodeState → Arrival → List Step → PathRole → Leg → Answer
+activated p s a route r g =
     if is_contended s.legs g g.in_fibre g.in_label then sends (busy_to p g a.from ∷ [])
-    else armed_on g r (following g)
+    else armed_on g route r (following g)
 
 -- A Held leg is activated from its previous node. All else changes nothing.
-abbrev pub path_again : LocalNode → NodeState → Arrival → PathRole → Leg → Answer
-path_again p s a (Work guard) g = nothing
-path_again p s a (Back true work primary) g =
-    if is_held g.phase && is_over (previous g) a.from a.link then activated p s a (Back true work primary) g
+abbrev pub path_again : LocalNode → NodeState → Arrival → List Step → PathRole → Leg → Answer
+path_again p s a route (Work guard) g = nothing
+path_again p s a route (Back true work primary) g =
+    if is_held g.phase && is_over (previous g) a.from a.link then activated p s a route (Back true work primary) g
     else nothing
-path_again p s a (Back false work primary) g = nothing
+path_again p s a route (Back false work primary) g = nothing

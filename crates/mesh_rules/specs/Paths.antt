@@ -1,5 +1,5 @@
 -- A Path where no leg of its LSP stands (RFC 2205, section 3.1.3; RFC 3473, section 2).
-use Rattle.std.specs.Prelude.{ℕ, ◌==◌, ◌&&◌, nat_le, Bool, true, false, not, List, [], ◌∷◌, length, Option, Some, None, is_some, if◌then◌else◌}
+use Rattle.std.specs.Prelude.{ℕ, ◌==◌, ◌&&◌, nat_le, Bool, true, false, not, List, [], ◌∷◌, length, drop, Option, Some, None, is_some, if◌then◌else◌}
 use Rattle.ason_base.specs.Codes.{down_code, full_code, route_code, primary_code, set_code}
 use Rattle.ason_base.specs.Labels.{up_to, meet, least}
 use Rattle.ason_base.specs.Lsps.{has_fibre}
@@ -185,7 +185,7 @@ first_path p s m (Some link) =
 -- a Path of an LSP that has a leg here may activate it
 abbrev pub path_with : LocalNode → NodeState → PathRequest → Option Leg → Answer
 path_with p s m None = first_path p s m (own_link p m.arrival.link)
-path_with p s m (Some g) = path_again p s m.arrival m.role g
+path_with p s m (Some g) = path_again p s m.arrival (drop 1 m.route) m.role g
 
 abbrev pub on_path : LocalNode → NodeState → PathRequest → Answer
 on_path p s m = path_with p s m (find_leg m.arrival.lsp s.legs)

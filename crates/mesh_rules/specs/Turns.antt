@@ -32,7 +32,7 @@ activating (Back active work primary) = Back true work primary
 -- the Path that activates goes to the next node
 abbrev pub activating_path : Leg → Option Neighbour → List Out
 activating_path b None = []
-activating_path b (Some h) = path_to b (activating b.path_role) h ∷ []
+activating_path b (Some h) = path_to b b.route (activating b.path_role) h ∷ []
 
 -- the backup is Armed here, and its Path goes out to activate it
 abbrev pub arms : CallRec → Leg → Answer

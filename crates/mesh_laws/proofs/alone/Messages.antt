@@ -1,5 +1,5 @@
 -- What a node answers to a message that concerns the group concerns the group: no activation is refused.
-use Rattle.std.proofs.Common.{◌≡◌, ℕ, Bool, true, false, cond, nat_eq, nat_lt, List, [], ◌∷◌, refl, sym, subst, arith}
+use Rattle.std.proofs.Common.{◌≡◌, ℕ, Bool, true, false, cond, nat_eq, nat_lt, List, [], ◌∷◌, refl, sym, subst, arith, drop}
 use Rattle.std.specs.Prelude.{◌&&◌, not, Option, Some, None}
 use Rattle.std.specs.List.{AllByRecursion}
 use Rattle.ason_base.specs.Codes.{torn_code}
@@ -176,29 +176,29 @@ module _ (t : Network) (g : Group) (o : Routes) where
 
       -- Activation
 
-      armed_on-fine : (r : PathRole) (h : Option Neighbour) → RoleConcerns t g r → Records g b →
-          Fine t g o (armed_on b r h)
-      armed_on-fine r None concerns records =
+      armed_on-fine : (route : List Step) (r : PathRole) (h : Option Neighbour) → RoleConcerns t g r → Records g b →
+          Fine t g o (armed_on b route r h)
+      armed_on-fine route r None concerns records =
           fine-puts t g o (with_phase Live b) _ (λ back used. records back) (resv_to-fine (previous b) b.in_label)
-      armed_on-fine r (Some h) concerns records =
+      armed_on-fine route r (Some h) concerns records =
           fine-puts t g o (with_phase Armed b) _ (λ back used. records back) (concerns, tt)
 
-      activated-fine : (a : Arrival) (r : PathRole) → is_held b.phase ≡ true → RoleConcerns t g r → Records g b →
-          Fine t g o (activated p s a r b)
-      activated-fine a r held concerns records =
+      activated-fine : (a : Arrival) (route : List Step) (r : PathRole) → is_held b.phase ≡ true → RoleConcerns t g r → Records g b →
+          Fine t g o (activated p s a route r b)
+      activated-fine a route r held concerns records =
           if_cases (Fine t g o) (is_contended s.legs b b.in_fibre b.in_label) (sends (busy_to p b a.from ∷ []))
-          (armed_on b r (following b))
+          (armed_on b route r (following b))
           (λ e. let never = not_contended g s.legs knows.rise knows.labels holds.legs b here records held in
           absurd (cc (e, never)))
-          (λ e. armed_on-fine r (following b) concerns records)
+          (λ e. armed_on-fine route r (following b) concerns records)
 
-      path_again-fine : (a : Arrival) (r : PathRole) → RoleConcerns t g r → RoleKnows t s b.lsp r →
-          Fine t g o (path_again p s a r b)
-      path_again-fine a (Work guard) concerns its = fine-nothing t g o
-      path_again-fine a (Back false work primary) concerns its = fine-nothing t g o
-      path_again-fine a (Back true work primary) concerns its =
+      path_again-fine : (a : Arrival) (route : List Step) (r : PathRole) → RoleConcerns t g r → RoleKnows t s b.lsp r →
+          Fine t g o (path_again p s a route r b)
+      path_again-fine a route (Work guard) concerns its = fine-nothing t g o
+      path_again-fine a route (Back false work primary) concerns its = fine-nothing t g o
+      path_again-fine a route (Back true work primary) concerns its =
           if_cases (Fine t g o) (is_held b.phase && is_over (previous b) a.from a.link) _ nothing
-          (λ e. activated-fine a (Back true work primary) (both_left (is_held b.phase) _ e) concerns
+          (λ e. activated-fine a route (Back true work primary) (both_left (is_held b.phase) _ e) concerns
           (λ back. subst (λ x. has_risk x (risk_of g) ≡ true) (sym (its b here back))
           (recorded-risk t g primary concerns)))
           (λ e. fine-nothing t g o)
@@ -308,7 +308,7 @@ module _ (t : Network) (g : Group) (o : Routes) where
         RoleKnows t s m.arrival.lsp m.role → Fine t g o (path_with p s m b)
     path_with-fine m None found concerns its = first_path-fine m (own_link p m.arrival.link)
     path_with-fine m (Some b) found concerns its =
-        path_again-fine b (found-here m.arrival.lsp b found) m.arrival m.role concerns
+        path_again-fine b (found-here m.arrival.lsp b found) m.arrival (drop 1 m.route) m.role concerns
         (subst (λ k. RoleKnows t s k m.role) (sym (found-lsp m.arrival.lsp s.legs b found)) its)
 
     resv_with-fine : (a : Arrival) (x : ℕ) (b : Option Leg) → find_leg a.lsp s.legs ≡ b →

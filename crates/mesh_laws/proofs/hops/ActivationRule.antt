@@ -1,5 +1,5 @@
 -- A Path that activates a backup is taken at a node of its route.
-use Rattle.std.proofs.Common.{◌≡◌, ◌<◌, ◌≤◌, ℕ, suc, true, false, List, [], ◌∷◌, refl, sym, ◌∙◌, subst, arith, inl, inr, append-nil}
+use Rattle.std.proofs.Common.{◌≡◌, ◌<◌, ◌≤◌, ℕ, suc, true, false, List, [], ◌∷◌, refl, sym, ◌∙◌, subst, arith, inl, inr, append-nil, drop, ap, zero}
 use Rattle.std.specs.Prelude.{◌⊎◌, Option, Some, None}
 use Rattle.ason_base.specs.Codes.{busy_code}
 use Rattle.ason_base.specs.Lsps.{same_lsp}
@@ -52,6 +52,12 @@ beyond_held r d down up shape gone =
     let never : false ≡ true = rw gone at reserved in
     cc never
 
+drop-next : {X : Type 0} (j : ℕ) (xs : List X) → drop 1 (drop j xs) ≡ drop (suc j) xs
+drop-next zero [] = refl
+drop-next zero (x ∷ xs) = refl
+drop-next (suc j) [] = refl
+drop-next (suc j) (x ∷ xs) = drop-next j xs
+
 module _ (t : Network) (q : Purpose) (s : Mesh) (l : Lsp) (p : Plan) (i : ℕ) (route : IsRoute t l.ingress p)
     (chain : Chain t q l p (leg_at s l) (mail_between s l)) (below : i < hops p)
     (e : NodeId) (k : LinkId) (r : List Step) (set : List ℕ) (label : Option ℕ) (work : ℕ) (primary : List Step)
@@ -94,6 +100,10 @@ module _ (t : Network) (q : Purpose) (s : Mesh) (l : Lsp) (p : Plan) (i : ℕ) (
     over : k ≡ link_at p i
     over = hop.rest.going_down.0.1
 
+    -- the steps that are left from the next node on
+    left : drop 1 r ≡ drop (suc (suc i)) p.route
+    left = ap (drop 1) hop.rest.going_down.0.2 ∙ drop-next (suc i) p.route
+
     tells : Tells q (Back true work primary)
     tells = hop.rest.going_down.0.3
 
@@ -125,7 +135,7 @@ module _ (t : Network) (q : Purpose) (s : Mesh) (l : Lsp) (p : Plan) (i : ℕ) (
           (λ small gone path. chain.fresh (suc i) small (record { gone = gone; path = rw append-nil at path }))
 
       -- at the egress the leg is Live, and its label goes back
-      ends : hops p ≤ suc i → Keeps (armed_on g role None)
+      ends : hops p ≤ suc i → Keeps (armed_on g (drop 1 r) role None)
       ends end =
           subst (λ outs. Keeps (puts (with_phase Live g) outs))
           (sym (resv-is g (record { node = u; fibre = fibre_at t p i }) into.0 (previous g) g.in_label
@@ -143,15 +153,15 @@ module _ (t : Network) (q : Purpose) (s : Mesh) (l : Lsp) (p : Plan) (i : ℕ) (
 
       -- elsewhere it is Armed, and the Path goes on
       goes_on : suc i < hops p →
-          Keeps (armed_on g role (Some (record { node = next; fibre = fibre_at t p (suc i) })))
+          Keeps (armed_on g (drop 1 r) role (Some (record { node = next; fibre = fibre_at t p (suc i) })))
       goes_on small =
-          let m : Msg = Path g.lsp g.egress (link_at p (suc i)) g.route g.sent None (Back true work primary) in
+          let m : Msg = Path g.lsp g.egress (link_at p (suc i)) (drop 1 r) g.sent None (Back true work primary) in
           down_taken t q s l p i route chain below message rest was own
           (puts (with_phase Armed g) (to_node next m ∷ [])) (Some (with_phase Armed g)) [] (m ∷ [])
           (rw mine refl) (sends_on t l l.ingress p route (suc i) m small mine)
           (armed_fits t q l p (suc i) g fits held small)
           (rw append-nil (arms q p i (leg_at s l u) g message (messages_of l rest) _ held refl hop_in))
-          (λ _. arms_on q p (suc i) g (leg_at s l next) m _ _ held refl (fits.egress, refl, fits.route, tells) refl
+          (λ _. arms_on q p (suc i) g (leg_at s l next) m _ _ held refl (fits.egress, refl, left, tells) refl
           (λ gone. absurd (never gone)) (hop_out small))
           (λ none. absurd cc)
           (λ _ gone. absurd (never (rw gone refl)))
@@ -159,7 +169,7 @@ module _ (t : Network) (q : Purpose) (s : Mesh) (l : Lsp) (p : Plan) (i : ℕ) (
           never : leg_kind (leg_at s l (node_at p (suc (suc i)))) ≡ NoLeg → ⊥
           never gone = beyond_held (role_of q) _ _ _ (let h = (hop_out small).shape in rw held at h) gone
 
-      onward : (suc i < hops p) ⊎ (hops p ≤ suc i) → Keeps (armed_on g role (following g))
+      onward : (suc i < hops p) ⊎ (hops p ≤ suc i) → Keeps (armed_on g (drop 1 r) role (following g))
       onward (inl small) = rw (following_is t q l p (suc i) g fits small) (goes_on small)
       onward (inr end) = rw (following_none t q l p (suc i) g fits end) (ends end)
 
@@ -167,7 +177,7 @@ module _ (t : Network) (q : Purpose) (s : Mesh) (l : Lsp) (p : Plan) (i : ℕ) (
       taken =
           rw (held, previous_is t q l p i g fits, over, same (node_at p i).0, same (link_at p i).0)
           (if_cases Keeps (is_contended state.legs g g.in_fibre g.in_label) (sends (busy_to place g u ∷ []))
-          (armed_on g role (following g)) (λ c. refuses) (λ c. onward (below_or_not (suc i) (hops p))))
+          (armed_on g (drop 1 r) role (following g)) (λ c. refuses) (λ c. onward (below_or_not (suc i) (hops p))))
 
     is_held : leg_kind (leg_at s l d) ≡ HeldLeg
     is_held = (active_taken (role_of q) _ _ _ _ hop.shape).held

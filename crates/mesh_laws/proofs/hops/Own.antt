@@ -1,5 +1,5 @@
 -- What a message's rule changes and sends is of the message's LSP.
-use Rattle.std.proofs.Common.{◌≡◌, ℕ, Bool, true, false, cond, nat_eq, List, [], ◌∷◌, ◌++◌, refl, ◌∙◌, arith, append-nil}
+use Rattle.std.proofs.Common.{◌≡◌, ℕ, Bool, true, false, cond, nat_eq, List, [], ◌∷◌, ◌++◌, refl, ◌∙◌, arith, append-nil, drop}
 use Rattle.std.specs.Prelude.{◌&&◌, not, filter, map, Option, Some, None}
 use Rattle.std.proofs.lemmas.List.Elements.{filter-append}
 use Rattle.ason_base.specs.Codes.{torn_code}
@@ -120,26 +120,27 @@ own-resv_to l g None x is = tt
 own-resv_to l g (Some h) None is = tt
 own-resv_to l g (Some h) (Some x) is = (is, refl, tt)
 
-own-armed_on : (l : Lsp) (g : Leg) (r : PathRole) (h : Option Neighbour) → g.lsp ≡ l → Own l (armed_on g r h)
-own-armed_on l g r None is =
+own-armed_on : (l : Lsp) (g : Leg) (route : List Step) (r : PathRole) (h : Option Neighbour) → g.lsp ≡ l →
+    Own l (armed_on g route r h)
+own-armed_on l g route r None is =
     record { legs = (is, tt); sent = own-resv_to l g (previous g) g.in_label is; numbers = refl }
-own-armed_on l g r (Some h) is = record { legs = (is, tt); sent = (is, refl, tt); numbers = refl }
+own-armed_on l g route r (Some h) is = record { legs = (is, tt); sent = (is, refl, tt); numbers = refl }
 
-own-path_again : (l : Lsp) (p : LocalNode) (s : NodeState) (a : Arrival) (r : PathRole) (g : Leg) → g.lsp ≡ l →
-    Own l (path_again p s a r g)
-own-path_again l p s a (Work guard) g is = own-nothing l
-own-path_again l p s a (Back true work primary) g is =
+own-path_again : (l : Lsp) (p : LocalNode) (s : NodeState) (a : Arrival) (route : List Step) (r : PathRole) (g : Leg) →
+    g.lsp ≡ l → Own l (path_again p s a route r g)
+own-path_again l p s a route (Work guard) g is = own-nothing l
+own-path_again l p s a route (Back true work primary) g is =
     if_cases (Own l) (is_held g.phase && is_over (previous g) a.from a.link) _ _
     (λ h. if_cases (Own l) (is_contended s.legs g g.in_fibre g.in_label) _ _
     (λ c. record { legs = tt; sent = (is, refl, tt); numbers = refl })
-    (λ c. own-armed_on l g (Back true work primary) (following g) is))
+    (λ c. own-armed_on l g route (Back true work primary) (following g) is))
     (λ h. own-nothing l)
-own-path_again l p s a (Back false work primary) g is = own-nothing l
+own-path_again l p s a route (Back false work primary) g is = own-nothing l
 
 own-on_path : (p : LocalNode) (s : NodeState) (m : PathRequest) (o : Option Leg) → IsLegOf m.arrival.lsp o →
     Own m.arrival.lsp (path_with p s m o)
 own-on_path p s m None is = own-first_path p s m (own_link p m.arrival.link)
-own-on_path p s m (Some g) is = own-path_again m.arrival.lsp p s m.arrival m.role g is
+own-on_path p s m (Some g) is = own-path_again m.arrival.lsp p s m.arrival (drop 1 m.route) m.role g is
 
 -- Resv
 

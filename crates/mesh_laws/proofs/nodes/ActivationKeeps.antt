@@ -1,5 +1,5 @@
 -- A Path that activates a backup, and the answers to it, keep the facts of a node.
-use Rattle.std.proofs.Common.{◌≡◌, ℕ, true, false, nat_eq, [], refl, sym, ap, subst, arith}
+use Rattle.std.proofs.Common.{◌≡◌, ℕ, true, false, nat_eq, [], refl, sym, ap, subst, arith, List, drop}
 use Rattle.std.specs.Prelude.{◌&&◌, Option, Some, None}
 use Rattle.ason_base.specs.Codes.{busy_code}
 use Rattle.ason_base.specs.declared.calls.CallState.{CallState}
@@ -14,6 +14,7 @@ use Rattle.ason_base.specs.declared.messages.PathRole.{PathRole}
 use Rattle.ason_base.specs.declared.messages.PathRole.TheVariants as path
 use Rattle.ason_base.specs.declared.tables.CallRec.{CallRec}
 use Rattle.ason_base.specs.declared.tables.Leg.{Leg}
+use Rattle.ason_base.specs.declared.steps.Step.{Step}
 use Rattle.mesh_rules.specs.declared.arrivals.Arrival.{Arrival}
 use Rattle.mesh_rules.specs.declared.neighbours.Neighbour.{Neighbour}
 use Rattle.mesh_rules.specs.ActivationAnswers.{confirmed, contended, disarmed, is_confirmed, resv_again}
@@ -58,19 +59,19 @@ module _ (p : LocalNode) (s : NodeState) (g : Leg) (facts : NodeFacts p.id.0 s)
         (held-back p.id.0 s.lsp g leg is) free)
         facts
 
-    keeps-armed_on : (r : PathRole) (o : Option Neighbour) → Keeps p s (armed_on g r o)
-    keeps-armed_on r None = used Live refl
-    keeps-armed_on r (Some h) = used Armed refl
+    keeps-armed_on : (route : List Step) (r : PathRole) (o : Option Neighbour) → Keeps p s (armed_on g route r o)
+    keeps-armed_on route r None = used Live refl
+    keeps-armed_on route r (Some h) = used Armed refl
 
-  keeps-again : (a : Arrival) (r : PathRole) → Keeps p s (path_again p s a r g)
-  keeps-again a (path.Work guard) = facts
-  keeps-again a (path.Back false work primary) = facts
-  keeps-again a (path.Back true work primary) =
+  keeps-again : (a : Arrival) (route : List Step) (r : PathRole) → Keeps p s (path_again p s a route r g)
+  keeps-again a route (path.Work guard) = facts
+  keeps-again a route (path.Back false work primary) = facts
+  keeps-again a route (path.Back true work primary) =
       if_cases (Keeps p s) (is_held g.phase && is_over (previous g) a.from a.link) _ _
       (λ e. if_cases (Keeps p s) (is_contended s.legs g g.in_fibre g.in_label) _ _ (λ b. facts)
       (λ free. keeps-armed_on
       (previous-away p.id.0 s.lsp g a.from a.link leg (both_right (is_held g.phase) _ e))
-      (both_left (is_held g.phase) _ e) free (path.Back true work primary) (following g)))
+      (both_left (is_held g.phase) _ e) free route (path.Back true work primary) (following g)))
       (λ e. facts)
 
   -- An answer at an Armed leg
@@ -174,4 +175,4 @@ keeps-on_path p s m None facts is = keeps-first p s m facts
 keeps-on_path p s m (Some g) facts is =
     let here : find_leg g.lsp s.legs ≡ Some g =
     subst (λ l. find_leg l s.legs ≡ Some g) (sym (found-lsp m.arrival.lsp s.legs g is)) is in
-    keeps-again p s g facts here m.arrival m.role
+    keeps-again p s g facts here m.arrival (drop 1 m.route) m.role

@@ -296,22 +296,22 @@ module _ (P R : CallRec → Type 0) (keeps : (c d : CallRec) → IsSameCall c d 
       && not (nat_eq m.arrival.lsp.ingress.0 p.id.0))) _ _
       (λ h. holds-judged m link (first_failure (checks p s m link))) (λ h. tt)
 
-  holds-armed_on : (g : Leg) (r : PathRole) (o : Option Neighbour) → Holds (armed_on g r o)
-  holds-armed_on g r None = tt
-  holds-armed_on g r (Some h) = tt
+  holds-armed_on : (g : Leg) (route : List Step) (r : PathRole) (o : Option Neighbour) → Holds (armed_on g route r o)
+  holds-armed_on g route r None = tt
+  holds-armed_on g route r (Some h) = tt
 
-  holds-again : (a : Arrival) (r : PathRole) (g : Leg) → Holds (path_again p s a r g)
-  holds-again a (path.Work guard) g = tt
-  holds-again a (path.Back false work primary) g = tt
-  holds-again a (path.Back true work primary) g =
+  holds-again : (a : Arrival) (route : List Step) (r : PathRole) (g : Leg) → Holds (path_again p s a route r g)
+  holds-again a route (path.Work guard) g = tt
+  holds-again a route (path.Back false work primary) g = tt
+  holds-again a route (path.Back true work primary) g =
       if_cases Holds (is_held g.phase && is_over (previous g) a.from a.link) _ _
       (λ e. if_cases Holds (is_contended s.legs g g.in_fibre g.in_label) _ _ (λ b. tt)
-      (λ b. holds-armed_on g (path.Back true work primary) (following g)))
+      (λ b. holds-armed_on g route (path.Back true work primary) (following g)))
       (λ e. tt)
 
   holds-path : (m : PathRequest) (o : Option Leg) → Holds (path_with p s m o)
   holds-path m None = holds-first_path m (own_link p m.arrival.link)
-  holds-path m (Some g) = holds-again m.arrival m.role g
+  holds-path m (Some g) = holds-again m.arrival (drop 1 m.route) m.role g
 
   -- a report changes no more of a call than its reports
   reported-same : (c : CallRec) (l : Lsp) (down : Bool) (f : Fibre) → IsSameCall c (with_report c l down f)

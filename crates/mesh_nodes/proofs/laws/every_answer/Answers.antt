@@ -2,7 +2,6 @@ use Rattle.mesh_nodes.proofs.Items.{items-fit}
 use Rattle.mesh_nodes.proofs.Messages.{messages-fit}
 use Rattle.mesh_nodes.proofs.NewNodes.{new-fits, new-place}
 use Rattle.mesh_nodes.proofs.Paths.{nothing-fits}
-use Rattle.mesh_nodes.proofs.ShortRoutes.{routes-stay_short}
 use Rattle.mesh_rules.specs.LocalNodes.{local_node}
 use Rattle.mesh_nodes.proofs.laws.every_answer.Goals as goal
 
@@ -17,6 +16,3 @@ returns-clause-items c = items-fit
 
 pub returns-clause-nothing : goal.returns-clause-nothing
 returns-clause-nothing c = λ p s fits. nothing-fits p s (Unit {0}) fits
-
-pub returns-clause-short : goal.returns-clause-short
-returns-clause-short c = routes-stay_short
