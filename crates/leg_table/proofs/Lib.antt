@@ -1,6 +1,8 @@
+pub mod Activated
 pub mod AtStart
 pub mod BusyLabels
 mod CallIndexes
+pub mod CallLegs
 mod CallsByLsp
 pub mod Carried
 pub mod ClaimChanges

@@ -1,9 +1,9 @@
 -- The legs that a rule changes may be changed so: just the first takes a label, and one that is usable.
-use Rattle.std.proofs.Common.{◌≡◌, ℕ, Bool, true, false, cond, not, nat_eq, nat_lt, List, [], ◌∷◌, refl, sym, ap, subst, ◌∙◌}
+use Rattle.std.proofs.Common.{◌≡◌, inl, ℕ, Bool, true, false, cond, not, nat_eq, nat_lt, List, [], ◌∷◌, refl, sym, ap, subst, ◌∙◌}
 use Rattle.std.specs.Prelude.{◌&&◌, Option, Some, None, IfSome, is_some}
 use Rattle.std.specs.List.{AllByRecursion}
 use Rattle.ason_base.specs.Labels.{has, least}
-use Rattle.ason_base.specs.Lsps.{same_fibre}
+use Rattle.ason_base.specs.Lsps.{has_fibre, same_fibre}
 use Rattle.ason_base.specs.Risks.{unknown_link}
 use Rattle.ason_base.specs.declared.codes.ErrCode.{ErrCode}
 use Rattle.ason_base.specs.declared.commands.DeskItem.{DeskItem}
@@ -11,7 +11,9 @@ use Rattle.ason_base.specs.declared.commands.DeskItem.TheVariants.{Order, Alarm,
 use Rattle.ason_base.specs.declared.commands.Command.TheVariants.{Setup, Release, Protect, Retry, Revert, Fail, Repair}
 use Rattle.ason_base.specs.declared.calls.Role.{Role}
 use Rattle.ason_base.specs.declared.calls.Role.TheVariants.{Work, Back}
+use Rattle.ason_base.specs.declared.ids.CallNo.{CallNo}
 use Rattle.ason_base.specs.declared.ids.Fibre.{Fibre}
+use Rattle.ason_base.specs.declared.ids.Lsp.{Lsp}
 use Rattle.ason_base.specs.declared.risks.Risk.{Risk}
 use Rattle.ason_base.specs.declared.ids.NodeId.{NodeId}
 use Rattle.ason_base.specs.declared.messages.Msg.{Msg}
@@ -33,11 +35,15 @@ use Rattle.mesh_rules.specs.Changes.{Answer, changes_calls, followed_by, nothing
 use Rattle.mesh_rules.specs.Legs.{connected, find_leg, following, is_asked, is_closing, is_node, is_over, is_work, leg_of, neighbour_over, previous, reserved}
 use Rattle.mesh_rules.specs.LocalNodes.{LocalNode, fibre_in, leads, own_link}
 use Rattle.mesh_rules.specs.Messages.{arrival, on_message}
+use Rattle.mesh_rules.specs.Notifies.{Notice, notice_passed, notice_told, notify_with, on_notify}
 use Rattle.mesh_rules.specs.Orders.{on_item}
-use Rattle.mesh_rules.specs.PathErrs.{PathFailure, err_passed, on_path_err, path_err_with}
+use Rattle.mesh_rules.specs.PathErrs.{PathFailure, err_passed, on_path_err, path_err_with, removed}
 use Rattle.mesh_rules.specs.Paths.{PathRequest, admitted, at_egress, checks, egress_leg, first_failure, first_path, in_transit, is_active, judged, offered_labels, on_path, path_with, risks_here, role_of}
 use Rattle.mesh_rules.specs.Pairs.{backup_route, over_backup, pair, pair_over, route_from}
 use Rattle.mesh_rules.specs.Protects.{protect_with, protects}
+use Rattle.mesh_rules.specs.Alarms.{enters}
+use Rattle.mesh_rules.specs.Reports.{report_here, reported}
+use Rattle.mesh_rules.specs.Retries.{on_retry}
 use Rattle.mesh_rules.specs.Releases.{release_with, releases, tears}
 use Rattle.mesh_rules.specs.Resvs.{answered, is_expected, label_back, labels_left, on_resv, only, passed_back, resv_with}
 use Rattle.mesh_rules.specs.FirstLegs.{first_link, is_full}
@@ -46,12 +52,14 @@ use Rattle.mesh_rules.specs.LeastRoutes.{Trip, least_trip}
 use Rattle.mesh_rules.specs.Setups.{SetupRequest, is_order_here, is_spent, new_call, on_setup, over_first, over_found, setup_with}
 use Rattle.mesh_rules.specs.State.{NodeState}
 use Rattle.mesh_rules.specs.Tears.{on_tear, tear_with, torn}
-use Rattle.mesh_nodes.specs.Kept.{LegFits}
+use Rattle.mesh_nodes.specs.Kept.{CallFits, LegFits}
 use Rattle.mesh_nodes.specs.LocalNodes.{is_upstream}
 use Rattle.mesh_nodes.proofs.Cases.{both_left, if_cases}
 use Rattle.mesh_nodes.proofs.LegList.{found-all, found-lsp}
 use Rattle.mesh_nodes.proofs.Links.{any-found}
-use Rattle.leg_table.specs.LegClaims.{MayBeMade, MayBePut, MayTake, TakesNone, claim_kind, first_kind, is_fibre_in, taken, taken_of, taken_over}
+use Rattle.leg_table.specs.LegClaims.{MayBeMade, MayBePut, MayHave, MayTake, WorksAreLive, is_fibre_in, taken, taken_of, taken_over}
+use Rattle.leg_table.proofs.Activated.{contended-may, path_again-may, resv_again-may}
+use Rattle.leg_table.proofs.CallLegs.{answered-none, bare, connected-never, none-may, pair-none, refused-none, reported-none, retry-none}
 use Rattle.leg_table.proofs.InFibres.{upstream-fibre_in}
 use Rattle.leg_table.proofs.MayPut.{asked-taken, closed-may, closed-taken, least-has, met-usable}
 use Rattle.leg_table.proofs.OwnerFibres.{same_fibre-refl}
@@ -64,64 +72,8 @@ reserved-taken : (r : Role) (g : Leg) → g.phase ≡ reserved r → taken g ≡
 reserved-taken Work g is = rw is refl
 reserved-taken Back g is = rw is refl
 
--- Legs that take no label
-
-begun-none : (g : Leg) (x : ℕ) → taken (connected g None x) ≡ None
-begun-none g x = reserved-taken g.role (connected g None x) refl ∙ go g.in_fibre
-  where
-    go : (i : Option Fibre) → taken_over i None ≡ None
-    go None = refl
-    go (Some f) = refl
-
-bare : (p : LocalNode) (legs : List Leg) (g : Leg) → taken g ≡ None → MayBePut p legs g
-bare p legs g e = subst (λ t. IfSome t (MayTake p legs g)) (sym e) tt
-
--- a leg that gets its label has the claim that a leg has at first
-reserved-kind : (r : Role) → claim_kind r (reserved r) ≡ first_kind r
-reserved-kind Work = refl
-reserved-kind Back = refl
-
--- Backups that are asked for
-
-abbrev TakesNo : Answer → Type 0
-TakesNo a = AllByRecursion TakesNone a.legs
-
--- legs that take no label may be put
-none-may : (p : LocalNode) (legs : List Leg) (cs : List LegChange) → AllByRecursion TakesNone cs →
-    MayBeMade p legs cs
-none-may p legs [] none = tt
-none-may p legs (leg.Goes l ∷ cs) none = (tt, none.1)
-none-may p legs (leg.Put g ∷ cs) none = (bare p legs g none.0, none.1)
-
--- a backup that is asked for takes none
-pair-none : (p : LocalNode) (s : NodeState) (c : CallRec) (w : Leg) → TakesNo (pair p s c w)
-pair-none p s c w =
-    if_cases TakesNo (is_some (unknown_link (known_rows p s) (route_from p w))) _ _ (λ e. tt)
-    (λ e. along (backup_route p s c w))
-  where
-    over : (route : List Step) (o : Option LinkSpec) → TakesNo (over_backup p s c w route o)
-    over route None = tt
-    over route (Some out) =
-        if_cases TakesNo (nat_lt LAST_NUMBER s.lsp) _ _ (λ e. tt)
-        (λ e. if_cases TakesNo (is_full s) _ _ (λ e. tt) (λ e. (refl, tt)))
-
-    along : (o : Option (List Step)) → TakesNo (pair_over p s c w o)
-    along None = tt
-    along (Some route) = over route (first_link p route)
-
-answered-none : (p : LocalNode) (s : NodeState) (g : Leg) (o : Option CallRec) → TakesNo (call_answered p s g o)
-answered-none p s g None = tt
-answered-none p s g (Some c) =
-    if_cases TakesNo (is_work g.role) _ _
-    (λ e. if_cases TakesNo (is_asking c.state) _ _
-    (λ e. if_cases TakesNo c.protected _ _ (λ e. pair-none p s c g) (λ e. tt)) (λ e. tt))
-    (λ e. if_cases TakesNo (is_pairing c.state) _ _ (λ e. tt) (λ e. tt))
-
-refused-none : (code : ErrCode) (g : Leg) (o : Option CallRec) → TakesNo (call_refused code g o)
-refused-none code g None = tt
-refused-none code g (Some c) =
-    if_cases TakesNo (is_work g.role) _ _ (λ e. if_cases TakesNo (is_asking c.state) _ _ (λ e. tt) (λ e. tt))
-    (λ e. if_cases TakesNo (is_pairing c.state) _ _ (λ e. tt) (λ e. tt))
+found-itself : (l : Lsp) (legs : List Leg) (g : Leg) → find_leg l legs ≡ Some g → find_leg g.lsp legs ≡ Some g
+found-itself l legs g found = subst (λ k. find_leg k legs ≡ Some g) (sym (found-lsp l legs g found)) found
 
 -- Labels
 
@@ -150,7 +102,7 @@ module _ (p : LocalNode) (s : NodeState) (m : PathRequest) (absent : find_leg m.
       MayBePut p s.legs (egress_leg p m link (risks_here p s m) offered x)
   egress-taken link offered x may =
       let g = egress_leg p m link (risks_here p s m) offered x in
-      subst (λ o. IfSome o (MayTake p s.legs g)) (sym (reserved-taken (role_of m.role) g refl)) may
+      subst (λ o. IfSome o (MayHave p s.legs g)) (sym (reserved-taken (role_of m.role) g refl)) (inl may)
 
   egress-may : (link : LinkSpec) (o : Option ℕ) → own_link p m.arrival.link ≡ Some link →
       least (offered_labels p s m link) ≡ o →
@@ -158,7 +110,7 @@ module _ (p : LocalNode) (s : NodeState) (m : PathRequest) (absent : find_leg m.
   egress-may link None own e = tt
   egress-may link (Some x) own e = (
     egress-taken link (offered_labels p s m link) x (record {
-      first = reserved-kind (role_of m.role);
+      first = refl;
       fresh = ap taken_of absent;
       comes_in = own-in p m link own;
       usable = met-usable p s.legs (role_of m.role) (risks_here p s m) (fibre_in link p.id) m.set x
@@ -191,13 +143,20 @@ module _ (p : LocalNode) (s : NodeState) (m : PathRequest) (absent : find_leg m.
       && not (nat_eq m.arrival.lsp.ingress.0 p.id.0))) _ _
       (λ e. judged-may link (first_failure (checks p s m link)) own) (λ e. tt)
 
-path-with : (p : LocalNode) (s : NodeState) (m : PathRequest) (o : Option Leg) → find_leg m.arrival.lsp s.legs ≡ o →
-    MayBeMade p s.legs (path_with p s m o).legs
-path-with p s m None absent = first-may p s m absent (own_link p m.arrival.link) refl
-path-with p s m (Some g) there = tt
+-- the first Path of an LSP
+pub first_path-may : (p : LocalNode) (s : NodeState) (m : PathRequest) → find_leg m.arrival.lsp s.legs ≡ None →
+    MayBeMade p s.legs (first_path p s m (own_link p m.arrival.link)).legs
+first_path-may p s m absent = first-may p s m absent (own_link p m.arrival.link) refl
 
-pub path-may : (p : LocalNode) (s : NodeState) (m : PathRequest) → MayBeMade p s.legs (on_path p s m).legs
-path-may p s m = path-with p s m (find_leg m.arrival.lsp s.legs) refl
+path-with : (p : LocalNode) (s : NodeState) (m : PathRequest) (o : Option Leg) → WorksAreLive s.legs →
+    find_leg m.arrival.lsp s.legs ≡ o → MayBeMade p s.legs (path_with p s m o).legs
+path-with p s m None live absent = first_path-may p s m absent
+path-with p s m (Some g) live found =
+    path_again-may p s g live (found-itself m.arrival.lsp s.legs g found) m.arrival m.role
+
+pub path-may : (p : LocalNode) (s : NodeState) (m : PathRequest) → WorksAreLive s.legs →
+    MayBeMade p s.legs (on_path p s m).legs
+path-may p s m live = path-with p s m (find_leg m.arrival.lsp s.legs) live refl
 
 -- PathTear
 
@@ -218,8 +177,11 @@ tear-may p s a = go (find_leg a.lsp s.legs)
 -- Resv
 
 connected-may : (p : LocalNode) (s : NodeState) (g : Leg) (x : ℕ) (o : Option CallRec) →
-    MayBeMade p s.legs (followed_by (puts (connected g None x) []) (call_answered p s g o)).legs
-connected-may p s g x o = (bare p s.legs (connected g None x) (begun-none g x), answered-none p s g o)
+    MayBeMade p s.legs (followed_by (puts (connected g None x) []) (call_answered p s (connected g None x) o)).legs
+connected-may p s g x o = (
+  bare p s.legs (connected g None x) (connected-never g x (reserved g.role)),
+  answered-none p s (connected g None x) o (connected-never g x),
+)
 
 beside : (n : Option NodeId) (f : Option Fibre) (h : Neighbour) → neighbour_over n f ≡ Some h → f ≡ Some h.fibre
 beside None f h e = absurd (cc e)
@@ -233,8 +195,8 @@ module _ (p : LocalNode) (s : NodeState) (a : Arrival) (x : ℕ) (g : Leg) (foun
       MayTake p s.legs (connected g (Some y) x) (record { fibre = h.fibre; label = y }) →
       MayBePut p s.legs (connected g (Some y) x)
   passed-taken y h before may =
-      subst (λ o. IfSome o (MayTake p s.legs (connected g (Some y) x)))
-      (sym (reserved-taken g.role (connected g (Some y) x) refl ∙ ap (λ i. taken_over i (Some y)) before)) may
+      subst (λ o. IfSome o (MayHave p s.legs (connected g (Some y) x)))
+      (sym (reserved-taken g.role (connected g (Some y) x) refl ∙ ap (λ i. taken_over i (Some y)) before)) (inl may)
 
   passed-may : (h : Neighbour) (o : Option ℕ) → previous g ≡ Some h → label_back p (labels_left p s g h) x ≡ o →
       MayBeMade p s.legs (passed_back p a g h x o).legs
@@ -244,13 +206,10 @@ module _ (p : LocalNode) (s : NodeState) (a : Arrival) (x : ℕ) (g : Leg) (foun
     tt,
   )
     where
-      own : find_leg g.lsp s.legs ≡ Some g
-      own = subst (λ l. find_leg l s.legs ≡ Some g) (sym (found-lsp a.lsp s.legs g found)) found
-
       may : MayTake p s.legs (connected g (Some y) x) (record { fibre = h.fibre; label = y })
       may = record {
-        first = reserved-kind g.role;
-        fresh = ap taken_of own ∙ asked-taken g wait;
+        first = refl;
+        fresh = ap taken_of (found-itself a.lsp s.legs g found) ∙ asked-taken g wait;
         comes_in = upstream-fibre_in p h (subst (λ o. IfSome o (λ h. is_upstream p h ≡ true)) before upstream);
         usable = met-usable p s.legs g.role g.risks h.fibre g.offered y
             (label-has p.convert (labels_left p s g h) x y e);
@@ -262,18 +221,17 @@ module _ (p : LocalNode) (s : NodeState) (a : Arrival) (x : ℕ) (g : Leg) (foun
 
 -- the legs come from neighbours
 pub resv-may : (p : LocalNode) (s : NodeState) (next : ℕ) (a : Arrival) (x : ℕ) →
-    AllByRecursion (LegFits p next) s.legs →
-    MayBeMade p s.legs (on_resv p s a x).legs
-resv-may p s next a x each = go (find_leg a.lsp s.legs) refl
+    AllByRecursion (LegFits p next) s.legs → WorksAreLive s.legs → MayBeMade p s.legs (on_resv p s a x).legs
+resv-may p s next a x each live = go (find_leg a.lsp s.legs) refl
   where
     go : (o : Option Leg) → find_leg a.lsp s.legs ≡ o → MayBeMade p s.legs (resv_with p s a x o).legs
     go None found = tt
     go (Some g) found =
+        let fits = found-all (LegFits p next) a.lsp s.legs g found each in
         if_cases (Fine p s.legs) (is_expected a x g) _ _
-        (λ e. answered-may p s a x g found (found-all (LegFits p next) a.lsp s.legs g found each).upstream
-        (both_left (is_asked g.phase) (is_over (following g) a.from a.link && has g.sent x) e)
-        (previous g) refl)
-        (λ e. tt)
+        (λ e. answered-may p s a x g found fits.upstream
+        (both_left (is_asked g.phase) (is_over (following g) a.from a.link && has g.sent x) e) (previous g) refl)
+        (λ e. resv_again-may p s g live (found-itself a.lsp s.legs g found) next a x fits)
 
 -- PathErr
 
@@ -282,17 +240,46 @@ passed_err-may : (p : LocalNode) (s : NodeState) (g : Leg) (e : PathFailure) (o 
 passed_err-may p s g e (Some h) = (tt, tt)
 passed_err-may p s g e None = (tt, refused-none e.code g (call_with g.lsp s.calls))
 
-pub err-may : (p : LocalNode) (s : NodeState) (u : NodeId) (e : PathFailure) →
-    MayBeMade p s.legs (on_path_err s u e).legs
-err-may p s u e = go (find_leg e.lsp s.legs)
+pub removed-may : (p : LocalNode) (s : NodeState) (g : Leg) (e : PathFailure) → MayBeMade p s.legs (removed s g e).legs
+removed-may p s g e =
+    if_cases (Fine p s.legs) (is_asked g.phase) _ _ (λ t. passed_err-may p s g e (previous g))
+    (λ t. if_cases (Fine p s.legs) (is_closing g.phase) _ _ (λ t. (tt, tt)) (λ t. tt))
+
+pub err-may : (p : LocalNode) (s : NodeState) (next : ℕ) (u : NodeId) (e : PathFailure) →
+    AllByRecursion (LegFits p next) s.legs → WorksAreLive s.legs → MayBeMade p s.legs (on_path_err s u e).legs
+err-may p s next u e each live = go (find_leg e.lsp s.legs) refl
   where
-    go : (o : Option Leg) → MayBeMade p s.legs (path_err_with s u e o).legs
+    go : (o : Option Leg) → find_leg e.lsp s.legs ≡ o → MayBeMade p s.legs (path_err_with s u e o).legs
+    go None found = tt
+    go (Some g) found =
+        if_cases (Fine p s.legs) (is_node (following g) u) _ _
+        (λ t. if_cases (Fine p s.legs) e.removed _ _ (λ t. removed-may p s g e)
+        (λ t. contended-may p s g live (found-itself e.lsp s.legs g found) next e.msg
+        (found-all (LegFits p next) e.lsp s.legs g found each)))
+        (λ t. tt)
+
+-- Notify
+
+notice-may : (p : LocalNode) (s : NodeState) (next : ℕ) (u : NodeId) (m : Notice) →
+    AllByRecursion (LegFits p next) s.legs → AllByRecursion (CallFits p) s.calls →
+    MayBeMade p s.legs (on_notify p s u m).legs
+notice-may p s next u m each calls = go (find_leg m.lsp s.legs)
+  where
+    passed : (g : Leg) (down : Bool) (o : Option Neighbour) → MayBeMade p s.legs (notice_passed p s m g down o).legs
+    passed g down None =
+        none-may p s.legs (report_here p s g m.at m.link down).legs
+        (reported-none p s next each calls g m.at m.link down)
+    passed g down (Some h) = tt
+
+    told : (g : Leg) (o : Option Bool) → MayBeMade p s.legs (notice_told p s m g o).legs
+    told g None = tt
+    told g (Some down) = passed g down (previous g)
+
+    go : (o : Option Leg) → MayBeMade p s.legs (notify_with p s u m o).legs
     go None = tt
     go (Some g) =
-        if_cases (Fine p s.legs) (e.removed && is_node (following g) u) _ _
-        (λ t. if_cases (Fine p s.legs) (is_asked g.phase) _ _ (λ t. passed_err-may p s g e (previous g))
-        (λ t. if_cases (Fine p s.legs) (is_closing g.phase) _ _ (λ t. (tt, tt)) (λ t. tt)))
-        (λ t. tt)
+        if_cases (Fine p s.legs) (not (is_closing g.phase) && is_node (following g) u) _ _
+        (λ e. told g (reported m.code)) (λ e. tt)
 
 -- Setup
 
@@ -346,21 +333,32 @@ release-may p s from (Some c) =
     both (Some g) None = (closed-may p s.legs g, tt)
     both (Some g) (Some h) = (closed-may p s.legs g, (closed-taken h, tt))
 
+-- Retry
+
+pub retry-may : (p : LocalNode) (s : NodeState) (next : ℕ) (n : CallNo) (from : NodeId) →
+    AllByRecursion (LegFits p next) s.legs → AllByRecursion (CallFits p) s.calls →
+    MayBeMade p s.legs (on_retry p s n from).legs
+retry-may p s next n from each calls =
+    none-may p s.legs (on_retry p s n from).legs
+    (retry-none p s next each calls n from (find_call n s.calls) refl)
+
 -- Every message and item
 
 pub message-may : (p : LocalNode) (s : NodeState) (next : ℕ) (u : NodeId) (m : Msg) →
-    AllByRecursion (LegFits p next) s.legs →
+    AllByRecursion (LegFits p next) s.legs → AllByRecursion (CallFits p) s.calls → WorksAreLive s.legs →
     MayBeMade p s.legs (on_message p s u m).legs
-message-may p s next u (Path l e k route set up r) each =
-    path-may p s (record { arrival = arrival l e u k; route = route; set = set; role = r })
-message-may p s next u (Resv l e k x) each = resv-may p s next (arrival l e u k) x each
-message-may p s next u (PathTear l e k) each = tear-may p s (arrival l e u k)
-message-may p s next u (PathErr l e at gone code) each =
-    err-may p s u (record { lsp = l; msg = PathErr l e at gone code; removed = gone; code = code })
-message-may p s next u (Notify l e at k code) each = tt
+message-may p s next u (Path l e k route set up r) each calls live =
+    path-may p s (record { arrival = arrival l e u k; route = route; set = set; role = r }) live
+message-may p s next u (Resv l e k x) each calls live = resv-may p s next (arrival l e u k) x each live
+message-may p s next u (PathTear l e k) each calls live = tear-may p s (arrival l e u k)
+message-may p s next u (PathErr l e at gone code) each calls live =
+    err-may p s next u (record { lsp = l; msg = PathErr l e at gone code; removed = gone; code = code }) each live
+message-may p s next u (Notify l e at k code) each calls live =
+    notice-may p s next u (record { lsp = l; msg = Notify l e at k code; at = at; link = k; code = code }) each calls
 
-pub item-may : (p : LocalNode) (s : NodeState) (i : DeskItem) → MayBeMade p s.legs (on_item p s i).legs
-item-may p s (Order (Setup n from to protected both via backup)) =
+pub item-may : (p : LocalNode) (s : NodeState) (next : ℕ) (i : DeskItem) → AllByRecursion (LegFits p next) s.legs →
+    AllByRecursion (CallFits p) s.calls → MayBeMade p s.legs (on_item p s i).legs
+item-may p s next (Order (Setup n from to protected both via backup)) each calls =
     setup-may p s (record {
       call =
           n;
@@ -371,11 +369,13 @@ item-may p s (Order (Setup n from to protected both via backup)) =
       via = via;
       backup = backup;
     })
-item-may p s (Order (Release n from)) = release-may p s from (find_call n s.calls)
-item-may p s (Order (Protect n from)) = protect-may p s from (find_call n s.calls)
-item-may p s (Order (Retry n from)) = tt
-item-may p s (Order (Revert n from)) = tt
-item-may p s (Order (Fail g)) = tt
-item-may p s (Order (Repair g)) = tt
-item-may p s (Alarm f) = tt
-item-may p s (Clear f) = tt
+item-may p s next (Order (Release n from)) each calls = release-may p s from (find_call n s.calls)
+item-may p s next (Order (Protect n from)) each calls = protect-may p s from (find_call n s.calls)
+item-may p s next (Order (Retry n from)) each calls = retry-may p s next n from each calls
+item-may p s next (Order (Revert n from)) each calls = tt
+item-may p s next (Order (Fail g)) each calls = tt
+item-may p s next (Order (Repair g)) each calls = tt
+item-may p s next (Alarm f) each calls =
+    if_cases (Fine p s.legs) (enters p f (own_link p f.link) && not (has_fibre s.down f)) _ _ (λ e. tt) (λ e. tt)
+item-may p s next (Clear f) each calls =
+    if_cases (Fine p s.legs) (enters p f (own_link p f.link) && has_fibre s.down f) _ _ (λ e. tt) (λ e. tt)
