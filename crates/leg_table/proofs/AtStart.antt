@@ -77,6 +77,8 @@ module _ (t : Network) (n : NodeId) (valid : IsTopology t) where
   claims-fit = record {
     each = λ f. rw (none-there n f (filter (touches n) t.links)) tt;
     all = λ f x l g found takes. absurd (cc found);
+    within = λ f x l g found takes. absurd (cc found);
+    live = λ l g found some work. absurd (cc found);
   }
 
   start-fits : TablesFit (new_table t n) (none_claimed t n) []

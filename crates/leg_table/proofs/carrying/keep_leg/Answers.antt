@@ -34,8 +34,8 @@ rearm-requires-clause-idle c =
     let was : c.is_used-was.result ≡ is_in_use may.before.phase =
     c.is_used-was.ensures ∙ rw (c.deref.ensures.value, c.leg.ensures) (ap is_used_by may.there) in
     rw c.leg-2.ensures (λ idle used.
-        ap not (busy-exact legs c.args.owner.now c.requires.fit t.fibre t.label g.lsp (legs-to legs c.requires.rising)
-        ∙ may.alone (sym was ∙ idle) used))
+    ap not (busy-exact legs c.args.owner.now c.requires.fit t.fibre t.label g.lsp (legs-to legs c.requires.rising)
+    ∙ may.alone (sym was ∙ idle) used))
 
 pub returns-clause-len : goal.returns-clause-len
 returns-clause-len c =
