@@ -3,7 +3,6 @@ use Rattle.std.proofs.Common.{◌≡◌, ℕ, Bool, true, false, cond, not, nat_
 use Rattle.std.specs.Prelude.{◌&&◌, Option, Some, None, IfSome, is_some}
 use Rattle.std.specs.List.{AllByRecursion}
 use Rattle.ason_base.specs.Codes.{busy_code}
-use Rattle.ason_base.specs.Lsps.{is_lsp}
 use Rattle.ason_base.specs.Risks.{unknown_link}
 use Rattle.ason_base.specs.declared.calls.CallState.{CallState}
 use Rattle.ason_base.specs.declared.calls.CallState.TheVariants.{Asking, Bare, Blocked, Guarded, Pairing, Stuck, Turned, Turning}
@@ -31,7 +30,7 @@ use Rattle.mesh_rules.specs.KnownRows.{known_rows}
 use Rattle.mesh_rules.specs.Legs.{connected, find_leg, is_beyond_asked, is_held, is_work, leg_of, previous, with_phase}
 use Rattle.mesh_rules.specs.LocalNodes.{LocalNode}
 use Rattle.mesh_rules.specs.Pairs.{backup_route, over_backup, pair, pair_over, route_from}
-use Rattle.mesh_rules.specs.Reports.{call_reported, fibre_into, fibres_after, report_here, reported_on, with_back_reports, with_report, with_work_reports}
+use Rattle.mesh_rules.specs.Reports.{call_reported, fibre_into, report_here, reported_on, with_report}
 use Rattle.mesh_rules.specs.Retries.{retries, retry_with}
 use Rattle.mesh_rules.specs.State.{NodeState}
 use Rattle.mesh_rules.specs.Turns.{decide, decided, has_any, turn}

@@ -1,6 +1,6 @@
 -- The claims, the guards and the legs, after a leg that keeps its label gets into use or out of it.
 use Rattle.std.proofs.Common.{◌≡◌, ◌≤◌, ◌⊎◌, inl, inr, ℕ, Bool, true, false, cond, nat_eq, List, [], ◌∷◌, refl, sym, ap, subst, ◌∙◌}
-use Rattle.std.specs.Prelude.{◌&&◌, ◌||◌, IsSome, Option, Some, None, is_some, length, map}
+use Rattle.std.specs.Prelude.{◌&&◌, IsSome, Option, Some, None, is_some, length, map}
 use Rattle.std.specs.List.{AllByRecursion, list_any}
 use Rattle.ason_base.specs.declared.calls.Phase.{Phase}
 use Rattle.ason_base.specs.declared.calls.Phase.TheVariants as phase
@@ -16,7 +16,7 @@ use Rattle.link_owner.specs.Claims.{FibreClaims, armed_kind, disarmed_kind, is_o
 use Rattle.link_owner.specs.Owners.{claims_of, comes_in, has_label, labels_of, with_claims}
 use Rattle.link_owner.specs.declared.claims.Claim.{Claim}
 use Rattle.link_owner.specs.declared.claims.ClaimKind.{ClaimKind}
-use Rattle.link_owner.specs.declared.claims.ClaimKind.TheVariants.{Working, Backup, Armed}
+use Rattle.link_owner.specs.declared.claims.ClaimKind.TheVariants.{Backup, Armed}
 use Rattle.share_check.specs.declared.guards.Guard.{Guard}
 use Rattle.mesh_rules.specs.Legs.{find_leg, is_in_use, is_work, takes, with_leg, without_leg}
 use Rattle.mesh_nodes.specs.Order as order
@@ -26,7 +26,7 @@ use Rattle.mesh_nodes.proofs.LegList.{find-with_leg, same_lsp-eq, same_lsp-refl}
 use Rattle.leg_table.specs.declared.labels.TakenLabel.{TakenLabel}
 use Rattle.leg_table.specs.LegClaims.{ClaimsFit, GuardsFit, IsClaimOfLeg, MayClaim, MayKeep, SameFibres, claim_kind, guarded_risks, guards_here, kept_claim, kind_here, taken, taken_of}
 use Rattle.leg_table.proofs.Carried.{left-with, left-without, same-fibres}
-use Rattle.leg_table.proofs.ClaimChanges.{Left, all-to, kind-none, kind-of, left-fit, same_number}
+use Rattle.leg_table.proofs.ClaimChanges.{all-to, kind-none, kind-of, left-fit, same_number}
 use Rattle.leg_table.proofs.GuardChanges.{taken-place}
 use Rattle.leg_table.proofs.OwnerFibres.{claimed-comes, claims-elsewhere, claims-there, comes-kept, labels-kept, same_fibre-eq, same_fibre-refl}
 use Rattle.leg_table.proofs.Restored.{set-same}

@@ -1,5 +1,5 @@
 -- The tables, the owner and the shares, after changes of legs that keep their labels.
-use Rattle.std.proofs.Common.{◌≡◌, List, [], ◌∷◌, refl, sym, ap, ◌∙◌}
+use Rattle.std.proofs.Common.{◌≡◌, List, [], ◌∷◌, refl, sym, ◌∙◌}
 use Rattle.std.specs.Prelude.{Option, Some, None}
 use Rattle.ason_base.specs.declared.ids.Lsp.{Lsp}
 use Rattle.ason_base.specs.declared.tables.Leg.{Leg}
@@ -10,7 +10,7 @@ use Rattle.mesh_rules.specs.LocalNodes.{LocalNode}
 use Rattle.mesh_rules.specs.declared.changes.LegChange.{LegChange}
 use Rattle.mesh_rules.specs.declared.changes.LegChange.TheVariants.{Goes, Put}
 use Rattle.leg_table.specs.declared.labels.TakenLabel.{TakenLabel}
-use Rattle.leg_table.specs.LegClaims.{AreOfOneNode, ClaimsFit, GuardsFit, MayAllStay, MayStay, OwnerFits, SameFibres, SharesStay, StaysAs, taken, taken_of}
+use Rattle.leg_table.specs.LegClaims.{ClaimsFit, GuardsFit, MayAllStay, MayStay, OwnerFits, SameFibres, SharesStay, StaysAs, taken, taken_of}
 use Rattle.leg_table.specs.States.{local_of}
 use Rattle.leg_table.specs.Tables.{LegTable}
 use Rattle.leg_table.proofs.Carried.{left-with, left-without}

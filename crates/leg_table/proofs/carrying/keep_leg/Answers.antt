@@ -1,8 +1,5 @@
-use Rattle.std.proofs.Common.{◌≡◌, Bool, true, false, not, ◌∙◌, ap, length, sym}
-use Rattle.std.specs.List.{list_any}
-use Rattle.link_owner.specs.Claims as claims
-use Rattle.link_owner.specs.Owners.{claims_of}
-use Rattle.mesh_rules.specs.Legs.{find_leg, is_in_use}
+use Rattle.std.proofs.Common.{◌≡◌, not, ◌∙◌, ap, length, sym}
+use Rattle.mesh_rules.specs.Legs.{is_in_use}
 use Rattle.mesh_nodes.proofs.Kept.{length-replaced}
 use Rattle.leg_table.specs.LegClaims.{is_used_by}
 use Rattle.leg_table.proofs.BusyLabels.{busy-exact}
