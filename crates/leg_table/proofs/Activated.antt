@@ -8,6 +8,7 @@ use Rattle.ason_base.specs.declared.messages.Msg.{Msg}
 use Rattle.ason_base.specs.declared.messages.PathRole.{PathRole}
 use Rattle.ason_base.specs.declared.messages.PathRole.TheVariants as role
 use Rattle.ason_base.specs.declared.tables.Leg.{Leg}
+use Rattle.ason_base.specs.declared.steps.Step.{Step}
 use Rattle.mesh_rules.specs.declared.arrivals.Arrival.{Arrival}
 use Rattle.mesh_rules.specs.declared.neighbours.Neighbour.{Neighbour}
 use Rattle.mesh_rules.specs.ActivationAnswers.{confirmed, contended, disarmed, is_confirmed, resv_again}
@@ -100,18 +101,19 @@ module _ (p : LocalNode) (s : NodeState) (g : Leg) (live : WorksAreLive s.legs)
       (phase-stays s.legs g live there (held-beyond g.phase held) (held-waits g.phase held) q after
       (λ unused used. alone))
 
-  armed_on-may : (r : PathRole) (o : Option Neighbour) → is_held g.phase ≡ true →
-      is_contended s.legs g g.in_fibre g.in_label ≡ false → MayBeMade p s.legs (armed_on g r o).legs
-  armed_on-may r None held alone = (held-put phase.Live held alone refl, tt)
-  armed_on-may r (Some h) held alone = (held-put phase.Armed held alone refl, tt)
+  armed_on-may : (route : List Step) (r : PathRole) (o : Option Neighbour) → is_held g.phase ≡ true →
+      is_contended s.legs g g.in_fibre g.in_label ≡ false → MayBeMade p s.legs (armed_on g route r o).legs
+  armed_on-may route r None held alone = (held-put phase.Live held alone refl, tt)
+  armed_on-may route r (Some h) held alone = (held-put phase.Armed held alone refl, tt)
 
-  pub path_again-may : (a : Arrival) (r : PathRole) → MayBeMade p s.legs (path_again p s a r g).legs
-  path_again-may a (role.Work guard) = tt
-  path_again-may a (role.Back false work primary) = tt
-  path_again-may a (role.Back true work primary) =
+  pub path_again-may : (a : Arrival) (route : List Step) (r : PathRole) →
+      MayBeMade p s.legs (path_again p s a route r g).legs
+  path_again-may a route (role.Work guard) = tt
+  path_again-may a route (role.Back false work primary) = tt
+  path_again-may a route (role.Back true work primary) =
       if_cases (λ (b : Answer). MayBeMade p s.legs b.legs) (is_held g.phase && is_over (previous g) a.from a.link) _ _
       (λ e. if_cases (λ (b : Answer). MayBeMade p s.legs b.legs) (is_contended s.legs g g.in_fibre g.in_label) _ _ (λ busy. tt)
-      (armed_on-may (role.Back true work primary) (following g) (both_left (is_held g.phase) _ e)))
+      (armed_on-may route (role.Back true work primary) (following g) (both_left (is_held g.phase) _ e)))
       (λ e. tt)
 
   -- A Resv, or a PathErr that doesn't remove the leg

@@ -1,5 +1,5 @@
 -- The legs that a rule changes may be changed so: just the first takes a label, and one that is usable.
-use Rattle.std.proofs.Common.{◌≡◌, inl, ℕ, Bool, true, false, cond, not, nat_eq, List, [], ◌∷◌, refl, sym, ap, subst, ◌∙◌}
+use Rattle.std.proofs.Common.{◌≡◌, inl, ℕ, Bool, true, false, cond, not, nat_eq, List, [], ◌∷◌, refl, sym, ap, subst, ◌∙◌, drop}
 use Rattle.std.specs.Prelude.{◌&&◌, Option, Some, None, IfSome}
 use Rattle.std.specs.List.{AllByRecursion}
 use Rattle.ason_base.specs.Labels.{has, least}
@@ -148,7 +148,7 @@ path-with : (p : LocalNode) (s : NodeState) (m : PathRequest) (o : Option Leg) �
     find_leg m.arrival.lsp s.legs ≡ o → MayBeMade p s.legs (path_with p s m o).legs
 path-with p s m None live absent = first_path-may p s m absent
 path-with p s m (Some g) live found =
-    path_again-may p s g live (found-itself m.arrival.lsp s.legs g found) m.arrival m.role
+    path_again-may p s g live (found-itself m.arrival.lsp s.legs g found) m.arrival (drop 1 m.route) m.role
 
 pub path-may : (p : LocalNode) (s : NodeState) (m : PathRequest) → WorksAreLive s.legs →
     MayBeMade p s.legs (on_path p s m).legs
