@@ -27,13 +27,13 @@ use Rattle.leg_table.proofs.CallLegs.{contended-none, first-never, turned-none}
 
 -- Phases
 
-held-waits : (q : Phase) → is_held q ≡ true → q ≡ phase.Live → ⊥
+pub held-waits : (q : Phase) → is_held q ≡ true → q ≡ phase.Live → ⊥
 held-waits q held live = let e : false ≡ true = ap is_held (sym live) ∙ held in cc e
 
-armed-waits : (q : Phase) → is_armed q ≡ true → q ≡ phase.Live → ⊥
+pub armed-waits : (q : Phase) → is_armed q ≡ true → q ≡ phase.Live → ⊥
 armed-waits q armed live = let e : false ≡ true = ap is_armed (sym live) ∙ armed in cc e
 
-armed-used : (q : Phase) → is_armed q ≡ true → is_in_use q ≡ false → ⊥
+pub armed-used : (q : Phase) → is_armed q ≡ true → is_in_use q ≡ false → ⊥
 armed-used phase.Armed e unused = cc unused
 armed-used phase.Asked e unused = cc e
 armed-used phase.Held e unused = cc e

@@ -68,7 +68,7 @@ reserved-taken : (r : Role) (g : Leg) → g.phase ≡ reserved r → taken g ≡
 reserved-taken Work g is = rw is refl
 reserved-taken Back g is = rw is refl
 
-found-itself : (l : Lsp) (legs : List Leg) (g : Leg) → find_leg l legs ≡ Some g → find_leg g.lsp legs ≡ Some g
+pub found-itself : (l : Lsp) (legs : List Leg) (g : Leg) → find_leg l legs ≡ Some g → find_leg g.lsp legs ≡ Some g
 found-itself l legs g found = subst (λ k. find_leg k legs ≡ Some g) (sym (found-lsp l legs g found)) found
 
 -- Labels

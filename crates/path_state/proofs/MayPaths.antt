@@ -1,4 +1,5 @@
 -- What a Path and a PathTear do to the legs may be carried out.
+use Rattle.std.proofs.Common.{◌≡◌, refl}
 use Rattle.std.specs.Prelude.{Option, Some, None}
 use Rattle.ason_base.specs.declared.ids.NodeId.{NodeId}
 use Rattle.ason_base.specs.declared.messages.Msg.{Msg}
@@ -6,7 +7,7 @@ use Rattle.ason_base.specs.declared.messages.Msg.TheVariants.{Path, Resv, PathTe
 use Rattle.ason_base.specs.declared.tables.Leg.{Leg}
 use Rattle.mesh_rules.specs.Legs.{find_leg}
 use Rattle.mesh_rules.specs.Messages.{arrival}
-use Rattle.mesh_rules.specs.Paths.{PathRequest, path_with}
+use Rattle.mesh_rules.specs.Paths.{PathRequest}
 use Rattle.leg_table.specs.LegClaims.{MayBeMade}
 use Rattle.leg_table.specs.States.{legs_state, local_of}
 use Rattle.leg_table.specs.Tables.{LegTable}
@@ -14,16 +15,14 @@ use Rattle.leg_table.proofs.RuleChanges as rule
 use Rattle.path_state.specs.Answers.{path_answer, path_unless, tear_answer}
 
 pub path-may : (t : LegTable) (u : NodeId) (m : Msg) → MayBeMade (local_of t) t.legs (path_answer t u m).legs
-path-may t u (Path l e k route set up r) =
-    go (find_leg l t.legs) (rule.path-may (local_of t) (legs_state t) m)
+path-may t u (Path l e k route set up r) = go (find_leg l t.legs) refl
   where
     m : PathRequest
     m = record { arrival = arrival l e u k; route = route; set = set; role = r }
 
-    go : (o : Option Leg) → MayBeMade (local_of t) t.legs (path_with (local_of t) (legs_state t) m o).legs →
-        MayBeMade (local_of t) t.legs (path_unless t m o).legs
-    go None may = may
-    go (Some g) may = tt
+    go : (o : Option Leg) → find_leg l t.legs ≡ o → MayBeMade (local_of t) t.legs (path_unless t m o).legs
+    go None absent = rule.first_path-may (local_of t) (legs_state t) m absent
+    go (Some g) found = tt
 path-may t u (Resv l e k x) = tt
 path-may t u (PathTear l e k) = tt
 path-may t u (PathErr l e at gone code) = tt

@@ -39,7 +39,7 @@ module _ (t : LegTable) (next : ℕ) (g : Leg) (e : PathFailure) where
   passed-by None = refl
   passed-by (Some h) = refl
 
-  pub removed-by : removed (next_state t next) g e ≡ removed_here g e
+  removed-by : removed (next_state t next) g e ≡ removed_here g e
   removed-by = rw (passed-by (previous g)) refl
 
   pub on_path_err-is : (u : NodeId) → find_leg e.lsp t.legs ≡ Some g → (e.removed && is_node (following g) u) ≡ true →
