@@ -1,6 +1,6 @@
 //! Call control at an ingress (ITU-T G.8080): setups and releases, the backups of protected calls,
-//! the turn of a call to its backup, and what becomes of a call after its LSPs. What each changes is told, or carried out by a
-//! handler. Routes that are searched for are handed in.
+//! when a call turns to its backup, and what becomes of a call after its LSPs. What each changes is
+//! told, or carried out by a handler. Routes that are searched for are handed in.
 #![tactic(auto)]
 
 mod call_states;
