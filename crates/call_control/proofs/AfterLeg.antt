@@ -1,5 +1,5 @@
--- What becomes of a call is the same before and after what a Resv, a PathErr or a Notify does to the leg. The rule of the
--- message is the one and then the other.
+-- What becomes of a call is the same before and after what a Resv, a PathErr or a Notify does to the leg. The rule of
+-- the message is the one and then the other.
 use Rattle.std.proofs.Common.{◌≡◌, ℕ, Bool, true, false, cond, not, nat_lt, nat_le, List, [], drop, length, refl, sym, ap, ◌∙◌}
 use Rattle.std.specs.Prelude.{◌&&◌, ◌||◌, Option, Some, None, is_some}
 use Rattle.ason_base.specs.Risks.{unknown_link}
@@ -62,7 +62,8 @@ module _ (p : LocalNode) (s : NodeState) (legs : List Leg) (many : length legs �
   full-same = ap (nat_le MOST_LEGS) many
 
   module _ (c : CallRec) where
-    over-same : (route : List Step) (o : Option LinkSpec) → over_backup p later c g route o ≡ over_backup p s c g route o
+    over-same : (route : List Step) (o : Option LinkSpec) →
+        over_backup p later c g route o ≡ over_backup p s c g route o
     over-same route None = refl
     over-same route (Some out) =
         ap (λ b. cond (nat_lt LAST_NUMBER s.lsp) (leaves_bare c Spent)

@@ -69,15 +69,15 @@ backup-begins t c r b old known primary =
 
 -- the same of the parts that a body has at hand
 pub backup-begun : (t : LegTable) (c : CallTable) (old : Answer) {r ri : PairRequest} {b bi : BackupRoute}
-    {asked called used : Answer} {new : NewLsp} {lsp : Lsp} {copied paired : CallRec} {next : NextNumbers} → RowsAreKnown t →
-    b.primary ≡ route_from (local_of t) r.work → ri ≡ r → bi ≡ b →
+    {asked called used : Answer} {new : NewLsp} {lsp : Lsp} {copied paired : CallRec} {next : NextNumbers} →
+    RowsAreKnown t → b.primary ≡ route_from (local_of t) r.work → ri ≡ r → bi ≡ b →
     new ≡ backup_over c ri.work bi.out bi.rest bi.primary → asked ≡ followed_by old (asked_here t new) →
     lsp ≡ new.lsp → copied ≡ ri.call → paired ≡ pairing copied lsp →
     called ≡ followed_by asked (changes_calls (call.Put paired ∷ [])) →
     next ≡ record { tunnel = c.tunnel; lsp = c.lsp + 1 } → used ≡ record called { numbers = Some next } →
     used ≡ followed_by old (begins_here t c r b)
-backup-begun t c old {r} {ri} {b} {bi} {asked} {called} {used} {new} {lsp} {copied} {paired} {next} known primary same_r same_b
-    new_is asked_is lsp_is copied_is paired_is called_is next_is used_is =
+backup-begun t c old {r} {ri} {b} {bi} {asked} {called} {used} {new} {lsp} {copied} {paired} {next} known primary
+    same_r same_b new_is asked_is lsp_is copied_is paired_is called_is next_is used_is =
     used_is
     ∙ ap (λ n. with_next called n) next_is
     ∙ ap (λ a. with_next a next_here) (called_is

@@ -336,7 +336,8 @@ module _ (before : LegTable) (c : CallTable) (u : NodeId) (fits : IngressFits be
         stays (Some d) named =
             contended-stays p (state_of after c) (names-after l e m t g h _ took.becomes)
             (alone-after l e m t g h _ took.becomes) (armed-after l e m t g h _ took.becomes) h
-            (h-found l e m t g h _ took.becomes) (armed-role l e m t g h _ took.becomes d named took.armed) (Some d) named
+            (h-found l e m t g h _ took.becomes) (armed-role l e m t g h _ took.becomes d named took.armed) (Some d)
+            named
 
   module _ (l : Lsp) (e at : NodeId) (code : ErrCode) (t : LegTable) (took : Refuses before t c u l e at code) where
     abbrev left : LegTable
