@@ -1,3 +1,4 @@
 pub mod Firsts
 pub mod NodePlaces
 pub mod Steps
+pub mod Telling

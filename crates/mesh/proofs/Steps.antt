@@ -10,6 +10,7 @@ use Rattle.ason_base.specs.declared.ids.NodeId.{NodeId}
 use Rattle.ason_base.specs.declared.ids.CallNo.{CallNo}
 use Rattle.ason_base.specs.declared.commands.Command.{Command}
 use Rattle.ason_base.specs.declared.commands.DeskItem.{DeskItem}
+use Rattle.ason_base.specs.declared.commands.Group.{Group}
 use Rattle.ason_base.specs.declared.commands.DeskItem.TheVariants.{Order}
 use Rattle.ason_base.specs.declared.messages.Msg.{Msg}
 use Rattle.ason_base.specs.declared.tables.Out.{Out}
@@ -34,12 +35,13 @@ use Rattle.mesh.specs.Kept.{IsStep, Kept, Seats, acted, desk_of, is_between, is_
 use Rattle.mesh.proofs.Firsts.{filter-other, first_of, none_of}
 use Rattle.mesh.proofs.NodePlaces.{state_at-put}
 
-abbrev kept : Network → List NodeView → List Waiting → List Sent → List CallNo → Kept
-kept t nodes desks mail posted = record {
+abbrev kept : Network → List NodeView → List Waiting → List Sent → List CallNo → List Group → Kept
+kept t nodes desks mail posted failed = record {
   seats = record { network = t; nodes = nodes };
   desks = desks;
   mail = mail;
   posted = posted;
+  failed = failed;
 }
 
 -- A rule's answer
@@ -82,14 +84,15 @@ mail_after n u d mail outs =
     [ true ↦ refl | false ↦ append-nil _ ])
 
 pub mesh_of-commit : (t : Network) (n : NodeId) (a : Answer) (nodes : List NodeView) (desks : List Waiting)
-    (mail : List Sent) (posted : List CallNo) →
+    (mail : List Sent) (posted : List CallNo) (failed : List Group) →
     mesh_of (kept t (put_state t n (changed (state_at n.0 nodes) a) nodes) desks
-    (mail ++ map (sent_by n) a.sent) posted) ≡ commit (mesh_of (kept t nodes desks mail posted)) n.0 a
-mesh_of-commit t n a nodes desks mail posted = λ i. record {
+    (mail ++ map (sent_by n) a.sent) posted failed) ≡ commit (mesh_of (kept t nodes desks mail posted failed)) n.0 a
+mesh_of-commit t n a nodes desks mail posted failed = λ i. record {
   nodes = λ m. nodes_after t n a nodes m i;
   desks = λ m. desk_of m desks;
   mail = λ u d. mail_after n u d mail a.sent i;
   posted = posted;
+  failed = failed;
 }
 
 -- Without the first message
@@ -118,35 +121,36 @@ mail_without u d mail i s at is a b = go (nat_eq a u && nat_eq b d) refl
         ap (map (λ s. s.msg)) (filter-other (is_between a b) mail i s facts.0 apart)
 
 mesh_of-without_first : (t : Network) (u d : NodeId) (nodes : List NodeView) (desks : List Waiting)
-    (mail : List Sent) (posted : List CallNo) (i : ℕ) (s : Sent) → position (is_between u.0 d.0) mail ≡ Some i →
+    (mail : List Sent) (posted : List CallNo) (failed : List Group) (i : ℕ) (s : Sent) → position (is_between u.0 d.0) mail ≡ Some i →
     s ≡ get_or mail i s →
-    mesh_of (kept t nodes desks (remove mail i) posted) ≡ without_first
-    (mesh_of (kept t nodes desks mail posted)) u.0 d.0
-mesh_of-without_first t u d nodes desks mail posted i s at is = λ j. record {
+    mesh_of (kept t nodes desks (remove mail i) posted failed) ≡ without_first
+    (mesh_of (kept t nodes desks mail posted failed)) u.0 d.0
+mesh_of-without_first t u d nodes desks mail posted failed i s at is = λ j. record {
   nodes = λ m. state_at m nodes;
   desks = λ m. desk_of m desks;
   mail = λ a b. mail_without u.0 d.0 mail i s at is a b j;
   posted = posted;
+  failed = failed;
 }
 
 pub mesh_of-take : (t : Network) (u d : NodeId) (nodes : List NodeView) (desks : List Waiting) (mail : List Sent)
-    (posted : List CallNo) (i : ℕ) (s : Sent) (a : Answer) → position (is_between u.0 d.0) mail ≡ Some i →
+    (posted : List CallNo) (failed : List Group) (i : ℕ) (s : Sent) (a : Answer) → position (is_between u.0 d.0) mail ≡ Some i →
     s ≡ get_or mail i s →
     a ≡ on_message (local_node t d) (state_at d.0 nodes) u s.msg →
     mesh_of (kept t (put_state t d (changed (state_at d.0 nodes) a) nodes) desks
-    (remove (mail ++ map (sent_by d) a.sent) i) posted) ≡ step t (mesh_of (kept t nodes desks mail posted))
+    (remove (mail ++ map (sent_by d) a.sent) i) posted failed) ≡ step t (mesh_of (kept t nodes desks mail posted failed))
     (Take d u)
-mesh_of-take t u d nodes desks mail posted i s a at is does =
+mesh_of-take t u d nodes desks mail posted failed i s a at is does =
     let below = (position-Some (is_between u.0 d.0) mail i s at).0 in
-    let k = mesh_of (kept t nodes desks mail posted) in
+    let k = mesh_of (kept t nodes desks mail posted failed) in
     let first : mail_of u.0 d.0 mail ≡ s.msg ∷ mail_of u.0 d.0 (remove mail i) =
     ap (map (λ s. s.msg)) (first_of (is_between u.0 d.0) mail i s at is) in
     let same : a ≡ on_first (local_node t d) (state_at d.0 nodes) u (mail_of u.0 d.0 mail) = does ∙
     ap (on_first (local_node t d) (state_at d.0 nodes) u) (sym first) in
-    ap (λ m. mesh_of (kept t (put_state t d (changed (state_at d.0 nodes) a) nodes) desks m posted))
+    ap (λ m. mesh_of (kept t (put_state t d (changed (state_at d.0 nodes) a) nodes) desks m posted failed))
     (remove-append_left mail (map (sent_by d) a.sent) i below)
-    ∙ mesh_of-commit t d a nodes desks (remove mail i) posted
-    ∙ ap (λ k. commit k d.0 a) (mesh_of-without_first t u d nodes desks mail posted i s at is)
+    ∙ mesh_of-commit t d a nodes desks (remove mail i) posted failed
+    ∙ ap (λ k. commit k d.0 a) (mesh_of-without_first t u d nodes desks mail posted failed i s at is)
     ∙ ap (commit (without_first k u.0 d.0) d.0) same
 
 -- Without the first item
@@ -171,29 +175,30 @@ desk_without n desks i w at is m = go (nat_eq m n) refl
         ap (map (λ w. w.item)) (filter-other (is_waiting m) desks i w facts.0 apart)
 
 mesh_of-without_item : (t : Network) (n : NodeId) (nodes : List NodeView) (desks : List Waiting) (mail : List Sent)
-    (posted : List CallNo) (i : ℕ) (w : Waiting) → position (is_waiting n.0) desks ≡ Some i → w ≡ get_or desks i w →
-    mesh_of (kept t nodes (remove desks i) mail posted) ≡ without_item (mesh_of (kept t nodes desks mail posted)) n.0
-mesh_of-without_item t n nodes desks mail posted i w at is = λ j. record {
+    (posted : List CallNo) (failed : List Group) (i : ℕ) (w : Waiting) → position (is_waiting n.0) desks ≡ Some i → w ≡ get_or desks i w →
+    mesh_of (kept t nodes (remove desks i) mail posted failed) ≡ without_item (mesh_of (kept t nodes desks mail posted failed)) n.0
+mesh_of-without_item t n nodes desks mail posted failed i w at is = λ j. record {
   nodes = λ m. state_at m nodes;
   desks = λ m. desk_without n.0 desks i w at is m j;
   mail = λ a b. mail_of a b mail;
   posted = posted;
+  failed = failed;
 }
 
 pub mesh_of-handle : (t : Network) (n : NodeId) (nodes : List NodeView) (desks : List Waiting) (mail : List Sent)
-    (posted : List CallNo) (i : ℕ) (w : Waiting) (a : Answer) → position (is_waiting n.0) desks ≡ Some i →
+    (posted : List CallNo) (failed : List Group) (i : ℕ) (w : Waiting) (a : Answer) → position (is_waiting n.0) desks ≡ Some i →
     w ≡ get_or desks i w →
     a ≡ on_item (local_node t n) (state_at n.0 nodes) w.item →
     mesh_of (kept t (put_state t n (changed (state_at n.0 nodes) a) nodes) (remove desks i)
-    (mail ++ map (sent_by n) a.sent) posted) ≡ step t (mesh_of (kept t nodes desks mail posted)) (Desk n)
-mesh_of-handle t n nodes desks mail posted i w a at is does =
-    let k = mesh_of (kept t nodes desks mail posted) in
+    (mail ++ map (sent_by n) a.sent) posted failed) ≡ step t (mesh_of (kept t nodes desks mail posted failed)) (Desk n)
+mesh_of-handle t n nodes desks mail posted failed i w a at is does =
+    let k = mesh_of (kept t nodes desks mail posted failed) in
     let first : desk_of n.0 desks ≡ w.item ∷ desk_of n.0 (remove desks i) =
     ap (map (λ w. w.item)) (first_of (is_waiting n.0) desks i w at is) in
     let same : a ≡ on_first_item (local_node t n) (state_at n.0 nodes) (desk_of n.0 desks) = does ∙
     ap (on_first_item (local_node t n) (state_at n.0 nodes)) (sym first) in
-    mesh_of-commit t n a nodes (remove desks i) mail posted
-    ∙ ap (λ k. commit k n.0 a) (mesh_of-without_item t n nodes desks mail posted i w at is)
+    mesh_of-commit t n a nodes (remove desks i) mail posted failed
+    ∙ ap (λ k. commit k n.0 a) (mesh_of-without_item t n nodes desks mail posted failed i w at is)
     ∙ ap (commit (without_item k n.0) n.0) same
 
 -- With an item more
@@ -209,24 +214,25 @@ desk_with n item desks m = rw (filter-append, map-append) (go (nat_eq m n.0) ref
     go false e = let e' : nat_eq n.0 m ≡ false = grind arith in rw e' (append-nil _)
 
 pub mesh_of-order : (t : Network) (n : NodeId) (item : DeskItem) (nodes : List NodeView) (desks : List Waiting)
-    (mail : List Sent) (posted : List CallNo) →
-    mesh_of (kept t nodes (desks ++ record { node = n; item = item } ∷ []) mail posted) ≡ with_item
-    (mesh_of (kept t nodes desks mail posted)) n.0 item
-mesh_of-order t n item nodes desks mail posted = λ j. record {
+    (mail : List Sent) (posted : List CallNo) (failed : List Group) →
+    mesh_of (kept t nodes (desks ++ record { node = n; item = item } ∷ []) mail posted failed) ≡ with_item
+    (mesh_of (kept t nodes desks mail posted failed)) n.0 item
+mesh_of-order t n item nodes desks mail posted failed = λ j. record {
   nodes = λ m. state_at m nodes;
   desks = λ m. desk_with n item desks m j;
   mail = λ a b. mail_of a b mail;
   posted = posted;
+  failed = failed;
 }
 
 -- A tick
 
 pub mesh_of-tick : (t : Network) (n : NodeId) (nodes : List NodeView) (desks : List Waiting) (mail : List Sent)
-    (posted : List CallNo) (a : Answer) → a ≡ on_tick (local_node t n) (state_at n.0 nodes) →
+    (posted : List CallNo) (failed : List Group) (a : Answer) → a ≡ on_tick (local_node t n) (state_at n.0 nodes) →
     mesh_of (kept t (put_state t n (changed (state_at n.0 nodes) a) nodes) desks
-    (mail ++ map (sent_by n) a.sent) posted) ≡ step t (mesh_of (kept t nodes desks mail posted)) (Tick n)
-mesh_of-tick t n nodes desks mail posted a does =
-    mesh_of-commit t n a nodes desks mail posted ∙ ap (commit (mesh_of (kept t nodes desks mail posted)) n.0) does
+    (mail ++ map (sent_by n) a.sent) posted failed) ≡ step t (mesh_of (kept t nodes desks mail posted failed)) (Tick n)
+mesh_of-tick t n nodes desks mail posted failed a does =
+    mesh_of-commit t n a nodes desks mail posted failed ∙ ap (commit (mesh_of (kept t nodes desks mail posted failed)) n.0) does
 
 -- An order
 
@@ -236,7 +242,7 @@ pub is_ordered : (k : Kept) (desks : List Waiting) (n : NodeId) (c : Command) �
     IsStep k (Post c) (record k { desks = desks })
 is_ordered k desks n c does put = record {
   mesh = ap (λ d. mesh_of (record k { desks = d })) put ∙
-      mesh_of-order k.seats.network n (Order c) k.seats.nodes k.desks k.mail k.posted ∙ sym does;
+      mesh_of-order k.seats.network n (Order c) k.seats.nodes k.desks k.mail k.posted k.failed ∙ sym does;
   network = refl;
 }
 
@@ -251,7 +257,7 @@ is_taken k u d i s input after mail at is came seats left =
     record {
       mesh = ap (λ x. mesh_of (record k { seats = x; mail = mail })) seats ∙
           ap (λ x. mesh_of (record k { seats = acted k.seats d input; mail = x })) left
-          ∙ mesh_of-take k.seats.network u d k.seats.nodes k.desks k.mail k.posted i s a at is
+          ∙ mesh_of-take k.seats.network u d k.seats.nodes k.desks k.mail k.posted k.failed i s a at is
           (ap (answer_to (node_at k.seats d)) came);
       network = ap (λ x. x.network) seats;
     }
@@ -267,7 +273,7 @@ is_handled k n i w input after desks mail at is came seats left sent =
       mesh = ap (λ x. mesh_of (record k { seats = x; desks = desks; mail = mail })) seats ∙
           ap (λ x. mesh_of (record k { seats = acted k.seats n input; desks = x; mail = mail })) left ∙
           ap (λ x. mesh_of (record k { seats = acted k.seats n input; desks = remove k.desks i; mail = x })) sent
-          ∙ mesh_of-handle k.seats.network n k.seats.nodes k.desks k.mail k.posted i w a at is
+          ∙ mesh_of-handle k.seats.network n k.seats.nodes k.desks k.mail k.posted k.failed i w a at is
           (ap (answer_to (node_at k.seats n)) came);
       network = ap (λ x. x.network) seats;
     }
@@ -279,7 +285,7 @@ is_ticked k n after mail seats sent =
     record {
       mesh = ap (λ x. mesh_of (record k { seats = x; mail = mail })) seats ∙
           ap (λ x. mesh_of (record k { seats = acted k.seats n inputs.Tick; mail = x })) sent
-          ∙ mesh_of-tick k.seats.network n k.seats.nodes k.desks k.mail k.posted a refl;
+          ∙ mesh_of-tick k.seats.network n k.seats.nodes k.desks k.mail k.posted k.failed a refl;
       network = ap (λ x. x.network) seats;
     }
 
@@ -323,7 +329,7 @@ is_learnt k n link row after mail told seats sent =
     record {
       mesh = ap (λ x. mesh_of (record k { seats = x; mail = mail })) seats ∙
           ap (λ x. mesh_of (record k { seats = acted k.seats n (inputs.Learn row); mail = x })) sent
-          ∙ mesh_of-commit k.seats.network n a k.seats.nodes k.desks k.mail k.posted
+          ∙ mesh_of-commit k.seats.network n a k.seats.nodes k.desks k.mail k.posted k.failed
           ∙ ap (commit (mesh_of k) n.0) (by_link (find_link k.seats.network link) told);
       network = ap (λ x. x.network) seats;
     }

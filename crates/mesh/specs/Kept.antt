@@ -1,10 +1,12 @@
 -- What the runnable mesh keeps, as lists, and the mesh that it stands for.
-use Rattle.std.specs.Prelude.{◌≡◌, ℕ, ◌==◌, ◌&&◌, Bool, true, false, List, [], ◌∷◌, map, filter, find, Option, Some, None, if◌then◌else◌}
+use Rattle.std.specs.Prelude.{◌≡◌, ℕ, ◌==◌, ◌&&◌, Bool, true, false, List, [], ◌∷◌, ◌++◌, flat_map, map, filter, find, Option, Some, None, if◌then◌else◌}
 use Rattle.std.specs.List.{AllByRecursion}
 use Rattle.std.specs.Option.{option_map}
 use Rattle.ason_base.specs.declared.ids.NodeId.{NodeId}
 use Rattle.ason_base.specs.declared.ids.CallNo.{CallNo}
 use Rattle.ason_base.specs.declared.commands.DeskItem.{DeskItem}
+use Rattle.ason_base.specs.declared.commands.Group.{Group}
+use Rattle.ason_base.specs.declared.network.LinkSpec.{LinkSpec}
 use Rattle.ason_base.specs.declared.messages.Msg.{Msg}
 use Rattle.ason_base.specs.declared.tables.Out.{Out}
 use Rattle.ason_base.specs.declared.ids.LinkId.{LinkId}
@@ -13,6 +15,7 @@ use Rattle.ason_base.specs.Network.{Network, find_link, row_of}
 use Rattle.mesh_rules.specs.declared.events.MeshEvent.{MeshEvent}
 use Rattle.mesh_rules.specs.declared.events.StepFault.{StepFault}
 use Rattle.mesh_rules.specs.declared.events.StepFault.TheVariants.{NotEnabled, OutOfMemory}
+use Rattle.mesh_rules.specs.Failures.{changed_news, with_failed}
 use Rattle.mesh_rules.specs.State.{NodeState, new_node}
 use Rattle.mesh_rules.specs.LocalNodes.{local_node}
 use Rattle.mesh_rules.specs.Machine.{Mesh}
@@ -30,13 +33,14 @@ pub record Seats : Type 0 where
   pub network : Network
   pub nodes : List NodeView
 
--- and the items of all desks and all messages under way, each in order, and the call numbers of the setups that were
--- posted
+-- and the items of all desks and all messages under way, each in order, the call numbers of the setups that were
+-- posted, and the groups that have failed
 pub record Kept : Type 0 where
   pub seats : Seats
   pub desks : List Waiting
   pub mail : List Sent
   pub posted : List CallNo
+  pub failed : List Group
 
 -- Nodes
 
@@ -94,6 +98,14 @@ is_waiting n w = w.node.0 == n
 abbrev pub desk_of : ℕ → List Waiting → List DeskItem
 desk_of n desks = map (λ w. w.item) (filter (is_waiting n) desks)
 
+-- what a node is told of a link, where other groups have failed than before
+abbrev pub told_at : List Group → List Group → NodeId → LinkSpec → List Waiting
+told_at before after n l = map (λ i. record { node = n; item = i }) (changed_news before after n.0 l)
+
+-- what its two ends are told
+abbrev pub told_of : List Group → List Group → LinkSpec → List Waiting
+told_of before after l = told_at before after l.high l ++ told_at before after l.low l
+
 -- Messages
 
 abbrev pub is_between : ℕ → ℕ → Sent → Bool
@@ -117,11 +129,17 @@ mesh_of k = record {
   desks = λ n. desk_of n k.desks;
   mail = λ u d. mail_of u d k.mail;
   posted = k.posted;
+  failed = k.failed;
 }
 
 -- the second stands for the mesh after the event, over the same network
 pub record IsStep (before : Kept) (e : MeshEvent) (after : Kept) : Type 0 where
   pub mesh : mesh_of after ≡ step before.seats.network (mesh_of before) e
+  pub network : after.seats.network ≡ before.seats.network
+
+-- the second stands for the mesh in which these groups have failed, over the same network
+pub record HasFailed (before : Kept) (groups : List Group) (after : Kept) : Type 0 where
+  pub mesh : mesh_of after ≡ with_failed before.seats.network (mesh_of before) groups
   pub network : after.seats.network ≡ before.seats.network
 
 -- why an event changed nothing: memory was refused where it is enabled, and else it isn't enabled

@@ -1,10 +1,13 @@
 //! What waits: the items on all desks and the messages under way, each in one list in order.
 
-ghost use Rattle.std.specs.Prelude.{◌≡◌, ◌≤◌, ◌+◌, ◌∷◌, ◌++◌, [], OnErr, OnOk, length, map, position, vec_capacity, vec_len};
+ghost use Rattle.std.specs.Prelude.{◌≡◌, ◌==◌, ◌≤◌, ◌+◌, ◌∷◌, ◌++◌, ℕ, [], IfOk, OnErr, OnOk, false, flat_map, length, map, position, vec_capacity, vec_len};
 ghost use Rattle.ason_base.specs.declared.commands.DeskItem.TheVariants.{Order};
-ghost use Rattle.mesh.specs.Kept.{is_between, is_waiting, sent_by};
+ghost use Rattle.mesh.specs.Kept.{is_between, is_waiting, sent_by, told_at, told_of};
 
-use ason_base::{Command, Copied, DeskItem, Msg, NodeId, Out, OutOfMemory, Outs};
+use ason_base::{
+    Command, Copied, DeskItem, Group, LinkSpec, Msg, NodeId, Out, OutOfMemory, Outs, Topology,
+};
+use mesh_rules::failures::news_of;
 use std::alloc::Global;
 
 /// An item on a node's desk.
@@ -66,4 +69,57 @@ pub(crate) fn order(
     let item = DeskItem::Order(command.copy(alloc)?);
     desks.push(Waiting { node, item })?;
     Ok(())
+}
+
+// Puts what the node is told of the link at the end.
+fn tell(
+    desks: &mut Vec<Waiting>,
+    before: &[Group],
+    after: &[Group],
+    node: NodeId,
+    link: &LinkSpec,
+) -> Result<(), OutOfMemory>
+    requires { (link.now.low.0 == link.now.high.0) ≡ false }
+    ensures { OnOk result
+        (desks.new.items ≡ desks.old.items ++ told_at before.now after.now node link.now) }
+{
+    match news_of(before, after, node, link) {
+        None => Ok(()),
+        Some(item) => {
+            desks.push(Waiting { node, item })?;
+            Ok(())
+        }
+    }
+}
+
+// Puts what the link's ends are told at the end.
+fn tell_ends(
+    desks: &mut Vec<Waiting>,
+    before: &[Group],
+    after: &[Group],
+    link: &LinkSpec,
+) -> Result<(), OutOfMemory>
+    requires { (link.now.low.0 == link.now.high.0) ≡ false }
+    ensures { OnOk result
+        (desks.new.items ≡ desks.old.items ++ told_of before.now after.now link.now) }
+{
+    tell(desks, before, after, link.high, link)?;
+    tell(desks, before, after, link.low, link)
+}
+
+/// What the nodes are told where other groups have failed than before, in order of links.
+pub(crate) fn news(
+    alloc: Global,
+    t: &Topology,
+    before: &[Group],
+    after: &[Group],
+) -> Result<Vec<Waiting>, OutOfMemory>
+    ensures { IfOk result
+        (λ v. v.items ≡ flat_map (told_of before.now after.now) t.now.links) }
+{
+    let mut desks = Vec::new(alloc);
+    for link in t.links() {
+        tell_ends(&mut desks, before, after, link)?;
+    }
+    Ok(desks)
 }

@@ -9,12 +9,15 @@ ghost use Rattle.mesh_rules.specs.Rows.{all_call_rows, all_leg_rows};
 ghost use Rattle.mesh_rules.specs.declared.events.MeshEvent.{MeshEvent};
 ghost use Rattle.mesh_rules.specs.Quiet.{IsQuiet};
 ghost use Rattle.mesh_nodes.specs.Routes.{IsRowOf};
-ghost use Rattle.mesh.specs.Kept.{IsStep, MayCome, acted, desk_of, fault_if, is_between, is_waiting, mail_of, mesh_of, row_in, sent_at};
+ghost use Rattle.mesh.specs.Kept.{HasFailed, IsStep, MayCome, acted, desk_of, fault_if, is_between, is_waiting, mail_of, mesh_of, row_in, sent_at};
 
 use crate::nodes::Nodes;
-use crate::queues::{Sent, Waiting, first_item, first_message, order, send};
-use ason_base::{CallNo, Command, Copied, LinkId, NodeId, OutOfMemory, TableRows, TeRow, Topology};
+use crate::queues::{Sent, Waiting, first_item, first_message, news, order, send};
+use ason_base::{
+    CallNo, Command, Copied, Group, LinkId, NodeId, OutOfMemory, TableRows, TeRow, Topology,
+};
 use mesh_rules::commands::{has_node, is_again, is_valid};
+use mesh_rules::failures::failed_after;
 use mesh_rules::{MeshEvent, StepFault};
 use node_core::Input;
 use std::alloc::Global;
@@ -52,13 +55,15 @@ fn is_nothing<T>(items: &[T]) -> bool
     }
 }
 
-/// The mesh of a topology: its nodes, their desks, the messages under way, and the calls that were set up.
+/// The mesh of a topology: its nodes, their desks, the messages under way, the calls that were set up, and the groups that have
+/// failed.
 #[derive(Debug, Drop)]
 pub struct MeshState {
     nodes: Nodes,
     desks: Vec<Waiting>,
     mail: Vec<Sent>,
     posted: Vec<CallNo>,
+    failed: Vec<Group>,
 }
 
 impl Model for MeshState {
@@ -71,11 +76,12 @@ impl Model for MeshState {
       desks = s.desks.items;
       mail = s.mail.items;
       posted = s.posted.items;
+      failed = s.failed.items;
     } };
 }
 
 impl MeshState {
-    /// The start: no leg and no call stands, and nothing waits.
+    /// The start: no leg and no call stands, nothing waits, and nothing has failed.
     pub fn new(alloc: Global, t: &Topology) -> Result<MeshState, OutOfMemory>
         ensures start { IfOk result (λ s. mesh_of s ≡ start) }
         ensures network { IfOk result (λ s. s.seats.network ≡ t.now) }
@@ -85,6 +91,7 @@ impl MeshState {
             desks: Vec::new(alloc),
             mail: Vec::new(alloc),
             posted: Vec::new(alloc),
+            failed: Vec::new(alloc),
         })
     }
 
@@ -238,7 +245,18 @@ impl MeshState {
         }
     }
 
-    // Puts a call's command on the desk of its ingress.
+    // These groups have failed now, and the nodes are told what has changed.
+    fn change(&mut self, alloc: Global, failed: Vec<Group>) -> Result<(), OutOfMemory>
+        ensures ok { OnOk result (HasFailed self.old failed.items self.new) }
+        ensures err { OnErr result (self.new ≡ self.old) }
+    {
+        let mut news = news(alloc, self.nodes.network(), &self.failed, &failed)?;
+        self.desks.append(&mut news)?;
+        self.failed = failed;
+        Ok(())
+    }
+
+    // Puts a call's command on the desk of its ingress. Where a group fails or is repaired, the nodes are told what has changed.
     fn deliver(&mut self, alloc: Global, command: &Command) -> Result<(), OutOfMemory>
         ensures ok { OnOk result (IsStep self.old (MeshEvent.Post command.now) self.new) }
         ensures err { OnErr result (self.new ≡ self.old) }
@@ -256,7 +274,10 @@ impl MeshState {
             Command::Protect { from, .. } => order(alloc, &mut self.desks, *from, command),
             Command::Retry { from, .. } => order(alloc, &mut self.desks, *from, command),
             Command::Revert { from, .. } => order(alloc, &mut self.desks, *from, command),
-            Command::Fail { .. } | Command::Repair { .. } => Ok(()),
+            Command::Fail { .. } | Command::Repair { .. } => {
+                let failed = failed_after(alloc, &self.failed, command)?;
+                self.change(alloc, failed)
+            }
         }
     }
 

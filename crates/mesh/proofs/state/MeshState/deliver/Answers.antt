@@ -10,9 +10,9 @@ returns-in-Release-clause-ok c =
     let before : Kept = record {
       seats = c.self.inside.nodes;
       desks = c.self.inside.desks.items;
-      mail =
-          c.self.inside.mail.items;
+      mail = c.self.inside.mail.items;
       posted = c.self.inside.posted.items;
+      failed = c.self.inside.failed.items;
     } in
     let after : Kept = record before { desks = c.order-in-Release.new.desks.items } in
     on_ok c.order-in-Release.result _ _
@@ -26,9 +26,9 @@ returns-in-Protect-clause-ok c =
     let before : Kept = record {
       seats = c.self.inside.nodes;
       desks = c.self.inside.desks.items;
-      mail =
-          c.self.inside.mail.items;
+      mail = c.self.inside.mail.items;
       posted = c.self.inside.posted.items;
+      failed = c.self.inside.failed.items;
     } in
     let after : Kept = record before { desks = c.order-in-Protect.new.desks.items } in
     on_ok c.order-in-Protect.result _ _
@@ -42,9 +42,9 @@ returns-in-Retry-clause-ok c =
     let before : Kept = record {
       seats = c.self.inside.nodes;
       desks = c.self.inside.desks.items;
-      mail =
-          c.self.inside.mail.items;
+      mail = c.self.inside.mail.items;
       posted = c.self.inside.posted.items;
+      failed = c.self.inside.failed.items;
     } in
     let after : Kept = record before { desks = c.order-in-Retry.new.desks.items } in
     on_ok c.order-in-Retry.result _ _
@@ -58,9 +58,9 @@ returns-in-Revert-clause-ok c =
     let before : Kept = record {
       seats = c.self.inside.nodes;
       desks = c.self.inside.desks.items;
-      mail =
-          c.self.inside.mail.items;
+      mail = c.self.inside.mail.items;
       posted = c.self.inside.posted.items;
+      failed = c.self.inside.failed.items;
     } in
     let after : Kept = record before { desks = c.order-in-Revert.new.desks.items } in
     on_ok c.order-in-Revert.result _ _

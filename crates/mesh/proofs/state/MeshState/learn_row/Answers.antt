@@ -11,6 +11,7 @@ returns-clause-ok c =
       desks = c.self.inside.desks.items;
       mail = c.self.inside.mail.items;
       posted = c.self.inside.posted.items;
+      failed = c.self.inside.failed.items;
     } in
     let after : Kept = record before { seats = c.act.new.nodes; mail = c.act.new.mail.items } in
     let told = sym c.requires.row ∙ ap (λ k. row_in k.seats.network c.args.link) (sym c.self.view_is) in

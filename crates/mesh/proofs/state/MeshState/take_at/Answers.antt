@@ -11,9 +11,9 @@ returns-clause-ok c =
     let before : Kept = record {
       seats = c.self.inside.nodes;
       desks = c.self.inside.desks.items;
-      mail =
-          c.self.inside.mail.items;
+      mail = c.self.inside.mail.items;
       posted = c.self.inside.posted.items;
+      failed = c.self.inside.failed.items;
     } in
     let after : Kept = record before { seats = c.act.new.nodes; mail = c.remove.new.self.items } in
     let at : position (is_between c.args.from.0 c.args.to.0) before.mail ≡ Some c.args.place =
