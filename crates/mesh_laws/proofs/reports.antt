@@ -1,4 +1,5 @@
 pub mod Desks
+pub mod Gentle
 pub mod KnownFibres
 pub mod LinkNews
 pub mod OnTheWay

@@ -109,7 +109,7 @@ link-keeps_down p s (Some l) =
     (λ e. refl)
 
 -- each node knows of fibres what it knew before
-same-down : (s : Mesh) (n : ℕ) (a : Answer) → a.down ≡ None → (m : ℕ) →
+pub same-down : (s : Mesh) (n : ℕ) (a : Answer) → a.down ≡ None → (m : ℕ) →
     ((commit s n a).nodes m).down ≡ (s.nodes m).down
 same-down s n a none m =
     if_cases (λ (x : NodeState). x.down ≡ (s.nodes m).down) (nat_eq m n) _ _
