@@ -1,5 +1,6 @@
 pub mod Desks
 pub mod Gentle
+pub mod GentleAnswers
 pub mod KnownFibres
 pub mod LinkNews
 pub mod OnTheWay
