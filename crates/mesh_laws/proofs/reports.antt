@@ -2,6 +2,7 @@ pub mod Desks
 pub mod Gentle
 pub mod GentleAnswers
 pub mod GentleRules
+pub mod GentleSteps
 pub mod KnownFibres
 pub mod LinkNews
 pub mod OnTheWay

@@ -99,7 +99,7 @@ armed-stands Live e = absurd (cc e)
 armed-stands Closing e = absurd (cc e)
 armed-stands Falling e = absurd (cc e)
 
-closing-closes : (f : Phase) (r : Role) → is_closing (closing_phase f r) ≡ true
+pub closing-closes : (f : Phase) (r : Role) → is_closing (closing_phase f r) ≡ true
 closing-closes Armed role.Back = refl
 closing-closes Live role.Back = refl
 closing-closes Armed role.Work = refl
@@ -253,7 +253,7 @@ module _ (p : LocalNode) (s : NodeState) (facts : NodeFacts p.id.0 s) (l : Lsp) 
       cc roles
 
   -- the leg of an LSP that is named
-  leg-there : (o : Option Lsp) (b : Leg) → leg_of o s.legs ≡ Some b → find_leg b.lsp s.legs ≡ Some b
+  pub leg-there : (o : Option Lsp) (b : Leg) → leg_of o s.legs ≡ Some b → find_leg b.lsp s.legs ≡ Some b
   leg-there None b is = absurd (cc is)
   leg-there (Some k) b is =
       subst (λ j. find_leg j s.legs ≡ Some b) (sym (found-lsp k s.legs b is)) is
@@ -264,13 +264,13 @@ module _ (p : LocalNode) (s : NodeState) (facts : NodeFacts p.id.0 s) (l : Lsp) 
       let fit = facts.leg b.lsp b found in
       back-activates b.path_role (sym fit.role ∙ fit.held (rw held refl))
 
-  leg-stands : (o : Option Lsp) → IfStands s (leg_of o s.legs)
+  pub leg-stands : (o : Option Lsp) → IfStands s (leg_of o s.legs)
   leg-stands o b is =
       let found = leg-there o b is in
       record { found = found; activates = leg-activates b found }
 
   -- a new LSP of this node
-  new-apart : IsOld p s l → (k : Lsp) → k.ingress.0 ≡ p.id.0 → k.lsp ≡ s.lsp → same_lsp k l ≡ false
+  pub new-apart : IsOld p s l → (k : Lsp) → k.ingress.0 ≡ p.id.0 → k.lsp ≡ s.lsp → same_lsp k l ≡ false
   new-apart old k here number = go (same_lsp k l) refl
     where
       go : (b : Bool) → same_lsp k l ≡ b → b ≡ false
