@@ -1,3 +1,4 @@
+pub mod Alarmed
 pub mod Desks
 pub mod Gentle
 pub mod GentleAnswers

@@ -70,7 +70,7 @@ has_plain ms = list_any is_plain ms
 
 -- no leg stands after this hop, and nothing was told from there on
 pub record IsUnreached (t : Network) (s : Mesh) (l : Lsp) (p : Plan) (i : ℕ) : Type 0 where
-  pub gone : leg_at s l (node_at p (suc i)) ≡ None
+  pub gone : (j : ℕ) → i ≤ j → j < hops p → leg_at s l (node_at p (suc j)) ≡ None
   pub untold : (j : ℕ) → i ≤ j → j < hops p → Untold t s l p j
 
 pub record RouteTold (t : Network) (s : Mesh) (l : Lsp) (p : Plan) : Type 0 where
@@ -126,7 +126,7 @@ module _ (t : Network) (s s' : Mesh) (l : Lsp) (p : Plan) (g : Gentle s s' l) wh
     first = λ i small plain. (
       let was = r.first i small (g.plain (node_at p i) (node_at p (suc i)) plain) in
       record {
-        gone = g.gone (node_at p (suc i)) was.gone;
+        gone = λ j after below. g.gone (node_at p (suc j)) (was.gone j after below);
         untold = λ j after below. untold-stays j (was.untold j after below);
       });
   }
