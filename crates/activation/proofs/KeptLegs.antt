@@ -101,11 +101,14 @@ activate-legs t u (Path l e k route set up r) links fits = go (find_leg l t.legs
     m : PathRequest
     m = record { arrival = a; route = route; set = set; role = r }
 
-    go : (o : Option Leg) → find_leg l t.legs ≡ o → Keeps t (path_taken t a (drop 1 route) r o)
+    left : List Step
+    left = drop 1 route
+
+    go : (o : Option Leg) → find_leg l t.legs ≡ o → Keeps t (path_taken t a left r o)
     go None found = fits
     go (Some g) found =
-        legs-after t u (Path l e k route set up r) (path_again (local_of t) (legs_state t) a (drop 1 route) r g).legs links fits
-        (λ next. ap (λ w. w.legs) (path-by t next a (drop 1 route) r g
+        legs-after t u (Path l e k route set up r) (path_again (local_of t) (legs_state t) a left r g).legs links fits
+        (λ next. ap (λ w. w.legs) (path-by t next a left r g
         ∙ ap (path_with (local_of t) (next_state t next) m) (sym found)))
 activate-legs t u (Resv l e k x) links fits = fits
 activate-legs t u (PathTear l e k) links fits = fits

@@ -43,7 +43,7 @@ armed_on-stays t l g route r live found held alone = go (following g)
     may : (q : Phase) → is_beyond_asked q ≡ true → MayAllStay t.legs (change.Put (with_phase q g) ∷ [])
     may q after = (
       phase-stays t.legs g live (found-itself l t.legs g found) (held-beyond g.phase held) (held-waits g.phase held) q
-      after (λ unused used. alone),
+          after (λ unused used. alone),
       tt,
     )
 
@@ -69,7 +69,7 @@ armed-stays : (t : LegTable) (l : Lsp) (g : Leg) (q : Phase) → WorksAreLive t.
     is_armed g.phase ≡ true → is_beyond_asked q ≡ true → MayAllStay t.legs (change.Put (with_phase q g) ∷ [])
 armed-stays t l g q live found armed after = (
   phase-stays t.legs g live (found-itself l t.legs g found) (armed-beyond g.phase armed) (armed-waits g.phase armed) q
-  after (λ unused used. absurd (armed-used g.phase armed unused)),
+      after (λ unused used. absurd (armed-used g.phase armed unused)),
   tt,
 )
 
@@ -99,7 +99,8 @@ err-stays t u l m (Some g) live found =
 
 pub activate-may : (t : LegTable) (u : NodeId) (m : Msg) → WorksAreLive t.legs →
     MayAllStay t.legs (activate_answer t u m).legs
-activate-may t u (Path l e k route set up r) live = path-stays t (arrival l e u k) (drop 1 route) r (find_leg l t.legs) live refl
+activate-may t u (Path l e k route set up r) live =
+    path-stays t (arrival l e u k) (drop 1 route) r (find_leg l t.legs) live refl
 activate-may t u (Resv l e k x) live = tt
 activate-may t u (PathTear l e k) live = tt
 activate-may t u (PathErr l e at gone code) live = tt

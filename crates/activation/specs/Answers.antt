@@ -1,6 +1,6 @@
--- How a backup is activated at a node of these tables (RFC 4872, section 8): a Path that activates, a Resv at a leg that
--- is Armed, and a PathErr without Path_State_Removed. What becomes of the call at the ingress isn't told here: it's as at
--- a node without calls.
+-- How a backup is activated at a node of these tables (RFC 4872, section 8): a Path that activates, a Resv at a leg
+-- that is Armed, and a PathErr without Path_State_Removed. What becomes of the call at the ingress isn't told here:
+-- it's as at a node without calls.
 use Rattle.std.specs.Prelude.{ℕ, ◌&&◌, Bool, false, not, [], ◌∷◌, Option, Some, None, is_some, if◌then◌else◌, List, drop}
 use Rattle.ason_base.specs.declared.calls.Phase.TheVariants.{Live}
 use Rattle.ason_base.specs.declared.ids.NodeId.{NodeId}

@@ -14,11 +14,11 @@ use leg_table::handling::handle_kept;
 use link_owner::Owner;
 use std::alloc::Global;
 
-/// Takes a Path that activates, at a leg that is Held: the leg is Armed and the Path goes on; at the
-/// egress it is Live and a Resv goes back; where another leg on its label is Armed or Live it stays,
-/// and a PathErr without Path_State_Removed goes back. The owner's claim is armed with the leg. Hands
-/// back what is to be sent, in order. Another Path, and a message of another kind, change nothing.
-/// After want of memory nothing has changed.
+/// Takes a Path that activates, at a leg that is Held: the leg is Armed and the Path goes on; at
+/// the egress it is Live and a Resv goes back; where another leg on its label is Armed or Live it
+/// stays, and a PathErr without Path_State_Removed goes back. The owner's claim is armed with the
+/// leg. Hands back what is to be sent, in order. Another Path, and a message of another kind,
+/// change nothing. After want of memory nothing has changed.
 pub fn activate(
     alloc: Global,
     tables: &mut NodeTables,
@@ -39,9 +39,9 @@ pub fn activate(
     handle_kept(alloc, tables, owner, change)
 }
 
-/// Takes a Resv at a leg that is Armed: the leg is Live and the Resv goes back. Hands back what is to
-/// be sent, in order. A Resv at another leg, and a message of another kind, change nothing. After
-/// want of memory nothing has changed.
+/// Takes a Resv at a leg that is Armed: the leg is Live and the Resv goes back. Hands back what is
+/// to be sent, in order. A Resv at another leg, and a message of another kind, change nothing.
+/// After want of memory nothing has changed.
 pub fn connect(
     alloc: Global,
     tables: &mut NodeTables,

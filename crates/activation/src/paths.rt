@@ -31,8 +31,9 @@ fn refuse(alloc: Global, tables: &NodeTables, leg: &Leg, to: NodeId) -> Result<C
     Change::sends(alloc, to, msg)
 }
 
-// A Path where a leg of its LSP stands: from where it came, over which steps from here, and for what.
-#[derive(Clone, Copy, Drop)]
+// A Path where a leg of its LSP stands: from where it came, over which steps from here, and for
+// what.
+#[derive(Drop)]
 struct PathAgain<'a> {
     arrival: Arrival,
     route: &'a Steps,
@@ -64,14 +65,14 @@ fn activate_leg(
     alloc: Global,
     tables: &NodeTables,
     owner: &Owner,
-    path: PathAgain<'_>,
+    path: &PathAgain<'_>,
     leg: &Leg,
 ) -> Result<Change, OutOfMemory>
     requires claims { ClaimsFit tables.now.legs owner.now }
     requires there { find_leg leg.now.lsp tables.now.legs ≡ Some leg.now }
     requires beyond { IsTrue (is_beyond_asked leg.now.phase) }
-    ensures { IfOk result (λ c. c
-        ≡ activated_here tables.now path.arrival (drop 1 path.route.now) path.role.now leg.now) }
+    ensures { IfOk result (λ c. c ≡ activated_here tables.now path.now.arrival
+        (drop 1 path.now.route.now) path.now.role.now leg.now) }
 {
     if is_contended(tables, owner, leg) {
         refuse(alloc, tables, leg, path.arrival.from)
@@ -93,11 +94,11 @@ fn on_path(
     alloc: Global,
     tables: &NodeTables,
     owner: &Owner,
-    path: PathAgain<'_>,
+    path: &PathAgain<'_>,
 ) -> Result<Change, OutOfMemory>
     requires { ClaimsFit tables.now.legs owner.now }
-    ensures { IfOk result (λ c. c
-        ≡ path_here tables.now path.arrival (drop 1 path.route.now) path.role.now) }
+    ensures { IfOk result (λ c. c ≡ path_here tables.now path.now.arrival
+        (drop 1 path.now.route.now) path.now.role.now) }
 {
     match tables.get(&path.arrival.lsp) {
         Some(leg)
@@ -144,7 +145,7 @@ pub fn activate_change(
                 route,
                 role,
             };
-            on_path(alloc, tables, owner, path)
+            on_path(alloc, tables, owner, &path)
         }
         Msg::Resv { .. } | Msg::PathTear { .. } | Msg::PathErr { .. } | Msg::Notify { .. } => {
             Ok(Change::nothing(alloc))

@@ -1,5 +1,5 @@
--- What an alarm, a clear and a Notify do at a node of these tables (RFC 3473, section 4.3). What becomes of the call at the
--- ingress isn't told here: it's as at a node without calls.
+-- What an alarm, a clear and a Notify do at a node of these tables (RFC 3473, section 4.3). What becomes of the call at
+-- the ingress isn't told here: it's as at a node without calls.
 use Rattle.std.specs.Prelude.{◌&&◌, Bool, false, not, [], ◌∷◌, Option, Some, None, is_some, if◌then◌else◌}
 use Rattle.ason_base.specs.declared.codes.ErrCode.{ErrCode}
 use Rattle.ason_base.specs.declared.ids.Fibre.{Fibre}

@@ -115,8 +115,8 @@ fn know_down(
 }
 
 /// What an alarm of a fibre would change and send: the fibre is known to be down, and the previous
-/// node of each leg that it leads to is told, in order of LSP. An alarm of a fibre that doesn't come
-/// in here, or that is known to be down, does nothing.
+/// node of each leg that it leads to is told, in order of LSP. An alarm of a fibre that doesn't
+/// come in here, or that is known to be down, does nothing.
 pub fn alarm_change(alloc: Global, tables: &NodeTables, fibre: Fibre) -> Result<Change, OutOfMemory>
     ensures { IfOk result (λ c. c ≡ alarm_answer tables.now fibre) }
 {

@@ -12,8 +12,8 @@ use leg_table::handling::handle_fibres;
 use std::alloc::Global;
 
 /// Takes an alarm of a fibre: it is known to be down from now on, and the previous node of each leg
-/// that it leads to is told, in order of LSP. Hands back what is to be sent, in order. An alarm of a
-/// fibre that doesn't come in here, or that is known to be down, changes nothing. After want of
+/// that it leads to is told, in order of LSP. Hands back what is to be sent, in order. An alarm of
+/// a fibre that doesn't come in here, or that is known to be down, changes nothing. After want of
 /// memory nothing has changed.
 pub fn alarm(alloc: Global, tables: &mut NodeTables, f: Fibre) -> Result<Outs, OutOfMemory>
     ensures ok { OnOk result (tables.new ≡ after_alarm tables.old f) }
@@ -38,9 +38,9 @@ pub fn clear(alloc: Global, tables: &mut NodeTables, f: Fibre) -> Result<Outs, O
     Ok(handle_fibres(tables, change))
 }
 
-/// Takes a Notify away from the ingress: it goes to the previous node, unchanged, where it came from
-/// the next node of a leg that isn't torn, and tells that a fibre went down or came up. Hands back
-/// what is to be sent. No table changes.
+/// Takes a Notify away from the ingress: it goes to the previous node, unchanged, where it came
+/// from the next node of a leg that isn't torn, and tells that a fibre went down or came up. Hands
+/// back what is to be sent. No table changes.
 pub fn pass(
     alloc: Global,
     tables: &mut NodeTables,

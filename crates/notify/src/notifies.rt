@@ -68,9 +68,9 @@ pub fn reports(tables: &NodeTables, from: NodeId, msg: &Msg) -> bool
     }
 }
 
-/// What a Notify would send away from the ingress: it goes to the previous node, unchanged, where it
-/// came from the next node of a leg that isn't torn, and tells that a fibre went down or came up.
-/// Another Notify, one at the ingress, and a message of another kind, do nothing.
+/// What a Notify would send away from the ingress: it goes to the previous node, unchanged, where
+/// it came from the next node of a leg that isn't torn, and tells that a fibre went down or came
+/// up. Another Notify, one at the ingress, and a message of another kind, do nothing.
 pub fn pass_change(
     alloc: Global,
     tables: &NodeTables,

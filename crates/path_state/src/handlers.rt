@@ -15,8 +15,8 @@ use std::alloc::Global;
 
 /// Takes a Path of an LSP that has no leg here: a leg is made and the Path goes on, or it ends here
 /// and is answered by a Resv, or it is refused by a PathErr. Hands back what is to be sent, in
-/// order. A Path of an LSP that has a leg, and a message of another kind, change nothing. After want
-/// of memory nothing has changed.
+/// order. A Path of an LSP that has a leg, and a message of another kind, change nothing. After
+/// want of memory nothing has changed.
 pub fn path(
     alloc: Global,
     tables: &mut NodeTables,

@@ -1,5 +1,5 @@
-//! What a Path of an LSP that has no leg, and a PathTear, do at a node (RFC 2205, sections 3.1.3 and
-//! 3.1.5; RFC 3473, section 2).
+//! What a Path of an LSP that has no leg, and a PathTear, do at a node (RFC 2205, sections 3.1.3
+//! and 3.1.5; RFC 3473, section 2).
 #![tactic(auto)]
 
 mod handlers;

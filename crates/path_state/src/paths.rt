@@ -375,8 +375,8 @@ fn on_path(
 }
 
 /// What a Path of an LSP that has no leg here would change and send: it makes a leg and goes on,
-/// ends here and is answered, or is refused. A Path of an LSP that has one, and a message of another
-/// kind, do nothing.
+/// ends here and is answered, or is refused. A Path of an LSP that has one, and a message of
+/// another kind, do nothing.
 pub fn path_change(
     alloc: Global,
     tables: &NodeTables,

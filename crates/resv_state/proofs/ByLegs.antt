@@ -1,4 +1,4 @@
--- At a node without calls the machine's rules of a Resv and of a PathErr are those of the legs, whatever number is next.
+-- At a node without calls the machine's rules of a Resv and a PathErr are those of the legs, whatever number is next.
 use Rattle.std.proofs.Common.{◌≡◌, ◌∙◌, ℕ, Bool, true, cond, refl, sym, ap}
 use Rattle.std.specs.Prelude.{◌&&◌, Option, Some, None}
 use Rattle.ason_base.specs.declared.ids.NodeId.{NodeId}

@@ -1,5 +1,5 @@
--- What a Resv that a leg waits for, and a PathErr with Path_State_Removed, do to the leg at a node of these tables. What
--- becomes of the call at the ingress isn't told here: it's as at a node without calls.
+-- What a Resv that a leg waits for, and a PathErr with Path_State_Removed, do to the leg at a node of these tables.
+-- What becomes of the call at the ingress isn't told here: it's as at a node without calls.
 use Rattle.std.specs.Prelude.{ℕ, ◌&&◌, Bool, true, false, List, Option, Some, None, if◌then◌else◌}
 use Rattle.ason_base.specs.declared.ids.NodeId.{NodeId}
 use Rattle.ason_base.specs.declared.messages.Msg.{Msg}
