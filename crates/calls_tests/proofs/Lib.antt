@@ -1,1 +1,1 @@
-mod Ingresses
+mod Fitting

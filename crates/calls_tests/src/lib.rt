@@ -3,3 +3,7 @@
 
 #[cfg(test)]
 mod calls;
+#[cfg(test)]
+mod ingresses;
+#[cfg(test)]
+mod turns;
