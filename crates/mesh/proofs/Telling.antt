@@ -1,8 +1,8 @@
 -- Where other groups have failed than before, each node finds on its desk what it is told.
-use Rattle.std.proofs.Common.{◌≡◌, ℕ, Bool, true, false, cond, nat_eq, List, [], ◌∷◌, ◌++◌, map, refl, sym, ap, ◌∙◌, arith, append-nil}
+use Rattle.std.proofs.Common.{◌≡◌, ◌<◌, ◌+◌, ℕ, Bool, true, false, cond, nat_eq, List, [], ◌∷◌, ◌++◌, length, get_or, take, map, refl, sym, ap, ◌∙◌, arith, append-nil}
 use Rattle.std.specs.Prelude.{filter, flat_map}
 use Rattle.std.specs.List.{AllByRecursion}
-use Rattle.std.proofs.lemmas.List.{map-append}
+use Rattle.std.proofs.lemmas.List.{flat_map_more, map-append, take_more}
 use Rattle.std.proofs.lemmas.List.Concat.{flat_map-cons}
 use Rattle.std.proofs.lemmas.List.Elements.{filter-append}
 use Rattle.ason_base.specs.declared.commands.DeskItem.{DeskItem}
@@ -85,6 +85,16 @@ desk_of-links nodes before after n (l ∷ links) all =
     (desk_of-link nodes before after n l all.0)
     ∙ ap (λ items. changed_news before after n l ++ items) (desk_of-links nodes before after n links all.1)
     ∙ sym (flat_map-cons (changed_news before after n) l links)
+
+-- one link more is told of
+pub told-more : (before after : List Group) (links : List LinkSpec) (i : ℕ) (l : LinkSpec) → i < length links →
+    l ≡ get_or links i l → (desks : List Waiting) → desks ≡ flat_map (told_of before after) (take i links) →
+    desks ++ told_of before after l ≡ flat_map (told_of before after) (take (i + 1) links)
+told-more before after links i l within at desks is =
+    ap (λ ws. ws ++ told_of before after l) is
+    ∙ flat_map_more (told_of before after) [] (take i links) l
+    ∙ ap (flat_map (told_of before after))
+    (ap (λ x. take i links ++ x ∷ []) at ∙ sym (take_more links i l within))
 
 pub has_failed : (k : Kept) (groups : List Group) (desks : List Waiting) → IsTopology k.seats.network →
     desks ≡ k.desks ++ flat_map (told_of k.failed groups) k.seats.network.links →

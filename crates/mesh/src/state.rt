@@ -250,6 +250,7 @@ impl MeshState {
         ensures ok { OnOk result (HasFailed self.old failed.items self.new) }
         ensures err { OnErr result (self.new ≡ self.old) }
     {
+        let _links = self.nodes.network().links();
         let mut news = news(alloc, self.nodes.network(), &self.failed, &failed)?;
         self.desks.append(&mut news)?;
         self.failed = failed;

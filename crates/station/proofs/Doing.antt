@@ -115,11 +115,11 @@ pub record AreReady (t : Network) (h : History) (rings : ℕ → ℕ → List �
 
 all-done : (t : Network) (h : History) (rings : ℕ → ℕ → List ℕ) (n : NodeId) (there : ℕ → List ℕ) (e : Event)
     (c d : ControllerState) (old desk : List DeskItem) (s : Stepped) (f : FloodState) (frames : List Frame)
-    (before after : List LinkState) →
+    (before after : List LinkState) (spare : ℕ) →
     after ≡ map (after_frames frames) before → AreReady t h rings n there c old before → IsDone (world_after t h)
     (step t (world_after t h) e) n c d desk s f frames →
-    Stands t (with_event_over t h rings e) n there (record { controller = d; desk = desk; links = after })
-all-done t h rings n there e c d old desk s f frames before after is ready done = record {
+    Stands t (with_event_over t h rings e) n there (record { controller = d; desk = desk; links = after; spare = spare })
+all-done t h rings n there e c d old desk s f frames before after spare is ready done = record {
   node = subst (λ w. NodeStands t w n d desk) (sym (world-with t h rings e))
       (node-done t (world_after t h) (step t (world_after t h) e) n c d old desk s f frames ready.node done);
   peers = ap (map (λ (l : LinkState). l.peer)) is ∙ peers-kept frames before ∙ ready.peers;
@@ -143,15 +143,14 @@ made_once w n = ap (λ b. cond b (w.made n.0 + 1) (w.made n.0)) (self_test n.0)
 -- A tick
 
 pub tick-done : (t : Network) (h : History) (n : NodeId) (there : ℕ → List ℕ) (c d : ControllerState)
-    (desk : List DeskItem) (before after : List LinkState) → HasReacted c d before after input.Tick →
-    Stands t h n there (record { controller = c; desk = desk; links = before }) →
+    (desk : List DeskItem) (before after : List LinkState) (spare : ℕ) → HasReacted c d before after input.Tick →
+    AreReady t h h.waiting n there c desk before →
     Stands t (with_event_over t h h.waiting (Tick n)) n there
-    (record { controller = d; desk = desk; links = after })
-tick-done t h n there c d desk before after reacted stands =
+    (record { controller = d; desk = desk; links = after; spare = spare })
+tick-done t h n there c d desk before after spare reacted stands =
     all-done t h h.waiting n there (Tick n) c d desk desk
     (after_tick c.node.place c.node.state c.adjacencies c.flood) (flood.ticked c.flood) reacted.frames before after
-    reacted.links
-    (record { node = stands.node; peers = stands.peers; links = stands.links })
+    spare reacted.links stands
     (record {
       are = reacted.step.reaction;
       steps = reacted.step.steps;
@@ -170,15 +169,14 @@ tick-done t h n there c d desk before after reacted stands =
 -- An item
 
 pub item-done : (t : Network) (h : History) (n : NodeId) (there : ℕ → List ℕ) (c d : ControllerState) (i : DeskItem)
-    (desk : List DeskItem) (before after : List LinkState) → HasReacted c d before after (input.Desk i) →
-    Stands t h n there (record { controller = c; desk = i ∷ desk; links = before }) →
+    (desk : List DeskItem) (before after : List LinkState) (spare : ℕ) → HasReacted c d before after (input.Desk i) →
+    AreReady t h h.waiting n there c (i ∷ desk) before →
     Stands t (with_event_over t h h.waiting (Desk n)) n there
-    (record { controller = d; desk = desk; links = after })
-item-done t h n there c d i desk before after reacted stands =
+    (record { controller = d; desk = desk; links = after; spare = spare })
+item-done t h n there c d i desk before after spare reacted stands =
     all-done t h h.waiting n there (Desk n) c d (i ∷ desk) desk
     (controllers.handled c.node.place (meaning c.node c.adjacencies) i) c.flood reacted.frames before after
-    reacted.links
-    (record { node = stands.node; peers = stands.peers; links = stands.links })
+    spare reacted.links stands
     (record {
       are = reacted.step.reaction;
       steps = reacted.step.steps;
@@ -219,12 +217,12 @@ made_kept t w d u (Some (Message p)) n = go (handed_up w d u p)
 made_kept t w d u (Some (Flood m)) n = refl
 
 pub frame-done : (t : Network) (h : History) (rings : ℕ → ℕ → List ℕ) (n u : NodeId) (there : ℕ → List ℕ)
-    (c d : ControllerState) (desk : List DeskItem) (before after : List LinkState) (p : Parcel) →
+    (c d : ControllerState) (desk : List DeskItem) (before after : List LinkState) (spare : ℕ) (p : Parcel) →
     HasReacted c d before after (input.Frame u p.frame) → IsParcelOf ((world_after t h).channels u.0 n.0) p →
     AreReady t h rings n there c desk before →
     Stands t (with_event_over t h rings (Deliver n u p.number)) n there
-    (record { controller = d; desk = desk; links = after })
-frame-done t h rings n u there c d desk before after p reacted parcel ready =
+    (record { controller = d; desk = desk; links = after; spare = spare })
+frame-done t h rings n u there c d desk before after spare p reacted parcel ready =
     go parcel.content parcel.there parcel.spells
   where
     w : World
@@ -232,11 +230,11 @@ frame-done t h rings n u there c d desk before after p reacted parcel ready =
 
     go : (x : Content) → numbered_at (w.channels u.0 n.0) p.number ≡ Some x → spells p.frame x →
         Stands t (with_event_over t h rings (Deliver n u p.number)) n there
-        (record { controller = d; desk = desk; links = after })
+        (record { controller = d; desk = desk; links = after; spare = spare })
     go x at is =
         all-done t h rings n there (Deliver n u p.number) c d desk desk
         (took_frame c.node.place (meaning c.node c.adjacencies) c.flood u x) (flood_after c.flood u x) reacted.frames
-        before after reacted.links ready
+        before after spare reacted.links ready
         (record {
           are = reacted.step.reaction.0 x is;
           steps = reacted.step.steps;

@@ -158,9 +158,9 @@ not_itself true true true d h = absurd (cc (h))
 not_itself true false c d h = absurd (cc (h))
 not_itself false b c d h = absurd (cc (h))
 
-pub new-stands : (t : Network) (n : NodeId) → Stands t new_history n (λ d. [])
-    (record { controller = new_controller t n; desk = []; links = map new_link (neighbours t n) })
-new-stands t n = record {
+pub new-stands : (t : Network) (n : NodeId) (spare : ℕ) → Stands t new_history n (λ d. [])
+    (record { controller = new_controller t n; desk = []; links = map new_link (neighbours t n); spare = spare })
+new-stands t n spare = record {
   node = record {
     place = refl;
     stands = record { state = refl; hops = new_hops (hop_neighbours (local_node t n)) };

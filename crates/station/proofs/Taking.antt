@@ -9,7 +9,7 @@ use Rattle.controller.specs.declared.inputs.CoreInput.TheVariants as input
 use Rattle.station.specs.declared.parcels.Parcel.{Parcel}
 use Rattle.station.specs.Histories.{History, handled, handled_first, made_by, popped, took, took_first, with_event, with_event_over, world_after}
 use Rattle.station.specs.Links.{LinkState, popped_from}
-use Rattle.station.specs.Standing.{AreParcelsOf, IsParcelOf, LinkStands, Stands, StationState, numbers_of}
+use Rattle.station.specs.Standing.{AreParcelsOf, IsParcelOf, LinkStands, NodeStands, Stands, StationState, numbers_of}
 use Rattle.station.specs.Steps.{HasReacted}
 use Rattle.station.proofs.Doing.{AreReady, frame-done, item-done, links-popped}
 use Rattle.station.proofs.Linking.{IsLinkAt, all-get, link-at}
@@ -68,9 +68,9 @@ pub took-done : (t : Network) (h : History) (n u : NodeId) (there : ℕ → List
 took-done t h n u there s d p ps first comes coming reacted desk below stands =
     subst (λ g. Stands t g n there d) (sym goes)
     (subst (λ items. Stands t (with_event_over t h (popped h.waiting u n) (Deliver n u p.number)) n there
-    (record { controller = d.controller; desk = items; links = d.links })) (sym desk)
+    (record { controller = d.controller; desk = items; links = d.links; spare = d.spare })) (sym desk)
     (frame-done t h (popped h.waiting u n) n u there s.controller d.controller s.desk
-    (map (popped_from u) s.links) d.links p reacted parcel ready))
+    (map (popped_from u) s.links) d.links d.spare p reacted parcel ready))
   where
     is : ps ≡ p ∷ drop 1 ps
     is = first_of ps p first
@@ -97,13 +97,12 @@ pub handled-done : (t : Network) (h : History) (n : NodeId) (there : ℕ → Lis
     nat_lt (made_by t h n) 50000 ≡ true → Stands t h n there s → Stands t (handled t n h) n there d
 handled-done t h n there s d i desk reacted below stands =
     subst (λ g. Stands t g n there d) (sym goes)
-    (item-done t h n there s.controller d.controller i d.desk s.links d.links reacted
-    (subst (λ items. Stands t h n there (record {
-      controller = s.controller;
-      desk = items;
-      links =
-          s.links;
-    })) desk stands))
+    (item-done t h n there s.controller d.controller i d.desk s.links d.links d.spare reacted
+    (record {
+      node = subst (NodeStands t (world_after t h) n s.controller) desk stands.node;
+      peers = stands.peers;
+      links = stands.links;
+    }))
   where
     goes : handled t n h ≡ with_event t h (Desk n)
     goes = ap (handled_first t n h) (sym stands.node.desk ∙ desk)

@@ -1,5 +1,5 @@
 -- A station stands for its node in a run.
-use Rattle.std.specs.Prelude.{◌≡◌, ℕ, ◌==◌, false, List, ◌++◌, length, map, Some, None}
+use Rattle.std.specs.Prelude.{◌≡◌, ◌≤◌, ℕ, ◌+◌, ◌==◌, false, List, [], ◌∷◌, ◌++◌, length, map, Some, None}
 use Rattle.std.specs.List.{AllByRecursion}
 use Rattle.ason_base.specs.declared.ids.NodeId.{NodeId}
 use Rattle.ason_base.specs.declared.commands.DeskItem.{DeskItem}
@@ -20,6 +20,13 @@ pub record StationState : Type 0 where
   pub controller : ControllerState
   pub desk : List DeskItem
   pub links : List LinkState
+  -- for how many items more the desk has room
+  pub spare : ℕ
+
+-- with the item at the end of the desk, which has room for one item less at the least
+pub record IsOrdered (old : StationState) (i : DeskItem) (new : StationState) : Type 0 where
+  pub station : new ≡ record old { desk = old.desk ++ i ∷ []; spare = new.spare }
+  pub spare : old.spare ≤ new.spare + 1
 
 -- Parcels
 

@@ -11,7 +11,7 @@ ghost use Rattle.mesh_nodes.specs.LocalNodes.{is_neighbour};
 ghost use Rattle.station.specs.declared.halts.Halt.{Halt};
 ghost use Rattle.station.specs.Histories.{History, handled, made, new_history, took};
 ghost use Rattle.station.specs.Links.{AreFew, KeepRoom, LinkState, is_to, looked, new_link, peers_of, popped_from};
-ghost use Rattle.station.specs.Standing.{Stands, StationState};
+ghost use Rattle.station.specs.Standing.{IsOrdered, Stands, StationState};
 ghost use Rattle.station.specs.Steps.{HasReacted, LinksFit};
 ghost use Rattle.station.specs.Turning.{HasDone, HasTurned, IsCutBy, IsStopped, IsTurn, answer_of, worked};
 ghost use Rattle.station.specs.declared.turns.Turn.{Turn};
@@ -46,7 +46,12 @@ impl Model for Station {
 
     ghost Value = { StationState };
 
-    ghost view = { λ s. record { controller = s.controller; desk = s.desk; links = s.links.items } };
+    ghost view = { λ s. record {
+      controller = s.controller;
+      desk = s.desk.items;
+      links = s.links.items;
+      spare = s.desk.spare;
+    } };
 
     ghost invariant = { λ s. LinksFit s.controller.node.place s.controller.steps s.links.items };
 }
@@ -306,11 +311,20 @@ impl Station {
         self.links[place].sent()
     }
 
-    /// Puts an item on the desk.
-    pub fn order(&mut self, item: DeskItem) -> Result<(), OutOfMemory>
-        ensures ok { OnOk result
-            (self.new ≡ record self.old { desk = self.old.desk ++ item ∷ [] }) }
+    /// Makes room for so many items more on the desk. After want of memory nothing has changed.
+    pub fn make_room(&mut self, items: usize) -> Result<(), OutOfMemory>
+        ensures ok { OnOk result (items ≤ self.new.spare) }
+        ensures same { self.new ≡ record self.old { spare = self.new.spare } }
         ensures err { OnErr result (self.new ≡ self.old) }
+    {
+        self.desk.make_room(items)
+    }
+
+    /// Puts an item on the desk. Where there is room for it this isn't refused.
+    pub fn order(&mut self, item: DeskItem) -> Result<(), OutOfMemory>
+        ensures ok { OnOk result (IsOrdered self.old item self.new) }
+        ensures err { OnErr result (self.new ≡ self.old) }
+        ensures full { OnErr result (self.old.spare ≡ 0) }
     {
         self.desk.push(item)
     }

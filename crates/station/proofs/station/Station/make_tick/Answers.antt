@@ -15,8 +15,11 @@ returns-clause-on c t h n there stands =
     ∙ is-true (nat_lt s.controller.steps 50000) (sym c.is_full.ensures ∙ c.if-is_full.false) in
     subst (λ g. Stands t g n there d) (sym (able-below t n h (with_event t h (Tick n)) stands.unstopped below))
     (subst (λ desk. Stands t (with_event t h (Tick n)) n there
-    (record { controller = d.controller; desk = desk; links = d.links })) (sym c.take_input.ensures.desk)
-    (tick-done t h n there s.controller d.controller s.desk s.links d.links c.in_ok-take_input.ensures.step stands))
+    (record { controller = d.controller; desk = desk; links = d.links; spare = d.spare }))
+    (sym c.take_input.ensures.desk)
+    (tick-done t h n there s.controller d.controller s.desk s.links d.links d.spare
+    c.in_ok-take_input.ensures.step
+    (record { node = stands.node; peers = stands.peers; links = stands.links })))
 
 pub returns-then-is_full-clause-rings : goal.returns-then-is_full-clause-rings
 returns-then-is_full-clause-rings c = still c.args.self.now.links

@@ -21,20 +21,25 @@ returns-clause-stands c =
     let t = c.args.t.now in
     let n = c.args.id in
     subst (λ (x : ControllerState). Stands t new_history n (λ d. [])
-    (record { controller = x; desk = c.new-2.result; links = c.in_ok-links.links.items }))
+    (record {
+      controller = x;
+      desk = c.new-2.result.items;
+      links = c.in_ok-links.links.items;
+      spare = c.new-2.result.spare;
+    }))
     (sym c.in_ok-controller.ensures)
     (subst (λ items. Stands t new_history n (λ d. []) (record {
       controller = new_controller t n;
       desk = items;
-      links =
-          c.in_ok-links.links.items;
+      links = c.in_ok-links.links.items;
+      spare = c.new-2.result.spare;
     })) (sym c.new-2.ensures)
     (subst (λ ls. Stands t new_history n (λ d. []) (record {
       controller = new_controller t n;
       desk = [];
-      links =
-          ls;
-    })) (sym c.in_ok-links.ensures) (new-stands t n)))
+      links = ls;
+      spare = c.new-2.result.spare;
+    })) (sym c.in_ok-links.ensures) (new-stands t n c.new-2.result.spare)))
 
 pub returns-clause-links : goal.returns-clause-links
 returns-clause-links c = c.in_ok-links.ensures
