@@ -1,5 +1,5 @@
 -- Where something stands in a list, and the seats and stations of a new fleet.
-use Rattle.std.proofs.Common.{◌≡◌, ◌≤◌, ◌<◌, ◌+◌, ◌-◌, ◌^◌, ℕ, suc, Bool, true, false, cond, not, nat_eq, nat_lt, List, [], ◌∷◌, ◌++◌, get_or, length, map, refl, sym, ap, ◌∙◌, subst, arith}
+use Rattle.std.proofs.Common.{◌≡◌, ◌≤◌, ◌<◌, ◌+◌, ◌-◌, ◌^◌, ℕ, suc, Bool, true, false, cond, not, nat_eq, nat_lt, List, [], ◌∷◌, ◌++◌, get_or, length, map, refl, sym, ap, ◌∙◌, subst, arith, ◌*◌}
 use Rattle.std.specs.Prelude.{◌||◌, IsSome, Some, None, find, position, slice_get}
 use Rattle.std.specs.List.{AllByRecursion, position_or_len}
 use Rattle.std.proofs.lemmas.Option.{slice_get-get_or, slice_get_read}
@@ -240,8 +240,8 @@ ends-more t n s ends end link u new count each peer is k e v at near =
 -- The new fleet
 
 pub new-stands : (t : Network) (f : FleetState) → IsTopology t → AreSeats t f.seats → AreNew t f.stations →
-    f.posts ≡ 0 → StandsFor t f new_history
-new-stands t f valid seats new none = record {
+    f.posts ≡ 0 → f.network ≡ t → f.failed ≡ [] → StandsFor t f new_history
+new-stands t f valid seats new none network failed = record {
   valid = valid;
   running = the_start_is_running t;
   going = refl;
@@ -254,12 +254,14 @@ new-stands t f valid seats new none = record {
         record { node = is.stands.node; links = is.links };
   };
   wired = λ u d on. record { peer = refl; sent = refl; waits = refl; came = tt; going = tt };
-  posted = λ n. subst (λ k. 0 ≤ k) (sym none) nothing;
+  posted = λ n. nothing f.posts;
   few = subst (λ k. k ≤ 2 ^ 32 - 1) (sym none) few;
+  network = network;
+  failed = failed;
 }
   where
-    nothing : 0 ≤ 0
-    nothing = omega arith
+    nothing : (k : ℕ) → 0 ≤ 256 * k
+    nothing k = omega arith
 
     few : 0 ≤ 2 ^ 32 - 1
     few = omega arith

@@ -3,6 +3,7 @@ pub mod Connecting
 pub mod Elsewhere
 pub mod Ends
 pub mod Example
+pub mod FailedKept
 pub mod Finding
 pub mod Growing
 pub mod Keeping
@@ -14,5 +15,6 @@ pub mod Rounding
 pub mod Runs
 pub mod Splitting
 pub mod Sums
+pub mod Telling
 pub mod Turned
 pub mod Wires

@@ -11,7 +11,7 @@ use Rattle.station.proofs.Linking.{all-get}
 use Rattle.fleet.specs.declared.seats.End.{End}
 use Rattle.fleet.specs.declared.seats.Seat.{Seat}
 use Rattle.fleet.specs.Looks.{AreJoined, IsKnown, IsLookedAt, IsMet, LooksOver, after_look, met}
-use Rattle.fleet.specs.Standing.{AreSeats, FleetState, IsEnd, IsSeat, StandsFor, Wires, ids_of}
+use Rattle.fleet.specs.Standing.{AreSeats, FleetState, IsEnd, IsSeat, StandsFor, Wires, ids_of, KeepsRest}
 use Rattle.fleet.proofs.Channels.{from-near, parts}
 use Rattle.fleet.proofs.Meeting.{IsFound, found, is_met_here, is_met_there, met-stands, one_link, this_link, unmet, unmet_here}
 use Rattle.fleet.proofs.Places.{IsImage, IsThere, apart, get-map, map-get, one_there, rising-near, same_number, there}
@@ -50,12 +50,12 @@ ends-count t seats place n seat are at seated = (seat-of t seats place n seat ar
 
 pub looks-over : (place link : ℕ) (old new : FleetState) (seat : Seat) (e : End) →
     slice_get old.seats place ≡ Some seat → slice_get seat.ends.items link ≡ Some e → new.seats ≡ old.seats →
-    new.posts ≡ old.posts → ((j : AreJoined old.stations place link e) → new.stations
+    KeepsRest old new → ((j : AreJoined old.stations place link e) → new.stations
     ≡ after_look old.stations place link e j.here j.there j.near j.far) → LooksOver place link old new
-looks-over place link old new seat e seated ended seats posts is t h n u at near s =
+looks-over place link old new seat e seated ended seats rest is t h n u at near s =
     let end : IsEnd t n u e = (seat-of t old.seats place n seat s.seats at seated).each link e u ended near in
     let x : IsFound t h old s n u place link e = found t h old s n u place link e at near end in
-    met-stands t h old new s n u place link e at near end x seats posts (is x.joined)
+    met-stands t h old new s n u place link e at near end x seats rest (is x.joined)
 
 -- a seat at each place of a node
 pub seat-there : (t : Network) (seats : List Seat) (place : ℕ) (n : NodeId) → AreSeats t seats →

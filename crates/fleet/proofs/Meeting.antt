@@ -1,5 +1,5 @@
 -- After a look at both ends of a ring a fleet stands for the same run.
-use Rattle.std.proofs.Common.{◌≡◌, ◌≤◌, ◌<◌, ◌+◌, ◌-◌, ◌^◌, ℕ, Bool, true, false, cond, nat_eq, List, [], ◌∷◌, ◌++◌, length, map, refl, sym, ap, ◌∙◌, subst, arith, append-nil}
+use Rattle.std.proofs.Common.{◌≡◌, ◌≤◌, ◌<◌, ◌+◌, ◌-◌, ◌^◌, ℕ, Bool, true, false, cond, nat_eq, List, [], ◌∷◌, ◌++◌, length, map, refl, sym, ap, ◌∙◌, subst, arith, append-nil, ◌*◌}
 use Rattle.std.specs.Prelude.{◌&&◌, ◌||◌, Some, slice_get, slice_set}
 use Rattle.std.specs.List.{AllByRecursion}
 use Rattle.std.proofs.lemmas.List.{length-append, map-append}
@@ -16,7 +16,7 @@ use Rattle.station.proofs.Doing.{self_test}
 use Rattle.station.proofs.Sending.{length-map}
 use Rattle.fleet.specs.declared.seats.End.{End}
 use Rattle.fleet.specs.Looks.{AreJoined, IsMet, after_look, met, with_link}
-use Rattle.fleet.specs.Standing.{AreSeats, FleetState, IsEnd, IsStationOf, IsWired, StandsFor, Wires, ids_of}
+use Rattle.fleet.specs.Standing.{AreSeats, FleetState, IsEnd, IsStationOf, IsWired, StandsFor, Wires, ids_of, KeepsRest}
 use Rattle.fleet.proofs.Channels.{back, from-near, parts}
 use Rattle.fleet.proofs.Places.{IsThere, all-of, apart, get-map, get-set, get-set-elsewhere, length-set, one_there, rising-ids, rising-near, same_number, there, within}
 use Rattle.fleet.proofs.Wires.{same-map, set-one}
@@ -224,10 +224,10 @@ links-set t wires n u a b place l s at on is others =
 
 pub met-stands : (t : Network) (h : History) (f new : FleetState) (s : StandsFor t f h) (n u : NodeId)
     (place link : ℕ) (e : End) → slice_get (ids_of t) place ≡ Some n → slice_get (neighbours t n) link ≡ Some u →
-    IsEnd t n u e → (x : IsFound t h f s n u place link e) → new.seats ≡ f.seats → new.posts ≡ f.posts →
+    IsEnd t n u e → (x : IsFound t h f s n u place link e) → new.seats ≡ f.seats → KeepsRest f new →
     new.stations ≡ after_look f.stations place link e x.joined.here x.joined.there x.joined.near x.joined.far →
     IsMet t h f new s n u
-met-stands t h f new s n u place link e at near end x seats posts stations = record {
+met-stands t h f new s n u place link e at near end x seats rest stations = record {
   stands = record {
     valid = s.valid;
     running = s.running;
@@ -236,8 +236,10 @@ met-stands t h f new s n u place link e at near end x seats posts stations = rec
     wires = met s.wires n.0 u.0;
     stations = record { count = count; each = each };
     wired = λ a b on. wired-met (world_after t h) h.waiting s.wires n.0 u.0 a b (s.wired a b on);
-    posted = λ a. subst (λ k. length ((world_after t h).desks a.0) ≤ k) (sym posts) (s.posted a);
-    few = subst (λ k. k ≤ 2 ^ 32 - 1) (sym posts) s.few;
+    posted = λ a. subst (λ k. length ((world_after t h).desks a.0) ≤ 256 * k) (sym rest.posts) (s.posted a);
+    few = subst (λ k. k ≤ 2 ^ 32 - 1) (sym rest.posts) s.few;
+    network = rest.network ∙ s.network;
+    failed = rest.failed ∙ s.failed;
   };
   wires = refl;
 }

@@ -1,27 +1,31 @@
 -- After a post a fleet stands for the run with that post.
-use Rattle.std.proofs.Common.{◌≡◌, ◌≤◌, ◌+◌, ◌-◌, ◌^◌, ℕ, Bool, true, false, cond, nat_eq, List, [], ◌∷◌, ◌++◌, length, refl, sym, ap, ◌∙◌, subst, arith}
+use Rattle.std.proofs.Common.{◌≡◌, ◌≤◌, ◌<◌, ◌*◌, ◌+◌, ◌-◌, ◌^◌, ℕ, Bool, true, false, cond, nat_eq, List, [], ◌∷◌, ◌++◌, length, refl, sym, ap, ◌∙◌, subst, arith}
 use Rattle.std.specs.Prelude.{◌&&◌, not, Some, None, slice_get, slice_set}
 use Rattle.std.proofs.lemmas.List.{length-append}
 use Rattle.ason_base.specs.declared.ids.NodeId.{NodeId}
 use Rattle.ason_base.specs.declared.commands.Command.{Command}
 use Rattle.ason_base.specs.declared.commands.Command.TheVariants.{Setup, Release, Protect, Retry, Revert, Fail, Repair}
 use Rattle.ason_base.specs.declared.commands.DeskItem.{DeskItem}
+use Rattle.ason_base.specs.declared.commands.Group.{Group}
 use Rattle.ason_base.specs.declared.commands.DeskItem.TheVariants.{Order}
 use Rattle.ason_base.specs.declared.commands.Event.TheVariants.{Post}
 use Rattle.ason_base.specs.Network.{Network, is_node_id}
 use Rattle.controller.specs.Controllers.{ControllerState}
 use Rattle.mesh_rules.specs.Commands.{has_backup_way, has_way, is_again, is_searchable, is_valid}
+use Rattle.mesh_rules.specs.Failures.{all_news, failed_after}
+use Rattle.mesh_rules.proofs.LinkNews.{few-links, few-news}
 use Rattle.world_core.specs.Runs.{IsEnabled, posted}
 use Rattle.world_core.specs.Standing.{IsUntouched}
 use Rattle.world_core.specs.Worlds.{World}
+use Rattle.world_core.proofs.Posting.{failed-posted}
 use Rattle.world_core.proofs.Untouched.{others-are-untouched}
 use Rattle.station.specs.Histories.{History, refilled, with_event, world_after}
 use Rattle.station.specs.Standing.{AreParcelsOf, NodeStands, StationState}
 use Rattle.station.proofs.Doing.{self_test, world-with}
-use Rattle.fleet.specs.Posts.{IsOrderedAt, Orders, ingress_of, with_order}
+use Rattle.fleet.specs.Posts.{HasChanged, IsOrderedAt, IsToldBy, Orders, ingress_of, with_items}
 use Rattle.fleet.specs.Standing.{AreSeats, AreStations, FleetState, IsStationOf, IsWired, StandsFor, Wires, ids_of}
 use Rattle.fleet.proofs.Elsewhere.{unfilled}
-use Rattle.fleet.proofs.Places.{apart, get-set, get-set-elsewhere, length-set, one_there, rising-ids, same_node, same_number}
+use Rattle.fleet.proofs.Places.{IsThere, there, within, apart, get-set, get-set-elsewhere, length-set, one_there, rising-ids, same_node, same_number}
 use Rattle.fleet.proofs.Runs.{posts_are_running}
 
 -- What a post leaves of a world
@@ -54,14 +58,26 @@ desk_posted t w (Revert k from) n e m = let same : from ≡ n = cc (e) in
 desk_posted t w (Fail g) n e m = absurd (cc (e))
 desk_posted t w (Repair g) n e m = absurd (cc (e))
 
-no_desk_posted : (t : Network) (w : World) (c : Command) → ingress_of c ≡ None → (m : ℕ) → (posted t w c).desks m ≡ w.desks m
-no_desk_posted t w (Setup k from to protected both via backup) e m = absurd (cc (e))
-no_desk_posted t w (Release k from) e m = absurd (cc (e))
-no_desk_posted t w (Protect k from) e m = absurd (cc (e))
-no_desk_posted t w (Retry k from) e m = absurd (cc (e))
-no_desk_posted t w (Revert k from) e m = absurd (cc (e))
-no_desk_posted t w (Fail g) e m = refl
-no_desk_posted t w (Repair g) e m = refl
+-- where it is of a group, what each node is told is at the end of its desk
+told_posted : (t : Network) (w : World) (c : Command) → ingress_of c ≡ None → (m : ℕ) →
+    (posted t w c).desks m ≡ w.desks m ++ all_news t w.failed (failed_after c w.failed) m
+told_posted t w (Setup k from to protected both via backup) e m = absurd (cc (e))
+told_posted t w (Release k from) e m = absurd (cc (e))
+told_posted t w (Protect k from) e m = absurd (cc (e))
+told_posted t w (Retry k from) e m = absurd (cc (e))
+told_posted t w (Revert k from) e m = absurd (cc (e))
+told_posted t w (Fail g) e m = refl
+told_posted t w (Repair g) e m = refl
+
+-- a call's command leaves the groups that have failed
+groups_left : (c : Command) (n : NodeId) (groups : List Group) → ingress_of c ≡ Some n → failed_after c groups ≡ groups
+groups_left (Setup k from to protected both via backup) n groups e = refl
+groups_left (Release k from) n groups e = refl
+groups_left (Protect k from) n groups e = refl
+groups_left (Retry k from) n groups e = refl
+groups_left (Revert k from) n groups e = refl
+groups_left (Fail g) n groups e = absurd (cc (e))
+groups_left (Repair g) n groups e = absurd (cc (e))
 
 first_and : (a b : Bool) → (a && b) ≡ true → a ≡ true
 first_and true b h = refl
@@ -128,9 +144,10 @@ posted-wired t w c rings wires u d is = record {
 post-stands : (t : Network) (h : History) (c : Command) (old new : FleetState) → (s : StandsFor t old h) →
     IsEnabled t (world_after t h) (Post c) → new.seats ≡ old.seats → new.posts ≤ 2 ^ 32 - 1 →
     AreStations t (posted t (world_after t h) c) s.wires new.stations →
-    ((n : NodeId) → length ((posted t (world_after t h) c).desks n.0) ≤ new.posts) →
+    ((n : NodeId) → length ((posted t (world_after t h) c).desks n.0) ≤ 256 * new.posts) →
+    new.network ≡ old.network → new.failed ≡ failed_after c old.failed →
     StandsFor t new (with_event t h (Post c))
-post-stands t h c old new s on seats few stations fewer = record {
+post-stands t h c old new s on seats few stations fewer network failed = record {
   valid = s.valid;
   running = posts_are_running t h c s.running s.going on;
   going = refl;
@@ -140,35 +157,73 @@ post-stands t h c old new s on seats few stations fewer = record {
   wired = λ u d joined. subst (λ w. IsWired w (refilled (world_after t h) (posted t (world_after t h) c) h.waiting)
       s.wires u d)
       (sym world) (posted-wired t (world_after t h) c h.waiting s.wires u d (s.wired u d joined));
-  posted = λ n. subst (λ (w : World). length (w.desks n.0) ≤ new.posts) (sym world) (fewer n);
+  posted = λ n. subst (λ (w : World). length (w.desks n.0) ≤ 256 * new.posts) (sym world) (fewer n);
   few = few;
+  network = network ∙ s.network;
+  failed = failed ∙ ap (failed_after c) s.failed ∙ sym (failed-posted t (world_after t h) c)
+      ∙ sym (ap (λ (w : World). w.failed) world);
 }
   where
     world : world_after t (with_event t h (Post c)) ≡ posted t (world_after t h) c
     world = world-with t h h.waiting (Post c)
 
--- a command that goes to no desk
-pub nowhere-stands : (t : Network) (h : History) (c : Command) (f : FleetState) → ingress_of c ≡ None →
-    StandsFor t f h → IsEnabled t (world_after t h) (Post c) → StandsFor t f (with_event t h (Post c))
-nowhere-stands t h c f none s on = post-stands t h c f f s on refl s.few
-    (record {
-      count = s.stations.count;
-      each = λ place n x id there.
-          let is : IsStationOf t (world_after t h) s.wires n x = s.stations.each place n x id there in
-          record {
-            node = posted-node t (world_after t h) c n x.controller x.desk x.desk
-                (is.node.desk ∙ sym (no_desk_posted t (world_after t h) c none n.0)) is.node;
-            links = is.links;
-          };
-    })
-    (λ n. subst (λ items. length items ≤ f.posts) (sym (no_desk_posted t (world_after t h) c none n.0)) (s.posted n))
+-- a command of a group, of which each node is told
+pub groups-stand : (t : Network) (h : History) (c : Command) (old new : FleetState) → ingress_of c ≡ None →
+    new.posts ≤ 2 ^ 32 - 1 → ((u : Network) (g : History) → StandsFor u old g → HasChanged u c old new) →
+    StandsFor t old h → IsEnabled t (world_after t h) (Post c) → StandsFor t new (with_event t h (Post c))
+groups-stand t h c old new none few changes s on =
+    post-stands t h c old new s on done.seats few
+    (record { count = done.count ∙ s.stations.count; each = each }) fewer done.network done.failed
+  where
+    w : World
+    w = world_after t h
+
+    done : HasChanged t c old new
+    done = changes t h s
+
+    news : ℕ → List DeskItem
+    news m = all_news t w.failed (failed_after c w.failed) m
+
+    -- what the fleet tells is what the world tells
+    same : (m : ℕ) → all_news old.network old.failed (failed_after c old.failed) m ≡ news m
+    same m =
+        ap (λ u. all_news u old.failed (failed_after c old.failed) m) s.network
+        ∙ ap (λ gs. all_news t gs (failed_after c gs) m) s.failed
+
+    each : (k : ℕ) (m : NodeId) (z : StationState) → slice_get (ids_of t) k ≡ Some m →
+        slice_get new.stations k ≡ Some z → IsStationOf t (posted t w c) s.wires m z
+    each k m z id is =
+        let before : IsThere old.stations k = there old.stations k
+        (subst (λ j. k < j) done.count (within new.stations k z is)) in
+        let its : IsStationOf t w s.wires m before.item = s.stations.each k m before.item id before.is in
+        let told : IsToldBy old (failed_after c old.failed) m before.item z =
+        done.told k m before.item z id before.is is in
+        subst (λ y. IsStationOf t (posted t w c) s.wires m y) (sym told.station)
+        (record {
+          node = posted-node t w c m before.item.controller before.item.desk
+              (before.item.desk ++ all_news old.network old.failed (failed_after c old.failed) m.0)
+              (ap (λ items. items ++ all_news old.network old.failed (failed_after c old.failed) m.0) its.node.desk
+              ∙ ap (λ items. w.desks m.0 ++ items) (same m.0) ∙ sym (told_posted t w c none m.0)) its.node;
+          links = its.links;
+        })
+
+    more : (a b d l k : ℕ) → a ≤ 256 * b → d ≡ b + 1 → k ≤ l → l ≤ 256 → a + k ≤ 256 * d
+    more a b d l k p q r e = omega arith
+
+    fewer : (m : NodeId) → length ((posted t w c).desks m.0) ≤ 256 * new.posts
+    fewer m =
+        subst (λ items. length items ≤ 256 * new.posts) (sym (told_posted t w c none m.0))
+        (subst (λ k. k ≤ 256 * new.posts) (sym (length-append (w.desks m.0) (news m.0)))
+        (more (length (w.desks m.0)) old.posts new.posts (length t.links) (length (news m.0)) (s.posted m) done.posts
+        (few-news t s.valid w.failed (failed_after c w.failed) m.0) (few-links t s.valid)))
 
 -- a command that goes to the desk of its ingress
 pub order-stands : (t : Network) (h : History) (c : Command) (old new : FleetState) (n : NodeId) →
     ingress_of c ≡ Some n → new.posts ≤ 2 ^ 32 - 1 → Orders n c old new → StandsFor t old h →
     IsEnabled t (world_after t h) (Post c) → StandsFor t new (with_event t h (Post c))
 order-stands t h c old new n ingress few orders s on = post-stands t h c old new s on done.order.seats few
-    (record { count = count; each = each }) fewer
+    (record { count = count; each = each }) fewer done.order.network
+    (done.order.failed ∙ sym (groups_left c n old.failed ingress))
   where
     w : World
     w = world_after t h
@@ -178,7 +233,7 @@ order-stands t h c old new n ingress few orders s on = post-stands t h c old new
         (first_and (is_valid t c) (not (is_again w.posted c)) on))
 
     after : StationState
-    after = with_order done.order.before c
+    after = with_items done.order.before (Order c ∷ []) done.order.spare
 
     count : length new.stations ≡ length t.nodes
     count = ap length done.order.stations ∙ length-set old.stations done.place after ∙ s.stations.count
@@ -225,21 +280,21 @@ order-stands t h c old new n ingress few orders s on = post-stands t h c old new
               links = old_one.links;
             }
 
-    more : (a b d : ℕ) → a ≤ b → d ≡ b + 1 → a + 1 ≤ d
+    more : (a b d : ℕ) → a ≤ 256 * b → d ≡ b + 1 → a + 1 ≤ 256 * d
     more a b d p q = omega arith
 
-    less : (a b d : ℕ) → a ≤ b → d ≡ b + 1 → a ≤ d
+    less : (a b d : ℕ) → a ≤ 256 * b → d ≡ b + 1 → a ≤ 256 * d
     less a b d p q = omega arith
 
-    fewer : (m : NodeId) → length ((posted t w c).desks m.0) ≤ new.posts
+    fewer : (m : NodeId) → length ((posted t w c).desks m.0) ≤ 256 * new.posts
     fewer m = go (nat_eq m.0 n.0) refl
       where
-        go : (b : Bool) → nat_eq m.0 n.0 ≡ b → length ((posted t w c).desks m.0) ≤ new.posts
+        go : (b : Bool) → nat_eq m.0 n.0 ≡ b → length ((posted t w c).desks m.0) ≤ 256 * new.posts
         go true e =
             let node : n ≡ m = sym (same_node m n e) in
-            subst (λ (k : NodeId). length ((posted t w c).desks k.0) ≤ new.posts) node
-            (subst (λ items. length items ≤ new.posts) (sym here)
-            (subst (λ k. k ≤ new.posts) (sym (length-append (w.desks n.0) (Order c ∷ [])))
+            subst (λ (k : NodeId). length ((posted t w c).desks k.0) ≤ 256 * new.posts) node
+            (subst (λ items. length items ≤ 256 * new.posts) (sym here)
+            (subst (λ k. k ≤ 256 * new.posts) (sym (length-append (w.desks n.0) (Order c ∷ [])))
             (more (length (w.desks n.0)) old.posts new.posts (s.posted n) done.order.posts)))
-        go false e = subst (λ items. length items ≤ new.posts) (sym (there m e))
+        go false e = subst (λ items. length items ≤ 256 * new.posts) (sym (there m e))
             (less (length (w.desks m.0)) old.posts new.posts (s.posted m) done.order.posts)

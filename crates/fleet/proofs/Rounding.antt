@@ -59,7 +59,7 @@ pub work-stands : (place : ℕ) (old mid new : FleetState) (end : Turn) → Look
     (w : HasWorked place mid new end) → HasTurned w.before w.after true → TurnsAt place old new
 work-stands place old mid new end looks w turned t h n at s =
     let x : IsLookedAt t h mid n (length (neighbours t n)) = looks t h n at s in
-    turned-stands t h mid new n place w.after x at w.stations w.seats w.posts
+    turned-stands t h mid new n place w.after x at w.stations w.seats w.rest
     (turned t h n (came_from x.stands.wires n) (before-turn t h mid n place w.before x at w.there))
 
 pub work-counts : (place k : ℕ) (old mid new : FleetState) (end : Turn) → LooksAround place old mid →

@@ -236,7 +236,7 @@ items-fit t h f s = all-places (λ (x : StationState). length x.desk ≤ 2 ^ 40)
     less : (a b c d : ℕ) → a < b → b ≡ c → d ≡ c → a < d
     less a b c d p q r = omega arith
 
-    few : (a b c : ℕ) → a ≡ b → b ≤ c → c ≤ 2 ^ 32 - 1 → a ≤ 2 ^ 40
+    few : (a b c : ℕ) → a ≡ b → b ≤ 256 * c → c ≤ 2 ^ 32 - 1 → a ≤ 2 ^ 40
     few a b c p q r = omega arith
 
     one : (i : ℕ) (x : StationState) → slice_get f.stations i ≡ Some x → length x.desk ≤ 2 ^ 40

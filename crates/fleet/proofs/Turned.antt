@@ -1,5 +1,5 @@
 -- After a node's turn a fleet stands for the run with that turn.
-use Rattle.std.proofs.Common.{◌≡◌, ◌≤◌, ◌+◌, ◌-◌, ◌^◌, ℕ, Bool, true, false, cond, nat_eq, List, [], ◌∷◌, ◌++◌, length, map, refl, sym, ap, ◌∙◌, subst, arith, append-nil}
+use Rattle.std.proofs.Common.{◌≡◌, ◌≤◌, ◌+◌, ◌-◌, ◌^◌, ℕ, Bool, true, false, cond, nat_eq, List, [], ◌∷◌, ◌++◌, length, map, refl, sym, ap, ◌∙◌, subst, arith, append-nil, ◌*◌}
 use Rattle.std.specs.Prelude.{Some, slice_get, slice_set}
 use Rattle.std.specs.List.{AllByRecursion}
 use Rattle.ason_base.specs.declared.ids.NodeId.{NodeId}
@@ -18,7 +18,8 @@ use Rattle.station.proofs.Doing.{self_test}
 use Rattle.station.proofs.Sending.{length-map}
 use Rattle.fleet.specs.Looks.{IsKnown, IsLookedAt}
 use Rattle.fleet.specs.Running.{IsRunning}
-use Rattle.fleet.specs.Standing.{AreSeats, FleetState, IsStationOf, IsWired, StandsFor, Wires, ids_of}
+use Rattle.fleet.specs.Standing.{AreSeats, FleetState, IsStationOf, IsWired, StandsFor, Wires, ids_of, KeepsRest}
+use Rattle.fleet.proofs.FailedKept.{HaveFailed, failed_is_kept}
 use Rattle.fleet.proofs.Channels.{back, from-near, near-at, parts}
 use Rattle.fleet.proofs.Elsewhere.{IsElsewhere, IsLeft, turn-elsewhere}
 use Rattle.fleet.proofs.Keeping.{turn_keeps}
@@ -205,9 +206,9 @@ wired-elsewhere w v before rings wires n x y links left from to same old = recor
 -- the fleet, where the station at this place is another
 pub after-turn : (t : Network) (h g : History) (f new : FleetState) (n : NodeId) (place : ℕ) (after : StationState)
     (x : IsLookedAt t h f n (length (neighbours t n))) → slice_get (ids_of t) place ≡ Some n →
-    new.stations ≡ slice_set f.stations place after → new.seats ≡ f.seats → new.posts ≡ f.posts →
-    IsElsewhere t n h g → IsRunning t g → Stands t g n (came_from x.stands.wires n) after → StandsFor t new g
-after-turn t h g f new n place after x at stations seats posts is running stands = record {
+    new.stations ≡ slice_set f.stations place after → new.seats ≡ f.seats → KeepsRest f new →
+    (world_after t g).failed ≡ (world_after t h).failed → IsElsewhere t n h g → IsRunning t g → Stands t g n (came_from x.stands.wires n) after → StandsFor t new g
+after-turn t h g f new n place after x at stations seats rest groups is running stands = record {
   valid = x.stands.valid;
   running = running;
   going = stands.unstopped;
@@ -215,9 +216,11 @@ after-turn t h g f new n place after x at stations seats posts is running stands
   wires = wires;
   stations = record { count = count; each = each };
   wired = λ a b on. wired a b on (nat_eq a.0 n.0) refl (nat_eq b.0 n.0) refl;
-  posted = λ a. subst (λ k. length ((world_after t g).desks a.0) ≤ k) (sym posts)
+  posted = λ a. subst (λ k. length ((world_after t g).desks a.0) ≤ 256 * k) (sym rest.posts)
       (fewer a (nat_eq a.0 n.0) refl);
-  few = subst (λ k. k ≤ 2 ^ 32 - 1) (sym posts) x.stands.few;
+  few = subst (λ k. k ≤ 2 ^ 32 - 1) (sym rest.posts) x.stands.few;
+  network = rest.network ∙ x.stands.network;
+  failed = rest.failed ∙ x.stands.failed ∙ sym groups;
 }
   where
     wires : Wires
@@ -317,22 +320,24 @@ after-turn t h g f new n place after x at stations seats posts is running stands
     up_to : (a b c : ℕ) → a ≤ b → b ≤ c → a ≤ c
     up_to a b c p q = omega arith
 
-    fewer : (a : NodeId) (b : Bool) → nat_eq a.0 n.0 ≡ b → length ((world_after t g).desks a.0) ≤ f.posts
+    fewer : (a : NodeId) (b : Bool) → nat_eq a.0 n.0 ≡ b → length ((world_after t g).desks a.0) ≤ 256 * f.posts
     fewer a true e =
         let same : n ≡ a = sym (same_node a n e) in
-        subst (λ (k : NodeId). length ((world_after t g).desks k.0) ≤ f.posts) same
-        (up_to (length ((world_after t g).desks n.0)) (length ((world_after t h).desks n.0)) f.posts left.items
+        subst (λ (k : NodeId). length ((world_after t g).desks k.0) ≤ 256 * f.posts) same
+        (up_to (length ((world_after t g).desks n.0)) (length ((world_after t h).desks n.0)) (256 * f.posts) left.items
         (x.stands.posted n))
-    fewer a false e = subst (λ items. length items ≤ f.posts) (sym (left.desks a.0 e)) (x.stands.posted a)
+    fewer a false e = subst (λ items. length items ≤ 256 * f.posts) (sym (left.desks a.0 e)) (x.stands.posted a)
 
 -- The turn itself
 
 pub turned-stands : (t : Network) (h : History) (f new : FleetState) (n : NodeId) (place : ℕ) (after : StationState)
     (x : IsLookedAt t h f n (length (neighbours t n))) → slice_get (ids_of t) place ≡ Some n →
-    new.stations ≡ slice_set f.stations place after → new.seats ≡ f.seats → new.posts ≡ f.posts →
+    new.stations ≡ slice_set f.stations place after → new.seats ≡ f.seats → KeepsRest f new →
     Stands t (turn t true n h) n (came_from x.stands.wires n) after → StandsFor t new (turn t true n h)
-turned-stands t h f new n place after x at stations seats posts stands =
-    after-turn t h (turn t true n h) f new n place after x at stations seats posts
+turned-stands t h f new n place after x at stations seats rest stands =
+    after-turn t h (turn t true n h) f new n place after x at stations seats rest
+    (turn_keeps t (HaveFailed t (world_after t h).failed) true n (failed_is_kept t (world_after t h).failed n)
+    (known t place n at) h (record { groups = refl })).groups
     (turn-elsewhere t true n (known t place n at) h)
     (turn_keeps t (IsRunning t) true n (running_is_kept t n) (known t place n at) h x.stands.running) stands
 

@@ -12,7 +12,7 @@ use Rattle.station.specs.declared.turns.Turn.TheVariants.{AtLimit, Idle, Starved
 use Rattle.fleet.specs.declared.fleet.RoundFault.{RoundFault}
 use Rattle.fleet.specs.declared.fleet.RoundFault.TheVariants as fault
 use Rattle.fleet.specs.declared.seats.End.{End}
-use Rattle.fleet.specs.Standing.{FleetState, StandsFor, Wires, ids_of}
+use Rattle.fleet.specs.Standing.{FleetState, KeepsRest, StandsFor, Wires, ids_of}
 
 -- Both ends of a ring
 
@@ -83,7 +83,7 @@ pub record HasWorked (place : ℕ) (old new : FleetState) (end : Turn) : Type 0 
   pub there : slice_get old.stations place ≡ Some before
   pub stations : new.stations ≡ slice_set old.stations place after
   pub seats : new.seats ≡ old.seats
-  pub posts : new.posts ≡ old.posts
+  pub rest : KeepsRest old new
   pub turn : IsTurn before after true end
   pub few : (k : ℕ) → end ≡ Worked k → k ≤ 50000
 

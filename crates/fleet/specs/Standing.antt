@@ -1,7 +1,8 @@
 -- The stations of a fleet stand for a run of their network.
-use Rattle.std.specs.Prelude.{◌≡◌, ◌≤◌, ◌-◌, ◌^◌, ℕ, List, ◌++◌, length, map, Some, None, true, slice_get}
+use Rattle.std.specs.Prelude.{◌≡◌, ◌≤◌, ◌-◌, ◌*◌, ◌^◌, ℕ, List, ◌++◌, length, map, Some, None, true, slice_get}
 use Rattle.std.specs.List.{AllByRecursion}
 use Rattle.ason_base.specs.declared.ids.NodeId.{NodeId}
+use Rattle.ason_base.specs.declared.commands.Group.{Group}
 use Rattle.ason_base.specs.Network.{IsTopology, Network}
 use Rattle.world_core.specs.Runs.{is_channel}
 use Rattle.world_core.specs.Worlds.{World}
@@ -13,11 +14,20 @@ use Rattle.fleet.specs.declared.seats.End.{End}
 use Rattle.fleet.specs.declared.seats.Seat.{Seat}
 use Rattle.fleet.specs.Running.{IsRunning}
 
--- the nodes' seats, their stations in the same order, and how many commands were put on a desk
+-- the nodes' seats, their stations in the same order, how many commands were posted, the network, and the groups that
+-- have failed
 pub record FleetState : Type 0 where
   pub seats : List Seat
   pub stations : List StationState
   pub posts : ℕ
+  pub network : Network
+  pub failed : List Group
+
+-- what is beside seats and stations stays
+pub record KeepsRest (old new : FleetState) : Type 0 where
+  pub posts : new.posts ≡ old.posts
+  pub network : new.network ≡ old.network
+  pub failed : new.failed ≡ old.failed
 
 -- Seats
 
@@ -81,6 +91,8 @@ pub record StandsFor (t : Network) (f : FleetState) (h : History) : Type 0 where
   pub wires : Wires
   pub stations : AreStations t (world_after t h) wires f.stations
   pub wired : (u d : NodeId) → is_channel t u d ≡ true → IsWired (world_after t h) h.waiting wires u d
-  -- each item was posted
-  pub posted : (n : NodeId) → length ((world_after t h).desks n.0) ≤ f.posts
+  -- a post puts at most an item for each link on a desk
+  pub posted : (n : NodeId) → length ((world_after t h).desks n.0) ≤ 256 * f.posts
   pub few : f.posts ≤ 2 ^ 32 - 1
+  pub network : f.network ≡ t
+  pub failed : f.failed ≡ (world_after t h).failed

@@ -10,15 +10,18 @@ ghost use Rattle.fleet.specs.declared.seats.Seat.{Seat};
 ghost use Rattle.fleet.specs.declared.fleet.RoundFault.{RoundFault};
 ghost use Rattle.fleet.specs.Looks.{HasWorked, IsCountedAt, IsCutAt, LooksAround, LooksOver, TurnsAt, answer_of};
 ghost use Rattle.fleet.specs.NewFleets.{AreNew};
-ghost use Rattle.fleet.specs.Posts.{IsOrdered, Orders, Posts, is_seat};
+ghost use Rattle.fleet.specs.Posts.{AreTold, Changes, HasRoomed, HaveRoom, IsAsBefore, IsOrdered, IsToldAt, Orders, Posts, is_seat};
 ghost use Rattle.fleet.specs.Rounds.{is_quiet, items_waiting, round, rows_waiting, unacked_waiting};
-ghost use Rattle.fleet.specs.Standing.{StandsFor};
+ghost use Rattle.fleet.specs.Standing.{KeepsRest, StandsFor};
+ghost use Rattle.station.specs.Standing.{StationState};
 
 use crate::looks::look;
 use crate::posts::ingress;
 use crate::seats::{Seat, new_seats};
+use crate::telling::tell;
 use crate::waiting::{are_quiet, items_of, rows_due_of, rows_of, unacked_of};
-use ason_base::{Command, Copied, DeskItem, NodeId, OutOfMemory, TableRows, Topology};
+use ason_base::{Command, Copied, DeskItem, Group, NodeId, OutOfMemory, TableRows, Topology};
+use mesh_rules::failures::failed_after;
 use station::{Station, Turn};
 use std::alloc::Global;
 use std::marker::Model;
@@ -43,13 +46,15 @@ pub struct FleetPending {
     pub flood: usize,
 }
 
-/// The stations of a network in order of node number, each with the far ends of its links.
+/// The stations of a network in order of node number, each with the far ends of its links, and the groups that have failed.
 #[derive(Drop)]
 pub struct Fleet {
     alloc: Global,
     seats: Vec<Seat>,
     stations: Vec<Station>,
     posts: u32,
+    network: Topology,
+    failed: Vec<Group>,
 }
 
 impl Model for Fleet {
@@ -58,7 +63,13 @@ impl Model for Fleet {
 
     ghost Value = { FleetState };
 
-    ghost view = { λ f. record { seats = f.seats.items; stations = f.stations.items; posts = f.posts } };
+    ghost view = { λ f. record {
+      seats = f.seats.items;
+      stations = f.stations.items;
+      posts = f.posts;
+      network = f.network;
+      failed = f.failed.items;
+    } };
 
     ghost invariant = { λ f. AreConnected f.seats.items f.stations.items };
 }
@@ -87,7 +98,7 @@ fn answer_of(end: Turn, node: NodeId) -> Result<u64, RoundFault>
 }
 
 impl Fleet {
-    /// The fleet of a network, in which nothing was made.
+    /// The fleet of a network, in which nothing was made and nothing has failed.
     pub fn new(alloc: Global, t: &Topology) -> Result<Fleet, OutOfMemory>
         ensures { IfOk result (λ f. StandsFor t.now f new_history) }
     {
@@ -99,6 +110,8 @@ impl Fleet {
             seats,
             stations,
             posts: 0,
+            network: t.copy(alloc)?,
+            failed: Vec::new(alloc),
         })
     }
 
@@ -233,14 +246,86 @@ impl Fleet {
         }
     }
 
-    /// A command of a call goes to the desk of its ingress; one of a group goes to none. Where it is refused, each desk is as it
-    /// was. At most 2^32 - 1 commands go to desks.
+    // Makes room on the desk at this place for so many items more.
+    fn make_room_at(&mut self, place: usize, items: usize) -> Result<(), OutOfMemory>
+        requires { place < length self.old.stations }
+        ensures room { OnOk result ((s : StationState) →
+            slice_get self.new.stations place ≡ Some s → items ≤ s.spare) }
+        ensures same { HasRoomed place self.old self.new }
+        ensures count { length self.new.stations ≡ length self.old.stations }
+    {
+        self.stations[place].make_room(items)
+    }
+
+    // Makes room on each desk for so many items more.
+    fn make_room(&mut self, items: usize) -> Result<(), OutOfMemory>
+        ensures room { OnOk result (HaveRoom items (length self.new.stations) self.new) }
+        ensures same { IsAsBefore self.old self.new }
+        ensures seats { self.new.seats ≡ self.old.seats }
+        ensures rest { KeepsRest self.old self.new }
+    {
+        let count = self.count();
+        for place in 0..count {
+            self.make_room_at(place, items)?;
+        }
+        Ok(())
+    }
+
+    // The node at this place is told what has changed, where these groups have failed. There is room on its desk.
+    fn tell_at(&mut self, place: usize, failed: &[Group])
+        requires within { place < length self.old.stations }
+        requires room { (s : StationState) → slice_get self.old.stations place ≡ Some s →
+            length self.old.network.links ≤ s.spare }
+        ensures { IsToldAt place failed.now self.old self.new }
+    {
+        let node = self.node(place);
+        tell(
+            &mut self.stations[place],
+            &self.network,
+            &self.failed,
+            failed,
+            node,
+        );
+    }
+
+    // Each node is told what has changed, where these groups have failed. There is room on each desk.
+    fn tell_all(&mut self, failed: &[Group])
+        requires { HaveRoom (length self.old.network.links) (length self.old.stations) self.old }
+        ensures { AreTold (length self.old.stations) failed.now self.old self.new }
+    {
+        let count = self.count();
+        for place in 0..count {
+            self.tell_at(place, failed);
+        }
+    }
+
+    // The command's group fails or is repaired, and each node is told what has changed.
+    fn change(&mut self, command: &Command) -> Result<(), OutOfMemory>
+        ensures on { OnOk result (Changes command.now self.old self.new) }
+        ensures few { self.new.posts ≤ 2 ^ 32 - 1 }
+        ensures err { OnErr result (IsAsBefore self.old self.new) }
+    {
+        if self.posts == u32::MAX {
+            return Err(OutOfMemory);
+        }
+        let failed = failed_after(self.alloc, &self.failed, command)?;
+        let links = self.network.links().len();
+        self.make_room(links)?;
+        self.tell_all(&failed);
+        self.failed = failed;
+        self.posts += 1;
+        Ok(())
+    }
+
+    /// A command of a call goes to the desk of its ingress. Where a group fails or is repaired, each node finds on its desk which
+    /// fibres that come in there went down or are up again. Where it is refused, each desk is as it was. At most 2^32 - 1
+    /// commands are posted.
     pub fn post(&mut self, command: &Command) -> Result<(), OutOfMemory>
         ensures on { OnOk result (Posts command.now self.old self.new) }
-        ensures err { OnErr result (self.new ≡ self.old) }
+        ensures err { OnErr result (IsAsBefore self.old self.new) }
     {
         match ingress(command) {
-            None => Ok(()),
+            None => self.change(command),
             Some(node) => self.order(node, command),
         }
     }

@@ -6,6 +6,7 @@ pub mod laws;
 pub mod looks;
 pub mod posts;
 pub mod seats;
+pub mod telling;
 pub mod waiting;
 
 pub use fleet::{Fleet, FleetPending, RoundFault};

@@ -75,7 +75,7 @@ impl Desk {
 
     /// Takes the first item.
     pub(crate) fn pop(&mut self) -> Option<DeskItem>
-        ensures { MatchOption result ((self.old.items ≡ []) × (self.new.items ≡ []))
+        ensures { MatchOption result ((self.old.items ≡ []) × (self.new ≡ self.old))
             (λ i. self.old.items ≡ i ∷ self.new.items) }
     {
         self.items.pop_front()

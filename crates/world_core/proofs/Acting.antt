@@ -87,7 +87,7 @@ failed_kept t w d u (Some (Message p)) = go (handed_up w d u p)
     go (m ∷ ms) = refl
 failed_kept t w d u (Some (Flood m)) = refl
 
-failed-left : (t : Network) (w : World) (e : Event) (n : ℕ) → is_event_of n e ≡ true → (step t w e).failed ≡ w.failed
+pub failed-left : (t : Network) (w : World) (e : Event) (n : ℕ) → is_event_of n e ≡ true → (step t w e).failed ≡ w.failed
 failed-left t w (world.Deliver d u k) n of = failed_kept t (with_event w d.0) d u (frame_at w u d k)
 failed-left t w (world.Noise d u bytes) n of = refl
 failed-left t w (world.Tick d) n of = refl

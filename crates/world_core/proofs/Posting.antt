@@ -42,7 +42,7 @@ desks-posted t w (Revert n from) m = refl
 desks-posted t w (Fail g) m = refl
 desks-posted t w (Repair g) m = refl
 
-failed-posted : (t : Network) (w : World) (c : Command) → (posted t w c).failed ≡ failed_after c w.failed
+pub failed-posted : (t : Network) (w : World) (c : Command) → (posted t w c).failed ≡ failed_after c w.failed
 failed-posted t w (Setup n from to protected both via backup) = refl
 failed-posted t w (Release n from) = refl
 failed-posted t w (Protect n from) = refl

@@ -71,7 +71,11 @@ returns-clause-looks c =
     slice_get_read seat.ends.items (length seat.ends.items) c.args.link e refl
     (c.requires.link seat seated) c.index-end.ensures in
     looks-over c.args.place c.args.link f _ seat e seated ended (ap (λ (x : FleetState). x.seats) c.self.view_is)
-    (ap (λ (x : FleetState). x.posts) c.self.view_is)
+    (record {
+      posts = ap (λ (x : FleetState). x.posts) c.self.view_is;
+      network = ap (λ (x : FleetState). x.network) c.self.view_is;
+      failed = ap (λ (x : FleetState). x.failed) c.self.view_is;
+    })
     (λ j. sym (whole c.look.new.stations c.self.inside.stations.items c.self.inside.stations.len
     (c.look.auto.stations ∙ c.deref_mut.ensures.len))
     ∙ subst (λ (xs : List StationState). (k : AreJoined xs c.args.place c.args.link e) → c.look.new.stations

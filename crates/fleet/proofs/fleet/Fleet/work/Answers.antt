@@ -16,7 +16,11 @@ returns c = record {
       c.index_mut.ensures.value;
   stations = ap (λ (x : FleetState). slice_set x.stations c.args.place c.turn.new.self) c.self.view_is;
   seats = ap (λ (x : FleetState). x.seats) c.self.view_is;
-  posts = ap (λ (x : FleetState). x.posts) c.self.view_is;
+  rest = record {
+    posts = ap (λ (x : FleetState). x.posts) c.self.view_is;
+    network = ap (λ (x : FleetState). x.network) c.self.view_is;
+    failed = ap (λ (x : FleetState). x.failed) c.self.view_is;
+  };
   turn = c.turn.ensures.turn;
   few = c.turn.ensures.few;
 }

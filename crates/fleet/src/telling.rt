@@ -1,0 +1,49 @@
+//! What a station is told where groups fail or are repaired.
+
+ghost use Rattle.std.specs.Prelude.{◌≡◌, ◌==◌, ◌≤◌, ◌+◌, false, length};
+ghost use Rattle.mesh_rules.specs.Failures.{all_news, changed_news};
+ghost use Rattle.fleet.specs.Posts.{IsTold};
+
+use ason_base::{Group, LinkSpec, NodeId, Topology};
+use mesh_rules::failures::news_of;
+use station::Station;
+
+// Puts what the node is told of the link on the desk of its station. There is room for it.
+fn tell_of(
+    station: &mut Station,
+    before: &[Group],
+    after: &[Group],
+    node: NodeId,
+    link: &LinkSpec,
+)
+    requires apart { (link.now.low.0 == link.now.high.0) ≡ false }
+    requires room { 1 ≤ station.old.spare }
+    ensures told { IsTold (changed_news before.now after.now node.0 link.now)
+        station.old station.new }
+    ensures room { station.old.spare ≤ station.new.spare + 1 }
+{
+    match news_of(before, after, node, link) {
+        None => {}
+        Some(item) => match station.order(item) {
+            Ok(()) => {}
+            Err(_) => unreachable!(),
+        },
+    }
+}
+
+/// Puts what the node is told of each link on the desk of its station, where other groups have failed than before. There is room
+/// for it.
+pub(crate) fn tell(
+    station: &mut Station,
+    t: &Topology,
+    before: &[Group],
+    after: &[Group],
+    node: NodeId,
+)
+    requires { length t.now.links ≤ station.old.spare }
+    ensures { IsTold (all_news t.now before.now after.now node.0) station.old station.new }
+{
+    for link in t.links() {
+        tell_of(station, before, after, node, link);
+    }
+}
