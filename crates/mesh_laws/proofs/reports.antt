@@ -1,3 +1,4 @@
+pub mod AlarmSteps
 pub mod Alarmed
 pub mod Desks
 pub mod Gentle

@@ -116,7 +116,7 @@ notices-append : (a b : List Out) → SendsNotices a → SendsNotices b → Send
 notices-append [] b h k = k
 notices-append (o ∷ a) b h k = (h.0, notices-append a b h.1 k)
 
-all_notices : (p : LocalNode) (f : Fibre) (code : ErrCode) (legs : List Leg) → SendsNotices (notices p f code legs)
+pub all_notices : (p : LocalNode) (f : Fibre) (code : ErrCode) (legs : List Leg) → SendsNotices (notices p f code legs)
 all_notices p f code [] = tt
 all_notices p f code (g ∷ legs) =
     notices-append (notice_of p f code g) (notices p f code legs)

@@ -65,7 +65,7 @@ module _ (p : LocalNode) (f : Fibre) (code : ErrCode) (down : Bool) (tells : rep
   other-notice g apart =
       if_cases (λ outs. Told outs ≡ []) (is_hit f g) _ _ (λ e. other-silent g apart (previous g)) (λ e. refl)
 
-  none-told : (legs : List Leg) → find_leg l legs ≡ None → Told (notices p f code legs) ≡ []
+  pub none-told : (legs : List Leg) → find_leg l legs ≡ None → Told (notices p f code legs) ≡ []
   none-told [] none = refl
   none-told (g ∷ legs) none = go (same_lsp g.lsp l) refl none (none-told legs)
     where

@@ -60,14 +60,14 @@ taken_first line line' (suc i) xs first others =
 
 -- a place sends something of its own
 pub sent_last : (line line' : ℕ → List Bool) (i : ℕ) (xs : List Bool) → line' i ≡ line i ++ xs →
-    ((k : ℕ) → k ≢ i → line' k ≡ line k) → on_the_way line' (suc i) ≡ on_the_way line (suc i) ++ xs
+    ((k : ℕ) → k ≢ i → k < suc i → line' k ≡ line k) → on_the_way line' (suc i) ≡ on_the_way line (suc i) ++ xs
 sent_last line line' i xs here others =
     let below : on_the_way line' i ≡ on_the_way line i =
-    same_lines line line' i (λ k less. others k (omega arith)) in
+    same_lines line line' i (λ k less. others k (omega arith) (omega arith)) in
     rw (below, here) (sym (append_assoc (on_the_way line i) (line i) xs))
 
 -- so what a place tells of its own fibre is what is known in the end
 pub sent_told : (line line' : ℕ → List Bool) (i : ℕ) (known down : Bool) → line' i ≡ line i ++ down ∷ [] →
-    ((k : ℕ) → k ≢ i → line' k ≡ line k) → told known (on_the_way line' (suc i)) ≡ down
+    ((k : ℕ) → k ≢ i → k < suc i → line' k ≡ line k) → told known (on_the_way line' (suc i)) ≡ down
 sent_told line line' i known down here others =
     rw (sent_last line line' i (down ∷ []) here others) (told-last known down (on_the_way line (suc i)))
