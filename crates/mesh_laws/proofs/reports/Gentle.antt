@@ -82,21 +82,30 @@ pub record RouteTold (t : Network) (s : Mesh) (l : Lsp) (p : Plan) : Type 0 wher
 
 -- Gentle steps
 
-pub record Gentle (s s' : Mesh) (l : Lsp) : Type 0 where
+-- the legs that stand stood before, none comes anew, and no Path but such as activate is sent
+pub record Still (s s' : Mesh) (l : Lsp) : Type 0 where
   pub stands : (n : NodeId) → is_standing (leg_at s' l n) ≡ true → is_standing (leg_at s l n) ≡ true
   pub gone : (n : NodeId) → leg_at s l n ≡ None → leg_at s' l n ≡ None
-  pub notices : (a b : NodeId) → notices_between s' l a b ≡ notices_between s l a b
   pub plain : (a b : NodeId) → has_plain (mail_between s' l a b) ≡ true → has_plain (mail_between s l a b) ≡ true
   pub down : (n : ℕ) → (s'.nodes n).down ≡ (s.nodes n).down
+
+pub still-then : (s s' s'' : Mesh) (l : Lsp) → Still s s' l → Still s' s'' l → Still s s'' l
+still-then s s' s'' l a b = record {
+  stands = λ n h. a.stands n (b.stands n h);
+  gone = λ n h. b.gone n (a.gone n h);
+  plain = λ x y h. a.plain x y (b.plain x y h);
+  down = λ n. b.down n ∙ a.down n;
+}
+
+pub record Gentle (s s' : Mesh) (l : Lsp) : Type 0 where
+  pub still : Still s s' l
+  pub notices : (a b : NodeId) → notices_between s' l a b ≡ notices_between s l a b
   pub calls : (c : CallRec) → CallOf s' l c → (d : CallRec) × CallOf s l d × (reports_of l c ≡ reports_of l d)
 
 pub gentle-then : (s s' s'' : Mesh) (l : Lsp) → Gentle s s' l → Gentle s' s'' l → Gentle s s'' l
 gentle-then s s' s'' l a b = record {
-  stands = λ n h. a.stands n (b.stands n h);
-  gone = λ n h. b.gone n (a.gone n h);
+  still = still-then s s' s'' l a.still b.still;
   notices = λ x y. b.notices x y ∙ a.notices x y;
-  plain = λ x y h. a.plain x y (b.plain x y h);
-  down = λ n. b.down n ∙ a.down n;
   calls = λ c of. (
     let second = b.calls c of in
     let first = a.calls second.0 second.1 in
@@ -121,12 +130,12 @@ module _ (t : Network) (s s' : Mesh) (l : Lsp) (p : Plan) (g : Gentle s s' l) wh
       (on_the_way (line_at (notices_between s' l) p i) (suc i))) was.2
       ∙ ap (λ (ns : NodeId → NodeId → List Msg). told (has_fibre (reports_of l was.0) (fibre_at t p i))
       (on_the_way (line_at ns p i) (suc i))) (sym same)
-      ∙ r.tells i small (λ j most. g.stands (node_at p j) (stands j most)) was.0 was.1
-      ∙ ap (λ fibres. has_fibre fibres (fibre_at t p i)) (sym (g.down (node_at p (suc i)).0)));
+      ∙ r.tells i small (λ j most. g.still.stands (node_at p j) (stands j most)) was.0 was.1
+      ∙ ap (λ fibres. has_fibre fibres (fibre_at t p i)) (sym (g.still.down (node_at p (suc i)).0)));
     first = λ i small plain. (
-      let was = r.first i small (g.plain (node_at p i) (node_at p (suc i)) plain) in
+      let was = r.first i small (g.still.plain (node_at p i) (node_at p (suc i)) plain) in
       record {
-        gone = λ j after below. g.gone (node_at p (suc j)) (was.gone j after below);
+        gone = λ j after below. g.still.gone (node_at p (suc j)) (was.gone j after below);
         untold = λ j after below. untold-stays j (was.untold j after below);
       });
   }
@@ -186,7 +195,8 @@ no-plain l d (o ∷ outs) mild =
     go true false false e f more = rw (e, f) more
     go true false true e f more = rw (e, f, (mild.0 f).1) more
 
-module _ (s : Mesh) (n : NodeId) (l : Lsp) (a : Answer) (g : IsGentle (s.nodes n.0) l a) where
+module _ (s : Mesh) (n : NodeId) (l : Lsp) (a : Answer) (keeps : LegKeeps l (leg_at s l n) a.legs)
+    (mild : AllMild l a.sent) (none : a.down ≡ None) where
   at_node : (P : Option Leg → Type 0) (m : NodeId) →
       (nat_eq m.0 n.0 ≡ true → P (leg_after l a.legs (leg_at s l n))) →
       (nat_eq m.0 n.0 ≡ false → P (leg_at s l m)) → P (leg_at (commit s n.0 a) l m)
@@ -205,19 +215,19 @@ module _ (s : Mesh) (n : NodeId) (l : Lsp) (a : Answer) (g : IsGentle (s.nodes n
       is_standing (leg_at s l m) ≡ true
   stands-after m =
       at_node (λ o. is_standing o ≡ true → is_standing (leg_at s l m) ≡ true) m
-      (λ e h. subst (λ o. is_standing o ≡ true) (sym (same-at m e)) (g.legs.stands h)) (λ e h. h)
+      (λ e h. subst (λ o. is_standing o ≡ true) (sym (same-at m e)) (keeps.stands h)) (λ e h. h)
 
   gone-after : (m : NodeId) → leg_at s l m ≡ None → leg_at (commit s n.0 a) l m ≡ None
-  gone-after m none =
-      at_node (λ o. o ≡ None) m (λ e. g.legs.gone (sym (same-at m e) ∙ none)) (λ e. none)
+  gone-after m gone =
+      at_node (λ o. o ≡ None) m (λ e. keeps.gone (sym (same-at m e) ∙ gone)) (λ e. gone)
 
-  notices-after : (x b : NodeId) → notices_between (commit s n.0 a) l x b ≡ notices_between s l x b
+  pub notices-after : (x b : NodeId) → notices_between (commit s n.0 a) l x b ≡ notices_between s l x b
   notices-after x b =
       elim (nat_eq x.0 n.0) as
       (λ t. notices_of l (cond t (s.mail x.0 b.0 ++ sent_to b.0 a.sent) (s.mail x.0 b.0)) ≡ notices_between s l x b) [
         | true ↦
             filter-append _ (s.mail x.0 b.0) (sent_to b.0 a.sent) ∙
-            rw (no-notices l b.0 a.sent g.sent, append-nil) refl
+            rw (no-notices l b.0 a.sent mild, append-nil) refl
         | false ↦ refl
       ]
 
@@ -231,9 +241,18 @@ module _ (s : Mesh) (n : NodeId) (l : Lsp) (a : Answer) (g : IsGentle (s.nodes n
       go true h =
           sym (ap has_plain (filter-append _ (s.mail x.0 b.0) (sent_to b.0 a.sent))
           ∙ list_any-append is_plain (mail_between s l x b) (messages_of l (sent_to b.0 a.sent))
-          ∙ ap (λ z. has_plain (mail_between s l x b) || z) (no-plain l b.0 a.sent g.sent)
+          ∙ ap (λ z. has_plain (mail_between s l x b) || z) (no-plain l b.0 a.sent mild)
           ∙ or-false (has_plain (mail_between s l x b))) ∙ h
 
+  pub commit-still : Still s (commit s n.0 a) l
+  commit-still = record {
+    stands = stands-after;
+    gone = gone-after;
+    plain = plain-after;
+    down = same-down s n.0 a none;
+  }
+
+module _ (s : Mesh) (n : NodeId) (l : Lsp) (a : Answer) (g : IsGentle (s.nodes n.0) l a) where
   calls-after : (c : CallRec) → CallOf (commit s n.0 a) l c →
       (d : CallRec) × CallOf s l d × (reports_of l c ≡ reports_of l d)
   calls-after c of = go (nat_eq l.ingress.0 n.0) refl of.found
@@ -258,25 +277,16 @@ module _ (s : Mesh) (n : NodeId) (l : Lsp) (a : Answer) (g : IsGentle (s.nodes n
 
   pub commit-gentle : Gentle s (commit s n.0 a) l
   commit-gentle = record {
-    stands = stands-after;
-    gone = gone-after;
-    notices = notices-after;
-    plain = plain-after;
-    down = same-down s n.0 a g.down;
+    still = commit-still s n l a g.legs g.sent g.down;
+    notices = notices-after s n l a g.legs g.sent g.down;
     calls = calls-after;
   }
 
--- to take a message that is no Notify of the LSP
-pub taken-gentle : (s : Mesh) (u d : NodeId) (l : Lsp) (m : Msg) (rest : List Msg) → s.mail u.0 d.0 ≡ m ∷ rest →
-    is_notice_of l m ≡ false → Gentle s (without_first s u.0 d.0) l
-taken-gentle s u d l m rest was apart = record {
-  stands = λ n h. h;
-  gone = λ n h. h;
-  notices = λ a b. notices-without s u d a b m rest l was apart;
-  plain = λ a b. fewer a b;
-  down = λ n. refl;
-  calls = λ c of. (c, record { found = of.found; named = of.named }, refl);
-}
+-- to take a message
+pub taken-still : (s : Mesh) (u d : NodeId) (l : Lsp) (m : Msg) (rest : List Msg) → s.mail u.0 d.0 ≡ m ∷ rest →
+    Still s (without_first s u.0 d.0) l
+taken-still s u d l m rest was =
+    record { stands = λ n h. h; gone = λ n h. h; plain = λ a b. fewer a b; down = λ n. refl }
   where
     later : (b : Bool) (m : Msg) → has_plain (messages_of l rest) ≡ true →
         has_plain (cond b (m ∷ messages_of l rest) (messages_of l rest)) ≡ true
@@ -303,3 +313,12 @@ taken-gentle s u d l m rest was apart = record {
             dropped (s.mail a.0 b.0) (rw (p, q) was) h
         go true false e f h = h
         go false y e f h = h
+
+-- .. that is no Notify of the LSP
+pub taken-gentle : (s : Mesh) (u d : NodeId) (l : Lsp) (m : Msg) (rest : List Msg) → s.mail u.0 d.0 ≡ m ∷ rest →
+    is_notice_of l m ≡ false → Gentle s (without_first s u.0 d.0) l
+taken-gentle s u d l m rest was apart = record {
+  still = taken-still s u d l m rest was;
+  notices = λ a b. notices-without s u d a b m rest l was apart;
+  calls = λ c of. (c, record { found = of.found; named = of.named }, refl);
+}
