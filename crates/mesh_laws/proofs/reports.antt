@@ -7,5 +7,7 @@ pub mod GentleRules
 pub mod GentleSteps
 pub mod KnownFibres
 pub mod LinkNews
+pub mod NoticeSteps
 pub mod OnTheWay
 pub mod OwnLinks
+pub mod Reported

@@ -1,5 +1,5 @@
 -- Notifies on their way to the ingress, as one list: those nearest to the ingress first.
-use Rattle.std.proofs.Common.{◌≡◌, ◌≢◌, ◌<◌, ℕ, zero, suc, Bool, List, [], ◌∷◌, ◌++◌, refl, sym, ap, ◌∙◌, arith, inl, inr}
+use Rattle.std.proofs.Common.{◌≡◌, ◌≢◌, ◌<◌, ◌≤◌, ℕ, zero, suc, Bool, List, [], ◌∷◌, ◌++◌, refl, sym, ap, ◌∙◌, arith, inl, inr}
 use Rattle.std.specs.Prelude.{◌⊎◌}
 use Rattle.std.proofs.lemmas.List.{append_assoc}
 use Rattle.mesh_laws.specs.ReportLaw.{on_the_way, told}
@@ -21,20 +21,21 @@ same_lines line line' (suc i) same =
     rw (same i (omega arith), same_lines line line' i (λ j small. same j (omega arith))) refl
 
 -- a place passes what is first in the line beyond it on to the end of its own line
-pub record Passed (line line' : ℕ → List Bool) (j : ℕ) (xs : List Bool) : Type 0 where
+pub record Passed (line line' : ℕ → List Bool) (j n : ℕ) (xs : List Bool) : Type 0 where
   pub beyond : line (suc j) ≡ xs ++ line' (suc j)
   pub nearer : line' j ≡ line j ++ xs
-  pub others : (k : ℕ) → k ≢ j → k ≢ suc j → line' k ≡ line k
+  pub others : (k : ℕ) → k ≢ j → k ≢ suc j → k < n → line' k ≡ line k
 
-pub passed_on : (line line' : ℕ → List Bool) (j i : ℕ) (xs : List Bool) → Passed line line' j xs → suc j < i →
-    on_the_way line' i ≡ on_the_way line i
-passed_on line line' j zero xs passed small = refl
-passed_on line line' j (suc i) xs passed small = go (is_or_not i (suc j)) (passed_on line line' j i xs passed)
+pub passed_on : (line line' : ℕ → List Bool) (j n i : ℕ) (xs : List Bool) → Passed line line' j n xs → suc j < i →
+    i ≤ n → on_the_way line' i ≡ on_the_way line i
+passed_on line line' j n zero xs passed small most = refl
+passed_on line line' j n (suc i) xs passed small most =
+    go (is_or_not i (suc j)) (λ less. passed_on line line' j n i xs passed less (omega arith))
   where
     here : (i : ℕ) → i ≡ suc j → on_the_way line' (suc i) ≡ on_the_way line (suc i)
     here i e =
         let below : on_the_way line' j ≡ on_the_way line j =
-        same_lines line line' j (λ k less. passed.others k (omega arith) (omega arith)) in
+        same_lines line line' j (λ k less. passed.others k (omega arith) (omega arith) (omega arith)) in
         let new : on_the_way line' (suc (suc j)) ≡ (on_the_way line j ++ (line j ++ xs)) ++ line' (suc j) =
         rw (below, passed.nearer) refl in
         let old : on_the_way line (suc (suc j)) ≡ (on_the_way line j ++ line j) ++ (xs ++ line' (suc j)) =
@@ -48,15 +49,15 @@ passed_on line line' j (suc i) xs passed small = go (is_or_not i (suc j)) (passe
     go : (i ≡ suc j) ⊎ (i ≢ suc j) → (suc j < i → on_the_way line' i ≡ on_the_way line i) →
         on_the_way line' (suc i) ≡ on_the_way line (suc i)
     go (inl e) further = here i e
-    go (inr ne) further = rw (passed.others i (omega arith) ne, further (omega arith)) refl
+    go (inr ne) further = rw (passed.others i (omega arith) ne (omega arith), further (omega arith)) refl
 
 -- the ingress takes what is first in the first line
 pub taken_first : (line line' : ℕ → List Bool) (i : ℕ) (xs : List Bool) → line 0 ≡ xs ++ line' 0 →
-    ((k : ℕ) → k ≢ 0 → line' k ≡ line k) → on_the_way line (suc i) ≡ xs ++ on_the_way line' (suc i)
+    ((k : ℕ) → k ≢ 0 → k ≤ i → line' k ≡ line k) → on_the_way line (suc i) ≡ xs ++ on_the_way line' (suc i)
 taken_first line line' zero xs first others = first
 taken_first line line' (suc i) xs first others =
-    rw (taken_first line line' i xs first others, others (suc i) (omega arith))
-    (append_assoc xs (on_the_way line' (suc i)) (line (suc i)))
+    rw (taken_first line line' i xs first (λ k apart less. others k apart (omega arith)),
+    others (suc i) (omega arith) (omega arith)) (append_assoc xs (on_the_way line' (suc i)) (line (suc i)))
 
 -- a place sends something of its own
 pub sent_last : (line line' : ℕ → List Bool) (i : ℕ) (xs : List Bool) → line' i ≡ line i ++ xs →
