@@ -122,14 +122,16 @@ module _ (t after : LegTable) (c : CallTable) (u : NodeId) (fits : IngressFits t
       (b : LegTable) × WereBefore after c u m b
   before-resv (Path l e k route set up r) applies is = absurd (cc applies)
   before-resv (Resv l e k x) applies is =
-      let a = arrival l e u k in
-      (t, record {
-        leg = record {
-          applies = connects-taken a x (find_leg l t.legs) applies;
-          after = is ∙ ap (legs_after t) (connects-rule a x (find_leg l t.legs) applies);
-        };
-        fits = fits;
-      })
+      let a = arrival l e u k in (
+        t,
+        record {
+          leg = record {
+            applies = connects-taken a x (find_leg l t.legs) applies;
+            after = is ∙ ap (legs_after t) (connects-rule a x (find_leg l t.legs) applies);
+          };
+          fits = fits;
+        },
+      )
   before-resv (PathTear l e k) applies is = absurd (cc applies)
   before-resv (PathErr l e at gone code) applies is = absurd (cc applies)
   before-resv (Notify l e at k code) applies is = absurd (cc applies)
@@ -153,14 +155,16 @@ module _ (t after : LegTable) (c : CallTable) (u : NodeId) (fits : IngressFits t
       (b : LegTable) × WereBefore after c u m b
   before-confirmation (Path l e k route set up r) applies is = absurd (cc applies)
   before-confirmation (Resv l e k x) applies is =
-      let a = arrival l e u k in
-      (t, record {
-        leg = record {
-          applies = carries-taken a x (find_leg l t.legs) applies;
-          after = is ∙ ap (legs_after t) (carries-rule a x (find_leg l t.legs) applies);
-        };
-        fits = fits;
-      })
+      let a = arrival l e u k in (
+        t,
+        record {
+          leg = record {
+            applies = carries-taken a x (find_leg l t.legs) applies;
+            after = is ∙ ap (legs_after t) (carries-rule a x (find_leg l t.legs) applies);
+          };
+          fits = fits;
+        },
+      )
   before-confirmation (PathTear l e k) applies is = absurd (cc applies)
   before-confirmation (PathErr l e at gone code) applies is = absurd (cc applies)
   before-confirmation (Notify l e at k code) applies is = absurd (cc applies)
@@ -190,14 +194,16 @@ module _ (t after : LegTable) (c : CallTable) (u : NodeId) (fits : IngressFits t
       after ≡ after_path_err t u (PathErr l e at true code) →
       (b : LegTable) × WereBefore after c u (PathErr l e at true code) b
   before-error l e at code applies is =
-      let f : PathFailure = record { lsp = l; msg = PathErr l e at true code; removed = true; code = code } in
-      (t, record {
-        leg = record {
-          applies = refuses-taken f (find_leg l t.legs) refl applies;
-          after = is ∙ ap (legs_after t) (refuses-rule f (find_leg l t.legs) refl applies);
-        };
-        fits = fits;
-      })
+      let f : PathFailure = record { lsp = l; msg = PathErr l e at true code; removed = true; code = code } in (
+        t,
+        record {
+          leg = record {
+            applies = refuses-taken f (find_leg l t.legs) refl applies;
+            after = is ∙ ap (legs_after t) (refuses-rule f (find_leg l t.legs) refl applies);
+          };
+          fits = fits;
+        },
+      )
 
   contends-taken : (o : Option Leg) → contends_leg u o ≡ true → takes_err u false o ≡ true
   contends-taken None e = absurd (cc e)
@@ -218,14 +224,16 @@ module _ (t after : LegTable) (c : CallTable) (u : NodeId) (fits : IngressFits t
       contends t u (PathErr l e at false code) ≡ true → after ≡ after_busy t u (PathErr l e at false code) →
       (b : LegTable) × WereBefore after c u (PathErr l e at false code) b
   before-contention l e at code applies is =
-      let f : PathFailure = record { lsp = l; msg = PathErr l e at false code; removed = false; code = code } in
-      (t, record {
-        leg = record {
-          applies = contends-taken (find_leg l t.legs) applies;
-          after = is ∙ ap (legs_after t) (contends-rule f (find_leg l t.legs) refl);
-        };
-        fits = fits;
-      })
+      let f : PathFailure = record { lsp = l; msg = PathErr l e at false code; removed = false; code = code } in (
+        t,
+        record {
+          leg = record {
+            applies = contends-taken (find_leg l t.legs) applies;
+            after = is ∙ ap (legs_after t) (contends-rule f (find_leg l t.legs) refl);
+          };
+          fits = fits;
+        },
+      )
 
   -- Notifies
 
@@ -246,8 +254,10 @@ before-notify t c u (Path l e k route set up r) fits applies = absurd (cc applie
 before-notify t c u (Resv l e k x) fits applies = absurd (cc applies)
 before-notify t c u (PathTear l e k) fits applies = absurd (cc applies)
 before-notify t c u (PathErr l e at gone code) fits applies = absurd (cc applies)
-before-notify t c u (Notify l e at k code) fits applies =
-    (t, record {
-      leg = record { applies = reports-taken t t c u fits code (find_leg l t.legs) applies; after = refl };
-      fits = fits;
-    })
+before-notify t c u (Notify l e at k code) fits applies = (
+  t,
+  record {
+    leg = record { applies = reports-taken t t c u fits code (find_leg l t.legs) applies; after = refl };
+    fits = fits;
+  },
+)
