@@ -15,6 +15,7 @@ answer-requires-clause-before c =
 
 pub invariant_of-result : goal.invariant_of-result
 invariant_of-result c =
-    let n = c.ingress.inside in
-    (c.in_ok-sent.ensures.fits,
-    c.answer.ensures.labels c.connect.new.owner n.shares (c.connect.ensures.shares n.shares c.ingress.invariant.1))
+    let n = c.ingress.inside in (
+      c.in_ok-sent.ensures.fits,
+      c.answer.ensures.labels c.connect.new.owner n.shares (c.connect.ensures.shares n.shares c.ingress.invariant.1),
+    )

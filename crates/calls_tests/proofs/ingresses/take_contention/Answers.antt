@@ -15,6 +15,7 @@ answer-requires-clause-before c =
 
 pub invariant_of-result : goal.invariant_of-result
 invariant_of-result c =
-    let n = c.ingress.inside in
-    (c.in_ok-_sent.ensures.fits,
-    c.answer.ensures.labels c.busy.new.owner n.shares (c.busy.ensures.shares n.shares c.ingress.invariant.1))
+    let n = c.ingress.inside in (
+      c.in_ok-_sent.ensures.fits,
+      c.answer.ensures.labels c.busy.new.owner n.shares (c.busy.ensures.shares n.shares c.ingress.invariant.1),
+    )

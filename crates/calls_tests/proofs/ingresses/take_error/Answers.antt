@@ -14,5 +14,7 @@ answer-requires-clause-before c =
     (sym c.refuses.ensures ∙ c.if-not-refuses.false) c.in_ok-_none.ensures.ok
 
 pub invariant_of-result : goal.invariant_of-result
-invariant_of-result c =
-    (c.in_ok-_sent.ensures.fits, c.answer.ensures.labels c.path_err.new.owner c.path_err.new.shares c.path_err.ensures.fits.node)
+invariant_of-result c = (
+  c.in_ok-_sent.ensures.fits,
+  c.answer.ensures.labels c.path_err.new.owner c.path_err.new.shares c.path_err.ensures.fits.node,
+)
