@@ -1,3 +1,4 @@
+pub mod Changing
 pub mod Channels
 pub mod Connecting
 pub mod Elsewhere
@@ -15,6 +16,5 @@ pub mod Rounding
 pub mod Runs
 pub mod Splitting
 pub mod Sums
-pub mod Telling
 pub mod Turned
 pub mod Wires

@@ -6,6 +6,7 @@ use Rattle.fleet.proofs.fleet.Fleet.new.Goals as goal
 pub returns : goal.returns
 returns c =
     new-stands c.args.t.now _ c.nodes-nodes.ensures.valid c.in_ok-seats.ensures c.in_ok-stations.ensures refl
+    c.in_ok-copy.ensures c.new.ensures.items
 
 pub invariant_of-result : goal.invariant_of-result
 invariant_of-result c =

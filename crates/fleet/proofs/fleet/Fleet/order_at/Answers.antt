@@ -1,8 +1,9 @@
-use Rattle.std.proofs.Common.{◌<◌, ◌+◌, length, refl, sym, ap, ◌∙◌, subst}
+use Rattle.std.proofs.Common.{◌<◌, ◌+◌, ◌∷◌, [], length, refl, sym, ap, ◌∙◌, subst}
 use Rattle.std.specs.Prelude.{slice_get, slice_set}
 use Rattle.std.proofs.lemmas.Option.{slice_get_read}
 use Rattle.station.specs.Standing.{StationState}
-use Rattle.fleet.specs.Posts.{with_order}
+use Rattle.fleet.specs.Posts.{with_items}
+use Rattle.ason_base.specs.declared.commands.DeskItem.TheVariants.{Order}
 use Rattle.fleet.specs.Standing.{FleetState}
 use Rattle.fleet.proofs.Connecting.{order-connected}
 use Rattle.fleet.proofs.fleet.Fleet.order_at.Goals as goal
@@ -14,7 +15,7 @@ invariant_of-self-2 c =
     c.self.invariant
     (slice_get_read stations (length stations) c.args.place c.index_mut.result.now refl
     (subst (λ (x : FleetState). c.args.place < length x.stations) (sym c.self.view_is) c.requires.within)
-    c.index_mut.ensures.value) (ap (λ (s : StationState). s.links) c.in_ok-order.ensures.ok)
+    c.index_mut.ensures.value) (ap (λ (s : StationState). s.links) c.in_ok-order.ensures.ok.station)
 
 pub returns-clause-on : goal.returns-clause-on
 returns-clause-on c =
@@ -26,10 +27,13 @@ returns-clause-on c =
           ∙ slice_get_read stations (length stations) c.args.place before refl
           (subst (λ (x : FleetState). c.args.place < length x.stations) (sym c.self.view_is) c.requires.within)
           c.index_mut.ensures.value;
-      stations = ap (slice_set stations c.args.place) (c.in_ok-order.ensures.ok
-          ∙ ap (with_order before) c.in_ok-copy.ensures)
-          ∙ ap (λ (x : FleetState). slice_set x.stations c.args.place (with_order before c.args.command.now))
-          c.self.view_is;
+      spare = c.order.new.self.spare;
+      stations = ap (slice_set stations c.args.place) (c.in_ok-order.ensures.ok.station
+          ∙ ap (λ x. with_items before (Order x ∷ []) c.order.new.self.spare) c.in_ok-copy.ensures)
+          ∙ ap (λ (x : FleetState). slice_set x.stations c.args.place
+          (with_items before (Order c.args.command.now ∷ []) c.order.new.self.spare)) c.self.view_is;
       seats = ap (λ (x : FleetState). x.seats) c.self.view_is;
       posts = ap (λ (x : FleetState). x.posts + 1) c.self.view_is;
+      network = ap (λ (x : FleetState). x.network) c.self.view_is;
+      failed = ap (λ (x : FleetState). x.failed) c.self.view_is;
     }

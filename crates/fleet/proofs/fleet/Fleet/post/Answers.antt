@@ -1,11 +1,14 @@
 use Rattle.std.proofs.Common.{sym}
 use Rattle.ason_base.proofs.Results.{on_ok}
-use Rattle.fleet.proofs.Posting.{nowhere-stands, order-stands}
+use Rattle.fleet.proofs.Posting.{groups-stand, order-stands}
 use Rattle.fleet.proofs.fleet.Fleet.post.Goals as goal
 
 pub returns-in-None-clause-on : goal.returns-in-None-clause-on
-returns-in-None-clause-on c t h s on =
-    nowhere-stands t h c.args.command.now c.args.self.now (sym c.in-None.ensures) s on
+returns-in-None-clause-on c =
+    on_ok c.change.result _ _
+    (λ changes t h s on. groups-stand t h c.args.command.now c.args.self.now c.change.new.self (sym c.in-None.ensures)
+    c.change.ensures.few changes s on)
+    c.change.ensures.on
 
 pub returns-in-Some-clause-on : goal.returns-in-Some-clause-on
 returns-in-Some-clause-on c =

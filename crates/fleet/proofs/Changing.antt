@@ -1,7 +1,7 @@
 -- Where groups fail or are repaired each station gets what its node is told, once there is room on every desk.
 use Rattle.std.proofs.Common.{◌≡◌, ◌≤◌, ◌<◌, ◌+◌, ◌*◌, ◌^◌, ◌-◌, ℕ, suc, Bool, true, false, nat_eq, List, [], ◌∷◌, ◌++◌, length, map, refl, sym, ap, ◌∙◌, subst, arith, append-nil}
 use Rattle.std.specs.Prelude.{Some, slice_get, slice_set}
-use Rattle.std.proofs.lemmas.List.{append-assoc}
+use Rattle.std.proofs.lemmas.List.{append_assoc}
 use Rattle.ason_base.specs.declared.commands.Command.{Command}
 use Rattle.ason_base.specs.declared.commands.DeskItem.{DeskItem}
 use Rattle.ason_base.specs.declared.commands.Group.{Group}
@@ -34,7 +34,7 @@ told-both xs ys all s z v same first second = record {
   spare = second.spare;
   station = second.station ∙ ap (λ w. with_items w ys second.spare) first.station
       ∙ ap (λ items. record s { desk = items; spare = second.spare })
-      (append-assoc s.desk xs ys ∙ ap (λ items. s.desk ++ items) same);
+      (append_assoc s.desk xs ys ∙ ap (λ items. s.desk ++ items) same);
 }
 
 -- Room
