@@ -227,7 +227,8 @@ changed-stands t h c old new none few done s on =
 pub groups-stand : (t : Network) (h : History) (c : Command) (old new : FleetState) → ingress_of c ≡ None →
     new.posts ≤ 2 ^ 32 - 1 → Changes c old new →
     StandsFor t old h → IsEnabled t (world_after t h) (Post c) → StandsFor t new (with_event t h (Post c))
-groups-stand t h c old new none few changes stands on = changed-stands t h c it.roomed new none few it.changed it.stands on
+groups-stand t h c old new none few changes stands on =
+    changed-stands t h c it.roomed new none few it.changed it.stands on
   where
     it : ChangesThere t h c new
     it = changes t h stands

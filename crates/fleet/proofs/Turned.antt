@@ -207,7 +207,8 @@ wired-elsewhere w v before rings wires n x y links left from to same old = recor
 pub after-turn : (t : Network) (h g : History) (f new : FleetState) (n : NodeId) (place : ℕ) (after : StationState)
     (x : IsLookedAt t h f n (length (neighbours t n))) → slice_get (ids_of t) place ≡ Some n →
     new.stations ≡ slice_set f.stations place after → new.seats ≡ f.seats → KeepsRest f new →
-    (world_after t g).failed ≡ (world_after t h).failed → IsElsewhere t n h g → IsRunning t g → Stands t g n (came_from x.stands.wires n) after → StandsFor t new g
+    (world_after t g).failed ≡ (world_after t h).failed →
+    IsElsewhere t n h g → IsRunning t g → Stands t g n (came_from x.stands.wires n) after → StandsFor t new g
 after-turn t h g f new n place after x at stations seats rest groups is running stands = record {
   valid = x.stands.valid;
   running = running;

@@ -9,13 +9,7 @@ use mesh_rules::failures::news_of;
 use station::Station;
 
 // Puts what the node is told of the link on the desk of its station. There is room for it.
-fn tell_of(
-    station: &mut Station,
-    before: &[Group],
-    after: &[Group],
-    node: NodeId,
-    link: &LinkSpec,
-)
+fn tell_of(station: &mut Station, before: &[Group], after: &[Group], node: NodeId, link: &LinkSpec)
     requires apart { (link.now.low.0 == link.now.high.0) ≡ false }
     requires room { 1 ≤ station.old.spare }
     ensures told { IsTold (changed_news before.now after.now node.0 link.now)

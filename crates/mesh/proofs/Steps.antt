@@ -121,7 +121,8 @@ mail_without u d mail i s at is a b = go (nat_eq a u && nat_eq b d) refl
         ap (map (λ s. s.msg)) (filter-other (is_between a b) mail i s facts.0 apart)
 
 mesh_of-without_first : (t : Network) (u d : NodeId) (nodes : List NodeView) (desks : List Waiting)
-    (mail : List Sent) (posted : List CallNo) (failed : List Group) (i : ℕ) (s : Sent) → position (is_between u.0 d.0) mail ≡ Some i →
+    (mail : List Sent) (posted : List CallNo) (failed : List Group) (i : ℕ) (s : Sent) →
+    position (is_between u.0 d.0) mail ≡ Some i →
     s ≡ get_or mail i s →
     mesh_of (kept t nodes desks (remove mail i) posted failed) ≡ without_first
     (mesh_of (kept t nodes desks mail posted failed)) u.0 d.0
@@ -134,11 +135,13 @@ mesh_of-without_first t u d nodes desks mail posted failed i s at is = λ j. rec
 }
 
 pub mesh_of-take : (t : Network) (u d : NodeId) (nodes : List NodeView) (desks : List Waiting) (mail : List Sent)
-    (posted : List CallNo) (failed : List Group) (i : ℕ) (s : Sent) (a : Answer) → position (is_between u.0 d.0) mail ≡ Some i →
+    (posted : List CallNo) (failed : List Group) (i : ℕ) (s : Sent) (a : Answer) →
+    position (is_between u.0 d.0) mail ≡ Some i →
     s ≡ get_or mail i s →
     a ≡ on_message (local_node t d) (state_at d.0 nodes) u s.msg →
     mesh_of (kept t (put_state t d (changed (state_at d.0 nodes) a) nodes) desks
-    (remove (mail ++ map (sent_by d) a.sent) i) posted failed) ≡ step t (mesh_of (kept t nodes desks mail posted failed))
+    (remove (mail ++ map (sent_by d) a.sent) i) posted failed) ≡
+    step t (mesh_of (kept t nodes desks mail posted failed))
     (Take d u)
 mesh_of-take t u d nodes desks mail posted failed i s a at is does =
     let below = (position-Some (is_between u.0 d.0) mail i s at).0 in
@@ -175,8 +178,10 @@ desk_without n desks i w at is m = go (nat_eq m n) refl
         ap (map (λ w. w.item)) (filter-other (is_waiting m) desks i w facts.0 apart)
 
 mesh_of-without_item : (t : Network) (n : NodeId) (nodes : List NodeView) (desks : List Waiting) (mail : List Sent)
-    (posted : List CallNo) (failed : List Group) (i : ℕ) (w : Waiting) → position (is_waiting n.0) desks ≡ Some i → w ≡ get_or desks i w →
-    mesh_of (kept t nodes (remove desks i) mail posted failed) ≡ without_item (mesh_of (kept t nodes desks mail posted failed)) n.0
+    (posted : List CallNo) (failed : List Group) (i : ℕ) (w : Waiting) →
+    position (is_waiting n.0) desks ≡ Some i → w ≡ get_or desks i w →
+    mesh_of (kept t nodes (remove desks i) mail posted failed) ≡
+    without_item (mesh_of (kept t nodes desks mail posted failed)) n.0
 mesh_of-without_item t n nodes desks mail posted failed i w at is = λ j. record {
   nodes = λ m. state_at m nodes;
   desks = λ m. desk_without n.0 desks i w at is m j;
@@ -186,7 +191,8 @@ mesh_of-without_item t n nodes desks mail posted failed i w at is = λ j. record
 }
 
 pub mesh_of-handle : (t : Network) (n : NodeId) (nodes : List NodeView) (desks : List Waiting) (mail : List Sent)
-    (posted : List CallNo) (failed : List Group) (i : ℕ) (w : Waiting) (a : Answer) → position (is_waiting n.0) desks ≡ Some i →
+    (posted : List CallNo) (failed : List Group) (i : ℕ) (w : Waiting) (a : Answer) →
+    position (is_waiting n.0) desks ≡ Some i →
     w ≡ get_or desks i w →
     a ≡ on_item (local_node t n) (state_at n.0 nodes) w.item →
     mesh_of (kept t (put_state t n (changed (state_at n.0 nodes) a) nodes) (remove desks i)
@@ -232,7 +238,8 @@ pub mesh_of-tick : (t : Network) (n : NodeId) (nodes : List NodeView) (desks : L
     mesh_of (kept t (put_state t n (changed (state_at n.0 nodes) a) nodes) desks
     (mail ++ map (sent_by n) a.sent) posted failed) ≡ step t (mesh_of (kept t nodes desks mail posted failed)) (Tick n)
 mesh_of-tick t n nodes desks mail posted failed a does =
-    mesh_of-commit t n a nodes desks mail posted failed ∙ ap (commit (mesh_of (kept t nodes desks mail posted failed)) n.0) does
+    mesh_of-commit t n a nodes desks mail posted failed
+    ∙ ap (commit (mesh_of (kept t nodes desks mail posted failed)) n.0) does
 
 -- An order
 

@@ -118,7 +118,8 @@ all-done : (t : Network) (h : History) (rings : ℕ → ℕ → List ℕ) (n : N
     (before after : List LinkState) (spare : ℕ) →
     after ≡ map (after_frames frames) before → AreReady t h rings n there c old before → IsDone (world_after t h)
     (step t (world_after t h) e) n c d desk s f frames →
-    Stands t (with_event_over t h rings e) n there (record { controller = d; desk = desk; links = after; spare = spare })
+    Stands t (with_event_over t h rings e) n there
+    (record { controller = d; desk = desk; links = after; spare = spare })
 all-done t h rings n there e c d old desk s f frames before after spare is ready done = record {
   node = subst (λ w. NodeStands t w n d desk) (sym (world-with t h rings e))
       (node-done t (world_after t h) (step t (world_after t h) e) n c d old desk s f frames ready.node done);

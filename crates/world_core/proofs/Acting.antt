@@ -87,7 +87,8 @@ failed_kept t w d u (Some (Message p)) = go (handed_up w d u p)
     go (m ∷ ms) = refl
 failed_kept t w d u (Some (Flood m)) = refl
 
-pub failed-left : (t : Network) (w : World) (e : Event) (n : ℕ) → is_event_of n e ≡ true → (step t w e).failed ≡ w.failed
+pub failed-left : (t : Network) (w : World) (e : Event) (n : ℕ) → is_event_of n e ≡ true →
+    (step t w e).failed ≡ w.failed
 failed-left t w (world.Deliver d u k) n of = failed_kept t (with_event w d.0) d u (frame_at w u d k)
 failed-left t w (world.Noise d u bytes) n of = refl
 failed-left t w (world.Tick d) n of = refl
@@ -405,7 +406,8 @@ ticked-steps t k after n acted w stands =
           (self_test n.0) is acted.there
           acted.done.done.0.node
           (subst (λ (m : NodeId). SeatStands t (step t w (world.Tick m)) acted.done.new) is.node
-          (tick-stands t w acted.seat acted.done.new is.stands acted.done.done)) acted.done.seats acted.posted acted.failed,
+          (tick-stands t w acted.seat acted.done.new is.stands acted.done.done))
+          acted.done.seats acted.posted acted.failed,
     )
 
 pub not-ticked : (t : Network) (k : WorldState) (n : NodeId) → IsUnable k n act.Tick → IsDisabled t k (world.Tick n)
@@ -423,7 +425,8 @@ handled-steps t k after n acted w stands =
           (self_test n.0) is acted.there
           acted.done.done.2.node
           (subst (λ (m : NodeId). SeatStands t (step t w (world.Desk m)) acted.done.new) is.node
-          (handle-stands t w acted.seat acted.done.new is.stands acted.done.done)) acted.done.seats acted.posted acted.failed,
+          (handle-stands t w acted.seat acted.done.new is.stands acted.done.done))
+          acted.done.seats acted.posted acted.failed,
     )
 
 pub not-handled : (t : Network) (k : WorldState) (n : NodeId) → IsUnable k n act.Handle → IsDisabled t k (world.Desk n)

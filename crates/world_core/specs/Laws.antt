@@ -134,6 +134,3 @@ JoinedKnowTheLinks =
     (t : Network) (events : List Event) → IsTopology t → IsRun t (start t) events →
     IsQuiet (after t (start t) events) → (a b : NodeId) → AreJoined (map row_of t.links) a b → (row : TeRow) →
     Contains (map row_of t.links) row → is_end a row ≡ true → Contains (known_at t (after t (start t) events) b) row
-
-abbrev pub ProbeHolds : Type 0
-ProbeHolds = (n : ℕ) → n ≡ n

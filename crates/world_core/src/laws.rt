@@ -6,7 +6,6 @@ ghost use Rattle.world_core.specs.Laws.{NoiseIsNotShown, OnlyNewRowsAreShown, On
 ghost use Rattle.world_core.specs.Standing.{ChannelsJoinNeighbours, DeliveriesAreTaken, ItemsAreHandled, NoiseMovesNothing};
 ghost use Rattle.world_core.specs.Standing.{OthersAreUntouched, TicksAreTicked};
 
-ghost use Rattle.world_core.specs.Laws.{ProbeHolds};
 use flood::laws::{every_flooding, every_start};
 use hop_reliable::laws::every_schedule;
 use mesh_laws::laws::every_run;
@@ -52,9 +51,4 @@ pub fn controllers_are_the_worlds()
     ensures ticks { TicksAreTicked }
     ensures others { OthersAreUntouched }
     ensures neighbours { ChannelsJoinNeighbours }
-{}
-
-/// Probe.
-pub fn probe()
-    ensures { ProbeHolds }
 {}

@@ -10,7 +10,9 @@ ghost use Rattle.world_core.specs.Seats.{HasDoneAt, SeatState, can_do, frame_the
 use crate::acts::Act;
 use crate::faults::Fault;
 use crate::seat::Seat;
-use ason_base::{Bytes, CallRows, DeskItem, Group, LegRows, NodeId, OutOfMemory, TableRows, Topology};
+use ason_base::{
+    Bytes, CallRows, DeskItem, Group, LegRows, NodeId, OutOfMemory, TableRows, Topology,
+};
 use std::alloc::Global;
 
 /// A seat for each node.

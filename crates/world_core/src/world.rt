@@ -20,7 +20,8 @@ use crate::seats::{
     rows_of, tell_all,
 };
 use ason_base::{
-    Bytes, CallNo, Command, Copied, DeskItem, Event, Group, NodeId, OutOfMemory, TableRows, Topology,
+    Bytes, CallNo, Command, Copied, DeskItem, Event, Group, NodeId, OutOfMemory, TableRows,
+    Topology,
 };
 use mesh_rules::commands::{is_again, is_valid};
 use mesh_rules::failures::failed_after;

@@ -138,20 +138,23 @@ fn a_call_that_is_released_leaves_nothing(rt: HostRuntime) -> Result<(), Fail> {
     Ok(())
 }
 
-// A command of a group goes to no desk. In two rounds each node has the other's row and its acknowledgement; in the third
-// come those that were sent again, and from then on a round is a tick of each node.
+// Each end of a link that fails is told once, and once when it is repaired. In two rounds each node has the other's row and its
+// acknowledgement; in the third come those that were sent again, and from then on a round is a tick of each node.
 #[test]
-fn a_group_goes_to_no_desk(rt: HostRuntime) -> Result<(), Fail> {
+fn both_ends_are_told_of_a_link_that_fails(rt: HostRuntime) -> Result<(), Fail> {
     let alloc = rt.alloc();
     let mut fleet = new_fleet(alloc)?;
-    fleet.post(&Command::Fail {
-        group: Group::Link(LINK),
-    })?;
-    assert!(rt; waits(&fleet, 0, 0, 2));
-    assert!(rt; fleet.round() == Ok(3));
+    let group = Group::Link(LINK);
+    fleet.post(&Command::Fail { group })?;
+    assert!(rt; waits(&fleet, 2, 0, 2));
+    fleet.post(&Command::Fail { group })?;
+    assert!(rt; waits(&fleet, 2, 0, 2));
+    assert!(rt; fleet.round() == Ok(5));
     assert!(rt; fleet.round() == Ok(6));
     assert!(rt; waits(&fleet, 0, 0, 0));
-    assert!(rt; fleet.round() == Ok(5));
+    fleet.post(&Command::Repair { group })?;
+    assert!(rt; waits(&fleet, 2, 0, 0));
+    assert!(rt; fleet.round() == Ok(7));
     assert!(rt; fleet.round() == Ok(2));
     Ok(())
 }

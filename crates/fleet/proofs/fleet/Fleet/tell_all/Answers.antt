@@ -12,7 +12,8 @@ pub tell_at-requires-clause-room : goal.tell_at-requires-clause-room
 tell_at-requires-clause-room c = λ s at.
     let told = c.loop-place.invariant.told in
     let place = c.loop-place.place in
-    let below : place < length c.args.self.now.stations = omega (arith, c.loop-place-test.true, c.count-count.ensures.count) in
+    let below : place < length c.args.self.now.stations =
+    omega (arith, c.loop-place-test.true, c.count-count.ensures.count) in
     subst (λ (t : Network). length t.links ≤ s.spare) (sym told.rest.network)
     (c.requires place s below (sym (told.others place (omega arith)) ∙ at))
 

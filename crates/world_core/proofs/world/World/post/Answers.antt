@@ -13,7 +13,8 @@ returns-clause-done c =
     ∙ ap (λ ns. is_again ns c.args.command.now) (sym c.deref.ensures.value) ∙ sym c.is_again.ensures ∙
     c.if-is_again.false in
     on_ok c.give.result _ _
-    (posted-steps c.args.t.now c.args.self.now c.give.new.self c.args.command.now c.links-links.ensures.valid (sym c.is_valid.ensures ∙ yes) fresh)
+    (posted-steps c.args.t.now c.args.self.now c.give.new.self c.args.command.now
+    c.links-links.ensures.valid (sym c.is_valid.ensures ∙ yes) fresh)
     c.give.ensures.done
 
 pub returns-clause-refused : goal.returns-clause-refused
