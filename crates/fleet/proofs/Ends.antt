@@ -11,20 +11,23 @@ use Rattle.fleet.specs.Looks.{AreJoined, after_look, with_link}
 use Rattle.fleet.proofs.Places.{within}
 use Rattle.fleet.proofs.Splitting.{get-drop, get-take, set-high, set-low}
 
-abbrev the_state : ControllerState → List DeskItem → List LinkState → StationState
-the_state x y z = record { controller = x; desk = y; links = z }
+abbrev the_state : ControllerState → List DeskItem → List LinkState → ℕ → StationState
+the_state x y z k = record { controller = x; desk = y; links = z; spare = k }
 
-same_state : (a b : StationState) → a.controller ≡ b.controller → a.desk ≡ b.desk → a.links ≡ b.links → a ≡ b
-same_state a b c d l =
-    ap (λ (x : ControllerState). the_state x a.desk a.links) c
-    ∙ ap (λ (x : List DeskItem). the_state b.controller x a.links) d
-    ∙ ap (λ (x : List LinkState). the_state b.controller b.desk x) l
+same_state : (a b : StationState) → a.controller ≡ b.controller → a.desk ≡ b.desk → a.links ≡ b.links →
+    a.spare ≡ b.spare → a ≡ b
+same_state a b c d l k =
+    ap (λ (x : ControllerState). the_state x a.desk a.links a.spare) c
+    ∙ ap (λ (x : List DeskItem). the_state b.controller x a.links a.spare) d
+    ∙ ap (λ (x : List LinkState). the_state b.controller b.desk x a.spare) l
+    ∙ ap (λ (x : ℕ). the_state b.controller b.desk b.links x) k
 
 -- one station after it looked over this link
 record HasLooked (s : StationState) (link : ℕ) (l : LinkState) (new : StationState) : Type 0 where
   controller : new.controller ≡ s.controller
   desk : new.desk ≡ s.desk
   links : new.links ≡ slice_set s.links link l
+  spare : new.spare ≡ s.spare
 
 looked-is : (s z : StationState) (link : ℕ) (l : LinkState) (new : StationState) → s ≡ z → HasLooked s link l new →
     new ≡ with_link z link l
@@ -32,6 +35,7 @@ looked-is s z link l new same is = same_state new (with_link z link l)
     (is.controller ∙ ap (λ (x : StationState). x.controller) same)
     (is.desk ∙ ap (λ (x : StationState). x.desk) same)
     (is.links ∙ ap (λ (x : StationState). slice_set x.links link l) same)
+    (is.spare ∙ ap (λ (x : StationState). x.spare) same)
 
 -- what a look makes of the links of two stations
 pub record LooksAt (a b : StationState) (link back : ℕ) (x y : StationState) : Type 0 where
@@ -41,6 +45,7 @@ pub record LooksAt (a b : StationState) (link back : ℕ) (x y : StationState) :
       y.links ≡ slice_set b.links back (looked m l)
   pub controllers : (x.controller ≡ a.controller) × (y.controller ≡ b.controller)
   pub desks : (x.desk ≡ a.desk) × (y.desk ≡ b.desk)
+  pub spares : (x.spare ≡ a.spare) × (y.spare ≡ b.spare)
 
 here-is : (old : List StationState) (place link : ℕ) (e : End) (a b x y : StationState) →
     (j : AreJoined old place link e) → a ≡ j.here → b ≡ j.there → LooksAt a b link e.link x y →
@@ -48,6 +53,7 @@ here-is : (old : List StationState) (place link : ℕ) (e : End) (a b x y : Stat
 here-is old place link e a b x y j p q is = looked-is a j.here link (looked j.near j.far) x p (record {
   controller = is.controllers.0;
   desk = is.desks.0;
+  spare = is.spares.0;
   links = is.here j.near j.far (ap (λ (s : StationState). slice_get s.links link) p ∙ j.is_near)
       (ap (λ (s : StationState). slice_get s.links e.link) q ∙ j.is_far);
 })
@@ -58,6 +64,7 @@ there-is : (old : List StationState) (place link : ℕ) (e : End) (a b x y : Sta
 there-is old place link e a b x y j p q is = looked-is b j.there e.link (looked j.far j.near) y q (record {
   controller = is.controllers.1;
   desk = is.desks.1;
+  spare = is.spares.1;
   links = is.there j.near j.far (ap (λ (s : StationState). slice_get s.links link) p ∙ j.is_near)
       (ap (λ (s : StationState). slice_get s.links e.link) q ∙ j.is_far);
 })

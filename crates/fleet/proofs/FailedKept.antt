@@ -15,13 +15,13 @@ use Rattle.fleet.proofs.Keeping.{IsKept, self_test}
 
 -- these groups have failed
 pub record HaveFailed (t : Network) (groups : List Group) (h : History) : Type 0 where
-  pub groups : (world_after t h).failed ≡ groups
+  pub are : (world_after t h).failed ≡ groups
 
 after-event : (t : Network) (groups : List Group) (n : NodeId) (h : History) (rings : ℕ → ℕ → List ℕ) (e : Event) →
     is_event_of n.0 e ≡ true → HaveFailed t groups h → HaveFailed t groups (with_event_over t h rings e)
 after-event t groups n h rings e of have = record {
-  groups = ap (λ (w : World). w.failed) (world-with t h rings e)
-      ∙ (failed-left t (world_after t h) e n.0 of ∙ have.groups);
+  are = ap (λ (w : World). w.failed) (world-with t h rings e)
+      ∙ (failed-left t (world_after t h) e n.0 of ∙ have.are);
 }
 
 if-able : (t : Network) (groups : List Group) (n : NodeId) (h next : History) → HaveFailed t groups h →
@@ -31,7 +31,7 @@ if-able t groups n h next have more = go (is_some h.stopped) (nat_lt (made_by t 
     go : (b c : Bool) → HaveFailed t groups (cond b h (cond c next (stopped_at h n)))
     go true c = have
     go false true = more
-    go false false = record { groups = have.groups }
+    go false false = record { are = have.are }
 
 pub failed_is_kept : (t : Network) (groups : List Group) → IsKept t (HaveFailed t groups)
 failed_is_kept t groups n = record {

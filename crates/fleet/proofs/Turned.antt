@@ -338,7 +338,7 @@ pub turned-stands : (t : Network) (h : History) (f new : FleetState) (n : NodeId
 turned-stands t h f new n place after x at stations seats rest stands =
     after-turn t h (turn t true n h) f new n place after x at stations seats rest
     (turn_keeps t (HaveFailed t (world_after t h).failed) true n (failed_is_kept t (world_after t h).failed n)
-    (known t place n at) h (record { groups = refl })).groups
+    (known t place n at) h (record { are = refl })).are
     (turn-elsewhere t true n (known t place n at) h)
     (turn_keeps t (IsRunning t) true n (running_is_kept t n) (known t place n at) h x.stands.running) stands
 

@@ -345,6 +345,7 @@ impl Station {
         ensures controllers { (self.new.controller ≡ self.old.controller) ×
             (other.new.controller ≡ other.old.controller) }
         ensures desks { (self.new.desk ≡ self.old.desk) × (other.new.desk ≡ other.old.desk) }
+        ensures spares { (self.new.spare ≡ self.old.spare) × (other.new.spare ≡ other.old.spare) }
     {
         look_at(&mut self.links, place, &mut other.links, back);
     }

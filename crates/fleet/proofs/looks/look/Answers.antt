@@ -16,6 +16,7 @@ returns-then-place-end c j =
       there = c.look.ensures.there;
       controllers = c.look.ensures.controllers;
       desks = c.look.ensures.desks;
+      spares = c.look.ensures.spares;
     })
 
 pub returns-else-place-end : goal.returns-else-place-end
@@ -35,4 +36,5 @@ returns-else-place-end c j =
       there = look.ensures.there;
       controllers = look.ensures.controllers;
       desks = look.ensures.desks;
+      spares = look.ensures.spares;
     })
