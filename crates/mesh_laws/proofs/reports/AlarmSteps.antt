@@ -33,7 +33,7 @@ use Rattle.mesh_laws.proofs.hops.Planned.{Planned, Routes}
 use Rattle.mesh_laws.proofs.hops.Plans.{Plan, distinct, fibre_at, hops, link_at, node_at, same_node}
 use Rattle.mesh_laws.proofs.hops.Rest.{Purpose}
 use Rattle.mesh_laws.proofs.hops.Views.{notices-else, notices-from}
-use Rattle.mesh_laws.proofs.reports.Alarmed.{elsewhere-told, hit-told, missed-told, none-told, one-told, told-append}
+use Rattle.mesh_laws.proofs.reports.Alarmed.{elsewhere-told, hit-told, missed-told, none-told, one-told, told-all-append}
 use Rattle.mesh_laws.proofs.reports.Gentle.{CallOf, IsUnreached, PlaceTold, RouteTold, Stands, Untold, commit-gentle, gentle-told, has_plain, line_at}
 use Rattle.mesh_laws.proofs.reports.GentleAnswers.{nothing-gentle}
 use Rattle.mesh_laws.proofs.reports.KnownFibres.{has-less, has-more, same_fibre-is, same_fibre-refl}
@@ -95,7 +95,7 @@ module _ (t : Network) (s : Mesh) (n : NodeId) (o : Routes) (f : Fibre) (code : 
       subst (λ (x : NodeId). told_by_all (node_at p (suc i)) (link_at p i) (notices_between later l x b)
       ≡ told_by_all (node_at p (suc i)) (link_at p i) (notices_between s l x b) ++ news i b) (sym is)
       (ap (told_by_all (node_at p (suc i)) (link_at p i)) (notices-from s n b l answer)
-      ∙ told-append (node_at p (suc i)) (link_at p i) (notices_between s l n b)
+      ∙ told-all-append (node_at p (suc i)) (link_at p i) (notices_between s l n b)
       (notices_of l (sent_to b.0 answer.sent)))
 
   told-else : (i : ℕ) (a b : NodeId) → a.0 ≢ n.0 →

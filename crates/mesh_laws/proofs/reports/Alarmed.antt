@@ -33,11 +33,11 @@ use Rattle.mesh_laws.proofs.hops.FollowedBy.{sent-then}
 
 -- What Notifies of the LSP tell
 
-pub told-append : (n : NodeId) (k : LinkId) (xs ys : List Msg) →
+pub told-all-append : (n : NodeId) (k : LinkId) (xs ys : List Msg) →
     told_by_all n k (xs ++ ys) ≡ told_by_all n k xs ++ told_by_all n k ys
-told-append n k [] ys = refl
-told-append n k (x ∷ xs) ys =
-    ap (λ t. told_by n k x ++ t) (told-append n k xs ys)
+told-all-append n k [] ys = refl
+told-all-append n k (x ∷ xs) ys =
+    ap (λ t. told_by n k x ++ t) (told-all-append n k xs ys)
     ∙ sym (append_assoc (told_by n k x) (told_by_all n k xs) (told_by_all n k ys))
 
 module _ (p : LocalNode) (f : Fibre) (code : ErrCode) (down : Bool) (tells : reported code ≡ Some down) (l : Lsp)
@@ -49,7 +49,7 @@ module _ (p : LocalNode) (f : Fibre) (code : ErrCode) (down : Bool) (tells : rep
   told-then xs ys =
       ap (λ ms. told_by_all n k (notices_of l ms)) (sent-then b.0 xs ys)
       ∙ ap (told_by_all n k) (filter-append _ (sent_to b.0 xs) (sent_to b.0 ys))
-      ∙ told-append n k (notices_of l (sent_to b.0 xs)) (notices_of l (sent_to b.0 ys))
+      ∙ told-all-append n k (notices_of l (sent_to b.0 xs)) (notices_of l (sent_to b.0 ys))
 
   -- the legs of other LSPs tell nothing of this one
   other-silent : (g : Leg) → same_lsp g.lsp l ≡ false → (h : Option Neighbour) → Told (notify_to p f code g h) ≡ []
