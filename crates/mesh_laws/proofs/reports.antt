@@ -10,4 +10,5 @@ pub mod LinkNews
 pub mod NoticeSteps
 pub mod OnTheWay
 pub mod OwnLinks
+pub mod OwnNotices
 pub mod Reported

@@ -44,7 +44,7 @@ use Rattle.mesh_laws.proofs.hops.Begun.{EachStepped, starts_over, stepped_quiet,
 
 -- The whole route of an LSP that begins here
 
-along : (t : Network) (l : Lsp) (q : Purpose) (n e : NodeId) (route : List Step) (w : Leg) → l.ingress ≡ n →
+pub along : (t : Network) (l : Lsp) (q : Purpose) (n e : NodeId) (route : List Step) (w : Leg) → l.ingress ≡ n →
     IsRoute t l.ingress (plan route e) → LegFits t q l (plan route e) 0 w → route_from (local_node t n) w ≡ route
 along t l q n e [] w here route fits = absurd (let long = route.long in omega arith)
 along t l q n e (hop ∷ further) w here route fits =

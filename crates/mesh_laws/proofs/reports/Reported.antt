@@ -112,7 +112,7 @@ module _ (t : Network) (from : NodeId) (p : Plan) (route : IsRoute t from p) whe
   link-is : (i : ℕ) (small : i < hops p) → find_link t (link_at p i) ≡ Some (route.links i small).link
   link-is i small = (route.links i small).found
 
-  forward-is : (i : ℕ) (small : i < hops p) → (fibre_at t p i).forward ≡ nat_eq (route.links i small).link.high.0 (node_at p (suc i)).0
+  pub forward-is : (i : ℕ) (small : i < hops p) → (fibre_at t p i).forward ≡ nat_eq (route.links i small).link.high.0 (node_at p (suc i)).0
   forward-is i small = ap (λ x. is_high x (node_at p (suc i))) (link-is i small)
 
   -- the end to which a fibre leads is told by its direction
