@@ -1,6 +1,8 @@
 pub mod AlarmSteps
 pub mod Alarmed
 pub mod Desks
+pub mod FirstPaths
+pub mod FirstSteps
 pub mod Gentle
 pub mod GentleAnswers
 pub mod GentleRules

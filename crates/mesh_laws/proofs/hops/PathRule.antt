@@ -131,13 +131,13 @@ module _ (t : Network) (q : Purpose) (s : Mesh) (l : Lsp) (p : Plan) (i : ℕ) (
   far : u.0 ≢ d.0
   far = distinct t l.ingress p route i (suc i) (omega arith) (omega arith) (omega arith)
 
-  over : Leads t k u d
+  pub over : Leads t k u d
   over = rw what.1 (route.links i below)
 
   asked_for : asked_role purpose ≡ role_of q
   asked_for = tells_role q purpose what.3
 
-  enters : fibre_in over.link d ≡ fibre_at t p i
+  pub enters : fibre_in over.link d ≡ fibre_at t p i
   enters = go over
     where
       go : (o : Leads t k u d) → fibre_in o.link d ≡ fibre_at t p i
@@ -154,10 +154,10 @@ module _ (t : Network) (q : Purpose) (s : Mesh) (l : Lsp) (p : Plan) (i : ℕ) (
     hop_here : FirstHop
     hop_here = rw none at hop
 
-    last : has_path (messages_of l rest) ≡ false
+    pub last : has_path (messages_of l rest) ≡ false
     last = path_last q p i (leg_at s l u) l e k r set label purpose (messages_of l rest) _ plain hop_here
 
-    beyond : (j : ℕ) → i < j → j ≤ hops p → IsVacant p (leg_at s l) (mail_between s l) j
+    pub beyond : (j : ℕ) → i < j → j ≤ hops p → IsVacant p (leg_at s l) (mail_between s l) j
     beyond j after small =
         chain.fresh i below (record {
           gone =

@@ -224,7 +224,7 @@ later_plain : (a b : Bool) → b ≡ true → (a || b) ≡ true
 later_plain true b h = refl
 later_plain false b h = h
 
-plain_path : (ms : List Msg) → has_plain ms ≡ true → has_path ms ≡ true
+pub plain_path : (ms : List Msg) → has_plain ms ≡ true → has_path ms ≡ true
 plain_path [] h = h
 plain_path (Path l e k route set up r ∷ ms) h = refl
 plain_path (Resv l e k x ∷ ms) h = plain_path ms h
@@ -233,7 +233,7 @@ plain_path (PathErr l e at gone code ∷ ms) h = plain_path ms h
 plain_path (Notify l e at k code ∷ ms) h = plain_path ms h
 
 -- where no Path is under way, no first one is
-no_plain : (ms : List Msg) → has_path ms ≡ false → has_plain ms ≡ true → ⊥
+pub no_plain : (ms : List Msg) → has_path ms ≡ false → has_plain ms ≡ true → ⊥
 no_plain ms none plain = let path = plain_path ms plain in cc (none, path)
 
 plain-append : (ms : List Msg) (m : Msg) → is_plain m ≡ false → has_plain (ms ++ m ∷ []) ≡ true → has_plain ms ≡ true

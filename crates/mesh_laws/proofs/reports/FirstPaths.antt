@@ -1,0 +1,80 @@
+-- The first Path of an LSP is taken: what its reports tell stays.
+use Rattle.std.proofs.Common.{◌≡◌, ◌≢◌, ◌≤◌, ◌<◌, ℕ, zero, suc, Bool, true, false, cond, nat_eq, not, List, [], ◌∷◌, ◌++◌, refl, sym, ap, ◌∙◌, subst, arith, inl, inr}
+use Rattle.std.specs.Prelude.{◌&&◌, ◌||◌, ◌⊎◌, Option, Some, None}
+use Rattle.ason_base.specs.Labels.{least}
+use Rattle.ason_base.specs.Lsps.{has_fibre, same_lsp}
+use Rattle.ason_base.specs.Network.{Network}
+use Rattle.ason_base.specs.declared.codes.ErrCode.{ErrCode}
+use Rattle.ason_base.specs.declared.ids.LinkId.{LinkId}
+use Rattle.ason_base.specs.declared.ids.Lsp.{Lsp}
+use Rattle.ason_base.specs.declared.ids.NodeId.{NodeId}
+use Rattle.ason_base.specs.declared.messages.Msg.{Msg}
+use Rattle.ason_base.specs.declared.messages.Msg.TheVariants.{Path}
+use Rattle.ason_base.specs.declared.messages.PathRole.{PathRole}
+use Rattle.ason_base.specs.declared.network.LinkSpec.{LinkSpec}
+use Rattle.ason_base.specs.declared.risks.Risk.{Risk}
+use Rattle.ason_base.specs.declared.steps.Step.{Step}
+use Rattle.ason_base.specs.declared.tables.CallRec.{CallRec}
+use Rattle.ason_base.specs.declared.tables.Leg.{Leg}
+use Rattle.mesh_rules.specs.Changes.{Answer, changed, nothing}
+use Rattle.mesh_rules.specs.Calls.{find_call, names}
+use Rattle.mesh_rules.specs.Legs.{find_leg}
+use Rattle.mesh_rules.specs.LocalNodes.{LocalNode, fibre_in, leads, own_link}
+use Rattle.mesh_rules.specs.Paths.{Check, PathRequest, admitted, at_egress, checks, first_failure, first_path, in_transit, is_active, judged, offered_labels, risks_here}
+use Rattle.mesh_rules.specs.State.{NodeState}
+use Rattle.mesh_nodes.proofs.Cases.{if_cases}
+use Rattle.mesh_laws.specs.ReportLaw.{is_standing}
+use Rattle.mesh_laws.proofs.hops.Tables.{leg_after}
+use Rattle.mesh_laws.proofs.nodes.PathKeeps.{none_fails}
+
+-- What the rule of a first Path answers
+
+module _ (p : LocalNode) (s : NodeState) (m : PathRequest) where
+  -- no call changes
+  no_calls-admitted : (link : LinkSpec) (risks : List Risk) (offered : List ℕ) (route : List Step) →
+      (admitted p m link risks offered route).calls ≡ []
+  no_calls-admitted link risks offered [] = ends (least offered)
+    where
+      ends : (x : Option ℕ) → (at_egress p m link risks offered x).calls ≡ []
+      ends None = refl
+      ends (Some x) = refl
+  no_calls-admitted link risks offered (hop ∷ route) = passes (own_link p hop.link)
+    where
+      passes : (o : Option LinkSpec) → (in_transit p m link risks route offered o).calls ≡ []
+      passes None = refl
+      passes (Some out) = refl
+
+  no_calls-judged : (link : LinkSpec) (o : Option ErrCode) → (judged p s m link o).calls ≡ []
+  no_calls-judged link (Some code) = refl
+  no_calls-judged link None = no_calls-admitted link (risks_here p s m) (offered_labels p s m link) m.route
+
+  pub no_calls-first_path : (o : Option LinkSpec) → (first_path p s m o).calls ≡ []
+  no_calls-first_path None = refl
+  no_calls-first_path (Some link) =
+      if_cases (λ (a : Answer). a.calls ≡ [])
+      (not (is_active m.role) && (leads (Some link) m.arrival.from p.id
+      && not (nat_eq m.arrival.lsp.ingress.0 p.id.0))) _ _
+      (λ e. no_calls-judged link (first_failure (checks p s m link))) (λ e. refl)
+
+  -- where the Path is admitted, the fibre that it came by isn't known to be down
+  not-down : (link : LinkSpec) → first_failure (checks p s m link) ≡ None →
+      has_fibre s.down (fibre_in link p.id) ≡ false
+  not-down link none = (none_fails (checks p s m link) none).1.1.1.0
+
+  module _ (l : Lsp) where
+    -- so a leg that comes stands over a fibre that isn't known to be down
+    pub clear-first_path : (link : LinkSpec) →
+        is_standing (leg_after l (first_path p s m (Some link)).legs None) ≡ true →
+        has_fibre s.down (fibre_in link p.id) ≡ false
+    clear-first_path link =
+        if_cases (λ (a : Answer). is_standing (leg_after l a.legs None) ≡ true →
+        has_fibre s.down (fibre_in link p.id) ≡ false)
+        (not (is_active m.role) && (leads (Some link) m.arrival.from p.id
+        && not (nat_eq m.arrival.lsp.ingress.0 p.id.0))) _ _
+        (λ e. go (first_failure (checks p s m link)) refl) (λ e h. absurd (cc h))
+      where
+        go : (o : Option ErrCode) → first_failure (checks p s m link) ≡ o →
+            is_standing (leg_after l (judged p s m link o).legs None) ≡ true →
+            has_fibre s.down (fibre_in link p.id) ≡ false
+        go (Some code) e h = absurd (cc h)
+        go None e h = not-down link e

@@ -1,0 +1,274 @@
+-- The first Path of an LSP is taken on its route: what its reports tell stays.
+use Rattle.std.proofs.Common.{◌≡◌, ◌≢◌, ◌≤◌, ◌<◌, ℕ, zero, suc, Bool, true, false, cond, nat_eq, not, List, [], ◌∷◌, ◌++◌, drop, refl, sym, ap, ◌∙◌, subst, arith, inl, inr}
+use Rattle.std.specs.Prelude.{◌&&◌, ◌||◌, ◌⊎◌, Option, Some, None}
+use Rattle.ason_base.specs.Lsps.{has_fibre}
+use Rattle.ason_base.specs.Network.{Network}
+use Rattle.ason_base.specs.declared.ids.LinkId.{LinkId}
+use Rattle.ason_base.specs.declared.ids.Lsp.{Lsp}
+use Rattle.ason_base.specs.declared.ids.NodeId.{NodeId}
+use Rattle.ason_base.specs.declared.messages.Msg.{Msg}
+use Rattle.ason_base.specs.declared.messages.Msg.TheVariants.{Path, Resv, PathTear, PathErr, Notify}
+use Rattle.ason_base.specs.declared.messages.PathRole.{PathRole}
+use Rattle.ason_base.specs.declared.steps.Step.{Step}
+use Rattle.ason_base.specs.declared.tables.CallRec.{CallRec}
+use Rattle.ason_base.specs.declared.tables.Leg.{Leg}
+use Rattle.mesh_rules.specs.Calls.{calls_changed, find_call}
+use Rattle.mesh_rules.specs.Changes.{Answer, changed}
+use Rattle.mesh_rules.specs.Legs.{find_leg}
+use Rattle.mesh_rules.specs.LocalNodes.{LocalNode, fibre_in, local_node, own_link}
+use Rattle.mesh_rules.specs.Machine.{Mesh, commit, without_first}
+use Rattle.mesh_rules.specs.Messages.{arrival, on_message}
+use Rattle.mesh_rules.specs.Paths.{PathRequest, first_path, is_active}
+use Rattle.mesh_nodes.specs.Routes.{AreRowsOf}
+use Rattle.mesh_nodes.proofs.LearnsNothing.{message-keeps_down}
+use Rattle.mesh_nodes.proofs.LegList.{same_lsp-refl}
+use Rattle.mesh_laws.specs.HopLaw.{leg_at, mail_between, messages_of, notices_between}
+use Rattle.mesh_laws.specs.HopShapes.{PlainPath, path_kind}
+use Rattle.mesh_laws.specs.ReportLaw.{is_standing, on_the_way, reports_of, told, told_by_all}
+use Rattle.mesh_laws.proofs.hops.Chain.{Chain, IsFirst, IsVacant, below_or_not, is_or_not}
+use Rattle.mesh_laws.proofs.hops.Own.{own-leg_part, sent-plain}
+use Rattle.mesh_laws.proofs.hops.PathRule as path_rule
+use Rattle.mesh_laws.proofs.hops.Planned.{Planned, Routes}
+use Rattle.mesh_laws.proofs.hops.Plans.{Leads, Plan, distinct, fibre_at, hops, link_at, node_at, own_far, same_node}
+use Rattle.mesh_laws.proofs.hops.Rest.{Purpose, has_path, plain_inactive}
+use Rattle.mesh_laws.proofs.hops.Sending.{elsewhere-taken, left-taken}
+use Rattle.mesh_laws.proofs.hops.Tables.{leg_after}
+use Rattle.mesh_laws.proofs.hops.Taken.{down_mine}
+use Rattle.mesh_laws.proofs.hops.Views.{leg-here, leg-there, mail-else, notices-plain, notices-without, without-else}
+use Rattle.mesh_laws.proofs.reports.Desks.{same-down}
+use Rattle.mesh_laws.proofs.reports.FirstPaths.{clear-first_path, no_calls-first_path}
+use Rattle.mesh_laws.proofs.reports.Gentle.{CallOf, IsUnreached, PlaceTold, RouteTold, Stands, Untold, has_plain, is_plain, line_at}
+use Rattle.mesh_laws.proofs.reports.OnTheWay.{same_lines}
+
+-- where no line tells anything, nothing is on the way
+pub silent-way : (line : ℕ → List Bool) (i : ℕ) → ((j : ℕ) → j < i → line j ≡ []) → on_the_way line i ≡ []
+silent-way line zero none = refl
+silent-way line (suc i) none =
+    rw (silent-way line i (λ j less. none j (omega arith)), none i (omega arith)) refl
+
+-- a plain Path is a Path
+plain-path : (ms : List Msg) → has_plain ms ≡ true → has_path ms ≡ true
+plain-path [] h = h
+plain-path (Path l e k route set up r ∷ ms) h = refl
+plain-path (Resv l e k x ∷ ms) h = plain-path ms h
+plain-path (PathTear l e k ∷ ms) h = plain-path ms h
+plain-path (PathErr l e at gone code ∷ ms) h = plain-path ms h
+plain-path (Notify l e at k code ∷ ms) h = plain-path ms h
+
+module _ (t : Network) (s : Mesh) (o : Routes) (l : Lsp) (q : Purpose) (p : Plan) (i : ℕ) (pl : Planned t s o l q p)
+    (below : i < hops p) (e : NodeId) (k : LinkId) (steps : List Step) (set : List ℕ) (label : Option ℕ)
+    (purpose : PathRole) (rest : List Msg)
+    (was : s.mail (node_at p i).0 (node_at p (suc i)).0 ≡ Path l e k steps set label purpose ∷ rest)
+    (learnt : AreRowsOf t (s.nodes (node_at p (suc i)).0).learnt) (plain : path_kind purpose ≡ PlainPath)
+    (none : leg_at s l (node_at p (suc i)) ≡ None) (r : RouteTold t s l p) where
+  abbrev u : NodeId
+  u = node_at p i
+
+  abbrev d : NodeId
+  d = node_at p (suc i)
+
+  abbrev m : Msg
+  m = Path l e k steps set label purpose
+
+  abbrev asks : PathRequest
+  asks = record { arrival = arrival l e (node_at p i) k; route = steps; set = set; role = purpose }
+
+  abbrev place : LocalNode
+  place = local_node t (node_at p (suc i))
+
+  abbrev answer : Answer
+  answer = on_message (local_node t (node_at p (suc i))) (s.nodes (node_at p (suc i)).0) (node_at p i)
+      (Path l e k steps set label purpose)
+
+  abbrev later : Mesh
+  later = commit (without_first s (node_at p i).0 (node_at p (suc i)).0) (node_at p (suc i)).0
+      (on_message (local_node t (node_at p (suc i))) (s.nodes (node_at p (suc i)).0) (node_at p i)
+      (Path l e k steps set label purpose))
+
+  far : (node_at p i).0 ≢ (node_at p (suc i)).0
+  far = distinct t l.ingress p pl.route i (suc i) (omega arith) (omega arith) (omega arith)
+
+  mine : mail_between s l (node_at p i) (node_at p (suc i)) ≡ m ∷ messages_of l rest
+  mine = rw (was, same_lsp-refl l) refl
+
+  inactive : is_active purpose ≡ false
+  inactive = plain_inactive purpose plain
+
+  -- the Path is on this hop
+  unreached : IsUnreached t s l p i
+  unreached = r.first i below (rw (mine, inactive) refl)
+
+  vacant : (x : ℕ) → x < hops p → has_plain (mail_between s l (node_at p x) (node_at p (suc x))) ≡ true →
+      (y : ℕ) → x < y → y ≤ hops p → IsVacant p (leg_at s l) (mail_between s l) y
+  vacant x small has y after most =
+      pl.chain.fresh x small
+      (record { gone = (r.first x small has).gone x (omega arith) small; path = plain-path (mail_between s l (node_at p x) (node_at p (suc x))) has }) y after most
+
+  -- no other hop before has one
+  alone : (x : ℕ) → x < i → has_plain (mail_between s l (node_at p x) (node_at p (suc x))) ≡ true → ⊥
+  alone x less has =
+      let empty = (vacant x (omega arith) has i less (omega arith)).no_down below in
+      let some = mine in cc (empty, some)
+
+  -- What stays
+
+  leg-else : (n : NodeId) → n.0 ≢ (node_at p (suc i)).0 → leg_at later l n ≡ leg_at s l n
+  leg-else n apart = leg-there (without_first s u.0 d.0) d n l answer apart
+
+  place-else : (x : ℕ) → x ≤ hops p → x ≢ suc i → leg_at later l (node_at p x) ≡ leg_at s l (node_at p x)
+  place-else x most apart =
+      leg-else (node_at p x) (distinct t l.ingress p pl.route x (suc i) most (let b = below in omega arith) apart)
+
+  notices-same : (a b : NodeId) → notices_between later l a b ≡ notices_between s l a b
+  notices-same a b =
+      notices-plain (without_first s u.0 d.0) d a b l answer
+      (sent-plain l answer.sent (own-leg_part place (s.nodes d.0) u m refl).sent)
+      ∙ notices-without s u d a b m rest l was refl
+
+  down-same : (n : ℕ) → (later.nodes n).down ≡ (s.nodes n).down
+  down-same n =
+      same-down (without_first s u.0 d.0) d.0 answer (message-keeps_down place (s.nodes d.0) u m) n
+
+  path-is : answer ≡ first_path (local_node t (node_at p (suc i))) (s.nodes (node_at p (suc i)).0) asks
+      (own_link (local_node t (node_at p (suc i))) k)
+  path-is = rw none refl
+
+  no-calls : answer.calls ≡ []
+  no-calls =
+      ap (λ (a : Answer). a.calls) path-is
+      ∙ no_calls-first_path place (s.nodes d.0) asks (own_link place k)
+
+  call-same : (c : CallRec) → CallOf later l c → CallOf s l c
+  call-same c of = record { found = go (nat_eq l.ingress.0 d.0) of.found; named = of.named }
+    where
+      go : (b : Bool) →
+          find_call c.call (cond b (changed (s.nodes l.ingress.0) answer) (s.nodes l.ingress.0)).calls ≡ Some c →
+          find_call c.call (s.nodes l.ingress.0).calls ≡ Some c
+      go true found =
+          subst (λ cs. find_call c.call (calls_changed cs (s.nodes l.ingress.0).calls) ≡ Some c) no-calls found
+      go false found = found
+
+  line-same : (x y : ℕ) → line_at (notices_between later l) p x y ≡ line_at (notices_between s l) p x y
+  line-same x y = ap (told_by_all (node_at p (suc x)) (link_at p x)) (notices-same (node_at p (suc y)) (node_at p y))
+
+  way-same : (x : ℕ) → on_the_way (line_at (notices_between later l) p x) (suc x)
+      ≡ on_the_way (line_at (notices_between s l) p x) (suc x)
+  way-same x =
+      same_lines (line_at (notices_between s l) p x) (line_at (notices_between later l) p x) (suc x)
+      (λ y less. line-same x y)
+
+  -- Places
+
+  -- a place before
+  before-told : (x : ℕ) → x < i → Stands later l p (suc x) → (c : CallRec) → CallOf later l c → PlaceTold t later l p x c
+  before-told x less stands c of =
+      ap (told (has_fibre (reports_of l c) (fibre_at t p x))) (way-same x)
+      ∙ r.tells x (let b = below in omega arith) (λ y most. subst (λ v. is_standing v ≡ true)
+      (place-else y (let b = below in omega arith) (omega arith)) (stands y most)) c (call-same c of)
+      ∙ ap (λ ds. has_fibre ds (fibre_at t p x)) (sym (down-same (node_at p (suc x)).0))
+
+  -- the leg that comes
+  over-clear : is_standing (leg_at later l (node_at p (suc i))) ≡ true →
+      has_fibre (s.nodes (node_at p (suc i)).0).down (fibre_at t p i) ≡ false
+  over-clear stands =
+      subst (λ f. has_fibre (s.nodes (node_at p (suc i)).0).down f ≡ false)
+      (path_rule.enters t q s l p i pl.route pl.chain below e k steps set label purpose rest was learnt plain)
+      (clear-first_path place (s.nodes d.0) asks l over.link came)
+    where
+      over : Leads t k (node_at p i) (node_at p (suc i))
+      over = path_rule.over t q s l p i pl.route pl.chain below e k steps set label purpose rest was learnt plain
+
+      link-is : own_link (local_node t (node_at p (suc i))) k ≡ Some over.link
+      link-is = own_far t k (node_at p i) (node_at p (suc i)) far over
+
+      after-is : leg_at later l (node_at p (suc i)) ≡ leg_after l answer.legs None
+      after-is =
+          leg-here (without_first s u.0 d.0) d l answer ∙ ap (leg_after l answer.legs) none
+
+      came : is_standing (leg_after l (first_path (local_node t (node_at p (suc i)))
+          (s.nodes (node_at p (suc i)).0) asks (Some over.link)).legs None) ≡ true
+      came =
+          subst (λ x. is_standing (leg_after l (first_path (local_node t (node_at p (suc i)))
+          (s.nodes (node_at p (suc i)).0) asks x).legs None) ≡ true) link-is
+          (subst (λ (a : Answer). is_standing (leg_after l a.legs None) ≡ true) path-is
+          (subst (λ x. is_standing x ≡ true) after-is stands))
+
+  here-told : Stands later l p (suc i) → (c : CallRec) → CallOf later l c → PlaceTold t later l p i c
+  here-told stands c of =
+      let untold = unreached.untold i (omega arith) below in
+      ap (told (has_fibre (reports_of l c) (fibre_at t p i)))
+      (way-same i ∙ silent-way (line_at (notices_between s l) p i) (suc i)
+      (λ y less. untold.notices (node_at p (suc y)) (node_at p y)))
+      ∙ untold.report c (call-same c of)
+      ∙ sym (ap (λ ds. has_fibre ds (fibre_at t p i)) (down-same (node_at p (suc i)).0)
+      ∙ over-clear (stands (suc i) (omega arith)))
+
+  after-never : (x : ℕ) → x < hops p → i < x → Stands later l p (suc x) → ⊥
+  after-never x small less stands =
+      let gone : leg_at s l (node_at p (suc (suc i))) ≡ None = unreached.gone (suc i) (omega arith) (omega arith) in
+      let now : leg_at later l (node_at p (suc (suc i))) ≡ None =
+      place-else (suc (suc i)) (omega arith) (omega arith) ∙ gone in
+      let stand = stands (suc (suc i)) (omega arith) in
+      (let h = (rw now at stand) in cc h)
+
+  -- Paths
+
+  untold-same : (x : ℕ) → Untold t s l p x → Untold t later l p x
+  untold-same x untold = record {
+    notices = λ a b. ap (told_by_all (node_at p (suc x)) (link_at p x)) (notices-same a b) ∙ untold.notices a b;
+    report = λ c of. untold.report c (call-same c of);
+  }
+
+  unreached-after : (x : ℕ) → suc i ≤ x → IsUnreached t s l p x → IsUnreached t later l p x
+  unreached-after x after un = record {
+    gone = λ y most small. place-else (suc y) (omega arith) (omega arith) ∙ un.gone y most small;
+    untold = λ y most small. untold-same y (un.untold y most small);
+  }
+
+  first-later : (x : ℕ) → x < hops p →
+      has_plain (mail_between later l (node_at p x) (node_at p (suc x))) ≡ true → IsUnreached t later l p x
+  first-later x small has = go (is_or_not x i) (is_or_not x (suc i))
+    where
+      last : has_path (messages_of l rest) ≡ false
+      last = path_rule.last t q s l p i pl.route pl.chain below e k steps set label purpose rest was learnt plain none
+
+      go : (x ≡ i) ⊎ (x ≢ i) → (x ≡ suc i) ⊎ (x ≢ suc i) → IsUnreached t later l p x
+      go (inl at) _ =
+          let left : mail_between later l (node_at p i) (node_at p (suc i)) ≡ messages_of l rest =
+          left-taken s u d l answer m rest far was in
+          let has-i : has_plain (mail_between later l (node_at p i) (node_at p (suc i))) ≡ true =
+          subst (λ y. has_plain (mail_between later l (node_at p y) (node_at p (suc y))) ≡ true) at has in
+          let path = plain-path (messages_of l rest) (ap has_plain (sym left) ∙ has-i) in
+          absurd (let never = last in cc (never, path))
+      go (inr apart) (inl next) =
+          unreached-after x (omega arith) (record {
+            gone = λ y most less. unreached.gone y (omega arith) less;
+            untold = λ y most less. unreached.untold y (omega arith) less;
+          })
+      go (inr apart) (inr not-next) = elsewhere (below_or_not x i)
+        where
+          same-mail : mail_between later l (node_at p x) (node_at p (suc x)) ≡ mail_between s l (node_at p x) (node_at p (suc x))
+          same-mail =
+              elsewhere-taken s u d (node_at p x) (node_at p (suc x)) l answer
+              (distinct t l.ingress p pl.route x (suc i) (omega arith) (let b = below in omega arith) not-next)
+              (inl (distinct t l.ingress p pl.route x i (omega arith) (let b = below in omega arith) apart))
+
+          was-there : has_plain (mail_between s l (node_at p x) (node_at p (suc x))) ≡ true
+          was-there = ap has_plain (sym same-mail) ∙ has
+
+          elsewhere : (x < i) ⊎ (i ≤ x) → IsUnreached t later l p x
+          elsewhere (inl less) = absurd (alone x less was-there)
+          elsewhere (inr most) = unreached-after x (omega arith) (r.first x small was-there)
+
+  pub first_path-told : RouteTold t later l p
+  first_path-told = record {
+    tells = λ x small stands c of. elim (is_or_not x i) [
+      | inl at ↦ subst (λ y. PlaceTold t later l p y c) (sym at)
+          (here-told (subst (λ y. Stands later l p (suc y)) at stands) c of)
+      | inr apart ↦ elim (below_or_not x i) [
+        | inl less ↦ before-told x less stands c of
+        | inr most ↦ absurd (after-never x small (omega arith) stands)
+      ]
+    ];
+    first = first-later;
+  }
