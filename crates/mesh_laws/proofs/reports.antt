@@ -14,3 +14,4 @@ pub mod OnTheWay
 pub mod OwnLinks
 pub mod OwnNotices
 pub mod Reported
+pub mod Steps
