@@ -9,9 +9,11 @@ pub mod GentleRules
 pub mod GentleSteps
 pub mod KnownFibres
 pub mod LinkNews
+pub mod NewCalls
 pub mod NoticeSteps
 pub mod OnTheWay
 pub mod OwnLinks
 pub mod OwnNotices
 pub mod Reported
+pub mod Runs
 pub mod Steps

@@ -222,7 +222,7 @@ item_fits t n (Order (Repair g)) fits = absurd fits
 item_fits t n (Alarm f) fits = tt
 item_fits t n (Clear f) fits = tt
 
-step_facts : (t : Network) (s : Mesh) → MeshFacts t s → StepFacts t s
+pub step_facts : (t : Network) (s : Mesh) → MeshFacts t s → StepFacts t s
 step_facts t s facts = record {
   call = λ n k c found. call_stands n (s.nodes n) c ((facts.node n).call k c found);
   rise = λ n. (facts.node n).calls_rise;

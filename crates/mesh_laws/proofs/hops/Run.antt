@@ -232,7 +232,7 @@ same_routes : (t : Network) (s : Mesh) (o o' : Routes) → ((l : Lsp) → o l �
 same_routes t s o o' same f = let all : o ≡ o' = λ i l. same l i in subst (EachFollows t s) all f
 
 -- the routes of the LSPs after a step
-abbrev step_routes : Network → Mesh → MeshEvent → Routes → Routes
+abbrev pub step_routes : Network → Mesh → MeshEvent → Routes → Routes
 step_routes t s e o l = or_route (o l) (first_route l (sent_at_ingress t s e l))
 
 unsent : (t : Network) (s : Mesh) (o : Routes) → EachFollows t s o → EachFollows t s (λ l. or_route (o l) None)

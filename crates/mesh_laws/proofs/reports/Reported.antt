@@ -80,28 +80,29 @@ pub record Puts (l : Lsp) (d : CallRec) (a : Answer) : Type 0 where
   pub calls : a.calls ≡ call.Put put ∷ []
   pub number : put.call ≡ d.call
   pub reports : reports_of l put ≡ reports_of l d
+  pub same_names : names l put ≡ names l d
 
-turn-puts : (l : Lsp) (d : CallRec) (o : Option Leg) → Puts l d (turn d o)
-turn-puts l d None = record { put = d; calls = refl; number = refl; reports = refl }
+pub turn-puts : (l : Lsp) (d : CallRec) (o : Option Leg) → Puts l d (turn d o)
+turn-puts l d None = record { put = d; calls = refl; number = refl; reports = refl; same_names = refl }
 turn-puts l d (Some b) = go (is_held b.phase) refl
   where
     go : (x : Bool) → is_held b.phase ≡ x → Puts l d (turn d (Some b))
-    go true e = record { put = turning d; calls = rw e refl; number = refl; reports = refl }
-    go false e = record { put = d; calls = rw e refl; number = refl; reports = refl }
+    go true e = record { put = turning d; calls = rw e refl; number = refl; reports = refl; same_names = refl }
+    go false e = record { put = d; calls = rw e refl; number = refl; reports = refl; same_names = refl }
 
 decided-puts : (l : Lsp) (d : CallRec) (o : Option Leg) (state : CallState) (works backs : Bool) →
     Puts l d (decided d o state works backs)
 decided-puts l d o Guarded true false = turn-puts l d o
-decided-puts l d o Guarded true true = record { put = stuck d BackDown; calls = refl; number = refl; reports = refl }
-decided-puts l d o Guarded false backs = record { put = d; calls = refl; number = refl; reports = refl }
-decided-puts l d o Stuck false backs = record { put = guarded d; calls = refl; number = refl; reports = refl }
-decided-puts l d o Stuck true backs = record { put = d; calls = refl; number = refl; reports = refl }
-decided-puts l d o Asking works backs = record { put = d; calls = refl; number = refl; reports = refl }
-decided-puts l d o Bare works backs = record { put = d; calls = refl; number = refl; reports = refl }
-decided-puts l d o Blocked works backs = record { put = d; calls = refl; number = refl; reports = refl }
-decided-puts l d o Pairing works backs = record { put = d; calls = refl; number = refl; reports = refl }
-decided-puts l d o Turning works backs = record { put = d; calls = refl; number = refl; reports = refl }
-decided-puts l d o Turned works backs = record { put = d; calls = refl; number = refl; reports = refl }
+decided-puts l d o Guarded true true = record { put = stuck d BackDown; calls = refl; number = refl; reports = refl; same_names = refl }
+decided-puts l d o Guarded false backs = record { put = d; calls = refl; number = refl; reports = refl; same_names = refl }
+decided-puts l d o Stuck false backs = record { put = guarded d; calls = refl; number = refl; reports = refl; same_names = refl }
+decided-puts l d o Stuck true backs = record { put = d; calls = refl; number = refl; reports = refl; same_names = refl }
+decided-puts l d o Asking works backs = record { put = d; calls = refl; number = refl; reports = refl; same_names = refl }
+decided-puts l d o Bare works backs = record { put = d; calls = refl; number = refl; reports = refl; same_names = refl }
+decided-puts l d o Blocked works backs = record { put = d; calls = refl; number = refl; reports = refl; same_names = refl }
+decided-puts l d o Pairing works backs = record { put = d; calls = refl; number = refl; reports = refl; same_names = refl }
+decided-puts l d o Turning works backs = record { put = d; calls = refl; number = refl; reports = refl; same_names = refl }
+decided-puts l d o Turned works backs = record { put = d; calls = refl; number = refl; reports = refl; same_names = refl }
 
 pub decide-puts : (l : Lsp) (d : CallRec) (o : Option Leg) → Puts l d (decide d o)
 decide-puts l d o = decided-puts l d o d.state (has_any d.work_reports) (has_any d.back_reports)
