@@ -8,6 +8,7 @@ pub mod GentleAnswers
 pub mod GentleRules
 pub mod GentleSteps
 pub mod KnownFibres
+pub mod Laws
 pub mod LinkNews
 pub mod NewCalls
 pub mod NoticeSteps
