@@ -11,6 +11,8 @@ use Rattle.mesh_laws.proofs.hops.Joined.{every_call_joined}
 use Rattle.mesh_laws.proofs.hops.Laws.{every_hop}
 use Rattle.mesh_laws.proofs.hops.Recorded.{every_backup_records}
 use Rattle.mesh_laws.proofs.hops.Safe.{every_run_safe}
+use Rattle.mesh_laws.proofs.reports.Desks.{every_desk_tells}
+use Rattle.mesh_laws.proofs.reports.Laws.{every_report_tells}
 use Rattle.mesh_laws.proofs.nodes.Laws.{every_call, every_label, every_learnt_row, every_live}
 
 pub laws_hold : EveryRunKeepsTheLaws
@@ -27,6 +29,8 @@ laws_hold t events run =
       learnt = every_learnt_row t events run;
       beside = every_backup_beside t events run;
       risks = λ valid. every_backup_records t events valid run;
+      desks = λ valid. every_desk_tells t events valid run;
+      reports = λ valid. every_report_tells t events valid run;
       admitted = λ valid. every_activation_admitted t events valid run;
     }
 

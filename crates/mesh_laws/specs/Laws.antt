@@ -12,6 +12,7 @@ use Rattle.mesh_laws.specs.HopLaw.{HasOneLegEach, LspFits}
 use Rattle.mesh_laws.specs.JoinedLaw.{CallsAreJoined}
 use Rattle.mesh_laws.specs.LabelLaw.{LabelsAreShared, LiveLegsAreLabelled}
 use Rattle.mesh_laws.specs.LearntLaw.{LearntRowsAreTrue}
+use Rattle.mesh_laws.specs.ReportLaw.{DesksTell, ReportsTell}
 use Rattle.mesh_laws.specs.RiskLaw.{BackupsRecordRisks}
 use Rattle.mesh_laws.specs.SafeLaw.{IsSafe}
 
@@ -36,6 +37,10 @@ pub record LawsHold (t : Network) (events : List MeshEvent) : Type 0 where
   pub beside : BackupsGoBeside t events
   -- over a topology each backup's leg records the risks of the working LSP's route
   pub risks : IsTopology t → BackupsRecordRisks t events
+  -- over a topology the items of each desk tell the node which of its fibres in are physically down
+  pub desks : IsTopology t → DesksTell t (after t start events)
+  -- and what an LSP's Notifies on their way tell, on what the call knows, is what the nodes of its route know to be down
+  pub reports : IsTopology t → ReportsTell t events
   -- and while one group alone has failed no activation is refused
   pub admitted : IsTopology t → ActivationsAreAdmitted t events
 

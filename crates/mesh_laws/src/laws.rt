@@ -9,6 +9,7 @@ ghost use Rattle.mesh_laws.specs.LabelLaw.{EveryLabelIsShared, EveryLiveLegIsLab
 ghost use Rattle.mesh_laws.specs.Laws.{EveryRunKeepsTheLaws};
 ghost use Rattle.mesh_laws.specs.LearntLaw.{EveryLearntRowIsTrue, EveryNodeCanSearch};
 ghost use Rattle.mesh_laws.specs.NodeLaw.{EveryNodeSharesLawfully};
+ghost use Rattle.mesh_laws.specs.ReportLaw.{EveryDeskTellsFailures, EveryReportTellsFailures};
 ghost use Rattle.mesh_laws.specs.RiskLaw.{EveryBackupRecordsItsRisks};
 ghost use Rattle.mesh_laws.specs.SafeLaw.{EveryRunIsSafe};
 
@@ -26,8 +27,11 @@ ghost use Rattle.mesh_laws.specs.SafeLaw.{EveryRunIsSafe};
 /// leg of a backup, at any node, records the risks of the route of the working LSP that its Path names, also where that LSP
 /// is gone. A state is calm where no group has failed and nothing of an earlier failure is left, as at the start. Over a
 /// topology, while since a calm state one group alone has failed, no activation of a backup is refused, no call is stuck, and
-/// all that is activated, reported, under way or waiting for a failure concerns that group. The last clause says all but the
-/// searching of one state, in one word.
+/// all that is activated, reported, under way or waiting for a failure concerns that group. Over a topology the items of each
+/// node's desk, one after the other on what it knows, tell which of its fibres in are physically down; and along the route of
+/// an LSP, as far as its legs stand and aren't torn, what a node's Notifies on their way to the ingress tell, the nearest to
+/// it first on what the call knows, is what that node knows to be down. The last clause says all but the searching of one
+/// state, in one word.
 pub fn every_run()
     ensures labels { EveryLabelIsShared }
     ensures labelled { EveryLiveLegIsLabelled }
@@ -39,6 +43,8 @@ pub fn every_run()
     ensures searchable { EveryNodeCanSearch }
     ensures beside { EveryBackupGoesBeside }
     ensures risks { EveryBackupRecordsItsRisks }
+    ensures desks { EveryDeskTellsFailures }
+    ensures reports { EveryReportTellsFailures }
     ensures calm { EveryRunStartsCalm }
     ensures admitted { EveryActivationIsAdmitted }
     ensures together { EveryRunKeepsTheLaws }

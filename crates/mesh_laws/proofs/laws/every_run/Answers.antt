@@ -7,6 +7,8 @@ use Rattle.mesh_laws.proofs.hops.Recorded.{every_backup_records}
 use Rattle.mesh_laws.proofs.hops.Safe.{every_run_safe}
 use Rattle.mesh_laws.proofs.nodes.Laws.{every_call, every_label, every_learnt_row, every_live}
 use Rattle.mesh_laws.proofs.nodes.Searches.{every_search}
+use Rattle.mesh_laws.proofs.reports.Desks.{every_desk_tells}
+use Rattle.mesh_laws.proofs.reports.Laws.{every_report_tells}
 use Rattle.mesh_laws.proofs.laws.every_run.Goals as goal
 
 pub returns-clause-labels : goal.returns-clause-labels
@@ -44,6 +46,12 @@ returns-clause-calm c = run_starts_calm
 
 pub returns-clause-admitted : goal.returns-clause-admitted
 returns-clause-admitted c = every_activation_admitted
+
+pub returns-clause-desks : goal.returns-clause-desks
+returns-clause-desks c = every_desk_tells
+
+pub returns-clause-reports : goal.returns-clause-reports
+returns-clause-reports c = every_report_tells
 
 pub returns-clause-together : goal.returns-clause-together
 returns-clause-together c = laws_hold
