@@ -1,29 +1,25 @@
 -- An alarm or a clear keeps what the reports of each LSP tell.
-use Rattle.std.proofs.Common.{◌≡◌, ◌≢◌, ◌≤◌, ◌<◌, ℕ, zero, suc, Bool, true, false, cond, nat_eq, not, List, [], ◌∷◌, ◌++◌, refl, sym, ap, ◌∙◌, subst, arith, inl, inr, append-nil}
-use Rattle.std.specs.Prelude.{◌&&◌, ◌||◌, ◌⊎◌, Option, Some, None}
-use Rattle.std.proofs.lemmas.List.Elements.{filter-append}
+use Rattle.std.proofs.Common.{◌≡◌, ◌≢◌, ◌<◌, ℕ, suc, Bool, true, false, cond, nat_eq, not, List, [], ◌∷◌, ◌++◌, refl, sym, ap, ◌∙◌, subst, arith, inl, inr, append-nil}
+use Rattle.std.specs.Prelude.{◌&&◌, ◌||◌, Option, Some, None}
 use Rattle.ason_base.specs.Codes.{fibre_down_code, fibre_up_code}
-use Rattle.ason_base.specs.Lsps.{has_fibre, same_fibre, same_lsp, without_fibre}
+use Rattle.ason_base.specs.Lsps.{has_fibre, same_fibre, without_fibre}
 use Rattle.ason_base.specs.Network.{Network}
 use Rattle.ason_base.specs.declared.codes.ErrCode.{ErrCode}
 use Rattle.ason_base.specs.declared.ids.Fibre.{Fibre}
 use Rattle.ason_base.specs.declared.ids.Lsp.{Lsp}
 use Rattle.ason_base.specs.declared.ids.NodeId.{NodeId}
-use Rattle.ason_base.specs.declared.messages.Msg.{Msg}
 use Rattle.ason_base.specs.declared.tables.CallRec.{CallRec}
 use Rattle.ason_base.specs.declared.tables.Leg.{Leg}
-use Rattle.mesh_rules.specs.declared.neighbours.Neighbour.{Neighbour}
 use Rattle.mesh_rules.specs.Alarms.{enters, is_hit, knows_down, notice_of, notices, on_alarm, on_clear}
-use Rattle.mesh_rules.specs.Calls.{find_call, names}
+use Rattle.mesh_rules.specs.Calls.{find_call}
 use Rattle.mesh_rules.specs.Changes.{Answer, changed, nothing}
-use Rattle.mesh_rules.specs.Legs.{find_leg, is_closing, is_on, previous}
+use Rattle.mesh_rules.specs.Legs.{find_leg, is_closing, previous}
 use Rattle.mesh_rules.specs.LocalNodes.{LocalNode, local_node, own_link}
 use Rattle.mesh_rules.specs.Machine.{Mesh, commit, sent_to}
 use Rattle.mesh_rules.specs.Reports.{reported}
-use Rattle.mesh_rules.specs.State.{NodeState}
 use Rattle.mesh_nodes.specs.Order.{LegsRise}
 use Rattle.mesh_nodes.proofs.Cases.{if_cases}
-use Rattle.mesh_nodes.proofs.LegList.{same_lsp-refl, found-lsp}
+use Rattle.mesh_nodes.proofs.LegList.{same_lsp-refl}
 use Rattle.mesh_laws.specs.HopLaw.{leg_at, mail_between, notices_between, notices_of}
 use Rattle.mesh_laws.specs.ReportLaw.{is_standing, on_the_way, reports_of, told, told_by_all}
 use Rattle.mesh_laws.proofs.hops.Chain.{LegFits, is_or_not}
@@ -34,9 +30,9 @@ use Rattle.mesh_laws.proofs.hops.Plans.{Plan, distinct, fibre_at, hops, link_at,
 use Rattle.mesh_laws.proofs.hops.Rest.{Purpose}
 use Rattle.mesh_laws.proofs.hops.Views.{notices-else, notices-from}
 use Rattle.mesh_laws.proofs.reports.Alarmed.{elsewhere-told, hit-told, missed-told, none-told, one-told, told-all-append}
-use Rattle.mesh_laws.proofs.reports.Gentle.{CallOf, IsUnreached, PlaceTold, RouteTold, Stands, Untold, commit-gentle, gentle-told, has_plain, line_at}
+use Rattle.mesh_laws.proofs.reports.Gentle.{CallOf, PlaceTold, RouteTold, Stands, Untold, commit-gentle, gentle-told, has_plain, line_at}
 use Rattle.mesh_laws.proofs.reports.GentleAnswers.{nothing-gentle}
-use Rattle.mesh_laws.proofs.reports.KnownFibres.{has-less, has-more, same_fibre-is, same_fibre-refl}
+use Rattle.mesh_laws.proofs.reports.KnownFibres.{has-less, has-more, same_fibre-is}
 use Rattle.mesh_laws.proofs.reports.OnTheWay.{same_lines, sent_told}
 
 module _ (t : Network) (s : Mesh) (n : NodeId) (o : Routes) (f : Fibre) (code : ErrCode) (down : Bool)
@@ -225,8 +221,8 @@ module _ (t : Network) (s : Mesh) (n : NodeId) (o : Routes) (f : Fibre) (code : 
     | inr apart ↦ quiet-told i small stands c of (silent-away i apart)
         (ap (λ ds. has_fibre ds (fibre_at t p i)) (known-elsewhere (node_at p (suc i)) apart))
     | inl here ↦ (
-      let leg = standing-leg (node_at p (suc i)) (stands-before (suc i) stands (suc i) (omega arith)) in
-      here-told i small here leg.0 leg.1 leg.2 stands c of (same_fibre (fibre_at t p i) f) refl)
+        let leg = standing-leg (node_at p (suc i)) (stands-before (suc i) stands (suc i) (omega arith)) in
+        here-told i small here leg.0 leg.1 leg.2 stands c of (same_fibre (fibre_at t p i) f) refl)
   ]
 
   untold-later : (j : ℕ) → leg_at s l (node_at p (suc j)) ≡ None → Untold t s l p j → Untold t later l p j
@@ -246,11 +242,11 @@ module _ (t : Network) (s : Mesh) (n : NodeId) (o : Routes) (f : Fibre) (code : 
   alarm-told = record {
     tells = tells-later;
     first = λ i small plain. (
-      let was = r.first i small (ap has_plain (sym (mail-same (node_at p i) (node_at p (suc i)))) ∙ plain) in
-      record {
-        gone = λ j after below. leg-same (node_at p (suc j)) ∙ was.gone j after below;
-        untold = λ j after below. untold-later j (was.gone j after below) (was.untold j after below);
-      });
+        let was = r.first i small (ap has_plain (sym (mail-same (node_at p i) (node_at p (suc i)))) ∙ plain) in
+        record {
+          gone = λ j after below. leg-same (node_at p (suc j)) ∙ was.gone j after below;
+          untold = λ j after below. untold-later j (was.gone j after below) (was.untold j after below);
+        });
   }
 
 -- Alarms and clears
@@ -277,7 +273,8 @@ module _ (t : Network) (s : Mesh) (n : NodeId) (o : Routes) (rise : LegsRise (s.
       if_cases (λ a. RouteTold t (commit s n.0 a) l p)
       (enters (local_node t n) f (own_link (local_node t n) f.link) && not (has_fibre (s.nodes n.0).down f)) _ _
       (λ e. alarm-told t s n o f fibre_down_code true refl ((s.nodes n.0).down ++ f ∷ [])
-      (λ g. has-more (s.nodes n.0).down g f ∙ or_cond (has_fibre (s.nodes n.0).down g) (same_fibre g f)) rise l q p pl r)
+      (λ g. has-more (s.nodes n.0).down g f ∙ or_cond (has_fibre (s.nodes n.0).down g) (same_fibre g f)) rise l q p
+      pl r)
       (λ e. vain-told)
 
   pub on_clear-told : (f : Fibre) → RouteTold t (commit s n.0 (on_clear (local_node t n) (s.nodes n.0) f)) l p
@@ -285,5 +282,6 @@ module _ (t : Network) (s : Mesh) (n : NodeId) (o : Routes) (rise : LegsRise (s.
       if_cases (λ a. RouteTold t (commit s n.0 a) l p)
       (enters (local_node t n) f (own_link (local_node t n) f.link) && has_fibre (s.nodes n.0).down f) _ _
       (λ e. alarm-told t s n o f fibre_up_code false refl (without_fibre f (s.nodes n.0).down)
-      (λ g. has-less (s.nodes n.0).down g f ∙ not_cond (has_fibre (s.nodes n.0).down g) (same_fibre g f)) rise l q p pl r)
+      (λ g. has-less (s.nodes n.0).down g f ∙ not_cond (has_fibre (s.nodes n.0).down g) (same_fibre g f)) rise l q p
+      pl r)
       (λ e. vain-told)

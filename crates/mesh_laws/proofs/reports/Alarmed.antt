@@ -1,34 +1,31 @@
 -- An alarm or a clear at a node: what is known there, and the Notifies that tell it.
-use Rattle.std.proofs.Common.{◌≡◌, ◌≢◌, ◌≤◌, ◌<◌, ℕ, zero, suc, Bool, true, false, cond, nat_eq, not, List, [], ◌∷◌, ◌++◌, refl, sym, ap, ◌∙◌, subst, arith, inl, inr, append-nil}
-use Rattle.std.specs.Prelude.{◌&&◌, ◌||◌, ◌⊎◌, flat_map, map, filter, Option, Some, None}
+use Rattle.std.proofs.Common.{◌≡◌, Bool, true, false, cond, nat_eq, List, [], ◌∷◌, ◌++◌, refl, sym, ap, ◌∙◌, subst, arith, append-nil}
+use Rattle.std.specs.Prelude.{◌&&◌, map, Option, Some, None}
 use Rattle.std.specs.List.{AllByRecursion}
 use Rattle.std.proofs.lemmas.List.{append_assoc}
 use Rattle.std.proofs.lemmas.List.Elements.{filter-append}
-use Rattle.ason_base.specs.Codes.{fibre_down_code, fibre_up_code}
-use Rattle.ason_base.specs.Lsps.{has_fibre, lsp_before, same_bool, same_fibre, same_lsp, without_fibre}
-use Rattle.ason_base.specs.Network.{Network}
+use Rattle.ason_base.specs.Lsps.{lsp_before, same_lsp}
 use Rattle.ason_base.specs.declared.codes.ErrCode.{ErrCode}
 use Rattle.ason_base.specs.declared.ids.Fibre.{Fibre}
 use Rattle.ason_base.specs.declared.ids.LinkId.{LinkId}
 use Rattle.ason_base.specs.declared.ids.Lsp.{Lsp}
 use Rattle.ason_base.specs.declared.ids.NodeId.{NodeId}
 use Rattle.ason_base.specs.declared.messages.Msg.{Msg}
-use Rattle.ason_base.specs.declared.messages.Msg.TheVariants.{Path, Resv, PathTear, PathErr, Notify}
-use Rattle.ason_base.specs.declared.tables.CallRec.{CallRec}
+use Rattle.ason_base.specs.declared.messages.Msg.TheVariants.{Notify}
 use Rattle.ason_base.specs.declared.tables.Leg.{Leg}
 use Rattle.ason_base.specs.declared.tables.Out.{Out}
 use Rattle.mesh_rules.specs.declared.neighbours.Neighbour.{Neighbour}
 use Rattle.mesh_rules.specs.Alarms.{is_hit, notice_of, notices, notify_to}
-use Rattle.mesh_rules.specs.Changes.{Answer, to_node}
-use Rattle.mesh_rules.specs.Legs.{find_leg, is_closing, is_on, previous}
+use Rattle.mesh_rules.specs.Changes.{to_node}
+use Rattle.mesh_rules.specs.Legs.{find_leg, previous}
 use Rattle.mesh_rules.specs.LocalNodes.{LocalNode}
-use Rattle.mesh_rules.specs.Machine.{Mesh, commit, sent_to}
+use Rattle.mesh_rules.specs.Machine.{sent_to}
 use Rattle.mesh_rules.specs.Reports.{reported}
 use Rattle.mesh_nodes.specs.Order.{LegsRise}
 use Rattle.mesh_nodes.proofs.LegList.{before-apart, found-all, found-lsp, same_lsp-eq, same_lsp-refl}
-use Rattle.mesh_nodes.proofs.Cases.{both_left, both_right, if_cases}
-use Rattle.mesh_laws.specs.HopLaw.{leg_at, mail_between, notices_between, notices_of}
-use Rattle.mesh_laws.specs.ReportLaw.{is_standing, listed, on_the_way, reports_of, told, told_by, told_by_all}
+use Rattle.mesh_nodes.proofs.Cases.{if_cases}
+use Rattle.mesh_laws.specs.HopLaw.{notices_of}
+use Rattle.mesh_laws.specs.ReportLaw.{told_by, told_by_all}
 use Rattle.mesh_laws.proofs.hops.FollowedBy.{sent-then}
 
 -- What Notifies of the LSP tell
@@ -127,8 +124,10 @@ module _ (p : LocalNode) (f : Fibre) (code : ErrCode) (down : Bool) (tells : rep
   elsewhere-told [] apart = refl
   elsewhere-told (g ∷ legs) apart =
       told-then (notice_of p f code g) (notices p f code legs)
-      ∙ rw (if_cases (λ outs. Told outs ≡ []) (is_hit f g) _ _ (λ e. elsewhere-to' g (previous g)) (λ e. refl),
-      elsewhere-told legs apart) refl
+      ∙ rw (
+        if_cases (λ outs. Told outs ≡ []) (is_hit f g) _ _ (λ e. elsewhere-to' g (previous g)) (λ e. refl),
+        elsewhere-told legs apart,
+      ) refl
     where
       elsewhere-to' : (g : Leg) (h : Option Neighbour) → Told (notify_to p f code g h) ≡ []
       elsewhere-to' g None = refl

@@ -1,26 +1,16 @@
 -- The first Path of an LSP is taken: what its reports tell stays.
-use Rattle.std.proofs.Common.{◌≡◌, ◌≢◌, ◌≤◌, ◌<◌, ℕ, zero, suc, Bool, true, false, cond, nat_eq, not, List, [], ◌∷◌, ◌++◌, refl, sym, ap, ◌∙◌, subst, arith, inl, inr}
-use Rattle.std.specs.Prelude.{◌&&◌, ◌||◌, ◌⊎◌, Option, Some, None}
+use Rattle.std.proofs.Common.{◌≡◌, ℕ, true, false, nat_eq, not, List, [], ◌∷◌, refl}
+use Rattle.std.specs.Prelude.{◌&&◌, Option, Some, None}
 use Rattle.ason_base.specs.Labels.{least}
-use Rattle.ason_base.specs.Lsps.{has_fibre, same_lsp}
-use Rattle.ason_base.specs.Network.{Network}
+use Rattle.ason_base.specs.Lsps.{has_fibre}
 use Rattle.ason_base.specs.declared.codes.ErrCode.{ErrCode}
-use Rattle.ason_base.specs.declared.ids.LinkId.{LinkId}
 use Rattle.ason_base.specs.declared.ids.Lsp.{Lsp}
-use Rattle.ason_base.specs.declared.ids.NodeId.{NodeId}
-use Rattle.ason_base.specs.declared.messages.Msg.{Msg}
-use Rattle.ason_base.specs.declared.messages.Msg.TheVariants.{Path}
-use Rattle.ason_base.specs.declared.messages.PathRole.{PathRole}
 use Rattle.ason_base.specs.declared.network.LinkSpec.{LinkSpec}
 use Rattle.ason_base.specs.declared.risks.Risk.{Risk}
 use Rattle.ason_base.specs.declared.steps.Step.{Step}
-use Rattle.ason_base.specs.declared.tables.CallRec.{CallRec}
-use Rattle.ason_base.specs.declared.tables.Leg.{Leg}
-use Rattle.mesh_rules.specs.Changes.{Answer, changed, nothing}
-use Rattle.mesh_rules.specs.Calls.{find_call, names}
-use Rattle.mesh_rules.specs.Legs.{find_leg}
+use Rattle.mesh_rules.specs.Changes.{Answer}
 use Rattle.mesh_rules.specs.LocalNodes.{LocalNode, fibre_in, leads, own_link}
-use Rattle.mesh_rules.specs.Paths.{Check, PathRequest, admitted, at_egress, checks, first_failure, first_path, in_transit, is_active, judged, offered_labels, risks_here}
+use Rattle.mesh_rules.specs.Paths.{PathRequest, admitted, at_egress, checks, first_failure, first_path, in_transit, is_active, judged, offered_labels, risks_here}
 use Rattle.mesh_rules.specs.State.{NodeState}
 use Rattle.mesh_nodes.proofs.Cases.{if_cases}
 use Rattle.mesh_laws.specs.ReportLaw.{is_standing}

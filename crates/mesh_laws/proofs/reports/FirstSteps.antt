@@ -1,6 +1,6 @@
 -- The first Path of an LSP is taken on its route: what its reports tell stays.
-use Rattle.std.proofs.Common.{◌≡◌, ◌≢◌, ◌≤◌, ◌<◌, ℕ, zero, suc, Bool, true, false, cond, nat_eq, not, List, [], ◌∷◌, ◌++◌, drop, refl, sym, ap, ◌∙◌, subst, arith, inl, inr}
-use Rattle.std.specs.Prelude.{◌&&◌, ◌||◌, ◌⊎◌, Option, Some, None}
+use Rattle.std.proofs.Common.{◌≡◌, ◌≢◌, ◌≤◌, ◌<◌, ℕ, zero, suc, Bool, true, false, cond, nat_eq, List, [], ◌∷◌, refl, sym, ap, ◌∙◌, subst, arith, inl, inr}
+use Rattle.std.specs.Prelude.{◌⊎◌, Option, Some, None}
 use Rattle.ason_base.specs.Lsps.{has_fibre}
 use Rattle.ason_base.specs.Network.{Network}
 use Rattle.ason_base.specs.declared.ids.LinkId.{LinkId}
@@ -11,11 +11,9 @@ use Rattle.ason_base.specs.declared.messages.Msg.TheVariants.{Path, Resv, PathTe
 use Rattle.ason_base.specs.declared.messages.PathRole.{PathRole}
 use Rattle.ason_base.specs.declared.steps.Step.{Step}
 use Rattle.ason_base.specs.declared.tables.CallRec.{CallRec}
-use Rattle.ason_base.specs.declared.tables.Leg.{Leg}
 use Rattle.mesh_rules.specs.Calls.{calls_changed, find_call}
 use Rattle.mesh_rules.specs.Changes.{Answer, changed}
-use Rattle.mesh_rules.specs.Legs.{find_leg}
-use Rattle.mesh_rules.specs.LocalNodes.{LocalNode, fibre_in, local_node, own_link}
+use Rattle.mesh_rules.specs.LocalNodes.{LocalNode, local_node, own_link}
 use Rattle.mesh_rules.specs.Machine.{Mesh, commit, without_first}
 use Rattle.mesh_rules.specs.Messages.{arrival, on_message}
 use Rattle.mesh_rules.specs.Paths.{PathRequest, first_path, is_active}
@@ -25,19 +23,18 @@ use Rattle.mesh_nodes.proofs.LegList.{same_lsp-refl}
 use Rattle.mesh_laws.specs.HopLaw.{leg_at, mail_between, messages_of, notices_between}
 use Rattle.mesh_laws.specs.HopShapes.{PlainPath, path_kind}
 use Rattle.mesh_laws.specs.ReportLaw.{is_standing, on_the_way, reports_of, told, told_by_all}
-use Rattle.mesh_laws.proofs.hops.Chain.{Chain, IsFirst, IsVacant, below_or_not, is_or_not}
+use Rattle.mesh_laws.proofs.hops.Chain.{IsVacant, below_or_not, is_or_not}
 use Rattle.mesh_laws.proofs.hops.Own.{own-leg_part, sent-plain}
 use Rattle.mesh_laws.proofs.hops.PathRule as path_rule
 use Rattle.mesh_laws.proofs.hops.Planned.{Planned, Routes}
-use Rattle.mesh_laws.proofs.hops.Plans.{Leads, Plan, distinct, fibre_at, hops, link_at, node_at, own_far, same_node}
+use Rattle.mesh_laws.proofs.hops.Plans.{Leads, Plan, distinct, fibre_at, hops, link_at, node_at, own_far}
 use Rattle.mesh_laws.proofs.hops.Rest.{Purpose, has_path, plain_inactive}
 use Rattle.mesh_laws.proofs.hops.Sending.{elsewhere-taken, left-taken}
 use Rattle.mesh_laws.proofs.hops.Tables.{leg_after}
-use Rattle.mesh_laws.proofs.hops.Taken.{down_mine}
-use Rattle.mesh_laws.proofs.hops.Views.{leg-here, leg-there, mail-else, notices-plain, notices-without, without-else}
+use Rattle.mesh_laws.proofs.hops.Views.{leg-here, leg-there, notices-plain, notices-without}
 use Rattle.mesh_laws.proofs.reports.Desks.{same-down}
 use Rattle.mesh_laws.proofs.reports.FirstPaths.{clear-first_path, no_calls-first_path}
-use Rattle.mesh_laws.proofs.reports.Gentle.{CallOf, IsUnreached, PlaceTold, RouteTold, Stands, Untold, has_plain, is_plain, line_at}
+use Rattle.mesh_laws.proofs.reports.Gentle.{CallOf, IsUnreached, PlaceTold, RouteTold, Stands, Untold, has_plain, line_at}
 use Rattle.mesh_laws.proofs.reports.OnTheWay.{same_lines}
 
 -- where no line tells anything, nothing is on the way
@@ -102,7 +99,11 @@ module _ (t : Network) (s : Mesh) (o : Routes) (l : Lsp) (q : Purpose) (p : Plan
       (y : ℕ) → x < y → y ≤ hops p → IsVacant p (leg_at s l) (mail_between s l) y
   vacant x small has y after most =
       pl.chain.fresh x small
-      (record { gone = (r.first x small has).gone x (omega arith) small; path = plain-path (mail_between s l (node_at p x) (node_at p (suc x))) has }) y after most
+      (record {
+        gone = (r.first x small has).gone x (omega arith) small;
+        path = plain-path
+            (mail_between s l (node_at p x) (node_at p (suc x))) has;
+      }) y after most
 
   -- no other hop before has one
   alone : (x : ℕ) → x < i → has_plain (mail_between s l (node_at p x) (node_at p (suc x))) ≡ true → ⊥
@@ -160,7 +161,8 @@ module _ (t : Network) (s : Mesh) (o : Routes) (l : Lsp) (q : Purpose) (p : Plan
   -- Places
 
   -- a place before
-  before-told : (x : ℕ) → x < i → Stands later l p (suc x) → (c : CallRec) → CallOf later l c → PlaceTold t later l p x c
+  before-told : (x : ℕ) → x < i → Stands later l p (suc x) → (c : CallRec) → CallOf later l c
+      → PlaceTold t later l p x c
   before-told x less stands c of =
       ap (told (has_fibre (reports_of l c) (fibre_at t p x))) (way-same x)
       ∙ r.tells x (let b = below in omega arith) (λ y most. subst (λ v. is_standing v ≡ true)
@@ -247,7 +249,8 @@ module _ (t : Network) (s : Mesh) (o : Routes) (l : Lsp) (q : Purpose) (p : Plan
           })
       go (inr apart) (inr not-next) = elsewhere (below_or_not x i)
         where
-          same-mail : mail_between later l (node_at p x) (node_at p (suc x)) ≡ mail_between s l (node_at p x) (node_at p (suc x))
+          same-mail : mail_between later l (node_at p x) (node_at p (suc x))
+              ≡ mail_between s l (node_at p x) (node_at p (suc x))
           same-mail =
               elsewhere-taken s u d (node_at p x) (node_at p (suc x)) l answer
               (distinct t l.ingress p pl.route x (suc i) (omega arith) (let b = below in omega arith) not-next)

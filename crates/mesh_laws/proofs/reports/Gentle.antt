@@ -1,7 +1,7 @@
 -- A step that tells nothing of the fibres of an LSP's route, and takes no Notify of the LSP: its legs that stand stood
 -- before, its Notifies stay on their way, and its call has the same reports.
-use Rattle.std.proofs.Common.{◌≡◌, ◌≤◌, ◌<◌, ℕ, suc, Bool, true, false, cond, nat_eq, List, [], ◌∷◌, ◌++◌, drop, refl, sym, ap, ◌∙◌, subst, arith, inl, inr, append-nil}
-use Rattle.std.specs.Prelude.{◌&&◌, ◌||◌, ◌⊎◌, map, filter, Option, Some, None}
+use Rattle.std.proofs.Common.{◌≡◌, ◌≤◌, ◌<◌, ℕ, suc, Bool, true, false, cond, nat_eq, List, [], ◌∷◌, ◌++◌, drop, refl, sym, ap, ◌∙◌, subst, arith, append-nil}
+use Rattle.std.specs.Prelude.{◌&&◌, ◌||◌, map, filter, Option, Some, None}
 use Rattle.std.specs.List.{list_any}
 use Rattle.std.proofs.lemmas.List.Elements.{filter-append}
 use Rattle.std.proofs.lemmas.List.Folds.{list_any-append}
@@ -29,7 +29,7 @@ use Rattle.mesh_laws.specs.HopLaw.{is_message_of, is_notice, is_notice_of, leg_a
 use Rattle.mesh_laws.specs.ReportLaw.{is_standing, on_the_way, reports_of, told, told_by_all}
 use Rattle.mesh_laws.proofs.hops.Plans.{Plan, fibre_at, hops, link_at, node_at}
 use Rattle.mesh_laws.proofs.hops.Tables.{leg_after}
-use Rattle.mesh_laws.proofs.hops.Views.{leg-here, mail-from, notices-from, notices-without}
+use Rattle.mesh_laws.proofs.hops.Views.{leg-here, notices-without}
 use Rattle.mesh_laws.proofs.reports.Desks.{same-down}
 
 -- What is carried
@@ -107,9 +107,9 @@ gentle-then s s' s'' l a b = record {
   still = still-then s s' s'' l a.still b.still;
   notices = λ x y. b.notices x y ∙ a.notices x y;
   calls = λ c of. (
-    let second = b.calls c of in
-    let first = a.calls second.0 second.1 in
-    (first.0, first.1, second.2 ∙ first.2));
+      let second = b.calls c of in
+      let first = a.calls second.0 second.1 in
+      (first.0, first.1, second.2 ∙ first.2));
 }
 
 module _ (t : Network) (s s' : Mesh) (l : Lsp) (p : Plan) (g : Gentle s s' l) where
@@ -117,27 +117,27 @@ module _ (t : Network) (s s' : Mesh) (l : Lsp) (p : Plan) (g : Gentle s s' l) wh
   untold-stays j u = record {
     notices = λ a b. ap (told_by_all (node_at p (suc j)) (link_at p j)) (g.notices a b) ∙ u.notices a b;
     report = λ c of. (
-      let was = g.calls c of in
-      ap (λ fibres. has_fibre fibres (fibre_at t p j)) was.2 ∙ u.report was.0 was.1);
+        let was = g.calls c of in
+        ap (λ fibres. has_fibre fibres (fibre_at t p j)) was.2 ∙ u.report was.0 was.1);
   }
 
   pub gentle-told : RouteTold t s l p → RouteTold t s' l p
   gentle-told r = record {
     tells = λ i small stands c of. (
-      let was = g.calls c of in
-      let same : notices_between s l ≡ notices_between s' l = (λ k a b. sym (g.notices a b) k) in
-      ap (λ fibres. told (has_fibre fibres (fibre_at t p i))
-      (on_the_way (line_at (notices_between s' l) p i) (suc i))) was.2
-      ∙ ap (λ (ns : NodeId → NodeId → List Msg). told (has_fibre (reports_of l was.0) (fibre_at t p i))
-      (on_the_way (line_at ns p i) (suc i))) (sym same)
-      ∙ r.tells i small (λ j most. g.still.stands (node_at p j) (stands j most)) was.0 was.1
-      ∙ ap (λ fibres. has_fibre fibres (fibre_at t p i)) (sym (g.still.down (node_at p (suc i)).0)));
+        let was = g.calls c of in
+        let same : notices_between s l ≡ notices_between s' l = (λ k a b. sym (g.notices a b) k) in
+        ap (λ fibres. told (has_fibre fibres (fibre_at t p i))
+        (on_the_way (line_at (notices_between s' l) p i) (suc i))) was.2
+        ∙ ap (λ (ns : NodeId → NodeId → List Msg). told (has_fibre (reports_of l was.0) (fibre_at t p i))
+        (on_the_way (line_at ns p i) (suc i))) (sym same)
+        ∙ r.tells i small (λ j most. g.still.stands (node_at p j) (stands j most)) was.0 was.1
+        ∙ ap (λ fibres. has_fibre fibres (fibre_at t p i)) (sym (g.still.down (node_at p (suc i)).0)));
     first = λ i small plain. (
-      let was = r.first i small (g.still.plain (node_at p i) (node_at p (suc i)) plain) in
-      record {
-        gone = λ j after below. g.still.gone (node_at p (suc j)) (was.gone j after below);
-        untold = λ j after below. untold-stays j (was.untold j after below);
-      });
+        let was = r.first i small (g.still.plain (node_at p i) (node_at p (suc i)) plain) in
+        record {
+          gone = λ j after below. g.still.gone (node_at p (suc j)) (was.gone j after below);
+          untold = λ j after below. untold-stays j (was.untold j after below);
+        });
   }
 
 -- Answers
@@ -235,7 +235,8 @@ module _ (s : Mesh) (n : NodeId) (l : Lsp) (a : Answer) (keeps : LegKeeps l (leg
       has_plain (mail_between s l x b) ≡ true
   plain-after x b = go (nat_eq x.0 n.0)
     where
-      go : (t : Bool) → has_plain (messages_of l (cond t (s.mail x.0 b.0 ++ sent_to b.0 a.sent) (s.mail x.0 b.0))) ≡ true →
+      go : (t : Bool) → has_plain (messages_of l (cond t (s.mail x.0 b.0 ++ sent_to b.0 a.sent) (s.mail x.0 b.0)))
+          ≡ true →
           has_plain (mail_between s l x b) ≡ true
       go false h = h
       go true h =
@@ -265,12 +266,15 @@ module _ (s : Mesh) (n : NodeId) (l : Lsp) (a : Answer) (g : IsGentle (s.nodes n
           let is : l.ingress.0 ≡ n.0 = grind arith in
           let at_n : find_call c.call (calls_changed a.calls (s.nodes n.0).calls) ≡ Some c =
           subst (λ k. find_call c.call (calls_changed a.calls (s.nodes k).calls) ≡ Some c) is found in
-          let was = g.calls c.call c at_n of.named in
-          (was.0, record {
-            found = subst (λ k. find_call k (s.nodes l.ingress.0).calls ≡ Some was.0) (number was.0 was.1)
-                (subst (λ k. find_call c.call (s.nodes k).calls ≡ Some was.0) (sym is) was.1);
-            named = was.2;
-          }, was.3)
+          let was = g.calls c.call c at_n of.named in (
+            was.0,
+            record {
+              found = subst (λ k. find_call k (s.nodes l.ingress.0).calls ≡ Some was.0) (number was.0 was.1)
+                  (subst (λ k. find_call c.call (s.nodes k).calls ≡ Some was.0) (sym is) was.1);
+              named = was.2;
+            },
+            was.3,
+          )
         where
           number : (d : CallRec) → find_call c.call (s.nodes n.0).calls ≡ Some d → c.call ≡ d.call
           number d found = sym (found-number c.call (s.nodes n.0).calls d found)
@@ -296,7 +300,8 @@ taken-still s u d l m rest was =
     dropped : (ms : List Msg) → ms ≡ m ∷ rest → has_plain (messages_of l (drop 1 ms)) ≡ true →
         has_plain (messages_of l ms) ≡ true
     dropped ms is h =
-        let h' : has_plain (messages_of l rest) ≡ true = subst (λ x. has_plain (messages_of l (drop 1 x)) ≡ true) is h in
+        let h' : has_plain (messages_of l rest) ≡ true = subst (λ x. has_plain (messages_of l (drop 1 x))
+        ≡ true) is h in
         subst (λ x. has_plain (messages_of l x) ≡ true) (sym is)
         (later (is_message_of l m) m h')
 

@@ -1,6 +1,6 @@
 -- Answers that tell nothing of the fibres of an LSP's route: of messages, and of the orders of calls.
-use Rattle.std.proofs.Common.{◌≡◌, ◌<◌, ◌+◌, drop, ℕ, Bool, true, false, cond, nat_eq, nat_lt, not, List, [], ◌∷◌, ◌++◌, refl, sym, ap, ◌∙◌, subst, arith, inl, inr}
-use Rattle.std.specs.Prelude.{◌&&◌, ◌||◌, ◌⊎◌, Option, Some, None, is_some}
+use Rattle.std.proofs.Common.{◌≡◌, ◌+◌, drop, Bool, true, false, cond, nat_eq, nat_lt, not, List, [], ◌∷◌, ◌++◌, refl, sym, ap, ◌∙◌, subst, arith, inl, inr}
+use Rattle.std.specs.Prelude.{◌||◌, ◌⊎◌, Option, Some, None, is_some}
 use Rattle.ason_base.specs.Lsps.{is_lsp, same_lsp}
 use Rattle.ason_base.specs.Risks.{unknown_link}
 use Rattle.ason_base.specs.declared.calls.CallState.{CallState}
@@ -23,11 +23,11 @@ use Rattle.mesh_rules.specs.declared.changes.LegChange.TheVariants as leg
 use Rattle.mesh_rules.specs.declared.changes.NextNumbers.{NextNumbers}
 use Rattle.mesh_rules.specs.declared.limits.TheConstants.{LAST_NUMBER}
 use Rattle.mesh_rules.specs.declared.neighbours.Neighbour.{Neighbour}
-use Rattle.mesh_rules.specs.Calls.{call_changed, calls_changed, find_call, guarded, names, pairing, stuck, turning, unbacked, with_call, without_call}
-use Rattle.mesh_rules.specs.Changes.{Answer, changed, changes_calls, down_after, followed_by, later, nothing, puts, removes, sends}
+use Rattle.mesh_rules.specs.Calls.{call_changed, calls_changed, find_call, guarded, names, pairing, stuck, turning, unbacked}
+use Rattle.mesh_rules.specs.Changes.{Answer, changed, changes_calls, followed_by, nothing, puts, removes, sends}
 use Rattle.mesh_rules.specs.FirstLegs.{NewLsp, asks_for, first_link, is_full}
 use Rattle.mesh_rules.specs.KnownRows.{known_rows}
-use Rattle.mesh_rules.specs.Legs.{find_leg, following, is_closing, is_held, legs_changed, with_phase}
+use Rattle.mesh_rules.specs.Legs.{find_leg, following, is_closing, is_held, with_phase}
 use Rattle.mesh_rules.specs.LocalNodes.{LocalNode}
 use Rattle.mesh_rules.specs.Pairs.{backup_lsp, backup_route, beside_lsp, over_backup, pair, pair_over, route_from}
 use Rattle.mesh_rules.specs.Paths.{is_active}
@@ -97,9 +97,12 @@ put-call l calls c d there number keeps k x found named =
         (y : CallRec) × (find_call k calls ≡ Some y) × (names l y ≡ true) × (reports_of l x ≡ reports_of l y)
     go true e is =
         let one : d ≡ x = cc is in
-        let kept = keeps (subst (λ y. names l y ≡ true) (sym one) named) in
-        (c, subst (λ m. find_call m calls ≡ Some c) (sym number ∙ same-number d.call k e) there, kept.0,
-        subst (λ y. reports_of l y ≡ reports_of l c) one kept.1)
+        let kept = keeps (subst (λ y. names l y ≡ true) (sym one) named) in (
+          c,
+          subst (λ m. find_call m calls ≡ Some c) (sym number ∙ same-number d.call k e) there,
+          kept.0,
+          subst (λ y. reports_of l y ≡ reports_of l c) one kept.1,
+        )
     go false e is = (x, is, named, refl)
 
 -- a call that doesn't name the LSP is put in its place
@@ -175,9 +178,9 @@ both-gentle s l a b first second = record {
   sent = both-mild l a.sent b.sent first.sent second.sent;
   down = rw (first.down, second.down) refl;
   calls = λ k c found named. (
-    let mid = second.calls k c (rw (calls-both a.calls b.calls s.calls) at found) named in
-    let was = first.calls k mid.0 mid.1 mid.2 in
-    (was.0, was.1, was.2, mid.3 ∙ was.3));
+      let mid = second.calls k c (rw (calls-both a.calls b.calls s.calls) at found) named in
+      let was = first.calls k mid.0 mid.1 mid.2 in
+      (was.0, was.1, was.2, mid.3 ∙ was.3));
 }
   where
     mid-leg : find_leg l (changed s a).legs ≡ leg_after l a.legs (find_leg l s.legs)

@@ -1,26 +1,23 @@
 -- Which messages and orders tell nothing of the fibres of an LSP's route: all but its own Notifies and its first Path.
-use Rattle.std.proofs.Common.{◌≡◌, ◌<◌, ◌+◌, ℕ, Bool, true, false, cond, nat_eq, nat_lt, not, List, [], ◌∷◌, drop, refl, sym, ap, ◌∙◌, subst, arith, inl, inr}
-use Rattle.std.specs.Prelude.{◌&&◌, ◌||◌, ◌⊎◌, Option, Some, None, IfSome, is_some}
+use Rattle.std.proofs.Common.{◌≡◌, ◌<◌, ℕ, Bool, true, false, nat_eq, not, List, [], ◌∷◌, refl, sym, ap, ◌∙◌, subst, arith}
+use Rattle.std.specs.Prelude.{◌&&◌, ◌||◌, Option, Some, None, is_some}
 use Rattle.ason_base.specs.Codes.{busy_code, torn_code}
 use Rattle.ason_base.specs.Labels.{least}
 use Rattle.ason_base.specs.Lsps.{is_lsp, same_lsp}
 use Rattle.ason_base.specs.Network.{other_end}
 use Rattle.ason_base.specs.declared.calls.Cause.{Cause}
-use Rattle.ason_base.specs.declared.calls.Cause.TheVariants.{Code, Full, NoRoute, Spent, Unset}
-use Rattle.ason_base.specs.declared.calls.CallState.TheVariants.{Asking, Blocked}
+use Rattle.ason_base.specs.declared.calls.Cause.TheVariants.{Code}
 use Rattle.ason_base.specs.declared.calls.Phase.{Phase}
 use Rattle.ason_base.specs.declared.calls.Phase.TheVariants.{Armed, Asked, Closing, Falling, Held, Live}
 use Rattle.ason_base.specs.declared.calls.Role.{Role}
 use Rattle.ason_base.specs.declared.calls.Role.TheVariants as role
 use Rattle.ason_base.specs.declared.codes.ErrCode.{ErrCode}
-use Rattle.ason_base.specs.declared.commands.Command.{Command}
-use Rattle.ason_base.specs.declared.commands.Command.TheVariants.{Setup, Release, Protect, Retry, Revert, Fail, Repair}
 use Rattle.ason_base.specs.declared.ids.CallNo.{CallNo}
 use Rattle.ason_base.specs.declared.ids.Fibre.{Fibre}
 use Rattle.ason_base.specs.declared.ids.Lsp.{Lsp}
 use Rattle.ason_base.specs.declared.ids.NodeId.{NodeId}
 use Rattle.ason_base.specs.declared.messages.Msg.{Msg}
-use Rattle.ason_base.specs.declared.messages.Msg.TheVariants.{Path, Resv, PathTear, PathErr, Notify}
+use Rattle.ason_base.specs.declared.messages.Msg.TheVariants.{Path, Resv, PathErr}
 use Rattle.ason_base.specs.declared.messages.PathRole.{PathRole}
 use Rattle.ason_base.specs.declared.messages.PathRole.TheVariants.{Work, Back}
 use Rattle.ason_base.specs.declared.network.LinkSpec.{LinkSpec}
@@ -30,44 +27,32 @@ use Rattle.ason_base.specs.declared.tables.CallRec.{CallRec}
 use Rattle.ason_base.specs.declared.tables.Leg.{Leg}
 use Rattle.ason_base.specs.declared.tables.Out.{Out}
 use Rattle.mesh_rules.specs.declared.arrivals.Arrival.{Arrival}
-use Rattle.mesh_rules.specs.declared.changes.CallChange.TheVariants as call
-use Rattle.mesh_rules.specs.declared.changes.LegChange.TheVariants as leg
 use Rattle.mesh_rules.specs.declared.neighbours.Neighbour.{Neighbour}
-use Rattle.mesh_rules.specs.ActivationAnswers.{confirmed, contended, disarmed, is_confirmed, resv_again}
-use Rattle.mesh_rules.specs.Activations.{armed_on, busy_to, is_contended, path_again, resv_to}
+use Rattle.mesh_rules.specs.ActivationAnswers.{confirmed, contended, disarmed, is_confirmed}
+use Rattle.mesh_rules.specs.Activations.{armed_on, busy_to, is_contended, path_again, path_to, resv_to}
 use Rattle.mesh_rules.specs.CallSteps.{call_answered, call_contended, call_refused, call_turned}
-use Rattle.mesh_rules.specs.Calls.{bare, blocked, call_with, find_call, guarded, is_asking, is_bare, is_pairing, is_stuck, is_turning, names, stuck, turned}
-use Rattle.mesh_rules.specs.Changes.{Answer, changed, changes_calls, followed_by, nothing, puts, removes, sends, to_node}
-use Rattle.mesh_rules.specs.FirstLegs.{first_link, is_full}
-use Rattle.mesh_rules.specs.KnownRows.{known_rows}
-use Rattle.mesh_rules.specs.LeastRoutes.{Trip, least_trip}
+use Rattle.mesh_rules.specs.Calls.{bare, blocked, call_with, find_call, guarded, is_asking, is_pairing, is_turning, names, stuck, turned}
+use Rattle.mesh_rules.specs.Changes.{changed, puts, removes, to_node}
 use Rattle.mesh_rules.specs.Legs.{closed, closing_phase, connected, find_leg, following, is_armed, is_asked, is_closing, is_held, is_node, is_over, is_work, leg_of, neighbour_over, previous, reserved, with_leg, with_phase}
 use Rattle.mesh_rules.specs.LocalNodes.{LocalNode, leads, own_link}
-use Rattle.mesh_rules.specs.Messages.{arrival, on_message}
 use Rattle.mesh_rules.specs.Notifies.{Notice, notice_passed, notice_told, notify_with}
-use Rattle.mesh_rules.specs.Orders.{on_order}
 use Rattle.mesh_rules.specs.PathErrs.{PathFailure, err_passed, path_err_with, removed}
-use Rattle.mesh_rules.specs.Paths.{PathRequest, admitted, at_egress, checks, egress_leg, error_to, first_failure, first_path, in_transit, is_active, judged, offered_labels, path_with, risks_here, role_of, set_on, transit_leg}
+use Rattle.mesh_rules.specs.Paths.{PathRequest, admitted, at_egress, checks, egress_leg, error_to, first_failure, first_path, in_transit, is_active, judged, offered_labels, risks_here, role_of, set_on, transit_leg}
 use Rattle.mesh_rules.specs.Pairs.{beside_lsp, route_from}
-use Rattle.mesh_rules.specs.Protects.{protect_with, protects}
-use Rattle.mesh_rules.specs.Releases.{release_with, releases, tear_to, tears}
-use Rattle.mesh_rules.specs.Reports.{call_reported, fibre_into, report_here, reported, reported_on, with_report}
+use Rattle.mesh_rules.specs.Reports.{call_reported, fibre_into, reported, reported_on, with_report}
 use Rattle.mesh_rules.specs.Resvs.{answered, is_expected, label_back, labels_left, passed_back, resv_with}
-use Rattle.mesh_rules.specs.Retries.{retries, retry_with}
-use Rattle.mesh_rules.specs.Setups.{SetupRequest, admitted_setup, call_record, is_order_here, is_spent, new_call, next_lsp, over_first, over_found, refused_setup, setup_with, working_lsp}
 use Rattle.mesh_rules.specs.State.{NodeState}
 use Rattle.mesh_rules.specs.Tears.{tear_with, torn}
-use Rattle.mesh_rules.specs.Turns.{activating, has_any}
+use Rattle.mesh_rules.specs.Turns.{activating}
 use Rattle.mesh_nodes.proofs.CallList.{called-found, called-names}
 use Rattle.mesh_nodes.proofs.Cases.{both_left, if_cases, not-true}
 use Rattle.mesh_nodes.proofs.LegList.{find-with_leg, found-lsp, same_lsp-eq, same_lsp-refl}
-use Rattle.mesh_laws.specs.CallLaw.{FitsLegs, IsNamed}
-use Rattle.mesh_laws.specs.HopLaw.{is_notice, is_notice_of, lsp_of}
+use Rattle.mesh_laws.specs.CallLaw.{FitsLegs}
 use Rattle.mesh_laws.specs.ReportLaw.{reports_of}
-use Rattle.mesh_laws.proofs.nodes.CallParts.{lsp-is, named-lsp, names-work}
+use Rattle.mesh_laws.proofs.nodes.CallParts.{lsp-is, named-lsp}
 use Rattle.mesh_laws.proofs.nodes.Facts.{NodeFacts}
-use Rattle.mesh_laws.proofs.reports.Gentle.{AllMild, IsGentle, IsMild, LegKeeps, is_plain}
-use Rattle.mesh_laws.proofs.reports.GentleAnswers.{BackStands, IfStands, RepKeeps, asks-gentle, both-gentle, calls-gentle, decide-gentle, goes-call, leaves-gentle, nothing-gentle, other-leg, pair-gentle, put-call, put-gentle, put-other, puts-gentle, removes-gentle, same-calls, sends-gentle, turn-gentle}
+use Rattle.mesh_laws.proofs.reports.Gentle.{AllMild, IsGentle, IsMild}
+use Rattle.mesh_laws.proofs.reports.GentleAnswers.{BackStands, IfStands, RepKeeps, both-gentle, decide-gentle, leaves-gentle, nothing-gentle, other-leg, pair-gentle, put-gentle, puts-gentle, removes-gentle, same-calls, sends-gentle}
 
 -- Phases
 
@@ -162,7 +147,8 @@ module _ (p : LocalNode) (s r : NodeState) (l : Lsp) where
         (λ f. nothing-gentle s l)
 
   -- a call whose working LSP is gone; its two LSPs aren't one
-  blocked-keeps : (c : CallRec) (cause : Cause) → (c.work ≡ Some l → c.back ≡ Some l → ⊥) → RepKeeps l c (blocked c cause)
+  blocked-keeps : (c : CallRec) (cause : Cause) → (c.work ≡ Some l → c.back ≡ Some l → ⊥)
+      → RepKeeps l c (blocked c cause)
   blocked-keeps c cause two named = go (is_lsp c.work l) refl
     where
       go : (b : Bool) → is_lsp c.work l ≡ b → (names l c ≡ true) × (reports_of l (blocked c cause) ≡ reports_of l c)
@@ -307,23 +293,23 @@ module _ (p : LocalNode) (s : NodeState) (facts : NodeFacts p.id.0 s) (l : Lsp) 
 
   -- a Path of an LSP that has a leg here
   module _ (g : Leg) (found : find_leg g.lsp s.legs ≡ Some g) where
-    pub armed_on-gentle : (r : PathRole) → is_active r ≡ true → is_held g.phase ≡ true → (h : Option Neighbour) →
-        IsGentle s l (armed_on g r h)
-    armed_on-gentle r active held None =
+    pub armed_on-gentle : (route : List Step) (r : PathRole) → is_active r ≡ true → is_held g.phase ≡ true →
+        (h : Option Neighbour) → IsGentle s l (armed_on g route r h)
+    armed_on-gentle route r active held None =
         puts-gentle s l g (with_phase Live g) (resv_to g (previous g) g.in_label) found refl
         (λ e. held-stands g.phase held) (mild-resv g (previous g) g.in_label)
-    armed_on-gentle r active held (Some h) =
-        puts-gentle s l g (with_phase Armed g) _ found refl (λ e. held-stands g.phase held)
+    armed_on-gentle route r active held (Some h) =
+        puts-gentle s l g (with_phase Armed g) (path_to g route r h ∷ []) found refl (λ e. held-stands g.phase held)
         ((λ own. (refl, rw active refl)), tt)
 
-    pub again-gentle : (a : Arrival) (r : PathRole) → IsGentle s l (path_again p s a r g)
-    again-gentle a (Work guard) = nothing-gentle s l
-    again-gentle a (Back false work primary) = nothing-gentle s l
-    again-gentle a (Back true work primary) =
+    pub again-gentle : (a : Arrival) (route : List Step) (r : PathRole) → IsGentle s l (path_again p s a route r g)
+    again-gentle a route (Work guard) = nothing-gentle s l
+    again-gentle a route (Back false work primary) = nothing-gentle s l
+    again-gentle a route (Back true work primary) =
         if_cases (IsGentle s l) (is_held g.phase && is_over (previous g) a.from a.link) _ _
         (λ h. if_cases (IsGentle s l) (is_contended s.legs g g.in_fibre g.in_label) _ _
         (λ c. sends-gentle s l (busy_to p g a.from ∷ []) ((λ own. (refl, refl)), tt))
-        (λ c. armed_on-gentle (Back true work primary) refl (both_left (is_held g.phase) _ h) (following g)))
+        (λ c. armed_on-gentle route (Back true work primary) refl (both_left (is_held g.phase) _ h) (following g)))
         (λ h. nothing-gentle s l)
 
     -- Resv

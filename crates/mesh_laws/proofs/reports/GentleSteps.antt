@@ -1,6 +1,6 @@
 -- Orders, and messages but the LSP's own Notifies and its first Path, tell nothing of the fibres of an LSP's route.
-use Rattle.std.proofs.Common.{◌≡◌, ◌<◌, ◌+◌, ℕ, Bool, true, false, cond, nat_eq, nat_lt, not, List, [], ◌∷◌, drop, refl, sym, ap, ◌∙◌, subst, arith, inl, inr}
-use Rattle.std.specs.Prelude.{◌&&◌, ◌||◌, ◌⊎◌, Option, Some, None, IfSome, is_some}
+use Rattle.std.proofs.Common.{◌≡◌, ◌+◌, Bool, true, false, cond, nat_eq, not, List, [], ◌∷◌, drop, refl, sym, ◌∙◌, subst}
+use Rattle.std.specs.Prelude.{◌&&◌, Option, Some, None}
 use Rattle.ason_base.specs.Lsps.{same_lsp}
 use Rattle.ason_base.specs.declared.calls.Cause.{Cause}
 use Rattle.ason_base.specs.declared.calls.Cause.TheVariants.{Full, NoRoute, Spent, Unset}
@@ -17,17 +17,16 @@ use Rattle.ason_base.specs.declared.network.LinkSpec.{LinkSpec}
 use Rattle.ason_base.specs.declared.steps.Step.{Step}
 use Rattle.ason_base.specs.declared.tables.CallRec.{CallRec}
 use Rattle.ason_base.specs.declared.tables.Leg.{Leg}
-use Rattle.ason_base.specs.declared.tables.Out.{Out}
 use Rattle.mesh_rules.specs.declared.changes.CallChange.TheVariants as call
 use Rattle.mesh_rules.specs.declared.changes.LegChange.TheVariants as leg
 use Rattle.mesh_rules.specs.declared.neighbours.Neighbour.{Neighbour}
-use Rattle.mesh_rules.specs.Calls.{find_call, is_bare, is_stuck, names}
-use Rattle.mesh_rules.specs.Changes.{Answer, changed, changes_calls, followed_by, nothing, puts}
+use Rattle.mesh_rules.specs.Calls.{find_call, is_bare, is_stuck}
+use Rattle.mesh_rules.specs.Changes.{Answer, changed, changes_calls, followed_by, puts}
 use Rattle.mesh_rules.specs.FirstLegs.{first_link, is_full}
 use Rattle.mesh_rules.specs.KnownRows.{known_rows}
 use Rattle.mesh_rules.specs.LeastRoutes.{Trip, least_trip}
-use Rattle.mesh_rules.specs.Legs.{closed, find_leg, following, is_closing, leg_of, with_leg}
-use Rattle.mesh_rules.specs.LocalNodes.{LocalNode, leads, own_link}
+use Rattle.mesh_rules.specs.Legs.{closed, find_leg, following, is_closing, leg_of}
+use Rattle.mesh_rules.specs.LocalNodes.{LocalNode, own_link}
 use Rattle.mesh_rules.specs.Messages.{arrival, on_message}
 use Rattle.mesh_rules.specs.Orders.{on_order}
 use Rattle.mesh_rules.specs.Pairs.{beside_lsp}
@@ -37,7 +36,7 @@ use Rattle.mesh_rules.specs.Releases.{release_with, releases, tear_to, tears}
 use Rattle.mesh_rules.specs.PathErrs.{path_err_with}
 use Rattle.mesh_rules.specs.Notifies.{notify_with}
 use Rattle.mesh_rules.specs.Resvs.{resv_with}
-use Rattle.mesh_rules.specs.Retries.{retries, retry_with}
+use Rattle.mesh_rules.specs.Retries.{retry_with}
 use Rattle.mesh_rules.specs.Setups.{SetupRequest, admitted_setup, call_record, is_order_here, is_spent, new_call, next_lsp, over_first, over_found, refused_setup, setup_with, working_lsp}
 use Rattle.mesh_rules.specs.State.{NodeState}
 use Rattle.mesh_rules.specs.Tears.{tear_with}
@@ -45,12 +44,12 @@ use Rattle.mesh_rules.specs.Turns.{has_any}
 use Rattle.mesh_nodes.proofs.CallList.{found-number}
 use Rattle.mesh_nodes.proofs.Cases.{if_cases}
 use Rattle.mesh_nodes.proofs.LegList.{find-with_leg, found-lsp, same_lsp-eq}
-use Rattle.mesh_laws.specs.CallLaw.{FitsLegs, IsNamed}
+use Rattle.mesh_laws.specs.CallLaw.{FitsLegs}
 use Rattle.mesh_laws.specs.HopLaw.{is_notice_of, lsp_of}
 use Rattle.mesh_laws.proofs.nodes.CallParts.{named-lsp}
 use Rattle.mesh_laws.proofs.nodes.Facts.{NodeFacts}
 use Rattle.mesh_laws.proofs.reports.Gentle.{AllMild, IsGentle, LegKeeps, is_plain}
-use Rattle.mesh_laws.proofs.reports.GentleAnswers.{RepKeeps, asks-gentle, both-gentle, calls-gentle, goes-call, nothing-gentle, pair-gentle, put-other, same-calls, turn-gentle}
+use Rattle.mesh_laws.proofs.reports.GentleAnswers.{asks-gentle, both-gentle, calls-gentle, goes-call, nothing-gentle, pair-gentle, put-other, same-calls, turn-gentle}
 use Rattle.mesh_laws.proofs.reports.GentleRules.{IsOld, again-gentle, closing-closes, err-gentle, first_path-gentle, leg-stands, leg-there, new-apart, notify-gentle, resv-gentle, tear-gentle}
 
 module _ (p : LocalNode) (s : NodeState) (facts : NodeFacts p.id.0 s) (l : Lsp) (old : IsOld p s l) where
@@ -225,7 +224,8 @@ module _ (p : LocalNode) (s : NodeState) (facts : NodeFacts p.id.0 s) (l : Lsp) 
 
   path-gentle : (m : PathRequest) (o : Option Leg) → find_leg m.arrival.lsp s.legs ≡ o →
       (is_active m.role ≡ false → same_lsp m.arrival.lsp l ≡ true → o ≡ None → ⊥) → IsGentle s l (path_with p s m o)
-  path-gentle m (Some g) found not_first = again-gentle p s facts l g (own-found m.arrival.lsp g found) m.arrival m.role
+  path-gentle m (Some g) found not_first = again-gentle p s facts l g (own-found m.arrival.lsp g found) m.arrival
+      (drop 1 m.route) m.role
   path-gentle m None found not_first = go (same_lsp m.arrival.lsp l) (is_active m.role) refl refl
     where
       go : (x y : Bool) → same_lsp m.arrival.lsp l ≡ x → is_active m.role ≡ y →

@@ -1,6 +1,6 @@
 -- The law of reports, over every topology and every run.
-use Rattle.std.proofs.Common.{◌≡◌, ◌≤◌, ◌<◌, ℕ, zero, suc, Bool, true, false, cond, nat_eq, nat_lt, not, List, [], ◌∷◌, ◌++◌, drop, length, refl, sym, ap, ◌∙◌, subst, arith, inl, inr}
-use Rattle.std.specs.Prelude.{◌&&◌, ◌||◌, Option, Some, None, find, slice_get}
+use Rattle.std.proofs.Common.{◌≡◌, ◌<◌, ℕ, zero, suc, Bool, true, false, cond, nat_eq, nat_lt, not, List, [], ◌∷◌, length, refl, sym, ap, ◌∙◌, subst, arith}
+use Rattle.std.specs.Prelude.{Option, Some, None, find, slice_get}
 use Rattle.std.specs.List.{AllByRecursion}
 use Rattle.std.proofs.lemmas.Option.{slice_get_within}
 use Rattle.ason_base.specs.Lsps.{has_fibre}
@@ -16,16 +16,14 @@ use Rattle.ason_base.specs.declared.tables.CallRec.{CallRec}
 use Rattle.ason_base.specs.declared.tables.Leg.{Leg}
 use Rattle.mesh_rules.proofs.Conjunctions.{and_first}
 use Rattle.mesh_rules.proofs.Topologies.{each-link}
-use Rattle.mesh_rules.specs.declared.events.MeshEvent.{MeshEvent}
 use Rattle.mesh_rules.specs.Calls.{call_with}
-use Rattle.mesh_rules.specs.Events.{IsRun, after, route_of}
+use Rattle.mesh_rules.specs.Events.{after, route_of}
 use Rattle.mesh_rules.specs.Legs.{is_closing}
 use Rattle.mesh_rules.specs.LocalNodes.{fibre_in}
 use Rattle.mesh_rules.specs.Machine.{Mesh, start}
-use Rattle.mesh_rules.specs.Reports.{first_node}
 use Rattle.mesh_nodes.proofs.CallList.{called-found, called-names, not_called}
 use Rattle.mesh_laws.specs.HopLaw.{leg_at, notices_between}
-use Rattle.mesh_laws.specs.ReportLaw.{EveryReportTellsFailures, PlaceTells, ReportsTell, RouteTells, StandsTo, is_reported, is_standing, on_the_way, place_at, reports_of, told, told_over}
+use Rattle.mesh_laws.specs.ReportLaw.{EveryReportTellsFailures, PlaceTells, RouteTells, StandsTo, is_reported, is_standing, on_the_way, place_at, reports_of, told, told_over}
 use Rattle.mesh_laws.proofs.nodes.Facts.{MeshFacts}
 use Rattle.mesh_laws.proofs.nodes.Runs.{facts-hold, facts-start}
 use Rattle.mesh_laws.proofs.hops.Chain.{LegFits}
@@ -33,7 +31,7 @@ use Rattle.mesh_laws.proofs.hops.Laws.{follows}
 use Rattle.mesh_laws.proofs.hops.Planned.{Follows, Planned, Routes}
 use Rattle.mesh_laws.proofs.hops.Plans.{Plan, fibre_at, fibre_in_is, found_id, hops, link_at, node_at, plan}
 use Rattle.mesh_laws.proofs.hops.Rest.{Purpose}
-use Rattle.mesh_laws.proofs.reports.Gentle.{CallOf, PlaceTold, RouteTold, Stands, line_at}
+use Rattle.mesh_laws.proofs.reports.Gentle.{CallOf, RouteTold, Stands, line_at}
 use Rattle.mesh_laws.proofs.reports.OwnNotices.{LowFirst}
 use Rattle.mesh_laws.proofs.reports.Runs.{told-run}
 

@@ -1,8 +1,7 @@
 -- A call that gets a new LSP knows nothing of its fibres to be down.
-use Rattle.std.proofs.Common.{◌≡◌, ℕ, Bool, true, false, cond, nat_eq, nat_lt, not, List, [], ◌∷◌, ◌++◌, drop, refl, sym, ap, ◌∙◌, subst, arith, inl, inr}
-use Rattle.std.specs.Prelude.{◌&&◌, ◌||◌, ◌⊎◌, Option, Some, None, is_some}
-use Rattle.ason_base.specs.Labels.{least}
-use Rattle.ason_base.specs.Lsps.{has_fibre, is_lsp, same_lsp}
+use Rattle.std.proofs.Common.{◌≡◌, ℕ, Bool, true, false, cond, nat_eq, nat_lt, not, List, [], ◌∷◌, drop, refl, sym, ◌∙◌, subst}
+use Rattle.std.specs.Prelude.{◌&&◌, ◌||◌, Option, Some, None, is_some}
+use Rattle.ason_base.specs.Lsps.{has_fibre, is_lsp}
 use Rattle.ason_base.specs.Codes.{busy_code}
 use Rattle.ason_base.specs.Risks.{unknown_link}
 use Rattle.ason_base.specs.declared.calls.CallState.{CallState}
@@ -33,12 +32,12 @@ use Rattle.mesh_rules.specs.declared.changes.CallChange.{CallChange}
 use Rattle.mesh_rules.specs.declared.changes.CallChange.TheVariants as call
 use Rattle.mesh_rules.specs.declared.limits.TheConstants.{LAST_NUMBER}
 use Rattle.mesh_rules.specs.declared.neighbours.Neighbour.{Neighbour}
-use Rattle.mesh_rules.specs.ActivationAnswers.{confirmed, contended, disarmed, is_confirmed, resv_again}
+use Rattle.mesh_rules.specs.ActivationAnswers.{confirmed, disarmed, is_confirmed}
 use Rattle.mesh_rules.specs.Activations.{armed_on, is_contended, path_again}
-use Rattle.mesh_rules.specs.Alarms.{enters, on_alarm, on_clear}
+use Rattle.mesh_rules.specs.Alarms.{enters}
 use Rattle.mesh_rules.specs.CallSteps.{call_answered, call_contended, call_refused, call_turned}
 use Rattle.mesh_rules.specs.Calls.{bare, blocked, call_with, calls_changed, find_call, guarded, is_asking, is_bare, is_pairing, is_stuck, is_turning, names, pairing, stuck, turned, unbacked}
-use Rattle.mesh_rules.specs.Changes.{Answer, changed, nothing}
+use Rattle.mesh_rules.specs.Changes.{Answer}
 use Rattle.mesh_rules.specs.Events.{on_first, on_first_item}
 use Rattle.mesh_rules.specs.FirstLegs.{first_link, is_full}
 use Rattle.mesh_rules.specs.KnownRows.{known_rows}
@@ -49,17 +48,17 @@ use Rattle.mesh_rules.specs.Messages.{arrival, on_message}
 use Rattle.mesh_rules.specs.Notifies.{Notice, notice_passed, notice_told, notify_with}
 use Rattle.mesh_rules.specs.Orders.{on_item, on_order}
 use Rattle.mesh_rules.specs.Pairs.{backup_route, beside_lsp, over_backup, pair, pair_over, route_from}
-use Rattle.mesh_rules.specs.PathErrs.{PathFailure, err_passed, path_err_with, removed}
+use Rattle.mesh_rules.specs.PathErrs.{PathFailure, err_passed, path_err_with}
 use Rattle.mesh_rules.specs.Paths.{PathRequest, path_with}
 use Rattle.mesh_rules.specs.Protects.{protect_with, protects}
 use Rattle.mesh_rules.specs.Releases.{release_with, releases, tears}
 use Rattle.mesh_rules.specs.Reports.{call_reported, fibre_into, reported, reported_on, with_report}
 use Rattle.mesh_rules.specs.Resvs.{answered, is_expected, label_back, labels_left, passed_back, resv_with}
-use Rattle.mesh_rules.specs.Retries.{retries, retry_with}
-use Rattle.mesh_rules.specs.Setups.{SetupRequest, admitted_setup, call_record, is_order_here, is_spent, new_call, next_lsp, over_first, over_found, refused_setup, setup_with}
+use Rattle.mesh_rules.specs.Retries.{retry_with}
+use Rattle.mesh_rules.specs.Setups.{SetupRequest, call_record, is_order_here, is_spent, new_call, next_lsp, over_first, over_found, setup_with}
 use Rattle.mesh_rules.specs.State.{NodeState}
 use Rattle.mesh_rules.specs.Tears.{tear_with, torn}
-use Rattle.mesh_rules.specs.Turns.{decide, has_any, turn}
+use Rattle.mesh_rules.specs.Turns.{decide, has_any}
 use Rattle.mesh_nodes.specs.Order.{CallsRise}
 use Rattle.mesh_nodes.proofs.CallList.{called-found, find-with_call, find-without_call, found-number}
 use Rattle.mesh_nodes.proofs.Cases.{if_cases}
@@ -101,7 +100,8 @@ module _ (p : LocalNode) (s : NodeState) (rise : CallsRise s.calls) (l : Lsp)
   new-from : (changes : List CallChange) (c d : CallRec) → find_call c.call s.calls ≡ Some c →
       changes ≡ call.Put d ∷ [] → (names l d ≡ true → names l c ≡ true) → AreNew changes
   new-from changes c d there is keeps =
-      new-put changes d is (λ named. absurd (let h = keeps named in let never = unnamed c.call c there in cc (h, never)))
+      new-put changes d is (λ named. absurd
+      (let h = keeps named in let never = unnamed c.call c there in cc (h, never)))
 
   new-decide : (c d : CallRec) (o : Option Leg) → find_call c.call s.calls ≡ Some c → names l d ≡ names l c →
       IsNew (decide d o)
@@ -206,7 +206,8 @@ module _ (p : LocalNode) (s : NodeState) (rise : CallsRise s.calls) (l : Lsp)
       back h (Some y) = new-none _ refl
 
       expected : (h : Option Neighbour) → IsNew (answered p s a x g h)
-      expected None = answered-new (connected g None x) (call_with g.lsp s.calls) (λ c called. called-there g.lsp c called)
+      expected None = answered-new (connected g None x) (call_with g.lsp s.calls)
+          (λ c called. called-there g.lsp c called)
       expected (Some h) = back h (label_back p (labels_left p s g h) x)
 
       confirms : (h : Option Neighbour) → IsNew (confirmed s g h)
@@ -228,7 +229,8 @@ module _ (p : LocalNode) (s : NodeState) (rise : CallsRise s.calls) (l : Lsp)
       passed (Some h) = new-none _ refl
 
       disarms : (h : Option Neighbour) → IsNew (disarmed s g e.msg h)
-      disarms None = contended-new (with_phase Held g) (call_with g.lsp s.calls) (λ c called. called-there g.lsp c called)
+      disarms None = contended-new (with_phase Held g) (call_with g.lsp s.calls)
+          (λ c called. called-there g.lsp c called)
       disarms (Some h) = new-none _ refl
 
   tear-new : (a : Arrival) (o : Option Leg) → IsNew (tear_with p a o)
@@ -343,7 +345,8 @@ module _ (p : LocalNode) (s : NodeState) (rise : CallsRise s.calls) (l : Lsp)
   release-new from None = new-none [] refl
   release-new from (Some c) =
       if_cases IsNew (nat_eq from.0 p.id.0) _ _
-      (λ e. goes-new c (releases s c).calls (rw (tears-none (leg_of c.work s.legs), tears-none (leg_of c.back s.legs)) refl))
+      (λ e. goes-new c (releases s c).calls
+      (rw (tears-none (leg_of c.work s.legs), tears-none (leg_of c.back s.legs)) refl))
       (λ e. new-none [] refl)
 
   own-call : (n : CallNo) (c : CallRec) → find_call n s.calls ≡ Some c → find_call c.call s.calls ≡ Some c

@@ -1,37 +1,34 @@
 -- A Notify of an LSP is taken: what its reports tell stays.
-use Rattle.std.proofs.Common.{◌≡◌, ◌≢◌, ◌≤◌, ◌<◌, ℕ, zero, suc, Bool, true, false, cond, nat_eq, not, List, [], ◌∷◌, ◌++◌, drop, refl, sym, ap, ◌∙◌, subst, arith, inl, inr, append-nil}
-use Rattle.std.specs.Prelude.{◌&&◌, ◌||◌, ◌⊎◌, map, Option, Some, None}
+use Rattle.std.proofs.Common.{◌≡◌, ◌≢◌, ◌≤◌, ◌<◌, ℕ, suc, Bool, true, false, cond, nat_eq, List, [], ◌∷◌, ◌++◌, refl, sym, ap, ◌∙◌, subst, arith, inl, inr, append-nil}
+use Rattle.std.specs.Prelude.{◌&&◌, ◌⊎◌, map, Some}
 use Rattle.std.proofs.lemmas.List.Elements.{filter-append}
-use Rattle.ason_base.specs.Lsps.{has_fibre, same_fibre, same_lsp}
+use Rattle.ason_base.specs.Lsps.{has_fibre, same_fibre}
 use Rattle.ason_base.specs.Network.{Network}
 use Rattle.ason_base.specs.declared.codes.ErrCode.{ErrCode}
-use Rattle.ason_base.specs.declared.ids.Fibre.{Fibre}
 use Rattle.ason_base.specs.declared.ids.LinkId.{LinkId}
 use Rattle.ason_base.specs.declared.ids.Lsp.{Lsp}
 use Rattle.ason_base.specs.declared.ids.NodeId.{NodeId}
 use Rattle.ason_base.specs.declared.messages.Msg.{Msg}
 use Rattle.ason_base.specs.declared.messages.Msg.TheVariants.{Notify}
 use Rattle.ason_base.specs.declared.tables.CallRec.{CallRec}
-use Rattle.ason_base.specs.declared.tables.Leg.{Leg}
 use Rattle.ason_base.specs.declared.tables.Out.{Out}
 use Rattle.mesh_rules.specs.Calls.{find_call}
-use Rattle.mesh_rules.specs.Changes.{Answer, changed, nothing, sends, to_node}
+use Rattle.mesh_rules.specs.Changes.{changed, sends, to_node}
 use Rattle.mesh_rules.specs.Legs.{find_leg}
 use Rattle.mesh_rules.specs.Machine.{Mesh, commit, sent_to, without_first}
-use Rattle.mesh_rules.specs.Reports.{reported}
 use Rattle.mesh_nodes.proofs.LegList.{same_lsp-refl}
 use Rattle.mesh_laws.specs.HopLaw.{leg_at, mail_between, messages_of, notices_between, notices_of}
 use Rattle.mesh_laws.specs.ReportLaw.{is_standing, on_the_way, reports_of, told, told_by, told_by_all}
 use Rattle.mesh_laws.proofs.hops.Chain.{below_or_not, is_or_not}
-use Rattle.mesh_laws.proofs.hops.Notices.{ComesUp, NamesAfter}
+use Rattle.mesh_laws.proofs.hops.Notices.{ComesUp}
 use Rattle.mesh_laws.proofs.hops.Planned.{Planned, Routes}
 use Rattle.mesh_laws.proofs.hops.Plans.{Plan, distinct, fibre_at, hops, link_at, node_at, other, same, same_node}
 use Rattle.mesh_laws.proofs.hops.Rest.{Purpose}
 use Rattle.mesh_laws.proofs.hops.Views.{notices-else, notices-from}
 use Rattle.mesh_laws.proofs.reports.Alarmed.{told-all-append}
-use Rattle.mesh_laws.proofs.reports.Gentle.{CallOf, IsUnreached, PlaceTold, RouteTold, Stands, Still, Untold, commit-still, has_plain, line_at, still-then, taken-still}
+use Rattle.mesh_laws.proofs.reports.Gentle.{CallOf, PlaceTold, RouteTold, Stands, Still, Untold, has_plain, line_at, still-then, taken-still}
 use Rattle.mesh_laws.proofs.reports.KnownFibres.{same_fibre-refl}
-use Rattle.mesh_laws.proofs.reports.OnTheWay.{Passed, passed_on, same_lines, taken_first, told-append}
+use Rattle.mesh_laws.proofs.reports.OnTheWay.{passed_on, same_lines, taken_first, told-append}
 use Rattle.mesh_laws.proofs.reports.Reported.{fibres-apart}
 
 none-left : (xs ys : List Bool) → xs ++ ys ≡ [] → (xs ≡ []) × (ys ≡ [])
@@ -132,7 +129,8 @@ module _ (t : Network) (s : Mesh) (o : Routes) (d u : NodeId) (l : Lsp) (e : Nod
 
       left : (a b : NodeId) → told_by_all (node_at p (suc i)) (link_at p i) (notices_between taken l a b) ≡ []
       left a b = elim (is_or_not a.0 u.0) [
-        | inr apart ↦ ap (told_by_all (node_at p (suc i)) (link_at p i)) (taken-else a b (inl apart)) ∙ untold.notices a b
+        | inr apart ↦ ap (told_by_all (node_at p (suc i)) (link_at p i)) (taken-else a b (inl apart))
+            ∙ untold.notices a b
         | inl at_u ↦ elim (is_or_not b.0 d.0) [
           | inr apart ↦
               ap (told_by_all (node_at p (suc i)) (link_at p i)) (taken-else a b (inr apart)) ∙ untold.notices a b
@@ -147,7 +145,8 @@ module _ (t : Network) (s : Mesh) (o : Routes) (d u : NodeId) (l : Lsp) (e : Nod
   -- It is dropped, where the LSP doesn't stand up to the node
 
   same-known : (i : ℕ) (c : CallRec) → PlaceTold t s l p i c →
-      on_the_way (line_at (notices_between taken l) p i) (suc i) ≡ on_the_way (line_at (notices_between s l) p i) (suc i) →
+      on_the_way (line_at (notices_between taken l) p i) (suc i)
+      ≡ on_the_way (line_at (notices_between s l) p i) (suc i) →
       PlaceTold t taken l p i c
   same-known i c before same =
       ap (told (has_fibre (reports_of l c) (fibre_at t p i))) same ∙ before
@@ -161,14 +160,14 @@ module _ (t : Network) (s : Mesh) (o : Routes) (d u : NodeId) (l : Lsp) (e : Nod
           (λ x less. line-else i x (omega arith) (omega arith)))
     ];
     first = λ i small plain. (
-      let was' = r.first i small ((taken-still s u d l m rest was).plain (node_at p i) (node_at p (suc i)) plain) in
-      record {
-        gone = was'.gone;
-        untold = λ x after below. record {
-          notices = (none-before x (was'.untold x after below)).1;
-          report = λ c of. (was'.untold x after below).report c (record { found = of.found; named = of.named });
-        };
-      });
+        let was' = r.first i small ((taken-still s u d l m rest was).plain (node_at p i) (node_at p (suc i)) plain) in
+        record {
+          gone = was'.gone;
+          untold = λ x after below. record {
+            notices = (none-before x (was'.untold x after below)).1;
+            report = λ c of. (was'.untold x after below).report c (record { found = of.found; named = of.named });
+          };
+        });
   }
 
   -- It is passed back to the node before
@@ -227,7 +226,8 @@ module _ (t : Network) (s : Mesh) (o : Routes) (d u : NodeId) (l : Lsp) (e : Nod
     far-line i x small apart =
         ap (told_by_all (node_at p (suc i)) (link_at p i))
         (passed-else (node_at p (suc x)) (node_at p x)
-        (λ e. distinct t l.ingress p pl.route (suc x) (suc j') (omega arith) (let b = small' in omega arith) (omega arith)
+        (λ e. distinct t l.ingress p pl.route (suc x) (suc j') (omega arith) (let b = small' in omega arith)
+        (omega arith)
         (e ∙ d-at)))
 
     beyond : (i : ℕ) → line_at (notices_between s l) p i (suc j')
@@ -242,7 +242,8 @@ module _ (t : Network) (s : Mesh) (o : Routes) (d u : NodeId) (l : Lsp) (e : Nod
     far-both i x small one two = far-line i x small one ∙ line-else i x small (omega arith)
 
     way-same : (i : ℕ) → i < hops p →
-        on_the_way (line_at (notices_between passed l) p i) (suc i) ≡ on_the_way (line_at (notices_between s l) p i) (suc i)
+        on_the_way (line_at (notices_between passed l) p i) (suc i)
+        ≡ on_the_way (line_at (notices_between s l) p i) (suc i)
     way-same i small = elim (below_or_not j' i) [
       | inl less ↦ passed_on (line_at (notices_between s l) p i) (line_at (notices_between passed l) p i) j' (suc i)
           (suc i) (says i)
@@ -295,7 +296,8 @@ module _ (t : Network) (s : Mesh) (o : Routes) (d u : NodeId) (l : Lsp) (e : Nod
                 (cond w (to_node h m ∷ []) [])) (x.mail a.0 b.0))) ≡ true → has_plain (mail_between x l a b) ≡ true
             go false w e = e
             go true w e = sym (ap has_plain (filter-append _ (x.mail a.0 b.0) (map (λ (o : Out). o.msg)
-                (cond w (to_node h m ∷ []) [])) ∙ ap (λ ms. mail_between x l a b ++ ms) (nothing-left w) ∙ append-nil _)) ∙ e
+                (cond w (to_node h m ∷ []) [])) ∙ ap (λ ms. mail_between x l a b ++ ms) (nothing-left w)
+                ∙ append-nil _)) ∙ e
               where
                 nothing-left : (w : Bool) → messages_of l (map (λ (o : Out). o.msg) (cond w (to_node h m ∷ []) [])) ≡ []
                 nothing-left true = refl
@@ -304,7 +306,8 @@ module _ (t : Network) (s : Mesh) (o : Routes) (d u : NodeId) (l : Lsp) (e : Nod
         down-same : (x : Mesh) (n : ℕ) → ((commit x d.0 (sends (to_node h m ∷ []))).nodes n).down ≡ (x.nodes n).down
         down-same x n = go (nat_eq n d.0)
           where
-            go : (b : Bool) → (cond b (changed (x.nodes n) (sends (to_node h m ∷ []))) (x.nodes n)).down ≡ (x.nodes n).down
+            go : (b : Bool) → (cond b (changed (x.nodes n) (sends (to_node h m ∷ []))) (x.nodes n)).down
+                ≡ (x.nodes n).down
             go true = refl
             go false = refl
 
@@ -333,14 +336,14 @@ module _ (t : Network) (s : Mesh) (o : Routes) (d u : NodeId) (l : Lsp) (e : Nod
           ∙ r.tells i small (λ x most. legs-still.stands (node_at p x) (stands x most)) c (call-passed c of)
           ∙ ap (λ ds. has_fibre ds (fibre_at t p i)) (sym (legs-still.down (node_at p (suc i)).0));
       first = λ i small plain. (
-        let was' = r.first i small (legs-still.plain (node_at p i) (node_at p (suc i)) plain) in
-        record {
-          gone = λ x after below. legs-still.gone (node_at p (suc x)) (was'.gone x after below);
-          untold = λ x after below. record {
-            notices = passed-none x (was'.untold x after below);
-            report = λ c of. (was'.untold x after below).report c (call-passed c of);
-          };
-        });
+          let was' = r.first i small (legs-still.plain (node_at p i) (node_at p (suc i)) plain) in
+          record {
+            gone = λ x after below. legs-still.gone (node_at p (suc x)) (was'.gone x after below);
+            untold = λ x after below. record {
+              notices = passed-none x (was'.untold x after below);
+              report = λ c of. (was'.untold x after below).report c (call-passed c of);
+            };
+          });
     }
 
   -- It comes to the ingress
@@ -369,35 +372,39 @@ module _ (t : Network) (s : Mesh) (o : Routes) (d u : NodeId) (l : Lsp) (e : Nod
       | inl is ↦ subst (λ x. cond (same_fibre (fibre_at t p x) (fibre_at t p z)) up.names.down known
           ≡ told known (says x)) (sym is)
           (rw (same_fibre-refl (fibre_at t p z), says-own) refl)
-      | inr apart ↦ rw (fibres-apart t l.ingress p pl.route i z small up.names.within apart, says-none i small apart) refl
+      | inr apart ↦ rw (
+        fibres-apart t l.ingress p pl.route i z small up.names.within apart,
+        says-none i small
+            apart,
+      ) refl
     ]
 
     pub here-told : RouteTold t s' l p
     here-told = record {
       tells = λ i small stands c of. (
-        let was' = calls c of in
-        let known = has_fibre (reports_of l was'.0) (fibre_at t p i) in
-        let way = on_the_way (line_at (notices_between s' l) p i) (suc i) in
-        let split : on_the_way (line_at (notices_between s l) p i) (suc i) ≡ says i ++ way =
-        taken_first (line_at (notices_between s l) p i) (line_at (notices_between s' l) p i) i (says i) (first-line i)
-        (λ x apart most. line-later i x ∙ line-else i x (omega arith) (omega arith)) in
-        ap (λ b. told b way) (was'.2 i small ∙ report-told i small known)
-        ∙ sym (told-append known (says i) way) ∙ ap (told known) (sym split)
-        ∙ r.tells i small (λ x most. all-still.stands (node_at p x) (stands x most)) was'.0 was'.1
-        ∙ ap (λ ds. has_fibre ds (fibre_at t p i)) (sym (all-still.down (node_at p (suc i)).0)));
+          let was' = calls c of in
+          let known = has_fibre (reports_of l was'.0) (fibre_at t p i) in
+          let way = on_the_way (line_at (notices_between s' l) p i) (suc i) in
+          let split : on_the_way (line_at (notices_between s l) p i) (suc i) ≡ says i ++ way =
+          taken_first (line_at (notices_between s l) p i) (line_at (notices_between s' l) p i) i (says i) (first-line i)
+          (λ x apart most. line-later i x ∙ line-else i x (omega arith) (omega arith)) in
+          ap (λ b. told b way) (was'.2 i small ∙ report-told i small known)
+          ∙ sym (told-append known (says i) way) ∙ ap (told known) (sym split)
+          ∙ r.tells i small (λ x most. all-still.stands (node_at p x) (stands x most)) was'.0 was'.1
+          ∙ ap (λ ds. has_fibre ds (fibre_at t p i)) (sym (all-still.down (node_at p (suc i)).0)));
       first = λ i small plain. (
-        let was' = r.first i small (all-still.plain (node_at p i) (node_at p (suc i)) plain) in
-        record {
-          gone = λ x after below. all-still.gone (node_at p (suc x)) (was'.gone x after below);
-          untold = λ x after below. record {
-            notices = λ a b. ap (told_by_all (node_at p (suc x)) (link_at p x)) (notices a b)
-                ∙ (none-before x (was'.untold x after below)).1 a b;
-            report = λ c of. (
-              let before = calls c of in
-              before.2 x below
-              ∙ report-told x below (has_fibre (reports_of l before.0) (fibre_at t p x))
-              ∙ rw ((none-before x (was'.untold x after below)).0)
-              ((was'.untold x after below).report before.0 before.1));
-          };
-        });
+          let was' = r.first i small (all-still.plain (node_at p i) (node_at p (suc i)) plain) in
+          record {
+            gone = λ x after below. all-still.gone (node_at p (suc x)) (was'.gone x after below);
+            untold = λ x after below. record {
+              notices = λ a b. ap (told_by_all (node_at p (suc x)) (link_at p x)) (notices a b)
+                  ∙ (none-before x (was'.untold x after below)).1 a b;
+              report = λ c of. (
+                  let before = calls c of in
+                  before.2 x below
+                  ∙ report-told x below (has_fibre (reports_of l before.0) (fibre_at t p x))
+                  ∙ rw ((none-before x (was'.untold x after below)).0)
+                  ((was'.untold x after below).report before.0 before.1));
+            };
+          });
     }

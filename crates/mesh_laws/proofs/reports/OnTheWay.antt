@@ -56,8 +56,10 @@ pub taken_first : (line line' : ℕ → List Bool) (i : ℕ) (xs : List Bool) �
     ((k : ℕ) → k ≢ 0 → k ≤ i → line' k ≡ line k) → on_the_way line (suc i) ≡ xs ++ on_the_way line' (suc i)
 taken_first line line' zero xs first others = first
 taken_first line line' (suc i) xs first others =
-    rw (taken_first line line' i xs first (λ k apart less. others k apart (omega arith)),
-    others (suc i) (omega arith) (omega arith)) (append_assoc xs (on_the_way line' (suc i)) (line (suc i)))
+    rw (
+      taken_first line line' i xs first (λ k apart less. others k apart (omega arith)),
+      others (suc i) (omega arith) (omega arith),
+    ) (append_assoc xs (on_the_way line' (suc i)) (line (suc i)))
 
 -- a place sends something of its own
 pub sent_last : (line line' : ℕ → List Bool) (i : ℕ) (xs : List Bool) → line' i ≡ line i ++ xs →

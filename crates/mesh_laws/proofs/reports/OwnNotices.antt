@@ -1,11 +1,9 @@
 -- The rule of a Notify, at its own LSP: what the LSP's reports tell stays.
-use Rattle.std.proofs.Common.{◌≡◌, ◌≢◌, ◌≤◌, ◌<◌, ℕ, zero, suc, Bool, true, false, cond, nat_eq, nat_lt, not, List, [], ◌∷◌, ◌++◌, refl, sym, ap, ◌∙◌, subst, arith, inl, inr}
-use Rattle.std.specs.Prelude.{◌&&◌, ◌||◌, ◌⊎◌, Option, Some, None}
-use Rattle.ason_base.specs.Lsps.{has_fibre, same_fibre, same_lsp}
+use Rattle.std.proofs.Common.{◌≡◌, ◌<◌, ℕ, zero, suc, Bool, true, false, cond, nat_eq, nat_lt, List, ◌∷◌, refl, sym, ap, ◌∙◌, subst, arith}
+use Rattle.std.specs.Prelude.{Option, Some, None}
+use Rattle.ason_base.specs.Lsps.{has_fibre, same_fibre}
 use Rattle.ason_base.specs.Network.{Network, find_link}
 use Rattle.ason_base.specs.declared.codes.ErrCode.{ErrCode}
-use Rattle.ason_base.specs.declared.ids.CallNo.{CallNo}
-use Rattle.ason_base.specs.declared.ids.Fibre.{Fibre}
 use Rattle.ason_base.specs.declared.ids.LinkId.{LinkId}
 use Rattle.ason_base.specs.declared.ids.Lsp.{Lsp}
 use Rattle.ason_base.specs.declared.ids.NodeId.{NodeId}
@@ -15,23 +13,19 @@ use Rattle.ason_base.specs.declared.network.LinkSpec.{LinkSpec}
 use Rattle.ason_base.specs.declared.steps.Step.{Step}
 use Rattle.ason_base.specs.declared.tables.CallRec.{CallRec}
 use Rattle.ason_base.specs.declared.tables.Leg.{Leg}
-use Rattle.mesh_rules.specs.declared.changes.CallChange.TheVariants as call
-use Rattle.mesh_rules.specs.declared.neighbours.Neighbour.{Neighbour}
-use Rattle.mesh_rules.specs.Calls.{call_with, calls_changed, find_call, names, with_call}
-use Rattle.mesh_rules.specs.Changes.{Answer, changed, nothing, sends, to_node}
+use Rattle.mesh_rules.specs.Calls.{call_with, calls_changed, find_call, with_call}
+use Rattle.mesh_rules.specs.Changes.{Answer, nothing}
 use Rattle.mesh_rules.specs.Legs.{find_leg, following, is_closing, is_node, leg_of, previous}
-use Rattle.mesh_rules.specs.LocalNodes.{LocalNode, local_node}
+use Rattle.mesh_rules.specs.LocalNodes.{local_node}
 use Rattle.mesh_rules.specs.Machine.{Mesh, commit, without_first}
 use Rattle.mesh_rules.specs.Messages.{on_message}
-use Rattle.mesh_rules.specs.Notifies.{Notice, notice_passed, notice_told, notify_with}
+use Rattle.mesh_rules.specs.Notifies.{Notice, notice_passed, notify_with}
 use Rattle.mesh_rules.specs.Pairs.{route_from}
-use Rattle.mesh_rules.specs.Reports.{call_reported, fibre_into, fibres_after, report_here, reported, reported_on, with_report}
+use Rattle.mesh_rules.specs.Reports.{call_reported, fibre_into, fibres_after, report_here, reported_on, with_report}
 use Rattle.mesh_rules.specs.State.{NodeState}
 use Rattle.mesh_rules.specs.Turns.{decide}
 use Rattle.mesh_nodes.proofs.CallList.{called-found, called-names, find-with_call, not_called}
-use Rattle.mesh_nodes.proofs.Cases.{if_cases}
-use Rattle.mesh_nodes.proofs.LegList.{same_lsp-eq, same_lsp-refl}
-use Rattle.mesh_laws.specs.HopLaw.{leg_at, notices_between}
+use Rattle.mesh_laws.specs.HopLaw.{leg_at}
 use Rattle.mesh_laws.specs.ReportLaw.{is_standing, reports_of}
 use Rattle.mesh_laws.proofs.nodes.Facts.{NodeFacts}
 use Rattle.mesh_laws.proofs.hops.Chain.{LegFits}
@@ -41,11 +35,11 @@ use Rattle.mesh_laws.proofs.hops.Notices.{ComesUp}
 use Rattle.mesh_laws.proofs.hops.Planned.{Planned, Routes}
 use Rattle.mesh_laws.proofs.hops.Plans.{Plan, fibre_at, hops, link_at, node_at, plan, same, same_node}
 use Rattle.mesh_laws.proofs.hops.Rest.{Purpose}
-use Rattle.mesh_laws.proofs.reports.Gentle.{CallOf, IsGentle, RouteTold, Stands, Still, commit-gentle, commit-still, gentle-told, notices-after}
-use Rattle.mesh_laws.proofs.reports.GentleAnswers.{BackStands, IfStands, decide-gentle, nothing-gentle}
+use Rattle.mesh_laws.proofs.reports.Gentle.{CallOf, IsGentle, RouteTold, Still, commit-gentle, commit-still, gentle-told, notices-after}
+use Rattle.mesh_laws.proofs.reports.GentleAnswers.{IfStands, decide-gentle, nothing-gentle}
 use Rattle.mesh_laws.proofs.reports.GentleRules.{leg-stands}
 use Rattle.mesh_laws.proofs.reports.NoticeSteps.{dropped-told, here-told, passed-told, up}
-use Rattle.mesh_laws.proofs.reports.Reported.{Puts, decide-puts, fibres-after, forward-is, into-found, into-is, into_at, low-first, report-after, report-call, report-names}
+use Rattle.mesh_laws.proofs.reports.Reported.{Puts, decide-puts, fibres-after, forward-is, into-found, into-is, into_at, low-first, report-after, report-call}
 
 -- a link's low end has the lesser number
 abbrev pub LowFirst : Network → Type 0
@@ -79,7 +73,8 @@ module _ (t : Network) (low : LowFirst t) (s : Mesh) (o : Routes) (d u : NodeId)
       gentle-told t taken (commit taken d.0 nothing) l p
       (commit-gentle taken d l nothing (nothing-gentle (taken.nodes d.0) l))
       (dropped-told t s o d u l e at k code rest was q p pl r
-      (λ i stands reached. torn (subst (λ n. is_standing (leg_at s l n) ≡ true) (sym d-is) (stands up-here.place reached))))
+      (λ i stands reached. torn (subst (λ n. is_standing (leg_at s l n)
+      ≡ true) (sym d-is) (stands up-here.place reached))))
 
   -- The fibre at the ingress
 
@@ -107,7 +102,8 @@ module _ (t : Network) (low : LowFirst t) (s : Mesh) (o : Routes) (d u : NodeId)
             ≡ (fibre_at t p up-here.names.place).forward
         direction =
             low-first t l.ingress p pl.route z up-here.names.within
-            (low (link_at p z) (pl.route.links z up-here.names.within).link (pl.route.links z up-here.names.within).found)
+            (low (link_at p z) (pl.route.links z up-here.names.within).link
+            (pl.route.links z up-here.names.within).found)
             ∙ sym (forward-is t l.ingress p pl.route z up-here.names.within)
 
     -- at the ingress
@@ -120,7 +116,8 @@ module _ (t : Network) (low : LowFirst t) (s : Mesh) (o : Routes) (d u : NodeId)
 
       fibre-found : fibre_into (route_from (local_node t d) g) g.egress at k ≡ Some (fibre_at t (plan route end) z)
       fibre-found =
-          let whole : route_from (local_node t d) g ≡ route = along t l q d end route g ingress-is pl.route first-fits in
+          let whole : route_from (local_node t d) g ≡ route = along t l q d end route g ingress-is pl.route
+          first-fits in
           let last : g.egress ≡ end = fits.egress in
           rw (whole, last)
           (ap (λ n. fibre_into route end n k) up-here.names.node
@@ -172,9 +169,14 @@ module _ (t : Network) (low : LowFirst t) (s : Mesh) (o : Routes) (d u : NodeId)
             ≡ cond (same_fibre (fibre_at t (plan route end) i)
             (fibre_at t (plan route end) up-here.names.place)) up-here.names.down
             (has_fibre (reports_of l b) (fibre_at t (plan route end) i)))
-        calls x of = (c, own-call, λ i small. (
-          ap (λ fs. has_fibre fs (fibre_at t p i)) (reports-are (sym (find-with_call puts.put state.calls x.call) ∙ found-x))
-          ∙ fibres-after up-here.names.down (fibre_at t p z) (reports_of l c) (fibre_at t p i)))
+        calls x of = (
+          c,
+          own-call,
+          λ i small. (
+              ap (λ fs. has_fibre fs (fibre_at t p i)) (reports-are (sym (find-with_call puts.put state.calls x.call)
+              ∙ found-x))
+              ∙ fibres-after up-here.names.down (fibre_at t p z) (reports_of l c) (fibre_at t p i)),
+        )
           where
             puts : Puts l after answer
             puts = decide-puts l after (leg_of c.back (s.nodes d.0).legs)
@@ -228,7 +230,8 @@ module _ (t : Network) (low : LowFirst t) (s : Mesh) (o : Routes) (d u : NodeId)
           never x of =
               let here : nat_eq l.ingress.0 d.0 ≡ true = rw ingress-is (same d.0) in
               let at : find_call x.call (s.nodes l.ingress.0).calls ≡ Some x = (rw here at of.found) in
-              let there = subst (λ n. find_call x.call (s.nodes n).calls ≡ Some x) (ap (λ (n : NodeId). n.0) ingress-is) at in
+              let there = subst (λ n. find_call x.call (s.nodes n).calls
+              ≡ Some x) (ap (λ (n : NodeId). n.0) ingress-is) at in
               not_called l (s.nodes d.0).calls x.call x none there of.named
 
       call-stays : (c : Option CallRec) → call_with l (s.nodes d.0).calls ≡ c →

@@ -1,13 +1,12 @@
 -- What a report at the ingress makes of the call's reports.
-use Rattle.std.proofs.Common.{◌≡◌, ◌≢◌, ◌≤◌, ◌<◌, ℕ, zero, suc, Bool, true, false, cond, nat_eq, nat_lt, not, List, [], ◌∷◌, ◌++◌, length, refl, sym, ap, ◌∙◌, subst, arith, inl, inr}
-use Rattle.std.specs.Prelude.{◌&&◌, ◌||◌, ◌⊎◌, Option, Some, None, slice_get}
-use Rattle.ason_base.specs.Lsps.{has_fibre, is_lsp, same_bool, same_fibre}
-use Rattle.ason_base.specs.Network.{Network, end_beside, find_link, other_end}
+use Rattle.std.proofs.Common.{◌≡◌, ◌≢◌, ◌≤◌, ◌<◌, ℕ, zero, suc, Bool, true, false, cond, nat_eq, nat_lt, not, List, [], ◌∷◌, ◌++◌, length, refl, sym, ap, ◌∙◌, subst, arith}
+use Rattle.std.specs.Prelude.{◌&&◌, ◌||◌, Option, Some, None}
+use Rattle.ason_base.specs.Lsps.{has_fibre, is_lsp, same_fibre}
+use Rattle.ason_base.specs.Network.{Network, find_link, other_end}
 use Rattle.ason_base.specs.declared.calls.CallState.{CallState}
 use Rattle.ason_base.specs.declared.calls.CallState.TheVariants.{Asking, Bare, Blocked, Guarded, Pairing, Stuck, Turned, Turning}
 use Rattle.ason_base.specs.declared.calls.Cause.TheVariants.{BackDown}
 use Rattle.ason_base.specs.declared.ids.Fibre.{Fibre}
-use Rattle.ason_base.specs.declared.ids.LinkId.{LinkId}
 use Rattle.ason_base.specs.declared.ids.Lsp.{Lsp}
 use Rattle.ason_base.specs.declared.ids.NodeId.{NodeId}
 use Rattle.ason_base.specs.declared.network.LinkSpec.{LinkSpec}
@@ -18,11 +17,11 @@ use Rattle.mesh_rules.specs.declared.changes.CallChange.TheVariants as call
 use Rattle.mesh_rules.specs.Calls.{guarded, names, stuck, turning}
 use Rattle.mesh_rules.specs.Changes.{Answer}
 use Rattle.mesh_rules.specs.Legs.{is_held}
-use Rattle.mesh_rules.specs.Reports.{fibre_into, fibres_after, first_node, with_fibre, with_report}
+use Rattle.mesh_rules.specs.Reports.{fibre_into, fibres_after, first_node, with_report}
 use Rattle.mesh_rules.specs.Turns.{decide, decided, has_any, turn}
 use Rattle.mesh_laws.specs.ReportLaw.{reports_of}
-use Rattle.mesh_laws.proofs.hops.Plans.{IsRoute, Leads, Plan, distinct, fibre_at, hops, is_high, link_at, node_at, plan, same_node}
-use Rattle.mesh_laws.proofs.reports.KnownFibres.{has-less, has-more, same_bool-is, same_fibre-is, same_fibre-refl}
+use Rattle.mesh_laws.proofs.hops.Plans.{IsRoute, Plan, distinct, fibre_at, hops, is_high, link_at, node_at, plan}
+use Rattle.mesh_laws.proofs.reports.KnownFibres.{has-less, has-more, same_fibre-is}
 
 -- The sets
 
@@ -35,7 +34,8 @@ fibres-after false f fibres g = has-less fibres g f ∙ go (same_fibre g f)
     go false = refl
 fibres-after true f fibres g = go (has_fibre fibres f) refl
   where
-    there : (b : Bool) → same_fibre g f ≡ b → has_fibre fibres f ≡ true → has_fibre fibres g ≡ cond b true (has_fibre fibres g)
+    there : (b : Bool) → same_fibre g f ≡ b → has_fibre fibres f ≡ true
+        → has_fibre fibres g ≡ cond b true (has_fibre fibres g)
     there true e h = subst (λ k. has_fibre fibres k ≡ true) (sym (same_fibre-is g f e)) h
     there false e h = refl
 
@@ -93,16 +93,24 @@ turn-puts l d (Some b) = go (is_held b.phase) refl
 decided-puts : (l : Lsp) (d : CallRec) (o : Option Leg) (state : CallState) (works backs : Bool) →
     Puts l d (decided d o state works backs)
 decided-puts l d o Guarded true false = turn-puts l d o
-decided-puts l d o Guarded true true = record { put = stuck d BackDown; calls = refl; number = refl; reports = refl; same_names = refl }
-decided-puts l d o Guarded false backs = record { put = d; calls = refl; number = refl; reports = refl; same_names = refl }
-decided-puts l d o Stuck false backs = record { put = guarded d; calls = refl; number = refl; reports = refl; same_names = refl }
+decided-puts l d o Guarded true true = record
+    { put = stuck d BackDown; calls = refl; number = refl; reports = refl; same_names = refl }
+decided-puts l d o Guarded false backs = record
+    { put = d; calls = refl; number = refl; reports = refl; same_names = refl }
+decided-puts l d o Stuck false backs = record
+    { put = guarded d; calls = refl; number = refl; reports = refl; same_names = refl }
 decided-puts l d o Stuck true backs = record { put = d; calls = refl; number = refl; reports = refl; same_names = refl }
-decided-puts l d o Asking works backs = record { put = d; calls = refl; number = refl; reports = refl; same_names = refl }
+decided-puts l d o Asking works backs = record
+    { put = d; calls = refl; number = refl; reports = refl; same_names = refl }
 decided-puts l d o Bare works backs = record { put = d; calls = refl; number = refl; reports = refl; same_names = refl }
-decided-puts l d o Blocked works backs = record { put = d; calls = refl; number = refl; reports = refl; same_names = refl }
-decided-puts l d o Pairing works backs = record { put = d; calls = refl; number = refl; reports = refl; same_names = refl }
-decided-puts l d o Turning works backs = record { put = d; calls = refl; number = refl; reports = refl; same_names = refl }
-decided-puts l d o Turned works backs = record { put = d; calls = refl; number = refl; reports = refl; same_names = refl }
+decided-puts l d o Blocked works backs = record
+    { put = d; calls = refl; number = refl; reports = refl; same_names = refl }
+decided-puts l d o Pairing works backs = record
+    { put = d; calls = refl; number = refl; reports = refl; same_names = refl }
+decided-puts l d o Turning works backs = record
+    { put = d; calls = refl; number = refl; reports = refl; same_names = refl }
+decided-puts l d o Turned works backs = record
+    { put = d; calls = refl; number = refl; reports = refl; same_names = refl }
 
 pub decide-puts : (l : Lsp) (d : CallRec) (o : Option Leg) → Puts l d (decide d o)
 decide-puts l d o = decided-puts l d o d.state (has_any d.work_reports) (has_any d.back_reports)
@@ -113,7 +121,8 @@ module _ (t : Network) (from : NodeId) (p : Plan) (route : IsRoute t from p) whe
   link-is : (i : ℕ) (small : i < hops p) → find_link t (link_at p i) ≡ Some (route.links i small).link
   link-is i small = (route.links i small).found
 
-  pub forward-is : (i : ℕ) (small : i < hops p) → (fibre_at t p i).forward ≡ nat_eq (route.links i small).link.high.0 (node_at p (suc i)).0
+  pub forward-is : (i : ℕ) (small : i < hops p) → (fibre_at t p i).forward
+      ≡ nat_eq (route.links i small).link.high.0 (node_at p (suc i)).0
   forward-is i small = ap (λ x. is_high x (node_at p (suc i))) (link-is i small)
 
   -- the end to which a fibre leads is told by its direction
@@ -130,7 +139,8 @@ module _ (t : Network) (from : NodeId) (p : Plan) (route : IsRoute t from p) whe
   same-end : (i z : ℕ) (a : i < hops p) (b : z < hops p) → link_at p i ≡ link_at p z →
       (fibre_at t p i).forward ≡ (fibre_at t p z).forward → (node_at p (suc i)).0 ≡ (node_at p (suc z)).0
   same-end i z a b link forward =
-      go (nat_eq L.high.0 (node_at p (suc i)).0) refl (sym (sym (forward-is i a) ∙ forward ∙ forward-is z b ∙ other-link))
+      go (nat_eq L.high.0 (node_at p (suc i)).0) refl (sym (sym (forward-is i a) ∙ forward ∙ forward-is z b
+      ∙ other-link))
     where
       L : LinkSpec
       L = (route.links i a).link
@@ -175,7 +185,8 @@ module _ (t : Network) (from : NodeId) (p : Plan) (route : IsRoute t from p) whe
 
   -- the fibre of the route that comes in at the node after a place
 
-  pub low-first : (i : ℕ) (small : i < hops p) → nat_lt (route.links i small).link.low.0 (route.links i small).link.high.0 ≡ true →
+  pub low-first : (i : ℕ) (small : i < hops p) → nat_lt (route.links i small).link.low.0
+      (route.links i small).link.high.0 ≡ true →
       nat_lt (node_at p i).0 (node_at p (suc i)).0 ≡ nat_eq (route.links i small).link.high.0 (node_at p (suc i)).0
   low-first i small less =
       go (nat_eq L.low.0 (node_at p i).0) refl (route.links i small).far (route.links i small).touches
@@ -225,7 +236,8 @@ into-found [] e z apart small = absurd (omega arith)
 into-found (hop ∷ route) e zero apart small =
     let first = first-is route e in
     let a : nat_eq hop.link.0 hop.link.0 ≡ true = same hop.link.0 in
-    let b : nat_eq (node_at (plan route e) 0).0 (node_at (plan route e) 0).0 ≡ true = same (node_at (plan route e) 0).0 in
+    let b : nat_eq (node_at (plan route e) 0).0 (node_at (plan route e) 0).0
+    ≡ true = same (node_at (plan route e) 0).0 in
     rw (first, a, b) refl
   where
     same : (n : ℕ) → nat_eq n n ≡ true

@@ -1,8 +1,8 @@
 -- What the reports of each LSP tell is what is known, in every state of every run.
-use Rattle.std.proofs.Common.{◌≡◌, ◌≢◌, ◌≤◌, ◌<◌, ℕ, zero, suc, Bool, true, false, cond, nat_eq, nat_lt, not, List, [], ◌∷◌, ◌++◌, drop, length, refl, sym, ap, ◌∙◌, subst, arith, inl, inr}
-use Rattle.std.specs.Prelude.{◌&&◌, ◌||◌, ◌⊎◌, Option, Some, None, IfSome}
-use Rattle.ason_base.specs.Lsps.{has_fibre, is_lsp, same_lsp}
-use Rattle.ason_base.specs.Network.{IsTopology, Network, find_link}
+use Rattle.std.proofs.Common.{◌≡◌, ◌≢◌, ◌<◌, ℕ, suc, Bool, true, false, cond, nat_eq, List, [], ◌∷◌, drop, refl, sym, ap, ◌∙◌, subst, arith, inl, inr}
+use Rattle.std.specs.Prelude.{◌&&◌, Option, Some, None}
+use Rattle.ason_base.specs.Lsps.{has_fibre}
+use Rattle.ason_base.specs.Network.{Network}
 use Rattle.ason_base.specs.Routes.{is_end, makes_route, route_end}
 use Rattle.ason_base.specs.declared.ids.CallNo.{CallNo}
 use Rattle.ason_base.specs.declared.ids.Lsp.{Lsp}
@@ -15,26 +15,26 @@ use Rattle.mesh_rules.proofs.Conjunctions.{and_first}
 use Rattle.mesh_rules.specs.declared.events.MeshEvent.{MeshEvent}
 use Rattle.mesh_rules.specs.declared.events.MeshEvent.TheVariants.{Take, Desk, Tick, Learn, Post}
 use Rattle.mesh_rules.specs.Calls.{calls_changed, find_call, names}
-use Rattle.mesh_rules.specs.Changes.{Answer, changed, nothing}
+use Rattle.mesh_rules.specs.Changes.{Answer}
 use Rattle.mesh_rules.specs.Events.{IsRun, after, first_route, is_enabled, on_first, on_first_item, or_route, route_of, sent_at_ingress, step}
 use Rattle.mesh_rules.specs.Legs.{find_leg}
 use Rattle.mesh_rules.specs.LocalNodes.{local_node}
-use Rattle.mesh_rules.specs.Machine.{Mesh, commit, start, without_first, without_item}
+use Rattle.mesh_rules.specs.Machine.{Mesh, commit, without_first, without_item}
 use Rattle.mesh_rules.specs.State.{NodeState}
-use Rattle.mesh_laws.specs.CallLaw.{FitsLegs, IsNamed}
-use Rattle.mesh_laws.specs.HopLaw.{is_notice_of, leg_at, mail_between, notices_between, notices_of}
-use Rattle.mesh_laws.specs.ReportLaw.{is_standing, reports_of, told_by_all}
+use Rattle.mesh_laws.specs.CallLaw.{FitsLegs}
+use Rattle.mesh_laws.specs.HopLaw.{is_notice_of, leg_at, notices_between, notices_of}
+use Rattle.mesh_laws.specs.ReportLaw.{reports_of, told_by_all}
 use Rattle.mesh_laws.proofs.nodes.CallParts.{named-by, named-lsp}
 use Rattle.mesh_laws.proofs.nodes.Facts.{MeshFacts}
-use Rattle.mesh_laws.proofs.nodes.Runs.{facts-start, facts-step}
+use Rattle.mesh_laws.proofs.nodes.Runs.{facts-step}
 use Rattle.mesh_laws.proofs.hops.Laws.{step_facts}
 use Rattle.mesh_laws.proofs.hops.Notices.{ComesUp}
-use Rattle.mesh_laws.proofs.hops.Planned.{EachFollows, Follows, IsUntouched, Planned, Routes, or_assoc, or_none}
+use Rattle.mesh_laws.proofs.hops.Planned.{Follows, IsUntouched, Planned, Routes, or_assoc, or_none}
 use Rattle.mesh_laws.proofs.hops.Plans.{Plan, distinct, fibre_at, hops, link_at, node_at, plan, same_node}
 use Rattle.mesh_laws.proofs.hops.Rest.{Each, Purpose}
 use Rattle.mesh_laws.proofs.hops.Run.{Carried, step_carries, step_routes}
 use Rattle.mesh_laws.proofs.hops.Views.{leg-there, notices-else}
-use Rattle.mesh_laws.proofs.reports.Gentle.{CallOf, IsUnreached, RouteTold, Stands, Untold}
+use Rattle.mesh_laws.proofs.reports.Gentle.{CallOf, RouteTold}
 use Rattle.mesh_laws.proofs.reports.NewCalls.{first-new, first_item-new}
 use Rattle.mesh_laws.proofs.reports.OwnNotices.{LowFirst}
 use Rattle.mesh_laws.proofs.reports.Steps.{step-told}
@@ -106,13 +106,14 @@ module _ (t : Network) (s x : Mesh) (n : NodeId) (a : Answer) (l : Lsp)
           let at : find_call c.call (later.nodes n.0).calls ≡ Some c =
           subst (λ k. find_call c.call (later.nodes k).calls ≡ Some c) here of.found in
           let now : find_call c.call (calls_changed a.calls (x.nodes n.0).calls) ≡ Some c = (rw (same n.0) at at) in
-          subst (λ (ns : ℕ → NodeState). find_call c.call (calls_changed a.calls (ns n.0).calls) ≡ Some c) same-nodes now
+          subst (λ (ns : ℕ → NodeState). find_call c.call (calls_changed a.calls (ns n.0).calls)
+          ≡ Some c) same-nodes now
 
   pub begun-told : RouteTold t later l p
   begun-told = record {
     tells = λ i small stands c of. (
-      let stand = stands (suc i) (omega arith) in
-      absurd (let none = gone i small in (let h = (rw none at stand) in cc h)));
+        let stand = stands (suc i) (omega arith) in
+        absurd (let none = gone i small in (let h = (rw none at stand) in cc h)));
     first = λ i small plain. record {
       gone = λ j after below. gone j below;
       untold = λ j after below. record {
@@ -192,9 +193,11 @@ module _ (t : Network) (low : LowFirst t) (s : Mesh) (o : Routes) (facts : MeshF
         go false e f = absurd (cc f)
         go true e f =
             let here : l.ingress.0 ≡ d.0 = number-is d.0 l.ingress.0 e in
-            begun-told t s (without_first s u.0 d.0) d (on_first (local_node t d) (s.nodes d.0) u (s.mail u.0 d.0)) l refl
+            begun-told t s (without_first s u.0 d.0) d (on_first (local_node t d) (s.nodes d.0) u (s.mail u.0 d.0))
+            l refl
             (λ m. blank.legs m) (taken-quiet s u d l blank) here
-            (first-new (local_node t d) (s.nodes d.0) (facts.node d.0).calls_rise l (unnamed blank d) u (s.mail u.0 d.0))
+            (first-new (local_node t d) (s.nodes d.0) (facts.node d.0).calls_rise l (unnamed blank d) u
+            (s.mail u.0 d.0))
             x q (plan route end) later
     begins (Desk n) blank sent x later = go (nat_eq n.0 l.ingress.0) refl sent
       where
@@ -205,7 +208,8 @@ module _ (t : Network) (low : LowFirst t) (s : Mesh) (o : Routes) (facts : MeshF
             let here : l.ingress.0 ≡ n.0 = number-is n.0 l.ingress.0 e in
             begun-told t s (without_item s n.0) n (on_first_item (local_node t n) (s.nodes n.0) (s.desks n.0)) l refl
             (λ m. blank.legs m) (λ b c. blank.notices b c) here
-            (first_item-new (local_node t n) (s.nodes n.0) (facts.node n.0).calls_rise l (unnamed blank n) (s.desks n.0))
+            (first_item-new (local_node t n) (s.nodes n.0) (facts.node n.0).calls_rise l (unnamed blank n)
+            (s.desks n.0))
             x q (plan route end) later
     begins (Tick n) blank sent x later = absurd (go (nat_eq n.0 l.ingress.0) sent)
       where

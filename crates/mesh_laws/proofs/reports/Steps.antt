@@ -1,6 +1,6 @@
 -- Every event keeps what the reports of an LSP tell that was begun before.
-use Rattle.std.proofs.Common.{◌≡◌, ◌<◌, ℕ, suc, Bool, true, false, cond, nat_eq, not, List, [], ◌∷◌, ◌++◌, refl, sym, ap, ◌∙◌, subst, arith, inl, inr}
-use Rattle.std.specs.Prelude.{◌&&◌, ◌||◌, ◌⊎◌, Option, Some, None}
+use Rattle.std.proofs.Common.{◌≡◌, ◌<◌, ℕ, suc, Bool, true, false, List, [], ◌∷◌, refl, sym, ap, subst, inl, inr}
+use Rattle.std.specs.Prelude.{◌⊎◌, Option, Some, None}
 use Rattle.ason_base.specs.Lsps.{same_lsp}
 use Rattle.ason_base.specs.Network.{Network, find_link, row_of}
 use Rattle.ason_base.specs.declared.commands.Command.{Command}
@@ -34,10 +34,10 @@ use Rattle.mesh_rules.specs.Paths.{is_active}
 use Rattle.mesh_rules.specs.State.{NodeState}
 use Rattle.mesh_nodes.proofs.Cases.{if_cases}
 use Rattle.mesh_nodes.proofs.LegList.{same_lsp-eq, same_lsp-refl}
-use Rattle.mesh_laws.specs.HopLaw.{is_notice, is_notice_of, leg_at, lsp_of, mail_between, messages_of, notices_of}
+use Rattle.mesh_laws.specs.HopLaw.{is_notice_of, lsp_of, mail_between, messages_of, notices_of}
 use Rattle.mesh_laws.specs.HopShapes.{PlainPath, path_kind}
 use Rattle.mesh_laws.specs.ReportLaw.{is_standing}
-use Rattle.mesh_laws.proofs.nodes.Facts.{MeshFacts, NodeFacts}
+use Rattle.mesh_laws.proofs.nodes.Facts.{MeshFacts}
 use Rattle.mesh_laws.proofs.hops.Chain.{OnRoute}
 use Rattle.mesh_laws.proofs.hops.Planned.{Planned, Routes}
 use Rattle.mesh_laws.proofs.hops.Plans.{Plan, hops, node_at, plan, same_node}
@@ -46,7 +46,7 @@ use Rattle.mesh_laws.proofs.hops.Rows.{no_path_up}
 use Rattle.mesh_laws.proofs.hops.Taken.{up_hop}
 use Rattle.mesh_laws.proofs.reports.AlarmSteps.{on_alarm-told, on_clear-told}
 use Rattle.mesh_laws.proofs.reports.FirstSteps.{first_path-told}
-use Rattle.mesh_laws.proofs.reports.Gentle.{CallOf, Gentle, IsGentle, RouteTold, commit-gentle, gentle-then, gentle-told, has_plain, is_plain, taken-gentle}
+use Rattle.mesh_laws.proofs.reports.Gentle.{Gentle, IsGentle, RouteTold, commit-gentle, gentle-then, gentle-told, has_plain, is_plain, taken-gentle}
 use Rattle.mesh_laws.proofs.reports.GentleAnswers.{nothing-gentle, same-calls, same-legs}
 use Rattle.mesh_laws.proofs.reports.GentleRules.{IsOld}
 use Rattle.mesh_laws.proofs.reports.GentleSteps.{message-gentle, order-gentle}
@@ -62,10 +62,14 @@ unmoved s s' l nodes mail = record {
     down = λ n. ap (λ (ns : ℕ → NodeState). (ns n).down) nodes;
   };
   notices = λ a b. ap (λ (ms : ℕ → ℕ → List Msg). notices_of l (ms a.0 b.0)) mail;
-  calls = λ c of. (c, record {
-    found = subst (λ (ns : ℕ → NodeState). find_call c.call (ns l.ingress.0).calls ≡ Some c) nodes of.found;
-    named = of.named;
-  }, refl);
+  calls = λ c of. (
+    c,
+    record {
+      found = subst (λ (ns : ℕ → NodeState). find_call c.call (ns l.ingress.0).calls ≡ Some c) nodes of.found;
+      named = of.named;
+    },
+    refl,
+  );
 }
 
 posted-same : (t : Network) (s : Mesh) (c : Command) (l : Lsp) → Gentle s (posted t s c) l
@@ -187,7 +191,8 @@ module _ (t : Network) (low : LowFirst t) (s : Mesh) (o : Routes) (facts : MeshF
         go (same_lsp j l) (is_active purpose) (find_leg j (s.nodes d.0).legs) refl refl refl
       where
         go : (x y : Bool) (g : Option Leg) → same_lsp j l ≡ x → is_active purpose ≡ y →
-            find_leg j (s.nodes d.0).legs ≡ g → RouteTold t (After (Path j e k steps set label purpose)) l (plan route end)
+            find_leg j (s.nodes d.0).legs ≡ g → RouteTold t (After (Path j e k steps set label purpose)) l
+            (plan route end)
         go false y g x-is y-is g-is =
             other-told (Path j e k steps set label purpose) was refl (λ f. let own = f.1 in cc (own, x-is))
         go true true g x-is y-is g-is =
@@ -222,7 +227,8 @@ module _ (t : Network) (low : LowFirst t) (s : Mesh) (o : Routes) (facts : MeshF
     message-told (Notify j e at k code) was = notice-told j e at k code was
 
   taken-told : (d u : NodeId) (ms : List Msg) → s.mail u.0 d.0 ≡ ms → has_first ms ≡ true →
-      RouteTold t (commit (without_first s u.0 d.0) d.0 (on_first (local_node t d) (s.nodes d.0) u ms)) l (plan route end)
+      RouteTold t (commit (without_first s u.0 d.0) d.0 (on_first (local_node t d) (s.nodes d.0) u ms)) l
+      (plan route end)
   taken-told d u [] was some = absurd (cc some)
   taken-told d u (m ∷ rest) was some = message-told d u rest m was
 
