@@ -39,7 +39,7 @@ pub record LawsHold (t : Network) (events : List MeshEvent) : Type 0 where
   pub risks : IsTopology t → BackupsRecordRisks t events
   -- over a topology the items of each desk tell the node which of its fibres in are physically down
   pub desks : IsTopology t → DesksTell t (after t start events)
-  -- and what an LSP's Notifies on their way tell, on what the call knows, is what the nodes of its route know to be down
+  -- and what an LSP's Notifies on their way tell, on what the call knows, is what the nodes of its route know
   pub reports : IsTopology t → ReportsTell t events
   -- and while one group alone has failed no activation is refused
   pub admitted : IsTopology t → ActivationsAreAdmitted t events

@@ -1,4 +1,5 @@
--- What nodes and ingresses are told of failures (alarms, clears and Notifies: RFC 4872, section 8; RFC 3473, section 4.3).
+-- What nodes and ingresses are told of failures: alarms, clears and Notifies (RFC 4872, section 8; RFC 3473, section
+-- 4.3).
 use Rattle.std.specs.Prelude.{◌≡◌, ◌≤◌, ◌==◌, ◌||◌, ◌&&◌, ℕ, zero, suc, Bool, true, false, not, List, [], ◌∷◌, ◌++◌, Contains, Option, Some, None, IsTrue, drop, flat_map, slice_get, if◌then◌else◌}
 use Rattle.ason_base.specs.Lsps.{has_fibre, is_lsp, same_fibre}
 use Rattle.ason_base.specs.Network.{IsTopology, Network, find_link, touches}
@@ -104,8 +105,8 @@ abbrev pub is_reported : Lsp → Fibre → Option CallRec → Bool
 is_reported l f None = false
 is_reported l f (Some c) = has_fibre (reports_of l c) f
 
--- The node after this place, which the link leads to: what its Notifies on the way tell, on what the call at the ingress
--- knows, is what the node knows.
+-- The node after this place, which the link leads to: what its Notifies on the way tell, on what the call at the
+-- ingress knows, is what the node knows.
 abbrev pub PlaceTells : Mesh → Lsp → List Step → NodeId → ℕ → LinkSpec → NodeId → Type 0
 PlaceTells s l route e i link n =
     told (is_reported l (fibre_in link n) (call_with l (s.nodes l.ingress.0).calls))
