@@ -1,5 +1,5 @@
 -- What the nodes of a topology are told of its links: at most one thing of each, and nothing goes to a number that is no node's.
-use Rattle.std.proofs.Common.{◌≡◌, ◌<◌, ◌≤◌, ◌+◌, ℕ, Bool, true, false, cond, nat_eq, nat_lt, List, [], ◌∷◌, ◌++◌, length, get_or, take, refl, sym, ap, ◌∙◌, subst, arith}
+use Rattle.std.proofs.Common.{◌≡◌, ◌<◌, ◌≤◌, ◌+◌, ℕ, Bool, true, false, cond, nat_eq, nat_le, nat_lt, List, [], ◌∷◌, ◌++◌, length, get_or, take, refl, sym, ap, ◌∙◌, subst, arith}
 use Rattle.std.specs.Prelude.{◌&&◌, flat_map}
 use Rattle.std.specs.List.{AllByRecursion}
 use Rattle.std.proofs.lemmas.List.{flat_map_more, length-append, take_more}
@@ -139,3 +139,12 @@ few-of-all nodes before after n (l ∷ links) all =
 pub few-news : (t : Network) → IsTopology t → (before after : List Group) (n : ℕ) →
     length (all_news t before after n) ≤ length t.links
 few-news t valid before after n = few-of-all t.nodes before after n t.links (all-ends t valid)
+
+-- of which there are at most 256
+pub few-links : (t : Network) → IsTopology t → length t.links ≤ 256
+few-links t valid =
+    at-most (length t.links) (and_second (nat_le (length t.nodes) 64) _
+    (and_second (nat_le 1 (length t.nodes)) _ valid.count))
+  where
+    at-most : (k : ℕ) → nat_le k 256 ≡ true → k ≤ 256
+    at-most k h = grind arith
