@@ -9,7 +9,7 @@ use Rattle.share_check.specs.declared.guards.Guard.{Guard}
 use Rattle.mesh_rules.specs.LocalNodes.{local_node}
 use Rattle.mesh_nodes.proofs.NewNodes.{new-fits}
 use Rattle.leg_table.specs.Fits.{TablesFit}
-use Rattle.leg_table.specs.LegClaims.{AreOfOneNode, MayBeMade}
+use Rattle.leg_table.specs.LegClaims.{AreOfOneNode, MayBeMade, WorksAreLive}
 use Rattle.leg_table.specs.States.{local_of, no_call, state_of}
 use Rattle.leg_table.specs.Tables.{CallTable, LegTable, new_table}
 use Rattle.leg_table.proofs.AtStart.{at_start-fits, at_start-is}
@@ -55,12 +55,13 @@ answered-fits n a fits (i, may, is) = record {
 }
 
 -- the legs that it changes may be changed so
-pub answered-may : (n : NodeView) (a : Answer) → IsNode n → IsAnswerOf n a → MayBeMade n.place n.state.legs a.legs
-answered-may n a fits (i, may, is) = subst (λ b. MayBeMade n.place n.state.legs b.legs) (sym is) (by_input i)
+pub answered-may : (n : NodeView) (a : Answer) → IsNode n → WorksAreLive n.state.legs → IsAnswerOf n a →
+    MayBeMade n.place n.state.legs a.legs
+answered-may n a fits live (i, may, is) = subst (λ b. MayBeMade n.place n.state.legs b.legs) (sym is) (by_input i)
   where
     by_input : (i : Input) → MayBeMade n.place n.state.legs (answer_to n i).legs
-    by_input (Message u m) = message-may n.place n.state n.state.lsp u m fits.state.legs.each
-    by_input (Desk item) = item-may n.place n.state item
+    by_input (Message u m) = message-may n.place n.state n.state.lsp u m fits.state.legs.each fits.state.calls.each live
+    by_input (Desk item) = item-may n.place n.state n.state.lsp item fits.state.legs.each fits.state.calls.each
     by_input Tick = tt
     by_input (Learn row) =
         if_cases (λ b. MayBeMade n.place n.state.legs b.legs) (has_row (known_rows n.place n.state) row.link) nothing

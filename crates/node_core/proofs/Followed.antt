@@ -1,6 +1,9 @@
--- A node's rule of a message is that of its legs, followed by that of the call at the ingress.
-use Rattle.std.proofs.Common.{◌≡◌, ℕ, Bool, true, false, cond, [], refl, ap, subst, sym}
-use Rattle.std.specs.Prelude.{◌&&◌, Option, Some, None}
+-- A node's rule of a message is that of its leg, followed by that of the call at the ingress.
+use Rattle.std.proofs.Common.{◌≡◌, ◌∙◌, ℕ, Bool, true, false, cond, [], refl, ap, subst, sym}
+use Rattle.std.specs.Prelude.{◌&&◌, not, Option, Some, None, is_some}
+use Rattle.ason_base.specs.Labels.{has}
+use Rattle.ason_base.specs.declared.calls.Phase.{Phase}
+use Rattle.ason_base.specs.declared.calls.Phase.TheVariants.{Asked, Held, Armed, Live, Closing, Falling}
 use Rattle.ason_base.specs.declared.codes.ErrCode.{ErrCode}
 use Rattle.ason_base.specs.declared.ids.LinkId.{LinkId}
 use Rattle.ason_base.specs.declared.ids.Lsp.{Lsp}
@@ -10,99 +13,123 @@ use Rattle.ason_base.specs.declared.messages.Msg.TheVariants.{Resv, PathErr}
 use Rattle.ason_base.specs.declared.tables.Leg.{Leg}
 use Rattle.mesh_rules.specs.declared.neighbours.Neighbour.{Neighbour}
 use Rattle.mesh_rules.specs.declared.arrivals.Arrival.{Arrival}
-use Rattle.mesh_rules.specs.CallSteps.{call_answered, call_refused}
+use Rattle.mesh_rules.specs.ActivationAnswers.{confirmed, contended}
+use Rattle.mesh_rules.specs.CallSteps.{call_refused}
 use Rattle.mesh_rules.specs.Calls.{call_with}
-use Rattle.mesh_rules.specs.Changes.{Answer, followed_by, nothing, puts, removes}
-use Rattle.mesh_rules.specs.Legs.{connected, find_leg, following, is_asked, is_closing, is_node, previous}
+use Rattle.mesh_rules.specs.Changes.{Answer, followed_by, nothing, removes}
+use Rattle.mesh_rules.specs.Legs.{connected, find_leg, following, is_armed, is_asked, is_closing, is_label, is_node, is_over, previous, with_phase}
 use Rattle.mesh_rules.specs.Messages.{arrival, on_message}
 use Rattle.mesh_rules.specs.PathErrs.{PathFailure, err_passed, path_err_with}
-use Rattle.mesh_rules.specs.Resvs.{answered, is_expected, resv_with}
-use Rattle.mesh_rules.specs.State.{NodeState}
+use Rattle.mesh_rules.specs.Resvs.{answered, resv_with}
+use Rattle.mesh_rules.specs.State.{NodeState, new_node}
 use Rattle.mesh_nodes.proofs.LegList.{found-lsp}
 use Rattle.leg_table.specs.States.{legs_state, local_of, state_of}
 use Rattle.leg_table.specs.Tables.{CallTable, LegTable}
-use Rattle.resv_state.specs.Answers.{begins_here, connects, connects_leg, path_err_answer, refuses, refuses_leg, resv_answer}
-use Rattle.call_control.specs.Rules.{answered_for, answered_here, refused_for, refused_here}
-use Rattle.node_core.specs.Followed.{err_followed, followed_if, resv_followed}
+use Rattle.activation.specs.Answers.{carries_leg, connected_here}
+use Rattle.resv_state.specs.Answers.{begins_here, connects_leg, err_taken, refuses_leg, resv_taken}
+use Rattle.call_control.specs.Rules as call
+use Rattle.node_core.specs.Followed.{followed_if, removal_followed, resv_at, resv_followed}
 
--- the whole is what becomes of the leg, followed by what becomes of the call where that follows
-abbrev Follows : Answer → Bool → Answer → Answer → Type 0
-Follows whole b leg after = whole ≡ followed_if b leg after
+-- an Armed leg isn't Asked
+armed-not_asked : (q : Phase) → is_armed q ≡ true → is_asked q ≡ false
+armed-not_asked Asked e = absurd (cc e)
+armed-not_asked Held e = refl
+armed-not_asked Armed e = refl
+armed-not_asked Live e = refl
+armed-not_asked Closing e = refl
+armed-not_asked Falling e = refl
 
 module _ (t : LegTable) (c : CallTable) where
-  resv-leg : (a : Arrival) (x : ℕ) (o : Option Leg) → find_leg a.lsp t.legs ≡ o →
-      Follows (resv_with (local_of t) (state_of t c) a x o) (connects_leg a x o)
-      (resv_with (local_of t) (legs_state t) a x o)
-      (answered_for t c (call_with a.lsp c.calls) o)
-  resv-leg a x None found = refl
-  resv-leg a x (Some g) found = go (is_expected a x g) (previous g)
+  -- Resvs
+
+  -- at this leg, where o is the one that is found
+  abbrev resv-by : Arrival → ℕ → Option Leg → Leg → Answer
+  resv-by a x o g =
+      cond (is_armed g.phase)
+      (followed_if (carries_leg a x o) (connected_here a x o) (call.turned_here c (with_phase Live g)))
+      (followed_if (connects_leg a x o) (resv_taken t a x o) (call.answered_here t c (connected g None x)))
+
+  resv-leg : (a : Arrival) (x : ℕ) (g : Leg) →
+      resv_with (local_of t) (state_of t c) a x (Some g) ≡ resv-by a x (Some g) g
+  resv-leg a x g =
+      go (is_asked g.phase) (is_over (following g) a.from a.link && has g.sent x) (is_armed g.phase)
+      (is_over (following g) a.from a.link && is_label g.out_label x) (previous g) (armed-not_asked g.phase)
     where
-      same : g.lsp ≡ a.lsp
-      same = found-lsp a.lsp t.legs g found
+      go : (e y r z : Bool) (o : Option Neighbour) → (r ≡ true → e ≡ false) →
+          cond (e && y) (answered (local_of t) (state_of t c) a x g o)
+          (cond (r && z) (confirmed (state_of t c) g o) nothing)
+          ≡ cond r
+          (followed_if ((r && z) && not (is_some o)) (cond (r && z) (confirmed new_node g o) nothing)
+          (call.turned_here c (with_phase Live g)))
+          (followed_if ((e && y) && begins_here o)
+          (cond (e && y) (answered (local_of t) (legs_state t) a x g o) nothing)
+          (call.answered_here t c (connected g None x)))
+      go true y true z o not_both = absurd (cc (not_both refl))
+      go true true false z None not_both = refl
+      go true true false z (Some h) not_both = refl
+      go true false false z o not_both = refl
+      go false y false z o not_both = refl
+      go false y true true None not_both = refl
+      go false y true true (Some h) not_both = refl
+      go false y true false o not_both = refl
 
-      go : (b : Bool) (o : Option Neighbour) →
-          Follows (cond b (answered (local_of t) (state_of t c) a x g o) nothing) (b && begins_here o)
-          (cond b (answered (local_of t) (legs_state t) a x g o) nothing)
-          (call_answered (local_of t) (state_of t c) g (call_with a.lsp c.calls))
-      go false o = refl
-      go true None =
-          ap (λ l. followed_by (puts (connected g None x) [])
-          (call_answered (local_of t) (state_of t c) g (call_with l c.calls))) same
-      go true (Some h) = refl
+  -- PathErrs
 
-  err-leg : (u : NodeId) (e : PathFailure) (o : Option Leg) → find_leg e.lsp t.legs ≡ o →
-      Follows (path_err_with (state_of t c) u e o) (refuses_leg u e o) (path_err_with (legs_state t) u e o)
-      (refused_for e.code (call_with e.lsp c.calls) o)
-  err-leg u e None found = refl
-  err-leg u e (Some g) found = go (e.removed && is_node (following g) u) (is_asked g.phase) (previous g)
+  -- one that tells that the state was removed
+  removal-leg : (u : NodeId) (e : PathFailure) → e.removed ≡ true → (o : Option Leg) → find_leg e.lsp t.legs ≡ o →
+      path_err_with (state_of t c) u e o
+      ≡ followed_if (refuses_leg u e o) (err_taken u e o) (call.refused_for e.code (call_with e.lsp c.calls) o)
+  removal-leg u e gone None found = refl
+  removal-leg u e gone (Some g) found = go e.removed gone (is_node (following g) u) (is_asked g.phase) (previous g)
     where
       same : g.lsp ≡ e.lsp
       same = found-lsp e.lsp t.legs g found
 
-      gone : NodeState → Bool → Option Neighbour → Answer
-      gone s d o = cond d (err_passed s g e o) (cond (is_closing g.phase) (removes g.lsp []) nothing)
+      taken : NodeState → Bool → Option Neighbour → Answer
+      taken s d o = cond d (err_passed s g e o) (cond (is_closing g.phase) (removes g.lsp []) nothing)
 
-      go : (b d : Bool) (o : Option Neighbour) →
-          Follows (cond b (gone (state_of t c) d o) nothing) (b && (d && begins_here o))
-          (cond b (gone (legs_state t) d o) nothing)
+      go : (r : Bool) → r ≡ true → (b d : Bool) (o : Option Neighbour) →
+          cond b (cond r (taken (state_of t c) d o) (contended (state_of t c) g e.msg)) nothing
+          ≡ followed_if ((r && b) && (d && begins_here o)) (cond (r && b) (taken new_node d o) nothing)
           (call_refused e.code g (call_with e.lsp c.calls))
-      go false d o = refl
-      go true false o = refl
-      go true true None =
+      go false is b d o = absurd (cc is)
+      go true is false d o = refl
+      go true is true false o = refl
+      go true is true true None =
           ap (λ l. followed_by (removes g.lsp []) (call_refused e.code g (call_with l c.calls))) same
-      go true true (Some h) = refl
+      go true is true true (Some h) = refl
 
 pub resv-follows : (t : LegTable) (c : CallTable) (u : NodeId) (l : Lsp) (e : NodeId) (k : LinkId) (x : ℕ) →
-    on_message (local_of t) (state_of t c) u (Resv l e k x) ≡
-    resv_followed t c u l (Resv l e k x)
-resv-follows t c u l e k x = resv-leg t c (arrival l e u k) x (find_leg l t.legs) refl
+    on_message (local_of t) (state_of t c) u (Resv l e k x) ≡ resv_followed t c u l x (Resv l e k x)
+resv-follows t c u l e k x = go (find_leg l t.legs) refl
+  where
+    a : Arrival
+    a = arrival l e u k
 
-pub err-follows : (t : LegTable) (c : CallTable) (u : NodeId) (l : Lsp) (e at : NodeId) (gone : Bool) (code : ErrCode) →
-    on_message (local_of t) (state_of t c) u (PathErr l e at gone code) ≡
-    err_followed t c u l (PathErr l e at gone code) code
-err-follows t c u l e at gone code =
-    err-leg t c u (record { lsp = l; msg = PathErr l e at gone code; removed = gone; code = code })
+    go : (o : Option Leg) → find_leg l t.legs ≡ o →
+        resv_with (local_of t) (state_of t c) a x o ≡ resv_at t c u x (Resv l e k x) o
+    go None found = refl
+    go (Some g) found =
+        resv-leg t c a x g ∙ ap (λ o. resv-by t c a x o g) (sym found)
+
+pub removal-follows : (t : LegTable) (c : CallTable) (u : NodeId) (l : Lsp) (e at : NodeId) (code : ErrCode) →
+    on_message (local_of t) (state_of t c) u (PathErr l e at true code)
+    ≡ removal_followed t c u l code (PathErr l e at true code)
+removal-follows t c u l e at code =
+    removal-leg t c u (record { lsp = l; msg = PathErr l e at true code; removed = true; code = code }) refl
     (find_leg l t.legs) refl
 
--- a Resv that connects no LSP of this ingress is its legs' alone, and likewise a PathErr
-abbrev Cases : Answer → Bool → Answer → Answer → Type 0
-Cases whole b leg after = (b ≡ true → followed_by leg after ≡ whole) × (b ≡ false → leg ≡ whole)
+-- The same of a message that is one of these
 
-cases : (whole : Answer) (b : Bool) (leg after : Answer) → whole ≡ followed_if b leg after → Cases whole b leg after
-cases whole true leg after is = (λ e. sym is, λ e. absurd (cc e))
-cases whole false leg after is = (λ e. absurd (cc e), λ e. sym is)
+module _ (t : LegTable) (c : CallTable) (u : NodeId) (m : Msg) where
+  pub resv-is : (l : Lsp) (e : NodeId) (k : LinkId) (x : ℕ) → m ≡ Resv l e k x →
+      resv_followed t c u l x m ≡ on_message (local_of t) (state_of t c) u m
+  resv-is l e k x is =
+      subst (λ m. resv_followed t c u l x m ≡ on_message (local_of t) (state_of t c) u m) (sym is)
+      (sym (resv-follows t c u l e k x))
 
-pub resv-cases : (t : LegTable) (c : CallTable) (u : NodeId) (l : Lsp) (e : NodeId) (k : LinkId) (x : ℕ) (m : Msg) →
-    m ≡ Resv l e k x →
-    Cases (on_message (local_of t) (state_of t c) u m) (connects t u m) (resv_answer t u m) (answered_here t c l)
-resv-cases t c u l e k x m is =
-    subst (λ m. Cases (on_message (local_of t) (state_of t c) u m) (connects t u m) (resv_answer t u m)
-    (answered_here t c l)) (sym is) (cases _ (connects t u (Resv l e k x)) _ _ (resv-follows t c u l e k x))
-
-pub err-cases : (t : LegTable) (c : CallTable) (u : NodeId) (l : Lsp) (e at : NodeId) (gone : Bool) (code : ErrCode)
-    (m : Msg) → m ≡ PathErr l e at gone code →
-    Cases (on_message (local_of t) (state_of t c) u m) (refuses t u m) (path_err_answer t u m) (refused_here t c l code)
-err-cases t c u l e at gone code m is =
-    subst (λ m. Cases (on_message (local_of t) (state_of t c) u m) (refuses t u m) (path_err_answer t u m)
-    (refused_here t c l code)) (sym is)
-    (cases _ (refuses t u (PathErr l e at gone code)) _ _ (err-follows t c u l e at gone code))
+  pub removal-is : (l : Lsp) (e at : NodeId) (code : ErrCode) → m ≡ PathErr l e at true code →
+      removal_followed t c u l code m ≡ on_message (local_of t) (state_of t c) u m
+  removal-is l e at code is =
+      subst (λ m. removal_followed t c u l code m ≡ on_message (local_of t) (state_of t c) u m) (sym is)
+      (sym (removal-follows t c u l e at code))

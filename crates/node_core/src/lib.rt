@@ -3,6 +3,7 @@
 #![tactic(auto)]
 
 pub mod inputs;
+mod messages;
 pub mod node;
 mod routes;
 mod rows;

@@ -1,11 +1,14 @@
 //! The routes that a node finds over the links that it knows.
 
 ghost use Rattle.std.specs.Prelude.{◌≡◌, false, IfOk, length, replicate};
+ghost use Rattle.std.specs.Option.{option_copied};
 ghost use Rattle.mesh_nodes.specs.Routes.{AreSearchable};
 ghost use Rattle.mesh_rules.specs.LeastRoutes.{least_trip};
-ghost use Rattle.call_control.specs.Searches.{route_beside, steps_of};
+ghost use Rattle.call_control.specs.Searches.{IsBackupFor, route_beside, steps_of};
 
-use ason_base::{NodeId, OutOfMemory, Steps, TeRow};
+use ason_base::{Leg, NodeId, OutOfMemory, Steps, TeRow};
+use call_control::route_from;
+use leg_table::NodeTables;
 use route_least::{RouteFault, RouteNetwork};
 use route_pair::{BackupFault, backup_for};
 use std::alloc::Global;
@@ -55,4 +58,21 @@ pub(crate) fn least_backup(
         Err(BackupFault::NoBackup) => Ok(None),
         Err(BackupFault::OutOfMemory) => Err(OutOfMemory),
     }
+}
+
+/// The least backup route beside the LSP of this leg, where one is sought.
+pub(crate) fn backup_beside(
+    alloc: Global,
+    tables: &NodeTables,
+    sought: Option<&Leg>,
+) -> Result<Option<Steps>, OutOfMemory>
+    requires { AreSearchable tables.now.rows }
+    ensures { IfOk result
+        (λ route. IsBackupFor tables.now (option_copied sought.entry) route) }
+{
+    let Some(leg) = sought else {
+        return Ok(None);
+    };
+    let primary = route_from(alloc, tables, leg)?;
+    least_backup(alloc, tables.rows(), &primary, tables.node().id, leg.egress)
 }

@@ -1,4 +1,4 @@
-//! The rule of each input: messages, orders, desk items, ticks and rows that are learnt.
+//! The rule of each input: orders and other items of the desk, ticks and rows that are learnt; a message's is in `messages`.
 
 ghost use Rattle.std.specs.Prelude.{◌≡◌, IfOk, OnOk};
 ghost use Rattle.std.specs.Option.{option_copied};
@@ -14,18 +14,13 @@ ghost use Rattle.node_core.specs.Nodes.{answer_to, node_of};
 ghost use Rattle.node_core.specs.Rules.{CanSearch, item_here, message_here, order_here, row_here};
 
 use crate::inputs::Input;
-use crate::routes::{least_backup, least_route};
-use ason_base::{
-    CallNo, Command, Copied, DeskItem, Leg, Lsp, Msg, NodeId, OutOfMemory, Steps, TeRow,
-};
-use call_control::{
-    SetupRequest, answer_resv, protect, refuse_lsp, release, route_from, seeks_route, set_up,
-    sought_by_protect, sought_by_resv,
-};
+use crate::messages::on_message;
+use crate::routes::{backup_beside, least_route};
+use ason_base::{CallNo, Command, Copied, DeskItem, NodeId, OutOfMemory, TeRow};
+use call_control::{SetupRequest, protect, release, retry, seeks_route, set_up, sought_by_protect};
 use leg_table::{Calls, Change, NodeTables};
 use link_owner::Owner;
-use path_state::{path_change, tear_change};
-use resv_state::{connects, path_err_change, refuses, resv_change};
+use notify::{alarm_change, clear_change};
 use share_check::Shares;
 use std::alloc::Global;
 
@@ -37,81 +32,6 @@ pub(crate) struct NodeParts<'a> {
     pub owner: &'a Owner,
     pub shares: &'a Shares,
     pub calls: &'a Calls,
-}
-
-// Messages
-
-// The least backup route beside the LSP of this leg, where one is sought.
-fn backup_beside(
-    alloc: Global,
-    tables: &NodeTables,
-    sought: Option<&Leg>,
-) -> Result<Option<Steps>, OutOfMemory>
-    requires { AreSearchable tables.now.rows }
-    ensures { IfOk result
-        (λ route. IsBackupFor tables.now (option_copied sought.entry) route) }
-{
-    let Some(leg) = sought else {
-        return Ok(None);
-    };
-    let primary = route_from(alloc, tables, leg)?;
-    least_backup(alloc, tables.rows(), &primary, tables.node().id, leg.egress)
-}
-
-// The call of an LSP that begins here and has its labels now.
-fn follow_resv(
-    alloc: Global,
-    change: &mut Change,
-    tables: &NodeTables,
-    calls: &Calls,
-    lsp: Lsp,
-) -> Result<(), OutOfMemory>
-    requires links { LocalNodeFits (local_of tables.now) }
-    requires rows { CanSearch tables.now }
-    ensures { OnOk result
-        (change.new ≡ followed_by change.old (answered_here tables.now calls.now lsp)) }
-{
-    let backup = backup_beside(alloc, tables, sought_by_resv(tables, calls, lsp))?;
-    answer_resv(alloc, change, tables, calls, lsp, backup.as_ref())
-}
-
-// What a message from a neighbour does. At the ingress its call follows the leg.
-fn on_message(
-    alloc: Global,
-    parts: &NodeParts<'_>,
-    from: NodeId,
-    msg: &Msg,
-) -> Result<Change, OutOfMemory>
-    requires tables { TablesFit parts.now.tables.now parts.now.owner.now parts.now.shares.now }
-    requires rows { CanSearch parts.now.tables.now }
-    ensures { IfOk result
-        (λ c. c ≡ message_here parts.now.tables.now parts.now.calls.now from msg.now) }
-{
-    let NodeParts {
-        tables,
-        owner,
-        shares,
-        calls,
-    } = *parts;
-    match msg {
-        Msg::Path { .. } => path_change(alloc, tables, owner, shares, from, msg),
-        Msg::Resv { lsp, .. } => {
-            let mut change = resv_change(alloc, tables, owner, shares, from, msg)?;
-            if connects(tables, from, msg) {
-                follow_resv(alloc, &mut change, tables, calls, *lsp)?;
-            }
-            Ok(change)
-        }
-        Msg::PathTear { .. } => tear_change(alloc, tables, from, msg),
-        Msg::PathErr { lsp, code, .. } => {
-            let mut change = path_err_change(alloc, tables, from, msg)?;
-            if refuses(tables, from, msg) {
-                refuse_lsp(alloc, &mut change, tables, calls, *lsp, *code)?;
-            }
-            Ok(change)
-        }
-        Msg::Notify { .. } => Ok(Change::nothing(alloc)),
-    }
 }
 
 // Orders
@@ -184,10 +104,10 @@ fn on_order(
         }
         Command::Release { call, from } => release(alloc, tables, calls, *call, *from),
         Command::Protect { call, from } => on_protect(alloc, tables, calls, *call, *from),
-        Command::Retry { .. }
-        | Command::Revert { .. }
-        | Command::Fail { .. }
-        | Command::Repair { .. } => Ok(Change::nothing(alloc)),
+        Command::Retry { call, from } => retry(alloc, tables, calls, *call, *from),
+        Command::Revert { .. } | Command::Fail { .. } | Command::Repair { .. } => Ok(
+            Change::nothing(alloc),
+        ),
     }
 }
 
@@ -204,7 +124,8 @@ fn on_item(
 {
     match item {
         DeskItem::Order(command) => on_order(alloc, tables, calls, command),
-        DeskItem::Alarm(_) | DeskItem::Clear(_) => Ok(Change::nothing(alloc)),
+        DeskItem::Alarm(fibre) => alarm_change(alloc, tables, *fibre),
+        DeskItem::Clear(fibre) => clear_change(alloc, tables, *fibre),
     }
 }
 

@@ -6,7 +6,7 @@ use Rattle.node_core.proofs.node.Node.carry_out.Goals as goal
 pub carry_out-requires-clause-may : goal.carry_out-requires-clause-may
 carry_out-requires-clause-may c =
     let n = node_of c.self.inside.tables c.self.inside.calls in
-    answered-may n c.args.change c.self.invariant.0
+    answered-may n c.args.change c.self.invariant.0 c.self.invariant.1.labels.claims.live
     (subst (λ m. IsAnswerOf m c.args.change) (sym c.self.view_is) c.requires)
 
 pub carry_out-requires-clause-few : goal.carry_out-requires-clause-few

@@ -1,0 +1,222 @@
+//! The rule of each message from a neighbour: what becomes of the leg of its LSP, and at the ingress
+//! what becomes of the call then.
+
+ghost use Rattle.std.specs.Prelude.{◌≡◌, IfOk, OnOk, Some};
+ghost use Rattle.std.specs.Option.{option_copied};
+ghost use Rattle.mesh_rules.specs.Changes.{followed_by};
+ghost use Rattle.mesh_rules.specs.Legs.{find_leg};
+ghost use Rattle.mesh_nodes.specs.LocalNodes.{LocalNodeFits};
+ghost use Rattle.leg_table.specs.Fits.{TablesFit};
+ghost use Rattle.leg_table.specs.States.{local_of};
+ghost use Rattle.call_control.specs.Rules.{answered_here};
+ghost use Rattle.node_core.specs.Followed.{activation_followed, busy_followed, connection_followed, notice_followed, path_followed, removal_followed, resv_followed};
+ghost use Rattle.node_core.specs.Rules.{CanSearch, message_here};
+
+use crate::routes::backup_beside;
+use crate::rules::NodeParts;
+use activation::{activate_change, busy_change, carries, connect_change, contends};
+use ason_base::{ErrCode, Label, Leg, Lsp, Msg, NodeId, OutOfMemory, Phase};
+use call_control::{
+    answer_busy, answer_confirmed, answer_report, answer_resv, refuse_lsp, sought_by_resv,
+};
+use leg_table::one_leg::{connected, with_phase};
+use leg_table::{Calls, Change, NodeTables};
+use notify::{pass_change, reports};
+use path_state::{path_change, tear_change};
+use resv_state::{connects, path_err_change, refuses, resv_change};
+use std::alloc::Global;
+
+// Paths
+
+// A Path makes a leg where none of its LSP stands, and may activate the one that does.
+fn on_path(
+    alloc: Global,
+    parts: &NodeParts<'_>,
+    from: NodeId,
+    lsp: Lsp,
+    msg: &Msg,
+) -> Result<Change, OutOfMemory>
+    requires tables { TablesFit parts.now.tables.now parts.now.owner.now parts.now.shares.now }
+    ensures { IfOk result (λ c. c ≡ path_followed parts.now.tables.now from lsp msg.now) }
+{
+    match parts.tables.get(&lsp) {
+        None => path_change(alloc, parts.tables, parts.owner, parts.shares, from, msg),
+        Some(_) => activate_change(alloc, parts.tables, parts.owner, from, msg),
+    }
+}
+
+// Resvs
+
+// The call of this leg, which begins here and has its labels now.
+fn follow_resv(
+    alloc: Global,
+    change: &mut Change,
+    tables: &NodeTables,
+    calls: &Calls,
+    leg: &Leg,
+) -> Result<(), OutOfMemory>
+    requires links { LocalNodeFits (local_of tables.now) }
+    requires rows { CanSearch tables.now }
+    ensures { OnOk result
+        (change.new ≡ followed_by change.old (answered_here tables.now calls.now leg.now)) }
+{
+    let backup = backup_beside(alloc, tables, sought_by_resv(calls, leg))?;
+    answer_resv(alloc, change, tables, calls, leg, backup.as_ref())
+}
+
+// A Resv at a leg that isn't Armed.
+fn connect(
+    alloc: Global,
+    parts: &NodeParts<'_>,
+    from: NodeId,
+    leg: &Leg,
+    label: Label,
+    msg: &Msg,
+) -> Result<Change, OutOfMemory>
+    requires tables { TablesFit parts.now.tables.now parts.now.owner.now parts.now.shares.now }
+    requires rows { CanSearch parts.now.tables.now }
+    ensures { IfOk result (λ c. c
+        ≡ connection_followed parts.now.tables.now parts.now.calls.now from label msg.now leg.now) }
+{
+    let tables = parts.tables;
+    let mut change = resv_change(alloc, tables, parts.owner, parts.shares, from, msg)?;
+    if connects(tables, from, msg) {
+        let leg = connected(alloc, leg, None, label)?;
+        follow_resv(alloc, &mut change, tables, parts.calls, &leg)?;
+    }
+    Ok(change)
+}
+
+// A Resv at a leg that is Armed.
+fn confirm(
+    alloc: Global,
+    parts: &NodeParts<'_>,
+    from: NodeId,
+    leg: &Leg,
+    msg: &Msg,
+) -> Result<Change, OutOfMemory>
+    ensures { IfOk result (λ c. c
+        ≡ activation_followed parts.now.tables.now parts.now.calls.now from msg.now leg.now) }
+{
+    let mut change = connect_change(alloc, parts.tables, from, msg)?;
+    if carries(parts.tables, from, msg) {
+        let leg = with_phase(alloc, leg, Phase::Live)?;
+        answer_confirmed(alloc, &mut change, parts.calls, &leg)?;
+    }
+    Ok(change)
+}
+
+fn on_resv(
+    alloc: Global,
+    parts: &NodeParts<'_>,
+    from: NodeId,
+    lsp: Lsp,
+    label: Label,
+    msg: &Msg,
+) -> Result<Change, OutOfMemory>
+    requires tables { TablesFit parts.now.tables.now parts.now.owner.now parts.now.shares.now }
+    requires rows { CanSearch parts.now.tables.now }
+    ensures { IfOk result (λ c. c
+        ≡ resv_followed parts.now.tables.now parts.now.calls.now from lsp label msg.now) }
+{
+    let Some(leg) = parts.tables.get(&lsp) else {
+        return Ok(Change::nothing(alloc));
+    };
+    match leg.phase {
+        Phase::Armed => confirm(alloc, parts, from, leg, msg),
+        _ => connect(alloc, parts, from, leg, label, msg),
+    }
+}
+
+// PathErrs
+
+// A PathErr with Path_State_Removed.
+fn remove(
+    alloc: Global,
+    parts: &NodeParts<'_>,
+    from: NodeId,
+    lsp: Lsp,
+    code: ErrCode,
+    msg: &Msg,
+) -> Result<Change, OutOfMemory>
+    ensures { IfOk result (λ c. c
+        ≡ removal_followed parts.now.tables.now parts.now.calls.now from lsp code msg.now) }
+{
+    let mut change = path_err_change(alloc, parts.tables, from, msg)?;
+    if refuses(parts.tables, from, msg) {
+        refuse_lsp(alloc, &mut change, parts.tables, parts.calls, lsp, code)?;
+    }
+    Ok(change)
+}
+
+// A PathErr without it.
+fn disarm(
+    alloc: Global,
+    parts: &NodeParts<'_>,
+    from: NodeId,
+    lsp: Lsp,
+    msg: &Msg,
+) -> Result<Change, OutOfMemory>
+    ensures { IfOk result (λ c. c
+        ≡ busy_followed parts.now.tables.now parts.now.calls.now from lsp msg.now) }
+{
+    let mut change = busy_change(alloc, parts.tables, from, msg)?;
+    if contends(parts.tables, from, msg) {
+        if let Some(leg) = parts.tables.get(&lsp) {
+            let leg = with_phase(alloc, leg, Phase::Held)?;
+            answer_busy(alloc, &mut change, parts.calls, &leg)?;
+        }
+    }
+    Ok(change)
+}
+
+// Notifies
+
+fn on_notify(
+    alloc: Global,
+    parts: &NodeParts<'_>,
+    from: NodeId,
+    msg: &Msg,
+) -> Result<Change, OutOfMemory>
+    ensures { IfOk result (λ c. c
+        ≡ notice_followed parts.now.tables.now parts.now.calls.now from msg.now) }
+{
+    if reports(parts.tables, from, msg) {
+        let mut change = Change::nothing(alloc);
+        answer_report(alloc, &mut change, parts.tables, parts.calls, msg)?;
+        return Ok(change);
+    }
+    pass_change(alloc, parts.tables, from, msg)
+}
+
+/// What a message from a neighbour does to the leg of its LSP. At the ingress its call follows.
+pub(crate) fn on_message(
+    alloc: Global,
+    parts: &NodeParts<'_>,
+    from: NodeId,
+    msg: &Msg,
+) -> Result<Change, OutOfMemory>
+    requires tables { TablesFit parts.now.tables.now parts.now.owner.now parts.now.shares.now }
+    requires rows { CanSearch parts.now.tables.now }
+    ensures { IfOk result
+        (λ c. c ≡ message_here parts.now.tables.now parts.now.calls.now from msg.now) }
+{
+    match msg {
+        Msg::Path { lsp, .. } => on_path(alloc, parts, from, *lsp, msg),
+        Msg::Resv { lsp, label, .. } => on_resv(alloc, parts, from, *lsp, *label, msg),
+        Msg::PathTear { .. } => tear_change(alloc, parts.tables, from, msg),
+        Msg::PathErr {
+            lsp,
+            removed,
+            code,
+            ..
+        } => {
+            if *removed {
+                remove(alloc, parts, from, *lsp, *code, msg)
+            } else {
+                disarm(alloc, parts, from, *lsp, msg)
+            }
+        }
+        Msg::Notify { .. } => on_notify(alloc, parts, from, msg),
+    }
+}
