@@ -1,5 +1,5 @@
--- By no message, and by no item of its desk, does a node learn of a link. By no message and no order does it learn that
--- a fibre went down.
+-- By no message, and by no item of its desk, does a node learn of a link; by no message and no order does it learn that a
+-- fibre went down.
 use Rattle.std.proofs.Common.{◌≡◌, Bool, true, false, cond, nat_eq, nat_lt, not, List, [], ◌∷◌, drop, refl}
 use Rattle.std.specs.Prelude.{◌&&◌, ℕ, Option, Some, None, is_some}
 use Rattle.ason_base.specs.Codes.{busy_code, torn_code}
@@ -106,8 +106,7 @@ first_path-none p s m (Some link) =
     (judged p s m link (first_failure (checks p s m link))) nothing
     (judged-none p s m link (first_failure (checks p s m link))) (refl, refl)
 
-armed_on-none : (g : Leg) (route : List Step) (r : PathRole) (o : Option Neighbour) →
-    LearnsNothing (armed_on g route r o)
+armed_on-none : (g : Leg) (route : List Step) (r : PathRole) (o : Option Neighbour) → LearnsNothing (armed_on g route r o)
 armed_on-none g route r None = (refl, refl)
 armed_on-none g route r (Some h) = (refl, refl)
 
