@@ -96,10 +96,10 @@ pub(crate) fn start(alloc: Global) -> Result<Ingress, Fail> {
     })
 }
 
-fn over(alloc: Global, link: LinkId) -> Result<Option<Steps>, Fail> {
+fn over(alloc: Global, link: LinkId) -> Result<Steps, Fail> {
     let mut route = Steps::new(alloc);
     route.push(Step { node: A, link })?;
-    Ok(Some(route))
+    Ok(route)
 }
 
 /// A setup of a call over the one link, with a backup over the other one if it is protected.
@@ -120,9 +120,9 @@ pub(crate) fn set_up(
         to: B,
         protected,
         both: false,
-        via: over(alloc, WORK_LINK)?,
+        via: Some(over(alloc, WORK_LINK)?),
         backup: if protected {
-            over(alloc, BACK_LINK)?
+            Some(over(alloc, BACK_LINK)?)
         } else {
             None
         },
@@ -235,7 +235,13 @@ pub(crate) fn take_error(alloc: Global, ingress: Ingress, lsp: Lsp) -> Result<In
         mut shares,
         mut calls,
     } = ingress;
-    let msg = error(lsp, true);
+    let msg = Msg::PathErr {
+        lsp,
+        egress: B,
+        at: B,
+        removed: true,
+        code: SET,
+    };
     if !refuses(&tables, B, &msg) {
         return Err(Fail::new("a PathErr that no leg takes"));
     }
@@ -257,7 +263,13 @@ pub(crate) fn take_contention(alloc: Global, ingress: Ingress, lsp: Lsp) -> Resu
         shares,
         mut calls,
     } = ingress;
-    let msg = error(lsp, false);
+    let msg = Msg::PathErr {
+        lsp,
+        egress: B,
+        at: B,
+        removed: false,
+        code: BUSY,
+    };
     if !contends(&tables, B, &msg) {
         return Err(Fail::new("a PathErr that no leg takes"));
     }
@@ -271,7 +283,7 @@ pub(crate) fn take_contention(alloc: Global, ingress: Ingress, lsp: Lsp) -> Resu
     })
 }
 
-/// A Notify of b that its fibre in, of this LSP, went down or came up, and what becomes of the call.
+/// A Notify of b that its fibre in went down or came up, and what becomes of the call of this LSP.
 pub(crate) fn take_notify(
     alloc: Global,
     ingress: Ingress,
@@ -320,16 +332,6 @@ pub(crate) fn resv_for(lsp: Lsp) -> Result<Msg, Fail> {
         link: link_of(lsp),
         label: Label::new(2).ok_or("a label")?,
     })
-}
-
-fn error(lsp: Lsp, removed: bool) -> Msg {
-    Msg::PathErr {
-        lsp,
-        egress: B,
-        at: B,
-        removed,
-        code: if removed { SET } else { BUSY },
-    }
 }
 
 /// What a message tells.

@@ -7,6 +7,7 @@ use Rattle.ason_base.specs.declared.network.LinkSpec.{LinkSpec}
 use Rattle.ason_base.specs.declared.tables.Leg.{Leg}
 use Rattle.ason_base.specs.Lsps.{same_fibre}
 use Rattle.ason_base.specs.Network.{other_end}
+use Rattle.ason_base.specs.Writable.{IsWritableRole}
 use Rattle.link_owner.specs.Claims.{FibreClaims}
 use Rattle.share_check.specs.declared.guards.Guard.{Guard}
 use Rattle.mesh_rules.specs.declared.limits.TheConstants.{MOST_LINKS_OF_ROUTE}
@@ -45,6 +46,7 @@ pub record Passes (p : LocalNode) (back on : LinkSpec) (g : Leg) : Type 0 where
   pub phase : g.phase ≡ Asked
   pub ingress : nat_eq g.lsp.ingress.0 p.id.0 ≡ false
   pub egress : nat_eq g.egress.0 p.id.0 ≡ false
+  pub sent : 1 ≤ length g.sent
 
 pub passing-fits : (p : LocalNode) (k j : LinkId) (back on : LinkSpec) (g : Leg) → own_link p k ≡ Some back →
     own_link p j ≡ Some on →
@@ -69,6 +71,8 @@ passing-fits p k j back on g here there passes next =
       leaves = λ e. passes.egress;
       short =
           λ e. begins_elsewhere g.lsp.ingress.0 p.id.0 (length g.route < MOST_LINKS_OF_ROUTE) passes.ingress e;
+      says = λ e. begins_elsewhere g.lsp.ingress.0 p.id.0 (IsWritableRole g.path_role) passes.ingress e;
+      set = λ e. passes.sent;
     }
   where
     begins_elsewhere : (a b : ℕ) (P : Type 0) → nat_eq a b ≡ false → a ≡ b → P

@@ -1,10 +1,15 @@
-use Rattle.std.proofs.Common.{◌≡◌, ◌∙◌, false, nat_eq, refl, sym, ap, subst}
+use Rattle.std.proofs.Common.{◌≡◌, ◌≤◌, ◌∙◌, false, nat_eq, length, refl, sym, ap, subst, arith}
 use Rattle.std.specs.Prelude.{Some}
+use Rattle.ason_base.specs.Labels as labels
 use Rattle.ason_base.specs.Network.{other_end}
 use Rattle.mesh_rules.specs.LocalNodes.{fibre_in, fibre_out}
 use Rattle.leg_table.specs.States.{local_of}
 use Rattle.node_tests.proofs.TestLegs.{passing-fits}
 use Rattle.node_tests.proofs.resvs.asked_leg.Goals as goal
+
+some-labels : 1 ≤ length (labels.numbers_from 1 2)
+unfolding labels.numbers_from
+some-labels = omega arith
 
 pub returns-clause-fits : goal.returns-clause-fits
 returns-clause-fits c =
@@ -26,4 +31,5 @@ returns-clause-fits c =
       ingress = subst (λ n. nat_eq c.lsp-lsp.result.ingress.0 n.id.0 ≡ false) c.node.ensures
           (sym c.eq.ensures ∙ c.if-eq.false);
       egress = subst (λ n. nat_eq 3 n.id.0 ≡ false) c.node.ensures (sym c.eq-else-eq.ensures ∙ c.if-eq-2.false);
+      sent = subst (λ labels. 1 ≤ length labels) (sym c.upto-2.ensures) some-labels;
     })
