@@ -1,4 +1,4 @@
-use Rattle.std.proofs.Common.{map, sym, subst}
+use Rattle.std.proofs.Common.{map, sym, subst, []}
 use Rattle.ason_base.specs.declared.network.NodeSpec.{NodeSpec}
 use Rattle.world_core.specs.Replays.{StandsFor, WorldState}
 use Rattle.world_core.specs.Seats.{new_seat}
