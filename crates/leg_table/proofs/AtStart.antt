@@ -51,12 +51,12 @@ is-local : (t : Network) (n : NodeId) → local_of (new_table t n) ≡ local_nod
 is-local t n = go (find_node t n) refl
   where
     go : (o : Option NodeSpec) → find_node t n ≡ o → local_of (table_of t n (node_or_none n o)) ≡ local_node t n
-    go None found = ap (λ b. record { id = n; convert = b; own = filter (touches n) t.links })
+    go None found = ap (λ b. record { id = n; convert = b; wait = t.wait; own = filter (touches n) t.links })
         (sym (ap local.converts found))
     go (Some node) found =
         let number = same-number node.id.0 n.0 (found-passes (λ m. nat_eq m.id.0 n.0) t.nodes node found) in
         let converts = sym (ap local.converts found) in
-        λ i. record { id = record { 0 = number i }; convert = converts i; own = filter (touches n) t.links }
+        λ i. record { id = record { 0 = number i }; convert = converts i; wait = t.wait; own = filter (touches n) t.links }
 
 -- as many rows as links
 dropped : {X Y : Type 0} (f : X → Y) (xs : List X) → drop (length xs) (map f xs) ≡ []

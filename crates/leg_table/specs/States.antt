@@ -6,7 +6,7 @@ use Rattle.mesh_rules.specs.State.{NodeState}
 use Rattle.leg_table.specs.Tables.{CallTable, LegTable}
 
 abbrev pub local_of : LegTable → LocalNode
-local_of t = record { id = t.node.id; convert = t.node.convert; own = t.own }
+local_of t = record { id = t.node.id; convert = t.node.convert; wait = t.wait; own = t.own }
 
 -- the rows beyond those of the own links
 abbrev pub learnt_rows : LegTable → List TeRow

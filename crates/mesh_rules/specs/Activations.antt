@@ -16,7 +16,7 @@ use Rattle.mesh_rules.specs.declared.neighbours.Neighbour.{Neighbour}
 use Rattle.mesh_rules.specs.State.{NodeState}
 use Rattle.mesh_rules.specs.Changes.{Answer, nothing, sends, puts, to_node}
 use Rattle.mesh_rules.specs.LocalNodes.{LocalNode}
-use Rattle.mesh_rules.specs.Legs.{following, is_busy, is_held, is_in_use, is_over, previous, with_phase}
+use Rattle.mesh_rules.specs.Legs.{following, is_active_backup, is_busy, is_held, is_over, previous, with_phase}
 
 -- Messages
 
@@ -64,13 +64,13 @@ taken_on g route r (Some h) = path_to g route r h ∷ []
 abbrev pub taken_back : Leg → List Step → PathRole → Answer
 taken_back g route r = puts (with_phase Held g) (taken_on g route r (following g))
 
--- From its previous node a Held leg is activated, and the activation of a backup's leg that is Armed or Live is taken back.
--- All else changes nothing.
+-- From its previous node a Held leg is activated, and the activation of a backup's leg is taken back. All else changes
+-- nothing.
 abbrev pub path_again : LocalNode → NodeState → Arrival → List Step → PathRole → Leg → Answer
 path_again p s a route (Work guard) g = nothing
 path_again p s a route (Back true work primary) g =
     if is_held g.phase && is_over (previous g) a.from a.link then activated p s a route (Back true work primary) g
     else nothing
 path_again p s a route (Back false work primary) g =
-    if is_in_use g.phase && is_over (previous g) a.from a.link then taken_back g route (Back false work primary)
+    if is_active_backup g && is_over (previous g) a.from a.link then taken_back g route (Back false work primary)
     else nothing

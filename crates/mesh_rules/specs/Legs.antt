@@ -110,6 +110,10 @@ abbrev pub is_work : Role → Bool
 is_work Work = true
 is_work Back = false
 
+-- a backup that an activation has passed
+abbrev pub is_active_backup : Leg → Bool
+is_active_backup g = not (is_work g.role) && is_in_use g.phase
+
 -- A torn leg gives up its label in. It keeps its fibres and its label out.
 abbrev pub closed : Leg → Leg
 closed g = record g { phase = closing_phase g.phase g.role; in_label = None }

@@ -7,10 +7,12 @@ use Rattle.ason_base.specs.declared.network.NodeSpec.{NodeSpec}
 use Rattle.ason_base.specs.declared.network.LinkSpec.{LinkSpec}
 use Rattle.ason_base.specs.Network.{Network, find_node, touches}
 
--- a node's number, whether it converts, and its own links, in order of number
+-- a node's number, whether it converts, after how many ticks the network restores a call (0: never by itself), and the
+-- node's own links, in order of number
 pub record LocalNode : Type 0 where
   pub id : NodeId
   pub convert : Bool
+  pub wait : ℕ
   pub own : List LinkSpec
 
 abbrev pub converts : Option NodeSpec → Bool
@@ -18,7 +20,12 @@ converts None = false
 converts (Some n) = n.convert
 
 abbrev pub local_node : Network → NodeId → LocalNode
-local_node t n = record { id = n; convert = converts (find_node t n); own = filter (touches n) t.links }
+local_node t n = record {
+  id = n;
+  convert = converts (find_node t n);
+  wait = t.wait;
+  own = filter (touches n) t.links;
+}
 
 abbrev pub own_link : LocalNode → LinkId → Option LinkSpec
 own_link p k = find (λ l. l.id.0 == k.0) p.own

@@ -67,7 +67,7 @@ disarms c b = record nothing {
   sent = taking_path b (following b);
 }
 
--- a backup that isn't Live can't be left
+-- a backup that isn't in use can't be left
 abbrev pub go_back : CallRec → Option Leg → Answer
 go_back c None = call_put c
 go_back c (Some b) = if is_in_use b.phase then disarms c b else call_put c

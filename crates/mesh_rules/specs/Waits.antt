@@ -1,5 +1,5 @@
 -- Ticks: a turned call whose working LSP isn't hit waits to be restored, and goes back at the end of the wait (ITU-T G.808.1,
--- wait to restore). s is what the node keeps.
+-- wait to restore). p is the node; s is what it keeps.
 use Rattle.std.specs.Prelude.{ℕ, ◌+◌, ◌==◌, ◌&&◌, nat_le, not, List, [], ◌∷◌, if◌then◌else◌}
 use Rattle.ason_base.specs.declared.tables.CallRec.{CallRec}
 use Rattle.ason_base.specs.declared.tables.Leg.{Leg}
@@ -7,6 +7,7 @@ use Rattle.mesh_rules.specs.State.{NodeState}
 use Rattle.mesh_rules.specs.Calls.{is_turned}
 use Rattle.mesh_rules.specs.Changes.{Answer, followed_by, nothing}
 use Rattle.mesh_rules.specs.Legs.{leg_of}
+use Rattle.mesh_rules.specs.LocalNodes.{LocalNode}
 use Rattle.mesh_rules.specs.Turns.{call_put, go_back, has_any}
 
 -- one tick more, of so many
@@ -24,5 +25,5 @@ abbrev pub all_ticked : ℕ → List Leg → List CallRec → Answer
 all_ticked wait legs [] = nothing
 all_ticked wait legs (c ∷ calls) = followed_by (ticked wait legs c) (all_ticked wait legs calls)
 
-abbrev pub on_tick : ℕ → NodeState → Answer
-on_tick wait s = all_ticked wait s.legs s.calls
+abbrev pub on_tick : LocalNode → NodeState → Answer
+on_tick p s = all_ticked p.wait s.legs s.calls

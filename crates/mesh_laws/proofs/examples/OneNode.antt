@@ -35,6 +35,7 @@ abbrev middle : LocalNode
 middle = record {
   id = node 2;
   convert = true;
+  wait = 0;
   own = joins 1 1 2 [] ∷ joins 2 2 3 [] ∷ joins 3 2 3 [] ∷ joins 4 2 3 (7 ∷ []) ∷ joins 5 2 3 (7 ∷ []) ∷ [];
 }
 
