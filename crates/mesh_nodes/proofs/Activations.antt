@@ -1,26 +1,26 @@
 -- What a Path does where a leg of its LSP stands fits, and so does every Path.
-use Rattle.std.proofs.Common.{◌≡◌, ◌≤◌, true, false, [], ◌∷◌, length, refl, arith, List, drop}
+use Rattle.std.proofs.Common.{[], arith, drop, false, length, List, not, refl, true, ◌∷◌, ◌≡◌, ◌≤◌}
 use Rattle.std.specs.Prelude.{◌&&◌, Option, Some, None}
 use Rattle.ason_base.specs.Writable.{IsWritableRole}
 use Rattle.ason_base.specs.declared.calls.Phase.{Phase}
-use Rattle.ason_base.specs.declared.calls.Phase.TheVariants.{Armed, Live}
+use Rattle.ason_base.specs.declared.calls.Phase.TheVariants.{Armed, Held, Live}
 use Rattle.ason_base.specs.declared.messages.PathRole.{PathRole}
 use Rattle.ason_base.specs.declared.messages.PathRole.TheVariants.{Work, Back}
 use Rattle.ason_base.specs.declared.steps.Step.{Step}
 use Rattle.ason_base.specs.declared.tables.Leg.{Leg}
 use Rattle.mesh_rules.specs.declared.arrivals.Arrival.{Arrival}
 use Rattle.mesh_rules.specs.declared.neighbours.Neighbour.{Neighbour}
-use Rattle.mesh_rules.specs.Activations.{activated, armed_on, busy_to, is_contended, path_again}
-use Rattle.mesh_rules.specs.Changes.{sends}
-use Rattle.mesh_rules.specs.Legs.{find_leg, following, is_held, is_over, previous, with_leg, with_phase}
+use Rattle.mesh_rules.specs.Activations.{activated, armed_on, busy_to, is_contended, path_again, taken_on}
+use Rattle.mesh_rules.specs.Changes.{puts, sends}
+use Rattle.mesh_rules.specs.Legs.{find_leg, following, is_active_backup, is_held, is_in_use, is_over, is_work, previous, with_leg, with_phase}
 use Rattle.mesh_rules.specs.LocalNodes.{LocalNode, own_link}
 use Rattle.mesh_rules.specs.Paths.{PathRequest, on_path, path_with}
 use Rattle.mesh_rules.specs.State.{NodeState}
 use Rattle.mesh_nodes.specs.Kept.{LegsFit, NodeFits}
 use Rattle.mesh_nodes.specs.LocalNodes.{LocalNodeFits}
-use Rattle.mesh_nodes.specs.Sent.{AnswerFits}
+use Rattle.mesh_nodes.specs.Sent.{AllToNeighbours, AllWritable, AnswerFits}
 use Rattle.mesh_nodes.proofs.Cases.{both_left, both_right, if_cases}
-use Rattle.mesh_nodes.proofs.Kept.{beside-node, held-beyond, legs-changed, phase-fits}
+use Rattle.mesh_nodes.proofs.Kept.{beside-node, held-beyond, in_use-beyond, legs-changed, phase-fits}
 use Rattle.mesh_nodes.proofs.LegList.{found-all}
 use Rattle.mesh_nodes.proofs.Links.{over-near}
 use Rattle.mesh_nodes.proofs.Paths.{first-fits, nothing-fits}
@@ -76,11 +76,45 @@ module _ (p : LocalNode) (s : NodeState) (a : Arrival) (route : List Step) (r : 
       if_cases (AnswerFits p s W) (is_contended s.legs g g.in_fibre g.in_label) _ _ (λ e. busy-fits)
       (λ e. armed_on-fits (following g) refl role short)
 
+-- the activation of a backup's leg is taken back, and the Path goes on
+taken_back-fits : (p : LocalNode) (s : NodeState) (route : List Step) (r : PathRole) (g : Leg) (W : Type 0) →
+    NodeFits p s → Stands p s g → is_in_use g.phase ≡ true → (o : Option Neighbour) → following g ≡ o →
+    (W → IsWritableRole r) → (W → length route ≤ 64) →
+    AnswerFits p s W (puts (with_phase Held g) (taken_on g route r o))
+taken_back-fits p s route r g W fits stands in_use o is role short = record {
+  kept = record {
+    legs = legs-changed p s.lsp (with_phase Held g) g s.legs fits.legs stands.found
+        (phase-fits p s.lsp Held g stands.fits (in_use-beyond g.phase in_use));
+    calls = fits.calls;
+    first = fits.first;
+    numbers = fits.numbers;
+  };
+  near = near o is;
+  written = λ w. written w o is;
+  few = few o;
+}
+  where
+    near : (o : Option Neighbour) → following g ≡ o → AllToNeighbours p (taken_on g route r o)
+    near None is = tt
+    near (Some h) is = (following-is_near p s.lsp g h stands.fits is, tt)
+
+    written : W → (o : Option Neighbour) → following g ≡ o → AllWritable (taken_on g route r o)
+    written w None is = tt
+    written w (Some h) is = ((stands.fits.set (beside-node g.next g.out_fibre h is), short w, role w), tt)
+
+    few : (o : Option Neighbour) → length (taken_on g route r o) ≤ 65536
+    few None = omega arith
+    few (Some h) = omega arith
+
 again-fits : (p : LocalNode) (s : NodeState) (a : Arrival) (route : List Step) (r : PathRole) (g : Leg) (W : Type 0) →
     NodeFits p s → Stands p s g → (W → IsWritableRole r) → (W → length route ≤ 64) →
     AnswerFits p s W (path_again p s a route r g)
 again-fits p s a route (Work guard) g W fits stands role short = nothing-fits p s W fits
-again-fits p s a route (Back false work primary) g W fits stands role short = nothing-fits p s W fits
+again-fits p s a route (Back false work primary) g W fits stands role short =
+    if_cases (AnswerFits p s W) (is_active_backup g && is_over (previous g) a.from a.link) _ _
+    (λ e. taken_back-fits p s route (Back false work primary) g W fits stands
+    (both_right (not (is_work g.role)) _ (both_left (is_active_backup g) _ e)) (following g) refl role short)
+    (λ e. nothing-fits p s W fits)
 again-fits p s a route (Back true work primary) g W fits stands role short =
     if_cases (AnswerFits p s W) (is_held g.phase && is_over (previous g) a.from a.link) _ _
     (λ e. activated-fits p s a route (Back true work primary) g W fits stands (both_left (is_held g.phase) _ e)

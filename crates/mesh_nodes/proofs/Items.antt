@@ -42,7 +42,7 @@ use Rattle.mesh_nodes.proofs.LegList.{find-with_leg, found-lsp}
 use Rattle.mesh_nodes.proofs.Links.{found-one}
 use Rattle.mesh_nodes.proofs.Pairs.{pair-fits}
 use Rattle.mesh_nodes.proofs.Paths.{below, nothing-fits}
-use Rattle.mesh_nodes.proofs.Reports.{retry-fits}
+use Rattle.mesh_nodes.proofs.Reports.{retry-fits, revert-fits}
 use Rattle.mesh_nodes.proofs.Stands.{OneFits, Stands, following-is_near, leg-stands, none-sent}
 
 -- Setup
@@ -272,7 +272,8 @@ items-fit p s (Order (Protect n from)) place fits =
     protect-fits p s n from (Unit {0}) (find_call n s.calls) place fits refl
 items-fit p s (Order (Retry n from)) place fits =
     retry-fits p s (Unit {0}) fits n from (find_call n s.calls) refl
-items-fit p s (Order (Revert n from)) place fits = nothing-fits p s (Unit {0}) fits
+items-fit p s (Order (Revert n from)) place fits =
+    revert-fits p s (Unit {0}) fits n from (find_call n s.calls) refl
 items-fit p s (Order (Fail g)) place fits = nothing-fits p s (Unit {0}) fits
 items-fit p s (Order (Repair g)) place fits = nothing-fits p s (Unit {0}) fits
 items-fit p s (Alarm f) place fits = alarm-fits p s f (Unit {0}) fits

@@ -16,7 +16,7 @@ use Rattle.ason_base.specs.Lsps.{lsp_before, same_lsp}
 use Rattle.mesh_rules.specs.declared.limits.TheConstants.{MOST_LEGS}
 use Rattle.mesh_rules.specs.declared.neighbours.Neighbour.{Neighbour}
 use Rattle.mesh_rules.specs.Calls.{with_call, without_call}
-use Rattle.mesh_rules.specs.Legs.{closed, closing_phase, connected, find_leg, is_armed, is_beyond_asked, is_held, is_over, neighbour_over, with_leg, with_phase, without_leg}
+use Rattle.mesh_rules.specs.Legs.{closed, closing_phase, connected, find_leg, is_armed, is_beyond_asked, is_held, is_in_use, is_over, neighbour_over, with_leg, with_phase, without_leg}
 use Rattle.mesh_rules.specs.LocalNodes.{LocalNode}
 use Rattle.mesh_nodes.specs.Kept.{CallFits, CallsFit, LegFits, LegsFit}
 use Rattle.mesh_nodes.specs.Order.{LegsRise}
@@ -204,6 +204,14 @@ armed-beyond Armed e = refl
 armed-beyond Live e = absurd (cc e)
 armed-beyond Closing e = absurd (cc e)
 armed-beyond Falling e = absurd (cc e)
+
+pub in_use-beyond : (f : Phase) → is_in_use f ≡ true → is_beyond_asked f ≡ true
+in_use-beyond Asked e = absurd (cc e)
+in_use-beyond Held e = absurd (cc e)
+in_use-beyond Armed e = refl
+in_use-beyond Live e = refl
+in_use-beyond Closing e = absurd (cc e)
+in_use-beyond Falling e = absurd (cc e)
 
 -- Fibres of a leg
 

@@ -1,6 +1,6 @@
 -- By no message, and by no item of its desk, does a node learn of a link; by no message and no order does it learn that a
 -- fibre went down.
-use Rattle.std.proofs.Common.{◌≡◌, Bool, true, false, cond, nat_eq, nat_lt, not, List, [], ◌∷◌, drop, refl}
+use Rattle.std.proofs.Common.{[], Bool, cond, drop, false, List, nat_eq, nat_le, nat_lt, not, refl, true, ◌+◌, ◌∷◌, ◌≡◌}
 use Rattle.std.specs.Prelude.{◌&&◌, ℕ, Option, Some, None, is_some}
 use Rattle.ason_base.specs.Codes.{busy_code, torn_code}
 use Rattle.ason_base.specs.Labels.{least}
@@ -36,12 +36,12 @@ use Rattle.mesh_rules.specs.ActivationAnswers.{confirmed, contended, disarmed, i
 use Rattle.mesh_rules.specs.Activations.{armed_on, is_contended, path_again}
 use Rattle.mesh_rules.specs.Alarms.{enters, on_alarm, on_clear}
 use Rattle.mesh_rules.specs.CallSteps.{call_answered, call_contended, call_refused, call_turned}
-use Rattle.mesh_rules.specs.Calls.{call_with, find_call, guarded, is_asking, is_bare, is_pairing, is_stuck, is_turning, stuck, turned}
+use Rattle.mesh_rules.specs.Calls.{call_with, find_call, guarded, is_asking, is_bare, is_pairing, is_stuck, is_turned, is_turning, stuck, turned}
 use Rattle.mesh_rules.specs.Changes.{Answer, changes_calls, followed_by, nothing, puts, removes, to_node}
 use Rattle.mesh_rules.specs.FirstLegs.{first_link, is_full}
 use Rattle.mesh_rules.specs.KnownRows.{known_rows}
 use Rattle.mesh_rules.specs.LeastRoutes.{Trip, least_trip}
-use Rattle.mesh_rules.specs.Legs.{connected, find_leg, following, is_armed, is_asked, is_closing, is_held, is_node, is_over, is_work, leg_of, previous, with_phase}
+use Rattle.mesh_rules.specs.Legs.{connected, find_leg, following, is_active_backup, is_armed, is_asked, is_closing, is_held, is_in_use, is_node, is_over, is_work, leg_of, previous, with_phase}
 use Rattle.mesh_rules.specs.LocalNodes.{LocalNode, leads, own_link}
 use Rattle.mesh_rules.specs.Messages.{arrival, on_message}
 use Rattle.mesh_rules.specs.Notifies.{Notice, notice_passed, notice_told, notify_with}
@@ -57,9 +57,11 @@ use Rattle.mesh_rules.specs.Resvs.{answered, is_expected, label_back, labels_lef
 use Rattle.mesh_rules.specs.Setups.{SetupRequest, admitted_setup, begins, is_order_here, is_spent, new_call, over_first, over_found, refused_setup, setup_with}
 use Rattle.mesh_rules.specs.State.{NodeState}
 use Rattle.mesh_rules.specs.Tears.{tear_with, torn}
-use Rattle.mesh_rules.specs.Turns.{decide, decided, has_any, turn}
+use Rattle.mesh_rules.specs.Turns.{decide, decided, go_back, has_any, turn}
 use Rattle.mesh_nodes.specs.Learnt.{NothingElseIsLearnt}
 use Rattle.mesh_nodes.proofs.Cases.{if_cases}
+use Rattle.mesh_rules.specs.Waits.{all_ticked, on_tick, ticked}
+use Rattle.mesh_rules.specs.Reverts.{revert_with, reverts}
 
 -- no link, and no fibre that went down or came up
 abbrev LearnsNothing : Answer → Type 0
@@ -113,7 +115,9 @@ armed_on-none g route r (Some h) = (refl, refl)
 again-none : (p : LocalNode) (s : NodeState) (a : Arrival) (route : List Step) (r : PathRole) (g : Leg) →
     LearnsNothing (path_again p s a route r g)
 again-none p s a route (Work guard) g = (refl, refl)
-again-none p s a route (Back false work primary) g = (refl, refl)
+again-none p s a route (Back false work primary) g =
+    if_cases LearnsNothing (is_active_backup g && is_over (previous g) a.from a.link) _ _ (λ e. (refl, refl))
+    (λ e. (refl, refl))
 again-none p s a route (Back true work primary) g =
     if_cases LearnsNothing (is_held g.phase && is_over (previous g) a.from a.link) _ _
     (λ e. if_cases LearnsNothing (is_contended s.legs g g.in_fibre g.in_label) _ _ (λ b. (refl, refl))
@@ -130,6 +134,10 @@ turn-none : (c : CallRec) (o : Option Leg) → LearnsNothing (turn c o)
 turn-none c None = (refl, refl)
 turn-none c (Some b) = if_cases LearnsNothing (is_held b.phase) _ _ (λ e. (refl, refl)) (λ e. (refl, refl))
 
+go_back-none : (c : CallRec) (o : Option Leg) → LearnsNothing (go_back c o)
+go_back-none c None = (refl, refl)
+go_back-none c (Some b) = if_cases LearnsNothing (is_in_use b.phase) _ _ (λ e. (refl, refl)) (λ e. (refl, refl))
+
 decided-none : (c : CallRec) (o : Option Leg) (state : CallState) (works backs : Bool) →
     LearnsNothing (decided c o state works backs)
 decided-none c o Asking works backs = (refl, refl)
@@ -140,7 +148,9 @@ decided-none c o Guarded true false = turn-none c o
 decided-none c o Guarded true true = (refl, refl)
 decided-none c o Guarded false backs = (refl, refl)
 decided-none c o Turning works backs = (refl, refl)
-decided-none c o Turned works backs = (refl, refl)
+decided-none c o Turned true backs = (refl, refl)
+decided-none c o Turned false true = go_back-none c o
+decided-none c o Turned false false = (refl, refl)
 decided-none c o Stuck true backs = (refl, refl)
 decided-none c o Stuck false backs = (refl, refl)
 
@@ -347,6 +357,33 @@ retry-none : (p : LocalNode) (s : NodeState) (from : NodeId) (o : Option CallRec
 retry-none p s from None = (refl, refl)
 retry-none p s from (Some c) = either-one (nat_eq from.0 p.id.0) (retries s c) nothing (retries-none s c) (refl, refl)
 
+-- Revert
+
+reverts-none : (s : NodeState) (c : CallRec) → LearnsNothing (reverts s c)
+reverts-none s c =
+    if_cases LearnsNothing (is_turned c.state && not (has_any c.work_reports)) _ _
+    (λ e. go_back-none c (leg_of c.back s.legs)) (λ e. (refl, refl))
+
+revert-none : (p : LocalNode) (s : NodeState) (from : NodeId) (o : Option CallRec) →
+    LearnsNothing (revert_with p s from o)
+revert-none p s from None = (refl, refl)
+revert-none p s from (Some c) =
+    either-one (nat_eq from.0 p.id.0) (reverts s c) nothing (reverts-none s c) (refl, refl)
+
+-- Ticks
+
+ticked-none : (wait : ℕ) (legs : List Leg) (c : CallRec) → LearnsNothing (ticked wait legs c)
+ticked-none wait legs c =
+    if_cases LearnsNothing (not (nat_eq wait 0) && (is_turned c.state && not (has_any c.work_reports))) _ _
+    (λ e. if_cases LearnsNothing (nat_le wait (c.ticks + 1)) _ _ (λ e. go_back-none c (leg_of c.back legs))
+    (λ e. (refl, refl))) (λ e. (refl, refl))
+
+all_ticked-none : (wait : ℕ) (legs : List Leg) (calls : List CallRec) → LearnsNothing (all_ticked wait legs calls)
+all_ticked-none wait legs [] = (refl, refl)
+all_ticked-none wait legs (c ∷ calls) =
+    both (ticked wait legs c) (all_ticked wait legs calls) (ticked-none wait legs c)
+    (all_ticked-none wait legs calls)
+
 -- Alarms and clears
 
 alarm-none : (p : LocalNode) (s : NodeState) (f : Fibre) → (on_alarm p s f).rows ≡ []
@@ -397,7 +434,7 @@ order-none p s (Setup n from to protected two via backup) =
 order-none p s (Release n from) = release-none p s from (find_call n s.calls)
 order-none p s (Protect n from) = protect-none p s from (find_call n s.calls)
 order-none p s (Retry n from) = retry-none p s from (find_call n s.calls)
-order-none p s (Revert n from) = (refl, refl)
+order-none p s (Revert n from) = revert-none p s from (find_call n s.calls)
 order-none p s (Fail g) = (refl, refl)
 order-none p s (Repair g) = (refl, refl)
 
@@ -416,5 +453,11 @@ message-keeps_down p s u m = (message-none p s u m).1
 pub order-keeps_down : (p : LocalNode) (s : NodeState) (c : Command) → (on_order p s c).down ≡ None
 order-keeps_down p s c = (order-none p s c).1
 
+pub tick-learns_nothing : (p : LocalNode) (s : NodeState) → (on_tick p s).rows ≡ []
+tick-learns_nothing p s = (all_ticked-none p.wait s.legs s.calls).0
+
+pub tick-keeps_down : (p : LocalNode) (s : NodeState) → (on_tick p s).down ≡ None
+tick-keeps_down p s = (all_ticked-none p.wait s.legs s.calls).1
+
 pub nothing-else : NothingElseIsLearnt
-nothing-else = (message-learns_nothing, item-learns_nothing)
+nothing-else = (message-learns_nothing, item-learns_nothing, tick-learns_nothing)

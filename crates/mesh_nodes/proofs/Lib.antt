@@ -17,5 +17,6 @@ pub mod Pairs
 pub mod Paths
 pub mod Reports
 pub mod Stands
+pub mod Ticks
 pub mod Turns
 pub mod routes

@@ -1,5 +1,5 @@
 -- What a Notify and an order to try again do fits.
-use Rattle.std.proofs.Common.{◌≡◌, Bool, not, nat_eq, refl, ap, ◌∙◌, arith}
+use Rattle.std.proofs.Common.{ap, arith, Bool, nat_eq, not, refl, ◌∙◌, ◌≡◌}
 use Rattle.std.specs.Prelude.{◌&&◌, Option, Some, None, IfSome}
 use Rattle.ason_base.specs.Lsps.{is_lsp}
 use Rattle.ason_base.specs.Writable.{IsWritableMsg}
@@ -10,7 +10,7 @@ use Rattle.ason_base.specs.declared.ids.NodeId.{NodeId}
 use Rattle.ason_base.specs.declared.tables.CallRec.{CallRec}
 use Rattle.ason_base.specs.declared.tables.Leg.{Leg}
 use Rattle.mesh_rules.specs.declared.neighbours.Neighbour.{Neighbour}
-use Rattle.mesh_rules.specs.Calls.{call_with, find_call, is_stuck, names}
+use Rattle.mesh_rules.specs.Calls.{call_with, find_call, is_stuck, is_turned, names}
 use Rattle.mesh_rules.specs.Legs.{find_leg, following, is_closing, is_node, leg_of, previous}
 use Rattle.mesh_rules.specs.LocalNodes.{LocalNode}
 use Rattle.mesh_rules.specs.Notifies.{Notice, notice_passed, notice_told, notify_with}
@@ -26,10 +26,11 @@ use Rattle.mesh_nodes.proofs.LegList.{found-lsp}
 use Rattle.mesh_nodes.proofs.Links.{found-one}
 use Rattle.mesh_nodes.proofs.Paths.{nothing-fits}
 use Rattle.mesh_nodes.proofs.Stands.{Stands, leg-stands, previous-is_near}
-use Rattle.mesh_nodes.proofs.Turns.{BeginsHere, decide-fits, turn-fits}
+use Rattle.mesh_nodes.proofs.Turns.{BeginsHere, decide-fits, go_back-fits, turn-fits}
+use Rattle.mesh_rules.specs.Reverts.{revert_with, reverts}
 
 -- the leg of a call's backup begins here
-backup-begins : (p : LocalNode) (s : NodeState) (o : Option Lsp) (q : Option Leg) → NodeFits p s →
+pub backup-begins : (p : LocalNode) (s : NodeState) (o : Option Lsp) (q : Option Leg) → NodeFits p s →
     IfSome o (λ l. l.ingress.0 ≡ p.id.0) → leg_of o s.legs ≡ q → IfSome q (BeginsHere p s.legs)
 backup-begins p s o None fits begins found = tt
 backup-begins p s None (Some b) fits begins found = absurd (cc found)
@@ -107,4 +108,21 @@ module _ (p : LocalNode) (s : NodeState) (W : Type 0) (fits : NodeFits p s) wher
   retry-fits n from (Some c) found =
       if_cases (AnswerFits p s W) (nat_eq from.0 p.id.0) _ _
       (λ e. retries-fit c (found-one (CallFits p) (λ b. nat_eq b.call.0 n.0) s.calls c found fits.calls.each))
+      (λ e. nothing-fits p s W fits)
+
+  -- Revert
+
+  reverts-fit : (c : CallRec) → CallFits p c → AnswerFits p s W (reverts s c)
+  reverts-fit c here =
+      if_cases (AnswerFits p s W) (is_turned c.state && not (has_any c.work_reports)) _ _
+      (λ e. go_back-fits p s s.legs W fits c (leg_of c.back s.legs) here
+      (backup-begins p s c.back (leg_of c.back s.legs) fits here.back refl))
+      (λ e. nothing-fits p s W fits)
+
+  pub revert-fits : (n : CallNo) (from : NodeId) (o : Option CallRec) → find_call n s.calls ≡ o →
+      AnswerFits p s W (revert_with p s from o)
+  revert-fits n from None found = nothing-fits p s W fits
+  revert-fits n from (Some c) found =
+      if_cases (AnswerFits p s W) (nat_eq from.0 p.id.0) _ _
+      (λ e. reverts-fit c (found-one (CallFits p) (λ b. nat_eq b.call.0 n.0) s.calls c found fits.calls.each))
       (λ e. nothing-fits p s W fits)

@@ -1,25 +1,31 @@
--- What turning a call to its backup does fits.
-use Rattle.std.proofs.Common.{◌≡◌, ℕ, Bool, true, false, List, refl, arith}
+-- What turning a call to its backup does fits, and what going back does.
+use Rattle.std.proofs.Common.{◌≡◌, ℕ, Bool, true, false, List, [], ◌∷◌, refl, arith}
 use Rattle.std.specs.Prelude.{Option, Some, None, IfSome}
 use Rattle.ason_base.specs.Writable.{IsWritableRole}
 use Rattle.ason_base.specs.declared.calls.CallState.{CallState}
 use Rattle.ason_base.specs.declared.calls.CallState.TheVariants.{Asking, Bare, Blocked, Guarded, Pairing, Stuck, Turned, Turning}
 use Rattle.ason_base.specs.declared.calls.Cause.TheVariants.{BackDown}
-use Rattle.ason_base.specs.declared.calls.Phase.TheVariants.{Armed}
+use Rattle.ason_base.specs.declared.calls.Phase.{Phase}
+use Rattle.ason_base.specs.declared.calls.Phase.TheVariants.{Armed, Held}
 use Rattle.ason_base.specs.declared.messages.PathRole.{PathRole}
 use Rattle.ason_base.specs.declared.messages.PathRole.TheVariants.{Work, Back}
 use Rattle.ason_base.specs.declared.tables.CallRec.{CallRec}
 use Rattle.ason_base.specs.declared.tables.Leg.{Leg}
+use Rattle.ason_base.specs.declared.tables.Out.{Out}
+use Rattle.mesh_rules.specs.declared.changes.CallChange.TheVariants as call
+use Rattle.mesh_rules.specs.declared.changes.LegChange.TheVariants as leg
 use Rattle.mesh_rules.specs.declared.neighbours.Neighbour.{Neighbour}
+use Rattle.mesh_rules.specs.Activations.{path_to}
 use Rattle.mesh_rules.specs.Calls.{guarded, stuck, turning}
-use Rattle.mesh_rules.specs.Legs.{find_leg, following, is_held, with_phase}
+use Rattle.mesh_rules.specs.Changes.{nothing}
+use Rattle.mesh_rules.specs.Legs.{find_leg, following, is_beyond_asked, is_held, is_in_use, with_phase}
 use Rattle.mesh_rules.specs.LocalNodes.{LocalNode}
 use Rattle.mesh_rules.specs.State.{NodeState}
-use Rattle.mesh_rules.specs.Turns.{activating, activating_path, arms, call_put, decide, decided, has_any, turn}
+use Rattle.mesh_rules.specs.Turns.{activating, activating_path, arms, call_put, decide, decided, disarms, go_back, has_any, taking_back, taking_path, turn}
 use Rattle.mesh_nodes.specs.Kept.{CallFits, LegFits, NodeFits}
 use Rattle.mesh_nodes.specs.Sent.{AnswerFits}
 use Rattle.mesh_nodes.proofs.Cases.{if_cases}
-use Rattle.mesh_nodes.proofs.Kept.{beside-node, calls-put, held-beyond, legs-changed, phase-fits}
+use Rattle.mesh_nodes.proofs.Kept.{beside-node, calls-put, held-beyond, in_use-beyond, legs-changed, phase-fits}
 use Rattle.mesh_nodes.proofs.LegList.{found-all}
 use Rattle.mesh_nodes.proofs.Stands.{OneFits, following-is_near, none-sent}
 
@@ -32,21 +38,39 @@ activating-written : (r : PathRole) → IsWritableRole r → IsWritableRole (act
 activating-written (Work guard) w = tt
 activating-written (Back active work primary) w = w
 
-path-sent : (p : LocalNode) (next : ℕ) (b : Leg) (o : Option Neighbour) → LegFits p next b →
-    b.lsp.ingress.0 ≡ p.id.0 → following b ≡ o → OneFits p (activating_path b o)
-path-sent p next b None fits begins is = none-sent p
-path-sent p next b (Some h) fits begins is = record {
+taking_back-written : (r : PathRole) → IsWritableRole r → IsWritableRole (taking_back r)
+taking_back-written (Work guard) w = tt
+taking_back-written (Back active work primary) w = w
+
+-- a Path of the LSP goes to the next node
+path-sent : (p : LocalNode) (next : ℕ) (b : Leg) (r : PathRole) (h : Neighbour) → LegFits p next b →
+    b.lsp.ingress.0 ≡ p.id.0 → IsWritableRole r → following b ≡ Some h → OneFits p (path_to b b.route r h ∷ [])
+path-sent p next b r h fits begins role is = record {
   near = (following-is_near p next b h fits is, tt);
   written = (
     (
       fits.set (beside-node b.next b.out_fibre h is),
       (let short = fits.short begins in omega arith),
-      activating-written b.path_role (fits.says begins),
+      role,
     ),
     tt,
   );
   few = omega arith;
 }
+
+activating-sent : (p : LocalNode) (next : ℕ) (b : Leg) (o : Option Neighbour) → LegFits p next b →
+    b.lsp.ingress.0 ≡ p.id.0 → following b ≡ o → OneFits p (activating_path b o)
+activating-sent p next b None fits begins is = none-sent p
+activating-sent p next b (Some h) fits begins is =
+    path-sent p next b (activating b.path_role) h fits begins
+    (activating-written b.path_role (fits.says begins)) is
+
+pub taking-sent : (p : LocalNode) (next : ℕ) (b : Leg) (o : Option Neighbour) → LegFits p next b →
+    b.lsp.ingress.0 ≡ p.id.0 → following b ≡ o → OneFits p (taking_path b o)
+taking-sent p next b None fits begins is = none-sent p
+taking-sent p next b (Some h) fits begins is =
+    path-sent p next b (taking_back b.path_role) h fits begins
+    (taking_back-written b.path_role (fits.says begins)) is
 
 -- s is what the rule reads; these legs stand when it is carried out
 module _ (p : LocalNode) (s : NodeState) (legs : List Leg) (W : Type 0) (fits : NodeFits p (record s { legs = legs }))
@@ -64,26 +88,43 @@ module _ (p : LocalNode) (s : NodeState) (legs : List Leg) (W : Type 0) (fits : 
       few = omega arith;
     }
 
+    leg-of : (b : Leg) → BeginsHere p legs b → LegFits p s.lsp b
+    leg-of b stands = found-all (LegFits p s.lsp) b.lsp legs b stands.found fits.legs.each
+
+    -- the backup's leg, which has its labels, gets another phase with its call
+    moved-fit : (c : CallRec) (b : Leg) (f : Phase) (outs : List Out) → CallFits p c → BeginsHere p legs b →
+        is_beyond_asked b.phase ≡ true → OneFits p outs → AnswerFits p (record s { legs = legs }) W (record nothing {
+          legs = leg.Put (with_phase f b) ∷ [];
+          calls = call.Put c ∷ [];
+          sent = outs;
+        })
+    moved-fit c b f outs here stands beyond sent = record {
+      kept = record {
+        legs =
+            legs-changed p s.lsp (with_phase f b) b legs fits.legs stands.found
+            (phase-fits p s.lsp f b (leg-of b stands) beyond);
+        calls = calls-put p c s.calls fits.calls here;
+        first = fits.first;
+        numbers = fits.numbers;
+      };
+      near = sent.near;
+      written = λ w. sent.written;
+      few = (let few = sent.few in omega arith);
+    }
+
     arms-fit : (c : CallRec) (b : Leg) → CallFits p c → BeginsHere p legs b → is_held b.phase ≡ true →
         AnswerFits p (record s { legs = legs }) W (arms c b)
     arms-fit c b here stands held =
-        let leg : LegFits p s.lsp b = found-all (LegFits p s.lsp) b.lsp legs b stands.found fits.legs.each in
-        let sent = path-sent p s.lsp b (following b) leg stands.begins refl in
-        record {
-          kept = record {
-            legs =
-                legs-changed p s.lsp (with_phase Armed b) b legs fits.legs stands.found
-                (phase-fits p s.lsp Armed b leg (held-beyond b.phase held));
-            calls =
-                calls-put p (turning c) s.calls fits.calls
-                (record { backup = here.backup; work = here.work; back = here.back });
-            first = fits.first;
-            numbers = fits.numbers;
-          };
-          near = sent.near;
-          written = λ w. sent.written;
-          few = (let few = sent.few in omega arith);
-        }
+        moved-fit (turning c) b Armed (activating_path b (following b))
+        (record { backup = here.backup; work = here.work; back = here.back }) stands (held-beyond b.phase held)
+        (activating-sent p s.lsp b (following b) (leg-of b stands) stands.begins refl)
+
+    disarms-fit : (c : CallRec) (b : Leg) → CallFits p c → BeginsHere p legs b → is_in_use b.phase ≡ true →
+        AnswerFits p (record s { legs = legs }) W (disarms c b)
+    disarms-fit c b here stands in_use =
+        moved-fit (guarded c) b Held (taking_path b (following b))
+        (record { backup = here.backup; work = here.work; back = here.back }) stands (in_use-beyond b.phase in_use)
+        (taking-sent p s.lsp b (following b) (leg-of b stands) stands.begins refl)
 
     pub turn-fits : (c : CallRec) (o : Option Leg) → CallFits p c → IfSome o (BeginsHere p legs) →
         AnswerFits p (record s { legs = legs }) W (turn c o)
@@ -91,6 +132,13 @@ module _ (p : LocalNode) (s : NodeState) (legs : List Leg) (W : Type 0) (fits : 
     turn-fits c (Some b) here stands =
         if_cases (AnswerFits p (record s { legs = legs }) W) (is_held b.phase) _ _ (λ e. arms-fit c b here stands e)
         (λ e. put-fits c here)
+
+    pub go_back-fits : (c : CallRec) (o : Option Leg) → CallFits p c → IfSome o (BeginsHere p legs) →
+        AnswerFits p (record s { legs = legs }) W (go_back c o)
+    go_back-fits c None here stands = put-fits c here
+    go_back-fits c (Some b) here stands =
+        if_cases (AnswerFits p (record s { legs = legs }) W) (is_in_use b.phase) _ _
+        (λ e. disarms-fit c b here stands e) (λ e. put-fits c here)
 
     decided-fits : (c : CallRec) (o : Option Leg) (state : CallState) (works backs : Bool) → CallFits p c →
         IfSome o (BeginsHere p legs) → AnswerFits p (record s { legs = legs }) W (decided c o state works backs)
@@ -103,7 +151,9 @@ module _ (p : LocalNode) (s : NodeState) (legs : List Leg) (W : Type 0) (fits : 
         put-fits (stuck c BackDown) (record { backup = here.backup; work = here.work; back = here.back })
     decided-fits c o Guarded false backs here stands = put-fits c here
     decided-fits c o Turning works backs here stands = put-fits c here
-    decided-fits c o Turned works backs here stands = put-fits c here
+    decided-fits c o Turned true backs here stands = put-fits c here
+    decided-fits c o Turned false true here stands = go_back-fits c o here stands
+    decided-fits c o Turned false false here stands = put-fits c here
     decided-fits c o Stuck true backs here stands = put-fits c here
     decided-fits c o Stuck false backs here stands =
         put-fits (guarded c) (record { backup = here.backup; work = here.work; back = here.back })

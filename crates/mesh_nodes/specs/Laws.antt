@@ -1,14 +1,15 @@
 -- What holds of a node and of its answers, over every node, state and input.
-use Rattle.std.specs.Prelude.{}
+use Rattle.std.specs.Prelude.{◌≤◌, length}
 use Rattle.ason_base.specs.declared.commands.DeskItem.{DeskItem}
 use Rattle.ason_base.specs.declared.ids.NodeId.{NodeId}
 use Rattle.ason_base.specs.declared.messages.Msg.{Msg}
 use Rattle.ason_base.specs.Network.{IsTopology, Network}
-use Rattle.mesh_rules.specs.Changes.{changed, nothing}
+use Rattle.mesh_rules.specs.Changes.{changed}
 use Rattle.mesh_rules.specs.Messages.{on_message}
 use Rattle.mesh_rules.specs.Orders.{on_item}
 use Rattle.mesh_rules.specs.LocalNodes.{LocalNode, local_node}
 use Rattle.mesh_rules.specs.State.{NodeState, new_node}
+use Rattle.mesh_rules.specs.Waits.{on_tick}
 use Rattle.mesh_nodes.specs.Kept.{NodeFits}
 use Rattle.mesh_nodes.specs.LocalNodes.{LocalNodeFits}
 use Rattle.mesh_nodes.specs.Sent.{AnswerFits, CanBePassedOn}
@@ -28,6 +29,7 @@ abbrev pub ItemsFit : Type 0
 ItemsFit = (p : LocalNode) (s : NodeState) (i : DeskItem) → LocalNodeFits p → NodeFits p s →
     AnswerFits p s (Unit {0}) (on_item p s i)
 
--- a tick: nothing is answered
-abbrev pub NothingFits : Type 0
-NothingFits = (p : LocalNode) (s : NodeState) → NodeFits p s → AnswerFits p s (Unit {0}) nothing
+-- a tick, at a node with at most 65,536 calls
+abbrev pub TicksFit : Type 0
+TicksFit =
+    (p : LocalNode) (s : NodeState) → NodeFits p s → length s.calls ≤ 65536 → AnswerFits p s (Unit {0}) (on_tick p s)

@@ -13,6 +13,7 @@ use Rattle.mesh_rules.specs.LocalNodes.{LocalNode, local_node}
 use Rattle.mesh_rules.specs.Messages.{on_message}
 use Rattle.mesh_rules.specs.Orders.{on_item}
 use Rattle.mesh_rules.specs.State.{NodeState}
+use Rattle.mesh_rules.specs.Waits.{on_tick}
 use Rattle.mesh_nodes.specs.Kept.{NodeFits}
 use Rattle.mesh_nodes.specs.Routes.{AreRowsOf, IsElsewhere, IsRowOf, RowsFit}
 use Rattle.mesh_nodes.specs.Sent.{AnswerFits}
@@ -57,8 +58,9 @@ LearntStayTrue =
     (t : Network) (p : LocalNode) (s : NodeState) (row : TeRow) → AreRowsOf t s.learnt → IsRowOf t row →
     AreRowsOf t (changed s (on_row p s row)).learnt
 
--- by no message, and by no item of its desk, does a node learn of a link
+-- by no message, by no item of its desk and by no tick does a node learn of a link
 abbrev pub NothingElseIsLearnt : Type 0
 NothingElseIsLearnt =
     ((p : LocalNode) (s : NodeState) (u : NodeId) (m : Msg) → (on_message p s u m).rows ≡ [])
     × ((p : LocalNode) (s : NodeState) (i : DeskItem) → (on_item p s i).rows ≡ [])
+    × ((p : LocalNode) (s : NodeState) → (on_tick p s).rows ≡ [])

@@ -1,17 +1,18 @@
 //! The laws of one node, and of the routes that it finds.
 
-ghost use Rattle.mesh_nodes.specs.Laws.{ItemsFit, MessagesFit, NewNodesFit, NothingFits};
+ghost use Rattle.mesh_nodes.specs.Laws.{ItemsFit, MessagesFit, NewNodesFit, TicksFit};
 ghost use Rattle.mesh_nodes.specs.Learnt.{LearningFits, LearntIsKnown, LearntStayTrue, NetworkRowsMayBeLearnt, NothingElseIsLearnt, RowsStayFit};
 ghost use Rattle.mesh_nodes.specs.Routes.{FoundBackupsLead, FoundBackupsStandBeside, FoundRoutesAreFollowed, FoundRoutesLead, LeastBackupIsLeast, LeastBackupVisitsOnce, LeastTripIsLeast, LeastTripVisitsOnce, NewRowsFit, NoBackupIsNone, NoTripIsNoWalk};
 
 /// The node of a topology knows its own links and keeps nothing that doesn't fit them. Whatever comes then, a message, an item
-/// of the desk or a tick: what the node keeps after it fits again; and what it sends goes to neighbours, can be written where
-/// the routes of the message that came aren't too long, and is of 65,536 messages at most.
+/// of the desk or a tick (this at a node with at most 65,536 calls): what the node keeps after it fits again; and what it sends
+/// goes to neighbours, can be written where the routes of the message that came aren't too long, and is of 65,536 messages at
+/// most.
 pub fn every_answer()
     ensures new { NewNodesFit }
     ensures messages { MessagesFit }
     ensures items { ItemsFit }
-    ensures nothing { NothingFits }
+    ensures ticks { TicksFit }
 {}
 
 /// The route that a rule names, and the backup beside a route, as functions of the rows that a node knows: each is the least of
@@ -36,8 +37,8 @@ pub fn least_routes()
 
 /// What a node learns of links that aren't its own. A row that may be learnt is known afterwards, what else the node keeps fits
 /// as it did, nothing is sent, and routes can be asked of what is known then. At a node of a topology that learnt rows of it
-/// alone each row of it may be learnt, and what the node learnt stays so. By no message, and by no item of its desk, does a node
-/// learn of a link.
+/// alone each row of it may be learnt, and what the node learnt stays so. By no message, by no item of its desk and by no tick
+/// does a node learn of a link.
 pub fn learnt_rows()
     ensures known { LearntIsKnown }
     ensures fits { LearningFits }

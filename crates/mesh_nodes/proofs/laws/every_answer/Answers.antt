@@ -1,7 +1,7 @@
 use Rattle.mesh_nodes.proofs.Items.{items-fit}
 use Rattle.mesh_nodes.proofs.Messages.{messages-fit}
 use Rattle.mesh_nodes.proofs.NewNodes.{new-fits, new-place}
-use Rattle.mesh_nodes.proofs.Paths.{nothing-fits}
+use Rattle.mesh_nodes.proofs.Ticks.{ticks-fit}
 use Rattle.mesh_rules.specs.LocalNodes.{local_node}
 use Rattle.mesh_nodes.proofs.laws.every_answer.Goals as goal
 
@@ -14,5 +14,5 @@ returns-clause-messages c = messages-fit
 pub returns-clause-items : goal.returns-clause-items
 returns-clause-items c = items-fit
 
-pub returns-clause-nothing : goal.returns-clause-nothing
-returns-clause-nothing c = λ p s fits. nothing-fits p s (Unit {0}) fits
+pub returns-clause-ticks : goal.returns-clause-ticks
+returns-clause-ticks c = ticks-fit
