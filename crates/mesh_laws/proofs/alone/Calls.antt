@@ -1,5 +1,6 @@
 -- What becomes of a call concerns the group: it turns only where the group is a risk of its working LSP's route, which
--- its backup's legs record, and it is never stuck, since the group isn't a risk of the backup's route too.
+-- its backup's legs record, and it is never stuck, since the group isn't a risk of the backup's route too. It goes back
+-- whatever fails, since a Held leg concerns any group.
 use Rattle.std.proofs.Common.{◌≡◌, ◌≢◌, ℕ, Bool, true, false, cond, nat_lt, List, [], ◌∷◌, drop, refl, sym, ap, ◌∙◌, subst}
 use Rattle.std.specs.Prelude.{◌||◌, Option, Some, None, find, is_some}
 use Rattle.std.specs.List.{AllByRecursion}
@@ -26,11 +27,11 @@ use Rattle.mesh_rules.specs.CallSteps.{backup_refused, backup_reserved, call_ans
 use Rattle.mesh_rules.specs.Changes.{nothing}
 use Rattle.mesh_rules.specs.FirstLegs.{first_link, is_full}
 use Rattle.mesh_rules.specs.KnownRows.{known_rows}
-use Rattle.mesh_rules.specs.Legs.{find_leg, following, is_held, is_work, leg_of}
+use Rattle.mesh_rules.specs.Legs.{find_leg, following, is_held, is_in_use, is_work, leg_of}
 use Rattle.mesh_rules.specs.LocalNodes.{LocalNode}
 use Rattle.mesh_rules.specs.Pairs.{backup_route, begins_backup, beside_lsp, leaves_bare, over_backup, pair, pair_over, route_from}
 use Rattle.mesh_rules.specs.State.{NodeState}
-use Rattle.mesh_rules.specs.Turns.{activating, activating_path, arms, call_put, decide, decided, has_any, turn}
+use Rattle.mesh_rules.specs.Turns.{activating, activating_path, arms, call_put, decide, decided, disarms, go_back, has_any, taking_back, taking_path, turn}
 use Rattle.mesh_nodes.proofs.CallList.{called-names}
 use Rattle.mesh_nodes.proofs.Cases.{if_cases}
 use Rattle.mesh_nodes.proofs.LegList.{found-lsp, same_lsp-eq}
@@ -116,6 +117,40 @@ module _ (t : Network) (g : Group) (o : Routes) where
       if_cases (Fine t g o) (is_held b.phase) (arms c b) (call_put c) (λ e. arms-fine c b holds may)
       (λ e. fine-call t g o c holds)
 
+  -- Going back
+
+  -- a Path that takes an activation back concerns any group
+  passive-back : (r : PathRole) → RoleConcerns t g (taking_back r)
+  passive-back (Work guard) = tt
+  passive-back (Back active work primary) = tt
+
+  disarms-fine : (c : CallRec) (b : Leg) → CallHolds t g o c → Fine t g o (disarms c b)
+  disarms-fine c b holds = record {
+    legs = ((λ back used. absurd (cc used)), tt);
+    calls = (not_stuck c Guarded _ _ (λ e. cc e) holds, tt);
+    down = tt;
+    sent = path (following b);
+  }
+    where
+      path : (h : Option Neighbour) → AllByRecursion (OutFine t g) (taking_path b h)
+      path None = tt
+      path (Some h) = (passive-back b.path_role, tt)
+
+  pub go_back-fine : (c : CallRec) (b : Option Leg) → CallHolds t g o c → Fine t g o (go_back c b)
+  go_back-fine c None holds = fine-call t g o c holds
+  go_back-fine c (Some b) holds =
+      if_cases (Fine t g o) (is_in_use b.phase) (disarms c b) (call_put c) (λ e. disarms-fine c b holds)
+      (λ e. fine-call t g o c holds)
+
+  -- Decisions
+
+  -- a turned call goes back or stays
+  turned-fine : (c : CallRec) (b : Option Leg) (works backs : Bool) → CallHolds t g o c →
+      Fine t g o (decided c b Turned works backs)
+  turned-fine c b false true holds = go_back-fine c b holds
+  turned-fine c b false false holds = fine-call t g o c holds
+  turned-fine c b true backs holds = fine-call t g o c holds
+
   decided-fine : (c : CallRec) (b : Option Leg) (state : CallState) (works backs : Bool) → state ≢ Stuck →
       (works ≡ true → backs ≡ true → ⊥) → (works ≡ true → LegMayTurn t g b) → CallHolds t g o c →
       Fine t g o (decided c b state works backs)
@@ -127,7 +162,7 @@ module _ (t : Network) (g : Group) (o : Routes) where
   decided-fine c b Bare works backs free apart may holds = fine-call t g o c holds
   decided-fine c b Blocked works backs free apart may holds = fine-call t g o c holds
   decided-fine c b Pairing works backs free apart may holds = fine-call t g o c holds
-  decided-fine c b Turned works backs free apart may holds = fine-call t g o c holds
+  decided-fine c b Turned works backs free apart may holds = turned-fine c b works backs holds
   decided-fine c b Turning works backs free apart may holds = fine-call t g o c holds
 
   module _ (p : LocalNode) (s : NodeState) (knows : NodeKnows t o p s) (holds : NodeHolds t g o s) where
@@ -278,13 +313,14 @@ module _ (t : Network) (g : Group) (o : Routes) where
         (λ e. work_connected-fine h c (called-holds b.lsp c called))
         (λ e. backup_reserved-fine b h c here (rw same at e) risks path called)
 
-    -- the backup carries the call: nothing is left to decide
+    -- the backup carries the call, which may go back at once
     pub call_turned-fine : (b : Leg) (l : Lsp) (c : Option CallRec) → call_with l s.calls ≡ c →
         Fine t g o (call_turned b c)
     call_turned-fine b l None called = fine-nothing t g o
     call_turned-fine b l (Some c) called =
         if_cases (Fine t g o) (is_turning c.state) (decide (turned c) (Some b)) nothing
-        (λ e. fine-call t g o (turned c) (not_stuck c Turned _ _ (λ e. cc e) (called-holds l c called)))
+        (λ e. turned-fine (turned c) (Some b) (has_any c.work_reports) (has_any c.back_reports)
+        (not_stuck c Turned _ _ (λ e. cc e) (called-holds l c called)))
         (λ e. fine-nothing t g o)
 
     -- After a PathErr

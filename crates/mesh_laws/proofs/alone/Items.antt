@@ -1,5 +1,5 @@
--- What a node answers to an order, and to an alarm or a clear that concerns the group, concerns the group.
-use Rattle.std.proofs.Common.{◌≡◌, true, nat_eq, List, [], ◌∷◌, ◌++◌, drop, refl}
+-- What a node answers to an order, to a tick, and to an alarm or a clear that concerns the group, concerns the group.
+use Rattle.std.proofs.Common.{◌≡◌, ℕ, ◌+◌, true, nat_eq, nat_le, List, [], ◌∷◌, ◌++◌, drop, refl}
 use Rattle.std.specs.Prelude.{◌&&◌, not, Option, Some, None}
 use Rattle.std.specs.List.{AllByRecursion}
 use Rattle.ason_base.specs.Codes.{fibre_down_code, fibre_up_code}
@@ -25,7 +25,7 @@ use Rattle.ason_base.specs.declared.tables.Leg.{Leg}
 use Rattle.mesh_rules.specs.declared.changes.CallChange.TheVariants as call
 use Rattle.mesh_rules.specs.declared.neighbours.Neighbour.{Neighbour}
 use Rattle.mesh_rules.specs.Alarms.{enters, is_hit, knows_down, notice_of, notices, notify_to}
-use Rattle.mesh_rules.specs.Calls.{find_call, is_bare, is_stuck}
+use Rattle.mesh_rules.specs.Calls.{find_call, is_bare, is_stuck, is_turned}
 use Rattle.mesh_rules.specs.Changes.{changes_calls, nothing}
 use Rattle.mesh_rules.specs.FirstLegs.{first_link, is_full}
 use Rattle.mesh_rules.specs.KnownRows.{has_row, known_rows}
@@ -37,13 +37,15 @@ use Rattle.mesh_rules.specs.Orders.{on_item, on_order}
 use Rattle.mesh_rules.specs.Protects.{protect_with, protects}
 use Rattle.mesh_rules.specs.Releases.{release_with, releases, tear_to, tears}
 use Rattle.mesh_rules.specs.Retries.{retries, retry_with}
+use Rattle.mesh_rules.specs.Reverts.{revert_with, reverts}
 use Rattle.mesh_rules.specs.Setups.{SetupRequest, begins, call_record, is_order_here, is_spent, new_call, over_first, over_found, refused_setup, setup_with}
 use Rattle.mesh_rules.specs.State.{NodeState}
-use Rattle.mesh_rules.specs.Turns.{has_any, turn}
+use Rattle.mesh_rules.specs.Turns.{call_put, go_back, has_any, turn}
+use Rattle.mesh_rules.specs.Waits.{all_ticked, on_tick, ticked, waits}
 use Rattle.mesh_nodes.proofs.Cases.{both_left, if_cases}
 use Rattle.mesh_nodes.proofs.LegList.{all-filter}
 use Rattle.mesh_laws.specs.AloneLaw.{FibreConcerns, ItemConcerns}
-use Rattle.mesh_laws.proofs.alone.Calls.{found-one, pair-fine}
+use Rattle.mesh_laws.proofs.alone.Calls.{found-one, go_back-fine, not_stuck, pair-fine}
 use Rattle.mesh_laws.proofs.alone.Facts.{NodeKnows, Routes}
 use Rattle.mesh_laws.proofs.alone.Fine.{CallHolds, Fine, NodeHolds, OutFine, all-append, fine-call, fine-nothing, fine-puts, fine-then}
 use Rattle.mesh_laws.proofs.alone.Legs.{closed-concerns}
@@ -56,6 +58,30 @@ module _ (t : Network) (g : Group) (o : Routes) where
   link-fine p s (Some l) =
       if_cases (Fine t g o) (has_row (known_rows p s) l.id) nothing _ (λ e. fine-nothing t g o)
       (λ e. record { legs = tt; calls = tt; down = tt; sent = tt })
+
+  -- Ticks
+
+  -- a call that waits keeps its state
+  waits-fine : (wait : ℕ) (legs : List Leg) (c : CallRec) → CallHolds t g o c → Fine t g o (waits wait legs c)
+  waits-fine wait legs c of =
+      if_cases (Fine t g o) (nat_le wait (c.ticks + 1)) (go_back c (leg_of c.back legs)) (call_put _)
+      (λ e. go_back-fine t g o c (leg_of c.back legs) of)
+      (λ e. fine-call t g o _ (not_stuck t g o c c.state c.cause (c.ticks + 1) of.concerns.free of))
+
+  ticked-fine : (wait : ℕ) (legs : List Leg) (c : CallRec) → CallHolds t g o c → Fine t g o (ticked wait legs c)
+  ticked-fine wait legs c of =
+      if_cases (Fine t g o) (not (nat_eq wait 0) && (is_turned c.state && not (has_any c.work_reports)))
+      (waits wait legs c) nothing (λ e. waits-fine wait legs c of) (λ e. fine-nothing t g o)
+
+  all_ticked-fine : (wait : ℕ) (legs : List Leg) (calls : List CallRec) → AllByRecursion (CallHolds t g o) calls →
+      Fine t g o (all_ticked wait legs calls)
+  all_ticked-fine wait legs [] of = fine-nothing t g o
+  all_ticked-fine wait legs (c ∷ calls) of =
+      fine-then t g o (ticked wait legs c) (all_ticked wait legs calls) (ticked-fine wait legs c of.0)
+      (all_ticked-fine wait legs calls of.1)
+
+  pub tick-fine : (p : LocalNode) (s : NodeState) → NodeHolds t g o s → Fine t g o (on_tick p s)
+  tick-fine p s holds = all_ticked-fine p.wait s.legs s.calls holds.calls
 
   -- Setups
 
@@ -163,6 +189,18 @@ module _ (t : Network) (g : Group) (o : Routes) where
         if_cases (Fine t g o) (nat_eq from.0 p.id.0) (retries s c) nothing
         (λ e. retries-fine c (numbered-holds n c found)) (λ e. fine-nothing t g o)
 
+    reverts-fine : (c : CallRec) → CallHolds t g o c → Fine t g o (reverts s c)
+    reverts-fine c of =
+        if_cases (Fine t g o) (is_turned c.state && not (has_any c.work_reports)) (go_back c (leg_of c.back s.legs))
+        nothing (λ e. go_back-fine t g o c (leg_of c.back s.legs) of) (λ e. fine-nothing t g o)
+
+    revert-fine : (n : CallNo) (from : NodeId) (c : Option CallRec) → find_call n s.calls ≡ c →
+        Fine t g o (revert_with p s from c)
+    revert-fine n from None found = fine-nothing t g o
+    revert-fine n from (Some c) found =
+        if_cases (Fine t g o) (nat_eq from.0 p.id.0) (reverts s c) nothing
+        (λ e. reverts-fine c (numbered-holds n c found)) (λ e. fine-nothing t g o)
+
     order-fine : (c : Command) → Fine t g o (on_order p s c)
     order-fine (Setup n from to protected both via backup) =
         setup-fine (record {
@@ -177,7 +215,7 @@ module _ (t : Network) (g : Group) (o : Routes) where
     order-fine (Release n from) = release-fine from (find_call n s.calls)
     order-fine (Protect n from) = protect-fine n from (find_call n s.calls) refl
     order-fine (Retry n from) = retry-fine n from (find_call n s.calls) refl
-    order-fine (Revert n from) = fine-nothing t g o
+    order-fine (Revert n from) = revert-fine n from (find_call n s.calls) refl
     order-fine (Fail h) = fine-nothing t g o
     order-fine (Repair h) = fine-nothing t g o
 

@@ -20,18 +20,18 @@ use Rattle.ason_base.specs.declared.messages.PathRole.{PathRole}
 use Rattle.ason_base.specs.declared.messages.PathRole.TheVariants.{Work, Back}
 use Rattle.ason_base.specs.declared.risks.Risk.{Risk}
 use Rattle.ason_base.specs.declared.steps.Step.{Step}
-use Rattle.ason_base.specs.declared.calls.Phase.TheVariants.{Armed, Live}
+use Rattle.ason_base.specs.declared.calls.Phase.TheVariants.{Armed, Held, Live}
 use Rattle.ason_base.specs.declared.tables.CallRec.{CallRec}
 use Rattle.ason_base.specs.declared.tables.Leg.{Leg}
 use Rattle.ason_base.specs.declared.tables.Out.{Out}
 use Rattle.mesh_rules.specs.declared.arrivals.Arrival.{Arrival}
 use Rattle.mesh_rules.specs.declared.neighbours.Neighbour.{Neighbour}
-use Rattle.mesh_rules.specs.Activations.{activated, armed_on, busy_to, is_contended, path_again, resv_to}
+use Rattle.mesh_rules.specs.Activations.{activated, armed_on, busy_to, is_contended, path_again, resv_to, taken_back, taken_on}
 use Rattle.mesh_rules.specs.ActivationAnswers.{confirmed, is_confirmed, resv_again}
 use Rattle.mesh_rules.specs.Calls.{call_with}
 use Rattle.mesh_rules.specs.CallSteps.{call_answered, call_refused, call_turned}
 use Rattle.mesh_rules.specs.Changes.{nothing, puts, removes, sends, to_node}
-use Rattle.mesh_rules.specs.Legs.{closed, connected, find_leg, following, is_armed, is_asked, is_closing, is_held, is_node, is_over, leg_of, previous, with_phase}
+use Rattle.mesh_rules.specs.Legs.{closed, connected, find_leg, following, is_active_backup, is_armed, is_asked, is_closing, is_held, is_node, is_over, leg_of, previous, with_phase}
 use Rattle.mesh_rules.specs.LocalNodes.{LocalNode, leads, own_link}
 use Rattle.mesh_rules.specs.Messages.{arrival, on_message}
 use Rattle.mesh_rules.specs.Notifies.{Notice, notice_passed, notice_told, notify_with}
@@ -192,10 +192,24 @@ module _ (t : Network) (g : Group) (o : Routes) where
           absurd (cc (e, never)))
           (λ e. armed_on-fine route r (following b) concerns records)
 
+      -- a Held leg concerns any group, and the Path that goes on doesn't activate
+      taken_back-fine : (route : List Step) (work : ℕ) (primary : List Step) →
+          Fine t g o (taken_back b route (Back false work primary))
+      taken_back-fine route work primary =
+          fine-puts t g o (with_phase Held b) _ (idle-concerns g (with_phase Held b) (λ back. refl))
+          (path (following b))
+        where
+          path : (h : Option Neighbour) →
+              AllByRecursion (OutFine t g) (taken_on b route (Back false work primary) h)
+          path None = tt
+          path (Some h) = (tt, tt)
+
       path_again-fine : (a : Arrival) (route : List Step) (r : PathRole) → RoleConcerns t g r → RoleKnows t s b.lsp r →
           Fine t g o (path_again p s a route r b)
       path_again-fine a route (Work guard) concerns its = fine-nothing t g o
-      path_again-fine a route (Back false work primary) concerns its = fine-nothing t g o
+      path_again-fine a route (Back false work primary) concerns its =
+          if_cases (Fine t g o) (is_active_backup b && is_over (previous b) a.from a.link) _ nothing
+          (λ e. taken_back-fine route work primary) (λ e. fine-nothing t g o)
       path_again-fine a route (Back true work primary) concerns its =
           if_cases (Fine t g o) (is_held b.phase && is_over (previous b) a.from a.link) _ nothing
           (λ e. activated-fine a route (Back true work primary) (both_left (is_held b.phase) _ e) concerns

@@ -29,7 +29,7 @@ use Rattle.mesh_laws.specs.AloneLaw.{AllConcern, CallConcerns, CallIsCalm, Calm,
 use Rattle.mesh_laws.proofs.alone.Facts.{CallKnows, MeshKnows, Routes}
 use Rattle.mesh_laws.proofs.alone.Failures.{posted-holds}
 use Rattle.mesh_laws.proofs.alone.Fine.{CallHolds, Fine, IsExposed, MeshHolds, OutFine, commit-holds, fine-nothing, handled-holds, taken-holds}
-use Rattle.mesh_laws.proofs.alone.Items.{item-fine, link-fine}
+use Rattle.mesh_laws.proofs.alone.Items.{item-fine, link-fine, tick-fine}
 use Rattle.mesh_laws.proofs.alone.Legs.{idle-concerns}
 use Rattle.mesh_laws.proofs.alone.Messages.{message-fine}
 
@@ -62,7 +62,8 @@ module _ (t : Network) (g : Group) (distinct : is_distinct (map (λ l. l.id.0) t
   step-holds (Desk n) only =
       commit-holds t g o (without_item s n.0) n.0 (on_first_item (local_node t n) (s.nodes n.0) (s.desks n.0))
       (first_item-fine n (s.desks n.0) refl) (handled-holds t g o s n.0 old)
-  step-holds (Tick n) only = commit-holds t g o s n.0 _ (fine-nothing t g o) old
+  step-holds (Tick n) only =
+      commit-holds t g o s n.0 _ (tick-fine t g o (local_node t n) (s.nodes n.0) (old.nodes n.0)) old
   step-holds (Learn n k) only =
       commit-holds t g o s n.0 _ (link-fine t g o (local_node t n) (s.nodes n.0) (find_link t k)) old
   step-holds (Post c) only = posted-holds t g distinct o s c only old
@@ -84,7 +85,8 @@ module _ (t : Network) (g : Group) (distinct : is_distinct (map (λ l. l.id.0) t
   step-admits : (e : MeshEvent) → AllByRecursion (λ x. is_refusal x.msg ≡ false) (sent_in t s e)
   step-admits (Take d u) = none_refused _ (first-fine d u (s.mail u.0 d.0) refl).sent
   step-admits (Desk n) = none_refused _ (first_item-fine n (s.desks n.0) refl).sent
-  step-admits (Tick n) = tt
+  step-admits (Tick n) =
+      none_refused _ (tick-fine t g o (local_node t n) (s.nodes n.0) (old.nodes n.0)).sent
   step-admits (Learn n k) =
       none_refused _ (link-fine t g o (local_node t n) (s.nodes n.0) (find_link t k)).sent
   step-admits (Post c) = tt
