@@ -1,10 +1,11 @@
--- Backups at one node, worked by hand: which label each takes, in which phase its leg is, and why it is refused.
+-- Backups at one node, worked by hand: which label each takes, in which phase its leg is, why it is refused, and how
+-- its activation is taken back.
 use Rattle.std.proofs.Common.{◌≡◌, ℕ, Bool, true, false, List, [], ◌∷◌, refl}
 use Rattle.std.specs.Prelude.{map, Option, Some, None}
 use Rattle.ason_base.specs.Codes.{label_code, primary_code, set_code}
 use Rattle.ason_base.specs.Labels as labels
 use Rattle.ason_base.specs.declared.calls.Phase.{Phase}
-use Rattle.ason_base.specs.declared.calls.Phase.TheVariants.{Asked, Held, Live, Closing}
+use Rattle.ason_base.specs.declared.calls.Phase.TheVariants.{Asked, Held, Armed, Live, Closing}
 use Rattle.ason_base.specs.declared.ids.LinkId.{LinkId}
 use Rattle.ason_base.specs.declared.ids.Lsp.{Lsp}
 use Rattle.ason_base.specs.declared.ids.NodeId.{NodeId}
@@ -14,7 +15,7 @@ use Rattle.ason_base.specs.declared.messages.PathRole.{PathRole}
 use Rattle.ason_base.specs.declared.messages.PathRole.TheVariants.{Work, Back}
 use Rattle.ason_base.specs.declared.network.LinkSpec.{LinkSpec}
 use Rattle.ason_base.specs.declared.tables.Out.{Out}
-use Rattle.mesh_rules.specs.Changes.{to_node}
+use Rattle.mesh_rules.specs.Changes.{nothing, to_node}
 use Rattle.mesh_rules.specs.LocalNodes.{LocalNode}
 use Rattle.mesh_rules.specs.Messages.{on_message}
 use Rattle.mesh_rules.specs.State.{NodeState, new_node}
@@ -168,3 +169,41 @@ torn : seen (after (from_1 (ends 1 (backup false 2))
     (Held, Some 1) ∷ []
 unfolding labels.numbers_from
 torn = refl
+
+-- Taking back
+
+-- a leg between the ends, with its labels
+abbrev stands : PathRole → NodeState
+stands r = after (from_1 (goes_on 1 r) ∷ from_3 (answers 1 2) ∷ [])
+
+abbrev armed : NodeState
+armed = after_inputs middle (stands (backup false 2)) (from_1 (goes_on 1 (backup true 2)) ∷ [])
+
+is_armed : seen armed ≡ (Armed, Some 1) ∷ []
+unfolding labels.numbers_from
+is_armed = refl
+
+-- the Armed leg of a backup is Held again
+held_again : seen (after_inputs middle armed (from_1 (goes_on 1 (backup false 2)) ∷ [])) ≡ (Held, Some 1) ∷ []
+unfolding labels.numbers_from
+held_again = refl
+
+-- and the Path goes on to node 3
+taken_on : told armed (goes_on 1 (backup false 2)) ≡
+    to_node (node 3) (Path (lsp 1) (node 3) (link 2) [] (1 ∷ 2 ∷ []) None (backup false 2)) ∷ []
+unfolding labels.numbers_from
+taken_on = refl
+
+-- from another neighbour than the previous one it changes nothing
+not_from_3 : on_message middle armed (node 3) (goes_on 1 (backup false 2)) ≡ nothing
+unfolding labels.numbers_from
+not_from_3 = refl
+
+-- a working leg is Live, and stays so: it changes nothing there
+work_live : seen (stands (Work false)) ≡ (Live, Some 1) ∷ []
+unfolding labels.numbers_from
+work_live = refl
+
+not_work : on_message middle (stands (Work false)) (node 1) (goes_on 1 (backup false 2)) ≡ nothing
+unfolding labels.numbers_from
+not_work = refl
