@@ -16,11 +16,12 @@ use Rattle.mesh_rules.specs.LocalNodes.{LocalNode}
 use Rattle.mesh_rules.specs.Messages.{on_message}
 use Rattle.mesh_rules.specs.Orders.{on_item}
 use Rattle.mesh_rules.specs.State.{NodeState}
+use Rattle.mesh_rules.specs.Waits.{on_tick}
 use Rattle.mesh_nodes.specs.Order.{CallsRise}
 use Rattle.mesh_nodes.proofs.Cases.{both_right}
 use Rattle.mesh_laws.specs.NodeLaw.{FitsDesk}
 use Rattle.mesh_laws.proofs.nodes.Facts.{CanBeBacked}
-use Rattle.mesh_laws.proofs.nodes.CallsHold.{ArePut, EachCall, IsSameCall, alarm-holds, clear-holds, each-after, message-holds, protect-holds, release-holds, retry-holds, setup-holds}
+use Rattle.mesh_laws.proofs.nodes.CallsHold.{ArePut, EachCall, IsSameCall, alarm-holds, clear-holds, each-after, message-holds, protect-holds, release-holds, retry-holds, revert-holds, setup-holds, tick-holds}
 
 abbrev pub AreBacked : Network → List CallChange → Type 0
 AreBacked t cs = ArePut (CanBeBacked t) cs
@@ -61,10 +62,15 @@ backs-item t n p s rise backed (Order (Protect k from)) fits =
     protect-holds (CanBeBacked t) (CanBeBacked t) (still-backed t) p s rise backed k from (find_call k s.calls) refl
 backs-item t n p s rise backed (Order (Retry k from)) fits =
     retry-holds (CanBeBacked t) (CanBeBacked t) (still-backed t) p s rise backed k from (find_call k s.calls) refl
-backs-item t n p s rise backed (Order (Revert k from)) fits = tt
+backs-item t n p s rise backed (Order (Revert k from)) fits =
+    revert-holds (CanBeBacked t) (CanBeBacked t) (still-backed t) p s rise backed k from (find_call k s.calls) refl
 backs-item t n p s rise backed (Order (Fail g)) fits = tt
 backs-item t n p s rise backed (Order (Repair g)) fits = tt
 backs-item t n p s rise backed (Alarm f) fits =
     alarm-holds (CanBeBacked t) (CanBeBacked t) (still-backed t) p s rise backed f
 backs-item t n p s rise backed (Clear f) fits =
     clear-holds (CanBeBacked t) (CanBeBacked t) (still-backed t) p s rise backed f
+
+pub backs-tick : (t : Network) (p : LocalNode) (s : NodeState) → CallsRise s.calls → CallsBacked t s.calls →
+    AreBacked t (on_tick p s).calls
+backs-tick t p s rise backed = tick-holds (CanBeBacked t) (CanBeBacked t) (still-backed t) p s rise backed

@@ -1,6 +1,6 @@
 -- What holds of each call of a node after a rule, where it holds of a call by what was asked for and by its working
 -- LSP.
-use Rattle.std.proofs.Common.{Bool, true, false, ◌⊎◌, inl, inr, ◌≡◌, ℕ, not, nat_eq, List, [], ◌∷◌, refl, subst, ◌∙◌}
+use Rattle.std.proofs.Common.{Bool, true, false, ◌⊎◌, inl, inr, ◌≡◌, ◌+◌, ℕ, not, nat_eq, nat_le, List, [], ◌∷◌, ◌++◌, refl, subst, ◌∙◌}
 use Rattle.std.specs.Prelude.{◌&&◌, Option, Some, None, is_some, nat_lt, drop}
 use Rattle.std.specs.List.{AllByRecursion}
 use Rattle.ason_base.specs.declared.calls.CallState.TheVariants.{Asking, Bare, Blocked, Guarded, Pairing, Stuck, Turned, Turning}
@@ -36,12 +36,12 @@ use Rattle.mesh_rules.specs.ActivationAnswers.{confirmed, disarmed, is_confirmed
 use Rattle.mesh_rules.specs.Activations.{armed_on, is_contended, path_again}
 use Rattle.mesh_rules.specs.Alarms.{enters, on_alarm, on_clear}
 use Rattle.mesh_rules.specs.CallSteps.{call_answered, call_contended, call_refused, call_turned}
-use Rattle.mesh_rules.specs.Calls.{bare, blocked, call_changed, call_with, calls_changed, find_call, guarded, is_asking, is_bare, is_pairing, is_stuck, is_turning, pairing, stuck, turned, turning, unbacked, with_call, without_call}
+use Rattle.mesh_rules.specs.Calls.{bare, blocked, call_changed, call_with, calls_changed, find_call, guarded, is_asking, is_bare, is_pairing, is_stuck, is_turned, is_turning, pairing, stuck, turned, turning, unbacked, with_call, without_call}
 use Rattle.mesh_rules.specs.Changes.{Answer}
 use Rattle.mesh_rules.specs.FirstLegs.{first_link, is_full}
 use Rattle.mesh_rules.specs.KnownRows.{known_rows}
 use Rattle.mesh_rules.specs.LeastRoutes.{Trip, least_trip}
-use Rattle.mesh_rules.specs.Legs.{connected, find_leg, following, is_armed, is_asked, is_closing, is_held, is_node, is_over, is_work, leg_of, previous, with_phase}
+use Rattle.mesh_rules.specs.Legs.{connected, find_leg, following, is_active_backup, is_armed, is_asked, is_closing, is_held, is_in_use, is_node, is_over, is_work, leg_of, previous, with_phase}
 use Rattle.mesh_rules.specs.LocalNodes.{LocalNode, leads, own_link}
 use Rattle.mesh_rules.specs.Messages.{arrival, on_message}
 use Rattle.mesh_rules.specs.Notifies.{Notice, notice_passed, notice_told, notify_with}
@@ -53,13 +53,15 @@ use Rattle.mesh_rules.specs.Releases.{release_with, tears}
 use Rattle.mesh_rules.specs.Reports.{call_reported, fibre_into, fibres_after, reported, reported_on, with_back_reports, with_report, with_work_reports}
 use Rattle.mesh_rules.specs.Resvs.{answered, is_expected, label_back, labels_left, passed_back, resv_with}
 use Rattle.mesh_rules.specs.Retries.{retry_with}
+use Rattle.mesh_rules.specs.Reverts.{revert_with, reverts}
 use Rattle.mesh_rules.specs.Setups.{SetupRequest, begins, call_record, next_lsp, refused_setup, is_order_here, is_spent, new_call, over_first, over_found, setup_with}
 use Rattle.mesh_rules.specs.State.{NodeState}
 use Rattle.mesh_rules.specs.Tears.{tear_with, torn}
-use Rattle.mesh_rules.specs.Turns.{decide, decided, has_any, turn}
+use Rattle.mesh_rules.specs.Turns.{decide, decided, go_back, has_any, turn}
+use Rattle.mesh_rules.specs.Waits.{all_ticked, on_tick, ticked}
 use Rattle.mesh_nodes.specs.Order.{CallsRise}
 use Rattle.mesh_nodes.proofs.Cases.{if_cases}
-use Rattle.mesh_nodes.proofs.CallList.{called-found, find-with_call, find-without_call}
+use Rattle.mesh_nodes.proofs.CallList.{all-calls_found, called-found, find-with_call, find-without_call}
 use Rattle.mesh_laws.proofs.nodes.CallParts.{found-call}
 
 -- A call that a rule puts in the place of this one: the same was asked for, and it has the same working LSP or none.
@@ -112,6 +114,11 @@ each-after P [] calls here each = each
 each-after P (x ∷ cs) calls here each =
     each-after P cs (call_changed x calls) here.1 (each-change P x calls here.0 each)
 
+-- of the calls of one part, and of those of another
+pub put-both : (P : CallRec → Type 0) (cs ds : List CallChange) → ArePut P cs → ArePut P ds → ArePut P (cs ++ ds)
+put-both P [] ds here these = these
+put-both P (x ∷ cs) ds here these = (here.0, put-both P cs ds here.1 these)
+
 -- P holds of each call before the rule, and R of those that the rule puts in their places
 module _ (P R : CallRec → Type 0) (keeps : (c d : CallRec) → IsSameCall c d → P c → R d) (p : LocalNode)
     (s : NodeState) (rise : CallsRise s.calls) (each : EachCall P s.calls) where
@@ -161,6 +168,13 @@ module _ (P R : CallRec → Type 0) (keeps : (c d : CallRec) → IsSameCall c d 
         (λ e. (keeps c (turning d) (still c d (turning d) same refl refl refl refl) here, tt))
         (λ e. (keeps c d same here, tt))
 
+    holds-go_back : (d : CallRec) (o : Option Leg) → IsSameCall c d → Holds (go_back d o)
+    holds-go_back d None same = (keeps c d same here, tt)
+    holds-go_back d (Some b) same =
+        if_cases Holds (is_in_use b.phase) _ _
+        (λ e. (keeps c (guarded d) (still c d (guarded d) same refl refl refl refl) here, tt))
+        (λ e. (keeps c d same here, tt))
+
     holds-decided : (d : CallRec) (o : Option Leg) (state : CallState) (works backs : Bool) → IsSameCall c d →
         Holds (decided d o state works backs)
     holds-decided d o Asking works backs same = (keeps c d same here, tt)
@@ -172,7 +186,9 @@ module _ (P R : CallRec → Type 0) (keeps : (c d : CallRec) → IsSameCall c d 
         (keeps c (stuck d BackDown) (still c d (stuck d BackDown) same refl refl refl refl) here, tt)
     holds-decided d o Guarded false backs same = (keeps c d same here, tt)
     holds-decided d o Turning works backs same = (keeps c d same here, tt)
-    holds-decided d o Turned works backs same = (keeps c d same here, tt)
+    holds-decided d o Turned true backs same = (keeps c d same here, tt)
+    holds-decided d o Turned false true same = holds-go_back d o same
+    holds-decided d o Turned false false same = (keeps c d same here, tt)
     holds-decided d o Stuck true backs same = (keeps c d same here, tt)
     holds-decided d o Stuck false backs same =
         (keeps c (guarded d) (still c d (guarded d) same refl refl refl refl) here, tt)
@@ -302,7 +318,8 @@ module _ (P R : CallRec → Type 0) (keeps : (c d : CallRec) → IsSameCall c d 
 
   holds-again : (a : Arrival) (route : List Step) (r : PathRole) (g : Leg) → Holds (path_again p s a route r g)
   holds-again a route (path.Work guard) g = tt
-  holds-again a route (path.Back false work primary) g = tt
+  holds-again a route (path.Back false work primary) g =
+      if_cases Holds (is_active_backup g && is_over (previous g) a.from a.link) _ _ (λ e. tt) (λ e. tt)
   holds-again a route (path.Back true work primary) g =
       if_cases Holds (is_held g.phase && is_over (previous g) a.from a.link) _ _
       (λ e. if_cases Holds (is_contended s.legs g g.in_fibre g.in_label) _ _ (λ b. tt)
@@ -387,6 +404,36 @@ module _ (P R : CallRec → Type 0) (keeps : (c d : CallRec) → IsSameCall c d 
       (λ e. if_cases Holds (is_stuck c.state && (has_any c.work_reports && not (has_any c.back_reports))) _ _
       (λ f. holds-turn c (each k c is) c (leg_of c.back s.legs) (revised-call c c refl refl refl refl)) (λ f. tt))
       (λ e. tt)
+
+  holds-reverts : (c : CallRec) → P c → Holds (reverts s c)
+  holds-reverts c here =
+      if_cases Holds (is_turned c.state && not (has_any c.work_reports)) _ _
+      (λ e. holds-go_back c here c (leg_of c.back s.legs) (revised-call c c refl refl refl refl)) (λ e. tt)
+
+  pub revert-holds : (k : CallNo) (from : NodeId) (o : Option CallRec) → find_call k s.calls ≡ o →
+      Holds (revert_with p s from o)
+  revert-holds k from None is = tt
+  revert-holds k from (Some c) is =
+      if_cases Holds (nat_eq from.0 p.id.0) _ _ (λ e. holds-reverts c (each k c is)) (λ e. tt)
+
+  -- Ticks
+
+  holds-ticked : (c : CallRec) → P c → Holds (ticked p.wait s.legs c)
+  holds-ticked c here =
+      if_cases Holds (not (nat_eq p.wait 0) && (is_turned c.state && not (has_any c.work_reports))) _ _
+      (λ e. if_cases Holds (nat_le p.wait (c.ticks + 1)) _ _
+      (λ f. holds-go_back c here c (leg_of c.back s.legs) (revised-call c c refl refl refl refl))
+      (λ f. stays c (record c { ticks = c.ticks + 1 }) refl refl refl refl here))
+      (λ e. tt)
+
+  holds-all_ticked : (calls : List CallRec) → AllByRecursion P calls → Holds (all_ticked p.wait s.legs calls)
+  holds-all_ticked [] all = tt
+  holds-all_ticked (c ∷ calls) all =
+      put-both R (ticked p.wait s.legs c).calls (all_ticked p.wait s.legs calls).calls (holds-ticked c all.0)
+      (holds-all_ticked calls all.1)
+
+  pub tick-holds : Holds (on_tick p s)
+  tick-holds = holds-all_ticked s.calls (all-calls_found P s.calls rise each)
 
   -- An alarm and a clear change no call
 
