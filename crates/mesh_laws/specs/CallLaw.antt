@@ -44,14 +44,15 @@ fits Blocked None None = true
 fits state work back = false
 
 -- by the state, whether fibres of the working LSP may be reported down, and whether fibres of the backup may be: a call
--- without a backup has no report of one, a guarded call none of its working LSP, and a stuck call has one of that
+-- without a backup has no report of one, a guarded call none of its working LSP, a stuck call has one of that, and a
+-- turned call has one of its backup only beside one of its working LSP
 abbrev pub fits_reports : CallState → Bool → Bool → Bool
 fits_reports Asking works backs = not backs
 fits_reports Bare works backs = not backs
 fits_reports Pairing works backs = true
 fits_reports Guarded works backs = not works
 fits_reports Turning works backs = true
-fits_reports Turned works backs = true
+fits_reports Turned works backs = not backs || works
 fits_reports Stuck works backs = works
 fits_reports Blocked works backs = not (works || backs)
 

@@ -33,7 +33,7 @@ lsp-is (Some k) l e = ap Some (same_lsp-eq k l e)
 pub is-lsp : (o : Option Lsp) (l : Lsp) → o ≡ Some l → is_lsp o l ≡ true
 is-lsp o l e = subst (λ x. is_lsp x l ≡ true) (sym e) (same_lsp-refl l)
 
-or-true : (b : Bool) → (b || true) ≡ true
+pub or-true : (b : Bool) → (b || true) ≡ true
 or-true true = refl
 or-true false = refl
 

@@ -1,5 +1,5 @@
--- What a call decides keeps the facts of a node: it turns to its backup, is stuck, or stays as it is.
-use Rattle.std.proofs.Common.{◌≡◌, ℕ, Bool, true, false, cond, List, refl, sym, ap, subst, ◌∙◌, arith}
+-- What a call decides keeps the facts of a node: it turns to its backup, goes back, is stuck, or stays as it is.
+use Rattle.std.proofs.Common.{◌≡◌, ℕ, Bool, true, false, cond, not, List, [], ◌∷◌, refl, sym, ap, subst, ◌∙◌, arith}
 use Rattle.std.specs.Prelude.{Option, Some, None, IfSome}
 use Rattle.ason_base.specs.declared.calls.CallState.{CallState}
 use Rattle.ason_base.specs.declared.calls.CallState.TheVariants.{Asking, Bare, Pairing, Guarded, Turning, Turned, Stuck, Blocked}
@@ -12,24 +12,27 @@ use Rattle.ason_base.specs.declared.ids.Fibre.{Fibre}
 use Rattle.ason_base.specs.declared.ids.Lsp.{Lsp}
 use Rattle.ason_base.specs.declared.tables.CallRec.{CallRec}
 use Rattle.ason_base.specs.declared.tables.Leg.{Leg}
+use Rattle.ason_base.specs.declared.tables.Out.{Out}
 use Rattle.ason_base.specs.Lsps.{same_lsp}
+use Rattle.mesh_rules.specs.declared.changes.CallChange.TheVariants as call
+use Rattle.mesh_rules.specs.declared.changes.LegChange.TheVariants as leg
 use Rattle.mesh_rules.specs.Calls.{find_call, names, with_call}
-use Rattle.mesh_rules.specs.Changes.{Answer, changed}
-use Rattle.mesh_rules.specs.Legs.{find_leg, is_beyond_asked, is_held, leg_of, with_leg, with_phase}
+use Rattle.mesh_rules.specs.Changes.{Answer, changed, nothing}
+use Rattle.mesh_rules.specs.Legs.{find_leg, following, is_beyond_asked, is_held, is_in_use, leg_of, with_leg, with_phase}
 use Rattle.mesh_rules.specs.State.{NodeState}
-use Rattle.mesh_rules.specs.Turns.{arms, call_put, decide, decided, has_any, turn}
+use Rattle.mesh_rules.specs.Turns.{activating_path, arms, call_put, decide, decided, disarms, go_back, has_any, taking_path, turn}
 use Rattle.mesh_nodes.proofs.Cases.{if_cases}
 use Rattle.mesh_nodes.proofs.LegList.{find-with_leg, same_lsp-eq, same_lsp-refl}
 use Rattle.mesh_laws.specs.CallLaw.{FitsLegs, GuardsWork, IsNamed, fits, fits_reports, phase_of}
 use Rattle.mesh_laws.proofs.nodes.Facts.{LegFacts, NodeFacts}
 use Rattle.mesh_laws.proofs.nodes.CallKeeps.{named-leg}
-use Rattle.mesh_laws.proofs.nodes.CallParts.{Becomes, CallPart, leg_of-stays, named-lsp, named-stays, names-back, other-stays}
+use Rattle.mesh_laws.proofs.nodes.CallParts.{Becomes, CallPart, leg_of-stays, named-lsp, named-stays, names-back, or-true, other-stays}
 use Rattle.mesh_laws.proofs.nodes.CallTouched.{same-leg, touched-changes}
 use Rattle.mesh_laws.proofs.nodes.LegParts.{LegPart, part-with_leg}
 use Rattle.mesh_laws.proofs.nodes.NewLegs.{no_label}
 use Rattle.mesh_laws.proofs.nodes.Parts.{back-row, node_facts}
 use Rattle.mesh_laws.proofs.nodes.PhaseLegs.{ingress-unlabelled, phase-facts}
-use Rattle.mesh_laws.proofs.nodes.States.{AskingRow, BareRow, BlockedRow, GuardedRow, PairingRow, Row, StuckRow, TurnedRow, TurningRow, guarded-back, guarded-stuck, live-work, stuck-guarded}
+use Rattle.mesh_laws.proofs.nodes.States.{AskingRow, BareRow, BlockedRow, GuardedRow, PairingRow, Row, StuckRow, TurnedRow, TurningRow, guarded-back, guarded-stuck, live-work, stuck-guarded, turned-back}
 
 -- the call, in this state, with these reports
 abbrev pub revised : CallRec → CallState → List Fibre → List Fibre → Cause → ℕ → CallRec
@@ -136,33 +139,59 @@ module _ (n : ℕ) (s : NodeState) (facts : NodeFacts n s) (c : CallRec) (found 
         node_facts n (changed (record s { legs = legs }) (call_put (revised c state works backs cause ticks)))
         legs_part (revised-part f i o legs becomes state works backs cause ticks standing reports)
 
-    armed-becomes : Becomes g.lsp (Some (with_phase Armed b)) s.legs (with_leg (with_phase Armed b) legs)
-    armed-becomes m = find-with_leg (with_phase Armed b) legs m ∙ twice (same_lsp g.lsp m) (becomes m)
+    phase-becomes : (q : Phase) → Becomes g.lsp (Some (with_phase q b)) s.legs (with_leg (with_phase q b) legs)
+    phase-becomes q m = find-with_leg (with_phase q b) legs m ∙ twice (same_lsp g.lsp m) (becomes m)
       where
         twice : (t : Bool) → find_leg m legs ≡ cond t (Some b) (find_leg m s.legs) →
-            cond t (Some (with_phase Armed b)) (find_leg m legs) ≡ cond t (Some (with_phase Armed b))
-            (find_leg m s.legs)
+            cond t (Some (with_phase q b)) (find_leg m legs) ≡ cond t (Some (with_phase q b)) (find_leg m s.legs)
         twice true e = refl
         twice false e = e
+
+    -- the leg gets the phase q, and the call the state that goes with it
+    moves-after : (q : Phase) (state : CallState) (works backs : List Fibre) (sent : List Out) →
+        is_beyond_asked f ≡ true → is_beyond_asked q ≡ true → fits state (Some Live) (Some q) ≡ true →
+        fits_reports state (has_any works) (has_any backs) ≡ true →
+        After (record nothing {
+          legs = leg.Put (with_phase q b) ∷ [];
+          calls = call.Put (revised c state works backs Unset 0) ∷ [];
+          sent = sent;
+        })
+    moves-after q state works backs sent beyond later standing reports =
+        let leg : LegFacts n s.lsp b = legs_part.leg g.lsp b (now-found f i o legs becomes) in
+        let moved = phase-facts n s.lsp q b leg beyond later own.0 in
+        node_facts n
+        (record s {
+          legs = with_leg (with_phase q b) legs;
+          calls = with_call (revised c state works backs Unset 0) s.calls;
+        })
+        (part-with_leg n s.lsp s.lsp (with_phase q b) legs (omega arith) legs_part
+        (no_label n s.lsp legs (with_phase q b)
+        (ingress-unlabelled n s.lsp (with_phase q b) moved backup-begins) moved))
+        (revised-part q i o (with_leg (with_phase q b) legs) (phase-becomes q) state works backs Unset 0 standing
+        reports)
 
     pub arms-after : f ≡ Held → (state : CallState) (works backs : List Fibre) (cause : Cause) (ticks : ℕ) →
         After (arms (revised c state works backs cause ticks) b)
     arms-after held state works backs cause ticks =
-        let beyond : is_beyond_asked f ≡ true = rw held refl in
-        let leg : LegFacts n s.lsp b = legs_part.leg g.lsp b (now-found f i o legs becomes) in
-        let armed = phase-facts n s.lsp Armed b leg beyond refl own.0 in
-        node_facts n (changed (record s { legs = legs }) (arms (revised c state works backs cause ticks) b))
-        (part-with_leg n s.lsp s.lsp (with_phase Armed b) legs (omega arith) legs_part
-        (no_label n s.lsp legs (with_phase Armed b)
-        (ingress-unlabelled n s.lsp (with_phase Armed b) armed backup-begins) armed))
-        (revised-part Armed i o (with_leg (with_phase Armed b) legs) armed-becomes Turning works backs Unset 0 refl
-        refl)
+        moves-after Armed Turning works backs (activating_path b (following b)) (rw held refl) refl refl refl
+
+    disarms-after : f ≡ Live → (state : CallState) (works backs : List Fibre) (cause : Cause) (ticks : ℕ) →
+        has_any works ≡ false → After (disarms (revised c state works backs cause ticks) b)
+    disarms-after live state works backs cause ticks quiet =
+        moves-after Held Guarded works backs (taking_path b (following b)) (rw live refl) refl refl (rw quiet refl)
 
     pub turn-after : f ≡ Held → (state : CallState) (works backs : List Fibre) (cause : Cause) (ticks : ℕ) →
         After (turn (revised c state works backs cause ticks) (Some b))
     turn-after held state works backs cause ticks =
         if_cases After (is_held f) _ _ (λ e. arms-after held state works backs cause ticks)
         (λ e. let yes : is_held f ≡ true = ap is_held held in absurd (cc (yes, e)))
+
+    -- without working reports a turned call goes back
+    pub goes_back-after : f ≡ Live → (state : CallState) (works backs : List Fibre) (cause : Cause) (ticks : ℕ) →
+        has_any works ≡ false → After (go_back (revised c state works backs cause ticks) (Some b))
+    goes_back-after live state works backs cause ticks quiet =
+        if_cases After (is_in_use f) _ _ (λ e. disarms-after live state works backs cause ticks quiet)
+        (λ e. let yes : is_in_use f ≡ true = ap is_in_use live in absurd (cc (yes, e)))
 
     module _ (works backs : List Fibre) (cause : Cause) (ticks : ℕ) where
       decided-after : (state : CallState) (w k : Bool) → has_any works ≡ w → has_any backs ≡ k →
@@ -173,7 +202,12 @@ module _ (n : ℕ) (s : NodeState) (facts : NodeFacts n s) (c : CallRec) (found 
       decided-after Blocked w k is_w is_k standing = absurd (cc standing)
       decided-after Pairing w k is_w is_k standing = put-after Pairing works backs cause ticks standing refl
       decided-after Turning w k is_w is_k standing = put-after Turning works backs cause ticks standing refl
-      decided-after Turned w k is_w is_k standing = put-after Turned works backs cause ticks standing refl
+      decided-after Turned true k is_w is_k standing =
+          put-after Turned works backs cause ticks standing (rw is_w (or-true (not (has_any backs))))
+      decided-after Turned false true is_w is_k standing =
+          goes_back-after (turned-back f standing) Turned works backs cause ticks is_w
+      decided-after Turned false false is_w is_k standing =
+          put-after Turned works backs cause ticks standing (rw (is_w, is_k) refl)
       decided-after Guarded true false is_w is_k standing =
           turn-after (guarded-back f standing) Guarded works backs cause ticks
       decided-after Guarded true true is_w is_k standing =
@@ -197,7 +231,8 @@ module _ (n : ℕ) (s : NodeState) (facts : NodeFacts n s) (c : CallRec) (found 
 
   module _ (works backs : List Fibre) (cause : Cause) (ticks : ℕ)
       (reports : fits_reports c.state (has_any works) (has_any backs) ≡ true) where
-    same-put : NodeFacts n (changed s (call_put (revised c c.state works backs cause ticks)))
+    -- with other reports it stays as it is
+    pub same-put : NodeFacts n (changed s (call_put (revised c c.state works backs cause ticks)))
     same-put =
         node_facts n (changed s (call_put (revised c c.state works backs cause ticks)))
         (record { rise = facts.legs_rise; leg = facts.leg; labels = facts.labels })

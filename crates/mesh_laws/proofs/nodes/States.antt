@@ -125,3 +125,7 @@ stuck-guarded f e =
     let is = (stuck-legs (Some Live) (Some f) (row Stuck (Some Live) (Some f) e)).1 in
     let held : f ≡ Held = cc is in
     rw held refl
+
+-- where a call is turned, its backup's leg is Live
+pub turned-back : (f : Phase) → fits Turned (Some Live) (Some f) ≡ true → f ≡ Live
+turned-back f e = let is = (turned-legs (Some Live) (Some f) (row Turned (Some Live) (Some f) e)).1 in cc is
