@@ -1,5 +1,5 @@
--- A Path that activates a backup, and the answers to it, keep the facts of a node.
-use Rattle.std.proofs.Common.{◌≡◌, ℕ, true, false, nat_eq, [], refl, sym, ap, subst, arith, List, drop}
+-- A Path that activates a backup, one that takes that back, and the answers to them keep the facts of a node.
+use Rattle.std.proofs.Common.{◌≡◌, ℕ, true, false, not, nat_eq, [], refl, sym, ap, subst, arith, List, drop}
 use Rattle.std.specs.Prelude.{◌&&◌, Option, Some, None}
 use Rattle.ason_base.specs.Codes.{busy_code}
 use Rattle.ason_base.specs.declared.calls.CallState.{CallState}
@@ -22,16 +22,17 @@ use Rattle.mesh_rules.specs.Activations.{armed_on, is_contended, path_again}
 use Rattle.mesh_rules.specs.CallSteps.{call_contended, call_turned}
 use Rattle.mesh_rules.specs.Calls.{call_with, find_call, is_turning}
 use Rattle.mesh_rules.specs.Changes.{changed, followed_by, puts}
-use Rattle.mesh_rules.specs.Legs.{find_leg, following, is_armed, is_beyond_asked, is_closing, is_held, is_over, is_work, leg_of, previous, with_leg, with_phase}
+use Rattle.mesh_rules.specs.Legs.{find_leg, following, is_active_backup, is_armed, is_beyond_asked, is_closing, is_held, is_over, is_work, leg_of, previous, with_leg, with_phase}
 use Rattle.mesh_rules.specs.LocalNodes.{LocalNode}
 use Rattle.mesh_rules.specs.Paths.{PathRequest, path_with}
 use Rattle.mesh_rules.specs.State.{NodeState}
 use Rattle.mesh_rules.specs.Turns.{decide}
-use Rattle.mesh_nodes.proofs.Cases.{both_left, both_right, if_cases}
+use Rattle.mesh_nodes.proofs.Cases.{both_left, both_right, if_cases, not-true}
+use Rattle.mesh_nodes.proofs.Kept.{in_use-beyond}
 use Rattle.mesh_nodes.proofs.LegList.{find-with_leg, found-lsp}
 use Rattle.mesh_laws.specs.CallLaw.{fits, phase_of}
 use Rattle.mesh_laws.proofs.nodes.Facts.{LegFacts, NodeFacts}
-use Rattle.mesh_laws.proofs.nodes.CallKeeps.{call-found, is-backup, must_have_call}
+use Rattle.mesh_laws.proofs.nodes.CallKeeps.{back-is, call-found, is-backup, must_have_call}
 use Rattle.mesh_laws.proofs.nodes.CallStepKeeps.{after-puts}
 use Rattle.mesh_laws.proofs.nodes.Decides.{backup-row, decide-after, revised}
 use Rattle.mesh_laws.proofs.nodes.LegEnds.{has_previous-away, no_previous-here, previous-away}
@@ -42,7 +43,7 @@ use Rattle.mesh_laws.proofs.nodes.PhaseLegs.{armed-back, armed-is, held-back, he
 use Rattle.mesh_laws.proofs.nodes.States.{Row}
 use Rattle.mesh_laws.proofs.nodes.States as states
 
--- A Path at a Held leg
+-- A Path at a leg that stands
 
 module _ (p : LocalNode) (s : NodeState) (g : Leg) (facts : NodeFacts p.id.0 s)
     (here : find_leg g.lsp s.legs ≡ Some g) where
@@ -63,9 +64,24 @@ module _ (p : LocalNode) (s : NodeState) (g : Leg) (facts : NodeFacts p.id.0 s)
     keeps-armed_on route r None = used Live refl
     keeps-armed_on route r (Some h) = used Armed refl
 
+  -- the leg of a backup in use is Held again
+  taken : nat_eq g.lsp.ingress.0 p.id.0 ≡ false → is_active_backup g ≡ true →
+      NodeFacts p.id.0 (changed s (puts (with_phase Held g) []))
+  taken away active =
+      keeps-leg p.id.0 s (with_phase Held g) away
+      (stands-unused p.id.0 s.lsp s.legs Held g (leg_part p.id.0 s facts) here
+      (in_use-beyond g.phase (both_right (not (is_work g.role)) _ active)) refl
+      (back-is g.role (not-true (is_work g.role) (both_left (not (is_work g.role)) _ active)))
+      (λ used. absurd (cc used)))
+      facts
+
   keeps-again : (a : Arrival) (route : List Step) (r : PathRole) → Keeps p s (path_again p s a route r g)
   keeps-again a route (path.Work guard) = facts
-  keeps-again a route (path.Back false work primary) = facts
+  keeps-again a route (path.Back false work primary) =
+      if_cases (Keeps p s) (is_active_backup g && is_over (previous g) a.from a.link) _ _
+      (λ e. taken (previous-away p.id.0 s.lsp g a.from a.link leg (both_right (is_active_backup g) _ e))
+      (both_left (is_active_backup g) _ e))
+      (λ e. facts)
   keeps-again a route (path.Back true work primary) =
       if_cases (Keeps p s) (is_held g.phase && is_over (previous g) a.from a.link) _ _
       (λ e. if_cases (Keeps p s) (is_contended s.legs g g.in_fibre g.in_label) _ _ (λ b. facts)
