@@ -20,8 +20,10 @@ pub mod Parts
 pub mod PathKeeps
 pub mod PhaseLegs
 pub mod ReleaseKeeps
+pub mod RevertKeeps
 pub mod Runs
 pub mod Searches
 pub mod SetupKeeps
 pub mod Sharing
 pub mod States
+pub mod TickKeeps

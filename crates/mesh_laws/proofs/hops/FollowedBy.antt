@@ -43,7 +43,7 @@ learnt-then : (a b learnt : List TeRow) → learnt_after (a ++ b) learnt ≡ lea
 learnt-then [] b learnt = refl
 learnt-then (row ∷ a) b learnt = learnt-then a b (learnt ++ row ∷ [])
 
-changed-then : (s : NodeState) (a b : Answer) → changed s (followed_by a b) ≡ changed (changed s a) b
+pub changed-then : (s : NodeState) (a b : Answer) → changed s (followed_by a b) ≡ changed (changed s a) b
 changed-then s a b = λ i. record s {
   legs = legs-then a.legs b.legs s.legs i;
   calls = calls-then a.calls b.calls s.calls i;

@@ -28,7 +28,7 @@ same-leg g legs here m = go (same_lsp g.lsp m) refl
 module _ (n : ℕ) (s : NodeState) (facts : NodeFacts n s) (c : CallRec) (found : find_call c.call s.calls ≡ Some c)
     (l : Lsp) (named : names l c ≡ true) where
   -- l is no other call's
-  of-no-other : (m : CallNo) (d : CallRec) (x : Lsp) → nat_eq c.call.0 m.0 ≡ false → find_call m s.calls ≡ Some d →
+  pub of-no-other : (m : CallNo) (d : CallRec) (x : Lsp) → nat_eq c.call.0 m.0 ≡ false → find_call m s.calls ≡ Some d →
       names x d ≡ true → same_lsp l x ≡ false
   of-no-other m d x other there has = go (same_lsp l x) refl
     where

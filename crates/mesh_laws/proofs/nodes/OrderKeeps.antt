@@ -27,6 +27,7 @@ use Rattle.mesh_laws.proofs.nodes.PairKeeps.{keeps-pair}
 use Rattle.mesh_laws.proofs.nodes.Parts.{call_part, leg_part}
 use Rattle.mesh_laws.proofs.nodes.PathKeeps.{Keeps}
 use Rattle.mesh_laws.proofs.nodes.ReleaseKeeps.{keeps-release}
+use Rattle.mesh_laws.proofs.nodes.RevertKeeps.{keeps-revert}
 use Rattle.mesh_laws.proofs.nodes.SetupKeeps.{keeps-setup}
 
 -- Protect
@@ -71,7 +72,7 @@ keeps-on_order p s (Setup n from to protected both via backup) facts =
 keeps-on_order p s (Release n from) facts = keeps-release p s n from (find_call n s.calls) refl facts
 keeps-on_order p s (Protect n from) facts = keeps-protect p s n from (find_call n s.calls) refl facts
 keeps-on_order p s (Retry n from) facts = keeps-retry p s n from (find_call n s.calls) refl facts
-keeps-on_order p s (Revert n from) facts = facts
+keeps-on_order p s (Revert n from) facts = keeps-revert p s n from (find_call n s.calls) refl facts
 keeps-on_order p s (Fail g) facts = facts
 keeps-on_order p s (Repair g) facts = facts
 

@@ -22,21 +22,22 @@ use Rattle.mesh_rules.specs.KnownRows.{has_row, known_rows}
 use Rattle.mesh_rules.specs.Learnt.{on_link, on_row}
 use Rattle.mesh_rules.specs.LocalNodes.{LocalNode, local_node}
 use Rattle.mesh_rules.specs.State.{NodeState, new_node}
-use Rattle.mesh_rules.specs.Orders.{on_tick}
 use Rattle.mesh_rules.specs.Commands.{is_again, is_valid}
 use Rattle.mesh_rules.specs.Machine.{Mesh, commit, start, without_first, without_item}
+use Rattle.mesh_rules.specs.Waits.{on_tick}
 use Rattle.mesh_rules.specs.Events.{IsRun, after, is_enabled, on_first, on_first_item, posted, step}
 use Rattle.ason_base.proofs.Ordered.{contains-none}
 use Rattle.mesh_nodes.specs.Routes.{AreRowsOf}
 use Rattle.mesh_nodes.proofs.Cases.{both_left, if_cases}
-use Rattle.mesh_nodes.proofs.LearnsNothing.{item-learns_nothing, message-learns_nothing}
+use Rattle.mesh_nodes.proofs.LearnsNothing.{item-learns_nothing, message-learns_nothing, tick-learns_nothing}
 use Rattle.mesh_nodes.proofs.routes.Learnt.{found-row, learnt-stay_true, same-rows_true}
 use Rattle.mesh_laws.specs.NodeLaw.{DeskFits, FitsDesk}
 use Rattle.mesh_laws.proofs.nodes.Facts.{MeshFacts, NodeFacts}
-use Rattle.mesh_laws.proofs.nodes.BackedCalls.{AreBacked, CallsBacked, backed-after, backs-item, backs-message}
+use Rattle.mesh_laws.proofs.nodes.BackedCalls.{AreBacked, CallsBacked, backed-after, backs-item, backs-message, backs-tick}
 use Rattle.mesh_laws.proofs.nodes.PathKeeps.{Keeps}
 use Rattle.mesh_laws.proofs.nodes.MessageKeeps.{keeps-on_message}
 use Rattle.mesh_laws.proofs.nodes.OrderKeeps.{keeps-on_item}
+use Rattle.mesh_laws.proofs.nodes.TickKeeps.{keeps-tick}
 
 pub new-facts : (n : ℕ) → NodeFacts n new_node
 new-facts n = record {
@@ -270,7 +271,11 @@ facts-step t s (Desk n) enabled facts =
     (first_item-learns_nothing (local_node t n) (s.nodes n.0) (s.desks n.0)) (facts.learnt n.0))
     (without_item-facts t s n.0 facts)
 facts-step t s (Tick n) enabled facts =
-    keeps-commit t s n (on_tick (local_node t n) (s.nodes n.0)) (facts.node n.0) tt (facts.learnt n.0) facts
+    keeps-commit t s n (on_tick (local_node t n) (s.nodes n.0))
+    (keeps-tick (local_node t n) (s.nodes n.0) (facts.node n.0))
+    (backs-tick t (local_node t n) (s.nodes n.0) (facts.node n.0).calls_rise (facts.backed n.0))
+    (same-rows_true t (s.nodes n.0) (on_tick (local_node t n) (s.nodes n.0))
+    (tick-learns_nothing (local_node t n) (s.nodes n.0)) (facts.learnt n.0)) facts
 facts-step t s (Learn n k) enabled facts =
     keeps-commit t s n (on_link (local_node t n) (s.nodes n.0) (find_link t k))
     (keeps-link (local_node t n) (s.nodes n.0) (find_link t k) (facts.node n.0))

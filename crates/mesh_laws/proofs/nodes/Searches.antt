@@ -14,9 +14,10 @@ use Rattle.mesh_rules.specs.Events.{IsRun, after, on_first, on_first_item, poste
 use Rattle.mesh_rules.specs.Learnt.{on_link}
 use Rattle.mesh_rules.specs.LocalNodes.{local_node}
 use Rattle.mesh_rules.specs.Machine.{Mesh, commit, start, without_first, without_item}
-use Rattle.mesh_rules.specs.Orders.{on_tick}
 use Rattle.mesh_rules.specs.State.{NodeState}
+use Rattle.mesh_rules.specs.Waits.{on_tick}
 use Rattle.mesh_nodes.specs.Routes.{AreRowsOf, RowsFit}
+use Rattle.mesh_nodes.proofs.LearnsNothing.{tick-learns_nothing}
 use Rattle.mesh_nodes.proofs.routes.Learnt.{found-row, network-rows-may, rows-stay_fit, same-rows_fit}
 use Rattle.mesh_nodes.proofs.routes.Topologies.{new-rows}
 use Rattle.mesh_laws.specs.LearntLaw.{EveryNodeCanSearch}
@@ -67,8 +68,9 @@ search-step t s (Desk n) valid facts fit =
     (same-rows_fit (local_node t n) (s.nodes n.0) a
     (first_item-learns_nothing (local_node t n) (s.nodes n.0) (s.desks n.0)) (fit n)) fit
 search-step t s (Tick n) valid facts fit =
-    after-commit t s n (on_tick (local_node t n) (s.nodes n.0))
-    (same-rows_fit (local_node t n) (s.nodes n.0) (on_tick (local_node t n) (s.nodes n.0)) refl (fit n)) fit
+    let a = on_tick (local_node t n) (s.nodes n.0) in
+    after-commit t s n a
+    (same-rows_fit (local_node t n) (s.nodes n.0) a (tick-learns_nothing (local_node t n) (s.nodes n.0)) (fit n)) fit
 search-step t s (Learn n k) valid facts fit =
     after-commit t s n (on_link (local_node t n) (s.nodes n.0) (find_link t k))
     (after-link t n (s.nodes n.0) k (find_link t k) valid refl (facts.learnt n.0) (fit n)) fit
