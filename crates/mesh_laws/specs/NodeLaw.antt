@@ -15,6 +15,7 @@ use Rattle.mesh_rules.specs.LocalNodes.{LocalNode, local_node}
 use Rattle.mesh_rules.specs.Messages.{on_message}
 use Rattle.mesh_rules.specs.Orders.{on_item}
 use Rattle.mesh_rules.specs.State.{NodeState, new_node}
+use Rattle.mesh_rules.specs.Waits.{on_tick}
 use Rattle.mesh_laws.specs.LabelLaw.{LabelsAreShared}
 
 -- A desk
@@ -44,17 +45,21 @@ pub data NodeInput : Type 0 where
   Item : DeskItem → NodeInput
   -- a row of a link, as told by a neighbour
   Row : TeRow → NodeInput
+  -- a tick
+  Tick : NodeInput
 
--- any message of whatever sender, any row, and the items that a desk has
+-- any message of whatever sender, any row, any tick, and the items that a desk has
 abbrev pub MayCome : Network → ℕ → NodeInput → Type 0
 MayCome t n (Message u m) = Unit {0}
 MayCome t n (Item i) = FitsDesk t n i
 MayCome t n (Row row) = Unit {0}
+MayCome t n Tick = Unit {0}
 
 abbrev pub answer : LocalNode → NodeState → NodeInput → Answer
 answer p s (Message u m) = on_message p s u m
 answer p s (Item i) = on_item p s i
 answer p s (Row row) = on_row p s row
+answer p s Tick = on_tick p s
 
 abbrev pub after_inputs : LocalNode → NodeState → List NodeInput → NodeState
 after_inputs p s [] = s

@@ -50,10 +50,10 @@ pub fn every_run()
     ensures together { EveryRunKeepsTheLaws }
 {}
 
-/// At each node, whatever messages come to it, of whatever senders, whatever rows it learns, and
-/// whatever fibres it is told to be down or up, in whatever order with the orders of its own calls:
-/// a label of a fibre is taken by one leg alone, or by backups whose primaries have no risk in
-/// common, at most one of them Armed or Live.
+/// At each node, whatever messages come to it, of whatever senders, whatever rows it learns,
+/// whatever fibres it is told to be down or up, and however often it ticks, in whatever order with
+/// the orders of its own calls: a label of a fibre is taken by one leg alone, or by backups whose
+/// primaries have no risk in common, at most one of them Armed or Live.
 pub fn every_node()
     ensures { EveryNodeSharesLawfully }
 {}

@@ -20,7 +20,7 @@ use Rattle.mesh_rules.specs.LocalNodes.{LocalNode, local_node}
 use Rattle.mesh_rules.specs.State.{NodeState, new_node}
 use Rattle.mesh_laws.specs.LabelLaw.{EveryLabelIsShared, EveryLiveLegIsLabelled, IsLabelled, LabelsAreShared, ShareLawfully}
 use Rattle.mesh_laws.specs.LearntLaw.{EveryLearntRowIsTrue}
-use Rattle.mesh_laws.specs.NodeLaw.{EveryNodeSharesLawfully, MayCome, NodeInput, Item, Message, Row, after_inputs, answer}
+use Rattle.mesh_laws.specs.NodeLaw.{EveryNodeSharesLawfully, MayCome, NodeInput, Item, Message, Row, Tick, after_inputs, answer}
 use Rattle.mesh_laws.specs.CallLaw.{CallsFit, EveryCallFitsItsLegs, FitsLegs, IsOfOneCall, wants_call}
 use Rattle.mesh_nodes.proofs.Cases.{both_left, both_right, not-true}
 use Rattle.mesh_laws.proofs.nodes.Facts.{FitsPhase, LabelsFit, NodeFacts}
@@ -30,6 +30,7 @@ use Rattle.mesh_nodes.proofs.CallList.{all-calls_found, one-count}
 use Rattle.mesh_laws.proofs.nodes.MessageKeeps.{keeps-on_message}
 use Rattle.mesh_laws.proofs.nodes.OrderKeeps.{keeps-on_item}
 use Rattle.mesh_laws.proofs.nodes.Runs.{facts-hold, keeps-row, new-facts}
+use Rattle.mesh_laws.proofs.nodes.TickKeeps.{keeps-tick}
 
 -- Labels
 
@@ -81,6 +82,7 @@ facts-after t p s (i ∷ inputs) facts may =
     one (Message u m) facts may = keeps-on_message p s u m facts
     one (Item i) facts may = keeps-on_item p s i facts
     one (Row row) facts may = keeps-row p s row facts
+    one Tick facts may = keeps-tick p s facts
 
 pub every_node : EveryNodeSharesLawfully
 every_node t n inputs may =
