@@ -1,5 +1,5 @@
 -- Two ways to say that the legs stand in order of LSP, and the calls in order of number.
-use Rattle.std.proofs.Common.{◌≡◌, ◌<◌, ℕ, zero, suc, nat_lt, true, List, [], ◌∷◌, length, get_or, arith}
+use Rattle.std.proofs.Common.{◌≡◌, ◌≤◌, ◌<◌, ℕ, zero, suc, nat_lt, true, List, [], ◌∷◌, length, get_or, ap, arith}
 use Rattle.std.specs.Prelude.{IsTrue}
 use Rattle.std.specs.List.{AllByRecursion, AllPairs}
 use Rattle.ason_base.specs.declared.tables.CallRec.{CallRec}
@@ -66,3 +66,21 @@ calls-from (c ∷ calls) rise =
     (all-then (λ d. c.call.0 < d.call.0) (λ d. IsTrue (nat_lt c.call.0 d.call.0)) calls
     (λ d h. less-test c.call.0 d.call.0 h) rise.0)
     (calls-from calls rise.1)
+
+-- no call's number is less than its place
+number-at : (calls : List CallRec) → CallsRise calls → (i : ℕ) (d : CallRec) → i < length calls →
+    i ≤ (get_or calls i d).call.0
+number-at calls rise zero d within = omega arith
+number-at calls rise (suc i) d within =
+    let before : i ≤ (get_or calls i d).call.0 = number-at calls rise i d (omega arith) in
+    let above = test-less (get_or calls i d).call.0 (get_or calls (suc i) d).call.0
+    (rise i (suc i) d (omega arith) within) in
+    omega arith
+
+-- calls that rise are as many as the last one's number allows
+pub few-calls : (calls : List CallRec) → CallsRise calls → (i : ℕ) (d last : CallRec) → length calls ≡ suc i →
+    get_or calls i d ≡ last → last.call.0 < 65536 → length calls ≤ 65536
+few-calls calls rise i d last count is small =
+    let at = number-at calls rise i d (omega arith) in
+    let number : (get_or calls i d).call.0 ≡ last.call.0 = ap (λ c. c.call.0) is in
+    omega arith

@@ -1,13 +1,13 @@
 //! The calls of an ingress, in order of number, and the tunnel and LSP numbers that come next.
 
-ghost use Rattle.std.specs.Prelude.{◌≡◌, [], IfOk, IsSome, None, OnErr, OnOk, length, slice_get};
+ghost use Rattle.std.specs.Prelude.{◌≡◌, ◌≤◌, [], IfOk, IsSome, None, OnErr, OnOk, length, slice_get};
 ghost use Rattle.std.specs.Option.{option_copied};
 ghost use Rattle.mesh_rules.specs.Calls.{call_with, find_call, with_call, without_call};
 ghost use Rattle.mesh_rules.specs.Changes.{lsp_after, tunnel_after};
 ghost use Rattle.leg_table.specs.Tables.{in_state, number_of, reported, unreported, with_call_changed, with_lsps};
 
 use crate::call_list::CallList;
-use crate::calls::{find_call, report, set_state, unreport};
+use crate::calls::{count, find_call, report, set_state, unreport};
 use ason_base::{CallNo, CallRec, CallState, Cause, Copied, Fibre, Lsp, OutOfMemory, Role};
 use mesh_rules::NextNumbers;
 use std::alloc::Global;
@@ -86,11 +86,12 @@ impl Calls {
         &self.list.calls
     }
 
-    /// The number of calls.
+    /// The number of calls: at most 65,536, since no number is that of two.
     pub fn count(&self) -> usize
-        ensures { result ≡ length self.now.calls }
+        ensures count { result ≡ length self.now.calls }
+        ensures few { length self.now.calls ≤ 65536 }
     {
-        self.list.calls.len()
+        count(&self.list.calls)
     }
 
     /// The call at this place, from 0, in order of number: none exactly from the count on.

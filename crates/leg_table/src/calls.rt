@@ -27,6 +27,26 @@ fn is_call_at(calls: &[CallRec], place: usize, number: CallNo) -> bool
     }
 }
 
+fn number_of(call: &CallRec) -> u16
+    ensures number { result ≡ call.now.call.0 }
+    ensures small { call.now.call.0 < 65536 }
+{
+    call.call.0
+}
+
+/// How many calls these are: at most 65,536, since no number is that of two.
+pub(crate) fn count(calls: &[CallRec]) -> usize
+    requires { CallsRise calls.now }
+    ensures count { result ≡ length calls.now }
+    ensures few { length calls.now ≤ 65536 }
+{
+    let count = calls.len();
+    if count > 0 {
+        let _last = number_of(&calls[count - 1]);
+    }
+    count
+}
+
 // The place of the first call of this number or a greater one.
 fn place_of(calls: &[CallRec], number: CallNo) -> usize
     requires { CallsRise calls.now }
