@@ -1,5 +1,5 @@
 -- A leg that gets into use, or out of it: it stands and keeps its label.
-use Rattle.std.proofs.Common.{◌≡◌, ◌∙◌, ℕ, true, false, cond, List, inr, refl, sym, ap, subst}
+use Rattle.std.proofs.Common.{◌≡◌, ◌∙◌, ℕ, true, false, cond, List, inr, refl, sym, ap, subst, not}
 use Rattle.std.specs.Prelude.{◌&&◌, Option, Some, None, IfSome, IsSome}
 use Rattle.ason_base.specs.declared.calls.Phase.{Phase}
 use Rattle.ason_base.specs.declared.calls.Phase.TheVariants as phase
@@ -15,12 +15,12 @@ use Rattle.mesh_rules.specs.ActivationAnswers.{confirmed, contended, disarmed, i
 use Rattle.mesh_rules.specs.Activations.{armed_on, is_contended, path_again}
 use Rattle.mesh_rules.specs.Calls.{call_with}
 use Rattle.mesh_rules.specs.Changes.{Answer}
-use Rattle.mesh_rules.specs.Legs.{find_leg, following, is_armed, is_beyond_asked, is_held, is_in_use, is_over, previous, with_phase}
+use Rattle.mesh_rules.specs.Legs.{find_leg, following, is_active_backup, is_armed, is_beyond_asked, is_held, is_in_use, is_over, is_work, previous, with_phase}
 use Rattle.mesh_rules.specs.LocalNodes.{LocalNode}
 use Rattle.mesh_rules.specs.State.{NodeState}
 use Rattle.mesh_nodes.specs.Kept.{LegFits}
-use Rattle.mesh_nodes.proofs.Cases.{both_left, if_cases}
-use Rattle.mesh_nodes.proofs.Kept.{armed-beyond, held-beyond}
+use Rattle.mesh_nodes.proofs.Cases.{both_left, both_right, if_cases, not-true}
+use Rattle.mesh_nodes.proofs.Kept.{armed-beyond, held-beyond, in_use-beyond}
 use Rattle.leg_table.specs.declared.labels.TakenLabel.{TakenLabel}
 use Rattle.leg_table.specs.LegClaims.{MayBeMade, MayBePut, MayHave, StaysAs, WorksAreLive, taken, taken_of, taken_over}
 use Rattle.leg_table.proofs.CallLegs.{contended-none, first-never, turned-none}
@@ -41,10 +41,10 @@ armed-used phase.Live e unused = cc e
 armed-used phase.Closing e unused = cc e
 armed-used phase.Falling e unused = cc e
 
--- One leg, beyond Asked and not Live yet
+-- One leg, beyond Asked: a working one isn't Live yet
 
 module _ (legs : List Leg) (g : Leg) (live : WorksAreLive legs) (there : find_leg g.lsp legs ≡ Some g)
-    (beyond : is_beyond_asked g.phase ≡ true) (waits : g.phase ≡ phase.Live → ⊥) where
+    (beyond : is_beyond_asked g.phase ≡ true) (waits : is_work g.role ≡ true → g.phase ≡ phase.Live → ⊥) where
   -- where another leg on its label is in use it isn't activated
   abbrev pub Alone : Phase → Type 0
   Alone q = is_in_use g.phase ≡ false → is_in_use q ≡ true → is_contended legs g g.in_fibre g.in_label ≡ false
@@ -69,7 +69,7 @@ module _ (legs : List Leg) (g : Leg) (live : WorksAreLive legs) (there : find_le
     keeps = takes (Some f) (Some x) is label;
     role = refl;
     risks = refl;
-    live = λ work. absurd (waits (live g.lsp g there (subst IsSome (sym (takes (Some f) (Some x) is label)) refl) work));
+    live = λ work. absurd (waits work (live g.lsp g there (subst IsSome (sym (takes (Some f) (Some x) is label)) refl) work));
     alone = λ unused used.
         sym (ap (λ i. is_contended legs g i (Some x)) is) ∙ sym (ap (is_contended legs g g.in_fibre) label)
         ∙ alone unused used;
@@ -98,8 +98,16 @@ module _ (p : LocalNode) (s : NodeState) (g : Leg) (live : WorksAreLive s.legs)
       is_beyond_asked q ≡ true → MayBePut p s.legs (with_phase q g)
   held-put q held alone after =
       stays-put p s.legs (with_phase q g)
-      (phase-stays s.legs g live there (held-beyond g.phase held) (held-waits g.phase held) q after
+      (phase-stays s.legs g live there (held-beyond g.phase held) (λ work. held-waits g.phase held) q after
       (λ unused used. alone))
+
+  -- its activation is taken back
+  active-put : is_active_backup g ≡ true → MayBePut p s.legs (with_phase phase.Held g)
+  active-put active =
+      let backup : is_work g.role ≡ false = not-true (is_work g.role) (both_left (not (is_work g.role)) _ active) in
+      stays-put p s.legs (with_phase phase.Held g)
+      (phase-stays s.legs g live there (in_use-beyond g.phase (both_right (not (is_work g.role)) _ active))
+      (λ work live. cc (work, backup)) phase.Held refl (λ unused used. absurd (cc used)))
 
   armed_on-may : (route : List Step) (r : PathRole) (o : Option Neighbour) → is_held g.phase ≡ true →
       is_contended s.legs g g.in_fibre g.in_label ≡ false → MayBeMade p s.legs (armed_on g route r o).legs
@@ -109,7 +117,9 @@ module _ (p : LocalNode) (s : NodeState) (g : Leg) (live : WorksAreLive s.legs)
   pub path_again-may : (a : Arrival) (route : List Step) (r : PathRole) →
       MayBeMade p s.legs (path_again p s a route r g).legs
   path_again-may a route (role.Work guard) = tt
-  path_again-may a route (role.Back false work primary) = tt
+  path_again-may a route (role.Back false work primary) =
+      if_cases (λ (b : Answer). MayBeMade p s.legs b.legs) (is_active_backup g && is_over (previous g) a.from a.link) _ _
+      (λ e. (active-put (both_left (is_active_backup g) _ e), tt)) (λ e. tt)
   path_again-may a route (role.Back true work primary) =
       if_cases (λ (b : Answer). MayBeMade p s.legs b.legs) (is_held g.phase && is_over (previous g) a.from a.link) _ _
       (λ e. if_cases (λ (b : Answer). MayBeMade p s.legs b.legs) (is_contended s.legs g g.in_fibre g.in_label) _ _ (λ busy. tt)
@@ -121,7 +131,7 @@ module _ (p : LocalNode) (s : NodeState) (g : Leg) (live : WorksAreLive s.legs)
   armed-put : (q : Phase) → is_armed g.phase ≡ true → is_beyond_asked q ≡ true → MayBePut p s.legs (with_phase q g)
   armed-put q armed after =
       stays-put p s.legs (with_phase q g)
-      (phase-stays s.legs g live there (armed-beyond g.phase armed) (armed-waits g.phase armed) q after
+      (phase-stays s.legs g live there (armed-beyond g.phase armed) (λ work. armed-waits g.phase armed) q after
       (λ unused used. absurd (armed-used g.phase armed unused)))
 
   confirmed-may : (next : ℕ) (o : Option Neighbour) → LegFits p next g → previous g ≡ o → is_armed g.phase ≡ true →

@@ -1,5 +1,5 @@
 -- What a rule does to the calls of an ingress takes no label: the legs that begin there have none.
-use Rattle.std.proofs.Common.{◌≡◌, ℕ, Bool, true, false, cond, not, nat_eq, nat_lt, List, [], ◌∷◌, refl, sym, ap, subst, ◌∙◌, arith}
+use Rattle.std.proofs.Common.{◌≡◌, ℕ, Bool, true, false, cond, not, nat_eq, nat_lt, List, [], ◌∷◌, refl, sym, ap, subst, ◌∙◌, arith, nat_le, ◌+◌}
 use Rattle.std.specs.Prelude.{◌&&◌, Option, Some, None, IfSome, is_some}
 use Rattle.std.specs.List.{AllByRecursion}
 use Rattle.ason_base.specs.Codes.{busy_code}
@@ -8,7 +8,7 @@ use Rattle.ason_base.specs.declared.calls.CallState.{CallState}
 use Rattle.ason_base.specs.declared.calls.CallState.TheVariants.{Asking, Bare, Blocked, Guarded, Pairing, Stuck, Turned, Turning}
 use Rattle.ason_base.specs.declared.calls.Cause.TheVariants.{Code}
 use Rattle.ason_base.specs.declared.calls.Phase.{Phase}
-use Rattle.ason_base.specs.declared.calls.Phase.TheVariants.{Armed}
+use Rattle.ason_base.specs.declared.calls.Phase.TheVariants.{Armed, Held}
 use Rattle.ason_base.specs.declared.codes.ErrCode.{ErrCode}
 use Rattle.ason_base.specs.declared.ids.Fibre.{Fibre}
 use Rattle.ason_base.specs.declared.ids.Lsp.{Lsp}
@@ -23,23 +23,26 @@ use Rattle.mesh_rules.specs.declared.changes.LegChange.{LegChange}
 use Rattle.mesh_rules.specs.declared.changes.LegChange.TheVariants as leg
 use Rattle.mesh_rules.specs.declared.limits.TheConstants.{LAST_NUMBER}
 use Rattle.mesh_rules.specs.CallSteps.{call_answered, call_contended, call_refused, call_turned}
-use Rattle.mesh_rules.specs.Calls.{call_with, find_call, guarded, is_asking, is_pairing, is_stuck, is_turning, names, stuck, turned}
+use Rattle.mesh_rules.specs.Calls.{call_with, find_call, guarded, is_asking, is_pairing, is_stuck, is_turned, is_turning, names, stuck, turned}
 use Rattle.mesh_rules.specs.Changes.{Answer}
 use Rattle.mesh_rules.specs.FirstLegs.{first_link, is_full}
 use Rattle.mesh_rules.specs.KnownRows.{known_rows}
-use Rattle.mesh_rules.specs.Legs.{connected, find_leg, is_beyond_asked, is_held, is_work, leg_of, previous, with_phase}
+use Rattle.mesh_rules.specs.Legs.{connected, find_leg, is_beyond_asked, is_held, is_in_use, is_work, leg_of, previous, with_phase}
 use Rattle.mesh_rules.specs.LocalNodes.{LocalNode}
 use Rattle.mesh_rules.specs.Pairs.{backup_route, over_backup, pair, pair_over, route_from}
 use Rattle.mesh_rules.specs.Reports.{call_reported, fibre_into, report_here, reported_on, with_report}
 use Rattle.mesh_rules.specs.Retries.{retries, retry_with}
 use Rattle.mesh_rules.specs.State.{NodeState}
-use Rattle.mesh_rules.specs.Turns.{decide, decided, has_any, turn}
+use Rattle.mesh_rules.specs.Turns.{decide, decided, go_back, has_any, turn}
 use Rattle.mesh_nodes.specs.Kept.{CallFits, LegFits}
 use Rattle.mesh_nodes.proofs.Cases.{if_cases}
 use Rattle.mesh_nodes.proofs.Kept.{alone-fibre}
 use Rattle.mesh_nodes.proofs.LegList.{found-all, found-lsp}
 use Rattle.mesh_nodes.proofs.Links.{found-one}
 use Rattle.leg_table.specs.LegClaims.{MayBeMade, MayBePut, MayHave, TakesNone, taken, taken_over}
+use Rattle.mesh_rules.specs.Reverts.{revert_with, reverts}
+use Rattle.mesh_rules.specs.Waits.{all_ticked, on_tick, ticked}
+use Rattle.mesh_nodes.proofs.Alarms.{all-append}
 
 abbrev pub TakesNo : Answer → Type 0
 TakesNo a = AllByRecursion TakesNone a.legs
@@ -128,6 +131,10 @@ turn-none : (c : CallRec) (o : Option Leg) → IfSome o NeverTakes → TakesNo (
 turn-none c None never = tt
 turn-none c (Some b) never = if_cases TakesNo (is_held b.phase) _ _ (λ e. (never Armed, tt)) (λ e. tt)
 
+pub go_back-none : (c : CallRec) (o : Option Leg) → IfSome o NeverTakes → TakesNo (go_back c o)
+go_back-none c None never = tt
+go_back-none c (Some b) never = if_cases TakesNo (is_in_use b.phase) _ _ (λ e. (never Held, tt)) (λ e. tt)
+
 decide-none : (c : CallRec) (o : Option Leg) → IfSome o NeverTakes → TakesNo (decide c o)
 decide-none c o never = go c.state (has_any c.work_reports) (has_any c.back_reports)
   where
@@ -140,7 +147,9 @@ decide-none c o never = go c.state (has_any c.work_reports) (has_any c.back_repo
     go Guarded true true = tt
     go Guarded false backs = tt
     go Turning works backs = tt
-    go Turned works backs = tt
+    go Turned true backs = tt
+    go Turned false true = go_back-none c o never
+    go Turned false false = tt
     go Stuck true backs = tt
     go Stuck false backs = tt
 
@@ -173,7 +182,7 @@ contended-none b None never = tt
 contended-none b (Some c) never =
     if_cases TakesNo (is_turning c.state) _ _ (λ e. decide-none (stuck c (Code busy_code)) (Some b) never) (λ e. tt)
 
--- Reports, and orders to try again
+-- Reports, and orders to try again and to go back
 
 module _ (p : LocalNode) (s : NodeState) (next : ℕ) (each : AllByRecursion (LegFits p next) s.legs)
     (calls : AllByRecursion (CallFits p) s.calls) where
@@ -202,3 +211,32 @@ module _ (p : LocalNode) (s : NodeState) (next : ℕ) (each : AllByRecursion (Le
   retry-none n from (Some c) found =
       if_cases TakesNo (nat_eq from.0 p.id.0) _ _
       (λ e. retries-none c (found-one (CallFits p) (λ b. nat_eq b.call.0 n.0) s.calls c found calls)) (λ e. tt)
+
+  reverts-none : (c : CallRec) → CallFits p c → TakesNo (reverts s c)
+  reverts-none c here =
+      if_cases TakesNo (is_turned c.state && not (has_any c.work_reports)) _ _
+      (λ e. go_back-none c (leg_of c.back s.legs) (back-never p next s.legs c.back each here.back)) (λ e. tt)
+
+  pub revert-none : (n : CallNo) (from : NodeId) (o : Option CallRec) → find_call n s.calls ≡ o →
+      TakesNo (revert_with p s from o)
+  revert-none n from None found = tt
+  revert-none n from (Some c) found =
+      if_cases TakesNo (nat_eq from.0 p.id.0) _ _
+      (λ e. reverts-none c (found-one (CallFits p) (λ b. nat_eq b.call.0 n.0) s.calls c found calls)) (λ e. tt)
+
+  -- Ticks
+
+  ticked-none : (c : CallRec) → CallFits p c → TakesNo (ticked p.wait s.legs c)
+  ticked-none c here =
+      if_cases TakesNo (not (nat_eq p.wait 0) && (is_turned c.state && not (has_any c.work_reports))) _ _
+      (λ e. if_cases TakesNo (nat_le p.wait (c.ticks + 1)) _ _
+      (λ e. go_back-none c (leg_of c.back s.legs) (back-never p next s.legs c.back each here.back)) (λ e. tt)) (λ e. tt)
+
+  all_ticked-none : (cs : List CallRec) → AllByRecursion (CallFits p) cs → TakesNo (all_ticked p.wait s.legs cs)
+  all_ticked-none [] fits = tt
+  all_ticked-none (c ∷ cs) fits =
+      all-append TakesNone (ticked p.wait s.legs c).legs (all_ticked p.wait s.legs cs).legs (ticked-none c fits.0)
+      (all_ticked-none cs fits.1)
+
+  pub tick-none : TakesNo (on_tick p s)
+  tick-none = all_ticked-none s.calls calls

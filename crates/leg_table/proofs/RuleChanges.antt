@@ -55,10 +55,12 @@ use Rattle.mesh_nodes.proofs.LegList.{found-all, found-lsp}
 use Rattle.mesh_nodes.proofs.Links.{any-found}
 use Rattle.leg_table.specs.LegClaims.{MayBeMade, MayBePut, MayHave, MayTake, WorksAreLive, is_fibre_in, taken, taken_of, taken_over}
 use Rattle.leg_table.proofs.Activated.{contended-may, path_again-may, resv_again-may}
-use Rattle.leg_table.proofs.CallLegs.{answered-none, bare, connected-never, none-may, pair-none, refused-none, reported-none, retry-none}
+use Rattle.leg_table.proofs.CallLegs.{answered-none, bare, connected-never, none-may, pair-none, refused-none, reported-none, retry-none, revert-none, tick-none}
 use Rattle.leg_table.proofs.InFibres.{upstream-fibre_in}
 use Rattle.leg_table.proofs.MayPut.{asked-taken, closed-may, closed-taken, least-has, met-usable}
 use Rattle.leg_table.proofs.OwnerFibres.{same_fibre-refl}
+use Rattle.mesh_rules.specs.Reverts.{on_revert}
+use Rattle.mesh_rules.specs.Waits.{on_tick}
 
 abbrev Fine : LocalNode → List Leg → Answer → Type 0
 Fine p legs a = MayBeMade p legs a.legs
@@ -338,7 +340,16 @@ retry-may p s next n from each calls =
     none-may p s.legs (on_retry p s n from).legs
     (retry-none p s next each calls n from (find_call n s.calls) refl)
 
--- Every message and item
+-- Revert
+
+revert-may : (p : LocalNode) (s : NodeState) (next : ℕ) (n : CallNo) (from : NodeId) →
+    AllByRecursion (LegFits p next) s.legs → AllByRecursion (CallFits p) s.calls →
+    MayBeMade p s.legs (on_revert p s n from).legs
+revert-may p s next n from each calls =
+    none-may p s.legs (on_revert p s n from).legs
+    (revert-none p s next each calls n from (find_call n s.calls) refl)
+
+-- Every message, item and tick
 
 pub message-may : (p : LocalNode) (s : NodeState) (next : ℕ) (u : NodeId) (m : Msg) →
     AllByRecursion (LegFits p next) s.legs → AllByRecursion (CallFits p) s.calls → WorksAreLive s.legs →
@@ -368,10 +379,14 @@ item-may p s next (Order (Setup n from to protected both via backup)) each calls
 item-may p s next (Order (Release n from)) each calls = release-may p s from (find_call n s.calls)
 item-may p s next (Order (Protect n from)) each calls = protect-may p s from (find_call n s.calls)
 item-may p s next (Order (Retry n from)) each calls = retry-may p s next n from each calls
-item-may p s next (Order (Revert n from)) each calls = tt
+item-may p s next (Order (Revert n from)) each calls = revert-may p s next n from each calls
 item-may p s next (Order (Fail g)) each calls = tt
 item-may p s next (Order (Repair g)) each calls = tt
 item-may p s next (Alarm f) each calls =
     if_cases (Fine p s.legs) (enters p f (own_link p f.link) && not (has_fibre s.down f)) _ _ (λ e. tt) (λ e. tt)
 item-may p s next (Clear f) each calls =
     if_cases (Fine p s.legs) (enters p f (own_link p f.link) && has_fibre s.down f) _ _ (λ e. tt) (λ e. tt)
+
+pub tick-may : (p : LocalNode) (s : NodeState) (next : ℕ) → AllByRecursion (LegFits p next) s.legs →
+    AllByRecursion (CallFits p) s.calls → MayBeMade p s.legs (on_tick p s).legs
+tick-may p s next each calls = none-may p s.legs (on_tick p s).legs (tick-none p s next each calls)
