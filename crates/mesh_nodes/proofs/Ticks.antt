@@ -11,12 +11,12 @@ use Rattle.ason_base.specs.Lsps.{same_lsp}
 use Rattle.mesh_rules.specs.declared.changes.CallChange.{CallChange}
 use Rattle.mesh_rules.specs.declared.changes.LegChange.{LegChange}
 use Rattle.mesh_rules.specs.Calls.{call_changed, calls_changed, guarded, is_turned}
-use Rattle.mesh_rules.specs.Changes.{Answer, followed_by, nothing}
+use Rattle.mesh_rules.specs.Changes.{Answer, changed, followed_by, nothing}
 use Rattle.mesh_rules.specs.Legs.{find_leg, following, is_in_use, leg_changed, leg_of, legs_changed, with_leg, with_phase}
 use Rattle.mesh_rules.specs.LocalNodes.{LocalNode}
 use Rattle.mesh_rules.specs.State.{NodeState}
 use Rattle.mesh_rules.specs.Turns.{call_put, disarms, go_back, has_any, taking_path}
-use Rattle.mesh_rules.specs.Waits.{all_ticked, ticked, waits}
+use Rattle.mesh_rules.specs.Waits.{all_ticked, on_tick, ticked, waits}
 use Rattle.mesh_nodes.specs.Kept.{CallFits, CallsFit, LegFits, LegsFit, NodeFits}
 use Rattle.mesh_nodes.specs.Laws.{TicksFit}
 use Rattle.mesh_nodes.specs.Sent.{AllToNeighbours, AllWritable}
@@ -175,22 +175,27 @@ module _ (p : LocalNode) (s : NodeState) (fits : NodeFits p s) where
     stay = λ l g found. ap is_some found;
   }
 
-pub ticks-fit : TicksFit
-ticks-fit p s fits few = record {
-  kept = rw (all.numbers) (record {
+module _ (p : LocalNode) (s : NodeState) (fits : NodeFits p s) where
+  all : Ticks p s fits (length s.calls) (all_ticked p.wait s.legs s.calls)
+  all = all_ticked-ticks p s fits s.calls fits.calls.each
+
+  stand : Stand p s fits (legs_changed (all_ticked p.wait s.legs s.calls).legs s.legs)
+      (calls_changed (all_ticked p.wait s.legs s.calls).calls s.calls)
+  stand = all.stands s.legs s.calls (at-start p s fits)
+
+  -- what the node keeps fits, however many calls it has
+  pub tick-kept : NodeFits p (changed s (on_tick p s))
+  tick-kept = rw (all.numbers) (record {
     legs = stand.legs_fit;
     calls = stand.calls_fit;
     first = fits.first;
     numbers = fits.numbers;
-  });
-  near = all.near;
-  written = λ w. all.written;
-  few = (let short = all.few in omega arith);
-}
-  where
-    all : Ticks p s fits (length s.calls) (all_ticked p.wait s.legs s.calls)
-    all = all_ticked-ticks p s fits s.calls fits.calls.each
+  })
 
-    stand : Stand p s fits (legs_changed (all_ticked p.wait s.legs s.calls).legs s.legs)
-        (calls_changed (all_ticked p.wait s.legs s.calls).calls s.calls)
-    stand = all.stands s.legs s.calls (at-start p s fits)
+pub ticks-fit : TicksFit
+ticks-fit p s fits few = record {
+  kept = tick-kept p s fits;
+  near = (all p s fits).near;
+  written = λ w. (all p s fits).written;
+  few = (let short = (all p s fits).few in omega arith);
+}
