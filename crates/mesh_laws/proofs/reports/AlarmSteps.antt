@@ -30,7 +30,7 @@ use Rattle.mesh_laws.proofs.hops.Plans.{Plan, distinct, fibre_at, hops, link_at,
 use Rattle.mesh_laws.proofs.hops.Rest.{Purpose}
 use Rattle.mesh_laws.proofs.hops.Views.{notices-else, notices-from}
 use Rattle.mesh_laws.proofs.reports.Alarmed.{elsewhere-told, hit-told, missed-told, none-told, one-told, told-all-append}
-use Rattle.mesh_laws.proofs.reports.Gentle.{CallOf, PlaceTold, RouteTold, Stands, Untold, commit-gentle, gentle-told, has_plain, line_at}
+use Rattle.mesh_laws.proofs.reports.Gentle.{CallOf, PlaceTold, RouteTold, Stands, Untold, commit-gentle, gentle-told, has_plain, is_waiting, line_at}
 use Rattle.mesh_laws.proofs.reports.GentleAnswers.{nothing-gentle}
 use Rattle.mesh_laws.proofs.reports.KnownFibres.{has-less, has-more, same_fibre-is}
 use Rattle.mesh_laws.proofs.reports.OnTheWay.{same_lines, sent_told}
@@ -241,8 +241,12 @@ module _ (t : Network) (s : Mesh) (n : NodeId) (o : Routes) (f : Fibre) (code : 
   pub alarm-told : RouteTold t later l p
   alarm-told = record {
     tells = tells-later;
-    first = λ i small plain. (
-        let was = r.first i small (ap has_plain (sym (mail-same (node_at p i) (node_at p (suc i)))) ∙ plain) in
+    first = λ i small stands sent. (
+        let was = r.first i small (stands-before i stands)
+        (ap (λ o. is_waiting o && has_plain (mail_between s l (node_at p i) (node_at p (suc i))))
+        (sym (leg-same (node_at p i)))
+        ∙ ap (λ ms. is_waiting (leg_at later l (node_at p i)) && has_plain ms)
+        (sym (mail-same (node_at p i) (node_at p (suc i)))) ∙ sent) in
         record {
           gone = λ j after below. leg-same (node_at p (suc j)) ∙ was.gone j after below;
           untold = λ j after below. untold-later j (was.gone j after below) (was.untold j after below);

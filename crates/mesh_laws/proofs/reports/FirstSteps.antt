@@ -1,8 +1,10 @@
 -- The first Path of an LSP is taken on its route: what its reports tell stays.
-use Rattle.std.proofs.Common.{◌≡◌, ◌≢◌, ◌≤◌, ◌<◌, ℕ, zero, suc, Bool, true, false, cond, nat_eq, List, [], ◌∷◌, refl, sym, ap, ◌∙◌, subst, arith, inl, inr}
-use Rattle.std.specs.Prelude.{◌⊎◌, Option, Some, None}
+use Rattle.std.proofs.Common.{◌≡◌, ◌≢◌, ◌≤◌, ◌<◌, ℕ, zero, suc, Bool, true, false, cond, nat_eq, not, List, [], ◌∷◌, refl, sym, ap, ◌∙◌, subst, arith, inl, inr}
+use Rattle.std.specs.Prelude.{◌&&◌, ◌⊎◌, map, Option, Some, None}
 use Rattle.ason_base.specs.Lsps.{has_fibre}
 use Rattle.ason_base.specs.Network.{Network}
+use Rattle.ason_base.specs.declared.calls.Phase.{Phase}
+use Rattle.ason_base.specs.declared.calls.Phase.TheVariants.{Armed, Asked, Closing, Falling, Held, Live}
 use Rattle.ason_base.specs.declared.ids.LinkId.{LinkId}
 use Rattle.ason_base.specs.declared.ids.Lsp.{Lsp}
 use Rattle.ason_base.specs.declared.ids.NodeId.{NodeId}
@@ -11,30 +13,35 @@ use Rattle.ason_base.specs.declared.messages.Msg.TheVariants.{Path, Resv, PathTe
 use Rattle.ason_base.specs.declared.messages.PathRole.{PathRole}
 use Rattle.ason_base.specs.declared.steps.Step.{Step}
 use Rattle.ason_base.specs.declared.tables.CallRec.{CallRec}
+use Rattle.ason_base.specs.declared.tables.Leg.{Leg}
 use Rattle.mesh_rules.specs.Calls.{calls_changed, find_call}
 use Rattle.mesh_rules.specs.Changes.{Answer, changed}
+use Rattle.mesh_rules.specs.Legs.{is_asked, is_closing}
 use Rattle.mesh_rules.specs.LocalNodes.{LocalNode, local_node, own_link}
 use Rattle.mesh_rules.specs.Machine.{Mesh, commit, without_first}
 use Rattle.mesh_rules.specs.Messages.{arrival, on_message}
 use Rattle.mesh_rules.specs.Paths.{PathRequest, first_path, is_active}
 use Rattle.mesh_nodes.specs.Routes.{AreRowsOf}
+use Rattle.mesh_nodes.proofs.Cases.{both_right}
 use Rattle.mesh_nodes.proofs.LearnsNothing.{message-keeps_down}
 use Rattle.mesh_nodes.proofs.LegList.{same_lsp-refl}
 use Rattle.mesh_laws.specs.HopLaw.{leg_at, mail_between, messages_of, notices_between}
-use Rattle.mesh_laws.specs.HopShapes.{PlainPath, path_kind}
+use Rattle.mesh_laws.specs.HopShapes.{AskedLeg, ClosingLeg, NoLeg, PlainPath, Shape, leg_kind, msg_kind, path_kind, phase_kind}
 use Rattle.mesh_laws.specs.ReportLaw.{is_standing, on_the_way, reports_of, told, told_by_all}
 use Rattle.mesh_laws.proofs.hops.Chain.{IsVacant, below_or_not, is_or_not}
 use Rattle.mesh_laws.proofs.hops.Own.{own-leg_part, sent-plain}
 use Rattle.mesh_laws.proofs.hops.PathRule as path_rule
 use Rattle.mesh_laws.proofs.hops.Planned.{Planned, Routes}
 use Rattle.mesh_laws.proofs.hops.Plans.{Leads, Plan, distinct, fibre_at, hops, link_at, node_at, own_far}
-use Rattle.mesh_laws.proofs.hops.Rest.{Purpose, has_path, plain_inactive}
+use Rattle.mesh_laws.proofs.hops.Rest.{Purpose, has_path, plain_inactive, role_of}
+use Rattle.mesh_laws.proofs.hops.Rows.{first_taken}
 use Rattle.mesh_laws.proofs.hops.Sending.{elsewhere-taken, left-taken}
 use Rattle.mesh_laws.proofs.hops.Tables.{leg_after}
+use Rattle.mesh_laws.proofs.hops.Taken.{down_hop}
 use Rattle.mesh_laws.proofs.hops.Views.{leg-here, leg-there, notices-plain, notices-without}
 use Rattle.mesh_laws.proofs.reports.Desks.{same-down}
 use Rattle.mesh_laws.proofs.reports.FirstPaths.{clear-first_path, no_calls-first_path}
-use Rattle.mesh_laws.proofs.reports.Gentle.{CallOf, IsUnreached, PlaceTold, RouteTold, Stands, Untold, has_plain, line_at}
+use Rattle.mesh_laws.proofs.reports.Gentle.{CallOf, IsUnreached, PlaceTold, RouteTold, Stands, Untold, has_plain, is_first, is_waiting, line_at}
 use Rattle.mesh_laws.proofs.reports.OnTheWay.{same_lines}
 
 -- where no line tells anything, nothing is on the way
@@ -42,6 +49,32 @@ pub silent-way : (line : ℕ → List Bool) (i : ℕ) → ((j : ℕ) → j < i �
 silent-way line zero none = refl
 silent-way line (suc i) none =
     rw (silent-way line i (λ j less. none j (omega arith)), none i (omega arith)) refl
+
+-- an Asked leg waits, and a torn one doesn't stand
+
+asked-waits : (o : Option Leg) → leg_kind o ≡ AskedLeg → is_waiting o ≡ true
+asked-waits None e = absurd (cc e)
+asked-waits (Some g) e = go g.phase e
+  where
+    go : (f : Phase) → phase_kind f ≡ AskedLeg → is_asked f ≡ true
+    go Asked e = refl
+    go Held e = absurd (cc e)
+    go Armed e = absurd (cc e)
+    go Live e = absurd (cc e)
+    go Closing e = absurd (cc e)
+    go Falling e = absurd (cc e)
+
+closing-torn : (o : Option Leg) → leg_kind o ≡ ClosingLeg → is_standing o ≡ false
+closing-torn None e = absurd (cc e)
+closing-torn (Some g) e = go g.phase e
+  where
+    go : (f : Phase) → phase_kind f ≡ ClosingLeg → not (is_closing f) ≡ false
+    go Asked e = absurd (cc e)
+    go Held e = absurd (cc e)
+    go Armed e = absurd (cc e)
+    go Live e = absurd (cc e)
+    go Closing e = refl
+    go Falling e = absurd (cc e)
 
 -- a plain Path is a Path
 plain-path : (ms : List Msg) → has_plain ms ≡ true → has_path ms ≡ true
@@ -91,24 +124,38 @@ module _ (t : Network) (s : Mesh) (o : Routes) (l : Lsp) (q : Purpose) (p : Plan
   inactive : is_active purpose ≡ false
   inactive = plain_inactive purpose plain
 
-  -- the Path is on this hop
-  unreached : IsUnreached t s l p i
-  unreached = r.first i below (rw (mine, inactive) refl)
+  -- where the leg that sent the Path stands, it is Asked
+  waits : is_standing (leg_at s l (node_at p i)) ≡ true → is_waiting (leg_at s l (node_at p i)) ≡ true
+  waits stands = elim (first_taken (role_of q) _ _ _ shape).bare [
+    | inl asked ↦ asked-waits (leg_at s l (node_at p i)) asked
+    | inr closing ↦ absurd (let torn = closing-torn (leg_at s l (node_at p i)) closing in cc (torn, stands))
+  ]
+    where
+      shape : Shape (role_of q) (leg_kind (leg_at s l (node_at p i))) NoLeg
+          (PlainPath ∷ map msg_kind (messages_of l rest))
+          (map msg_kind (mail_between s l (node_at p (suc i)) (node_at p i)))
+      shape = rw (none, plain) at
+          (down_hop t q s l p i pl.route pl.chain below m rest was (same_lsp-refl l)).shape
 
-  vacant : (x : ℕ) → x < hops p → has_plain (mail_between s l (node_at p x) (node_at p (suc x))) ≡ true →
+  -- the Path is on this hop
+  unreached : Stands s l p i → IsUnreached t s l p i
+  unreached stands =
+      r.first i below stands (rw (waits (stands i (omega arith)), mine, inactive) refl)
+
+  vacant : (x : ℕ) → x < hops p → Stands s l p x → is_first s l (node_at p x) (node_at p (suc x)) ≡ true →
       (y : ℕ) → x < y → y ≤ hops p → IsVacant p (leg_at s l) (mail_between s l) y
-  vacant x small has y after most =
+  vacant x small stands sent y after most =
       pl.chain.fresh x small
       (record {
-        gone = (r.first x small has).gone x (omega arith) small;
-        path = plain-path
-            (mail_between s l (node_at p x) (node_at p (suc x))) has;
+        gone = (r.first x small stands sent).gone x (omega arith) small;
+        path = plain-path (mail_between s l (node_at p x) (node_at p (suc x)))
+            (both_right (is_waiting (leg_at s l (node_at p x))) _ sent);
       }) y after most
 
   -- no other hop before has one
-  alone : (x : ℕ) → x < i → has_plain (mail_between s l (node_at p x) (node_at p (suc x))) ≡ true → ⊥
-  alone x less has =
-      let empty = (vacant x (omega arith) has i less (omega arith)).no_down below in
+  alone : (x : ℕ) → x < i → Stands s l p x → is_first s l (node_at p x) (node_at p (suc x)) ≡ true → ⊥
+  alone x less stands sent =
+      let empty = (vacant x (omega arith) stands sent i less (omega arith)).no_down below in
       let some = mine in cc (empty, some)
 
   -- What stays
@@ -160,13 +207,18 @@ module _ (t : Network) (s : Mesh) (o : Routes) (l : Lsp) (q : Purpose) (p : Plan
 
   -- Places
 
+  stands-before : (x : ℕ) → x ≤ i → (y : ℕ) → x ≤ y → Stands later l p y → Stands s l p x
+  stands-before x near y most stands z less =
+      subst (λ v. is_standing v ≡ true) (place-else z (let b = below in omega arith) (omega arith))
+      (stands z (omega arith))
+
   -- a place before
   before-told : (x : ℕ) → x < i → Stands later l p (suc x) → (c : CallRec) → CallOf later l c
       → PlaceTold t later l p x c
   before-told x less stands c of =
       ap (told (has_fibre (reports_of l c) (fibre_at t p x))) (way-same x)
-      ∙ r.tells x (let b = below in omega arith) (λ y most. subst (λ v. is_standing v ≡ true)
-      (place-else y (let b = below in omega arith) (omega arith)) (stands y most)) c (call-same c of)
+      ∙ r.tells x (let b = below in omega arith) (stands-before (suc x) (omega arith) (suc x) (omega arith) stands) c
+      (call-same c of)
       ∙ ap (λ ds. has_fibre ds (fibre_at t p x)) (sym (down-same (node_at p (suc x)).0))
 
   -- the leg that comes
@@ -197,7 +249,8 @@ module _ (t : Network) (s : Mesh) (o : Routes) (l : Lsp) (q : Purpose) (p : Plan
 
   here-told : Stands later l p (suc i) → (c : CallRec) → CallOf later l c → PlaceTold t later l p i c
   here-told stands c of =
-      let untold = unreached.untold i (omega arith) below in
+      let before = unreached (stands-before i (omega arith) (suc i) (omega arith) stands) in
+      let untold = before.untold i (omega arith) below in
       ap (told (has_fibre (reports_of l c) (fibre_at t p i)))
       (way-same i ∙ silent-way (line_at (notices_between s l) p i) (suc i)
       (λ y less. untold.notices (node_at p (suc y)) (node_at p y)))
@@ -205,9 +258,10 @@ module _ (t : Network) (s : Mesh) (o : Routes) (l : Lsp) (q : Purpose) (p : Plan
       ∙ sym (ap (λ ds. has_fibre ds (fibre_at t p i)) (down-same (node_at p (suc i)).0)
       ∙ over-clear (stands (suc i) (omega arith)))
 
-  after-never : (x : ℕ) → x < hops p → i < x → Stands later l p (suc x) → ⊥
-  after-never x small less stands =
-      let gone : leg_at s l (node_at p (suc (suc i))) ≡ None = unreached.gone (suc i) (omega arith) (omega arith) in
+  after-never : (x : ℕ) → suc i < x → x ≤ hops p → Stands later l p x → ⊥
+  after-never x less small stands =
+      let gone : leg_at s l (node_at p (suc (suc i))) ≡ None =
+      (unreached (stands-before i (omega arith) x (omega arith) stands)).gone (suc i) (omega arith) (omega arith) in
       let now : leg_at later l (node_at p (suc (suc i))) ≡ None =
       place-else (suc (suc i)) (omega arith) (omega arith) ∙ gone in
       let stand = stands (suc (suc i)) (omega arith) in
@@ -227,9 +281,9 @@ module _ (t : Network) (s : Mesh) (o : Routes) (l : Lsp) (q : Purpose) (p : Plan
     untold = λ y most small. untold-same y (un.untold y most small);
   }
 
-  first-later : (x : ℕ) → x < hops p →
-      has_plain (mail_between later l (node_at p x) (node_at p (suc x))) ≡ true → IsUnreached t later l p x
-  first-later x small has = go (is_or_not x i) (is_or_not x (suc i))
+  first-later : (x : ℕ) → x < hops p → Stands later l p x →
+      is_first later l (node_at p x) (node_at p (suc x)) ≡ true → IsUnreached t later l p x
+  first-later x small stands sent = go (is_or_not x i) (is_or_not x (suc i))
     where
       last : has_path (messages_of l rest) ≡ false
       last = path_rule.last t q s l p i pl.route pl.chain below e k steps set label purpose rest was learnt plain none
@@ -239,13 +293,15 @@ module _ (t : Network) (s : Mesh) (o : Routes) (l : Lsp) (q : Purpose) (p : Plan
           let left : mail_between later l (node_at p i) (node_at p (suc i)) ≡ messages_of l rest =
           left-taken s u d l answer m rest far was in
           let has-i : has_plain (mail_between later l (node_at p i) (node_at p (suc i))) ≡ true =
-          subst (λ y. has_plain (mail_between later l (node_at p y) (node_at p (suc y))) ≡ true) at has in
+          subst (λ y. has_plain (mail_between later l (node_at p y) (node_at p (suc y))) ≡ true) at
+          (both_right (is_waiting (leg_at later l (node_at p x))) _ sent) in
           let path = plain-path (messages_of l rest) (ap has_plain (sym left) ∙ has-i) in
           absurd (let never = last in cc (never, path))
       go (inr apart) (inl next) =
+          let before = unreached (stands-before i (omega arith) x (omega arith) stands) in
           unreached-after x (omega arith) (record {
-            gone = λ y most less. unreached.gone y (omega arith) less;
-            untold = λ y most less. unreached.untold y (omega arith) less;
+            gone = λ y most less. before.gone y (omega arith) less;
+            untold = λ y most less. before.untold y (omega arith) less;
           })
       go (inr apart) (inr not-next) = elsewhere (below_or_not x i)
         where
@@ -256,12 +312,15 @@ module _ (t : Network) (s : Mesh) (o : Routes) (l : Lsp) (q : Purpose) (p : Plan
               (distinct t l.ingress p pl.route x (suc i) (omega arith) (let b = below in omega arith) not-next)
               (inl (distinct t l.ingress p pl.route x i (omega arith) (let b = below in omega arith) apart))
 
-          was-there : has_plain (mail_between s l (node_at p x) (node_at p (suc x))) ≡ true
-          was-there = ap has_plain (sym same-mail) ∙ has
+          was-there : is_first s l (node_at p x) (node_at p (suc x)) ≡ true
+          was-there =
+              ap (λ o. is_waiting o && has_plain (mail_between s l (node_at p x) (node_at p (suc x))))
+              (sym (place-else x (omega arith) not-next))
+              ∙ ap (λ ms. is_waiting (leg_at later l (node_at p x)) && has_plain ms) (sym same-mail) ∙ sent
 
           elsewhere : (x < i) ⊎ (i ≤ x) → IsUnreached t later l p x
-          elsewhere (inl less) = absurd (alone x less was-there)
-          elsewhere (inr most) = unreached-after x (omega arith) (r.first x small was-there)
+          elsewhere (inl less) = absurd (alone x less (stands-before x (omega arith) x (omega arith) stands) was-there)
+          elsewhere (inr most) = absurd (after-never x (omega arith) (omega arith) stands)
 
   pub first_path-told : RouteTold t later l p
   first_path-told = record {
@@ -270,7 +329,7 @@ module _ (t : Network) (s : Mesh) (o : Routes) (l : Lsp) (q : Purpose) (p : Plan
           (here-told (subst (λ y. Stands later l p (suc y)) at stands) c of)
       | inr apart ↦ elim (below_or_not x i) [
         | inl less ↦ before-told x less stands c of
-        | inr most ↦ absurd (after-never x small (omega arith) stands)
+        | inr most ↦ absurd (after-never (suc x) (omega arith) small stands)
       ]
     ];
     first = first-later;

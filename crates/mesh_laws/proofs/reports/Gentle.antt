@@ -20,15 +20,16 @@ use Rattle.mesh_rules.specs.declared.changes.CallChange.{CallChange}
 use Rattle.mesh_rules.specs.declared.changes.LegChange.{LegChange}
 use Rattle.mesh_rules.specs.Calls.{calls_changed, find_call, names}
 use Rattle.mesh_rules.specs.Changes.{Answer, changed}
-use Rattle.mesh_rules.specs.Legs.{find_leg}
+use Rattle.mesh_rules.specs.Legs.{find_leg, is_asked}
 use Rattle.mesh_rules.specs.Machine.{Mesh, commit, sent_to, without_first}
 use Rattle.mesh_rules.specs.Paths.{is_active}
 use Rattle.mesh_rules.specs.State.{NodeState}
 use Rattle.mesh_nodes.proofs.CallList.{found-number}
+use Rattle.mesh_nodes.proofs.Cases.{both_left, both_right}
 use Rattle.mesh_laws.specs.HopLaw.{is_message_of, is_notice, is_notice_of, leg_at, lsp_of, mail_between, messages_of, notices_between, notices_of}
 use Rattle.mesh_laws.specs.ReportLaw.{is_standing, on_the_way, reports_of, told, told_by_all}
 use Rattle.mesh_laws.proofs.hops.Plans.{Plan, fibre_at, hops, link_at, node_at}
-use Rattle.mesh_laws.proofs.hops.Tables.{leg_after}
+use Rattle.mesh_laws.proofs.hops.Tables.{find-changed, leg_after}
 use Rattle.mesh_laws.proofs.hops.Views.{leg-here, notices-without}
 use Rattle.mesh_laws.proofs.reports.Desks.{same-down}
 
@@ -52,6 +53,11 @@ PlaceTold t s l p i c =
     told (has_fibre (reports_of l c) (fibre_at t p i)) (on_the_way (line_at (notices_between s l) p i) (suc i))
     ≡ has_fibre (s.nodes (node_at p (suc i)).0).down (fibre_at t p i)
 
+-- a leg that waits for its labels
+abbrev pub is_waiting : Option Leg → Bool
+is_waiting None = false
+is_waiting (Some g) = is_asked g.phase
+
 -- nothing was told of the fibre from this place on
 pub record Untold (t : Network) (s : Mesh) (l : Lsp) (p : Plan) (j : ℕ) : Type 0 where
   pub notices : (a b : NodeId) → told_by_all (node_at p (suc j)) (link_at p j) (notices_between s l a b) ≡ []
@@ -68,6 +74,10 @@ is_plain (Notify l e at k code) = false
 abbrev pub has_plain : List Msg → Bool
 has_plain ms = list_any is_plain ms
 
+-- the first Path of the LSP is under way: one that doesn't activate, while the leg that sent it is Asked
+abbrev pub is_first : Mesh → Lsp → NodeId → NodeId → Bool
+is_first s l a b = is_waiting (leg_at s l a) && has_plain (mail_between s l a b)
+
 -- no leg stands after this hop, and nothing was told from there on
 pub record IsUnreached (t : Network) (s : Mesh) (l : Lsp) (p : Plan) (i : ℕ) : Type 0 where
   pub gone : (j : ℕ) → i ≤ j → j < hops p → leg_at s l (node_at p (suc j)) ≡ None
@@ -76,24 +86,24 @@ pub record IsUnreached (t : Network) (s : Mesh) (l : Lsp) (p : Plan) (i : ℕ) :
 pub record RouteTold (t : Network) (s : Mesh) (l : Lsp) (p : Plan) : Type 0 where
   -- where the LSP stands up to a place, what its Notifies tell is what is known there
   pub tells : (i : ℕ) → i < hops p → Stands s l p (suc i) → (c : CallRec) → CallOf s l c → PlaceTold t s l p i c
-  -- a Path that doesn't activate is the first one
-  pub first : (i : ℕ) → i < hops p → has_plain (mail_between s l (node_at p i) (node_at p (suc i))) ≡ true →
-      IsUnreached t s l p i
+  -- where the LSP stands up to its first Path, nothing is reached beyond that
+  pub first : (i : ℕ) → i < hops p → Stands s l p i →
+      is_first s l (node_at p i) (node_at p (suc i)) ≡ true → IsUnreached t s l p i
 
 -- Gentle steps
 
--- the legs that stand stood before, none comes anew, and no Path but such as activate is sent
+-- the legs that stand stood before, none comes anew, and no first Path is sent
 pub record Still (s s' : Mesh) (l : Lsp) : Type 0 where
   pub stands : (n : NodeId) → is_standing (leg_at s' l n) ≡ true → is_standing (leg_at s l n) ≡ true
   pub gone : (n : NodeId) → leg_at s l n ≡ None → leg_at s' l n ≡ None
-  pub plain : (a b : NodeId) → has_plain (mail_between s' l a b) ≡ true → has_plain (mail_between s l a b) ≡ true
+  pub first : (a b : NodeId) → is_first s' l a b ≡ true → is_first s l a b ≡ true
   pub down : (n : ℕ) → (s'.nodes n).down ≡ (s.nodes n).down
 
 pub still-then : (s s' s'' : Mesh) (l : Lsp) → Still s s' l → Still s' s'' l → Still s s'' l
 still-then s s' s'' l a b = record {
   stands = λ n h. a.stands n (b.stands n h);
   gone = λ n h. b.gone n (a.gone n h);
-  plain = λ x y h. a.plain x y (b.plain x y h);
+  first = λ x y h. a.first x y (b.first x y h);
   down = λ n. b.down n ∙ a.down n;
 }
 
@@ -132,8 +142,9 @@ module _ (t : Network) (s s' : Mesh) (l : Lsp) (p : Plan) (g : Gentle s s' l) wh
         (on_the_way (line_at ns p i) (suc i))) (sym same)
         ∙ r.tells i small (λ j most. g.still.stands (node_at p j) (stands j most)) was.0 was.1
         ∙ ap (λ fibres. has_fibre fibres (fibre_at t p i)) (sym (g.still.down (node_at p (suc i)).0)));
-    first = λ i small plain. (
-        let was = r.first i small (g.still.plain (node_at p i) (node_at p (suc i)) plain) in
+    first = λ i small stands sent. (
+        let was = r.first i small (λ j most. g.still.stands (node_at p j) (stands j most))
+        (g.still.first (node_at p i) (node_at p (suc i)) sent) in
         record {
           gone = λ j after below. g.still.gone (node_at p (suc j)) (was.gone j after below);
           untold = λ j after below. untold-stays j (was.untold j after below);
@@ -150,9 +161,23 @@ abbrev pub AllMild : Lsp → List Out → Type 0
 AllMild l [] = Unit {0}
 AllMild l (o ∷ outs) = IsMild l o.msg × AllMild l outs
 
+-- of the LSP no message that the test picks
+abbrev pub NoneOf : (Msg → Bool) → Lsp → List Out → Type 0
+NoneOf test l [] = Unit {0}
+NoneOf test l (o ∷ outs) = (same_lsp (lsp_of o.msg) l ≡ true → test o.msg ≡ false) × NoneOf test l outs
+
+pub mild-quiet : (l : Lsp) (outs : List Out) → AllMild l outs → NoneOf is_notice l outs
+mild-quiet l [] mild = tt
+mild-quiet l (o ∷ outs) mild = ((λ own. (mild.0 own).0), mild-quiet l outs mild.1)
+
+pub mild-active : (l : Lsp) (outs : List Out) → AllMild l outs → NoneOf is_plain l outs
+mild-active l [] mild = tt
+mild-active l (o ∷ outs) mild = ((λ own. (mild.0 own).1), mild-active l outs mild.1)
+
 pub record LegKeeps (l : Lsp) (o : Option Leg) (cs : List LegChange) : Type 0 where
   pub stands : is_standing (leg_after l cs o) ≡ true → is_standing o ≡ true
   pub gone : o ≡ None → leg_after l cs o ≡ None
+  pub waits : is_waiting (leg_after l cs o) ≡ true → is_waiting o ≡ true
 
 -- the calls that have the LSP afterwards had it before, with the same reports
 abbrev pub CallsKeep : Lsp → List CallRec → List CallChange → Type 0
@@ -162,15 +187,17 @@ CallsKeep l calls cs =
 
 pub record IsGentle (s : NodeState) (l : Lsp) (a : Answer) : Type 0 where
   pub legs : LegKeeps l (find_leg l s.legs) a.legs
-  pub sent : AllMild l a.sent
+  pub sent : NoneOf is_notice l a.sent
+  -- a Path that doesn't activate is sent only where the leg isn't Asked afterwards
+  pub active : is_waiting (leg_after l a.legs (find_leg l s.legs)) ≡ true → NoneOf is_plain l a.sent
   pub down : a.down ≡ None
   pub calls : CallsKeep l s.calls a.calls
 
--- nothing of the LSP among mild messages is a Notify or a Path that doesn't activate
-no-notices : (l : Lsp) (d : ℕ) (outs : List Out) → AllMild l outs → notices_of l (sent_to d outs) ≡ []
-no-notices l d [] mild = refl
-no-notices l d (o ∷ outs) mild =
-    go (nat_eq o.to.0 d) (is_notice o.msg) (same_lsp (lsp_of o.msg) l) refl refl (no-notices l d outs mild.1)
+-- so nothing of the LSP that is sent to a node is one
+no-notices : (l : Lsp) (d : ℕ) (outs : List Out) → NoneOf is_notice l outs → notices_of l (sent_to d outs) ≡ []
+no-notices l d [] none = refl
+no-notices l d (o ∷ outs) none =
+    go (nat_eq o.to.0 d) (is_notice o.msg) (same_lsp (lsp_of o.msg) l) refl refl (no-notices l d outs none.1)
   where
     go : (x y z : Bool) → is_notice o.msg ≡ y → same_lsp (lsp_of o.msg) l ≡ z →
         notices_of l (sent_to d outs) ≡ [] →
@@ -179,12 +206,13 @@ no-notices l d (o ∷ outs) mild =
     go false y z e f more = more
     go true false z e f more = rw e more
     go true true false e f more = rw (e, f) more
-    go true true true e f more = absurd (let never = (mild.0 f).0 in cc (e, never))
+    go true true true e f more = absurd (let never = none.0 f in cc (e, never))
 
-no-plain : (l : Lsp) (d : ℕ) (outs : List Out) → AllMild l outs → has_plain (messages_of l (sent_to d outs)) ≡ false
-no-plain l d [] mild = refl
-no-plain l d (o ∷ outs) mild =
-    go (nat_eq o.to.0 d) (is_notice o.msg) (same_lsp (lsp_of o.msg) l) refl refl (no-plain l d outs mild.1)
+no-plain : (l : Lsp) (d : ℕ) (outs : List Out) → NoneOf is_plain l outs →
+    has_plain (messages_of l (sent_to d outs)) ≡ false
+no-plain l d [] none = refl
+no-plain l d (o ∷ outs) none =
+    go (nat_eq o.to.0 d) (is_notice o.msg) (same_lsp (lsp_of o.msg) l) refl refl (no-plain l d outs none.1)
   where
     go : (x y z : Bool) → is_notice o.msg ≡ y → same_lsp (lsp_of o.msg) l ≡ z →
         has_plain (messages_of l (sent_to d outs)) ≡ false →
@@ -193,10 +221,12 @@ no-plain l d (o ∷ outs) mild =
     go false y z e f more = more
     go true true z e f more = rw e more
     go true false false e f more = rw (e, f) more
-    go true false true e f more = rw (e, f, (mild.0 f).1) more
+    go true false true e f more = rw (e, f, none.0 f) more
 
 module _ (s : Mesh) (n : NodeId) (l : Lsp) (a : Answer) (keeps : LegKeeps l (leg_at s l n) a.legs)
-    (mild : AllMild l a.sent) (none : a.down ≡ None) where
+    (quiet : NoneOf is_notice l a.sent)
+    (active : is_waiting (leg_after l a.legs (leg_at s l n)) ≡ true → NoneOf is_plain l a.sent)
+    (none : a.down ≡ None) where
   at_node : (P : Option Leg → Type 0) (m : NodeId) →
       (nat_eq m.0 n.0 ≡ true → P (leg_after l a.legs (leg_at s l n))) →
       (nat_eq m.0 n.0 ≡ false → P (leg_at s l m)) → P (leg_at (commit s n.0 a) l m)
@@ -227,29 +257,47 @@ module _ (s : Mesh) (n : NodeId) (l : Lsp) (a : Answer) (keeps : LegKeeps l (leg
       (λ t. notices_of l (cond t (s.mail x.0 b.0 ++ sent_to b.0 a.sent) (s.mail x.0 b.0)) ≡ notices_between s l x b) [
         | true ↦
             filter-append _ (s.mail x.0 b.0) (sent_to b.0 a.sent) ∙
-            rw (no-notices l b.0 a.sent mild, append-nil) refl
+            rw (no-notices l b.0 a.sent quiet, append-nil) refl
         | false ↦ refl
       ]
 
-  plain-after : (x b : NodeId) → has_plain (mail_between (commit s n.0 a) l x b) ≡ true →
-      has_plain (mail_between s l x b) ≡ true
-  plain-after x b = go (nat_eq x.0 n.0)
+  first-after : (x b : NodeId) → is_first (commit s n.0 a) l x b ≡ true → is_first s l x b ≡ true
+  first-after x b = go (nat_eq x.0 n.0) refl
     where
-      go : (t : Bool) → has_plain (messages_of l (cond t (s.mail x.0 b.0 ++ sent_to b.0 a.sent) (s.mail x.0 b.0)))
-          ≡ true →
+      here : nat_eq x.0 n.0 ≡ true → is_waiting (find_leg l (changed (s.nodes x.0) a).legs) ≡ true →
+          is_waiting (leg_after l a.legs (leg_at s l n)) ≡ true
+      here e h =
+          sym (ap is_waiting (find-changed l a.legs (s.nodes x.0).legs
+          ∙ ap (leg_after l a.legs) (same-at x e))) ∙ h
+
+      before : NoneOf is_plain l a.sent →
+          has_plain (messages_of l (s.mail x.0 b.0 ++ sent_to b.0 a.sent)) ≡ true →
           has_plain (mail_between s l x b) ≡ true
-      go false h = h
-      go true h =
+      before plain h =
           sym (ap has_plain (filter-append _ (s.mail x.0 b.0) (sent_to b.0 a.sent))
           ∙ list_any-append is_plain (mail_between s l x b) (messages_of l (sent_to b.0 a.sent))
-          ∙ ap (λ z. has_plain (mail_between s l x b) || z) (no-plain l b.0 a.sent mild)
+          ∙ ap (λ z. has_plain (mail_between s l x b) || z) (no-plain l b.0 a.sent plain)
           ∙ or-false (has_plain (mail_between s l x b))) ∙ h
+
+      both : (y z : Bool) → y ≡ true → z ≡ true → (y && z) ≡ true
+      both y z e f = rw (e, f) refl
+
+      go : (t : Bool) → nat_eq x.0 n.0 ≡ t →
+          (is_waiting (find_leg l (cond t (changed (s.nodes x.0) a) (s.nodes x.0)).legs)
+          && has_plain (messages_of l (cond t (s.mail x.0 b.0 ++ sent_to b.0 a.sent) (s.mail x.0 b.0)))) ≡ true →
+          is_first s l x b ≡ true
+      go false e h = h
+      go true e h =
+          let waits = here e (both_left (is_waiting (find_leg l (changed (s.nodes x.0) a).legs)) _ h) in
+          both (is_waiting (leg_at s l x)) (has_plain (mail_between s l x b))
+          (ap is_waiting (same-at x e) ∙ keeps.waits waits)
+          (before (active waits) (both_right (is_waiting (find_leg l (changed (s.nodes x.0) a).legs)) _ h))
 
   pub commit-still : Still s (commit s n.0 a) l
   commit-still = record {
     stands = stands-after;
     gone = gone-after;
-    plain = plain-after;
+    first = first-after;
     down = same-down s n.0 a none;
   }
 
@@ -281,8 +329,8 @@ module _ (s : Mesh) (n : NodeId) (l : Lsp) (a : Answer) (g : IsGentle (s.nodes n
 
   pub commit-gentle : Gentle s (commit s n.0 a) l
   commit-gentle = record {
-    still = commit-still s n l a g.legs g.sent g.down;
-    notices = notices-after s n l a g.legs g.sent g.down;
+    still = commit-still s n l a g.legs g.sent g.active g.down;
+    notices = notices-after s n l a g.legs g.sent g.active g.down;
     calls = calls-after;
   }
 
@@ -290,7 +338,7 @@ module _ (s : Mesh) (n : NodeId) (l : Lsp) (a : Answer) (g : IsGentle (s.nodes n
 pub taken-still : (s : Mesh) (u d : NodeId) (l : Lsp) (m : Msg) (rest : List Msg) → s.mail u.0 d.0 ≡ m ∷ rest →
     Still s (without_first s u.0 d.0) l
 taken-still s u d l m rest was =
-    record { stands = λ n h. h; gone = λ n h. h; plain = λ a b. fewer a b; down = λ n. refl }
+    record { stands = λ n h. h; gone = λ n h. h; first = λ a b. kept a b; down = λ n. refl }
   where
     later : (b : Bool) (m : Msg) → has_plain (messages_of l rest) ≡ true →
         has_plain (cond b (m ∷ messages_of l rest) (messages_of l rest)) ≡ true
@@ -318,6 +366,10 @@ taken-still s u d l m rest was =
             dropped (s.mail a.0 b.0) (rw (p, q) was) h
         go true false e f h = h
         go false y e f h = h
+
+    kept : (a b : NodeId) → is_first (without_first s u.0 d.0) l a b ≡ true → is_first s l a b ≡ true
+    kept a b h =
+        rw (both_left (is_waiting (leg_at s l a)) _ h, fewer a b (both_right (is_waiting (leg_at s l a)) _ h)) refl
 
 -- .. that is no Notify of the LSP
 pub taken-gentle : (s : Mesh) (u d : NodeId) (l : Lsp) (m : Msg) (rest : List Msg) → s.mail u.0 d.0 ≡ m ∷ rest →

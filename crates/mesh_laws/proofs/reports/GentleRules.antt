@@ -29,11 +29,11 @@ use Rattle.ason_base.specs.declared.tables.Out.{Out}
 use Rattle.mesh_rules.specs.declared.arrivals.Arrival.{Arrival}
 use Rattle.mesh_rules.specs.declared.neighbours.Neighbour.{Neighbour}
 use Rattle.mesh_rules.specs.ActivationAnswers.{confirmed, contended, disarmed, is_confirmed}
-use Rattle.mesh_rules.specs.Activations.{armed_on, busy_to, is_contended, path_again, path_to, resv_to}
+use Rattle.mesh_rules.specs.Activations.{armed_on, busy_to, is_contended, path_again, path_to, resv_to, taken_back}
 use Rattle.mesh_rules.specs.CallSteps.{call_answered, call_contended, call_refused, call_turned}
 use Rattle.mesh_rules.specs.Calls.{bare, blocked, call_with, find_call, guarded, is_asking, is_pairing, is_turning, names, stuck, turned}
 use Rattle.mesh_rules.specs.Changes.{changed, puts, removes, to_node}
-use Rattle.mesh_rules.specs.Legs.{closed, closing_phase, connected, find_leg, following, is_armed, is_asked, is_closing, is_held, is_node, is_over, is_work, leg_of, neighbour_over, previous, reserved, with_leg, with_phase}
+use Rattle.mesh_rules.specs.Legs.{closed, closing_phase, connected, find_leg, following, is_active_backup, is_armed, is_asked, is_closing, is_held, is_in_use, is_node, is_over, is_work, leg_of, neighbour_over, previous, reserved, with_leg, with_phase}
 use Rattle.mesh_rules.specs.LocalNodes.{LocalNode, leads, own_link}
 use Rattle.mesh_rules.specs.Notifies.{Notice, notice_passed, notice_told, notify_with}
 use Rattle.mesh_rules.specs.PathErrs.{PathFailure, err_passed, path_err_with, removed}
@@ -45,14 +45,14 @@ use Rattle.mesh_rules.specs.State.{NodeState}
 use Rattle.mesh_rules.specs.Tears.{tear_with, torn}
 use Rattle.mesh_rules.specs.Turns.{activating}
 use Rattle.mesh_nodes.proofs.CallList.{called-found, called-names}
-use Rattle.mesh_nodes.proofs.Cases.{both_left, if_cases, not-true}
+use Rattle.mesh_nodes.proofs.Cases.{both_left, both_right, if_cases, not-true}
 use Rattle.mesh_nodes.proofs.LegList.{find-with_leg, found-lsp, same_lsp-eq, same_lsp-refl}
 use Rattle.mesh_laws.specs.CallLaw.{FitsLegs}
 use Rattle.mesh_laws.specs.ReportLaw.{reports_of}
 use Rattle.mesh_laws.proofs.nodes.CallParts.{lsp-is, named-lsp}
 use Rattle.mesh_laws.proofs.nodes.Facts.{NodeFacts}
 use Rattle.mesh_laws.proofs.reports.Gentle.{AllMild, IsGentle, IsMild}
-use Rattle.mesh_laws.proofs.reports.GentleAnswers.{BackStands, IfStands, RepKeeps, both-gentle, decide-gentle, leaves-gentle, nothing-gentle, other-leg, pair-gentle, put-gentle, puts-gentle, removes-gentle, same-calls, sends-gentle}
+use Rattle.mesh_laws.proofs.reports.GentleAnswers.{BackStands, IfStands, RepKeeps, both-gentle, decide-gentle, leaves-gentle, mild-gentle, nothing-gentle, other-leg, pair-gentle, put-gentle, put-leg, puts-gentle, removes-gentle, same-calls, sends-gentle, taken_on-active, taken_on-quiet, used-stands}
 
 -- Phases
 
@@ -97,6 +97,26 @@ closing-closes Closing role.Work = refl
 closing-closes Closing role.Back = refl
 closing-closes Falling role.Work = refl
 closing-closes Falling role.Back = refl
+
+-- a torn leg isn't Asked, nor is a leg with its label
+
+pub closing-done : (f : Phase) (r : Role) → is_asked (closing_phase f r) ≡ false
+closing-done Armed role.Back = refl
+closing-done Live role.Back = refl
+closing-done Armed role.Work = refl
+closing-done Live role.Work = refl
+closing-done Asked role.Work = refl
+closing-done Asked role.Back = refl
+closing-done Held role.Work = refl
+closing-done Held role.Back = refl
+closing-done Closing role.Work = refl
+closing-done Closing role.Back = refl
+closing-done Falling role.Work = refl
+closing-done Falling role.Back = refl
+
+reserved-done : (r : Role) → is_asked (reserved r) ≡ false
+reserved-done role.Work = refl
+reserved-done role.Back = refl
 
 -- a leg with its label is Held only where it is a backup's
 reserved-back : (r : Role) → is_held (reserved r) ≡ true → r ≡ role.Back
@@ -296,15 +316,30 @@ module _ (p : LocalNode) (s : NodeState) (facts : NodeFacts p.id.0 s) (l : Lsp) 
     pub armed_on-gentle : (route : List Step) (r : PathRole) → is_active r ≡ true → is_held g.phase ≡ true →
         (h : Option Neighbour) → IsGentle s l (armed_on g route r h)
     armed_on-gentle route r active held None =
-        puts-gentle s l g (with_phase Live g) (resv_to g (previous g) g.in_label) found refl
+        puts-gentle s l g (with_phase Live g) (resv_to g (previous g) g.in_label) found refl refl
         (λ e. held-stands g.phase held) (mild-resv g (previous g) g.in_label)
     armed_on-gentle route r active held (Some h) =
-        puts-gentle s l g (with_phase Armed g) (path_to g route r h ∷ []) found refl (λ e. held-stands g.phase held)
-        ((λ own. (refl, rw active refl)), tt)
+        puts-gentle s l g (with_phase Armed g) (path_to g route r h ∷ []) found refl refl
+        (λ e. held-stands g.phase held) ((λ own. (refl, rw active refl)), tt)
+
+    -- the leg that takes back was Armed or Live, and is Held
+    taken_back-gentle : (route : List Step) (r : PathRole) → is_in_use g.phase ≡ true →
+        IsGentle s l (taken_back g route r)
+    taken_back-gentle route r used = record {
+      legs = put-leg l s.legs g (with_phase Held g) found refl refl (λ e. used-stands g.phase used);
+      sent = taken_on-quiet l g route r (following g);
+      active = taken_on-active l g route r (following g) (find_leg l s.legs);
+      down = refl;
+      calls = same-calls l s.calls;
+    }
 
     pub again-gentle : (a : Arrival) (route : List Step) (r : PathRole) → IsGentle s l (path_again p s a route r g)
     again-gentle a route (Work guard) = nothing-gentle s l
-    again-gentle a route (Back false work primary) = nothing-gentle s l
+    again-gentle a route (Back false work primary) =
+        if_cases (IsGentle s l) (is_active_backup g && is_over (previous g) a.from a.link) _ _
+        (λ h. taken_back-gentle route (Back false work primary)
+        (both_right (not (is_work g.role)) (is_in_use g.phase) (both_left (is_active_backup g) _ h)))
+        (λ h. nothing-gentle s l)
     again-gentle a route (Back true work primary) =
         if_cases (IsGentle s l) (is_held g.phase && is_over (previous g) a.from a.link) _ _
         (λ h. if_cases (IsGentle s l) (is_contended s.legs g g.in_fibre g.in_label) _ _
@@ -323,10 +358,11 @@ module _ (p : LocalNode) (s : NodeState) (facts : NodeFacts p.id.0 s) (l : Lsp) 
     pub passed_back-gentle : (a : Arrival) (h : Neighbour) (x : ℕ) → is_asked g.phase ≡ true → (o : Option ℕ) →
         IsGentle s l (passed_back p a g h x o)
     passed_back-gentle a h x asked None =
-        puts-gentle s l g (closed g) _ found refl (λ e. asked-stands g.phase asked)
+        puts-gentle s l g (closed g) _ found refl (closing-done g.phase g.role) (λ e. asked-stands g.phase asked)
         ((λ own. (refl, refl)), ((λ own. (refl, refl)), tt))
     passed_back-gentle a h x asked (Some y) =
-        puts-gentle s l g (connected g (Some y) x) _ found refl (λ e. asked-stands g.phase asked)
+        puts-gentle s l g (connected g (Some y) x) _ found refl (reserved-done g.role)
+        (λ e. asked-stands g.phase asked)
         ((λ own. (refl, refl)), tt)
 
     pub answers-gentle : IsOld p s l → (a : Arrival) (x : ℕ) → is_asked g.phase ≡ true → (h : Option Neighbour) →
@@ -335,7 +371,8 @@ module _ (p : LocalNode) (s : NodeState) (facts : NodeFacts p.id.0 s) (l : Lsp) 
         passed_back-gentle a h x asked (label_back p (labels_left p s g h) x)
     answers-gentle old a x asked None is =
         both-gentle s l (puts (connected g None x) []) _
-        (puts-gentle s l g (connected g None x) [] found refl (λ e. asked-stands g.phase asked) tt)
+        (puts-gentle s l g (connected g None x) [] found refl (reserved-done g.role)
+        (λ e. asked-stands g.phase asked) tt)
         (answered-gentle p (after (connected g None x) []) s l (connected g None x)
         (record {
           found = put-there (connected g None x) refl;
@@ -347,11 +384,11 @@ module _ (p : LocalNode) (s : NodeState) (facts : NodeFacts p.id.0 s) (l : Lsp) 
 
     pub confirmed-gentle : is_armed g.phase ≡ true → (h : Option Neighbour) → IsGentle s l (confirmed s g h)
     confirmed-gentle armed (Some h) =
-        puts-gentle s l g (with_phase Live g) _ found refl (λ e. armed-stands g.phase armed)
+        puts-gentle s l g (with_phase Live g) _ found refl refl (λ e. armed-stands g.phase armed)
         (mild-resv g (Some h) g.in_label)
     confirmed-gentle armed None =
         both-gentle s l (puts (with_phase Live g) []) _
-        (puts-gentle s l g (with_phase Live g) [] found refl (λ e. armed-stands g.phase armed) tt)
+        (puts-gentle s l g (with_phase Live g) [] found refl refl (λ e. armed-stands g.phase armed) tt)
         (turned-gentle p (after (with_phase Live g) []) s l (with_phase Live g)
         (record { found = put-there (with_phase Live g) refl; activates = λ held. absurd (cc held) })
         (call_with g.lsp s.calls) (λ c called. called-there g.lsp c called))
@@ -383,10 +420,10 @@ module _ (p : LocalNode) (s : NodeState) (facts : NodeFacts p.id.0 s) (l : Lsp) 
     pub disarmed-gentle : (m : Msg) → IsMild l m → is_armed g.phase ≡ true → (h : Option Neighbour) →
         IsGentle s l (disarmed s g m h)
     disarmed-gentle m mild armed (Some h) =
-        puts-gentle s l g (with_phase Held g) _ found refl (λ e. armed-stands g.phase armed) (mild, tt)
+        puts-gentle s l g (with_phase Held g) _ found refl refl (λ e. armed-stands g.phase armed) (mild, tt)
     disarmed-gentle m mild armed None =
         both-gentle s l (puts (with_phase Held g) []) _
-        (puts-gentle s l g (with_phase Held g) [] found refl (λ e. armed-stands g.phase armed) tt)
+        (puts-gentle s l g (with_phase Held g) [] found refl refl (λ e. armed-stands g.phase armed) tt)
         (contended-gentle p (after (with_phase Held g) []) s l (with_phase Held g)
         (record {
           found = put-there (with_phase Held g) refl;
@@ -419,7 +456,8 @@ module _ (p : LocalNode) (s : NodeState) (facts : NodeFacts p.id.0 s) (l : Lsp) 
         IsGentle s l (torn g answer h)
     torn-gentle answer mild standing None = removes-gentle s l g.lsp (answer ∷ []) (mild, tt)
     torn-gentle answer mild standing (Some h) =
-        puts-gentle s l g (closed g) _ found refl (λ e. standing) (mild, ((λ own. (refl, refl)), tt))
+        puts-gentle s l g (closed g) _ found refl (closing-done g.phase g.role) (λ e. standing)
+        (mild, ((λ own. (refl, refl)), tt))
 
     pub tear-gentle : (a : Arrival) → IsGentle s l (tear_with p a (Some g))
     tear-gentle a =
@@ -456,12 +494,9 @@ module _ (p : LocalNode) (s : NodeState) (facts : NodeFacts p.id.0 s) (l : Lsp) 
 
   module _ (m : PathRequest) (apart : same_lsp m.arrival.lsp l ≡ false) where
     other-puts : (g : Leg) (outs : List Out) → g.lsp ≡ m.arrival.lsp → AllMild l outs → IsGentle s l (puts g outs)
-    other-puts g outs own mild = record {
-      legs = other-leg l (find_leg l s.legs) g (rw own apart);
-      sent = mild;
-      down = refl;
-      calls = same-calls l s.calls;
-    }
+    other-puts g outs own mild =
+        mild-gentle s l (puts g outs) (other-leg l (find_leg l s.legs) g (rw own apart)) mild refl
+        (same-calls l s.calls)
 
     admitted-gentle : (link : LinkSpec) (risks : List Risk) (offered : List ℕ) (route : List Step) →
         IsGentle s l (admitted p m link risks offered route)

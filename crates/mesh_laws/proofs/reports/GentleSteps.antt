@@ -20,7 +20,7 @@ use Rattle.ason_base.specs.declared.tables.Leg.{Leg}
 use Rattle.mesh_rules.specs.declared.changes.CallChange.TheVariants as call
 use Rattle.mesh_rules.specs.declared.changes.LegChange.TheVariants as leg
 use Rattle.mesh_rules.specs.declared.neighbours.Neighbour.{Neighbour}
-use Rattle.mesh_rules.specs.Calls.{find_call, is_bare, is_stuck}
+use Rattle.mesh_rules.specs.Calls.{find_call, is_bare, is_stuck, is_turned}
 use Rattle.mesh_rules.specs.Changes.{Answer, changed, changes_calls, followed_by, puts}
 use Rattle.mesh_rules.specs.FirstLegs.{first_link, is_full}
 use Rattle.mesh_rules.specs.KnownRows.{known_rows}
@@ -37,6 +37,7 @@ use Rattle.mesh_rules.specs.PathErrs.{path_err_with}
 use Rattle.mesh_rules.specs.Notifies.{notify_with}
 use Rattle.mesh_rules.specs.Resvs.{resv_with}
 use Rattle.mesh_rules.specs.Retries.{retry_with}
+use Rattle.mesh_rules.specs.Reverts.{revert_with}
 use Rattle.mesh_rules.specs.Setups.{SetupRequest, admitted_setup, call_record, is_order_here, is_spent, new_call, next_lsp, over_first, over_found, refused_setup, setup_with, working_lsp}
 use Rattle.mesh_rules.specs.State.{NodeState}
 use Rattle.mesh_rules.specs.Tears.{tear_with}
@@ -49,8 +50,8 @@ use Rattle.mesh_laws.specs.HopLaw.{is_notice_of, lsp_of}
 use Rattle.mesh_laws.proofs.nodes.CallParts.{named-lsp}
 use Rattle.mesh_laws.proofs.nodes.Facts.{NodeFacts}
 use Rattle.mesh_laws.proofs.reports.Gentle.{AllMild, IsGentle, LegKeeps, is_plain}
-use Rattle.mesh_laws.proofs.reports.GentleAnswers.{asks-gentle, both-gentle, calls-gentle, goes-call, nothing-gentle, pair-gentle, put-other, same-calls, turn-gentle}
-use Rattle.mesh_laws.proofs.reports.GentleRules.{IsOld, again-gentle, closing-closes, err-gentle, first_path-gentle, leg-stands, leg-there, new-apart, notify-gentle, resv-gentle, tear-gentle}
+use Rattle.mesh_laws.proofs.reports.GentleAnswers.{asks-gentle, both-gentle, calls-gentle, go_back-gentle, goes-call, mild-gentle, nothing-gentle, pair-gentle, put-other, same-calls, turn-gentle}
+use Rattle.mesh_laws.proofs.reports.GentleRules.{IsOld, again-gentle, closing-closes, closing-done, err-gentle, first_path-gentle, leg-stands, leg-there, new-apart, notify-gentle, resv-gentle, tear-gentle}
 
 module _ (p : LocalNode) (s : NodeState) (facts : NodeFacts p.id.0 s) (l : Lsp) (old : IsOld p s l) where
   -- Setup
@@ -99,12 +100,9 @@ module _ (p : LocalNode) (s : NodeState) (facts : NodeFacts p.id.0 s) (l : Lsp) 
   -- a leg that is among these closes
   close-leg : (r : NodeState) (g : Leg) → (find_leg g.lsp r.legs ≡ None → ⊥) →
       IsGentle r l (puts (closed g) (tear_to g (following g)))
-  close-leg r g there = record {
-    legs = go (same_lsp g.lsp l) refl;
-    sent = tear-mild g (following g);
-    down = refl;
-    calls = same-calls l r.calls;
-  }
+  close-leg r g there =
+      mild-gentle r l (puts (closed g) (tear_to g (following g))) (go (same_lsp g.lsp l) refl)
+      (tear-mild g (following g)) refl (same-calls l r.calls)
     where
       never : (b : Bool) → b ≡ true → not b ≡ true → ⊥
       never true e h = cc h
@@ -114,8 +112,9 @@ module _ (p : LocalNode) (s : NodeState) (facts : NodeFacts p.id.0 s) (l : Lsp) 
       go true e = record {
         stands = λ h. absurd (never (is_closing (closed g).phase) (closing-closes g.phase g.role) (rw e at h));
         gone = λ none. absurd (there (subst (λ k. find_leg k r.legs ≡ None) (sym (same_lsp-eq g.lsp l e)) none));
+        waits = λ h. absurd (let h' = (rw e at h) in let done = closing-done g.phase g.role in cc (h', done));
       }
-      go false e = record { stands = λ h. (rw e at h); gone = λ none. rw e none }
+      go false e = record { stands = λ h. (rw e at h); gone = λ none. rw e none; waits = λ h. (rw e at h) }
 
   tears-gentle : (r : NodeState) (o : Option Leg) → ((g : Leg) → o ≡ Some g → find_leg g.lsp r.legs ≡ None → ⊥) →
       IsGentle r l (tears o)
@@ -158,7 +157,7 @@ module _ (p : LocalNode) (s : NodeState) (facts : NodeFacts p.id.0 s) (l : Lsp) 
   release-gentle from (Some c) =
       if_cases (IsGentle s l) (nat_eq from.0 p.id.0) _ _ (λ e. released-gentle c) (λ e. nothing-gentle s l)
 
-  -- Protect and retry
+  -- Protect, retry and revert
 
   work-begins : (n : CallNo) (c : CallRec) (w : Leg) → find_call n s.calls ≡ Some c → (o : Option Lsp) →
       c.work ≡ o → leg_of o s.legs ≡ Some w → w.lsp.ingress.0 ≡ p.id.0
@@ -196,6 +195,17 @@ module _ (p : LocalNode) (s : NodeState) (facts : NodeFacts p.id.0 s) (l : Lsp) 
       (λ f. nothing-gentle s l))
       (λ e. nothing-gentle s l)
 
+  revert-gentle : (n : CallNo) (from : NodeId) (o : Option CallRec) → find_call n s.calls ≡ o →
+      IsGentle s l (revert_with p s from o)
+  revert-gentle n from None is = nothing-gentle s l
+  revert-gentle n from (Some c) is =
+      if_cases (IsGentle s l) (nat_eq from.0 p.id.0) _ _
+      (λ e. if_cases (IsGentle s l) (is_turned c.state && not (has_any c.work_reports)) _ _
+      (λ f. go_back-gentle s l c (own-call n c is) c (leg_of c.back s.legs) refl (λ named. (named, refl))
+      (leg-stands p s facts l c.back))
+      (λ f. nothing-gentle s l))
+      (λ e. nothing-gentle s l)
+
   pub order-gentle : (c : Command) → IsGentle s l (on_order p s c)
   order-gentle (Setup n from to protected two via backup) =
       setup-gentle
@@ -204,7 +214,7 @@ module _ (p : LocalNode) (s : NodeState) (facts : NodeFacts p.id.0 s) (l : Lsp) 
   order-gentle (Release n from) = release-gentle from (find_call n s.calls)
   order-gentle (Protect n from) = protect-gentle n from (find_call n s.calls) refl
   order-gentle (Retry n from) = retry-gentle n from (find_call n s.calls) refl
-  order-gentle (Revert n from) = nothing-gentle s l
+  order-gentle (Revert n from) = revert-gentle n from (find_call n s.calls) refl
   order-gentle (Fail g) = nothing-gentle s l
   order-gentle (Repair g) = nothing-gentle s l
 

@@ -36,13 +36,13 @@ use Rattle.mesh_rules.specs.ActivationAnswers.{confirmed, disarmed, is_confirmed
 use Rattle.mesh_rules.specs.Activations.{armed_on, is_contended, path_again}
 use Rattle.mesh_rules.specs.Alarms.{enters}
 use Rattle.mesh_rules.specs.CallSteps.{call_answered, call_contended, call_refused, call_turned}
-use Rattle.mesh_rules.specs.Calls.{bare, blocked, call_with, calls_changed, find_call, guarded, is_asking, is_bare, is_pairing, is_stuck, is_turning, names, pairing, stuck, turned, unbacked}
+use Rattle.mesh_rules.specs.Calls.{bare, blocked, call_with, calls_changed, find_call, guarded, is_asking, is_bare, is_pairing, is_stuck, is_turned, is_turning, names, pairing, stuck, turned, unbacked}
 use Rattle.mesh_rules.specs.Changes.{Answer}
 use Rattle.mesh_rules.specs.Events.{on_first, on_first_item}
 use Rattle.mesh_rules.specs.FirstLegs.{first_link, is_full}
 use Rattle.mesh_rules.specs.KnownRows.{known_rows}
 use Rattle.mesh_rules.specs.LeastRoutes.{Trip, least_trip}
-use Rattle.mesh_rules.specs.Legs.{connected, find_leg, following, is_armed, is_asked, is_closing, is_held, is_node, is_over, is_work, leg_of, previous, with_phase}
+use Rattle.mesh_rules.specs.Legs.{connected, find_leg, following, is_active_backup, is_armed, is_asked, is_closing, is_held, is_node, is_over, is_work, leg_of, previous, with_phase}
 use Rattle.mesh_rules.specs.LocalNodes.{LocalNode, own_link}
 use Rattle.mesh_rules.specs.Messages.{arrival, on_message}
 use Rattle.mesh_rules.specs.Notifies.{Notice, notice_passed, notice_told, notify_with}
@@ -55,6 +55,7 @@ use Rattle.mesh_rules.specs.Releases.{release_with, releases, tears}
 use Rattle.mesh_rules.specs.Reports.{call_reported, fibre_into, reported, reported_on, with_report}
 use Rattle.mesh_rules.specs.Resvs.{answered, is_expected, label_back, labels_left, passed_back, resv_with}
 use Rattle.mesh_rules.specs.Retries.{retry_with}
+use Rattle.mesh_rules.specs.Reverts.{revert_with}
 use Rattle.mesh_rules.specs.Setups.{SetupRequest, call_record, is_order_here, is_spent, new_call, next_lsp, over_first, over_found, setup_with}
 use Rattle.mesh_rules.specs.State.{NodeState}
 use Rattle.mesh_rules.specs.Tears.{tear_with, torn}
@@ -64,7 +65,7 @@ use Rattle.mesh_nodes.proofs.CallList.{called-found, find-with_call, find-withou
 use Rattle.mesh_nodes.proofs.Cases.{if_cases}
 use Rattle.mesh_laws.specs.ReportLaw.{reports_of}
 use Rattle.mesh_laws.proofs.reports.FirstPaths.{no_calls-first_path}
-use Rattle.mesh_laws.proofs.reports.Reported.{decide-puts, report-names, turn-puts}
+use Rattle.mesh_laws.proofs.reports.Reported.{decide-puts, go_back-puts, report-names, turn-puts}
 
 module _ (p : LocalNode) (s : NodeState) (rise : CallsRise s.calls) (l : Lsp)
     (unnamed : (k : CallNo) (c : CallRec) → find_call k s.calls ≡ Some c → names l c ≡ false) where
@@ -244,7 +245,9 @@ module _ (p : LocalNode) (s : NodeState) (rise : CallsRise s.calls) (l : Lsp)
 
   again-new : (a : Arrival) (route : List Step) (r : PathRole) (g : Leg) → IsNew (path_again p s a route r g)
   again-new a route (Work guard) g = new-none [] refl
-  again-new a route (Back false work primary) g = new-none [] refl
+  again-new a route (Back false work primary) g =
+      if_cases IsNew (is_active_backup g && is_over (previous g) a.from a.link) _ _ (λ h. new-none _ refl)
+      (λ h. new-none [] refl)
   again-new a route (Back true work primary) g =
       if_cases IsNew (is_held g.phase && is_over (previous g) a.from a.link) _ _
       (λ h. if_cases IsNew (is_contended s.legs g g.in_fibre g.in_label) _ _ (λ c. new-none _ refl)
@@ -375,6 +378,18 @@ module _ (p : LocalNode) (s : NodeState) (rise : CallsRise s.calls) (l : Lsp)
       (λ f. new-none [] refl))
       (λ e. new-none [] refl)
 
+  revert-new : (n : CallNo) (from : NodeId) (o : Option CallRec) → find_call n s.calls ≡ o →
+      IsNew (revert_with p s from o)
+  revert-new n from None is = new-none [] refl
+  revert-new n from (Some c) is =
+      if_cases IsNew (nat_eq from.0 p.id.0) _ _
+      (λ e. if_cases IsNew (is_turned c.state && not (has_any c.work_reports)) _ _
+      (λ f. let puts = go_back-puts l c (leg_of c.back s.legs) in
+      new-from _ c puts.put (own-call n c is) puts.calls
+      (λ named. sym puts.same_names ∙ named))
+      (λ f. new-none [] refl))
+      (λ e. new-none [] refl)
+
   order-new : (c : Command) → IsNew (on_order p s c)
   order-new (Setup n from to protected two via backup) =
       setup-new
@@ -383,7 +398,7 @@ module _ (p : LocalNode) (s : NodeState) (rise : CallsRise s.calls) (l : Lsp)
   order-new (Release n from) = release-new from (find_call n s.calls)
   order-new (Protect n from) = protect-new n from (find_call n s.calls) refl
   order-new (Retry n from) = retry-new n from (find_call n s.calls) refl
-  order-new (Revert n from) = new-none [] refl
+  order-new (Revert n from) = revert-new n from (find_call n s.calls) refl
   order-new (Fail g) = new-none [] refl
   order-new (Repair g) = new-none [] refl
 

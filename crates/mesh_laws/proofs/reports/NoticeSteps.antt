@@ -26,7 +26,7 @@ use Rattle.mesh_laws.proofs.hops.Plans.{Plan, distinct, fibre_at, hops, link_at,
 use Rattle.mesh_laws.proofs.hops.Rest.{Purpose}
 use Rattle.mesh_laws.proofs.hops.Views.{notices-else, notices-from}
 use Rattle.mesh_laws.proofs.reports.Alarmed.{told-all-append}
-use Rattle.mesh_laws.proofs.reports.Gentle.{CallOf, PlaceTold, RouteTold, Stands, Still, Untold, has_plain, line_at, still-then, taken-still}
+use Rattle.mesh_laws.proofs.reports.Gentle.{CallOf, PlaceTold, RouteTold, Stands, Still, Untold, has_plain, is_waiting, line_at, still-then, taken-still}
 use Rattle.mesh_laws.proofs.reports.KnownFibres.{same_fibre-refl}
 use Rattle.mesh_laws.proofs.reports.OnTheWay.{passed_on, same_lines, taken_first, told-append}
 use Rattle.mesh_laws.proofs.reports.Reported.{fibres-apart}
@@ -159,8 +159,9 @@ module _ (t : Network) (s : Mesh) (o : Routes) (d u : NodeId) (l : Lsp) (e : Nod
           (same_lines (line_at (notices_between s l) p i) (line_at (notices_between taken l) p i) (suc i)
           (λ x less. line-else i x (omega arith) (omega arith)))
     ];
-    first = λ i small plain. (
-        let was' = r.first i small ((taken-still s u d l m rest was).plain (node_at p i) (node_at p (suc i)) plain) in
+    first = λ i small stands sent. (
+        let was' = r.first i small stands
+        ((taken-still s u d l m rest was).first (node_at p i) (node_at p (suc i)) sent) in
         record {
           gone = was'.gone;
           untold = λ x after below. record {
@@ -287,17 +288,16 @@ module _ (t : Network) (s : Mesh) (o : Routes) (d u : NodeId) (l : Lsp) (e : Nod
             go true = refl
             go false = refl
 
-        plain-same : (x : Mesh) (a b : NodeId) →
-            has_plain (mail_between (commit x d.0 (sends (to_node h m ∷ []))) l a b) ≡ true →
-            has_plain (mail_between x l a b) ≡ true
-        plain-same x a b = go (nat_eq a.0 d.0) (nat_eq h.0 b.0)
+        mail-same : (x : Mesh) (a b : NodeId) →
+            mail_between (commit x d.0 (sends (to_node h m ∷ []))) l a b ≡ mail_between x l a b
+        mail-same x a b = go (nat_eq a.0 d.0) (nat_eq h.0 b.0)
           where
-            go : (y w : Bool) → has_plain (messages_of l (cond y (x.mail a.0 b.0 ++ map (λ (o : Out). o.msg)
-                (cond w (to_node h m ∷ []) [])) (x.mail a.0 b.0))) ≡ true → has_plain (mail_between x l a b) ≡ true
-            go false w e = e
-            go true w e = sym (ap has_plain (filter-append _ (x.mail a.0 b.0) (map (λ (o : Out). o.msg)
+            go : (y w : Bool) → messages_of l (cond y (x.mail a.0 b.0 ++ map (λ (o : Out). o.msg)
+                (cond w (to_node h m ∷ []) [])) (x.mail a.0 b.0)) ≡ mail_between x l a b
+            go false w = refl
+            go true w = filter-append _ (x.mail a.0 b.0) (map (λ (o : Out). o.msg)
                 (cond w (to_node h m ∷ []) [])) ∙ ap (λ ms. mail_between x l a b ++ ms) (nothing-left w)
-                ∙ append-nil _)) ∙ e
+                ∙ append-nil _
               where
                 nothing-left : (w : Bool) → messages_of l (map (λ (o : Out). o.msg) (cond w (to_node h m ∷ []) [])) ≡ []
                 nothing-left true = refl
@@ -315,7 +315,9 @@ module _ (t : Network) (s : Mesh) (o : Routes) (d u : NodeId) (l : Lsp) (e : Nod
         still-sent x = record {
           stands = λ n e. subst (λ o. is_standing o ≡ true) (same-leg x n) e;
           gone = λ n e. same-leg x n ∙ e;
-          plain = plain-same x;
+          first = λ a b e. ap (λ o. is_waiting o && has_plain (mail_between x l a b)) (sym (same-leg x a))
+              ∙ ap (λ ms. is_waiting (leg_at (commit x d.0 (sends (to_node h m ∷ []))) l a) && has_plain ms)
+              (sym (mail-same x a b)) ∙ e;
           down = down-same x;
         }
 
@@ -335,8 +337,9 @@ module _ (t : Network) (s : Mesh) (o : Routes) (d u : NodeId) (l : Lsp) (e : Nod
           ap (told (has_fibre (reports_of l c) (fibre_at t p i))) (way-same i small)
           ∙ r.tells i small (λ x most. legs-still.stands (node_at p x) (stands x most)) c (call-passed c of)
           ∙ ap (λ ds. has_fibre ds (fibre_at t p i)) (sym (legs-still.down (node_at p (suc i)).0));
-      first = λ i small plain. (
-          let was' = r.first i small (legs-still.plain (node_at p i) (node_at p (suc i)) plain) in
+      first = λ i small stands sent. (
+          let was' = r.first i small (λ x most. legs-still.stands (node_at p x) (stands x most))
+          (legs-still.first (node_at p i) (node_at p (suc i)) sent) in
           record {
             gone = λ x after below. legs-still.gone (node_at p (suc x)) (was'.gone x after below);
             untold = λ x after below. record {
@@ -392,8 +395,9 @@ module _ (t : Network) (s : Mesh) (o : Routes) (d u : NodeId) (l : Lsp) (e : Nod
           ∙ sym (told-append known (says i) way) ∙ ap (told known) (sym split)
           ∙ r.tells i small (λ x most. all-still.stands (node_at p x) (stands x most)) was'.0 was'.1
           ∙ ap (λ ds. has_fibre ds (fibre_at t p i)) (sym (all-still.down (node_at p (suc i)).0)));
-      first = λ i small plain. (
-          let was' = r.first i small (all-still.plain (node_at p i) (node_at p (suc i)) plain) in
+      first = λ i small stands sent. (
+          let was' = r.first i small (λ x most. all-still.stands (node_at p x) (stands x most))
+          (all-still.first (node_at p i) (node_at p (suc i)) sent) in
           record {
             gone = λ x after below. all-still.gone (node_at p (suc x)) (was'.gone x after below);
             untold = λ x after below. record {

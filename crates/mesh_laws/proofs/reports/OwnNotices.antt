@@ -155,7 +155,7 @@ module _ (t : Network) (low : LowFirst t) (s : Mesh) (o : Routes) (d u : NodeId)
                 record { found = back.found; activates = back.activates }
 
         still : Still taken (commit taken d.0 answer) l
-        still = commit-still taken d l answer gentle.legs gentle.sent gentle.down
+        still = commit-still taken d l answer gentle.legs gentle.sent gentle.active gentle.down
 
         own-call : CallOf s l c
         own-call = record {
@@ -217,13 +217,13 @@ module _ (t : Network) (low : LowFirst t) (s : Mesh) (o : Routes) (d u : NodeId)
         told-stays : Stays answer
         told-stays =
             here-told t s o d u l e at k code rest was q p pl r place (commit taken d.0 answer) still
-            (notices-after taken d l answer gentle.legs gentle.sent gentle.down) calls
+            (notices-after taken d l answer gentle.legs gentle.sent gentle.active gentle.down) calls
 
       uncalled-stays : call_with l (s.nodes d.0).calls ≡ None → Stays nothing
       uncalled-stays none =
           here-told t s o d u l e at k code rest was q p pl r place (commit taken d.0 nothing)
-          (commit-still taken d l nothing (nothing-gentle (taken.nodes d.0) l).legs tt refl)
-          (notices-after taken d l nothing (nothing-gentle (taken.nodes d.0) l).legs tt refl)
+          (commit-still taken d l nothing (nothing-gentle (taken.nodes d.0) l).legs tt (λ waits. tt) refl)
+          (notices-after taken d l nothing (nothing-gentle (taken.nodes d.0) l).legs tt (λ waits. tt) refl)
           (λ x of. absurd (never x of))
         where
           never : (x : CallRec) → CallOf (commit taken d.0 nothing) l x → ⊥

@@ -16,9 +16,9 @@ use Rattle.ason_base.specs.declared.tables.Leg.{Leg}
 use Rattle.mesh_rules.specs.declared.changes.CallChange.TheVariants as call
 use Rattle.mesh_rules.specs.Calls.{guarded, names, stuck, turning}
 use Rattle.mesh_rules.specs.Changes.{Answer}
-use Rattle.mesh_rules.specs.Legs.{is_held}
+use Rattle.mesh_rules.specs.Legs.{is_held, is_in_use}
 use Rattle.mesh_rules.specs.Reports.{fibre_into, fibres_after, first_node, with_report}
-use Rattle.mesh_rules.specs.Turns.{decide, decided, has_any, turn}
+use Rattle.mesh_rules.specs.Turns.{decide, decided, go_back, has_any, turn}
 use Rattle.mesh_laws.specs.ReportLaw.{reports_of}
 use Rattle.mesh_laws.proofs.hops.Plans.{IsRoute, Plan, distinct, fibre_at, hops, is_high, link_at, node_at, plan}
 use Rattle.mesh_laws.proofs.reports.KnownFibres.{has-less, has-more, same_fibre-is}
@@ -90,6 +90,14 @@ turn-puts l d (Some b) = go (is_held b.phase) refl
     go true e = record { put = turning d; calls = rw e refl; number = refl; reports = refl; same_names = refl }
     go false e = record { put = d; calls = rw e refl; number = refl; reports = refl; same_names = refl }
 
+pub go_back-puts : (l : Lsp) (d : CallRec) (o : Option Leg) → Puts l d (go_back d o)
+go_back-puts l d None = record { put = d; calls = refl; number = refl; reports = refl; same_names = refl }
+go_back-puts l d (Some b) = go (is_in_use b.phase) refl
+  where
+    go : (x : Bool) → is_in_use b.phase ≡ x → Puts l d (go_back d (Some b))
+    go true e = record { put = guarded d; calls = rw e refl; number = refl; reports = refl; same_names = refl }
+    go false e = record { put = d; calls = rw e refl; number = refl; reports = refl; same_names = refl }
+
 decided-puts : (l : Lsp) (d : CallRec) (o : Option Leg) (state : CallState) (works backs : Bool) →
     Puts l d (decided d o state works backs)
 decided-puts l d o Guarded true false = turn-puts l d o
@@ -109,7 +117,10 @@ decided-puts l d o Pairing works backs = record
     { put = d; calls = refl; number = refl; reports = refl; same_names = refl }
 decided-puts l d o Turning works backs = record
     { put = d; calls = refl; number = refl; reports = refl; same_names = refl }
-decided-puts l d o Turned works backs = record
+decided-puts l d o Turned false true = go_back-puts l d o
+decided-puts l d o Turned false false = record
+    { put = d; calls = refl; number = refl; reports = refl; same_names = refl }
+decided-puts l d o Turned true backs = record
     { put = d; calls = refl; number = refl; reports = refl; same_names = refl }
 
 pub decide-puts : (l : Lsp) (d : CallRec) (o : Option Leg) → Puts l d (decide d o)

@@ -114,7 +114,7 @@ module _ (t : Network) (s x : Mesh) (n : NodeId) (a : Answer) (l : Lsp)
     tells = λ i small stands c of. (
         let stand = stands (suc i) (omega arith) in
         absurd (let none = gone i small in (let h = (rw none at stand) in cc h)));
-    first = λ i small plain. record {
+    first = λ i small stands sent. record {
       gone = λ j after below. gone j below;
       untold = λ j after below. record {
         notices = λ b c. ap (told_by_all (node_at p (suc j)) (link_at p j)) (silent b c);

@@ -1,6 +1,6 @@
 -- Every event keeps what the reports of an LSP tell that was begun before.
 use Rattle.std.proofs.Common.{◌≡◌, ◌<◌, ℕ, suc, Bool, true, false, List, [], ◌∷◌, refl, sym, ap, subst, inl, inr}
-use Rattle.std.specs.Prelude.{◌⊎◌, Option, Some, None}
+use Rattle.std.specs.Prelude.{◌&&◌, ◌⊎◌, Option, Some, None}
 use Rattle.ason_base.specs.Lsps.{same_lsp}
 use Rattle.ason_base.specs.Network.{Network, find_link, row_of}
 use Rattle.ason_base.specs.declared.commands.Command.{Command}
@@ -34,7 +34,7 @@ use Rattle.mesh_rules.specs.Paths.{is_active}
 use Rattle.mesh_rules.specs.State.{NodeState}
 use Rattle.mesh_nodes.proofs.Cases.{if_cases}
 use Rattle.mesh_nodes.proofs.LegList.{same_lsp-eq, same_lsp-refl}
-use Rattle.mesh_laws.specs.HopLaw.{is_notice_of, lsp_of, mail_between, messages_of, notices_of}
+use Rattle.mesh_laws.specs.HopLaw.{is_notice_of, leg_at, lsp_of, mail_between, messages_of, notices_of}
 use Rattle.mesh_laws.specs.HopShapes.{PlainPath, path_kind}
 use Rattle.mesh_laws.specs.ReportLaw.{is_standing}
 use Rattle.mesh_laws.proofs.nodes.Facts.{MeshFacts}
@@ -46,8 +46,8 @@ use Rattle.mesh_laws.proofs.hops.Rows.{no_path_up}
 use Rattle.mesh_laws.proofs.hops.Taken.{up_hop}
 use Rattle.mesh_laws.proofs.reports.AlarmSteps.{on_alarm-told, on_clear-told}
 use Rattle.mesh_laws.proofs.reports.FirstSteps.{first_path-told}
-use Rattle.mesh_laws.proofs.reports.Gentle.{Gentle, IsGentle, RouteTold, commit-gentle, gentle-then, gentle-told, has_plain, is_plain, taken-gentle}
-use Rattle.mesh_laws.proofs.reports.GentleAnswers.{nothing-gentle, same-calls, same-legs}
+use Rattle.mesh_laws.proofs.reports.Gentle.{Gentle, IsGentle, RouteTold, commit-gentle, gentle-then, gentle-told, has_plain, is_plain, is_waiting, taken-gentle}
+use Rattle.mesh_laws.proofs.reports.GentleAnswers.{mild-gentle, nothing-gentle, same-calls, same-legs}
 use Rattle.mesh_laws.proofs.reports.GentleRules.{IsOld}
 use Rattle.mesh_laws.proofs.reports.GentleSteps.{message-gentle, order-gentle}
 use Rattle.mesh_laws.proofs.reports.OwnNotices.{LowFirst, own_notice-told}
@@ -58,7 +58,10 @@ unmoved s s' l nodes mail = record {
   still = record {
     stands = λ n h. subst (λ (ns : ℕ → NodeState). is_standing (find_leg l (ns n.0).legs) ≡ true) nodes h;
     gone = λ n h. subst (λ (ns : ℕ → NodeState). find_leg l (ns n.0).legs ≡ None) (sym nodes) h;
-    plain = λ a b h. subst (λ (ms : ℕ → ℕ → List Msg). has_plain (messages_of l (ms a.0 b.0)) ≡ true) mail h;
+    first = λ a b h. subst (λ (ns : ℕ → NodeState). (is_waiting (find_leg l (ns a.0).legs)
+        && has_plain (mail_between s l a b)) ≡ true) nodes
+        (subst (λ (ms : ℕ → ℕ → List Msg). (is_waiting (leg_at s' l a)
+        && has_plain (messages_of l (ms a.0 b.0))) ≡ true) mail h);
     down = λ n. ap (λ (ns : ℕ → NodeState). (ns n).down) nodes;
   };
   notices = λ a b. ap (λ (ms : ℕ → ℕ → List Msg). notices_of l (ms a.0 b.0)) mail;
@@ -86,7 +89,7 @@ link-gentle : (p : LocalNode) (s : NodeState) (l : Lsp) (o : Option LinkSpec) �
 link-gentle p s l None = nothing-gentle s l
 link-gentle p s l (Some k) =
     if_cases (IsGentle s l) (has_row (known_rows p s) k.id) nothing (learns (row_of k)) (λ e. nothing-gentle s l)
-    (λ e. record { legs = same-legs l (find_leg l s.legs); sent = tt; down = refl; calls = same-calls l s.calls })
+    (λ e. mild-gentle s l (learns (row_of k)) (same-legs l (find_leg l s.legs)) tt refl (same-calls l s.calls))
 
 module _ (t : Network) (low : LowFirst t) (s : Mesh) (o : Routes) (facts : MeshFacts t s) (l : Lsp) (q : Purpose)
     (route : List Step) (end : NodeId) (pl : Planned t s o l q (plan route end))
