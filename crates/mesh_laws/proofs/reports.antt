@@ -18,3 +18,4 @@ pub mod OwnNotices
 pub mod Reported
 pub mod Runs
 pub mod Steps
+pub mod Ticks

@@ -1,5 +1,5 @@
 -- The items of each desk, one after the other on what the node knows to be down, tell which fibres are physically down.
-use Rattle.std.proofs.Common.{◌≡◌, ℕ, Bool, true, false, cond, nat_eq, not, List, [], ◌∷◌, drop, refl, sym, ap, ◌∙◌, subst, arith, Contains}
+use Rattle.std.proofs.Common.{◌≡◌, ◌+◌, ℕ, Bool, true, false, cond, nat_eq, nat_le, not, List, [], ◌∷◌, drop, refl, sym, ap, ◌∙◌, subst, arith, Contains}
 use Rattle.std.specs.Prelude.{◌||◌, ◌&&◌, Option, Some, None}
 use Rattle.ason_base.specs.Lsps.{has_fibre, same_fibre}
 use Rattle.ason_base.specs.Network.{Network, find_link, row_of, touches}
@@ -12,18 +12,24 @@ use Rattle.ason_base.specs.declared.ids.Fibre.{Fibre}
 use Rattle.ason_base.specs.declared.ids.NodeId.{NodeId}
 use Rattle.ason_base.specs.declared.messages.Msg.{Msg}
 use Rattle.ason_base.specs.declared.network.LinkSpec.{LinkSpec}
+use Rattle.ason_base.specs.declared.tables.CallRec.{CallRec}
+use Rattle.ason_base.specs.declared.tables.Leg.{Leg}
 use Rattle.mesh_rules.specs.declared.events.MeshEvent.{MeshEvent}
 use Rattle.mesh_rules.specs.declared.events.MeshEvent.TheVariants.{Take, Desk, Tick, Learn, Post}
 use Rattle.mesh_rules.specs.Alarms.{enters}
+use Rattle.mesh_rules.specs.Calls.{is_turned}
 use Rattle.mesh_rules.specs.Changes.{Answer, changed, down_after, learns, nothing}
 use Rattle.mesh_rules.specs.Events.{after, on_first, on_first_item, posted, step}
 use Rattle.mesh_rules.specs.Failures.{all_news, is_cut, with_failed, with_group, without_group}
 use Rattle.mesh_rules.specs.KnownRows.{has_row, known_rows}
 use Rattle.mesh_rules.specs.Learnt.{on_link}
+use Rattle.mesh_rules.specs.Legs.{is_in_use, leg_of}
 use Rattle.mesh_rules.specs.LocalNodes.{LocalNode, fibre_in, local_node, own_link}
 use Rattle.mesh_rules.specs.Machine.{Mesh, commit, start, with_item, without_item}
-use Rattle.mesh_rules.specs.Orders.{on_item, on_tick}
+use Rattle.mesh_rules.specs.Orders.{on_item}
 use Rattle.mesh_rules.specs.State.{NodeState}
+use Rattle.mesh_rules.specs.Turns.{go_back, has_any}
+use Rattle.mesh_rules.specs.Waits.{all_ticked, on_tick, ticked}
 use Rattle.mesh_rules.proofs.Topologies.{Rises, links-rise}
 use Rattle.mesh_nodes.proofs.Cases.{if_cases}
 use Rattle.mesh_nodes.proofs.LearnsNothing.{message-keeps_down, order-keeps_down}
@@ -108,6 +114,27 @@ link-keeps_down p s (Some l) =
     if_cases (λ (a : Answer). a.down ≡ None) (has_row (known_rows p s) l.id) nothing (learns (row_of l)) (λ e. refl)
     (λ e. refl)
 
+go_back-keeps_down : (c : CallRec) (o : Option Leg) → (go_back c o).down ≡ None
+go_back-keeps_down c None = refl
+go_back-keeps_down c (Some b) =
+    if_cases (λ (a : Answer). a.down ≡ None) (is_in_use b.phase) _ _ (λ e. refl) (λ e. refl)
+
+ticked-keeps_down : (wait : ℕ) (legs : List Leg) (c : CallRec) → (ticked wait legs c).down ≡ None
+ticked-keeps_down wait legs c =
+    if_cases (λ (a : Answer). a.down ≡ None)
+    (not (nat_eq wait 0) && (is_turned c.state && not (has_any c.work_reports))) _ _
+    (λ e. if_cases (λ (a : Answer). a.down ≡ None) (nat_le wait (c.ticks + 1)) _ _
+    (λ f. go_back-keeps_down c (leg_of c.back legs)) (λ f. refl))
+    (λ e. refl)
+
+all_ticked-keeps_down : (wait : ℕ) (legs : List Leg) (calls : List CallRec) → (all_ticked wait legs calls).down ≡ None
+all_ticked-keeps_down wait legs [] = refl
+all_ticked-keeps_down wait legs (c ∷ calls) =
+    rw (ticked-keeps_down wait legs c, all_ticked-keeps_down wait legs calls) refl
+
+tick-keeps_down : (p : LocalNode) (s : NodeState) → (on_tick p s).down ≡ None
+tick-keeps_down p s = all_ticked-keeps_down p.wait s.legs s.calls
+
 -- each node knows of fibres what it knew before
 pub same-down : (s : Mesh) (n : ℕ) (a : Answer) → a.down ≡ None → (m : ℕ) →
     ((commit s n a).nodes m).down ≡ (s.nodes m).down
@@ -182,7 +209,8 @@ module _ (t : Network) (s : Mesh) (tell : DesksTell t s) where
       commit-tells d.0 (on_first (local_node t d) (s.nodes d.0) u (s.mail u.0 d.0))
       (first-keeps_down (local_node t d) (s.nodes d.0) u (s.mail u.0 d.0))
   step-tells rise (Desk n) = desk-tells rise n
-  step-tells rise (Tick n) = commit-tells n.0 (on_tick (local_node t n) (s.nodes n.0)) refl
+  step-tells rise (Tick n) =
+      commit-tells n.0 (on_tick (local_node t n) (s.nodes n.0)) (tick-keeps_down (local_node t n) (s.nodes n.0))
   step-tells rise (Learn n k) =
       commit-tells n.0 (on_link (local_node t n) (s.nodes n.0) (find_link t k))
       (link-keeps_down (local_node t n) (s.nodes n.0) (find_link t k))

@@ -21,6 +21,7 @@ use Rattle.mesh_rules.specs.Legs.{find_leg}
 use Rattle.mesh_rules.specs.LocalNodes.{local_node}
 use Rattle.mesh_rules.specs.Machine.{Mesh, commit, without_first, without_item}
 use Rattle.mesh_rules.specs.State.{NodeState}
+use Rattle.mesh_rules.specs.Waits.{on_tick}
 use Rattle.mesh_laws.specs.CallLaw.{FitsLegs}
 use Rattle.mesh_laws.specs.HopLaw.{is_notice_of, leg_at, notices_between, notices_of}
 use Rattle.mesh_laws.specs.ReportLaw.{reports_of, told_by_all}
@@ -38,6 +39,7 @@ use Rattle.mesh_laws.proofs.reports.Gentle.{CallOf, RouteTold}
 use Rattle.mesh_laws.proofs.reports.NewCalls.{first-new, first_item-new}
 use Rattle.mesh_laws.proofs.reports.OwnNotices.{LowFirst}
 use Rattle.mesh_laws.proofs.reports.Steps.{step-told}
+use Rattle.mesh_laws.proofs.reports.Ticks.{tick-new}
 
 -- An LSP that a step begins
 
@@ -211,11 +213,18 @@ module _ (t : Network) (low : LowFirst t) (s : Mesh) (o : Routes) (facts : MeshF
             (first_item-new (local_node t n) (s.nodes n.0) (facts.node n.0).calls_rise l (unnamed blank n)
             (s.desks n.0))
             x q (plan route end) later
-    begins (Tick n) blank sent x later = absurd (go (nat_eq n.0 l.ingress.0) sent)
+    begins (Tick n) blank sent x later = go (nat_eq n.0 l.ingress.0) refl sent
       where
-        go : (b : Bool) → first_route l (cond b [] []) ≡ Some route → ⊥
-        go true f = cc f
-        go false f = cc f
+        go : (b : Bool) → nat_eq n.0 l.ingress.0 ≡ b →
+            first_route l (cond b (on_tick (local_node t n) (s.nodes n.0)).sent []) ≡ Some route →
+            RouteTold t (step t s (Tick n)) l (plan route end)
+        go false e f = absurd (cc f)
+        go true e f =
+            let here : l.ingress.0 ≡ n.0 = number-is n.0 l.ingress.0 e in
+            begun-told t s s n (on_tick (local_node t n) (s.nodes n.0)) l refl (λ m. blank.legs m)
+            (λ b c. blank.notices b c) here
+            (tick-new (local_node t n) (s.nodes n.0) (facts.node n.0) l (unnamed blank n))
+            x q (plan route end) later
     begins (Learn n k) blank sent x later = absurd (cc sent)
     begins (Post c) blank sent x later = absurd (cc sent)
 

@@ -29,9 +29,10 @@ use Rattle.mesh_rules.specs.Legs.{find_leg}
 use Rattle.mesh_rules.specs.LocalNodes.{LocalNode, local_node}
 use Rattle.mesh_rules.specs.Machine.{Mesh, commit, without_first, without_item}
 use Rattle.mesh_rules.specs.Messages.{on_message}
-use Rattle.mesh_rules.specs.Orders.{on_item, on_tick}
+use Rattle.mesh_rules.specs.Orders.{on_item}
 use Rattle.mesh_rules.specs.Paths.{is_active}
 use Rattle.mesh_rules.specs.State.{NodeState}
+use Rattle.mesh_rules.specs.Waits.{on_tick}
 use Rattle.mesh_nodes.proofs.Cases.{if_cases}
 use Rattle.mesh_nodes.proofs.LegList.{same_lsp-eq, same_lsp-refl}
 use Rattle.mesh_laws.specs.HopLaw.{is_notice_of, leg_at, lsp_of, mail_between, messages_of, notices_of}
@@ -51,6 +52,7 @@ use Rattle.mesh_laws.proofs.reports.GentleAnswers.{mild-gentle, nothing-gentle, 
 use Rattle.mesh_laws.proofs.reports.GentleRules.{IsOld}
 use Rattle.mesh_laws.proofs.reports.GentleSteps.{message-gentle, order-gentle}
 use Rattle.mesh_laws.proofs.reports.OwnNotices.{LowFirst, own_notice-told}
+use Rattle.mesh_laws.proofs.reports.Ticks.{tick-gentle}
 
 -- a desk, or what was posted or has failed, changes
 pub unmoved : (s s' : Mesh) (l : Lsp) → s'.nodes ≡ s.nodes → s'.mail ≡ s.mail → Gentle s s' l
@@ -243,7 +245,9 @@ module _ (t : Network) (low : LowFirst t) (s : Mesh) (o : Routes) (facts : MeshF
       let a = on_first_item (local_node t n) (s.nodes n.0) (s.desks n.0) in
       gentle-told t (commit s n.0 a) (commit (without_item s n.0) n.0 a) l p
       (unmoved (commit s n.0 a) (commit (without_item s n.0) n.0 a) l refl refl) (first_item-told n (s.desks n.0))
-  step-told (Tick n) enabled = by-answer n (on_tick (local_node t n) (s.nodes n.0)) (nothing-gentle (s.nodes n.0) l)
+  step-told (Tick n) enabled =
+      by-answer n (on_tick (local_node t n) (s.nodes n.0))
+      (tick-gentle (local_node t n) (s.nodes n.0) (facts.node n.0) l)
   step-told (Learn n k) enabled =
       by-answer n (on_link (local_node t n) (s.nodes n.0) (find_link t k))
       (link-gentle (local_node t n) (s.nodes n.0) l (find_link t k))
