@@ -14,6 +14,7 @@ use Rattle.mesh_laws.proofs.hops.Safe.{every_run_safe}
 use Rattle.mesh_laws.proofs.reports.Desks.{every_desk_tells}
 use Rattle.mesh_laws.proofs.reports.Laws.{every_report_tells}
 use Rattle.mesh_laws.proofs.nodes.Laws.{every_call, every_label, every_learnt_row, every_live}
+use Rattle.mesh_laws.proofs.restoration.Law.{every_hit_call}
 
 pub laws_hold : EveryRunKeepsTheLaws
 laws_hold t events run =
@@ -32,6 +33,7 @@ laws_hold t events run =
       desks = λ valid. every_desk_tells t events valid run;
       reports = λ valid. every_report_tells t events valid run;
       admitted = λ valid. every_activation_admitted t events valid run;
+      restored = λ valid. every_hit_call t events valid run;
     }
 
 run_so_far : (t : Network) (s : Mesh) (events later : List MeshEvent) → IsRun t s (events ++ later) → IsRun t s events

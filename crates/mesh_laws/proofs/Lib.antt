@@ -4,3 +4,4 @@ mod examples
 pub mod hops
 pub mod nodes
 pub mod reports
+pub mod restoration

@@ -13,6 +13,7 @@ use Rattle.mesh_laws.specs.JoinedLaw.{CallsAreJoined}
 use Rattle.mesh_laws.specs.LabelLaw.{LabelsAreShared, LiveLegsAreLabelled}
 use Rattle.mesh_laws.specs.LearntLaw.{LearntRowsAreTrue}
 use Rattle.mesh_laws.specs.ReportLaw.{DesksTell, ReportsTell}
+use Rattle.mesh_laws.specs.RestorationLaw.{RestorationHolds}
 use Rattle.mesh_laws.specs.RiskLaw.{BackupsRecordRisks}
 use Rattle.mesh_laws.specs.SafeLaw.{IsSafe}
 
@@ -43,6 +44,9 @@ pub record LawsHold (t : Network) (events : List MeshEvent) : Type 0 where
   pub reports : IsTopology t → ReportsTell t events
   -- and while one group alone has failed no activation is refused
   pub admitted : IsTopology t → ActivationsAreAdmitted t events
+  -- so once nothing is under way each guarded call is carried from end to end over fibres that are up, by its backup
+  -- where its working LSP is hit
+  pub restored : IsTopology t → RestorationHolds t events
 
 -- over every network and every run
 abbrev pub EveryRunKeepsTheLaws : Type 0

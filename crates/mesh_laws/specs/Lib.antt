@@ -9,5 +9,6 @@ pub mod Laws
 pub mod LearntLaw
 pub mod NodeLaw
 pub mod ReportLaw
+pub mod RestorationLaw
 pub mod RiskLaw
 pub mod SafeLaw

@@ -10,6 +10,7 @@ ghost use Rattle.mesh_laws.specs.Laws.{EveryRunKeepsTheLaws};
 ghost use Rattle.mesh_laws.specs.LearntLaw.{EveryLearntRowIsTrue, EveryNodeCanSearch};
 ghost use Rattle.mesh_laws.specs.NodeLaw.{EveryNodeSharesLawfully};
 ghost use Rattle.mesh_laws.specs.ReportLaw.{EveryDeskTellsFailures, EveryReportTellsFailures};
+ghost use Rattle.mesh_laws.specs.RestorationLaw.{EveryHitCallIsRestored};
 ghost use Rattle.mesh_laws.specs.RiskLaw.{EveryBackupRecordsItsRisks};
 ghost use Rattle.mesh_laws.specs.SafeLaw.{EveryRunIsSafe};
 
@@ -27,11 +28,14 @@ ghost use Rattle.mesh_laws.specs.SafeLaw.{EveryRunIsSafe};
 /// leg of a backup, at any node, records the risks of the route of the working LSP that its Path names, also where that LSP
 /// is gone. A state is calm where no group has failed and nothing of an earlier failure is left, as at the start. Over a
 /// topology, while since a calm state one group alone has failed, no activation of a backup is refused, no call is stuck, and
-/// all that is activated, reported, under way or waiting for a failure concerns that group. Over a topology the items of each
-/// node's desk, one after the other on what it knows, tell which of its fibres in are physically down; and along the route of
-/// an LSP, as far as its legs stand and aren't torn, what a node's Notifies on their way to the ingress tell, the nearest to
-/// it first on what the call knows, is what that node knows to be down. The last clause says all but the searching of one
-/// state, in one word.
+/// all that is activated, reported, under way or waiting for a failure concerns that group. Over a topology, once no message
+/// is under way and each desk is empty while since a calm state one group alone has failed, each call is restored whose
+/// ingress has its backup Held, Armed or Live: where a fibre of its working LSP is physically down it turned to its backup,
+/// and the LSP that carries it, the backup where it turned and else the working LSP, is joined, Live at each node of its
+/// route, and none of its fibres is physically down. Over a topology the items of each node's desk, one after the other on
+/// what it knows, tell which of its fibres in are physically down; and along the route of an LSP, as far as its legs stand
+/// and aren't torn, what a node's Notifies on their way to the ingress tell, the nearest to it first on what the call knows,
+/// is what that node knows to be down. The last clause says all but the searching of one state, in one word.
 pub fn every_run()
     ensures labels { EveryLabelIsShared }
     ensures labelled { EveryLiveLegIsLabelled }
@@ -47,6 +51,7 @@ pub fn every_run()
     ensures reports { EveryReportTellsFailures }
     ensures calm { EveryRunStartsCalm }
     ensures admitted { EveryActivationIsAdmitted }
+    ensures restored { EveryHitCallIsRestored }
     ensures together { EveryRunKeepsTheLaws }
 {}
 

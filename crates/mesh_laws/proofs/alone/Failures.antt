@@ -23,11 +23,11 @@ use Rattle.mesh_laws.proofs.alone.Facts.{Routes}
 use Rattle.mesh_laws.proofs.alone.Fine.{MeshHolds, all-append}
 
 module _ (t : Network) (g : Group) where
-  abbrev AreThis : List Group → Type 0
+  abbrev pub AreThis : List Group → Type 0
   AreThis groups = AllByRecursion (λ h. h ≡ g) groups
 
   -- a link is cut by this group alone
-  cut-by : (failed : List Group) (l : LinkSpec) → AreThis failed → is_cut failed l ≡ true → is_risk_of l g ≡ true
+  pub cut-by : (failed : List Group) (l : LinkSpec) → AreThis failed → is_cut failed l ≡ true → is_risk_of l g ≡ true
   cut-by [] l all e = absurd (cc e)
   cut-by (h ∷ failed) l all e = go (is_risk_of l h) refl e (cut-by failed l all.1)
     where

@@ -1,28 +1,30 @@
 -- A group that is a risk of a route is among the risks that are recorded of it, and isn't a risk of a route beside it.
-use Rattle.std.proofs.Common.{◌≡◌, ℕ, Bool, true, false, cond, nat_eq, nat_lt, List, [], ◌∷◌, ◌++◌, map, refl, subst, arith, Contains}
+use Rattle.std.proofs.Common.{◌≡◌, ℕ, Bool, true, false, cond, nat_eq, nat_lt, List, [], ◌∷◌, ◌++◌, map, refl, sym, ap, ◌∙◌, subst, arith, inl, inr, Contains}
 use Rattle.std.specs.Prelude.{◌||◌, Option, Some, None, find}
 use Rattle.std.specs.List.{list_any}
-use Rattle.std.proofs.lemmas.List.Elements.{Contains-append_left}
+use Rattle.std.proofs.lemmas.List.Elements.{Contains-append_cases, Contains-append_left}
 use Rattle.ason_base.specs.InOrder.{in_order}
-use Rattle.ason_base.specs.Network.{Network, find_link, row_of}
+use Rattle.ason_base.specs.Network.{Network, find_link, is_distinct, row_of}
 use Rattle.ason_base.specs.Risks.{has_risk, risks_of, route_risks}
 use Rattle.ason_base.specs.Routes.{routes_share_risk, shares_risk}
 use Rattle.ason_base.specs.declared.commands.Group.{Group}
 use Rattle.ason_base.specs.declared.commands.Group.TheVariants as group
 use Rattle.ason_base.specs.declared.ids.LinkId.{LinkId}
 use Rattle.ason_base.specs.declared.network.LinkSpec.{LinkSpec}
+use Rattle.ason_base.specs.declared.network.TeRow.{TeRow}
 use Rattle.ason_base.specs.declared.risks.Risk.{Risk}
 use Rattle.ason_base.specs.declared.risks.Risk.TheVariants.{Srlg, Link}
 use Rattle.ason_base.specs.declared.steps.Step.{Step}
-use Rattle.ason_base.proofs.Ordered.{any-there, in_order-has, there-any}
+use Rattle.ason_base.proofs.Ordered.{any-there, contains-cases, contains-none, in_order-has, there-any}
 use Rattle.ason_base.proofs.RisingNumbers.{nat_order}
 use Rattle.ason_base.proofs.RiskOrder.{contains-has_risk, has_risk-contains}
 use Rattle.ason_base.proofs.RiskUnion.{route_risks-are}
 use Rattle.mesh_rules.specs.Failures.{is_risk_of}
-use Rattle.mesh_nodes.proofs.routes.Lists.{contains-map}
-use Rattle.mesh_nodes.proofs.routes.Nodes.{find-there}
+use Rattle.mesh_nodes.proofs.routes.Lists.{contains-map, contains-unmap}
+use Rattle.mesh_nodes.proofs.routes.Nodes.{find-there, found-link}
 use Rattle.mesh_laws.specs.AloneLaw.{is_on_link, is_on_route, is_risk_there, risk_of}
 use Rattle.mesh_laws.specs.RiskLaw.{rows_of}
+use Rattle.mesh_laws.proofs.hops.Plans.{same}
 
 -- Tests of lists
 
@@ -61,6 +63,32 @@ link-there k l (r ∷ srlgs) e = link-there k l srlgs e
 pub group-risk : (g : Group) (l : LinkSpec) → is_risk_of l g ≡ true → has_risk (risks_of (row_of l)) (risk_of g) ≡ true
 group-risk (group.Srlg s) l e = srlg-there s l.srlgs (Link l.id ∷ []) e
 group-risk (group.Link k) l e = link-there k l.id (in_order nat_lt l.srlgs) e
+
+-- and so the other way round
+srlg-of : (s : ℕ) (l : LinkSpec) → Contains (risks_of (row_of l)) (Srlg s) → list_any (λ r. nat_eq r s) l.srlgs ≡ true
+srlg-of s l there = elim (Contains-append_cases (map Srlg (in_order nat_lt l.srlgs)) (Link l.id ∷ []) (Srlg s) there) [
+  | inl srlgs ↦ (let one = contains-unmap Srlg (in_order nat_lt l.srlgs) (Srlg s) srlgs in
+      let is : one.0 ≡ s = cc (one.2) in
+      there-any (λ r. nat_eq r s) l.srlgs one.0 ((in_order-has nat_lt nat_order l.srlgs one.0).0 one.1)
+      (rw is (same s)))
+  | inr itself ↦ elim (contains-cases (Link l.id) (Srlg s) [] itself) [
+    | inl is ↦ absurd (cc is)
+    | inr none ↦ absurd (contains-none (Srlg s) none)
+  ]
+]
+
+link-of : (k : LinkId) (l : LinkSpec) → Contains (risks_of (row_of l)) (Link k) → nat_eq l.id.0 k.0 ≡ true
+link-of k l there = elim (Contains-append_cases (map Srlg (in_order nat_lt l.srlgs)) (Link l.id ∷ []) (Link k) there) [
+  | inl srlgs ↦ (let one = contains-unmap Srlg (in_order nat_lt l.srlgs) (Link k) srlgs in absurd (cc (one.2)))
+  | inr itself ↦ elim (contains-cases (Link l.id) (Link k) [] itself) [
+    | inl is ↦ (let one : l.id ≡ k = cc is in rw one (same k.0))
+    | inr none ↦ absurd (contains-none (Link k) none)
+  ]
+]
+
+risk-group : (g : Group) (l : LinkSpec) → Contains (risks_of (row_of l)) (risk_of g) → is_risk_of l g ≡ true
+risk-group (group.Srlg s) l there = srlg-of s l there
+risk-group (group.Link k) l there = link-of k l there
 
 -- two links with one group share a risk
 pub common-risk : (g : Group) (l m : LinkSpec) → is_risk_of l g ≡ true → is_risk_of m g ≡ true →
@@ -116,6 +144,20 @@ module _ (t : Network) (g : Group) where
         same,
         has_risk-contains (risks_of (row_of l)) (risk_of g) (group-risk g l its.2),
       ))
+
+  -- and the group of a recorded risk is on the route, where no two links have one number
+  pub risk-recorded : is_distinct (map (λ (l : LinkSpec). l.id.0) t.links) ≡ true → (route : List Step) →
+      has_risk (route_risks (rows_of t) route) (risk_of g) ≡ true → is_on_route t g route ≡ true
+  risk-recorded distinct route e =
+      let has = (route_risks-are (rows_of t) route (risk_of g)).0
+      (has_risk-contains (route_risks (rows_of t) route) (risk_of g) e) in
+      let l = contains-unmap row_of t.links has.0 has.2 in
+      let found : find_link t l.0.id ≡ Some l.0 = found-link t.links l.0 distinct l.1 in
+      let one : l.0.id ≡ has.1.link = ap (λ (row : TeRow). row.link) l.2 ∙ has.4 in
+      let its : is_risk_of l.0 g ≡ true =
+      risk-group g l.0 (subst (λ (row : TeRow). Contains (risks_of row) (risk_of g)) (sym l.2) has.5) in
+      let on : is_on_link t g has.1.link ≡ true = rw (← one, found) its in
+      there-any (λ (h : Step). is_on_link t g h.link) route has.1 has.3 on
 
   pub not_beside : (a b : List Step) → routes_share_risk t a b ≡ false → is_on_route t g a ≡ true →
       is_on_route t g b ≡ true → ⊥

@@ -67,7 +67,7 @@ module _ (t : Network) (q : Purpose) (s : Mesh) (l : Lsp) (p : Plan) (route : Is
             (beyond_reserved h.phase beyond) (rw (near, there) at hop.rest.answers);
       }
 
-step_at : (route : List Step) (i : ℕ) → i < length route → (hop : Step) × (slice_get route i ≡ Some hop)
+pub step_at : (route : List Step) (i : ℕ) → i < length route → (hop : Step) × (slice_get route i ≡ Some hop)
 step_at [] i small = absurd (omega arith)
 step_at (h ∷ route) zero small = (h, refl)
 step_at (h ∷ route) (suc i) small = step_at route i (omega arith)

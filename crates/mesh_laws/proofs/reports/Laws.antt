@@ -57,7 +57,7 @@ low-first t valid k l found = low-of t.nodes l (found-all t.nodes t.links k l (e
 
 -- Places
 
-place-is : (route : List Step) (e : NodeId) (i : ℕ) → place_at route e i ≡ node_at (plan route e) i
+pub place-is : (route : List Step) (e : NodeId) (i : ℕ) → place_at route e i ≡ node_at (plan route e) i
 place-is [] e zero = refl
 place-is [] e (suc i) = refl
 place-is (hop ∷ route) e zero = refl

@@ -9,6 +9,7 @@ use Rattle.mesh_laws.proofs.nodes.Laws.{every_call, every_label, every_learnt_ro
 use Rattle.mesh_laws.proofs.nodes.Searches.{every_search}
 use Rattle.mesh_laws.proofs.reports.Desks.{every_desk_tells}
 use Rattle.mesh_laws.proofs.reports.Laws.{every_report_tells}
+use Rattle.mesh_laws.proofs.restoration.Law.{every_hit_call}
 use Rattle.mesh_laws.proofs.laws.every_run.Goals as goal
 
 pub returns-clause-labels : goal.returns-clause-labels
@@ -46,6 +47,9 @@ returns-clause-calm c = run_starts_calm
 
 pub returns-clause-admitted : goal.returns-clause-admitted
 returns-clause-admitted c = every_activation_admitted
+
+pub returns-clause-restored : goal.returns-clause-restored
+returns-clause-restored c = every_hit_call
 
 pub returns-clause-desks : goal.returns-clause-desks
 returns-clause-desks c = every_desk_tells

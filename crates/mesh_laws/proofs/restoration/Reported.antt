@@ -1,0 +1,99 @@
+-- Once nothing is under way, an LSP that is cross-connected has just those of its fibres reported that are physically
+-- down.
+use Rattle.std.proofs.Common.{◌≡◌, ◌<◌, ℕ, zero, suc, Bool, true, false, nat_eq, List, [], length, refl, ◌∙◌, subst, arith}
+use Rattle.std.specs.Prelude.{IsTrue, Option, Some, slice_get}
+use Rattle.std.proofs.lemmas.Option.{slice_get_within}
+use Rattle.ason_base.specs.Lsps.{has_fibre}
+use Rattle.ason_base.specs.Network.{Network, find_link, other_end, touches}
+use Rattle.ason_base.specs.declared.ids.LinkId.{LinkId}
+use Rattle.ason_base.specs.declared.ids.Lsp.{Lsp}
+use Rattle.ason_base.specs.declared.ids.NodeId.{NodeId}
+use Rattle.ason_base.specs.declared.network.LinkSpec.{LinkSpec}
+use Rattle.ason_base.specs.declared.steps.Step.{Step}
+use Rattle.ason_base.specs.declared.tables.CallRec.{CallRec}
+use Rattle.ason_base.specs.declared.tables.Leg.{Leg}
+use Rattle.mesh_rules.specs.declared.events.MeshEvent.{MeshEvent}
+use Rattle.mesh_rules.specs.Calls.{call_with}
+use Rattle.mesh_rules.specs.Events.{after}
+use Rattle.mesh_rules.specs.Failures.{is_cut}
+use Rattle.mesh_rules.specs.LocalNodes.{fibre_in}
+use Rattle.mesh_rules.specs.Machine.{Mesh, start}
+use Rattle.mesh_rules.specs.Quiet.{IsQuiet}
+use Rattle.mesh_nodes.proofs.routes.Nodes.{find-there}
+use Rattle.mesh_laws.specs.HopLaw.{leg_at}
+use Rattle.mesh_laws.specs.JoinedLaw.{IsLive, LspIsJoined}
+use Rattle.mesh_laws.specs.ReportLaw.{DesksTell, PlaceTells, ReportsTell, RouteTells, StandsTo, is_reported, is_standing, on_the_way, place_at, reports_of, told, told_over}
+use Rattle.mesh_laws.specs.RestorationLaw.{is_hit, is_route_cut}
+use Rattle.mesh_laws.proofs.hops.Law.{step_at}
+use Rattle.mesh_laws.proofs.reports.FirstSteps.{silent-way}
+use Rattle.mesh_laws.proofs.restoration.Cuts.{cut-at}
+use Rattle.mesh_laws.proofs.restoration.Steps.{goes-on}
+
+live-stands : (o : Option Leg) (g : Leg) → o ≡ Some g → IsLive g.phase → is_standing o ≡ true
+live-stands o g here live = rw (here, live) refl
+
+module _ (t : Network) (events : List MeshEvent) (quiet : IsQuiet (after t start events))
+    (desks : DesksTell t (after t start events)) (reports : ReportsTell t events) where
+  abbrev s : Mesh
+  s = after t start events
+
+  -- nothing is told on the way
+  silent : (l : Lsp) (route : List Step) (e n : NodeId) (k : LinkId) (i : ℕ) →
+      on_the_way (told_over s l route e n k) i ≡ []
+  silent l route e n k i =
+      silent-way (told_over s l route e n k) i
+      (λ j less. let none = quiet.mail (place_at route e (suc j)).0 (place_at route e j).0 in rw none refl)
+
+  -- a node knows which of its fibres in are down
+  known-cut : (n : NodeId) (link : LinkSpec) (k : LinkId) → find_link t k ≡ Some link → touches n link ≡ true →
+      has_fibre (s.nodes n.0).down (fibre_in link n) ≡ is_cut s.failed link
+  known-cut n link k found at_end =
+      let told = desks n link (find-there (λ m. nat_eq m.id.0 k.0) t.links link found) at_end in
+      rw (quiet.desks n.0) at told
+
+  module _ (e : NodeId) (l : Lsp) (g : Leg) (here : leg_at s l l.ingress ≡ Some g) (ends : g.egress ≡ e)
+      (joined : LspIsJoined t events IsLive e l) where
+    -- both ends of a step
+    step-stands : (i : ℕ) → i < length joined.route → IsTrue (is_standing (leg_at s l (place_at joined.route e i))) ×
+        IsTrue (is_standing (leg_at s l (place_at joined.route e (suc i))))
+    step-stands i below =
+        let step = step_at joined.route i below in
+        let hop = joined.hops i step.0 step.1 in
+        let on = goes-on t l.ingress e joined.route joined.leads i step.0 hop.link step.1 hop.found in (
+          rw on.near (live-stands (leg_at s l step.0.node) hop.from hop.from_there hop.from_phase),
+          rw on.far (live-stands (leg_at s l (other_end hop.link step.0.node)) hop.to hop.to_there hop.to_phase),
+        )
+
+    -- each node up to that after a step
+    stands-to : (i : ℕ) → i < length joined.route → StandsTo s l joined.route e (suc i)
+    stands-to i below zero small = (step-stands 0 (omega arith)).0
+    stands-to i below (suc j) small = (step-stands j (omega arith)).1
+
+    -- of the fibre of a step
+    reported-cut : (i : ℕ) (hop : Step) (link : LinkSpec) → slice_get joined.route i ≡ Some hop →
+        find_link t hop.link ≡ Some link →
+        is_reported l (fibre_in link (place_at joined.route e (suc i))) (call_with l (s.nodes l.ingress.0).calls)
+        ≡ is_cut s.failed link
+    reported-cut i hop link there found =
+        let tells = subst (RouteTells t s l joined.route) ends (reports l joined.route g joined.sent here) in
+        let place : PlaceTells s l joined.route e i link (place_at joined.route e (suc i)) =
+        tells i hop link there found (stands-to i (slice_get_within joined.route i hop there)) in
+        let on = goes-on t l.ingress e joined.route joined.leads i hop link there found in
+        rw (silent l joined.route e (place_at joined.route e (suc i)) link.id (suc i)) at place
+        ∙ known-cut (place_at joined.route e (suc i)) link hop.link found on.touches_far
+
+    -- where none is reported, none is down
+    pub unreported-up : (c : CallRec) → call_with l (s.nodes l.ingress.0).calls ≡ Some c → reports_of l c ≡ [] →
+        is_hit t events (Some l) ≡ false
+    unreported-up c called none = rw joined.sent (go (is_route_cut t s.failed (Some joined.route)) refl)
+      where
+        go : (b : Bool) → is_route_cut t s.failed (Some joined.route) ≡ b → b ≡ false
+        go false e = refl
+        go true cut =
+            let one = cut-at t s.failed joined.route cut in
+            let its = one.1 in
+            let told = reported-cut its.place one.0 its.link its.there its.found in
+            let down = its.cut in
+            let up : is_reported l (fibre_in its.link (place_at joined.route e (suc its.place)))
+            (call_with l (s.nodes l.ingress.0).calls) ≡ false = rw (called, none) refl in
+            absurd (cc (told, down, up))

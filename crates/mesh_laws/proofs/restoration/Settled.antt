@@ -1,0 +1,77 @@
+-- Once nothing is under way, all legs of an LSP are as its leg at the ingress: so none there is Armed.
+use Rattle.std.proofs.Common.{◌≡◌, ◌<◌, ◌≤◌, ℕ, zero, suc, List, length, refl, subst, arith, inl, inr}
+use Rattle.std.specs.Prelude.{◌⊎◌, Option, Some, None}
+use Rattle.ason_base.specs.Network.{Network, other_end}
+use Rattle.ason_base.specs.declared.calls.Phase.{Phase}
+use Rattle.ason_base.specs.declared.calls.Phase.TheVariants.{Asked, Held, Armed, Live, Closing, Falling}
+use Rattle.ason_base.specs.declared.calls.Role.{Role}
+use Rattle.ason_base.specs.declared.calls.Role.TheVariants.{Work, Back}
+use Rattle.ason_base.specs.declared.ids.Lsp.{Lsp}
+use Rattle.ason_base.specs.declared.ids.NodeId.{NodeId}
+use Rattle.ason_base.specs.declared.steps.Step.{Step}
+use Rattle.ason_base.specs.declared.tables.Leg.{Leg}
+use Rattle.mesh_rules.specs.Legs.{reserved}
+use Rattle.mesh_rules.specs.Machine.{Mesh}
+use Rattle.mesh_rules.specs.Quiet.{IsQuiet}
+use Rattle.mesh_laws.specs.HopLaw.{RouteFits, StepFits, leg_at}
+use Rattle.mesh_laws.specs.HopShapes.{ArmedLeg, LegKind, NoLeg, leg_kind}
+use Rattle.mesh_laws.specs.ReportLaw.{place_at}
+use Rattle.mesh_laws.proofs.hops.Law.{step_at}
+use Rattle.mesh_laws.proofs.hops.Rows.{ArmedStands, BothStand, NoneThere, OnlyTorn, Settled, Stands, settled}
+use Rattle.mesh_laws.proofs.restoration.Steps.{begins-at, ends-at, goes-on}
+
+-- beyond a leg that stands is one as it is
+same-kind : (r : Role) (u d k : LegKind) → u ≡ k → Stands k → Settled r u d → d ≡ k
+same-kind r _ _ k e stands NoneThere = let none : Stands NoLeg = rw (← e) at stands in elim none [ ]
+same-kind r _ d k e stands (OnlyTorn torn) = let none : Stands NoLeg = rw (← e) at stands in elim none [ ]
+same-kind r _ _ k e stands (BothStand other) = e
+
+-- the egress is never Armed
+not-armed : (r : Role) (f : Phase) → (f ≡ reserved r) ⊎ (f ≡ Live) → f ≡ Armed → ⊥
+not-armed Work f (inl is) armed = cc (is, armed)
+not-armed Back f (inl is) armed = cc (is, armed)
+not-armed r f (inr is) armed = cc (is, armed)
+
+armed-leg : (o : Option Leg) → leg_kind o ≡ ArmedLeg → (g : Leg) × (o ≡ Some g) × (g.phase ≡ Armed)
+armed-leg None e = absurd (cc e)
+armed-leg (Some g) e = (g, refl, go g.phase e)
+  where
+    go : (f : Phase) → leg_kind (Some (record g { phase = f })) ≡ ArmedLeg → f ≡ Armed
+    go Armed e = refl
+    go Asked e = absurd (cc e)
+    go Held e = absurd (cc e)
+    go Live e = absurd (cc e)
+    go Closing e = absurd (cc e)
+    go Falling e = absurd (cc e)
+
+module _ (t : Network) (s : Mesh) (quiet : IsQuiet s) (r : Role) (l : Lsp) (route : List Step) (e : NodeId)
+    (fits : RouteFits t s r l route e) where
+  abbrev kind_at : ℕ → LegKind
+  kind_at i = leg_kind (leg_at s l (place_at route e i))
+
+  one-hop : (i : ℕ) → i < length route → Settled r (kind_at i) (kind_at (suc i))
+  one-hop i below =
+      let step = step_at route i below in
+      let its : StepFits t s r l step.0 = fits.hops i step.0 step.1 in
+      let on = goes-on t l.ingress e route fits.leads i step.0 its.link step.1 its.found in
+      let shape = its.fits.shape in
+      settled r (kind_at i) (kind_at (suc i)) (rw (on.near, on.far) (rw (
+        quiet.mail step.0.node.0 (other_end its.link step.0.node).0,
+        quiet.mail (other_end its.link step.0.node).0 step.0.node.0,
+      ) at shape))
+
+  all-alike : (k : LegKind) → Stands k → kind_at 0 ≡ k → (i : ℕ) → i ≤ length route → kind_at i ≡ k
+  all-alike k stands first zero most = first
+  all-alike k stands first (suc i) most =
+      same-kind r (kind_at i) (kind_at (suc i)) k (all-alike k stands first i (omega arith)) stands
+      (one-hop i (omega arith))
+
+  -- no activation is under way
+  pub never-armed : (g : Leg) → leg_at s l l.ingress ≡ Some g → g.phase ≡ Armed → ⊥
+  never-armed g here armed =
+      let first : kind_at 0 ≡ ArmedLeg = rw (begins-at t l.ingress e route fits.leads fits.long, here, armed) refl in
+      let last : leg_kind (leg_at s l e) ≡ ArmedLeg =
+      subst (λ n. leg_kind (leg_at s l n) ≡ ArmedLeg) (ends-at route e)
+      (all-alike ArmedLeg ArmedStands first (length route) (omega arith)) in
+      let leg = armed-leg (leg_at s l e) last in
+      not-armed r leg.0.phase (fits.egress leg.0 leg.1) leg.2
