@@ -19,6 +19,7 @@ mod RefusedDown
 mod RefusedShare
 mod Released
 mod Reserved
+mod Restored
 mod Retried
 pub mod Scene
 mod SharedLabel
