@@ -22,6 +22,7 @@ pub mod Sending
 pub mod Upstream
 pub mod Tables
 pub mod Taken
+pub mod TakenBackRule
 pub mod TearRule
 pub mod Views
 pub mod Paired

@@ -1,5 +1,5 @@
--- What the activation of a backup leaves of the hop before a node and of the hop after it.
-use Rattle.std.proofs.Common.{◌≡◌, ℕ, true, false, List, [], ◌∷◌, ◌++◌, refl, append-nil}
+-- What the activation of a backup, and its taking back, leave of the hop before a node and of the hop after it.
+use Rattle.std.proofs.Common.{◌≡◌, ℕ, true, false, List, [], ◌∷◌, ◌++◌, refl, inl, inr, append-nil}
 use Rattle.std.specs.Prelude.{◌⊎◌, map, Option, Some, None}
 use Rattle.std.proofs.lemmas.List.{map-append}
 use Rattle.ason_base.specs.Labels.{has}
@@ -10,17 +10,19 @@ use Rattle.ason_base.specs.declared.ids.LinkId.{LinkId}
 use Rattle.ason_base.specs.declared.calls.Phase.{Phase}
 use Rattle.ason_base.specs.declared.calls.Phase.TheVariants.{Held, Armed, Live}
 use Rattle.ason_base.specs.declared.calls.Role.{Role}
+use Rattle.ason_base.specs.declared.calls.Role.TheVariants.{Back}
 use Rattle.ason_base.specs.declared.messages.Msg.{Msg}
 use Rattle.ason_base.specs.declared.messages.Msg.TheVariants.{Resv, PathErr}
 use Rattle.ason_base.specs.declared.tables.Leg.{Leg}
 use Rattle.mesh_rules.specs.Legs.{with_phase}
-use Rattle.mesh_laws.specs.HopShapes.{LegKind, NoLeg, HeldLeg, ArmedLeg, FallingLeg, MsgKind, ActivePath, Label, Contention}
+use Rattle.mesh_laws.specs.HopShapes.{LegKind, NoLeg, HeldLeg, ArmedLeg, LiveLeg, FallingLeg}
+use Rattle.mesh_laws.specs.HopShapes.{MsgKind, PlainPath, ActivePath, Label, Contention}
 use Rattle.mesh_laws.specs.HopShapes.{IsTorn, Shape, Standby, leg_kind, msg_kind}
 use Rattle.mesh_laws.proofs.hops.Plans.{Plan, link_at}
 use Rattle.mesh_laws.proofs.hops.Rows.{is_reserved, ActiveTaken, active_taken, activates, resv_armed, armed_answers}
-use Rattle.mesh_laws.proofs.hops.Rows.{ContentionTaken, HeldAgain, Ignored, contention_taken}
+use Rattle.mesh_laws.proofs.hops.Rows.{ContentionTaken, HeldAgain, Ignored, contention_taken, deactivates, plain_taken}
 use Rattle.mesh_laws.proofs.hops.Rest.{Purpose, Rest, DownFits, LabelsMeet, SentOn, SetSent, role_of, is_path}
-use Rattle.mesh_laws.proofs.hops.Rest.{active_other, out_label_of, down_taken, down_sent, up_taken, up_sent}
+use Rattle.mesh_laws.proofs.hops.Rest.{out_label_of, down_taken, down_sent, up_taken, up_sent}
 use Rattle.mesh_laws.proofs.hops.Rest.{downstream_keeps, upstream_keeps}
 use Rattle.mesh_laws.proofs.hops.Chain.{Hop}
 
@@ -84,7 +86,7 @@ module _ (q : Purpose) (p : Plan) (i : ℕ) where
     shape = rw (map-append, active)
         (activates (role_of q) (leg_kind d) (map msg_kind down) (map msg_kind up) (rw held at h.shape));
     rest = upstream_keeps q p i g (with_phase Armed g) d (down ++ m ∷ []) up refl refl
-        (down_sent q p i (Some g) d m down up fits set (active_other m active) later h.rest);
+        (down_sent q p i (Some g) d m down up fits set later h.rest);
   }
 
   -- A Resv is taken by an Armed leg
@@ -142,3 +144,29 @@ module _ (q : Purpose) (p : Plan) (i : ℕ) where
         shape = rw (map-append, t.quiet) t.contended;
         rest = up_sent q p i u (Some (with_phase Held g)) (PathErr l e at false code) down up tt tt kept;
       }
+
+  -- A Path that takes back is taken by a Live leg, which is Held again
+
+  held_back : (u : LegKind) (down up : List MsgKind) →
+      Shape (role_of q) u LiveLeg (PlainPath ∷ down) up → Shape (role_of q) u HeldLeg down up
+  held_back u down up shape =
+      elim (plain_taken (role_of q) u LiveLeg down up shape) [ inl gone ↦ absurd (cc gone) | inr taken ↦ taken.held ]
+
+  pub takes_back : (u : Option Leg) (g : Leg) (m : Msg) (down up : List Msg) → g.phase ≡ Live →
+      msg_kind m ≡ PlainPath → Hop q p i u (Some g) (m ∷ down) up → Hop q p i u (Some (with_phase Held g)) down up
+  takes_back u g m down up live plain h = record {
+    shape = held_back (leg_kind u) (map msg_kind down) (map msg_kind up) (rw (live, plain) at h.shape);
+    rest = downstream_keeps q p i u g (with_phase Held g) down up refl (rw live refl) refl
+        (down_taken q p i u (Some g) m down up h.rest);
+  }
+
+  -- and goes on
+  pub takes_back_on : (g : Leg) (d : Option Leg) (m : Msg) (down up : List Msg) → role_of q ≡ Back → g.phase ≡ Live →
+      msg_kind m ≡ PlainPath → DownFits q p i m → SetSent (Some g) m → (leg_kind d ≡ NoLeg → is_path m ≡ false) →
+      Hop q p i (Some g) d down up → Hop q p i (Some (with_phase Held g)) d (down ++ m ∷ []) up
+  takes_back_on g d m down up back live plain fits set later h = record {
+    shape = rw (back, map-append, plain)
+        (deactivates (leg_kind d) (map msg_kind down) (map msg_kind up) (rw (back, live) at h.shape));
+    rest = upstream_keeps q p i g (with_phase Held g) d (down ++ m ∷ []) up refl refl
+        (down_sent q p i (Some g) d m down up fits set later h.rest);
+  }

@@ -9,7 +9,6 @@ use Rattle.ason_base.specs.declared.ids.NodeId.{NodeId}
 use Rattle.ason_base.specs.declared.ids.LinkId.{LinkId}
 use Rattle.ason_base.specs.declared.steps.Step.{Step}
 use Rattle.ason_base.specs.declared.calls.Phase.TheVariants.{Held, Armed, Live}
-use Rattle.ason_base.specs.declared.calls.Role.{Role}
 use Rattle.ason_base.specs.declared.messages.PathRole.{PathRole}
 use Rattle.ason_base.specs.declared.messages.PathRole.TheVariants.{Back}
 use Rattle.ason_base.specs.declared.messages.Msg.{Msg}
@@ -24,7 +23,7 @@ use Rattle.mesh_rules.specs.Legs.{following, previous, with_phase}
 use Rattle.mesh_rules.specs.Machine.{Mesh}
 use Rattle.mesh_rules.specs.Messages.{arrival}
 use Rattle.mesh_rules.specs.Paths.{PathRequest, path_with}
-use Rattle.mesh_laws.specs.HopShapes.{NoLeg, HeldLeg, LegKind, MsgKind, Shape, leg_kind}
+use Rattle.mesh_laws.specs.HopShapes.{NoLeg, HeldLeg, leg_kind}
 use Rattle.mesh_laws.specs.HopLaw.{is_message_of, messages_of, leg_at, mail_between}
 use Rattle.mesh_nodes.proofs.Cases.{if_cases}
 use Rattle.mesh_nodes.proofs.LegList.{same_lsp-refl}
@@ -34,7 +33,7 @@ use Rattle.mesh_laws.proofs.hops.LegChanges.{armed_fits, following_is, following
 use Rattle.mesh_laws.proofs.hops.LegChanges.{in_label_is, in_use_out, previous_is, same_of}
 use Rattle.mesh_laws.proofs.hops.Plans.{Plan, hops, node_at, link_at, fibre_at, IsRoute, same}
 use Rattle.mesh_laws.proofs.hops.Rest.{Purpose, Tells, role_of}
-use Rattle.mesh_laws.proofs.hops.Rows.{active_taken, is_reserved, reserved_upstream}
+use Rattle.mesh_laws.proofs.hops.Rows.{active_taken, leg_downstream}
 use Rattle.mesh_laws.proofs.hops.Sending.{sends_back, sends_on}
 use Rattle.mesh_laws.proofs.hops.Taken.{KeepsDown, down_hop, down_taken}
 
@@ -45,14 +44,8 @@ resv-is g h y None label before is = absurd (cc before)
 resv-is g h y (Some k) None before is = absurd (cc is)
 resv-is g h y (Some k) (Some z) before is = let a : k ≡ h = cc before in let b : z ≡ y = cc is in rw (a, b) refl
 
--- beyond a Held leg there is one
-pub beyond_held : (r : Role) (d : LegKind) (down up : List MsgKind) → Shape r HeldLeg d down up → d ≡ NoLeg → ⊥
-beyond_held r d down up shape gone =
-    let reserved : is_reserved d ≡ true = reserved_upstream r HeldLeg d down up shape refl in
-    let never : false ≡ true = rw gone at reserved in
-    cc never
-
-drop-next : {X : Type 0} (j : ℕ) (xs : List X) → drop 1 (drop j xs) ≡ drop (suc j) xs
+-- the rest of a route, from the next step on
+pub drop-next : {X : Type 0} (j : ℕ) (xs : List X) → drop 1 (drop j xs) ≡ drop (suc j) xs
 drop-next zero [] = refl
 drop-next zero (x ∷ xs) = refl
 drop-next (suc j) [] = refl
@@ -167,7 +160,7 @@ module _ (t : Network) (q : Purpose) (s : Mesh) (l : Lsp) (p : Plan) (i : ℕ) (
           (λ _ gone. absurd (never (rw gone refl)))
         where
           never : leg_kind (leg_at s l (node_at p (suc (suc i)))) ≡ NoLeg → ⊥
-          never gone = beyond_held (role_of q) _ _ _ (let h = (hop_out small).shape in rw held at h) gone
+          never gone = leg_downstream (role_of q) _ _ _ _ (hop_out small).shape (rw held refl) gone
 
       onward : (suc i < hops p) ⊎ (hops p ≤ suc i) → Keeps (armed_on g (drop 1 r) role (following g))
       onward (inl small) = rw (following_is t q l p (suc i) g fits small) (goes_on small)

@@ -346,6 +346,25 @@ module _ (t : Network) (q : Purpose) (l : Lsp) (p : Plan) where
       go Carries phase = absurd phase
       go (Guards w r) phase = (phase.1, phase.2)
 
+  -- a backup's Live leg may be Held again
+  pub live_held_fits : (i : ℕ) (g : Leg) → LegFits t q l p i g → g.phase ≡ Live → role_of q ≡ role.Back →
+      LegFits t q l p i (with_phase Held g)
+  live_held_fits i g fits live back =
+      phase_fits i g Held fits (go q back (let phase = fits.phase in rw live at phase))
+    where
+      go : (q : Purpose) → role_of q ≡ role.Back → PhaseFits q Live i (hops p) g.in_label g.out_label →
+          PhaseFits q Held i (hops p) g.in_label g.out_label
+      go Carries back phase = absurd (cc back)
+      go (Guards w r) back phase = phase
+
+  -- an Armed leg is a backup's
+  pub armed_role : (i : ℕ) (g : Leg) → LegFits t q l p i g → g.phase ≡ Armed → g.role ≡ role.Back
+  armed_role i g fits armed = fits.role ∙ go q (let phase = fits.phase in rw armed at phase)
+    where
+      go : (q : Purpose) → PhaseFits q Armed i (hops p) g.in_label g.out_label → role_of q ≡ role.Back
+      go Carries phase = absurd phase
+      go (Guards w r) phase = refl
+
   -- a leg beyond Asked has its labels
   pub beyond_labels : (i : ℕ) (g : Leg) → LegFits t q l p i g → is_beyond_asked g.phase ≡ true →
       HasIn i g.in_label × HasOut i (hops p) g.out_label

@@ -11,6 +11,7 @@ use Rattle.ason_base.specs.declared.ids.NodeId.{NodeId}
 use Rattle.ason_base.specs.declared.steps.Step.{Step}
 use Rattle.ason_base.specs.declared.network.LinkSpec.{LinkSpec}
 use Rattle.ason_base.specs.declared.risks.Risk.{Risk}
+use Rattle.ason_base.specs.declared.calls.Phase.TheVariants.{Held}
 use Rattle.ason_base.specs.declared.messages.PathRole.{PathRole}
 use Rattle.ason_base.specs.declared.messages.PathRole.TheVariants.{Work, Back}
 use Rattle.ason_base.specs.declared.messages.Msg.{Msg}
@@ -22,11 +23,11 @@ use Rattle.mesh_rules.specs.declared.changes.LegChange.{LegChange}
 use Rattle.mesh_rules.specs.declared.changes.LegChange.TheVariants.{Goes, Put}
 use Rattle.mesh_rules.specs.declared.neighbours.Neighbour.{Neighbour}
 use Rattle.mesh_rules.specs.State.{NodeState}
-use Rattle.mesh_rules.specs.Activations.{armed_on, is_contended, path_again, resv_to}
+use Rattle.mesh_rules.specs.Activations.{armed_on, is_contended, path_again, resv_to, taken_on}
 use Rattle.mesh_rules.specs.ActivationAnswers.{is_confirmed}
-use Rattle.mesh_rules.specs.Changes.{Answer, nothing, to_node}
+use Rattle.mesh_rules.specs.Changes.{Answer, nothing, puts, to_node}
 use Rattle.mesh_rules.specs.LocalNodes.{LocalNode, own_link, leads}
-use Rattle.mesh_rules.specs.Legs.{find_leg, is_armed, is_asked, is_closing, is_held, previous, following, is_node, is_over}
+use Rattle.mesh_rules.specs.Legs.{find_leg, is_active_backup, is_armed, is_asked, is_closing, is_held, previous, following, is_node, is_over, with_phase}
 use Rattle.mesh_rules.specs.Paths.{PathRequest, is_active, risks_here, first_failure, checks, offered_labels, at_egress, in_transit, admitted, judged, first_path, path_with}
 use Rattle.mesh_rules.specs.Resvs.{is_expected, label_back, labels_left, passed_back}
 use Rattle.mesh_rules.specs.PathErrs.{PathFailure}
@@ -126,6 +127,11 @@ own-armed_on l g route r None is =
     record { legs = (is, tt); sent = own-resv_to l g (previous g) g.in_label is; numbers = refl }
 own-armed_on l g route r (Some h) is = record { legs = (is, tt); sent = (is, refl, tt); numbers = refl }
 
+own-taken_back : (l : Lsp) (g : Leg) (route : List Step) (r : PathRole) (h : Option Neighbour) → g.lsp ≡ l →
+    Own l (puts (with_phase Held g) (taken_on g route r h))
+own-taken_back l g route r None is = record { legs = (is, tt); sent = tt; numbers = refl }
+own-taken_back l g route r (Some h) is = record { legs = (is, tt); sent = (is, refl, tt); numbers = refl }
+
 own-path_again : (l : Lsp) (p : LocalNode) (s : NodeState) (a : Arrival) (route : List Step) (r : PathRole) (g : Leg) →
     g.lsp ≡ l → Own l (path_again p s a route r g)
 own-path_again l p s a route (Work guard) g is = own-nothing l
@@ -135,7 +141,10 @@ own-path_again l p s a route (Back true work primary) g is =
     (λ c. record { legs = tt; sent = (is, refl, tt); numbers = refl })
     (λ c. own-armed_on l g route (Back true work primary) (following g) is))
     (λ h. own-nothing l)
-own-path_again l p s a route (Back false work primary) g is = own-nothing l
+own-path_again l p s a route (Back false work primary) g is =
+    if_cases (Own l) (is_active_backup g && is_over (previous g) a.from a.link) _ _
+    (λ h. own-taken_back l g route (Back false work primary) (following g) is)
+    (λ h. own-nothing l)
 
 own-on_path : (p : LocalNode) (s : NodeState) (m : PathRequest) (o : Option Leg) → IsLegOf m.arrival.lsp o →
     Own m.arrival.lsp (path_with p s m o)

@@ -1,6 +1,6 @@
 -- A first Path is taken at a node of its route.
 use Rattle.std.proofs.Common.{◌≡◌, ◌≢◌, ◌<◌, ◌≤◌, ℕ, zero, suc, true, false, nat_eq, nat_lt, List, [], ◌∷◌, length, drop, refl, sym, ap, ◌∙◌, subst, arith, append-nil}
-use Rattle.std.specs.Prelude.{map, slice_get, Option, Some, None}
+use Rattle.std.specs.Prelude.{slice_get, Option, Some, None}
 use Rattle.ason_base.specs.Labels.{has, least}
 use Rattle.ason_base.specs.Network.{Network}
 use Rattle.ason_base.specs.declared.codes.ErrCode.{ErrCode}
@@ -24,7 +24,7 @@ use Rattle.mesh_rules.specs.Paths.{offered_labels, risks_here, at_egress, in_tra
 use Rattle.mesh_rules.specs.Paths.{role_of as asked_role}
 use Rattle.mesh_rules.specs.Messages.{arrival, on_message}
 use Rattle.mesh_rules.specs.Machine.{Mesh}
-use Rattle.mesh_laws.specs.HopShapes.{NoLeg, PlainPath, leg_kind, msg_kind, path_kind, phase_kind}
+use Rattle.mesh_laws.specs.HopShapes.{PlainPath, path_kind, phase_kind}
 use Rattle.mesh_laws.specs.HopLaw.{is_message_of, messages_of, leg_at, mail_between}
 use Rattle.mesh_laws.proofs.hops.Plans.{Plan, hops, node_at, link_at, fibre_at, IsRoute, Leads, distinct, other, lt_true, lt_false, joined, own_near, own_far, fibre_in_is, fibre_out_is}
 use Rattle.mesh_laws.proofs.hops.Labels.{has_least, has_meet}
@@ -32,12 +32,12 @@ use Rattle.mesh_nodes.proofs.LegList.{same_lsp-refl}
 use Rattle.mesh_laws.proofs.nodes.PathKeeps.{none_fails}
 use Rattle.mesh_nodes.specs.Routes.{AreRowsOf}
 use Rattle.mesh_nodes.proofs.routes.Nodes.{known-are}
-use Rattle.mesh_laws.proofs.hops.Rest.{Purpose, Tells, role_of, tells_role, has_path, plain_first, plain_inactive}
+use Rattle.mesh_laws.proofs.hops.Rest.{Purpose, Tells, role_of, tells_role, has_path, plain_inactive}
 use Rattle.mesh_laws.proofs.hops.Risks.{recorded-fit}
 use Rattle.mesh_laws.proofs.hops.Rows.{reserved_leg}
 use Rattle.mesh_laws.proofs.hops.Chain.{Hop, IsVacant, Chain, RisksFit, asked_fits, reserved_fits}
 use Rattle.mesh_laws.proofs.hops.Sending.{sends_back, sends_on}
-use Rattle.mesh_laws.proofs.hops.LegChanges.{gone_none, reserved_kind}
+use Rattle.mesh_laws.proofs.hops.LegChanges.{reserved_kind}
 use Rattle.mesh_laws.proofs.hops.Downstream.{path_last, path_passed, path_answered, path_refused}
 use Rattle.mesh_laws.proofs.hops.Upstream.{hop_idle, hop_asks}
 use Rattle.mesh_laws.proofs.hops.Taken.{KeepsDown, down_hop, down_mine, down_taken}
@@ -292,13 +292,7 @@ module _ (t : Network) (q : Purpose) (s : Mesh) (l : Lsp) (p : Plan) (i : ℕ) (
   away = rw (← route.first) (other (node_at p 0).0 (node_at p (suc i)).0
       (distinct t l.ingress p route 0 (suc i) (omega arith) (omega arith) (omega arith)))
 
-  no_leg : leg_kind (leg_at s l (node_at p (suc i))) ≡ NoLeg
-  no_leg =
-      hop.rest.first (plain_first (message ∷ messages_of l rest) (map msg_kind (messages_of l rest))
-      (ap (λ m. m ∷ map msg_kind (messages_of l rest)) plain))
-
-  pub path_keeps : Keeps (on_message place state u message)
-  path_keeps =
-      let none : leg_at s l d ≡ None = gone_none (leg_at s l d) no_leg in
+  pub path_keeps : leg_at s l (node_at p (suc i)) ≡ None → Keeps (on_message place state u message)
+  path_keeps none =
       rw (none, own_far t k u d far over, plain_inactive purpose plain, (joined t k u d far over).leads, away)
       (judges none (first_failure (checks place state asks over.link)) refl)

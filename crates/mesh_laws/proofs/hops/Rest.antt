@@ -1,7 +1,7 @@
 -- What is said of a hop beside its row: labels, sets and routes; and what each small change of a hop leaves of it.
 -- u is the leg at the upstream node, d the one at the downstream node.
 use Rattle.std.proofs.Common.{◌≡◌, ℕ, suc, Bool, true, false, List, [], ◌∷◌, ◌++◌, drop, refl, inl, inr}
-use Rattle.std.specs.Prelude.{◌⊎◌, ◌||◌, not, map, Option, Some, None}
+use Rattle.std.specs.Prelude.{◌⊎◌, map, Option, Some, None}
 use Rattle.ason_base.specs.Labels.{has}
 use Rattle.ason_base.specs.declared.calls.Phase.TheVariants.{Asked}
 use Rattle.ason_base.specs.declared.calls.Role.{Role}
@@ -14,7 +14,7 @@ use Rattle.ason_base.specs.declared.steps.Step.{Step}
 use Rattle.ason_base.specs.declared.tables.Leg.{Leg}
 use Rattle.mesh_rules.specs.Paths.{is_active}
 use Rattle.mesh_rules.specs.Paths.{role_of as asked_role}
-use Rattle.mesh_laws.specs.HopShapes.{LegKind, NoLeg, AskedLeg, HasLetGo, MsgKind, PlainPath, ActivePath, Tear, leg_kind, msg_kind, path_kind}
+use Rattle.mesh_laws.specs.HopShapes.{LegKind, NoLeg, AskedLeg, HasLetGo, MsgKind, PlainPath, Tear, leg_kind, msg_kind, path_kind}
 use Rattle.mesh_laws.proofs.hops.Plans.{Plan, link_at}
 use Rattle.mesh_laws.proofs.hops.Rows.{is_reserved, let_go_free, let_go_not_asked}
 
@@ -95,18 +95,6 @@ has_path (PathTear l e k ∷ ms) = has_path ms
 has_path (PathErr l e at gone code ∷ ms) = has_path ms
 has_path (Notify l e at k code ∷ ms) = has_path ms
 
--- a Path that doesn't activate
-abbrev pub is_plain : Msg → Bool
-is_plain (Path l e k route set up r) = not (is_active r)
-is_plain (Resv l e k x) = false
-is_plain (PathTear l e k) = false
-is_plain (PathErr l e at gone code) = false
-is_plain (Notify l e at k code) = false
-
-abbrev pub has_plain : List Msg → Bool
-has_plain [] = false
-has_plain (m ∷ ms) = is_plain m || has_plain ms
-
 -- Labels over a hop
 
 abbrev pub out_label_of : Option Leg → Option ℕ
@@ -164,8 +152,6 @@ pub record Rest (q : Purpose) (p : Plan) (i : ℕ) (u d : Option Leg) (down up :
   pub answers : Each (AnswerFits u d) up
   pub offer : OfferSent u d
   pub sets : Each (SetSent u) down
-  -- a Path that doesn't activate is the first one: none takes an activation back
-  pub first : has_plain down ≡ true → leg_kind d ≡ NoLeg
   -- until d answers, u has no label out
   pub bare : IsPending (leg_kind d) down → out_label_of u ≡ None
 
@@ -219,60 +205,6 @@ path-append (Resv l e k x ∷ ms) m other h = path-append ms m other h
 path-append (PathTear l e k ∷ ms) m other h = path-append ms m other h
 path-append (PathErr l e at gone code ∷ ms) m other h = path-append ms m other h
 path-append (Notify l e at k code ∷ ms) m other h = path-append ms m other h
-
-later_plain : (a b : Bool) → b ≡ true → (a || b) ≡ true
-later_plain true b h = refl
-later_plain false b h = h
-
-pub plain_path : (ms : List Msg) → has_plain ms ≡ true → has_path ms ≡ true
-plain_path [] h = h
-plain_path (Path l e k route set up r ∷ ms) h = refl
-plain_path (Resv l e k x ∷ ms) h = plain_path ms h
-plain_path (PathTear l e k ∷ ms) h = plain_path ms h
-plain_path (PathErr l e at gone code ∷ ms) h = plain_path ms h
-plain_path (Notify l e at k code ∷ ms) h = plain_path ms h
-
--- where no Path is under way, no first one is
-pub no_plain : (ms : List Msg) → has_path ms ≡ false → has_plain ms ≡ true → ⊥
-no_plain ms none plain = let path = plain_path ms plain in cc (none, path)
-
-plain-append : (ms : List Msg) (m : Msg) → is_plain m ≡ false → has_plain (ms ++ m ∷ []) ≡ true → has_plain ms ≡ true
-plain-append [] m other h = absurd (both (is_plain m) other h)
-  where
-    both : (b : Bool) → b ≡ false → (b || false) ≡ true → ⊥
-    both true e h = cc e
-    both false e h = cc h
-plain-append (n ∷ ms) m other h = go (is_plain n) (plain-append ms m other) h
-  where
-    go : (b : Bool) → (has_plain (ms ++ m ∷ []) ≡ true → has_plain ms ≡ true) →
-        (b || has_plain (ms ++ m ∷ [])) ≡ true → (b || has_plain ms) ≡ true
-    go true further h = refl
-    go false further h = further h
-
--- a message of this kind stands first
-pub plain_first : (ms : List Msg) (kinds : List MsgKind) → map msg_kind ms ≡ PlainPath ∷ kinds → has_plain ms ≡ true
-plain_first [] kinds e = absurd cc
-plain_first (m ∷ ms) kinds e = let is : msg_kind m ≡ PlainPath = cc in rw (plain_kind m is) refl
-  where
-    plain_kind : (m : Msg) → msg_kind m ≡ PlainPath → is_plain m ≡ true
-    plain_kind (Path l e k route set up (Work guard)) is = refl
-    plain_kind (Path l e k route set up (Back true work primary)) is = absurd cc
-    plain_kind (Path l e k route set up (Back false work primary)) is = refl
-    plain_kind (Resv l e k x) is = absurd cc
-    plain_kind (PathTear l e k) is = absurd cc
-    plain_kind (PathErr l e at true code) is = absurd cc
-    plain_kind (PathErr l e at false code) is = absurd cc
-    plain_kind (Notify l e at k code) is = absurd cc
-
--- a Path that activates isn't the first one
-pub active_other : (m : Msg) → msg_kind m ≡ ActivePath → is_plain m ≡ false
-active_other (Path l e k route set up (Work guard)) is = absurd cc
-active_other (Path l e k route set up (Back true work primary)) is = refl
-active_other (Path l e k route set up (Back false work primary)) is = absurd cc
-active_other (Resv l e k x) is = refl
-active_other (PathTear l e k) is = refl
-active_other (PathErr l e at gone code) is = refl
-active_other (Notify l e at k code) is = refl
 
 not_asked : (k : LegKind) → is_reserved k ≡ true → k ≡ AskedLeg → ⊥
 not_asked k reserved asked = let never : false ≡ true = rw asked at reserved in cc
@@ -344,7 +276,6 @@ module _ (q : Purpose) (p : Plan) (i : ℕ) where
     answers = h.answers;
     offer = h.offer;
     sets = h.sets.1;
-    first = λ plain. h.first (later_plain (is_plain m) (has_plain down) plain);
     bare = λ pending. h.bare (elim pending [
       | inl first ↦ inl (first.0, path-later m down first.1)
       | inr asked ↦ inr asked
@@ -361,22 +292,20 @@ module _ (q : Purpose) (p : Plan) (i : ℕ) where
     answers = h.answers.1;
     offer = h.offer;
     sets = h.sets;
-    first = h.first;
     bare = h.bare;
   }
 
   -- 3. a message is sent down
   pub down_sent : (u d : Option Leg) (m : Msg) (down up : List Msg) → DownFits q p i m → SetSent u m →
-      is_plain m ≡ false → (leg_kind d ≡ NoLeg → is_path m ≡ false) → Rest q p i u d down up →
+      (leg_kind d ≡ NoLeg → is_path m ≡ false) → Rest q p i u d down up →
       Rest q p i u d (down ++ m ∷ []) up
-  down_sent u d m down up fits set other later h = record {
+  down_sent u d m down up fits set later h = record {
     going_down = each-append (DownFits q p i) down _ h.going_down (fits, tt);
     going_up = h.going_up;
     labels = h.labels;
     answers = h.answers;
     offer = h.offer;
     sets = each-append (SetSent u) down _ h.sets (set, tt);
-    first = λ plain. h.first (plain-append down m other plain);
     bare = λ pending. h.bare (elim pending [
       | inl first ↦ inl (first.0, path-append down m (later first.0) first.1)
       | inr asked ↦ inr asked
@@ -393,7 +322,6 @@ module _ (q : Purpose) (p : Plan) (i : ℕ) where
     answers = each-append (AnswerFits u d) up _ h.answers (answer, tt);
     offer = h.offer;
     sets = h.sets;
-    first = h.first;
     bare = h.bare;
   }
 
@@ -409,7 +337,6 @@ module _ (q : Purpose) (p : Plan) (i : ℕ) where
         each-map (AnswerFits u (Some g)) (AnswerFits u (Some g')) up (λ m. answer_downstream u g g' m is was) h.answers;
     offer = offer_idle u (Some g') (not_asked (leg_kind (Some g')) reserved);
     sets = h.sets;
-    first = λ plain. absurd (not_gone (leg_kind (Some g)) was (h.first plain));
     bare = λ pending. absurd (never_pending (leg_kind (Some g')) down reserved pending);
   }
 
@@ -423,7 +350,6 @@ module _ (q : Purpose) (p : Plan) (i : ℕ) where
     answers = each-any (AnswerFits u d') up (λ m. answer_idle u d' m (let_go_free (role_of q) (leg_kind d') gone));
     offer = offer_idle u d' (let_go_not_asked (role_of q) (leg_kind d') gone);
     sets = h.sets;
-    first = λ plain. absurd (no_plain down no_path plain);
     bare = λ pending. elim pending [
       | inl first ↦ (let path = first.1 in absurd (cc (no_path, path)))
       | inr asked ↦ absurd (let_go_not_asked (role_of q) (leg_kind d') gone asked)
@@ -441,7 +367,6 @@ module _ (q : Purpose) (p : Plan) (i : ℕ) where
     answers = tt;
     offer = offer_idle u (Some g') (not_asked (leg_kind (Some g')) reserved);
     sets = h.sets;
-    first = λ plain. absurd (no_plain down no_path plain);
     bare = λ pending. bare;
   }
 
@@ -456,7 +381,6 @@ module _ (q : Purpose) (p : Plan) (i : ℕ) where
     answers = tt;
     offer = offer;
     sets = h.sets;
-    first = λ plain. absurd (no_plain down no_path plain);
     bare = λ pending. bare;
   }
 
@@ -472,7 +396,6 @@ module _ (q : Purpose) (p : Plan) (i : ℕ) where
         each-map (AnswerFits (Some g) d) (AnswerFits (Some g') d) up (λ m. answer_upstream g g' d m sent) h.answers;
     offer = offer_upstream g g' d sent h.offer;
     sets = each-map (SetSent (Some g)) (SetSent (Some g')) down (λ m. set_upstream g g' m sent) h.sets;
-    first = h.first;
     bare = λ pending. still (h.bare pending);
   }
     where
@@ -491,7 +414,6 @@ module _ (q : Purpose) (p : Plan) (i : ℕ) where
         each-map (AnswerFits (Some g) d) (AnswerFits (Some g') d) up (λ m. answer_upstream g g' d m sent) h.answers;
     offer = offer_upstream g g' d sent h.offer;
     sets = each-map (SetSent (Some g)) (SetSent (Some g')) down (λ m. set_upstream g g' m sent) h.sets;
-    first = h.first;
     bare = λ pending. absurd (never_pending (leg_kind d) down reserved pending);
   }
 
@@ -505,7 +427,6 @@ module _ (q : Purpose) (p : Plan) (i : ℕ) where
     answers = each-map (AnswerFits (Some g) d) (AnswerFits None d) up (answer_gone g d) h.answers;
     offer = tt;
     sets = each-any (SetSent None) down (λ m. tt);
-    first = h.first;
     bare = λ pending. refl;
   }
 

@@ -559,6 +559,14 @@ reserved_upstream r _ _ _ _ TornReactivating e = absurd (cc e)
 reserved_upstream r _ d _ _ (Left gone) e = absurd (cc e)
 reserved_upstream r _ d _ _ (Ahead torn) e = absurd (cc e)
 
+-- So there is one.
+pub leg_downstream : (r : Role) (u d : LegKind) (down up : List MsgKind) → Shape r u d down up → is_reserved u ≡ true →
+    d ≡ NoLeg → ⊥
+leg_downstream r u d down up shape reserved gone =
+    let there : is_reserved d ≡ true = reserved_upstream r u d down up shape reserved in
+    let never : false ≡ true = rw gone at there in
+    cc never
+
 -- Nothing is under way: both legs are as one, or the upstream one is gone.
 pub data Settled : Role → LegKind → LegKind → Type 0 where
   NoneThere : {r : Role} → Settled r NoLeg NoLeg

@@ -49,8 +49,8 @@ use Rattle.mesh_laws.proofs.hops.Own.{IsOf, Own, own-leg_part, leg-other, mail-o
 use Rattle.mesh_laws.proofs.hops.Planned.{Planned, Routes, Follows, EachFollows, IsUntouched, SameOf, follows_same, next_same, or_none}
 use Rattle.mesh_laws.proofs.hops.Begun.{BeginsNone, EachStepped, stepped_quiet, stepped_then}
 use Rattle.mesh_laws.proofs.hops.Paired.{CallsMayPair, MayPair, answered_stepped, refused_stepped, no_previous, whole-route}
-use Rattle.mesh_laws.proofs.hops.PathRule.{path_keeps}
 use Rattle.mesh_laws.proofs.hops.ActivationRule.{activation_keeps}
+use Rattle.mesh_laws.proofs.hops.TakenBackRule.{plain_keeps}
 use Rattle.mesh_laws.proofs.hops.TearRule.{tear_keeps}
 use Rattle.mesh_laws.proofs.hops.Turned.{contended_stepped, decide_stepped, turned_stepped}
 use Rattle.mesh_laws.proofs.hops.ResvRule.{resv_keeps}
@@ -73,12 +73,12 @@ module _ (t : Network) (s : Mesh) (o : Routes) (q : Purpose) (rest : List Msg) (
         (pl : Planned t s o (lsp_of m) q p) → KeepsDown t q s (lsp_of m) p i pl.route pl.chain below m rest was own
         (leg_part (local_node t (node_at p (suc i))) (s.nodes (node_at p (suc i)).0) (node_at p i) m)
     taken_down (Path l e k r set label (Work guard)) own was learnt pl =
-        path_keeps t q s l p i pl.route pl.chain below e k r set label (Work guard) rest was learnt refl
+        plain_keeps t q s l p i pl.route pl.chain below e k r set label rest (Work guard) was learnt refl
     taken_down (Path l e k r set label (Back true work primary)) own was learnt pl =
         activation_keeps t q s l p i pl.route pl.chain below e k r set label work primary rest was
         (find_leg l (s.nodes (node_at p (suc i)).0).legs) refl
     taken_down (Path l e k r set label (Back false work primary)) own was learnt pl =
-        path_keeps t q s l p i pl.route pl.chain below e k r set label (Back false work primary) rest was learnt refl
+        plain_keeps t q s l p i pl.route pl.chain below e k r set label rest (Back false work primary) was learnt refl
     taken_down (Resv l e k x) own was learnt pl =
         absurd (no_resv_down (role_of q) _ _ _ _
         (down_hop t q s l p i pl.route pl.chain below (Resv l e k x) rest was own).shape)

@@ -30,7 +30,6 @@ use Rattle.mesh_laws.specs.HopLaw.{leg_at, mail_between, notices_between}
 use Rattle.mesh_nodes.proofs.Cases.{if_cases}
 use Rattle.mesh_nodes.proofs.LegList.{same_lsp-eq}
 use Rattle.mesh_laws.proofs.hops.Activation.{arms_on}
-use Rattle.mesh_laws.proofs.hops.ActivationRule.{beyond_held}
 use Rattle.mesh_laws.proofs.hops.Begun.{EachStepped, Stepped, stepped_kept, stepped_quiet}
 use Rattle.mesh_laws.proofs.hops.Chain.{Chain, LegFits, PhaseFits}
 use Rattle.mesh_laws.proofs.hops.Changed.{place_changed}
@@ -40,6 +39,7 @@ use Rattle.mesh_laws.proofs.hops.Own.{AllSent, IsOf, IsQuiet, leg-other, mail-ot
 use Rattle.mesh_laws.proofs.hops.Planned.{Planned, Routes, Follows, EachFollows, SameOf, follows_same, next_same, or_none}
 use Rattle.mesh_laws.proofs.hops.Plans.{Plan, hops, plan, node_at, link_at, distinct, same_node}
 use Rattle.mesh_laws.proofs.hops.Rest.{Purpose, Carries, Guards, Tells, role_of}
+use Rattle.mesh_laws.proofs.hops.Rows.{leg_downstream}
 use Rattle.mesh_laws.proofs.hops.Sending.{sent_by, sends_on, changed-here}
 use Rattle.mesh_laws.proofs.hops.Views.{mail-else, notices-plain}
 
@@ -75,7 +75,7 @@ module _ (t : Network) (s : Mesh) (o : Routes) (c : CallRec) where
       (let phase = fits.phase in rw held at phase) fits.tells in
       let hop = rw here at (pl.chain.each 0 small) in
       let never : leg_kind (leg_at s l (node_at p 1)) ≡ NoLeg → ⊥ =
-      beyond_held (role_of q) _ _ _ (let shape = hop.shape in rw held at shape) in
+      leg_downstream (role_of q) _ _ _ _ hop.shape (rw held refl) in
       place_changed t q l l.ingress p (leg_at s l) _ (mail_between s l) _ 0 (Some (with_phase Armed g))
       (sent_by l a.sent) [] (m ∷ [])
       pl.route pl.chain (omega arith)

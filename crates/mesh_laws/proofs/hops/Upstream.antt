@@ -35,7 +35,6 @@ module _ (q : Purpose) (p : Plan) (i : ℕ) where
           answers = tt;
           offer = tt;
           sets = tt;
-          first = λ plain. refl;
           bare = λ pending. refl;
         };
   }
@@ -54,7 +53,6 @@ module _ (q : Purpose) (p : Plan) (i : ℕ) where
       answers = tt;
       offer = tt;
       sets = (is, tt);
-      first = λ plain. refl;
       bare = λ pending. bare;
     };
   }
@@ -90,7 +88,7 @@ module _ (q : Purpose) (p : Plan) (i : ℕ) where
           Hop q p i (Some g') d (down ++ PathTear l' e' k' ∷ []) up
       resv_closes g' l' e' k' kind out sent over = record {
         shape = rw (kind, map-append, taken.none, taken.last) taken.torn;
-        rest = down_sent q p i (Some g') d (PathTear l' e' k') down up over tt refl (λ _. refl)
+        rest = down_sent q p i (Some g') d (PathTear l' e' k') down up over tt (λ _. refl)
             (upstream_keeps q p i g g' d down up out sent (up_taken q p i (Some g) d (Resv l e k x) down up h.rest));
       }
 
@@ -126,6 +124,6 @@ module _ (q : Purpose) (p : Plan) (i : ℕ) where
     leg_closes g' l e k stands kind out sent over h = record {
       shape = rw (kind, map-append) (tears (role_of q) _ _ _ _ stands h.shape);
       rest =
-          down_sent q p i (Some g') d (PathTear l e k) down up over tt refl (λ _. refl)
+          down_sent q p i (Some g') d (PathTear l e k) down up over tt (λ _. refl)
           (upstream_keeps q p i g g' d down up out sent h.rest);
     }
