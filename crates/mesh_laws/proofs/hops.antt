@@ -28,7 +28,9 @@ pub mod Views
 pub mod Paired
 pub mod Planned
 pub mod Traced
+pub mod Moved
 pub mod Turned
+pub mod Ticked
 pub mod Quiet
 pub mod Released
 pub mod Begun

@@ -147,7 +147,7 @@ stepped_quiet t s n o a f quiet l =
 
 -- One answer after the other
 
-first-append : (l : Lsp) (a b : List Out) → first_route l (a ++ b) ≡ or_route (first_route l a) (first_route l b)
+pub first-append : (l : Lsp) (a b : List Out) → first_route l (a ++ b) ≡ or_route (first_route l a) (first_route l b)
 first-append l [] b = refl
 first-append l (x ∷ a) b =
     ap (or_route (whole_route l x.msg)) (first-append l a b) ∙

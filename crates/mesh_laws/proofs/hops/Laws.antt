@@ -1,5 +1,5 @@
 -- Every hop of every LSP has a shape, in every state of every run.
-use Rattle.std.proofs.Common.{◌≡◌, ℕ, Bool, true, false, List, ◌∷◌, refl, sym, ap, ◌∙◌, subst}
+use Rattle.std.proofs.Common.{◌≡◌, ◌<◌, ℕ, Bool, true, false, List, ◌∷◌, refl, sym, ap, ◌∙◌, subst, arith}
 use Rattle.std.specs.Prelude.{◌||◌, Option, Some, None, IfSome}
 use Rattle.std.specs.List.{AllByRecursion, Contains}
 use Rattle.std.proofs.lemmas.List.Elements.{All-contains, All-from_recursion}
@@ -8,6 +8,7 @@ use Rattle.ason_base.specs.Network.{Network}
 use Rattle.ason_base.specs.declared.ids.CallNo.{CallNo}
 use Rattle.ason_base.specs.declared.ids.NodeId.{NodeId}
 use Rattle.ason_base.specs.declared.ids.Lsp.{Lsp}
+use Rattle.ason_base.specs.declared.calls.CallState.TheVariants.{Turned}
 use Rattle.ason_base.specs.declared.calls.Phase.{Phase}
 use Rattle.ason_base.specs.declared.calls.Role.{Role}
 use Rattle.ason_base.specs.declared.calls.Role.TheVariants.{Work, Back}
@@ -27,14 +28,16 @@ use Rattle.mesh_laws.specs.CallLaw.{FitsLegs, IsNamed, phase_of}
 use Rattle.mesh_laws.specs.HopLaw.{leg_at, HasOneLegEach, EveryHopHasAShape}
 use Rattle.mesh_laws.specs.NodeLaw.{DeskFits, FitsDesk}
 use Rattle.mesh_laws.proofs.nodes.Facts.{MeshFacts}
-use Rattle.mesh_laws.proofs.nodes.States.{Row, back-stands, row, work-stands}
+use Rattle.mesh_laws.proofs.nodes.CallParts.{names-back}
+use Rattle.mesh_laws.proofs.nodes.States.{Row, back-stands, row, turned-legs, work-stands}
 use Rattle.mesh_nodes.specs.Order.{LegsRise}
-use Rattle.mesh_nodes.proofs.CallList.{called-found, called-names}
+use Rattle.mesh_nodes.proofs.CallList.{all-calls_found, called-found, called-names, found-number}
 use Rattle.mesh_nodes.proofs.LegList.{all-found, found-lsp, same_lsp-eq}
 use Rattle.mesh_laws.proofs.nodes.Runs.{facts-start, facts-step, facts-hold}
 use Rattle.mesh_laws.proofs.hops.Plans.{same_node}
 use Rattle.mesh_laws.proofs.hops.Planned.{EachFollows}
-use Rattle.mesh_laws.proofs.hops.Traced.{CallsBackHere}
+use Rattle.mesh_laws.proofs.hops.Ticked.{AreApart, HaveTwo, apart-rising}
+use Rattle.mesh_laws.proofs.hops.Turned.{BackFits, IsLiveBackup}
 use Rattle.mesh_laws.proofs.hops.Released.{CallStands, NamedStands}
 use Rattle.mesh_laws.proofs.hops.Run.{CanBeProtected, ItemFits, StepFacts, WorksFor, follows_run}
 use Rattle.mesh_laws.proofs.hops.Law.{lsp_fits}
@@ -86,6 +89,17 @@ module _ (n : ℕ) (s : NodeState) (c : CallRec) (fit : FitsLegs n s.lsp s.legs 
       let phase : back_phase ≡ Some g.phase = named_phase n s.lsp s.legs Back c.egress c.back l g is here in
       let at_row : Row c.state work_phase (Some g.phase) = subst (Row c.state work_phase) phase state_row in
       ((back_named l is).ingress, not_torn g.phase (λ torn. back-stands c.state work_phase g.phase at_row torn))
+
+  -- while the call is turned, its backup is cross-connected
+  back_live : (l : Lsp) (g : Leg) → c.back ≡ Some l → find_leg l s.legs ≡ Some g → c.state ≡ Turned → IsLiveBackup g
+  back_live l g is here turned =
+      let phase : back_phase ≡ Some g.phase = named_phase n s.lsp s.legs Back c.egress c.back l g is here in
+      let at_row : Row Turned work_phase back_phase =
+      subst (λ state. Row state work_phase back_phase) turned state_row in
+      let live = (turned-legs work_phase back_phase at_row).1 in
+      let leg = (back_named l is).leg in
+      let same : leg.0 ≡ g = (let there = leg.1 in cc (there, here)) in
+      record { role = ap (λ (h : Leg). h.role) (sym same) ∙ leg.2; live = cc (phase, live) }
 
   -- the two LSPs of a call aren't one, since a leg has one role
   two : (k l : Lsp) → c.work ≡ Some k → c.back ≡ Some l → k ≡ l → ⊥
@@ -188,20 +202,46 @@ module _ (t : Network) (s : Mesh) (facts : MeshFacts t s) where
 
 -- The leg of a call's backup
 
-backs_here : (t : Network) (s : Mesh) → MeshFacts t s → CallsBackHere s
-backs_here t s facts n l c called b here = go c.back refl here
-  where
-    stands : CallStands n.0 (s.nodes n.0) c
-    stands =
-        call_stands n.0 (s.nodes n.0) c
-        ((facts.node n.0).call c.call c
-        (called-found l (s.nodes n.0).calls c (facts.node n.0).calls_rise called))
+back_named_by : (legs : List Leg) (back : Option Lsp) (b : Leg) → leg_of back legs ≡ Some b → back ≡ Some b.lsp
+back_named_by legs None b here = absurd (cc here)
+back_named_by legs (Some l) b here = ap Some (sym (found-lsp l legs b here))
 
-    go : (back : Option Lsp) → c.back ≡ back → leg_of back (s.nodes n.0).legs ≡ Some b → b.lsp.ingress.0 ≡ n.0
-    go None is here = absurd (cc here)
-    go (Some k) is here =
-        let own : b.lsp ≡ k = found-lsp k (s.nodes n.0).legs b here in
-        subst (λ (j : Lsp). j.ingress.0 ≡ n.0) (sym own) (stands.back k b is here).0
+module _ (t : Network) (s : Mesh) (facts : MeshFacts t s) where
+  backs_fit : (n : NodeId) (k : CallNo) (c : CallRec) → find_call k (s.nodes n.0).calls ≡ Some c →
+      BackFits s n c.state (leg_of c.back (s.nodes n.0).legs)
+  backs_fit n k c found b here =
+      let fit = (facts.node n.0).call k c found in
+      let is = back_named_by (s.nodes n.0).legs c.back b here in
+      let there : leg_at s b.lsp n ≡ Some b = subst (λ back. leg_of back (s.nodes n.0).legs ≡ Some b) is here in
+      record {
+        begins = record { there = there; ingress = (back_named n.0 (s.nodes n.0) c fit b.lsp is).ingress };
+        turned = back_live n.0 (s.nodes n.0) c fit b.lsp b is there;
+      }
+
+  -- calls with one backup are one
+  backs_apart : (n : ℕ) → AreApart (s.nodes n).legs (s.nodes n).calls
+  backs_apart n =
+      let calls = (s.nodes n).calls in
+      let rise = (facts.node n).calls_rise in
+      apart-rising (s.nodes n).legs calls rise
+      (all-calls_found (λ c. AllByRecursion (λ d. c.call.0 < d.call.0 → HaveTwo (s.nodes n).legs c d) calls) calls rise
+      (λ k c found. all-calls_found (λ d. c.call.0 < d.call.0 → HaveTwo (s.nodes n).legs c d) calls rise
+      (λ m d there less b g at_b at_g. two_backs k m c d found there less b g at_b at_g (same_lsp b.lsp g.lsp) refl)))
+    where
+      two_backs : (k m : CallNo) (c d : CallRec) → find_call k (s.nodes n).calls ≡ Some c →
+          find_call m (s.nodes n).calls ≡ Some d → c.call.0 < d.call.0 → (b g : Leg) →
+          leg_of c.back (s.nodes n).legs ≡ Some b → leg_of d.back (s.nodes n).legs ≡ Some g → (x : Bool) →
+          same_lsp b.lsp g.lsp ≡ x → x ≡ false
+      two_backs k m c d found there less b g at_b at_g false e = refl
+      two_backs k m c d found there less b g at_b at_g true e =
+          let one = same_lsp-eq b.lsp g.lsp e in
+          let by_c = names-back c b.lsp (back_named_by (s.nodes n).legs c.back b at_b) in
+          let by_d = names-back d b.lsp (back_named_by (s.nodes n).legs d.back g at_g ∙ ap Some (sym one)) in
+          let same = (facts.node n).one_call b.lsp k m c d found there by_c by_d in
+          let number : c.call.0 ≡ d.call.0 =
+          ap (λ x. x.0) (found-number k (s.nodes n).calls c found ∙ same ∙ sym
+          (found-number m (s.nodes n).calls d there)) in
+          absurd (omega arith)
 
 -- each leg of a list in order is the one of its LSP
 each_stands : (legs : List Leg) → LegsRise legs → AllByRecursion (λ g. find_leg g.lsp legs ≡ Some g) legs
@@ -228,7 +268,8 @@ step_facts t s facts = record {
   rise = λ n. (facts.node n).calls_rise;
   pair = pairs t s facts;
   protect = protects_call t s facts;
-  backs = backs_here t s facts;
+  backs = backs_fit t s facts;
+  apart = backs_apart t s facts;
   stand = λ n. each_stands (s.nodes n).legs (facts.node n).legs_rise;
   desk = λ n i items is. item_fits t n i (let fits : DeskFits t n (i ∷ items) = rw is at (facts.desk n) in fits.0);
   learnt = facts.learnt;

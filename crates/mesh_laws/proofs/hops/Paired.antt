@@ -9,8 +9,11 @@ use Rattle.ason_base.specs.declared.ids.Lsp.{Lsp}
 use Rattle.ason_base.specs.declared.ids.NodeId.{NodeId}
 use Rattle.ason_base.specs.declared.steps.Step.{Step}
 use Rattle.ason_base.specs.declared.network.LinkSpec.{LinkSpec}
+use Rattle.ason_base.specs.declared.calls.CallState.TheVariants.{Guarded}
 use Rattle.ason_base.specs.declared.calls.Cause.{Cause}
 use Rattle.ason_base.specs.declared.calls.Cause.TheVariants.{Code, Full, NoBackup, Spent}
+use Rattle.ason_base.specs.declared.calls.Phase.TheVariants.{Armed}
+use Rattle.ason_base.specs.declared.calls.Role.TheVariants as role
 use Rattle.ason_base.specs.declared.tables.CallRec.{CallRec}
 use Rattle.ason_base.specs.declared.tables.Leg.{Leg}
 use Rattle.mesh_rules.specs.State.{NodeState}
@@ -33,12 +36,12 @@ use Rattle.mesh_nodes.proofs.Cases.{both_left, if_cases}
 use Rattle.mesh_nodes.proofs.routes.Beside.{found-beside}
 use Rattle.mesh_nodes.proofs.routes.Nodes.{known-are}
 use Rattle.mesh_laws.proofs.hops.Plans.{plan, node_at, fibre_at, IsRoute, lt_true, same_node}
-use Rattle.mesh_laws.proofs.hops.LegChanges.{previous_is}
+use Rattle.mesh_laws.proofs.hops.LegChanges.{armed_role, previous_is}
 use Rattle.mesh_laws.proofs.hops.Rest.{Purpose, Guards}
 use Rattle.mesh_laws.proofs.hops.Risks.{recorded-fit}
 use Rattle.mesh_laws.proofs.hops.Chain.{LegFits}
 use Rattle.mesh_laws.proofs.hops.Own.{IsQuiet}
-use Rattle.mesh_laws.proofs.hops.Turned.{BeginsHere, decide_stepped}
+use Rattle.mesh_laws.proofs.hops.Turned.{BackStands, decide_stepped}
 use Rattle.mesh_laws.proofs.hops.Planned.{Routes, Follows, EachFollows}
 use Rattle.mesh_laws.proofs.hops.Begun.{EachStepped, starts_over, stepped_quiet, begins_stepped}
 
@@ -79,6 +82,18 @@ no_previous t s o l n g (Some route) (e, q, pl) here first =
         node_at (plan route e) i ≡ node_at (plan route e) 0
     at_place zero fits = refl
     at_place (suc j) fits = absurd (let some = previous_is t q l (plan route e) j g fits in cc (some, first))
+
+-- an Armed leg is a backup's
+pub armed_backup : (t : Network) (s : Mesh) (o : Routes) (l : Lsp) (n : NodeId) (g : Leg) (c : Option (List Step)) →
+    Follows t s o l c → leg_at s l n ≡ Some g → g.phase ≡ Armed → g.role ≡ role.Back
+armed_backup t s o l n g None f here armed = absurd (let none = f.legs n in cc (none, here))
+armed_backup t s o l n g (Some route) (e, q, pl) here armed =
+    elim (pl.chain.legs n) [
+      | inl none ↦ absurd (cc (none, here))
+      | inr (i, small, at_n) ↦ (let is = same_node n (node_at (plan route e) i) at_n in
+          let fits : LegFits t q l (plan route e) i g =
+          rw (← is, here) at (pl.chain.fits i small) in armed_role t q l (plan route e) i g fits armed)
+    ]
 
 -- A backup beside it
 
@@ -185,13 +200,16 @@ module _ (t : Network) (s : Mesh) (n : NodeId) (o : Routes) (f : EachFollows t s
         (λ protected. pair_stepped c g here (may c refl work protected) sent)
         (λ h. put_stepped (bare c)))
         (λ h. none_stepped))
-        (λ h. if_cases Steps (is_pairing c.state) _ _ (λ h. decide_stepped t s n o f (guarded c) (Some g) begins)
+        (λ h. if_cases Steps (is_pairing c.state) _ _ (λ h. decide_stepped t s n o f (guarded c) (Some g) fits)
         (λ h. none_stepped))
       where
-        begins : (b : Leg) → Some g ≡ Some b → BeginsHere s n b
-        begins b is =
+        fits : (b : Leg) → Some g ≡ Some b → BackStands s n Guarded b
+        fits b is =
             let one : g ≡ b = cc is in
-            subst (BeginsHere s n) one (record { there = stands; ingress = ap (λ (m : NodeId). m.0) here })
+            subst (BackStands s n Guarded) one (record {
+              begins = record { there = stands; ingress = ap (λ (m : NodeId). m.0) here };
+              turned = λ e. absurd (cc e);
+            })
 
     pub refused_stepped : (code : ErrCode) (called : Option CallRec) →
         EachStepped t s n o (call_refused code g called)

@@ -21,10 +21,12 @@ use Rattle.mesh_rules.specs.KnownRows.{has_row, known_rows}
 use Rattle.mesh_rules.specs.Learnt.{on_link}
 use Rattle.mesh_rules.specs.LocalNodes.{LocalNode, local_node}
 use Rattle.mesh_rules.specs.State.{NodeState}
-use Rattle.mesh_rules.specs.Calls.{call_with, find_call, is_bare, is_stuck}
+use Rattle.mesh_rules.specs.Calls.{call_with, find_call, is_bare, is_stuck, is_turned}
 use Rattle.mesh_rules.specs.Legs.{is_work, leg_of}
 use Rattle.mesh_rules.specs.Retries.{retry_with}
+use Rattle.mesh_rules.specs.Reverts.{revert_with}
 use Rattle.mesh_rules.specs.Turns.{has_any}
+use Rattle.mesh_rules.specs.Waits.{on_tick}
 use Rattle.mesh_rules.specs.Protects.{protect_with, protects}
 use Rattle.mesh_rules.specs.Orders.{on_order, on_item}
 use Rattle.mesh_rules.specs.Commands.{has_way, is_searchable, is_valid}
@@ -34,11 +36,13 @@ use Rattle.mesh_rules.proofs.Conjunctions.{and_first, and_second}
 use Rattle.mesh_laws.specs.HopLaw.{leg_at}
 use Rattle.mesh_nodes.specs.Order.{CallsRise}
 use Rattle.mesh_nodes.specs.Routes.{AreRowsOf}
+use Rattle.mesh_nodes.proofs.CallList.{all-calls_found, called-found}
 use Rattle.mesh_nodes.proofs.Cases.{if_cases}
 use Rattle.mesh_laws.proofs.hops.GivenBackups.{EachGivenBeside, given-step}
-use Rattle.mesh_nodes.proofs.LegList.{found-lsp}
 use Rattle.mesh_laws.proofs.hops.NoticeRule.{EachStands, alarm_stepped, clear_stepped}
-use Rattle.mesh_laws.proofs.hops.Turned.{BeginsHere, turn_stepped}
+use Rattle.mesh_laws.proofs.hops.Moved.{stays_stepped}
+use Rattle.mesh_laws.proofs.hops.Ticked.{AreApart, all_ticked_stays, turned_is}
+use Rattle.mesh_laws.proofs.hops.Turned.{BackFits, go_back_stepped, turn_stepped}
 use Rattle.mesh_laws.proofs.hops.Own.{IsQuiet}
 use Rattle.mesh_laws.proofs.hops.Quiet.{same_quiet}
 use Rattle.mesh_laws.proofs.hops.Planned.{Routes, EachFollows, SameOf, follows_same, or_assoc, or_none}
@@ -76,7 +80,9 @@ pub record StepFacts (t : Network) (s : Mesh) : Type 0 where
       call_with g.lsp (s.nodes n.0).calls ≡ Some c → is_work g.role ≡ true → c.protected ≡ true → WorksFor t s n c g
   pub protect : (n : NodeId) (k : CallNo) (c : CallRec) (w : Leg) → find_call k (s.nodes n.0).calls ≡ Some c →
       leg_of c.work (s.nodes n.0).legs ≡ Some w → is_searchable t ≡ true → CanBeProtected t s n c w
-  pub backs : CallsBackHere s
+  pub backs : (n : NodeId) (k : CallNo) (c : CallRec) → find_call k (s.nodes n.0).calls ≡ Some c →
+      BackFits s n c.state (leg_of c.back (s.nodes n.0).legs)
+  pub apart : (n : ℕ) → AreApart (s.nodes n).legs (s.nodes n).calls
   pub stand : (n : ℕ) → EachStands (s.nodes n)
   pub desk : (n : ℕ) (i : DeskItem) (items : List DeskItem) → s.desks n ≡ i ∷ items → ItemFits t i
   pub learnt : (n : ℕ) → AreRowsOf t (s.nodes n).learnt
@@ -94,6 +100,10 @@ may_pair t s o n c w each works = record {
 calls_may_pair : (t : Network) (s : Mesh) (o : Routes) → StepFacts t s → EachGivenBeside t s o → CallsMayPair t s o
 calls_may_pair t s o facts each n g c here called work protected =
     may_pair t s o n c g each (facts.pair n g c here called work protected)
+
+backs_here : (t : Network) (s : Mesh) → StepFacts t s → CallsBackHere s
+backs_here t s facts n l c called =
+    facts.backs n c.call c (called-found l (s.nodes n.0).calls c (facts.rise n.0) called)
 
 -- One item of a desk
 
@@ -131,25 +141,26 @@ module _ (t : Network) (s : Mesh) (o : Routes) (n : NodeId) (f : EachFollows t s
       if_cases Steps (nat_eq from.0 n.0 && is_bare c.state) _ _
       (λ h. protects_stepped k c e searchable (leg_of c.work (s.nodes n.0).legs) refl) (λ h. none_stepped)
 
-  -- the leg of a call's backup is the one that stands where it begins
-  back_begins : (k : CallNo) (c : CallRec) → find_call k (s.nodes n.0).calls ≡ Some c → (back : Option Lsp) →
-      c.back ≡ back → (b : Leg) → leg_of back (s.nodes n.0).legs ≡ Some b → BeginsHere s n b
-  back_begins k c found None is b here = absurd (cc here)
-  back_begins k c found (Some l) is b here =
-      let own : b.lsp ≡ l = found-lsp l (s.nodes n.0).legs b here in
-      record {
-        there = subst (λ j. leg_at s j n ≡ Some b) (sym own) here;
-        ingress = subst (λ (j : Lsp). j.ingress.0 ≡ n.0) (sym own) ((facts.call n.0 k c found).back l b is here).0;
-      }
-
   retry_stepped : (k : CallNo) (from : NodeId) (c : Option CallRec) → find_call k (s.nodes n.0).calls ≡ c →
       Steps (retry_with (local_node t n) (s.nodes n.0) from c)
   retry_stepped k from None e = none_stepped
   retry_stepped k from (Some c) e =
       if_cases Steps (nat_eq from.0 n.0) _ _
       (λ h. if_cases Steps (is_stuck c.state && (has_any c.work_reports && not (has_any c.back_reports))) _ _
-      (λ stuck. turn_stepped t s n o f c (leg_of c.back (s.nodes n.0).legs) (λ b. back_begins k c e c.back refl b))
+      (λ stuck. turn_stepped t s n o f c (leg_of c.back (s.nodes n.0).legs)
+      (λ b here. (facts.backs n k c e b here).begins))
       (λ stuck. none_stepped))
+      (λ h. none_stepped)
+
+  revert_stepped : (k : CallNo) (from : NodeId) (c : Option CallRec) → find_call k (s.nodes n.0).calls ≡ c →
+      Steps (revert_with (local_node t n) (s.nodes n.0) from c)
+  revert_stepped k from None e = none_stepped
+  revert_stepped k from (Some c) e =
+      if_cases Steps (nat_eq from.0 n.0) _ _
+      (λ h. if_cases Steps (is_turned c.state && not (has_any c.work_reports)) _ _
+      (λ waits. go_back_stepped t s n o f c (leg_of c.back (s.nodes n.0).legs)
+      (turned_is c.state (and_first (is_turned c.state) _ waits)) (facts.backs n k c e))
+      (λ waits. none_stepped))
       (λ h. none_stepped)
 
   order_stepped : (c : Command) → is_valid t c ≡ true → Steps (on_order (local_node t n) (s.nodes n.0) c)
@@ -164,7 +175,7 @@ module _ (t : Network) (s : Mesh) (o : Routes) (n : NodeId) (f : EachFollows t s
   order_stepped (Protect k from) valid =
       protect_stepped k from (and_second (is_node_id t.nodes from) _ valid) (find_call k (s.nodes n.0).calls) refl
   order_stepped (Retry k from) valid = retry_stepped k from (find_call k (s.nodes n.0).calls) refl
-  order_stepped (Revert k from) valid = none_stepped
+  order_stepped (Revert k from) valid = revert_stepped k from (find_call k (s.nodes n.0).calls) refl
   order_stepped (Fail g) valid = none_stepped
   order_stepped (Repair g) valid = none_stepped
 
@@ -177,6 +188,17 @@ module _ (t : Network) (s : Mesh) (o : Routes) (n : NodeId) (f : EachFollows t s
       Steps (on_first_item (local_node t n) (s.nodes n.0) items)
   first_stepped [] is = none_stepped
   first_stepped (i ∷ items) is = item_stepped i (facts.desk n.0 i items is)
+
+  -- A tick
+
+  tick_stepped : Steps (on_tick (local_node t n) (s.nodes n.0))
+  tick_stepped =
+      let calls = (s.nodes n.0).calls in
+      let legs = (s.nodes n.0).legs in
+      stays_stepped t s n o (on_tick (local_node t n) (s.nodes n.0))
+      (all_ticked_stays t n o t.wait legs calls s f
+      (all-calls_found (λ c. BackFits s n c.state (leg_of c.back legs)) calls (facts.rise n.0) (facts.backs n))
+      (facts.apart n.0))
 
 -- Every event
 
@@ -250,12 +272,12 @@ step_follows : (t : Network) (s : Mesh) (e : MeshEvent) (o : Routes) → is_enab
     StepFacts t s → Carried t s o → EachFollows t (step t s e) (step_routes t s e o)
 step_follows t s (Take d u) o enabled facts c l =
     (traced_take t s o d u (s.mail u.0 d.0) refl enabled (facts.learnt d.0) c.follows
-    (calls_may_pair t s o facts c.given) facts.backs l).follows
+    (calls_may_pair t s o facts c.given) (backs_here t s facts) l).follows
 step_follows t s (Desk n) o enabled facts c l =
     let a = on_first_item (local_node t n) (s.nodes n.0) (s.desks n.0) in
     follows_same t (commit s n.0 a) (step t s (Desk n)) (step_routes t s (Desk n) o) l _ (desk_same t s n a l)
     (first_stepped t s o n c.follows facts c.given (s.desks n.0) refl l).follows
-step_follows t s (Tick n) o enabled facts c l = (stepped_nothing t s n o c.follows l).follows
+step_follows t s (Tick n) o enabled facts c l = (tick_stepped t s o n c.follows facts c.given l).follows
 step_follows t s (Learn n k) o enabled facts c l =
     let a = on_link (local_node t n) (s.nodes n.0) (find_link t k) in
     unsent t (step t s (Learn n k)) o (λ l. follows_same t s (commit s n.0 a) o l (o l)

@@ -2,14 +2,14 @@
 use Rattle.std.proofs.Common.{◌≡◌, ◌<◌, ℕ, suc, Bool, true, false, List, [], ◌∷◌, refl, sym, ap, ◌∙◌, subst, arith, inl, inr}
 use Rattle.std.specs.Prelude.{◌⊎◌, ◌&&◌, not, Option, Some, None}
 use Rattle.ason_base.specs.Network.{Network}
-use Rattle.ason_base.specs.Lsps.{same_lsp}
+use Rattle.ason_base.specs.Lsps.{is_lsp, same_lsp}
 use Rattle.ason_base.specs.declared.ids.Fibre.{Fibre}
 use Rattle.ason_base.specs.declared.ids.LinkId.{LinkId}
 use Rattle.ason_base.specs.declared.ids.Lsp.{Lsp}
 use Rattle.ason_base.specs.declared.ids.NodeId.{NodeId}
 use Rattle.ason_base.specs.declared.steps.Step.{Step}
 use Rattle.ason_base.specs.declared.codes.ErrCode.{ErrCode}
-use Rattle.ason_base.specs.declared.calls.Phase.TheVariants.{Held, Live}
+use Rattle.ason_base.specs.declared.calls.Phase.TheVariants.{Armed, Held, Live}
 use Rattle.ason_base.specs.declared.tables.CallRec.{CallRec}
 use Rattle.ason_base.specs.declared.tables.Leg.{Leg}
 use Rattle.ason_base.specs.declared.tables.Out.{Out}
@@ -35,8 +35,9 @@ use Rattle.mesh_laws.specs.HopLaw.{lsp_of, is_notice, is_message_of, messages_of
 use Rattle.mesh_laws.proofs.hops.Plans.{Plan, hops, plan, node_at, same_node}
 use Rattle.mesh_laws.proofs.hops.Rows.{no_resv_down, no_removal_down, no_contention_down, no_path_up, no_active_up, no_tear_up}
 use Rattle.mesh_nodes.specs.Routes.{AreRowsOf}
-use Rattle.mesh_nodes.proofs.Cases.{if_cases}
+use Rattle.mesh_nodes.proofs.Cases.{both_left, if_cases}
 use Rattle.mesh_nodes.proofs.LegList.{found-lsp, same_lsp-eq, same_lsp-refl}
+use Rattle.mesh_laws.proofs.nodes.PhaseLegs.{armed-is}
 use Rattle.mesh_laws.proofs.hops.Views.{and_false, leg-here, notices-plain, notices-without, without-other}
 use Rattle.mesh_laws.proofs.hops.Rest.{Purpose, role_of}
 use Rattle.mesh_laws.proofs.hops.Chain.{OnRoute, Chain}
@@ -48,19 +49,24 @@ use Rattle.mesh_laws.proofs.hops.Notices.{notices_same}
 use Rattle.mesh_laws.proofs.hops.Own.{IsOf, Own, own-leg_part, leg-other, mail-other, route-other, sent-plain}
 use Rattle.mesh_laws.proofs.hops.Planned.{Planned, Routes, Follows, EachFollows, IsUntouched, SameOf, follows_same, next_same, or_none}
 use Rattle.mesh_laws.proofs.hops.Begun.{BeginsNone, EachStepped, stepped_quiet, stepped_then}
-use Rattle.mesh_laws.proofs.hops.Paired.{CallsMayPair, MayPair, answered_stepped, refused_stepped, no_previous, whole-route}
+use Rattle.mesh_laws.proofs.hops.Paired.{CallsMayPair, MayPair, answered_stepped, armed_backup, refused_stepped, no_previous, whole-route}
 use Rattle.mesh_laws.proofs.hops.ActivationRule.{activation_keeps}
 use Rattle.mesh_laws.proofs.hops.TakenBackRule.{plain_keeps}
 use Rattle.mesh_laws.proofs.hops.TearRule.{tear_keeps}
-use Rattle.mesh_laws.proofs.hops.Turned.{contended_stepped, decide_stepped, turned_stepped}
+use Rattle.mesh_laws.proofs.hops.Turned.{BackFits, BackStands, contended_stepped, decide_stepped, turned_stepped}
 use Rattle.mesh_laws.proofs.hops.ResvRule.{resv_keeps}
 use Rattle.mesh_laws.proofs.hops.ErrRule.{err_keeps}
 
--- the leg of a call's backup begins at the call's ingress
+-- the leg of a call's backup begins at the call's ingress, and is cross-connected there while the call is turned
 abbrev pub CallsBackHere : Mesh → Type 0
 CallsBackHere s =
     (n : NodeId) (l : Lsp) (c : CallRec) → call_with l (s.nodes n.0).calls ≡ Some c →
-    (b : Leg) → leg_of c.back (s.nodes n.0).legs ≡ Some b → b.lsp.ingress.0 ≡ n.0
+    BackFits s n c.state (leg_of c.back (s.nodes n.0).legs)
+
+-- a report changes no call's state
+reported_state : (c : CallRec) (l : Lsp) (down : Bool) (f : Fibre) → (with_report c l down f).state ≡ c.state
+reported_state c l down f =
+    if_cases (λ (d : CallRec). d.state ≡ c.state) (is_lsp c.work l) _ _ (λ works. refl) (λ backs. refl)
 
 -- A message of the LSP is taken on its route
 
@@ -307,11 +313,22 @@ module _ (t : Network) (s : Mesh) (o : Routes) (d u : NodeId) (m : Msg) (rest : 
           refused_stepped t (after_leg t s d u m) d o leg_follows (s.nodes d.0) (sym (take_next d.0)) learnt
           g (begins_here first) (sent_here first) code (call_with g.lsp (s.nodes d.0).calls)
 
-      turned_here : (h : Option Neighbour) →
+      turned_here : g.phase ≡ Armed → (h : Option Neighbour) → previous g ≡ h →
+          (previous g ≡ None → leg_part (local_node t d) (s.nodes d.0) u m ≡ puts (with_phase Live g) []) →
           Steps (at_ingress h (call_turned (with_phase Live g) (call_with g.lsp (s.nodes d.0).calls)))
-      turned_here (Some h) = quiet
-      turned_here None =
+      turned_here armed (Some h) first puts = quiet
+      turned_here armed None first puts =
           turned_stepped t (after_leg t s d u m) d o leg_follows (with_phase Live g)
+          (record {
+            begins = record {
+              there = placed (with_phase Live g) [] (puts first);
+              ingress = ap (λ (n : NodeId). n.0) (begins_here first);
+            };
+            turned = λ _. record {
+              role = armed_backup t s o g.lsp d g (o g.lsp) (f g.lsp) stands armed;
+              live = refl;
+            };
+          })
           (call_with g.lsp (s.nodes d.0).calls)
 
       contended_here : (h : Option Neighbour) →
@@ -333,7 +350,9 @@ module _ (t : Network) (s : Mesh) (o : Routes) (d u : NodeId) (m : Msg) (rest : 
     resv_call l e k x is (Some g) here =
         if_cases Steps (is_expected (arrival l e u k) x g) _ _
         (λ expected. answered_here l g here x (previous g) refl (λ first. part expected first))
-        (λ other. if_cases Steps (is_confirmed (arrival l e u k) x g) _ _ (λ c. turned_here l g here (previous g))
+        (λ other. if_cases Steps (is_confirmed (arrival l e u k) x g) _ _
+        (λ c. turned_here l g here (armed-is g.phase (both_left (is_armed g.phase) _ c)) (previous g) refl
+        (λ first. confirmed other c first))
         (λ c. quiet))
       where
         part : is_expected (arrival l e u k) x g ≡ true → previous g ≡ None →
@@ -342,6 +361,13 @@ module _ (t : Network) (s : Mesh) (o : Routes) (d u : NodeId) (m : Msg) (rest : 
             ap (leg_part (local_node t d) (s.nodes d.0) u) is ∙
             ap (leg_of_resv (local_node t d) (s.nodes d.0) (arrival l e u k) x) here ∙
             rw (expected, first) refl
+
+        confirmed : is_expected (arrival l e u k) x g ≡ false → is_confirmed (arrival l e u k) x g ≡ true →
+            previous g ≡ None → leg_part (local_node t d) (s.nodes d.0) u m ≡ puts (with_phase Live g) []
+        confirmed other c first =
+            ap (leg_part (local_node t d) (s.nodes d.0) u) is ∙
+            ap (leg_of_resv (local_node t d) (s.nodes d.0) (arrival l e u k) x) here ∙
+            rw (other, c, first) refl
 
     err_call : (l : Lsp) (failure : PathFailure) (h : Option Leg) → leg_at s l d ≡ h →
         Steps (call_of_err (s.nodes d.0) u failure h)
@@ -357,21 +383,20 @@ module _ (t : Network) (s : Mesh) (o : Routes) (d u : NodeId) (m : Msg) (rest : 
           leg-here (without_first s u.0 d.0) d l (leg_part (local_node t d) (s.nodes d.0) u m) ∙
           ap (λ cs. leg_after l cs (leg_at s l d)) (notice_only (local_node t d) (s.nodes d.0) u m notice).legs
 
-      named : (back : Option Lsp) (b : Leg) → leg_of back (s.nodes d.0).legs ≡ Some b → leg_at s b.lsp d ≡ Some b
-      named None b is = absurd (cc is)
-      named (Some k) b is =
-          subst (λ j. leg_at s j d ≡ Some b) (sym (found-lsp k (s.nodes d.0).legs b is)) is
-
       reported_call : (l : Lsp) (down : Bool) (fibre : Fibre) (called : Option CallRec) →
           call_with l (s.nodes d.0).calls ≡ called → Steps (call_reported (s.nodes d.0) l down fibre called)
       reported_call l down fibre None is = quiet
       reported_call l down fibre (Some c) is =
           decide_stepped t (after_leg t s d u m) d o leg_follows (with_report c l down fibre)
           (leg_of c.back (s.nodes d.0).legs)
-          (λ b back. record {
-            there = still b.lsp ∙ named c.back b back;
-            ingress = backs d l c is b back;
-          })
+          (λ b back. subst (λ state. BackStands (after_leg t s d u m) d state b) (sym (reported_state c l down fibre))
+          (record {
+            begins = record {
+              there = still b.lsp ∙ (backs d l c is b back).begins.there;
+              ingress = (backs d l c is b back).begins.ingress;
+            };
+            turned = (backs d l c is b back).turned;
+          }))
 
       reported_here : (g : Leg) (down : Bool) (fibre : Option Fibre) → Steps (reported_on (s.nodes d.0) g down fibre)
       reported_here g down None = quiet
