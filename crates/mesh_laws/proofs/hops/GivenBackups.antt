@@ -1,6 +1,7 @@
 -- The backup route that a call was given stands beside the route of its working LSP, in every state of every run.
-use Rattle.std.proofs.Common.{◌≡◌, ◌<◌, ◌⊎◌, inl, inr, ℕ, Bool, true, false, cond, nat_eq, nat_lt, List, [], ◌∷◌, ◌++◌, drop, length, refl, sym, ap, ◌∙◌, subst, arith}
-use Rattle.std.specs.Prelude.{◌&&◌, not, Option, Some, None}
+use Rattle.std.proofs.Common.{◌≡◌, ◌<◌, ◌⊎◌, inl, inr, ℕ, Bool, true, false, cond, nat_eq, nat_le, nat_lt, List, [], ◌∷◌, ◌++◌, drop, length, refl, sym, ap, ◌∙◌, subst, arith}
+use Rattle.std.specs.Prelude.{◌+◌, ◌&&◌, not, Option, Some, None}
+use Rattle.std.specs.List.{AllByRecursion}
 use Rattle.ason_base.specs.Codes.{fibre_down_code, fibre_up_code}
 use Rattle.ason_base.specs.Lsps.{has_fibre, without_fibre}
 use Rattle.ason_base.specs.Network.{Network, find_link, row_of}
@@ -22,22 +23,26 @@ use Rattle.ason_base.specs.declared.tables.Leg.{Leg}
 use Rattle.mesh_rules.specs.declared.events.MeshEvent.{MeshEvent}
 use Rattle.mesh_rules.specs.declared.events.MeshEvent.TheVariants.{Take, Desk, Tick, Learn, Post}
 use Rattle.mesh_rules.specs.Alarms.{enters, knows_down}
-use Rattle.mesh_rules.specs.Calls.{find_call, is_stuck, turning}
+use Rattle.mesh_rules.specs.Calls.{find_call, guarded, is_stuck, is_turned, turning}
 use Rattle.mesh_rules.specs.Changes.{Answer, changed, learns, nothing}
 use Rattle.mesh_rules.specs.Commands.{has_backup_way, is_valid}
 use Rattle.mesh_rules.specs.Events.{first_route, on_first, on_first_item, or_route, posted, sent_at_ingress, step}
 use Rattle.mesh_rules.specs.FirstLegs.{first_link}
 use Rattle.mesh_rules.specs.KnownRows.{has_row, known_rows}
 use Rattle.mesh_rules.specs.Learnt.{on_link}
-use Rattle.mesh_rules.specs.Legs.{is_held, leg_of}
+use Rattle.mesh_rules.specs.Legs.{is_held, is_in_use, leg_of}
 use Rattle.mesh_rules.specs.Retries.{retries, retry_with}
-use Rattle.mesh_rules.specs.Turns.{arms, call_put, has_any, turn}
+use Rattle.mesh_rules.specs.Reverts.{revert_with, reverts}
+use Rattle.mesh_rules.specs.Turns.{arms, call_put, disarms, go_back, has_any, turn}
+use Rattle.mesh_rules.specs.Waits.{all_ticked, on_tick, ticked, waits}
 use Rattle.mesh_rules.specs.LocalNodes.{LocalNode, local_node, own_link}
 use Rattle.mesh_rules.specs.Machine.{Mesh, commit, without_first, without_item}
 use Rattle.mesh_rules.specs.Orders.{on_item}
 use Rattle.mesh_rules.specs.Setups.{SetupRequest, begins, is_order_here, next_lsp, setup_with}
 use Rattle.mesh_rules.specs.State.{NodeState}
 use Rattle.mesh_nodes.specs.Order.{CallsRise}
+use Rattle.mesh_nodes.proofs.Alarms.{all-append}
+use Rattle.mesh_nodes.proofs.CallList.{all-calls_found}
 use Rattle.mesh_nodes.proofs.Cases.{both_left, both_right, if_cases}
 use Rattle.mesh_nodes.proofs.LegList.{same_lsp-refl}
 use Rattle.mesh_laws.proofs.nodes.CallsHold.{ArePut, EachCall, IsSameCall, each-after, message-holds, protect-holds, release-holds, setup-holds}
@@ -189,6 +194,14 @@ module _ (t : Network) (s : Mesh) (n : NodeId) (o : Routes) (f : EachFollows t s
         (record { egress = refl; protected = refl; backup = refl; work = inl refl }) here)
         (λ h. same-puts (call_put c) c c (same-call c) here)
 
+    back-puts : (a : Answer) (c : CallRec) (b : Option Leg) → GivenBeside t o n c →
+        ArePut (GivenBeside t (grown n o a) n) (go_back c b).calls
+    back-puts a c None here = same-puts a c c (same-call c) here
+    back-puts a c (Some b) here =
+        if_cases (λ x. ArePut (GivenBeside t (grown n o a) n) x.calls) (is_in_use b.phase) (disarms c b) (call_put c)
+        (λ h. same-puts a c (guarded c) (record { egress = refl; protected = refl; backup = refl; work = inl refl }) here)
+        (λ h. same-puts a c c (same-call c) here)
+
     retry-puts : (from : NodeId) (k : CallNo) (c : Option CallRec) → find_call k (s.nodes n.0).calls ≡ c →
         Puts (retry_with (local_node t n) (s.nodes n.0) from c)
     retry-puts from k None is = tt
@@ -198,6 +211,44 @@ module _ (t : Network) (s : Mesh) (n : NodeId) (o : Routes) (f : EachFollows t s
         (turn c (leg_of c.back (s.nodes n.0).legs)) nothing
         (λ stuck. turn-puts c (leg_of c.back (s.nodes n.0).legs) (each n k c is)) (λ stuck. tt))
         (λ h. tt)
+
+    revert-puts : (from : NodeId) (k : CallNo) (c : Option CallRec) → find_call k (s.nodes n.0).calls ≡ c →
+        Puts (revert_with (local_node t n) (s.nodes n.0) from c)
+    revert-puts from k None is = tt
+    revert-puts from k (Some c) is =
+        if_cases Puts (nat_eq from.0 n.0) (reverts (s.nodes n.0) c) nothing
+        (λ h. if_cases Puts (is_turned c.state && not (has_any c.work_reports))
+        (go_back c (leg_of c.back (s.nodes n.0).legs)) nothing
+        (λ waits. back-puts (go_back c (leg_of c.back (s.nodes n.0).legs)) c (leg_of c.back (s.nodes n.0).legs)
+        (each n k c is)) (λ waits. tt))
+        (λ h. tt)
+
+    -- at a tick, whatever the answer is a part of
+
+    ticked-puts : (a : Answer) (c : CallRec) → GivenBeside t o n c →
+        ArePut (GivenBeside t (grown n o a) n) (ticked t.wait (s.nodes n.0).legs c).calls
+    ticked-puts a c here =
+        let legs : List Leg = (s.nodes n.0).legs in
+        if_cases (λ x. ArePut (GivenBeside t (grown n o a) n) x.calls)
+        (not (nat_eq t.wait 0) && (is_turned c.state && not (has_any c.work_reports))) (waits t.wait legs c) nothing
+        (λ waiting. if_cases (λ x. ArePut (GivenBeside t (grown n o a) n) x.calls) (nat_le t.wait (c.ticks + 1))
+        (go_back c (leg_of c.back legs)) (call_put (record c { ticks = c.ticks + 1 }))
+        (λ over. back-puts a c (leg_of c.back legs) here)
+        (λ over. same-puts a c (record c { ticks = c.ticks + 1 })
+        (record { egress = refl; protected = refl; backup = refl; work = inl refl }) here))
+        (λ other. tt)
+
+    all_ticked-puts : (a : Answer) (calls : List CallRec) → AllByRecursion (GivenBeside t o n) calls →
+        ArePut (GivenBeside t (grown n o a) n) (all_ticked t.wait (s.nodes n.0).legs calls).calls
+    all_ticked-puts a [] here = tt
+    all_ticked-puts a (c ∷ calls) here =
+        all-append _ (ticked t.wait (s.nodes n.0).legs c).calls _ (ticked-puts a c here.0)
+        (all_ticked-puts a calls here.1)
+
+    tick-puts : Puts (on_tick (local_node t n) (s.nodes n.0))
+    tick-puts =
+        all_ticked-puts (on_tick place (s.nodes n.0)) (s.nodes n.0).calls
+        (all-calls_found (GivenBeside t o n) (s.nodes n.0).calls rise (each n))
 
     told-puts : (f : Fibre) (code : ErrCode) (fibres : List Fibre) (b : Bool) →
         Puts (cond b (knows_down (local_node t n) (s.nodes n.0) f code fibres) nothing)
@@ -218,7 +269,7 @@ module _ (t : Network) (s : Mesh) (n : NodeId) (o : Routes) (f : EachFollows t s
         protect-holds (GivenBeside t o n) _ (keeps (on_item place (s.nodes n.0) (Order (Protect k from)))) place
         (s.nodes n.0) rise (each n) k from (find_call k (s.nodes n.0).calls) refl
     item-puts (Order (Retry k from)) valid = retry-puts from k (find_call k (s.nodes n.0).calls) refl
-    item-puts (Order (Revert k from)) valid = tt
+    item-puts (Order (Revert k from)) valid = revert-puts from k (find_call k (s.nodes n.0).calls) refl
     item-puts (Order (Fail g)) valid = tt
     item-puts (Order (Repair g)) valid = tt
     item-puts (Alarm g) valid =
@@ -275,8 +326,8 @@ given-step t s (Desk n) o f rise valid each =
     committed t (without_item s n.0) n a o (grown n o a) (grown-grow n o a)
     (first_item-puts t s n o f (rise n.0) each (s.desks n.0) (valid n.0)) each
 given-step t s (Tick n) o f rise valid each =
-    let o' : Routes = λ l. or_route (o l) (first_route l (sent_at_ingress t s (Tick n) l)) in
-    committed t s n nothing o o' (λ l route sent. rw sent refl) tt each
+    let a = on_tick (local_node t n) (s.nodes n.0) in
+    committed t s n a o (grown n o a) (grown-grow n o a) (tick-puts t s n o f (rise n.0) each) each
 given-step t s (Learn n k) o f rise valid each =
     let o' : Routes = λ l. or_route (o l) None in
     committed t s n (on_link (local_node t n) (s.nodes n.0) (find_link t k)) o o' (λ l route sent. rw sent refl)
