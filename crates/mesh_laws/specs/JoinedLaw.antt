@@ -1,6 +1,6 @@
 -- In every state of every run a call that stands is cross-connected from its ingress to its egress; the backup of a
 -- guarded call, and of one that is stuck, is reserved so, and that of a turned call is cross-connected.
-use Rattle.std.specs.Prelude.{◌≡◌, ℕ, List, Option, Some, None, IsTrue, All, slice_get}
+use Rattle.std.specs.Prelude.{◌≡◌, ◌⊎◌, ℕ, List, Option, Some, None, IsTrue, All, slice_get}
 use Rattle.ason_base.specs.declared.ids.Lsp.{Lsp}
 use Rattle.ason_base.specs.declared.ids.NodeId.{NodeId}
 use Rattle.ason_base.specs.declared.steps.Step.{Step}
@@ -52,8 +52,8 @@ IsJoined t events InPhase e (Some l) = LspIsJoined t events InPhase e l
 abbrev pub IsLive : Phase → Type 0
 IsLive phase = phase ≡ Live
 
-abbrev pub IsHeld : Phase → Type 0
-IsHeld phase = phase ≡ Held
+abbrev pub IsHeldOrLive : Phase → Type 0
+IsHeldOrLive phase = (phase ≡ Held) ⊎ (phase ≡ Live)
 
 -- Held, Armed or Live
 abbrev pub HasItsLabel : Phase → Type 0
@@ -63,9 +63,10 @@ HasItsLabel phase = IsTrue (is_beyond_asked phase)
 abbrev pub IsConnected : Network → List MeshEvent → CallRec → Type 0
 IsConnected t events c = IsJoined t events IsLive c.egress c.work
 
--- the labels of the backup are reserved
+-- the labels of the backup are reserved: each leg is Held; where the call went back, a leg may still be cross-connected,
+-- until the Path that takes the activation back comes to it
 abbrev pub IsReserved : Network → List MeshEvent → CallRec → Type 0
-IsReserved t events c = IsJoined t events IsHeld c.egress c.back
+IsReserved t events c = IsJoined t events IsHeldOrLive c.egress c.back
 
 -- the backup is on its way from reserved to cross-connected: its labels are joined, whatever the phases
 abbrev pub IsBeingActivated : Network → List MeshEvent → CallRec → Type 0

@@ -21,8 +21,9 @@ ghost use Rattle.mesh_laws.specs.SafeLaw.{EveryRunIsSafe};
 /// the table, and each leg names the end of its LSP's route as its egress; Notifies go up these hops alone, and each names
 /// the node that it comes from or one beyond it. No label of a fibre is cross-connected for two LSPs. Each call that is
 /// neither asking nor blocked is joined: its working LSP is Live at each node of its route, each label out being the next
-/// node's label in; and the backup of a guarded or a stuck call is joined so, Held at each node, that of a turned call Live
-/// at each node, and that of a turning call Held, Armed or Live. The route of each backup leads from end to end, has no risk
+/// node's label in; and the backup of a guarded or a stuck call is joined so, Held at each node, or still Live where the call
+/// went back and the Path that takes the activation back hasn't come; that of a turned call is joined Live at each node, and
+/// that of a turning call Held, Armed or Live. The route of each backup leads from end to end, has no risk
 /// in common with that of the working LSP which its call has, or had, and shares no node with it between the ends. What a
 /// node learnt of links are rows of the network; over a topology routes can be asked of what it knows. Over a topology the
 /// leg of a backup, at any node, records the risks of the route of the working LSP that its Path names, also where that LSP

@@ -1,4 +1,5 @@
--- A call that stands is cross-connected from end to end, and the backup of a guarded call is reserved from end to end.
+-- A call that stands is cross-connected from end to end, and the backup of a guarded call is reserved from end to end, while
+-- legs of it may still be cross-connected after the call went back.
 use Rattle.std.proofs.Common.{◌≡◌, ◌<◌, ◌≤◌, ℕ, zero, suc, true, List, [], length, refl, sym, ap, ◌∙◌, subst, arith, inl, inr}
 use Rattle.std.specs.Prelude.{slice_get, Option, Some, None, IfSome}
 use Rattle.std.proofs.lemmas.Option.{slice_get_within}
@@ -21,14 +22,15 @@ use Rattle.mesh_rules.specs.Machine.{Mesh, start}
 use Rattle.mesh_rules.specs.Events.{IsRun, after, route_of}
 use Rattle.mesh_laws.specs.CallLaw.{FitsLegs, IsNamed, fits, phase_of}
 use Rattle.mesh_laws.specs.HopLaw.{leg_at, mail_between, StepFits, RouteFits}
-use Rattle.mesh_laws.specs.JoinedLaw.{HasItsLabel, HopIsJoined, IsHeld, IsJoined, IsLive, LspIsJoined}
+use Rattle.mesh_laws.specs.HopShapes.{HeldLeg, LiveLeg, leg_kind}
+use Rattle.mesh_laws.specs.JoinedLaw.{HasItsLabel, HopIsJoined, IsHeldOrLive, IsJoined, IsLive, LspIsJoined}
 use Rattle.mesh_laws.specs.JoinedLaw.{CallIsJoined, EveryCallIsJoined, IsActivated, IsBeingActivated, IsConnected, IsReserved}
 use Rattle.mesh_nodes.proofs.CallList.{all-calls_found}
 use Rattle.mesh_laws.proofs.nodes.Facts.{MeshFacts}
 use Rattle.mesh_laws.proofs.nodes.Runs.{facts-hold}
 use Rattle.mesh_laws.proofs.hops.Plans.{Plan, hops, plan, node_at}
 use Rattle.mesh_laws.proofs.hops.Rows.{held_upstream, live_upstream, reserved_upstream}
-use Rattle.mesh_laws.proofs.hops.Rest.{Purpose, LabelsMeet, plain_first, role_of}
+use Rattle.mesh_laws.proofs.hops.Rest.{Purpose, LabelsMeet, role_of}
 use Rattle.mesh_laws.proofs.hops.Chain.{LegFits, Hop, Chain}
 use Rattle.mesh_laws.proofs.hops.LegChanges.{beyond_labels, beyond_reserved, held_leg, live_leg, reserved_there}
 use Rattle.mesh_laws.proofs.hops.Planned.{Routes, Planned, Follows}
@@ -116,7 +118,8 @@ module _ (t : Network) (s : Mesh) (q : Purpose) (l : Lsp) (p : Plan)
               enters = into.1 ∙ ap Some (sym one);
             }
 
-  -- An LSP that is Live at its ingress, or Held, is so all along; beyond an Armed leg each has its label
+  -- An LSP that is Live at its ingress is so all along; beyond a Held leg each is Held or Live; beyond an Armed one each has
+  -- its label
 
   live_along : GoesAlong t s q l p IsLive
   live_along = record {
@@ -126,17 +129,24 @@ module _ (t : Network) (s : Mesh) (q : Purpose) (l : Lsp) (p : Plan)
     beyond = λ f live. rw live refl;
   }
 
-  held_along : GoesAlong t s q l p IsHeld
+  is_live : (n : NodeId) → leg_kind (leg_at s l n) ≡ LiveLeg → InPhase s l IsHeldOrLive n
+  is_live n live = let leg = live_leg (leg_at s l n) live in (leg.0, leg.1, inr leg.2)
+
+  is_held : (n : NodeId) → leg_kind (leg_at s l n) ≡ HeldLeg → InPhase s l IsHeldOrLive n
+  is_held n held = let leg = held_leg (leg_at s l n) held in (leg.0, leg.1, inl leg.2)
+
+  held_along : GoesAlong t s q l p IsHeldOrLive
   held_along = record {
     next = λ i below at_u.
         let hop = hop_from i at_u.0 below at_u.1 in
-        held_leg (leg_at s l (node_at p (suc i)))
-        (elim (held_upstream (role_of q) _ _ _ (rw (at_u.2) at hop.shape)) [
-          | inl held ↦ held
-          | inr back ↦ (let gone = hop.rest.first (plain_first _ [] back.1) in
-              let live = back.0 in absurd (cc (gone, live)))
-        ]);
-    beyond = λ f held. rw held refl;
+        elim (at_u.2) [
+          | inl held ↦ elim (held_upstream (role_of q) _ _ _ (rw held at hop.shape)) [
+            | inl same ↦ is_held (node_at p (suc i)) same
+            | inr back ↦ is_live (node_at p (suc i)) back.0
+          ]
+          | inr live ↦ is_live (node_at p (suc i)) (live_upstream (role_of q) _ _ _ (rw live at hop.shape)).live
+        ];
+    beyond = λ f has. elim has [ inl held ↦ rw held refl | inr live ↦ rw live refl ];
   }
 
   labelled_along : GoesAlong t s q l p HasItsLabel
@@ -228,7 +238,7 @@ module _ (t : Network) (events : List MeshEvent) (run : IsRun t start events) wh
   live_goes q l p chain = live_along t s q l p chain
 
   held_goes : (q : Purpose) (l : Lsp) (p : Plan) → Chain t q l p (leg_at s l) (mail_between s l) →
-      GoesAlong t s q l p IsHeld
+      GoesAlong t s q l p IsHeldOrLive
   held_goes q l p chain = held_along t s q l p chain
 
   labelled_goes : (q : Purpose) (l : Lsp) (p : Plan) → Chain t q l p (leg_at s l) (mail_between s l) →
@@ -243,7 +253,7 @@ module _ (t : Network) (events : List MeshEvent) (run : IsRun t start events) wh
     work_joined is = named_joined IsLive live_goes Live refl n Work c.egress c.work facts.work is
 
     back_held : phase_of (leg_of c.back (s.nodes n).legs) ≡ Some Held → IsReserved t events c
-    back_held is = named_joined IsHeld held_goes Held refl n Back c.egress c.back facts.back is
+    back_held is = named_joined IsHeldOrLive held_goes Held (inl refl) n Back c.egress c.back facts.back is
 
     back_armed : phase_of (leg_of c.back (s.nodes n).legs) ≡ Some Armed → IsBeingActivated t events c
     back_armed is = named_joined HasItsLabel labelled_goes Armed refl n Back c.egress c.back facts.back is
