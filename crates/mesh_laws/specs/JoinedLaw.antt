@@ -63,8 +63,8 @@ HasItsLabel phase = IsTrue (is_beyond_asked phase)
 abbrev pub IsConnected : Network → List MeshEvent → CallRec → Type 0
 IsConnected t events c = IsJoined t events IsLive c.egress c.work
 
--- the labels of the backup are reserved: each leg is Held; where the call went back, a leg may still be cross-connected,
--- until the Path that takes the activation back comes to it
+-- the labels of the backup are reserved: each leg is Held; where the call went back, a leg may still be Live, until the
+-- Path that takes the activation back comes to it
 abbrev pub IsReserved : Network → List MeshEvent → CallRec → Type 0
 IsReserved t events c = IsJoined t events IsHeldOrLive c.egress c.back
 

@@ -29,8 +29,8 @@ pub record LawsHold (t : Network) (events : List MeshEvent) : Type 0 where
   pub hops : (l : Lsp) → LspFits t (after t start events) l (route_of t start events l)
   -- no label of a fibre is cross-connected for two LSPs
   pub safe : IsSafe t (after t start events)
-  -- each call that stands is cross-connected from end to end; the backup of a guarded or a stuck one is reserved so, while
-  -- legs of it may still be cross-connected after the call went back; and that of a turned one is cross-connected
+  -- each call that stands is cross-connected from end to end; the backup of a guarded or a stuck one is reserved so,
+  -- while legs of it may still be cross-connected after the call went back; and that of a turned one is cross-connected
   pub joined : CallsAreJoined t events
   -- what a node learnt of links is true of the network
   pub learnt : LearntRowsAreTrue t (after t start events)

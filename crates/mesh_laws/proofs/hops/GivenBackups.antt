@@ -199,7 +199,8 @@ module _ (t : Network) (s : Mesh) (n : NodeId) (o : Routes) (f : EachFollows t s
     back-puts a c None here = same-puts a c c (same-call c) here
     back-puts a c (Some b) here =
         if_cases (λ x. ArePut (GivenBeside t (grown n o a) n) x.calls) (is_in_use b.phase) (disarms c b) (call_put c)
-        (λ h. same-puts a c (guarded c) (record { egress = refl; protected = refl; backup = refl; work = inl refl }) here)
+        (λ h. same-puts a c (guarded c)
+        (record { egress = refl; protected = refl; backup = refl; work = inl refl }) here)
         (λ h. same-puts a c c (same-call c) here)
 
     retry-puts : (from : NodeId) (k : CallNo) (c : Option CallRec) → find_call k (s.nodes n.0).calls ≡ c →

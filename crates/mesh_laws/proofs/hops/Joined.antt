@@ -1,6 +1,6 @@
--- A call that stands is cross-connected from end to end, and the backup of a guarded call is reserved from end to end, while
--- legs of it may still be cross-connected after the call went back.
-use Rattle.std.proofs.Common.{◌≡◌, ◌<◌, ◌≤◌, ℕ, zero, suc, true, List, [], length, refl, sym, ap, ◌∙◌, subst, arith, inl, inr}
+-- A call that stands is cross-connected from end to end, and the backup of a guarded call is reserved from end to end,
+-- while legs of it may still be cross-connected after the call went back.
+use Rattle.std.proofs.Common.{◌≡◌, ◌<◌, ◌≤◌, ℕ, zero, suc, true, List, length, refl, sym, ap, ◌∙◌, subst, arith, inl, inr}
 use Rattle.std.specs.Prelude.{slice_get, Option, Some, None, IfSome}
 use Rattle.std.proofs.lemmas.Option.{slice_get_within}
 use Rattle.std.proofs.lemmas.List.Elements.{All-from_recursion}
@@ -118,8 +118,8 @@ module _ (t : Network) (s : Mesh) (q : Purpose) (l : Lsp) (p : Plan)
               enters = into.1 ∙ ap Some (sym one);
             }
 
-  -- An LSP that is Live at its ingress is so all along; beyond a Held leg each is Held or Live; beyond an Armed one each has
-  -- its label
+  -- An LSP that is Live at its ingress is so all along; beyond a Held leg each is Held or Live; beyond an Armed one each
+  -- has its label
 
   live_along : GoesAlong t s q l p IsLive
   live_along = record {

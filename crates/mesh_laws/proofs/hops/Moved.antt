@@ -1,6 +1,6 @@
--- A leg at the ingress of its LSP changes, and one message goes on: a move of one LSP. After it each LSP stands with the
--- route that it had.
-use Rattle.std.proofs.Common.{◌≡◌, ◌<◌, ℕ, Bool, true, false, List, [], ◌∷◌, ◌++◌, refl, sym, ap, ◌∙◌, subst, arith}
+-- A leg at the ingress of its LSP changes, and one message goes on: a move of one LSP. After it each LSP stands with
+-- the route that it had.
+use Rattle.std.proofs.Common.{◌≡◌, Bool, true, false, List, [], ◌∷◌, ◌++◌, refl, sym, ap, ◌∙◌, subst, arith}
 use Rattle.std.specs.Prelude.{Option, Some, None}
 use Rattle.ason_base.specs.Lsps.{same_lsp}
 use Rattle.ason_base.specs.Network.{Network}
@@ -9,7 +9,6 @@ use Rattle.ason_base.specs.declared.ids.NodeId.{NodeId}
 use Rattle.ason_base.specs.declared.steps.Step.{Step}
 use Rattle.ason_base.specs.declared.messages.Msg.{Msg}
 use Rattle.ason_base.specs.declared.tables.Leg.{Leg}
-use Rattle.ason_base.specs.declared.tables.Out.{Out}
 use Rattle.mesh_rules.specs.declared.changes.LegChange.TheVariants as leg
 use Rattle.mesh_rules.specs.Changes.{Answer, followed_by, to_node}
 use Rattle.mesh_rules.specs.Events.{first_route, or_route}
@@ -25,7 +24,7 @@ use Rattle.mesh_laws.proofs.hops.Notices.{notices_same}
 use Rattle.mesh_laws.proofs.hops.Own.{IsOf, IsQuiet, leg-other, mail-other, route-other, sent-plain}
 use Rattle.mesh_laws.proofs.hops.Planned.{Planned, Routes, Follows, EachFollows, SameOf, follows_same, next_same}
 use Rattle.mesh_laws.proofs.hops.Planned.{or_assoc, or_none}
-use Rattle.mesh_laws.proofs.hops.Plans.{Plan, hops, plan, node_at, distinct, same_node}
+use Rattle.mesh_laws.proofs.hops.Plans.{Plan, plan, node_at, distinct, same_node}
 use Rattle.mesh_laws.proofs.hops.Quiet.{same_quiet}
 use Rattle.mesh_laws.proofs.hops.Rest.{Purpose}
 use Rattle.mesh_laws.proofs.hops.Sending.{sent_by, sends_on, changed-here}
@@ -96,57 +95,57 @@ module _ (t : Network) (s : Mesh) (n : NodeId) (o : Routes) (f : EachFollows t s
     (moves : (q : Purpose) (p : Plan) → Planned t s o b.lsp q p → leg_at s b.lsp (node_at p 0) ≡ Some b →
     Chain t q b.lsp p (leg_at (commit s (node_at p 0).0 a) b.lsp) (mail_between (commit s (node_at p 0).0 a) b.lsp))
   where
-  abbrev later : Mesh
-  later = commit s n.0 a
+    abbrev later : Mesh
+    later = commit s n.0 a
 
-  plain : SendsNoNotice a.sent
-  plain = sent-plain b.lsp a.sent of.sent
+    plain : SendsNoNotice a.sent
+    plain = sent-plain b.lsp a.sent of.sent
 
-  moved : (q : Purpose) (p : Plan) → Planned t s o b.lsp q p → Planned t (commit s n.0 a) o b.lsp q p
-  moved q p pl =
-      let is : n ≡ node_at p 0 = sym (pl.route.first ∙ same_node b.lsp.ingress n begins.ingress) in
-      record {
-        route = pl.route;
-        made = pl.made;
-        chain = rw is (moves q p pl (rw (← is) begins.there));
-        notices = notices_same p (notices_between s b.lsp) (notices_between later b.lsp)
-            (λ x y. notices-plain s n x y b.lsp a plain) pl.notices;
-        number = rw (next_same s n.0 b.lsp.ingress.0 a numbers) pl.number;
-        guards = pl.guards;
-        beside = pl.beside;
-      }
+    moved : (q : Purpose) (p : Plan) → Planned t s o b.lsp q p → Planned t (commit s n.0 a) o b.lsp q p
+    moved q p pl =
+        let is : n ≡ node_at p 0 = sym (pl.route.first ∙ same_node b.lsp.ingress n begins.ingress) in
+        record {
+          route = pl.route;
+          made = pl.made;
+          chain = rw is (moves q p pl (rw (← is) begins.there));
+          notices = notices_same p (notices_between s b.lsp) (notices_between later b.lsp)
+              (λ x y. notices-plain s n x y b.lsp a plain) pl.notices;
+          number = rw (next_same s n.0 b.lsp.ingress.0 a numbers) pl.number;
+          guards = pl.guards;
+          beside = pl.beside;
+        }
 
-  own : (h : Option (List Step)) → Follows t s o b.lsp h → Follows t (commit s n.0 a) o b.lsp h
-  own None follow = absurd (let gone = follow.legs n in let there = begins.there in cc (there, gone))
-  own (Some route) (e, q, pl) = (e, q, moved q (plan route e) pl)
+    own : (h : Option (List Step)) → Follows t s o b.lsp h → Follows t (commit s n.0 a) o b.lsp h
+    own None follow = absurd (let gone = follow.legs n in let there = begins.there in cc (there, gone))
+    own (Some route) (e, q, pl) = (e, q, moved q (plan route e) pl)
 
-  other : (l : Lsp) → same_lsp b.lsp l ≡ false → SameOf s (commit s n.0 a) l
-  other l apart = record {
-    still = record {
-      legs = λ m. leg-other s n m b.lsp l a of apart;
-      mail = λ x y. mail-other s n x y b.lsp l a of apart;
-      next = (let e = next_same s n.0 l.ingress.0 a numbers in omega arith);
-    };
-    notices = λ x y. notices-plain s n x y l a plain;
-  }
+    other : (l : Lsp) → same_lsp b.lsp l ≡ false → SameOf s (commit s n.0 a) l
+    other l apart = record {
+      still = record {
+        legs = λ m. leg-other s n m b.lsp l a of apart;
+        mail = λ x y. mail-other s n x y b.lsp l a of apart;
+        next = (let e = next_same s n.0 l.ingress.0 a numbers in omega arith);
+      };
+      notices = λ x y. notices-plain s n x y l a plain;
+    }
 
-  follows : (l : Lsp) (same : Bool) → same_lsp b.lsp l ≡ same → Follows t (commit s n.0 a) o l (o l)
-  follows l true e =
-      subst (λ k. Follows t later o k (o k)) (same_lsp-eq b.lsp l e) (own (o b.lsp) (f b.lsp))
-  follows l false e = follows_same t s later o l (o l) (other l e) (f l)
+    follows : (l : Lsp) (same : Bool) → same_lsp b.lsp l ≡ same → Follows t (commit s n.0 a) o l (o l)
+    follows l true e =
+        subst (λ k. Follows t later o k (o k)) (same_lsp-eq b.lsp l e) (own (o b.lsp) (f b.lsp))
+    follows l false e = follows_same t s later o l (o l) (other l e) (f l)
 
-  known_own : (h x : Option (List Step)) → Follows t s o b.lsp h → or_route h x ≡ h
-  known_own None x follow = absurd (let gone = follow.legs n in let there = begins.there in cc (there, gone))
-  known_own (Some route) x follow = refl
+    known_own : (h x : Option (List Step)) → Follows t s o b.lsp h → or_route h x ≡ h
+    known_own None x follow = absurd (let gone = follow.legs n in let there = begins.there in cc (there, gone))
+    known_own (Some route) x follow = refl
 
-  known : (l : Lsp) (same : Bool) → same_lsp b.lsp l ≡ same → or_route (o l) (first_route l a.sent) ≡ o l
-  known l true e =
-      subst (λ k. or_route (o k) (first_route k a.sent) ≡ o k) (same_lsp-eq b.lsp l e)
-      (known_own (o b.lsp) (first_route b.lsp a.sent) (f b.lsp))
-  known l false e = rw (route-other b.lsp l a.sent of.sent e) (or_none (o l))
+    known : (l : Lsp) (same : Bool) → same_lsp b.lsp l ≡ same → or_route (o l) (first_route l a.sent) ≡ o l
+    known l true e =
+        subst (λ k. or_route (o k) (first_route k a.sent) ≡ o k) (same_lsp-eq b.lsp l e)
+        (known_own (o b.lsp) (first_route b.lsp a.sent) (f b.lsp))
+    known l false e = rw (route-other b.lsp l a.sent of.sent e) (or_none (o l))
 
-  pub stays_moved : EachStays t s n o a
-  stays_moved = record {
-    follows = λ l. follows l (same_lsp b.lsp l) refl;
-    known = λ l. known l (same_lsp b.lsp l) refl;
-  }
+    pub stays_moved : EachStays t s n o a
+    stays_moved = record {
+      follows = λ l. follows l (same_lsp b.lsp l) refl;
+      known = λ l. known l (same_lsp b.lsp l) refl;
+    }

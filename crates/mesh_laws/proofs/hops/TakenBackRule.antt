@@ -19,7 +19,7 @@ use Rattle.mesh_rules.specs.State.{NodeState}
 use Rattle.mesh_rules.specs.Activations.{taken_back}
 use Rattle.mesh_rules.specs.Changes.{Answer, puts, to_node}
 use Rattle.mesh_rules.specs.LocalNodes.{LocalNode, local_node}
-use Rattle.mesh_rules.specs.Legs.{following, with_phase}
+use Rattle.mesh_rules.specs.Legs.{with_phase}
 use Rattle.mesh_rules.specs.Machine.{Mesh}
 use Rattle.mesh_rules.specs.Messages.{arrival, on_message}
 use Rattle.mesh_rules.specs.Paths.{PathRequest, path_with}
@@ -33,7 +33,7 @@ use Rattle.mesh_laws.proofs.hops.Chain.{Chain, Hop, LegFits, below_or_not}
 use Rattle.mesh_laws.proofs.hops.LegChanges.{following_is, following_none, gone_none, live_held_fits, live_leg}
 use Rattle.mesh_laws.proofs.hops.LegChanges.{previous_is, same_of}
 use Rattle.mesh_laws.proofs.hops.PathRule.{path_keeps}
-use Rattle.mesh_laws.proofs.hops.Plans.{Plan, hops, node_at, link_at, fibre_at, IsRoute, same}
+use Rattle.mesh_laws.proofs.hops.Plans.{Plan, hops, node_at, link_at, IsRoute, same}
 use Rattle.mesh_laws.proofs.hops.Rest.{Purpose, Tells, role_of, tells_role}
 use Rattle.mesh_laws.proofs.hops.Rows.{leg_downstream, plain_taken}
 use Rattle.mesh_laws.proofs.hops.Sending.{sends_none, sends_on}
@@ -57,103 +57,103 @@ module _ (t : Network) (q : Purpose) (s : Mesh) (l : Lsp) (p : Plan) (i : ℕ) (
   abbrev state : NodeState
   state = s.nodes d.0
 
-  -- It takes back
+  -- One that takes back
 
   module _ (work : ℕ) (primary : List Step)
       (was : s.mail (node_at p i).0 (node_at p (suc i)).0 ≡ Path l e k r set label (Back false work primary) ∷ rest)
     where
-    abbrev purpose : PathRole
-    purpose = Back false work primary
+      abbrev purpose : PathRole
+      purpose = Back false work primary
 
-    abbrev message : Msg
-    message = Path l e k r set label (Back false work primary)
+      abbrev message : Msg
+      message = Path l e k r set label (Back false work primary)
 
-    abbrev asks : PathRequest
-    asks = record { arrival = arrival l e u k; route = r; set = set; role = purpose }
+      abbrev asks : PathRequest
+      asks = record { arrival = arrival l e u k; route = r; set = set; role = purpose }
 
-    own : is_message_of l message ≡ true
-    own = same_lsp-refl l
+      own : is_message_of l message ≡ true
+      own = same_lsp-refl l
 
-    abbrev Keeps : Answer → Type 0
-    Keeps a = KeepsDown t q s l p i route chain below message rest was own a
+      abbrev Keeps : Answer → Type 0
+      Keeps a = KeepsDown t q s l p i route chain below message rest was own a
 
-    hop : Hop q p i (leg_at s l u) (leg_at s l d) (message ∷ messages_of l rest) (mail_between s l d u)
-    hop = down_hop t q s l p i route chain below message rest was own
+      hop : Hop q p i (leg_at s l u) (leg_at s l d) (message ∷ messages_of l rest) (mail_between s l d u)
+      hop = down_hop t q s l p i route chain below message rest was own
 
-    over : k ≡ link_at p i
-    over = hop.rest.going_down.0.1
+      over : k ≡ link_at p i
+      over = hop.rest.going_down.0.1
 
-    -- the steps that are left from the next node on
-    left : drop 1 r ≡ drop (suc (suc i)) p.route
-    left = ap (drop 1) hop.rest.going_down.0.2 ∙ drop-next (suc i) p.route
+      -- the steps that are left from the next node on
+      left : drop 1 r ≡ drop (suc (suc i)) p.route
+      left = ap (drop 1) hop.rest.going_down.0.2 ∙ drop-next (suc i) p.route
 
-    tells : Tells q (Back false work primary)
-    tells = hop.rest.going_down.0.3
+      tells : Tells q (Back false work primary)
+      tells = hop.rest.going_down.0.3
 
-    -- the LSP is a backup
-    backup : role_of q ≡ role.Back
-    backup = sym (tells_role q purpose tells)
+      -- the LSP is a backup
+      backup : role_of q ≡ role.Back
+      backup = sym (tells_role q purpose tells)
 
-    module _ (g : Leg) (here : leg_at s l (node_at p (suc i)) ≡ Some g) (fits : LegFits t q l p (suc i) g)
-        (live : g.phase ≡ Live) where
-      mine : same_lsp g.lsp l ≡ true
-      mine = same_of g.lsp l fits.own
+      module _ (g : Leg) (here : leg_at s l (node_at p (suc i)) ≡ Some g) (fits : LegFits t q l p (suc i) g)
+          (live : g.phase ≡ Live) where
+        mine : same_lsp g.lsp l ≡ true
+        mine = same_of g.lsp l fits.own
 
-      hop_out : suc i < hops p → Hop q p (suc i) (Some g) (leg_at s l next) (mail_between s l d next)
-          (mail_between s l next d)
-      hop_out small = rw here at (chain.each (suc i) small)
+        hop_out : suc i < hops p → Hop q p (suc i) (Some g) (leg_at s l next) (mail_between s l d next)
+            (mail_between s l next d)
+        hop_out small = rw here at (chain.each (suc i) small)
 
-      held : LegFits t q l p (suc i) (with_phase Held g)
-      held = live_held_fits t q l p (suc i) g fits live backup
+        held : LegFits t q l p (suc i) (with_phase Held g)
+        held = live_held_fits t q l p (suc i) g fits live backup
 
-      before : Hop q p i (leg_at s l u) (Some (with_phase Held g)) (messages_of l rest) (mail_between s l d u)
-      before = takes_back q p i (leg_at s l u) g message (messages_of l rest) _ live refl (rw here at hop)
+        before : Hop q p i (leg_at s l u) (Some (with_phase Held g)) (messages_of l rest) (mail_between s l d u)
+        before = takes_back q p i (leg_at s l u) g message (messages_of l rest) _ live refl (rw here at hop)
 
-      -- at the egress
-      ends : hops p ≤ suc i → Keeps (puts (with_phase Held g) [])
-      ends end =
-          down_taken t q s l p i route chain below message rest was own
-          (puts (with_phase Held g) []) (Some (with_phase Held g)) [] []
-          (rw mine refl) (sends_none l p (suc i)) held (rw append-nil before)
-          (λ small. absurd (omega arith))
-          (λ none. absurd cc)
-          (λ small. absurd (omega arith))
+        -- at the egress
+        ends : hops p ≤ suc i → Keeps (puts (with_phase Held g) [])
+        ends end =
+            down_taken t q s l p i route chain below message rest was own
+            (puts (with_phase Held g) []) (Some (with_phase Held g)) [] []
+            (rw mine refl) (sends_none l p (suc i)) held (rw append-nil before)
+            (λ small. absurd (omega arith))
+            (λ none. absurd cc)
+            (λ small. absurd (omega arith))
 
-      -- elsewhere the Path goes on
-      goes_on : suc i < hops p →
-          Keeps (puts (with_phase Held g) (to_node next
-          (Path g.lsp g.egress (link_at p (suc i)) (drop 1 r) g.sent None purpose) ∷ []))
-      goes_on small =
-          let m : Msg = Path g.lsp g.egress (link_at p (suc i)) (drop 1 r) g.sent None (Back false work primary) in
-          down_taken t q s l p i route chain below message rest was own
-          (puts (with_phase Held g) (to_node next m ∷ [])) (Some (with_phase Held g)) [] (m ∷ [])
-          (rw mine refl) (sends_on t l l.ingress p route (suc i) m small mine) held (rw append-nil before)
-          (λ _. takes_back_on q p (suc i) g (leg_at s l next) m _ _ backup live refl (fits.egress, refl, left, tells)
-          refl (λ gone. absurd (never gone)) (hop_out small))
-          (λ none. absurd cc)
-          (λ _ gone. absurd (never (rw gone refl)))
-        where
-          never : leg_kind (leg_at s l (node_at p (suc (suc i)))) ≡ NoLeg → ⊥
-          never gone = leg_downstream (role_of q) _ _ _ _ (hop_out small).shape (rw live refl) gone
+        -- elsewhere the Path goes on
+        goes_on : suc i < hops p →
+            Keeps (puts (with_phase Held g) (to_node next
+            (Path g.lsp g.egress (link_at p (suc i)) (drop 1 r) g.sent None purpose) ∷ []))
+        goes_on small =
+            let m : Msg = Path g.lsp g.egress (link_at p (suc i)) (drop 1 r) g.sent None (Back false work primary) in
+            down_taken t q s l p i route chain below message rest was own
+            (puts (with_phase Held g) (to_node next m ∷ [])) (Some (with_phase Held g)) [] (m ∷ [])
+            (rw mine refl) (sends_on t l l.ingress p route (suc i) m small mine) held (rw append-nil before)
+            (λ _. takes_back_on q p (suc i) g (leg_at s l next) m _ _ backup live refl (fits.egress, refl, left, tells)
+            refl (λ gone. absurd (never gone)) (hop_out small))
+            (λ none. absurd cc)
+            (λ _ gone. absurd (never (rw gone refl)))
+          where
+            never : leg_kind (leg_at s l (node_at p (suc (suc i)))) ≡ NoLeg → ⊥
+            never gone = leg_downstream (role_of q) _ _ _ _ (hop_out small).shape (rw live refl) gone
 
-      onward : (suc i < hops p) ⊎ (hops p ≤ suc i) → Keeps (taken_back g (drop 1 r) purpose)
-      onward (inl small) = rw (following_is t q l p (suc i) g fits small) (goes_on small)
-      onward (inr end) = rw (following_none t q l p (suc i) g fits end) (ends end)
+        onward : (suc i < hops p) ⊎ (hops p ≤ suc i) → Keeps (taken_back g (drop 1 r) purpose)
+        onward (inl small) = rw (following_is t q l p (suc i) g fits small) (goes_on small)
+        onward (inr end) = rw (following_none t q l p (suc i) g fits end) (ends end)
 
-      follows : path_with place state asks (Some g) ≡ taken_back g (drop 1 r) purpose
-      follows =
-          rw (fits.role ∙ backup, live, previous_is t q l p i g fits, over, same (node_at p i).0, same (link_at p i).0)
-          refl
+        follows : path_with place state asks (Some g) ≡ taken_back g (drop 1 r) purpose
+        follows =
+            let before = previous_is t q l p i g fits in
+            rw (fits.role ∙ backup, live, before, over, same (node_at p i).0, same (link_at p i).0) refl
 
-      taken : Keeps (path_with place state asks (Some g))
-      taken = subst (λ a. Keeps a) (sym follows) (onward (below_or_not (suc i) (hops p)))
+        taken : Keeps (path_with place state asks (Some g))
+        taken = subst (λ a. Keeps a) (sym follows) (onward (below_or_not (suc i) (hops p)))
 
-    back_keeps : leg_kind (leg_at s l (node_at p (suc i))) ≡ LiveLeg → Keeps (on_message place state u message)
-    back_keeps is =
-        let leg = live_leg (leg_at s l (node_at p (suc i))) is in
-        rw (leg.1) (taken leg.0 leg.1 (rw (leg.1) at (chain.fits (suc i) below)) leg.2)
+      back_keeps : leg_kind (leg_at s l (node_at p (suc i))) ≡ LiveLeg → Keeps (on_message place state u message)
+      back_keeps is =
+          let leg = live_leg (leg_at s l (node_at p (suc i))) is in
+          rw (leg.1) (taken leg.0 leg.1 (rw (leg.1) at (chain.fits (suc i) below)) leg.2)
 
-  -- Either of them
+  -- Each of them
 
   pub plain_keeps : (purpose : PathRole)
       (was : s.mail (node_at p i).0 (node_at p (suc i)).0 ≡ Path l e k r set label purpose ∷ rest) →

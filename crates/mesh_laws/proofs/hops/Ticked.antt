@@ -1,5 +1,5 @@
--- A tick: each turned call whose working LSP isn't hit waits, and goes back at the end of the wait. Each goes back by a move
--- of its own backup, whose leg is as it was before the tick.
+-- A tick: each turned call whose working LSP isn't hit waits, and goes back at the end of the wait. Each goes back by a
+-- move of its own backup, whose leg is as it was before the tick.
 use Rattle.std.proofs.Common.{◌≡◌, ◌<◌, ℕ, true, false, nat_eq, List, [], ◌∷◌, refl, ◌∙◌}
 use Rattle.std.specs.Prelude.{◌+◌, ◌&&◌, nat_le, not, Option, Some, None}
 use Rattle.std.specs.List.{AllByRecursion}
@@ -16,7 +16,7 @@ use Rattle.mesh_rules.specs.Changes.{Answer, nothing}
 use Rattle.mesh_rules.specs.Legs.{is_in_use, leg_of}
 use Rattle.mesh_rules.specs.Machine.{Mesh, commit}
 use Rattle.mesh_rules.specs.Turns.{call_put, disarms, go_back, has_any}
-use Rattle.mesh_rules.specs.Waits.{all_ticked, ticked, waits}
+use Rattle.mesh_rules.specs.Waits.{all_ticked, ticked}
 use Rattle.mesh_laws.specs.HopLaw.{leg_at}
 use Rattle.mesh_nodes.specs.Order.{CallsRise}
 use Rattle.mesh_nodes.proofs.Cases.{both_left, both_right, if_cases}
