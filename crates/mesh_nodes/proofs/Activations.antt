@@ -21,7 +21,6 @@ use Rattle.mesh_nodes.specs.LocalNodes.{LocalNodeFits}
 use Rattle.mesh_nodes.specs.Sent.{AllToNeighbours, AllWritable, AnswerFits}
 use Rattle.mesh_nodes.proofs.Cases.{both_left, both_right, if_cases}
 use Rattle.mesh_nodes.proofs.Kept.{beside-node, held-beyond, in_use-beyond, legs-changed, phase-fits}
-use Rattle.mesh_nodes.proofs.LegList.{found-all}
 use Rattle.mesh_nodes.proofs.Links.{over-near}
 use Rattle.mesh_nodes.proofs.Paths.{first-fits, nothing-fits}
 use Rattle.mesh_nodes.proofs.Stands.{Stands, following-is_near, leg-stands, previous-near, resv-sent}

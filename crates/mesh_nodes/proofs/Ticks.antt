@@ -1,5 +1,5 @@
 -- What a tick does fits: some calls wait a tick more, others go back.
-use Rattle.std.proofs.Common.{◌≡◌, ◌≤◌, ◌+◌, ℕ, suc, Bool, true, false, cond, not, nat_eq, nat_le, List, [], ◌∷◌, ◌++◌, length, refl, sym, ap, ◌∙◌, subst, arith}
+use Rattle.std.proofs.Common.{◌≡◌, ◌≤◌, ◌+◌, ℕ, suc, Bool, true, false, cond, not, nat_eq, nat_le, List, [], ◌∷◌, ◌++◌, length, refl, sym, ap, subst, arith}
 use Rattle.std.specs.Prelude.{◌&&◌, Option, Some, None, IfSome, is_some}
 use Rattle.std.specs.List.{AllByRecursion}
 use Rattle.std.proofs.lemmas.List.{length-append}
@@ -15,8 +15,8 @@ use Rattle.mesh_rules.specs.Changes.{Answer, changed, followed_by, nothing}
 use Rattle.mesh_rules.specs.Legs.{find_leg, following, is_in_use, leg_changed, leg_of, legs_changed, with_leg, with_phase}
 use Rattle.mesh_rules.specs.LocalNodes.{LocalNode}
 use Rattle.mesh_rules.specs.State.{NodeState}
-use Rattle.mesh_rules.specs.Turns.{call_put, disarms, go_back, has_any, taking_path}
-use Rattle.mesh_rules.specs.Waits.{all_ticked, on_tick, ticked, waits}
+use Rattle.mesh_rules.specs.Turns.{call_put, disarms, go_back, has_any}
+use Rattle.mesh_rules.specs.Waits.{all_ticked, on_tick, ticked}
 use Rattle.mesh_nodes.specs.Kept.{CallFits, CallsFit, LegFits, LegsFit, NodeFits}
 use Rattle.mesh_nodes.specs.Laws.{TicksFit}
 use Rattle.mesh_nodes.specs.Sent.{AllToNeighbours, AllWritable}
@@ -24,9 +24,7 @@ use Rattle.mesh_nodes.proofs.Alarms.{all-append}
 use Rattle.mesh_nodes.proofs.Cases.{if_cases}
 use Rattle.mesh_nodes.proofs.Kept.{calls-put, in_use-beyond, legs-changed, phase-fits}
 use Rattle.mesh_nodes.proofs.LegList.{find-with_leg, found-all}
-use Rattle.mesh_nodes.proofs.LearnsNothing.{tick-keeps_down, tick-learns_nothing}
 use Rattle.mesh_nodes.proofs.Reports.{backup-begins}
-use Rattle.mesh_nodes.proofs.Stands.{OneFits}
 use Rattle.mesh_nodes.proofs.Turns.{BeginsHere, taking-sent}
 
 legs-then : (cs ds : List LegChange) (legs : List Leg) →

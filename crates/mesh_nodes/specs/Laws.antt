@@ -4,7 +4,6 @@ use Rattle.ason_base.specs.declared.commands.DeskItem.{DeskItem}
 use Rattle.ason_base.specs.declared.ids.NodeId.{NodeId}
 use Rattle.ason_base.specs.declared.messages.Msg.{Msg}
 use Rattle.ason_base.specs.Network.{IsTopology, Network}
-use Rattle.mesh_rules.specs.Changes.{changed}
 use Rattle.mesh_rules.specs.Messages.{on_message}
 use Rattle.mesh_rules.specs.Orders.{on_item}
 use Rattle.mesh_rules.specs.LocalNodes.{LocalNode, local_node}

@@ -45,14 +45,14 @@ as_reached = record {
       (leg 3 2 Live (Some 1) (Some 1) 1 1 1 ∷ leg 4 2 Held (Some 1) (Some 1) 1 1 0 ∷ [])
       ∷ (leg 4 1 Live (Some 1) None 1 0 0 ∷ leg 4 2 Held (Some 1) None 1 0 0 ∷ [])
       ∷ (leg 3 1 Closing None (Some 1) 0 3 0
-          ∷ leg 3 2 Closing None (Some 1) 0 1 2
-          ∷ leg 4 2 Held (Some 1) (Some 1) 3 3 1 ∷ [])
+      ∷ leg 3 2 Closing None (Some 1) 0 1 2
+      ∷ leg 4 2 Held (Some 1) (Some 1) 3 3 1 ∷ [])
       ∷ (leg 3 2 Live (Some 1) (Some 1) 1 1 0
-          ∷ leg 4 1 Live None (Some 1) 0 1 0
-          ∷ leg 4 2 Held None (Some 1) 0 3 3 ∷ [])
+      ∷ leg 4 1 Live None (Some 1) 0 1 0
+      ∷ leg 4 2 Held None (Some 1) 0 3 3 ∷ [])
       ∷ (leg 3 1 Live (Some 1) None 3 0 0
-          ∷ leg 3 2 Live (Some 1) None 1 0 0
-          ∷ leg 4 2 Held (Some 1) (Some 1) 3 3 2 ∷ [])
+      ∷ leg 3 2 Live (Some 1) None 1 0 0
+      ∷ leg 4 2 Held (Some 1) (Some 1) 3 3 2 ∷ [])
       ∷ []
       ∷ [];
   calls =

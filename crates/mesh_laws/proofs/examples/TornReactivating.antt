@@ -45,18 +45,18 @@ abbrev as_reached : Seen
 as_reached = record {
   legs =
       (leg 3 1 Live (Some 1) None 1 0 0
-          ∷ leg 3 2 Live (Some 1) None 1 0 0
-          ∷ leg 6 1 Live (Some 1) None 1 0 0
-          ∷ leg 6 3 Held (Some 1) None 1 0 0 ∷ [])
+      ∷ leg 3 2 Live (Some 1) None 1 0 0
+      ∷ leg 6 1 Live (Some 1) None 1 0 0
+      ∷ leg 6 3 Held (Some 1) None 1 0 0 ∷ [])
       ∷ []
       ∷ (leg 3 1 Closing None (Some 1) 0 3 1
-          ∷ leg 3 2 Falling None (Some 1) 0 2 2
-          ∷ leg 6 1 Live (Some 1) (Some 1) 1 1 0 ∷ [])
+      ∷ leg 3 2 Falling None (Some 1) 0 2 2
+      ∷ leg 6 1 Live (Some 1) (Some 1) 1 1 0 ∷ [])
       ∷ (leg 3 1 Live (Some 1) (Some 1) 3 1 0 ∷ [])
       ∷ (leg 3 2 Live (Some 1) (Some 1) 2 2 1 ∷ leg 6 1 Live (Some 1) (Some 1) 1 1 1 ∷ [])
       ∷ (leg 3 2 Live (Some 1) (Some 1) 1 1 0
-          ∷ leg 6 1 Live None (Some 1) 0 1 2
-          ∷ leg 6 3 Held None (Some 1) 0 1 0 ∷ [])
+      ∷ leg 6 1 Live None (Some 1) 0 1 2
+      ∷ leg 6 3 Held None (Some 1) 0 1 0 ∷ [])
       ∷ [];
   calls =
       []

@@ -42,8 +42,8 @@ as_reached = record {
       ∷ (leg 5 2 Live (Some 1) (Some 1) 2 2 1 ∷ [])
       ∷ []
       ∷ (leg 5 1 Live None (Some 1) 0 1 0
-          ∷ leg 5 2 Held None (Some 1) 0 2 2
-          ∷ leg 5 4 Asked None None 0 1 0 ∷ [])
+      ∷ leg 5 2 Held None (Some 1) 0 2 2
+      ∷ leg 5 4 Asked None None 0 1 0 ∷ [])
       ∷ (leg 5 2 Live (Some 1) (Some 1) 2 2 0 ∷ [])
       ∷ [];
   calls =

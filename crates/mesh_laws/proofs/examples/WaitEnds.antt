@@ -51,8 +51,8 @@ as_reached = record {
       ∷ []
       ∷ []
       ∷ (called 1 Blocked (Code down_code)
-          ∷ reported 2 Turned Unset 1 0
-          ∷ called 4 Blocked (Code set_code) ∷ [])
+      ∷ reported 2 Turned Unset 1 0
+      ∷ called 4 Blocked (Code set_code) ∷ [])
       ∷ []
       ∷ []
       ∷ [];

@@ -37,9 +37,9 @@ as_reached = record {
   legs =
       []
       ∷ (leg 2 1 Live None (Some 1) 0 2 1
-          ∷ leg 2 2 Held None (Some 1) 0 3 1
-          ∷ leg 2 3 Live None (Some 2) 0 2 0
-          ∷ leg 2 4 Asked None None 0 2 0 ∷ [])
+      ∷ leg 2 2 Held None (Some 1) 0 3 1
+      ∷ leg 2 3 Live None (Some 2) 0 2 0
+      ∷ leg 2 4 Asked None None 0 2 0 ∷ [])
       ∷ []
       ∷ (leg 2 1 Live (Some 1) (Some 1) 2 2 0 ∷ leg 2 3 Live (Some 2) None 1 0 0 ∷ [])
       ∷ (leg 2 1 Live (Some 1) None 2 0 0 ∷ leg 2 2 Live (Some 1) None 2 0 0 ∷ [])

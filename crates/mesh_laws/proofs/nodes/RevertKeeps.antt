@@ -1,5 +1,5 @@
 -- A call that goes back, by an order, keeps the facts of a node.
-use Rattle.std.proofs.Common.{◌≡◌, ◌+◌, ℕ, true, false, not, nat_eq, refl, sym, ap, subst}
+use Rattle.std.proofs.Common.{◌≡◌, ℕ, true, false, not, nat_eq, refl, sym, ap, subst}
 use Rattle.std.specs.Prelude.{◌&&◌, Option, Some, None}
 use Rattle.ason_base.specs.declared.calls.CallState.{CallState}
 use Rattle.ason_base.specs.declared.calls.CallState.TheVariants.{Asking, Bare, Pairing, Guarded, Turning, Turned, Stuck, Blocked}
@@ -11,7 +11,7 @@ use Rattle.ason_base.specs.declared.tables.Leg.{Leg}
 use Rattle.mesh_rules.specs.Calls.{find_call, is_turned}
 use Rattle.mesh_rules.specs.Legs.{leg_of}
 use Rattle.mesh_rules.specs.LocalNodes.{LocalNode}
-use Rattle.mesh_rules.specs.Reverts.{revert_with, reverts}
+use Rattle.mesh_rules.specs.Reverts.{revert_with}
 use Rattle.mesh_rules.specs.State.{NodeState}
 use Rattle.mesh_rules.specs.Turns.{call_put, go_back, has_any}
 use Rattle.mesh_nodes.proofs.Cases.{both_left, both_right, if_cases, not-true}

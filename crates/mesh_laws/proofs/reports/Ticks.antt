@@ -16,7 +16,7 @@ use Rattle.mesh_rules.specs.Legs.{find_leg, following, is_closing, is_in_use, le
 use Rattle.mesh_rules.specs.LocalNodes.{LocalNode}
 use Rattle.mesh_rules.specs.State.{NodeState}
 use Rattle.mesh_rules.specs.Turns.{call_put, disarms, go_back, has_any, taking_back}
-use Rattle.mesh_rules.specs.Waits.{all_ticked, on_tick, ticked, waits}
+use Rattle.mesh_rules.specs.Waits.{all_ticked, on_tick, ticked}
 use Rattle.mesh_nodes.proofs.CallList.{all-calls_found, find-with_call, found-number}
 use Rattle.mesh_nodes.proofs.Cases.{if_cases}
 use Rattle.mesh_nodes.proofs.LegList.{same_lsp-eq}

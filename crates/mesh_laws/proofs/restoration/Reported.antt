@@ -22,7 +22,7 @@ use Rattle.mesh_rules.specs.Quiet.{IsQuiet}
 use Rattle.mesh_nodes.proofs.routes.Nodes.{find-there}
 use Rattle.mesh_laws.specs.HopLaw.{leg_at}
 use Rattle.mesh_laws.specs.JoinedLaw.{IsLive, LspIsJoined}
-use Rattle.mesh_laws.specs.ReportLaw.{DesksTell, PlaceTells, ReportsTell, RouteTells, StandsTo, is_reported, is_standing, on_the_way, place_at, reports_of, told, told_over}
+use Rattle.mesh_laws.specs.ReportLaw.{DesksTell, PlaceTells, ReportsTell, RouteTells, StandsTo, is_reported, is_standing, on_the_way, place_at, reports_of, told_over}
 use Rattle.mesh_laws.specs.RestorationLaw.{is_hit, is_route_cut}
 use Rattle.mesh_laws.proofs.hops.Law.{step_at}
 use Rattle.mesh_laws.proofs.reports.FirstSteps.{silent-way}
