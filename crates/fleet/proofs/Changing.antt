@@ -1,7 +1,7 @@
 -- Where groups fail or are repaired each station gets what its node is told, once there is room on every desk.
-use Rattle.std.proofs.Common.{◌≡◌, ◌≤◌, ◌<◌, ◌+◌, ◌*◌, ◌^◌, ◌-◌, ℕ, suc, Bool, true, false, nat_eq, List, [], ◌∷◌, ◌++◌, length, map, refl, sym, ap, ◌∙◌, subst, arith, append-nil}
+use Rattle.std.proofs.Common.{◌≡◌, ◌≤◌, ◌<◌, ◌+◌, ◌*◌, ◌^◌, ◌-◌, ℕ, zero, suc, Bool, true, false, nat_eq, List, [], ◌∷◌, ◌++◌, length, map, refl, sym, ap, ◌∙◌, subst, arith, append-nil}
 use Rattle.std.specs.Prelude.{Some, slice_get, slice_set}
-use Rattle.std.proofs.lemmas.List.{append_assoc}
+use Rattle.std.proofs.lemmas.List.{append_assoc, length-map}
 use Rattle.ason_base.specs.declared.commands.Command.{Command}
 use Rattle.ason_base.specs.declared.commands.DeskItem.{DeskItem}
 use Rattle.ason_base.specs.declared.commands.Group.{Group}
@@ -11,9 +11,9 @@ use Rattle.mesh_rules.specs.Failures.{all_news, failed_after}
 use Rattle.station.specs.Histories.{History, world_after}
 use Rattle.station.specs.Standing.{IsOrdered, StationState}
 use Rattle.fleet.specs.declared.seats.Seat.{Seat}
-use Rattle.fleet.specs.Posts.{AreTold, HasChanged, HasRoomed, HaveRoom, IsAsBefore, IsTold, IsToldAt, IsToldBy, with_items}
+use Rattle.fleet.specs.Posts.{AreTold, HasChanged, HasRoomed, HaveRoom, IsAsBefore, IsTold, IsToldAt, IsToldBy, but_room, with_items}
 use Rattle.fleet.specs.Standing.{AreSeats, FleetState, IsStationOf, KeepsRest, StandsFor, ids_of}
-use Rattle.fleet.proofs.Places.{IsThere, get-map, get-set, get-set-elsewhere, length-set, one_there, same_number, there, within}
+use Rattle.fleet.proofs.Places.{IsImage, IsThere, get-map, get-set, get-set-elsewhere, length-set, map-get, one_there, same_number, there, within}
 
 -- One station
 
@@ -49,45 +49,62 @@ kept-both a b c first second = record {
 pub kept-still : (a : FleetState) → KeepsRest a a
 kept-still a = record { posts = refl; network = refl; failed = refl }
 
-pub roomed-stands : (place : ℕ) (old new : FleetState) → HasRoomed place old new → IsAsBefore old new
-roomed-stands place old new r t h s = record {
+pub as-before : (f : FleetState) → IsAsBefore f f
+as-before f = record { stations = refl; seats = refl; rest = kept-still f }
+
+same-but-room : (xs : List StationState) (place : ℕ) (s z : StationState) → slice_get xs place ≡ Some s →
+    but_room z ≡ but_room s → map but_room (slice_set xs place z) ≡ map but_room xs
+same-but-room [] place s z at same = refl
+same-but-room (x ∷ xs) zero s z at same =
+    let here : x ≡ s = cc (at) in
+    ap (λ y. y ∷ map but_room xs) (same ∙ ap but_room (sym here))
+same-but-room (x ∷ xs) (suc place) s z at same =
+    ap (λ ys. but_room x ∷ ys) (same-but-room xs place s z at same)
+
+-- more room at one station
+pub roomed-next : (place : ℕ) (old mid new : FleetState) → IsAsBefore old mid → HasRoomed place mid new →
+    IsAsBefore old new
+roomed-next place old mid new before r = record {
+  stations = ap (map but_room) r.stations
+      ∙ same-but-room mid.stations place r.before (record r.before { spare = r.spare }) r.there refl
+      ∙ before.stations;
+  seats = r.seats ∙ before.seats;
+  rest = kept-both old mid new before.rest r.rest;
+}
+
+-- with more room on desks a fleet stands for the same runs
+pub roomed-stands : (t : Network) (h : History) (old new : FleetState) → IsAsBefore old new → StandsFor t old h →
+    StandsFor t new h
+roomed-stands t h old new same s = record {
   valid = s.valid;
   running = s.running;
   going = s.going;
-  seats = subst (λ xs. AreSeats t xs) (sym r.seats) s.seats;
+  seats = subst (λ xs. AreSeats t xs) (sym same.seats) s.seats;
   wires = s.wires;
   stations = record {
-    count = ap length r.stations ∙ length-set old.stations place after ∙ s.stations.count;
+    count = sym (length-map new.stations but_room) ∙ ap length same.stations ∙ length-map old.stations but_room
+        ∙ s.stations.count;
     each = each;
   };
   wired = s.wired;
-  posted = λ n. subst (λ k. length ((world_after t h).desks n.0) ≤ 256 * k) (sym r.rest.posts) (s.posted n);
-  few = subst (λ k. k ≤ 2 ^ 32 - 1) (sym r.rest.posts) s.few;
-  network = r.rest.network ∙ s.network;
-  failed = r.rest.failed ∙ s.failed;
+  posted = λ n. subst (λ k. length ((world_after t h).desks n.0) ≤ 256 * k) (sym same.rest.posts) (s.posted n);
+  few = subst (λ k. k ≤ 2 ^ 32 - 1) (sym same.rest.posts) s.few;
+  network = same.rest.network ∙ s.network;
+  failed = same.rest.failed ∙ s.failed;
 }
   where
-    after : StationState
-    after = record r.before { spare = r.spare }
-
     each : (k : ℕ) (m : NodeId) (z : StationState) → slice_get (ids_of t) k ≡ Some m →
         slice_get new.stations k ≡ Some z → IsStationOf t (world_after t h) s.wires m z
-    each k m z id is = go (nat_eq k place) refl
-      where
-        found : slice_get (slice_set old.stations place after) k ≡ Some z
-        found = ap (λ xs. slice_get xs k) (sym r.stations) ∙ is
-
-        go : (b : Bool) → nat_eq k place ≡ b → IsStationOf t (world_after t h) s.wires m z
-        go true e =
-            let at : k ≡ place = same_number k place e in
-            let state : z ≡ after = get-set old.stations place after z
-            (subst (λ j. slice_get (slice_set old.stations place after) j ≡ Some z) at found) in
-            let its : IsStationOf t (world_after t h) s.wires m r.before = s.stations.each k m r.before id
-            (subst (λ j. slice_get old.stations j ≡ Some r.before) (sym at) r.there) in
-            subst (λ y. IsStationOf t (world_after t h) s.wires m y) (sym state)
-            (record { node = its.node; links = its.links })
-        go false e =
-            s.stations.each k m z id (sym (get-set-elsewhere old.stations place k after e) ∙ found)
+    each k m z id is =
+        let was : IsImage but_room old.stations k (but_room z) = map-get but_room old.stations k (but_room z)
+        (ap (λ xs. slice_get xs k) (sym same.stations) ∙ get-map but_room new.stations k z is) in
+        let its : IsStationOf t (world_after t h) s.wires m (but_room z) =
+        subst (λ y. IsStationOf t (world_after t h) s.wires m y) was.image
+        (record {
+          node = (s.stations.each k m was.item id was.is).node;
+          links = (s.stations.each k m was.item id was.is).links;
+        }) in
+        record { node = its.node; links = its.links }
 
 below-next : (k place : ℕ) → k < place + 1 → nat_eq k place ≡ false → k < place
 below-next k place below other = grind arith

@@ -1,5 +1,5 @@
 -- Where a command goes, and what a post makes of a fleet.
-use Rattle.std.specs.Prelude.{◌≡◌, ◌≤◌, ◌<◌, ◌+◌, ◌==◌, ℕ, Bool, List, [], ◌∷◌, ◌++◌, length, Option, Some, None, true, slice_get, slice_set}
+use Rattle.std.specs.Prelude.{◌≡◌, ◌≤◌, ◌<◌, ◌+◌, ◌==◌, ℕ, Bool, List, [], ◌∷◌, ◌++◌, length, map, Option, Some, None, true, slice_get, slice_set}
 use Rattle.ason_base.specs.declared.ids.NodeId.{NodeId}
 use Rattle.ason_base.specs.declared.commands.Command.{Command}
 use Rattle.ason_base.specs.declared.commands.Command.TheVariants.{Setup, Release, Protect, Retry, Revert, Fail, Repair}
@@ -69,9 +69,15 @@ abbrev pub HaveRoom : ℕ → ℕ → FleetState → Type 0
 HaveRoom items places f =
     (place : ℕ) (s : StationState) → place < places → slice_get f.stations place ≡ Some s → items ≤ s.spare
 
--- in whatever run the one stands for, the other does
-abbrev pub IsAsBefore : FleetState → FleetState → Type 0
-IsAsBefore old new = (t : Network) (h : History) → StandsFor t old h → StandsFor t new h
+-- what a station has but for the room on its desk
+abbrev pub but_room : StationState → StationState
+but_room s = record s { spare = 0 }
+
+-- nothing differs but the room on desks
+pub record IsAsBefore (old new : FleetState) : Type 0 where
+  pub stations : map but_room new.stations ≡ map but_room old.stations
+  pub seats : new.seats ≡ old.seats
+  pub rest : KeepsRest old new
 
 -- the station has these items at the end of its desk
 pub record IsTold (items : List DeskItem) (old new : StationState) : Type 0 where

@@ -12,7 +12,7 @@ ghost use Rattle.fleet.specs.Looks.{HasWorked, IsCountedAt, IsCutAt, LooksAround
 ghost use Rattle.fleet.specs.NewFleets.{AreNew};
 ghost use Rattle.fleet.specs.Posts.{AreTold, Changes, HasRoomed, HaveRoom, IsAsBefore, IsOrdered, IsToldAt, Orders, Posts, is_seat};
 ghost use Rattle.fleet.specs.Rounds.{is_quiet, items_waiting, round, rows_waiting, unacked_waiting};
-ghost use Rattle.fleet.specs.Standing.{KeepsRest, StandsFor};
+ghost use Rattle.fleet.specs.Standing.{StandsFor};
 ghost use Rattle.station.specs.Standing.{StationState};
 
 use crate::looks::look;
@@ -261,8 +261,6 @@ impl Fleet {
     fn make_room(&mut self, items: usize) -> Result<(), OutOfMemory>
         ensures room { OnOk result (HaveRoom items (length self.new.stations) self.new) }
         ensures same { IsAsBefore self.old self.new }
-        ensures seats { self.new.seats ≡ self.old.seats }
-        ensures rest { KeepsRest self.old self.new }
     {
         let count = self.count();
         for place in 0..count {
@@ -318,8 +316,8 @@ impl Fleet {
     }
 
     /// A command of a call goes to the desk of its ingress. Where a group fails or is repaired, each node finds on its desk which
-    /// fibres that come in there went down or are up again. Where it is refused, each desk is as it was. At most 2^32 - 1
-    /// commands are posted.
+    /// fibres that come in there went down or are up again. Where memory is wanting, all is as it was but for the room on desks.
+    /// At most 2^32 - 1 commands are posted.
     pub fn post(&mut self, command: &Command) -> Result<(), OutOfMemory>
         ensures on { OnOk result (Posts command.now self.old self.new) }
         ensures err { OnErr result (IsAsBefore self.old self.new) }

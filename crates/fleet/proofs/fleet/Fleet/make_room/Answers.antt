@@ -1,5 +1,5 @@
 use Rattle.std.proofs.Common.{◌≡◌, length, ◌∙◌, arith}
-use Rattle.fleet.proofs.Changing.{kept-both, room-more, roomed-stands}
+use Rattle.fleet.proofs.Changing.{room-more, roomed-next}
 use Rattle.fleet.proofs.fleet.Fleet.make_room.Goals as goal
 
 pub loop-place-preserved : goal.loop-place-preserved
@@ -11,13 +11,11 @@ loop-place-preserved c =
       count = c.make_room_at.ensures.count ∙ c.loop-place.invariant.count;
       room = room-more c.args.items c.loop-place.place mid new c.loop-place.invariant.room c.make_room_at.ensures.same
           c.in_ok-make_room_at.ensures.room;
-      same = λ t h s. roomed-stands c.loop-place.place mid new c.make_room_at.ensures.same t h
-          (c.loop-place.invariant.same t h s);
-      seats = c.make_room_at.ensures.same.seats ∙ c.loop-place.invariant.seats;
-      rest = kept-both c.args.self.now mid new c.loop-place.invariant.rest c.make_room_at.ensures.same.rest;
+      same = roomed-next c.loop-place.place c.args.self.now mid new c.loop-place.invariant.same
+          c.make_room_at.ensures.same;
     }
 
 pub returns-in_err-make_room_at-clause-same : goal.returns-in_err-make_room_at-clause-same
-returns-in_err-make_room_at-clause-same c = λ t h s.
-    roomed-stands c.loop-place.place c.loop-place.self c.make_room_at.new.self c.make_room_at.ensures.same t h
-    (c.loop-place.invariant.same t h s)
+returns-in_err-make_room_at-clause-same c =
+    roomed-next c.loop-place.place c.args.self.now c.loop-place.self c.make_room_at.new.self
+    c.loop-place.invariant.same c.make_room_at.ensures.same

@@ -1,6 +1,5 @@
 use Rattle.std.proofs.Common.{◌≡◌, ◌≤◌, length}
 use Rattle.fleet.specs.Posts.{HaveRoom, IsAsBefore}
-use Rattle.fleet.specs.Standing.{KeepsRest}
 use Rattle.fleet.proofs.fleet.Fleet.make_room.Given as goal
 
 abbrev pub invariant-loop-place : goal.invariant-loop-place
@@ -9,6 +8,4 @@ invariant-loop-place l = record {
   count : length l.self.stations ≡ length l.initial.self.stations;
   room : HaveRoom l.items l.place l.self;
   same : IsAsBefore l.initial.self l.self;
-  seats : l.self.seats ≡ l.initial.self.seats;
-  rest : KeepsRest l.initial.self l.self;
 }
