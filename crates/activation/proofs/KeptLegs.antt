@@ -1,4 +1,4 @@
--- The legs fit after each step of an activation.
+-- The legs fit after each step of an activation, and after it is taken back.
 use Rattle.std.proofs.Common.{◌≡◌, ◌∙◌, ℕ, Bool, true, false, cond, refl, ap, sym, List, drop}
 use Rattle.std.specs.Prelude.{◌&&◌, Option, Some, None}
 use Rattle.ason_base.specs.Labels.{has}
@@ -19,7 +19,7 @@ use Rattle.mesh_rules.specs.Changes.{Answer, nothing}
 use Rattle.mesh_rules.specs.Legs.{find_leg, following, is_armed, is_asked, is_label, is_node, is_over, previous}
 use Rattle.mesh_rules.specs.Messages.{arrival}
 use Rattle.mesh_rules.specs.PathErrs.{PathFailure, on_path_err, path_err_with, removed}
-use Rattle.mesh_rules.specs.Paths.{PathRequest, path_with}
+use Rattle.mesh_rules.specs.Paths.{PathRequest, is_active, path_with}
 use Rattle.mesh_rules.specs.Resvs.{answered, is_expected, on_resv, resv_with}
 use Rattle.mesh_rules.specs.State.{new_node}
 use Rattle.mesh_nodes.specs.LocalNodes.{LocalNodeFits}
@@ -28,7 +28,7 @@ use Rattle.leg_table.proofs.OwnLegs.{legs-after, next_state}
 use Rattle.leg_table.specs.Fits.{OwnLegsFit, legs_after}
 use Rattle.leg_table.specs.States.{legs_state, local_of}
 use Rattle.leg_table.specs.Tables.{LegTable}
-use Rattle.activation.specs.Answers.{activate_answer, busy_answer, connect_answer, connected_here, contended_here, path_taken}
+use Rattle.activation.specs.Answers.{activate_answer, busy_answer, connect_answer, connected_here, contended_here, path_here, path_taken, take_back_answer}
 
 abbrev Keeps : LegTable → Answer → Type 0
 Keeps t a = OwnLegsFit (legs_after t a)
@@ -91,29 +91,46 @@ module _ (t : LegTable) (next : ℕ) (g : Leg) (u : NodeId) (e : PathFailure) wh
 
 -- Each answer
 
-pub activate-legs : (t : LegTable) (u : NodeId) (m : Msg) → LocalNodeFits (local_of t) → OwnLegsFit t →
-    OwnLegsFit (legs_after t (activate_answer t u m))
-activate-legs t u (Path l e k route set up r) links fits = go (find_leg l t.legs) refl
+-- a Path where a leg of its LSP may stand
+path-legs : (t : LegTable) (m : PathRequest) → LocalNodeFits (local_of t) → OwnLegsFit t →
+    Keeps t (path_here t m.arrival (drop 1 m.route) m.role)
+path-legs t m links fits = go (find_leg m.arrival.lsp t.legs) refl
   where
     a : Arrival
-    a = arrival l e u k
-
-    m : PathRequest
-    m = record { arrival = a; route = route; set = set; role = r }
+    a = m.arrival
 
     left : List Step
-    left = drop 1 route
+    left = drop 1 m.route
 
-    go : (o : Option Leg) → find_leg l t.legs ≡ o → Keeps t (path_taken t a left r o)
+    go : (o : Option Leg) → find_leg a.lsp t.legs ≡ o → Keeps t (path_taken t a left m.role o)
     go None found = fits
     go (Some g) found =
-        legs-after t u (Path l e k route set up r) (path_again (local_of t) (legs_state t) a left r g).legs links fits
-        (λ next. ap (λ w. w.legs) (path-by t next a left r g
+        legs-after t a.from (Path a.lsp a.egress a.link m.route m.set None m.role)
+        (path_again (local_of t) (legs_state t) a left m.role g).legs links fits
+        (λ next. ap (λ w. w.legs) (path-by t next a left m.role g
         ∙ ap (path_with (local_of t) (next_state t next) m) (sym found)))
+
+pub activate-legs : (t : LegTable) (u : NodeId) (m : Msg) → LocalNodeFits (local_of t) → OwnLegsFit t →
+    OwnLegsFit (legs_after t (activate_answer t u m))
+activate-legs t u (Path l e k route set up r) links fits =
+    let a = arrival l e u k in
+    if_cases (Keeps t) (is_active r) (path_here t a (drop 1 route) r) nothing
+    (λ active. path-legs t (record { arrival = a; route = route; set = set; role = r }) links fits) (λ other. fits)
 activate-legs t u (Resv l e k x) links fits = fits
 activate-legs t u (PathTear l e k) links fits = fits
 activate-legs t u (PathErr l e at gone code) links fits = fits
 activate-legs t u (Notify l e at k code) links fits = fits
+
+pub take_back-legs : (t : LegTable) (u : NodeId) (m : Msg) → LocalNodeFits (local_of t) → OwnLegsFit t →
+    OwnLegsFit (legs_after t (take_back_answer t u m))
+take_back-legs t u (Path l e k route set up r) links fits =
+    let a = arrival l e u k in
+    if_cases (Keeps t) (is_active r) nothing (path_here t a (drop 1 route) r) (λ active. fits)
+    (λ other. path-legs t (record { arrival = a; route = route; set = set; role = r }) links fits)
+take_back-legs t u (Resv l e k x) links fits = fits
+take_back-legs t u (PathTear l e k) links fits = fits
+take_back-legs t u (PathErr l e at gone code) links fits = fits
+take_back-legs t u (Notify l e at k code) links fits = fits
 
 pub connect-legs : (t : LegTable) (u : NodeId) (m : Msg) → LocalNodeFits (local_of t) → OwnLegsFit t →
     OwnLegsFit (legs_after t (connect_answer t u m))

@@ -1,2 +1,3 @@
 pub mod KeptLegs
 pub mod MayStay
+pub mod PathsHere

@@ -1,12 +1,13 @@
--- How a backup is activated at a node of these tables (RFC 4872, section 8): a Path that activates, a Resv at a leg
--- that is Armed, and a PathErr without Path_State_Removed. What becomes of the call at the ingress isn't told here:
--- it's as at a node without calls.
+-- How a backup is activated at a node of these tables (RFC 4872, section 8), and how its activation is taken back
+-- (reversion: RFC 4427): a Path where the leg stands, a Resv at a leg that is Armed, and a PathErr without
+-- Path_State_Removed. What becomes of the call at the ingress isn't told here: it's as at a node without calls.
 use Rattle.std.specs.Prelude.{ℕ, ◌&&◌, Bool, false, not, [], ◌∷◌, Option, Some, None, is_some, if◌then◌else◌, List, drop}
 use Rattle.ason_base.specs.declared.calls.Phase.TheVariants.{Live}
 use Rattle.ason_base.specs.declared.ids.NodeId.{NodeId}
 use Rattle.ason_base.specs.declared.messages.Msg.{Msg}
 use Rattle.ason_base.specs.declared.messages.Msg.TheVariants.{Path, Resv, PathTear, PathErr, Notify}
 use Rattle.ason_base.specs.declared.messages.PathRole.{PathRole}
+use Rattle.ason_base.specs.declared.messages.PathRole.TheVariants.{Work, Back}
 use Rattle.ason_base.specs.declared.steps.Step.{Step}
 use Rattle.ason_base.specs.declared.tables.Leg.{Leg}
 use Rattle.mesh_rules.specs.declared.arrivals.Arrival.{Arrival}
@@ -15,6 +16,7 @@ use Rattle.mesh_rules.specs.Activations.{activated, busy_to, path_again, resv_to
 use Rattle.mesh_rules.specs.Changes.{Answer, nothing, puts, sends}
 use Rattle.mesh_rules.specs.Legs.{find_leg, following, is_armed, is_node, previous, with_phase}
 use Rattle.mesh_rules.specs.Messages.{arrival}
+use Rattle.mesh_rules.specs.Paths.{is_active}
 use Rattle.mesh_rules.specs.State.{new_node}
 use Rattle.leg_table.specs.Fits.{legs_after}
 use Rattle.leg_table.specs.States.{legs_state, local_of}
@@ -33,13 +35,26 @@ busy_here t g n = sends (busy_to (local_of t) g n ∷ [])
 abbrev pub activated_here : LegTable → Arrival → List Step → PathRole → Leg → Answer
 activated_here t a route r g = activated (local_of t) (legs_state t) a route r g
 
--- a Path of an LSP that has no leg activates none
+-- a Path of an LSP that has no leg does nothing here
 abbrev pub path_taken : LegTable → Arrival → List Step → PathRole → Option Leg → Answer
 path_taken t a route r None = nothing
 path_taken t a route r (Some g) = path_again (local_of t) (legs_state t) a route r g
 
 abbrev pub path_here : LegTable → Arrival → List Step → PathRole → Answer
 path_here t a route r = path_taken t a route r (find_leg a.lsp t.legs)
+
+-- an active Path activates
+abbrev pub activating_here : LegTable → Arrival → List Step → PathRole → Answer
+activating_here t a route r = if is_active r then path_here t a route r else nothing
+
+-- another takes back
+abbrev pub taking_back_here : LegTable → Arrival → List Step → PathRole → Answer
+taking_back_here t a route r = if is_active r then nothing else path_here t a route r
+
+-- the Path is of a backup, and doesn't activate it
+abbrev pub takes_back : PathRole → Bool
+takes_back (Work guard) = false
+takes_back (Back active work primary) = not active
 
 -- A Resv
 
@@ -93,11 +108,19 @@ contends t u (Notify l e at k code) = false
 
 -- a message of another kind does nothing
 abbrev pub activate_answer : LegTable → NodeId → Msg → Answer
-activate_answer t u (Path l e k route set up r) = path_here t (arrival l e u k) (drop 1 route) r
+activate_answer t u (Path l e k route set up r) = activating_here t (arrival l e u k) (drop 1 route) r
 activate_answer t u (Resv l e k x) = nothing
 activate_answer t u (PathTear l e k) = nothing
 activate_answer t u (PathErr l e at gone code) = nothing
 activate_answer t u (Notify l e at k code) = nothing
+
+-- likewise
+abbrev pub take_back_answer : LegTable → NodeId → Msg → Answer
+take_back_answer t u (Path l e k route set up r) = taking_back_here t (arrival l e u k) (drop 1 route) r
+take_back_answer t u (Resv l e k x) = nothing
+take_back_answer t u (PathTear l e k) = nothing
+take_back_answer t u (PathErr l e at gone code) = nothing
+take_back_answer t u (Notify l e at k code) = nothing
 
 -- likewise
 abbrev pub connect_answer : LegTable → NodeId → Msg → Answer
@@ -120,6 +143,9 @@ busy_answer t u (Notify l e at k code) = nothing
 
 abbrev pub after_activate : LegTable → NodeId → Msg → LegTable
 after_activate t u m = legs_after t (activate_answer t u m)
+
+abbrev pub after_take_back : LegTable → NodeId → Msg → LegTable
+after_take_back t u m = legs_after t (take_back_answer t u m)
 
 abbrev pub after_connect : LegTable → NodeId → Msg → LegTable
 after_connect t u m = legs_after t (connect_answer t u m)

@@ -3,11 +3,12 @@
 ghost use Rattle.std.specs.Prelude.{◌≡◌, [], IfOk, OnErr, OnOk};
 ghost use Rattle.leg_table.specs.Fits.{TablesFitOwner};
 ghost use Rattle.leg_table.specs.LegClaims.{SharesStay};
-ghost use Rattle.activation.specs.Answers.{activate_answer, after_activate, after_busy, after_connect, busy_answer, connect_answer};
+ghost use Rattle.activation.specs.Answers.{activate_answer, after_activate, after_busy, after_connect, after_take_back, busy_answer, connect_answer, take_back_answer};
 
 use crate::path_errs::busy_change;
 use crate::paths::activate_change;
 use crate::resvs::connect_change;
+use crate::taken_back::take_back_change;
 use ason_base::{Msg, NodeId, OutOfMemory, Outs};
 use leg_table::NodeTables;
 use leg_table::handling::handle_kept;
@@ -36,6 +37,31 @@ pub fn activate(
     ensures err_owner { OnErr result (owner.new ≡ owner.old) }
 {
     let change = activate_change(alloc, tables, owner, from, msg)?;
+    handle_kept(alloc, tables, owner, change)
+}
+
+/// Takes a Path of a backup that doesn't activate it, at a leg that is Armed or Live: the leg is
+/// Held again, its claim is disarmed, and the Path goes on; at the egress nothing is sent. Hands
+/// back what is to be sent, in order. A Path that activates, one at a leg that is neither or of a
+/// working LSP, and a message of another kind, change nothing. After want of memory nothing has
+/// changed.
+pub fn take_back(
+    alloc: Global,
+    tables: &mut NodeTables,
+    owner: &mut Owner,
+    from: NodeId,
+    msg: &Msg,
+) -> Result<Outs, OutOfMemory>
+    requires { TablesFitOwner tables.old owner.old }
+    ensures ok { OnOk result (tables.new ≡ after_take_back tables.old from msg.now) }
+    ensures sent { IfOk result (λ outs. outs ≡ (take_back_answer tables.old from msg.now).sent) }
+    ensures none { (take_back_answer tables.old from msg.now).legs ≡ [] → owner.new ≡ owner.old }
+    ensures fits { TablesFitOwner tables.new owner.new }
+    ensures shares { SharesStay tables.old owner.old tables.new owner.new }
+    ensures err { OnErr result (tables.new ≡ tables.old) }
+    ensures err_owner { OnErr result (owner.new ≡ owner.old) }
+{
+    let change = take_back_change(alloc, tables, from, msg)?;
     handle_kept(alloc, tables, owner, change)
 }
 

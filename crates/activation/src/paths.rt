@@ -1,15 +1,16 @@
 //! A Path that activates a backup whose leg stands here.
 
-ghost use Rattle.std.specs.Prelude.{◌≡◌, IfOk, IsTrue, Some, drop};
+ghost use Rattle.std.specs.Prelude.{◌≡◌, IfOk, IsTrue, None, Some, drop};
+ghost use Rattle.ason_base.specs.declared.messages.Msg.TheVariants.{Path};
 ghost use Rattle.mesh_rules.specs.Activations.{armed_on};
 ghost use Rattle.mesh_rules.specs.Legs.{find_leg, following, is_beyond_asked};
 ghost use Rattle.mesh_rules.specs.Paths.{is_active};
 ghost use Rattle.leg_table.specs.LegClaims.{ClaimsFit};
-ghost use Rattle.activation.specs.Answers.{activate_answer, activated_here, busy_here, path_here};
+ghost use Rattle.activation.specs.Answers.{activate_answer, activated_here, activating_here, busy_here};
 
 use crate::resvs::go_live;
 use ason_base::codes::BUSY;
-use ason_base::{Copied, Leg, Msg, NodeId, OutOfMemory, PathRole, Phase, Steps};
+use ason_base::{Copied, Leg, LinkId, Msg, NodeId, OutOfMemory, PathRole, Phase, Steps};
 use leg_table::labels::is_contended;
 use leg_table::one_leg::{following, is_held, is_over, previous, with_phase};
 use leg_table::{Change, NodeTables};
@@ -31,13 +32,35 @@ fn refuse(alloc: Global, tables: &NodeTables, leg: &Leg, to: NodeId) -> Result<C
     Change::sends(alloc, to, msg)
 }
 
-// A Path where a leg of its LSP stands: from where it came, over which steps from here, and for
-// what.
+/// A Path where a leg of its LSP stands: from where it came, over which steps from here, and for
+/// what.
 #[derive(Drop)]
-struct PathAgain<'a> {
-    arrival: Arrival,
-    route: &'a Steps,
-    role: &'a PathRole,
+pub(crate) struct PathAgain<'a> {
+    pub(crate) arrival: Arrival,
+    pub(crate) route: &'a Steps,
+    pub(crate) role: &'a PathRole,
+}
+
+/// The Path that goes on over this link, with the steps that are left.
+pub(crate) fn path_on(
+    alloc: Global,
+    leg: &Leg,
+    link: LinkId,
+    route: &Steps,
+    role: &PathRole,
+) -> Result<Msg, OutOfMemory>
+    ensures { IfOk result (λ m. m ≡ Path leg.now.lsp leg.now.egress link (drop 1 route.now)
+        leg.now.sent None role.now) }
+{
+    Ok(Msg::Path {
+        lsp: leg.lsp,
+        egress: leg.egress,
+        link,
+        route: route.copy_from(alloc, 1)?,
+        set: leg.sent.copy(),
+        upstream: None,
+        role: role.copy(alloc)?,
+    })
 }
 
 // The leg is Armed and the Path goes on, over the steps that are left; at the egress it is Live and
@@ -49,15 +72,7 @@ fn arm(alloc: Global, leg: &Leg, route: &Steps, role: &PathRole) -> Result<Chang
     let Some(next) = following(leg) else {
         return go_live(alloc, leg);
     };
-    let msg = Msg::Path {
-        lsp: leg.lsp,
-        egress: leg.egress,
-        link: next.fibre.link,
-        route: route.copy_from(alloc, 1)?,
-        set: leg.sent.copy(),
-        upstream: None,
-        role: role.copy(alloc)?,
-    };
+    let msg = path_on(alloc, leg, next.fibre.link, route, role)?;
     Change::puts(alloc, with_phase(alloc, leg, Phase::Armed)?, next.node, msg)
 }
 
@@ -97,7 +112,7 @@ fn on_path(
     path: &PathAgain<'_>,
 ) -> Result<Change, OutOfMemory>
     requires { ClaimsFit tables.now.legs owner.now }
-    ensures { IfOk result (λ c. c ≡ path_here tables.now path.now.arrival
+    ensures { IfOk result (λ c. c ≡ activating_here tables.now path.now.arrival
         (drop 1 path.now.route.now) path.now.role.now) }
 {
     match tables.get(&path.arrival.lsp) {
