@@ -135,7 +135,7 @@ module _ (before t : LegTable) (c : CallTable) (u : NodeId) (l : Lsp) (e : NodeI
       connects : (g : Leg) →
           Becomes (Resv l e k x) g (connected g None x)
           (call_answered p s (connected g None x) (call_with g.lsp c.calls)) → TakesResv
-      confirms : (g : Leg) → is_armed g.phase ≡ true →
+      confirms : (g : Leg) → is_confirmed a x g ≡ true →
           Becomes (Resv l e k x) g (with_phase Live g)
           (call_turned (with_phase Live g) (call_with g.lsp c.calls)) → TakesResv
 
@@ -181,7 +181,7 @@ module _ (before t : LegTable) (c : CallTable) (u : NodeId) (l : Lsp) (e : NodeI
             by_kind false other =
                 let armed : is_confirmed a x g ≡ true =
                 ap (λ b. b || is_confirmed a x g) (sym other) ∙ both_right (begins_at (previous g)) _ applies in
-                confirms g (both_left (is_armed g.phase) _ armed) (record {
+                confirms g armed (record {
                   found = found;
                   first = first;
                   is = is _ (resv-confirms (legs_state before) g first other armed);

@@ -19,18 +19,20 @@ use Rattle.ason_base.specs.declared.network.TeRow.{TeRow}
 use Rattle.ason_base.specs.declared.tables.CallRec.{CallRec}
 use Rattle.ason_base.specs.declared.tables.Leg.{Leg}
 use Rattle.ason_base.specs.declared.tables.Out.{Out}
+use Rattle.mesh_rules.specs.ActivationAnswers.{is_confirmed}
 use Rattle.mesh_rules.specs.CallSteps.{call_answered, call_contended, call_turned}
 use Rattle.mesh_rules.specs.Calls.{call_with, find_call, names}
 use Rattle.mesh_rules.specs.Changes.{Answer, changed, followed_by, nothing, removes}
 use Rattle.mesh_rules.specs.Legs.{connected, find_leg, is_armed, is_work, legs_changed, with_leg, with_phase, without_leg}
 use Rattle.mesh_rules.specs.LocalNodes.{LocalNode}
-use Rattle.mesh_rules.specs.Messages.{on_message}
+use Rattle.mesh_rules.specs.Messages.{arrival, on_message}
 use Rattle.mesh_rules.specs.Pairs.{route_from}
 use Rattle.mesh_rules.specs.Reports.{fibre_into, reported}
 use Rattle.mesh_rules.specs.State.{NodeState}
 use Rattle.mesh_nodes.specs.Kept.{LegFits, NodeFits}
 use Rattle.mesh_nodes.specs.LocalNodes.{LocalNodeFits}
 use Rattle.mesh_nodes.proofs.CallList.{called-names}
+use Rattle.mesh_nodes.proofs.Cases.{both_left}
 use Rattle.mesh_nodes.proofs.Items.{items-fit}
 use Rattle.mesh_nodes.proofs.Kept.{alone-fibre, length-replaced}
 use Rattle.mesh_nodes.proofs.LearnsNothing.{item-learns_nothing, message-learns_nothing}
@@ -267,15 +269,18 @@ module _ (before : LegTable) (c : CallTable) (u : NodeId) (fits : IngressFits be
         (answered-stays p (state_of after c) (names-after l e m t g h _ became) (alone-after l e m t g h _ became)
         (armed-after l e m t g h _ became) h (h-found l e m t g h _ became) (call_with g.lsp c.calls) refl))
 
-    confirmed-follows : (g : Leg) → is_armed g.phase ≡ true →
+    confirmed-follows : (g : Leg) → is_confirmed (arrival l e u k) x g ≡ true →
         Becomes before t c u l e m g (with_phase Live g)
         (call_turned (with_phase Live g) (call_with g.lsp c.calls)) →
         Follows before (record before { legs = with_leg (with_phase Live g) before.legs }) c u m
-    confirmed-follows g armed became =
+    confirmed-follows g confirmed became =
         leg-follows l e m t g h _ became refl
         (ap (resv_here after c) (h-here l e m t g h _ became) ∙ part (call_with g.lsp c.calls) refl)
         (stays (call_with g.lsp c.calls) refl)
       where
+        armed : is_armed g.phase ≡ true
+        armed = both_left (is_armed g.phase) _ confirmed
+
         h : Leg
         h = with_phase Live g
 
@@ -307,8 +312,8 @@ module _ (before : LegTable) (c : CallTable) (u : NodeId) (fits : IngressFits be
     pub resv-follows : TakesResv before t c u l e k x → Follows before t c u m
     resv-follows (connects g became) =
         subst (λ b. Follows before b c u m) (sym became.is) (connected-follows g became)
-    resv-follows (confirms g armed became) =
-        subst (λ b. Follows before b c u m) (sym became.is) (confirmed-follows g armed became)
+    resv-follows (confirms g confirmed became) =
+        subst (λ b. Follows before b c u m) (sym became.is) (confirmed-follows g confirmed became)
 
   module _ (l : Lsp) (e at : NodeId) (code : ErrCode) (t : LegTable) where
     pub busy-follows : Contends before t c u l e at code → Follows before t c u (PathErr l e at false code)

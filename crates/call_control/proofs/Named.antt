@@ -23,6 +23,7 @@ use Rattle.ason_base.specs.declared.network.LinkSpec.{LinkSpec}
 use Rattle.ason_base.specs.declared.steps.Step.{Step}
 use Rattle.ason_base.specs.declared.tables.CallRec.{CallRec}
 use Rattle.ason_base.specs.declared.tables.Leg.{Leg}
+use Rattle.ason_base.specs.declared.tables.Out.{Out}
 use Rattle.mesh_rules.specs.declared.changes.CallChange.TheVariants as call
 use Rattle.mesh_rules.specs.declared.changes.LegChange.TheVariants as leg
 use Rattle.mesh_rules.specs.declared.limits.TheConstants.{LAST_NUMBER}
@@ -32,7 +33,7 @@ use Rattle.mesh_rules.specs.Changes.{Answer, changed, changes_calls, followed_by
 use Rattle.mesh_rules.specs.FirstLegs.{NewLsp, first_leg, first_link, is_full}
 use Rattle.mesh_rules.specs.KnownRows.{known_rows}
 use Rattle.mesh_rules.specs.LeastRoutes.{Trip, least_trip}
-use Rattle.mesh_rules.specs.Legs.{closed, closing_phase, find_leg, is_armed, is_held, is_work, leg_of, legs_changed, with_leg, with_phase}
+use Rattle.mesh_rules.specs.Legs.{closed, closing_phase, find_leg, following, is_armed, is_held, is_in_use, is_work, leg_of, legs_changed, with_leg, with_phase}
 use Rattle.mesh_rules.specs.LocalNodes.{LocalNode}
 use Rattle.mesh_rules.specs.Pairs.{backup_lsp, backup_route, begins_backup, beside_lsp, leaves_bare, over_backup, pair, pair_over, route_from}
 use Rattle.mesh_rules.specs.Protects.{protect_with, protects}
@@ -41,7 +42,7 @@ use Rattle.mesh_rules.specs.Reports.{call_reported, reported_on, with_report}
 use Rattle.mesh_rules.specs.Retries.{retries, retry_with}
 use Rattle.mesh_rules.specs.Setups.{SetupRequest, admitted_setup, begins, call_record, is_order_here, is_spent, new_call, next_lsp, over_first, over_found, refused_setup, setup_with, working_lsp}
 use Rattle.mesh_rules.specs.State.{NodeState}
-use Rattle.mesh_rules.specs.Turns.{arms, call_put, decide, decided, has_any, turn}
+use Rattle.mesh_rules.specs.Turns.{activating_path, arms, call_put, decide, decided, disarms, go_back, has_any, taking_path, turn}
 use Rattle.mesh_nodes.proofs.CallList.{all-with_call, called-names}
 use Rattle.mesh_nodes.proofs.Cases.{if_cases}
 use Rattle.mesh_nodes.proofs.LegList.{all-filter, all-with_leg, find-with_leg, found-lsp, same_lsp-eq}
@@ -58,9 +59,9 @@ pub record Stays (p : LocalNode) (s : NodeState) (a : Answer) : Type 0 where
   pub labels : AllByRecursion (ChangesNoLabel s.legs) a.legs
   pub no_down : a.down ≡ None
 
--- a leg of this role that stands and begins here
+-- a leg of this role that begins here, as one of its LSP does that stands
 pub record Begins (p : LocalNode) (legs : List Leg) (r : Role) (g : Leg) : Type 0 where
-  pub found : find_leg g.lsp legs ≡ Some g
+  pub there : role_at (find_leg g.lsp legs) ≡ Some g.role
   pub begun : g.lsp.ingress.0 ≡ p.id.0
   pub alone : g.in_fibre ≡ None
   pub role : g.role ≡ r
@@ -207,20 +208,17 @@ module _ (p : LocalNode) (s : NodeState) (all : AllNameByRole p s) (alone : Begi
 
   -- Release
 
-  role-found : (g : Leg) → find_leg g.lsp s.legs ≡ Some g → role_at (find_leg g.lsp s.legs) ≡ Some g.role
-  role-found g found = ap role_at found
-
   -- the leg of one LSP has its role still after that of another one closed
-  role-after : (g h : Leg) → find_leg g.lsp s.legs ≡ Some g → find_leg h.lsp s.legs ≡ Some h →
+  role-after : (g h : Leg) → role_at (find_leg g.lsp s.legs) ≡ Some g.role →
+      role_at (find_leg h.lsp s.legs) ≡ Some h.role →
       role_at (find_leg h.lsp (with_leg (closed g) s.legs)) ≡ Some h.role
   role-after g h this that = ap role_at (find-with_leg (closed g) s.legs h.lsp) ∙ go (same_lsp g.lsp h.lsp) refl
     where
       go : (b : Bool) → same_lsp g.lsp h.lsp ≡ b →
           role_at (cond b (Some (closed g)) (find_leg h.lsp s.legs)) ≡ Some h.role
       go true e =
-          sym (role-found g this) ∙ ap (λ k. role_at (find_leg k s.legs)) (same_lsp-eq g.lsp h.lsp e)
-          ∙ role-found h that
-      go false e = role-found h that
+          sym this ∙ ap (λ k. role_at (find_leg k s.legs)) (same_lsp-eq g.lsp h.lsp e) ∙ that
+      go false e = that
 
   -- legs of LSPs that begin here close, and the call goes
   module _ (n : CallNo) where
@@ -238,13 +236,13 @@ module _ (p : LocalNode) (s : NodeState) (all : AllNameByRole p s) (alone : Begi
     tears-stay None None this that =
         record { names = less s.legs (λ l r small here. here); armed = armed; labels = tt; no_down = refl }
     tears-stay None (Some h) this that = record {
-      names = less (with_leg (closed h) s.legs) (changed-stay s.lsp (closed h) s.legs (role-found h that.found));
+      names = less (with_leg (closed h) s.legs) (changed-stay s.lsp (closed h) s.legs that.there);
       armed = armed-with (closed h) (not-armed p.id.0 h);
       labels = (closes Back h that, tt);
       no_down = refl;
     }
     tears-stay (Some g) None this that = record {
-      names = less (with_leg (closed g) s.legs) (changed-stay s.lsp (closed g) s.legs (role-found g this.found));
+      names = less (with_leg (closed g) s.legs) (changed-stay s.lsp (closed g) s.legs this.there);
       armed = armed-with (closed g) (not-armed p.id.0 g);
       labels = (closes Work g this, tt);
       no_down = refl;
@@ -252,15 +250,15 @@ module _ (p : LocalNode) (s : NodeState) (all : AllNameByRole p s) (alone : Begi
     tears-stay (Some g) (Some h) this that = record {
       names = less (with_leg (closed h) (with_leg (closed g) s.legs))
           (λ l r small here. changed-stay s.lsp (closed h) (with_leg (closed g) s.legs)
-          (role-after g h this.found that.found) l r small
-          (changed-stay s.lsp (closed g) s.legs (role-found g this.found) l r small here));
+          (role-after g h this.there that.there) l r small
+          (changed-stay s.lsp (closed g) s.legs this.there l r small here));
       armed = all-with_leg (IsArmedAsBackup p.id.0) (closed h) (with_leg (closed g) s.legs) (not-armed p.id.0 h)
           (armed-with (closed g) (not-armed p.id.0 g));
       labels = (closes Work g this, (closes Back h that, tt));
       no_down = refl;
     }
 
-  leg_of-begins : (r : Role) (o : Option Lsp) → IfSome o (IsNamedAs p.id.0 s.lsp s.legs r) →
+  pub leg_of-begins : (r : Role) (o : Option Lsp) → IfSome o (IsNamedAs p.id.0 s.lsp s.legs r) →
       IfSome (leg_of o s.legs) (Begins p s.legs r)
   leg_of-begins r None named = tt
   leg_of-begins r (Some l) named = go (find_leg l s.legs) refl
@@ -271,7 +269,7 @@ module _ (p : LocalNode) (s : NodeState) (all : AllNameByRole p s) (alone : Begi
           let is : g.lsp ≡ l = found-lsp l s.legs g found in
           let begun : g.lsp.ingress.0 ≡ p.id.0 = ap (λ (k : Lsp). k.ingress.0) is ∙ named.ingress in
           record {
-            found = subst (λ k. find_leg k s.legs ≡ Some g) (sym is) found;
+            there = ap role_at (subst (λ k. find_leg k s.legs ≡ Some g) (sym is) found);
             begun = begun;
             alone = alone l g found named.ingress;
             role = subst (λ o. IfSome (role_at o) (λ q. q ≡ r)) found named.role;
@@ -289,12 +287,14 @@ module _ (p : LocalNode) (s : NodeState) (all : AllNameByRole p s) (alone : Begi
 
   -- Turning
 
-  arms-stay : (c : CallRec) (b : Leg) → Names c → Begins p s.legs Back b → Stays p s (arms c b)
-  arms-stay c b here begins =
-      let g : Leg = with_phase Armed b in
-      let stay = changed-stay s.lsp g s.legs (ap role_at begins.found) in
+  -- the leg of a backup changes its phase, and this call is put in its place
+  phase-stays : (q : Phase) (c : CallRec) (b : Leg) (outs : List Out) → Names c → Begins p s.legs Back b →
+      Stays p s (record nothing { legs = leg.Put (with_phase q b) ∷ []; calls = call.Put c ∷ []; sent = outs })
+  phase-stays q c b outs here begins =
+      let g : Leg = with_phase q b in
+      let stay = changed-stay s.lsp g s.legs begins.there in
       record {
-        names = all-with_call (NamesByRole p.id.0 s.lsp (with_leg g s.legs)) (turning c) s.calls
+        names = all-with_call (NamesByRole p.id.0 s.lsp (with_leg g s.legs)) c s.calls
             (record {
               work = lsp-stays p.id.0 s.lsp s.lsp _ s.legs (with_leg g s.legs) c.work (omega arith) stay here.work;
               back = lsp-stays p.id.0 s.lsp s.lsp _ s.legs (with_leg g s.legs) c.back (omega arith) stay here.back;
@@ -305,10 +305,30 @@ module _ (p : LocalNode) (s : NodeState) (all : AllNameByRole p s) (alone : Begi
         no_down = refl;
       }
 
+  arms-stay : (c : CallRec) (b : Leg) → Names c → Begins p s.legs Back b → Stays p s (arms c b)
+  arms-stay c b here begins =
+      phase-stays Armed (turning c) b (activating_path b (following b)) (record { work = here.work; back = here.back })
+      begins
+
   turn-stays : (c : CallRec) (o : Option Leg) → Names c → IfSome o (Begins p s.legs Back) → Stays p s (turn c o)
   turn-stays c None here begins = put-stays c here
   turn-stays c (Some b) here begins =
       if_cases (Stays p s) (is_held b.phase) _ _ (λ e. arms-stay c b here begins) (λ e. put-stays c here)
+
+  -- Going back
+
+  disarms-stay : (c : CallRec) (b : Leg) → Names c → Begins p s.legs Back b → Stays p s (disarms c b)
+  disarms-stay c b here begins =
+      phase-stays Held (guarded c) b (taking_path b (following b)) (record { work = here.work; back = here.back })
+      begins
+
+  pub go_back-stays : (c : CallRec) (o : Option Leg) → Names c → IfSome o (Begins p s.legs Back) →
+      Stays p s (go_back c o)
+  go_back-stays c None here begins = put-stays c here
+  go_back-stays c (Some b) here begins =
+      if_cases (Stays p s) (is_in_use b.phase) _ _ (λ e. disarms-stay c b here begins) (λ e. put-stays c here)
+
+  -- Decisions
 
   decided-stays : (c : CallRec) (o : Option Leg) → Names c → IfSome o (Begins p s.legs Back) →
       (q : CallState) (works backs : Bool) → Stays p s (decided c o q works backs)
@@ -323,7 +343,9 @@ module _ (p : LocalNode) (s : NodeState) (all : AllNameByRole p s) (alone : Begi
   decided-stays c o here begins Bare works backs = put-stays c here
   decided-stays c o here begins Pairing works backs = put-stays c here
   decided-stays c o here begins Turning works backs = put-stays c here
-  decided-stays c o here begins Turned works backs = put-stays c here
+  decided-stays c o here begins Turned false true = go_back-stays c o here begins
+  decided-stays c o here begins Turned false false = put-stays c here
+  decided-stays c o here begins Turned true backs = put-stays c here
   decided-stays c o here begins Blocked works backs = put-stays c here
 
   decide-stays : (c : CallRec) (o : Option Leg) → Names c → IfSome o (Begins p s.legs Back) → Stays p s (decide c o)
@@ -358,7 +380,7 @@ module _ (p : LocalNode) (s : NodeState) (all : AllNameByRole p s) (alone : Begi
     backs : (c : CallRec) → call_with g.lsp s.calls ≡ Some c → g.role ≡ Back → Begins p s.legs Back g
     backs c is role =
         let begun = begun-at c is in
-        record { found = found; begun = begun; alone = alone g.lsp g found begun; role = role }
+        record { there = ap role_at found; begun = begun; alone = alone g.lsp g found begun; role = role }
 
     pub answered-stays : (o : Option CallRec) → call_with g.lsp s.calls ≡ o → Stays p s (call_answered p s g o)
     answered-stays None is = nothing-stays

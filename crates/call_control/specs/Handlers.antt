@@ -7,6 +7,7 @@ use Rattle.ason_base.specs.declared.calls.Role.TheVariants.{Work, Back}
 use Rattle.ason_base.specs.declared.codes.ErrCode.{ErrCode}
 use Rattle.ason_base.specs.declared.commands.Command.{Command}
 use Rattle.ason_base.specs.declared.commands.Command.TheVariants.{Setup, Release, Protect, Retry, Revert, Fail, Repair}
+use Rattle.ason_base.specs.declared.ids.CallNo.{CallNo}
 use Rattle.ason_base.specs.declared.ids.Lsp.{Lsp}
 use Rattle.ason_base.specs.declared.ids.NodeId.{NodeId}
 use Rattle.ason_base.specs.declared.messages.Msg.{Msg}
@@ -28,6 +29,7 @@ use Rattle.mesh_rules.specs.State.{NodeState}
 use Rattle.leg_table.specs.Fits.{legs_after}
 use Rattle.leg_table.specs.States.{legs_state, local_of, state_of}
 use Rattle.leg_table.specs.Tables.{CallTable, LegTable}
+use Rattle.call_control.specs.GoingBack.{going_back, reported_by, turned_by}
 use Rattle.call_control.specs.Ingress.{IngressFits}
 use Rattle.call_control.specs.Rules.{answered_here, contended_here, protect_here, refused_as, release_here, reported_here, retry_here, setup_here, turned_here}
 use Rattle.call_control.specs.Searches.{IsRouteFor, sought_by_protect, sought_by_resv}
@@ -125,6 +127,19 @@ answer_here t c (PathTear l e k) = nothing
 answer_here t c (PathErr l e at gone code) = err_here t c l gone code
 answer_here t c (Notify l e at k code) = reported_here t c (Notify l e at k code)
 
+-- the call that is decided of by this Resv
+abbrev pub resv_decides : CallTable → Option Leg → Option CallRec
+resv_decides c None = None
+resv_decides c (Some g) = if is_activated g then turned_by c g else None
+
+-- the call that may go back by the message, as it is decided of
+abbrev pub decided_here : LegTable → CallTable → Msg → Option CallRec
+decided_here t c (Path l e k route set up r) = None
+decided_here t c (Resv l e k x) = resv_decides c (find_leg l t.legs)
+decided_here t c (PathTear l e k) = None
+decided_here t c (PathErr l e at gone code) = None
+decided_here t c (Notify l e at k code) = reported_by t c (Notify l e at k code)
+
 -- the leg beside whose LSP the message leads to a backup
 abbrev pub sought_at : CallTable → Option Leg → Option Leg
 sought_at c None = None
@@ -164,6 +179,28 @@ takes_notify u code None = false
 takes_notify u code (Some g) =
     begins_at (previous g) && ((not (is_closing g.phase) && is_node (following g) u) && is_some (reported code))
 
+-- the leg is activated by the Resv, and its LSP begins here
+abbrev pub takes_activation : Arrival → ℕ → Option Leg → Bool
+takes_activation a x None = false
+takes_activation a x (Some g) = begins_at (previous g) && is_confirmed a x g
+
+abbrev pub confirmed_by : CallTable → Arrival → ℕ → Option Leg → Option CallRec
+confirmed_by c a x None = None
+confirmed_by c a x (Some g) = if takes_activation a x (Some g) then turned_by c g else None
+
+-- the call that may go back by the message from this node, as it is decided of
+abbrev pub decided_by : LegTable → CallTable → NodeId → Msg → Option CallRec
+decided_by t c u (Path l e k route set up r) = None
+decided_by t c u (Resv l e k x) = confirmed_by c (arrival l e u k) x (find_leg l t.legs)
+decided_by t c u (PathTear l e k) = None
+decided_by t c u (PathErr l e at gone code) = None
+decided_by t c u (Notify l e at k code) =
+    if takes_notify u code (find_leg l t.legs) then reported_by t c (Notify l e at k code) else None
+
+-- the call that goes back by the message
+abbrev pub goes_back : LegTable → CallTable → NodeId → Msg → Option CallNo
+goes_back t c u m = going_back (decided_by t c u m)
+
 -- what the rule of a message does to the legs alone: it's as at a node without calls
 abbrev pub leg_answer : LegTable → NodeId → Msg → Answer
 leg_answer t u m = on_message (local_of t) (legs_state t) u m
@@ -187,10 +224,12 @@ IsAfterLeg before u (PathErr l e at gone code) t =
 IsAfterLeg before u (Notify l e at k code) t =
     IsCarriedOut before (takes_notify u code (find_leg l before.legs)) nothing t
 
--- before the rule of the message was carried out on the leg, the ingress had these tables, and they fitted
+-- before the rule of the message was carried out on the leg, the ingress had these tables, they fitted, and no call went
+-- back by it
 pub record WereBefore (t : LegTable) (c : CallTable) (u : NodeId) (m : Msg) (before : LegTable) : Type 0 where
   pub leg : IsAfterLeg before u m t
   pub fits : IngressFits before c
+  pub none_back : goes_back before c u m ≡ None
 
 -- the whole rule of a Resv, a PathErr or a Notify, of the leg and of its call
 abbrev pub whole_answer : LegTable → CallTable → NodeId → Msg → Answer

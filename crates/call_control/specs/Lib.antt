@@ -1,3 +1,4 @@
+pub mod GoingBack
 pub mod Handlers
 pub mod Ingress
 pub mod PairRules

@@ -1,7 +1,7 @@
 //! The states of a call.
 
 ghost use Rattle.std.specs.Prelude.{◌≡◌};
-ghost use Rattle.mesh_rules.specs.Calls.{bare, blocked, guarded, is_asking, is_bare, is_stuck, is_turning, pairing, stuck, turned, turning, unbacked};
+ghost use Rattle.mesh_rules.specs.Calls.{bare, blocked, guarded, is_asking, is_bare, is_stuck, is_turned, is_turning, pairing, stuck, turned, turning, unbacked};
 
 use ason_base::{CallRec, CallState, Cause, Fibres, Lsp};
 use std::alloc::Global;
@@ -22,6 +22,13 @@ pub(crate) fn is_turning(state: CallState) -> bool
     ensures { result ≡ is_turning state }
 {
     matches!(state, CallState::Turning)
+}
+
+/// Whether its backup carries the call.
+pub fn is_turned(state: CallState) -> bool
+    ensures { result ≡ is_turned state }
+{
+    matches!(state, CallState::Turned)
 }
 
 pub(crate) fn is_stuck(state: CallState) -> bool
@@ -85,7 +92,7 @@ pub(crate) fn pairing(alloc: Global, call: CallRec, back: Lsp) -> CallRec
 }
 
 /// The call, whose backup is reserved.
-pub(crate) fn guarded(call: CallRec) -> CallRec
+pub fn guarded(call: CallRec) -> CallRec
     ensures { result ≡ guarded call }
 {
     CallRec {
@@ -109,7 +116,7 @@ pub(crate) fn turning(call: CallRec) -> CallRec
 }
 
 /// The call, which its backup carries.
-pub(crate) fn turned(call: CallRec) -> CallRec
+pub fn turned(call: CallRec) -> CallRec
     ensures { result ≡ turned call }
 {
     CallRec {

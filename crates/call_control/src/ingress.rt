@@ -12,7 +12,8 @@ use ason_base::{Leg, LinkId, LinkSpec, Lsp, NodeId, Steps};
 use leg_table::NodeTables;
 use mesh_rules::limits::{MOST_LEGS, MOST_LINKS_OF_ROUTE};
 
-pub(crate) fn id_of(tables: &NodeTables) -> NodeId
+/// The node's number.
+pub fn id_of(tables: &NodeTables) -> NodeId
     ensures { result ≡ (local_of tables.now).id }
 {
     tables.node().id
@@ -45,7 +46,7 @@ pub(crate) fn first_link<'a>(tables: &'a NodeTables, route: &Steps) -> Option<&'
 }
 
 /// The leg of an LSP that a call names.
-pub(crate) fn leg_of(tables: &NodeTables, lsp: Option<Lsp>) -> Option<&Leg>
+pub fn leg_of(tables: &NodeTables, lsp: Option<Lsp>) -> Option<&Leg>
     ensures { option_copied result ≡ leg_of lsp tables.now.legs }
 {
     match lsp {

@@ -1,11 +1,13 @@
 //! Call control at an ingress (ITU-T G.8080): setups and releases, the backups of protected calls,
 //! when a call turns to its backup, and what becomes of a call after its LSPs. What each changes is
-//! told, or carried out by a handler. Routes that are searched for are handed in.
+//! told, or carried out by a handler. Routes that are searched for are handed in. Which call goes
+//! back after a message is told; that it does is none of this crate.
 #![tactic(auto)]
 
 mod call_states;
 mod call_steps;
 mod first_legs;
+mod going_back;
 pub mod handlers;
 mod ingress;
 pub mod laws;
@@ -17,11 +19,15 @@ mod retries;
 mod setups;
 mod turns;
 
+pub use call_states::{guarded, is_turned, turned};
 pub use call_steps::{answer_busy, answer_confirmed, answer_resv, refuse_lsp, sought_by_resv};
+pub use going_back::goes_back;
 pub use handlers::{answer, command, setup, sought_by_answer};
+pub use ingress::{id_of, leg_of};
 pub use pairs::route_from;
 pub use protects::{protect, sought_by_protect};
 pub use releases::release;
-pub use reports::answer_report;
+pub use reports::{answer_report, fibre_of, reported, with_report};
 pub use retries::retry;
 pub use setups::{SetupRequest, seeks_route, set_up};
+pub use turns::{has_any, send_path};
