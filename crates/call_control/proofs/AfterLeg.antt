@@ -86,7 +86,7 @@ module _ (p : LocalNode) (s : NodeState) (legs : List Leg) (many : length legs �
 
 -- The rules
 
-begins-is : (o : Option Neighbour) → begins_at o ≡ true → o ≡ None
+pub begins-is : (o : Option Neighbour) → begins_at o ≡ true → o ≡ None
 begins-is None e = refl
 begins-is (Some h) e = absurd (cc e)
 
@@ -145,7 +145,7 @@ module _ (before t : LegTable) (c : CallTable) (u : NodeId) (l : Lsp) (e : NodeI
         ap (λ b. cond b (answered p n a x g (previous g)) (resv_again n a x g)) expected
         ∙ ap (answered p n a x g) first
 
-    resv-confirms : (n : NodeState) (g : Leg) → previous g ≡ None → is_expected a x g ≡ false →
+    pub resv-confirms : (n : NodeState) (g : Leg) → previous g ≡ None → is_expected a x g ≡ false →
         is_confirmed a x g ≡ true → resv_with p n a x (Some g) ≡ confirmed n g None
     resv-confirms n g first other armed =
         ap (λ b. cond b (answered p n a x g (previous g)) (resv_again n a x g)) other

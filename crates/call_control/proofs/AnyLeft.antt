@@ -4,7 +4,7 @@ use Rattle.std.specs.Prelude.{◌||◌}
 use Rattle.std.specs.List.{list_any}
 use Rattle.ason_base.specs.Lsps.{has_fibre, is_other_fibre, without_fibre}
 use Rattle.ason_base.specs.declared.ids.Fibre.{Fibre}
-use Rattle.mesh_rules.specs.Reports.{fibres_after, with_fibre}
+use Rattle.mesh_rules.specs.Reports.{fibres_after}
 use Rattle.mesh_rules.specs.Turns.{has_any}
 
 more-any : (fibres : List Fibre) (f : Fibre) → has_any (fibres ++ f ∷ []) ≡ true

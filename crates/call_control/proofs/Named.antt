@@ -416,7 +416,7 @@ module _ (p : LocalNode) (s : NodeState) (all : AllNameByRole p s) (alone : Begi
         (λ e. nothing-stays)
 
   -- a report leaves the LSPs of the call, and its number
-  reported-names : (c : CallRec) (l : Lsp) (down : Bool) (f : Fibre) → Names c → Names (with_report c l down f)
+  pub reported-names : (c : CallRec) (l : Lsp) (down : Bool) (f : Fibre) → Names c → Names (with_report c l down f)
   reported-names c l down f here =
       if_cases Names (is_lsp c.work l) _ _ (λ e. record { work = here.work; back = here.back })
       (λ e. record { work = here.work; back = here.back })

@@ -1,23 +1,22 @@
 -- After what a message did to the leg no call goes back that didn't before.
 use Rattle.std.proofs.Common.{◌≡◌, ℕ, Bool, true, false, cond, not, refl, sym, ap, ◌∙◌}
-use Rattle.std.specs.Prelude.{◌&&◌, Option, Some, None}
+use Rattle.std.specs.Prelude.{◌&&◌, None}
 use Rattle.ason_base.specs.declared.calls.Phase.TheVariants.{Live}
 use Rattle.ason_base.specs.declared.ids.LinkId.{LinkId}
 use Rattle.ason_base.specs.declared.ids.Lsp.{Lsp}
 use Rattle.ason_base.specs.declared.ids.NodeId.{NodeId}
 use Rattle.ason_base.specs.declared.messages.Msg.{Msg}
 use Rattle.ason_base.specs.declared.messages.Msg.TheVariants.{Path, Resv, PathTear, PathErr, Notify}
-use Rattle.ason_base.specs.declared.tables.CallRec.{CallRec}
 use Rattle.ason_base.specs.declared.tables.Leg.{Leg}
 use Rattle.mesh_rules.specs.ActivationAnswers.{is_confirmed}
 use Rattle.mesh_rules.specs.CallSteps.{call_answered, call_turned}
 use Rattle.mesh_rules.specs.Calls.{call_with}
-use Rattle.mesh_rules.specs.Legs.{connected, find_leg, is_work, previous, with_phase}
+use Rattle.mesh_rules.specs.Legs.{connected, find_leg, is_work, with_phase}
 use Rattle.mesh_rules.specs.Messages.{arrival}
 use Rattle.leg_table.specs.States.{local_of, state_of}
 use Rattle.leg_table.specs.Tables.{CallTable, LegTable}
 use Rattle.call_control.specs.GoingBack.{going_back, once_turned, reported_by, turned_by}
-use Rattle.call_control.specs.Handlers.{IsCarriedOut, WereBefore, begins_at, confirmed_by, decided_here, goes_back, resv_decides, takes_notify}
+use Rattle.call_control.specs.Handlers.{WereBefore, begins_at, confirmed_by, decided_here, goes_back, resv_decides}
 use Rattle.call_control.specs.Ingress.{IngressFits}
 use Rattle.call_control.proofs.AfterLeg.{Becomes, TakesResv, reserved-inactive, resv-taken}
 use Rattle.call_control.proofs.AfterLeg.TakesResv.{confirms, connects}

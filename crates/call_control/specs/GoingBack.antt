@@ -1,5 +1,5 @@
--- Which calls of an ingress of these tables go back from their backup to their working LSP, of those that are decided of
--- after a Resv or a Notify (ITU-T G.8080, call control).
+-- Which calls of an ingress of these tables go back from their backup to their working LSP, of those that are decided
+-- of after a Resv or a Notify (ITU-T G.8080, call control).
 use Rattle.std.specs.Prelude.{◌&&◌, Bool, not, Option, Some, None, if◌then◌else◌}
 use Rattle.ason_base.specs.declared.ids.CallNo.{CallNo}
 use Rattle.ason_base.specs.declared.ids.Fibre.{Fibre}

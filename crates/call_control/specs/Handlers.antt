@@ -224,8 +224,8 @@ IsAfterLeg before u (PathErr l e at gone code) t =
 IsAfterLeg before u (Notify l e at k code) t =
     IsCarriedOut before (takes_notify u code (find_leg l before.legs)) nothing t
 
--- before the rule of the message was carried out on the leg, the ingress had these tables, they fitted, and no call went
--- back by it
+-- before the rule of the message was carried out on the leg, the ingress had these tables, they fitted, and no call
+-- went back by it
 pub record WereBefore (t : LegTable) (c : CallTable) (u : NodeId) (m : Msg) (before : LegTable) : Type 0 where
   pub leg : IsAfterLeg before u m t
   pub fits : IngressFits before c

@@ -1,0 +1,217 @@
+-- An ingress and its owner fit after a call goes back or waits.
+use Rattle.std.proofs.Common.{◌≡◌, ◌≤◌, Bool, true, not, nat_eq, List, [], length, refl, sym, ap, subst, ◌∙◌, arith, Result, Ok, Err}
+use Rattle.std.specs.Prelude.{◌&&◌, OnErr, OnOk, Option, Some, None, IsSome, is_some}
+use Rattle.std.specs.List.{AllByRecursion}
+use Rattle.ason_base.specs.declared.calls.Phase.TheVariants.{Live}
+use Rattle.ason_base.specs.declared.calls.Role.TheVariants.{Back}
+use Rattle.ason_base.specs.declared.commands.Command.TheVariants.{Revert}
+use Rattle.ason_base.specs.declared.commands.DeskItem.TheVariants.{Order}
+use Rattle.ason_base.specs.declared.ids.CallNo.{CallNo}
+use Rattle.ason_base.specs.declared.ids.Fibre.{Fibre}
+use Rattle.ason_base.specs.declared.ids.Lsp.{Lsp}
+use Rattle.ason_base.specs.declared.ids.NodeId.{NodeId}
+use Rattle.ason_base.specs.declared.messages.Msg.{Msg}
+use Rattle.ason_base.specs.declared.messages.Msg.TheVariants.{Path, Resv, PathTear, PathErr, Notify}
+use Rattle.ason_base.specs.declared.tables.CallRec.{CallRec}
+use Rattle.ason_base.specs.declared.tables.Leg.{Leg}
+use Rattle.link_owner.specs.Claims.{FibreClaims}
+use Rattle.mesh_rules.specs.CallSteps.{call_turned}
+use Rattle.mesh_rules.specs.Calls.{call_with, calls_changed, find_call, is_turned, names, turned}
+use Rattle.mesh_rules.specs.Changes.{Answer, changed, followed_by, lsp_after, nothing, puts}
+use Rattle.mesh_rules.specs.Legs.{find_leg, is_armed, leg_of, legs_changed, with_phase}
+use Rattle.mesh_rules.specs.LocalNodes.{LocalNode}
+use Rattle.mesh_rules.specs.Messages.{on_message}
+use Rattle.mesh_rules.specs.Pairs.{route_from}
+use Rattle.mesh_rules.specs.Reports.{call_reported, fibre_into, reported, reported_on, with_report}
+use Rattle.mesh_rules.specs.Reverts.{revert_with, reverts}
+use Rattle.mesh_rules.specs.State.{NodeState}
+use Rattle.mesh_rules.specs.Turns.{has_any}
+use Rattle.mesh_nodes.specs.Kept.{NodeFits}
+use Rattle.mesh_nodes.proofs.CallList.{called-names}
+use Rattle.mesh_nodes.proofs.Cases.{if_cases}
+use Rattle.mesh_nodes.proofs.Items.{items-fit}
+use Rattle.mesh_nodes.proofs.LearnsNothing.{item-learns_nothing, message-learns_nothing, tick-learns_nothing}
+use Rattle.mesh_nodes.proofs.LegList.{found-all, found-lsp}
+use Rattle.mesh_nodes.proofs.Links.{found-one}
+use Rattle.mesh_nodes.proofs.Messages.{messages-fit}
+use Rattle.mesh_nodes.proofs.Ticks.{ticks-fit}
+use Rattle.leg_table.specs.Fits.{TablesFitOwner}
+use Rattle.leg_table.specs.LegClaims.{ClaimsFit, ClaimsStay, OwnerFits}
+use Rattle.leg_table.specs.States.{local_of, state_of}
+use Rattle.leg_table.specs.Tables.{CallTable, LegTable}
+use Rattle.call_control.specs.GoingBack.{going_back, once_told, once_turned, told_by}
+use Rattle.call_control.specs.Handlers.{goes_back}
+use Rattle.call_control.specs.Ingress.{IngressFits, IsArmedAsBackup, NamesByRole, role_at}
+use Rattle.call_control.proofs.Kept.{Keeps, carried-fits}
+use Rattle.call_control.proofs.Named.{Begins, leg_of-begins, reported-names}
+use Rattle.call_control.proofs.Roles.{BeginAlone, fits-alone, named-as}
+use Rattle.reversion.specs.Answers.{go_back_answer, revert_here, tick_answer}
+use Rattle.reversion.proofs.Decides.{decide_goes, is_back, turned-goes}
+use Rattle.reversion.proofs.Standing.{Leaves, at-start, backed-leaves, go_back-leaves, leg-leaves, nothing-leaves, then-leaves, ticks-leave}
+use Rattle.reversion.proofs.Whole.{goes-live, is-told}
+
+-- what an answer keeps, and the claims that fitted the legs
+pub record Handled (t : LegTable) (c : CallTable) (a : Answer) : Type 0 where
+  pub keeps : Keeps t c a
+  pub claims : ClaimsStay t.legs (legs_changed a.legs t.legs)
+
+module _ (t : LegTable) (c : CallTable) (fits : IngressFits t c) where
+  abbrev p : LocalNode
+  p = local_of t
+
+  abbrev s : NodeState
+  s = state_of t c
+
+  abbrev Names : CallRec → Type 0
+  Names d = NamesByRole p.id.0 s.lsp s.legs d
+
+  alone : BeginAlone p s.legs
+  alone = fits-alone p s fits.kept
+
+  abbrev Left : Answer → Type 0
+  Left a = Leaves p s fits.names alone fits.armed a
+
+  handled : (a : Answer) → NodeFits p (changed s a) → a.rows ≡ [] → Left a → Handled t c a
+  handled a kept no_row leaves =
+      let stand = leaves.stands s.legs s.calls (at-start p s fits.names alone fits.armed) in
+      record {
+        keeps = record {
+          kept = kept;
+          stays = record {
+            names = subst
+                (λ n. AllByRecursion (NamesByRole p.id.0 (lsp_after n s.lsp) (legs_changed a.legs s.legs))
+                (calls_changed a.calls s.calls)) (sym leaves.numbers) stand.names;
+            armed = stand.backs;
+            labels = leaves.labels;
+            no_down = leaves.no_down;
+          };
+          no_row = no_row;
+        };
+        claims = stand.claims;
+      }
+
+  nothing-left : Left nothing
+  nothing-left = nothing-leaves p s fits.names alone fits.armed
+
+  -- An order
+
+  revert-left : (n : CallNo) (from : NodeId) (o : Option CallRec) → find_call n s.calls ≡ o →
+      Left (revert_with p s from o)
+  revert-left n from None found = nothing-left
+  revert-left n from (Some d) found =
+      let here : Names d = found-one Names (λ k. nat_eq k.call.0 n.0) s.calls d found fits.names in
+      if_cases Left (nat_eq from.0 p.id.0) (reverts s d) nothing
+      (λ e. if_cases Left (is_turned d.state && not (has_any d.work_reports)) _ _
+      (λ e. backed-leaves p s fits.names alone fits.armed d here) (λ e. nothing-left))
+      (λ e. nothing-left)
+
+  pub revert-handled : (n : CallNo) (from : NodeId) → Handled t c (revert_here t c n from)
+  revert-handled n from =
+      handled (revert_here t c n from) (items-fit p s (Order (Revert n from)) fits.links fits.kept).kept
+      (item-learns_nothing p s (Order (Revert n from))) (revert-left n from (find_call n s.calls) refl)
+
+  -- A tick
+
+  pub tick-handled : length c.calls ≤ 65536 → Handled t c (tick_answer t c)
+  tick-handled few =
+      handled (tick_answer t c) (ticks-fit p s fits.kept few).kept (tick-learns_nothing p s)
+      (ticks-leave p s fits.names alone fits.armed t.wait s.calls fits.names)
+
+  -- A Resv and a Notify
+
+  called : (l : Lsp) (d : CallRec) → call_with l s.calls ≡ Some d → Names d
+  called l d is = found-one Names (names l) s.calls d is fits.names
+
+  -- an Armed leg whose LSP a call names is that of a backup that begins here
+  armed-begins : (l : Lsp) (g : Leg) (d : CallRec) → find_leg l t.legs ≡ Some g → is_armed g.phase ≡ true →
+      call_with g.lsp c.calls ≡ Some d → Begins p s.legs Back g
+  armed-begins l g d found armed named =
+      let here : find_leg g.lsp s.legs ≡ Some g =
+      subst (λ k. find_leg k s.legs ≡ Some g) (sym (found-lsp l t.legs g found)) found in
+      let called = named-as p.id.0 s.lsp s.legs d g.lsp (called g.lsp d named) (called-names g.lsp c.calls d named) in
+      record {
+        there = ap role_at here;
+        begun = called.ingress;
+        alone = alone g.lsp g here called.ingress;
+        role = found-all (IsArmedAsBackup p.id.0) l t.legs g found fits.armed called.ingress armed;
+      }
+
+  live-left : (g : Leg) (o : Option CallRec) → call_with g.lsp c.calls ≡ o →
+      ((d : CallRec) → o ≡ Some d → Begins p s.legs Back g) → IsSome (going_back (once_turned o)) →
+      Left (followed_by (puts (with_phase Live g) []) (call_turned (with_phase Live g) o))
+  live-left g None named begins back = absurd (cc back)
+  live-left g (Some d) named begins back =
+      let b : Leg = with_phase Live g in
+      let at : Begins p s.legs Back g = begins d refl in
+      let here = called g.lsp d named in
+      subst (λ a. Left (followed_by (puts b []) a)) (sym (turned-goes b d back))
+      (then-leaves p s fits.names alone fits.armed (puts b []) _ (leg-leaves p s fits.names alone fits.armed Live g at)
+      (go_back-leaves p s fits.names alone fits.armed (turned d) (Some b)
+      (record { work = here.work; back = here.back })
+      (record { there = at.there; begun = at.begun; alone = at.alone; role = at.role })))
+
+  told-left : (g : Leg) (down : Bool) (f : Option Fibre) (o : Option CallRec) → call_with g.lsp c.calls ≡ o →
+      IsSome (going_back (once_told g.lsp down f o)) → Left (reported_on s g down f)
+  told-left g down None o named back = absurd (cc back)
+  told-left g down (Some f) None named back = absurd (cc back)
+  told-left g down (Some f) (Some d) named back =
+      let here = called g.lsp d named in
+      let told : CallRec = with_report d g.lsp down f in
+      subst Left
+      (sym (ap (call_reported s g.lsp down f) named ∙ decide_goes told (leg_of d.back s.legs) (is_back told back)))
+      (go_back-leaves p s fits.names alone fits.armed told (leg_of d.back s.legs)
+      (reported-names p s fits.names alone fits.armed d g.lsp down f here)
+      (leg_of-begins p s fits.names alone fits.armed Back d.back here.back))
+
+  message-left : (u : NodeId) (m : Msg) → IsSome (goes_back t c u m) → Left (on_message p s u m)
+  message-left u (Path l e k route set up r) told = absurd (cc told)
+  message-left u (Resv l e k x) told =
+      let live = goes-live t c u l e k x told in
+      subst Left (sym live.whole)
+      (live-left live.leg (call_with live.leg.lsp c.calls) refl
+      (λ d named. armed-begins l live.leg d live.found live.armed named) live.back)
+  message-left u (PathTear l e k) told = absurd (cc told)
+  message-left u (PathErr l e at gone code) told = absurd (cc told)
+  message-left u (Notify l e at k code) told =
+      let here = is-told t c u l e at k code told in
+      let g = here.tells.leg in
+      let down = here.tells.down in
+      subst Left (sym here.tells.whole)
+      (told-left g down (fibre_into (route_from p g) g.egress at k) (call_with g.lsp c.calls) refl
+      (sym (ap (λ o. is_some (going_back (told_by t c at k o (reported code)))) here.tells.found
+      ∙ ap (λ o. is_some (going_back (told_by t c at k (Some g) o))) here.tells.told) ∙ here.back))
+
+  pub go_back-handled : (u : NodeId) (m : Msg) → Handled t c (go_back_answer t c u m)
+  go_back-handled u m =
+      if_cases (Handled t c) (is_some (goes_back t c u m)) _ _
+      (λ told. handled (on_message p s u m) (messages-fit p s u m fits.links fits.kept).kept
+      (message-learns_nothing p s u m) (message-left u m told))
+      (λ e. handled nothing fits.kept refl nothing-left)
+
+-- Carried out
+
+-- the tables, the calls and the owner
+abbrev pub AllFit : LegTable → CallTable → List FibreClaims → Type 0
+AllFit t c o = IngressFits t c × TablesFitOwner t o
+
+module _ (t after : LegTable) (c calls : CallTable) (o : List FibreClaims) (a : Answer)
+    (done : Handled t c a) (local : local_of after ≡ local_of t) (rows : after.rows ≡ t.rows) where
+  owner-fits : TablesFitOwner t o → IngressFits after calls → state_of after calls ≡ changed (state_of t c) a →
+      TablesFitOwner after o
+  owner-fits owner fits state = record {
+    links = fits.links;
+    legs = (calls.lsp, (let one = fits.kept.first in let most = fits.kept.numbers in omega arith), fits.kept.legs);
+    claims = subst (λ (n : NodeState). ClaimsFit n.legs o) (sym state) (done.claims o owner.claims);
+    fibres = subst (λ p. OwnerFits p o) (sym local) owner.fibres;
+    rows = fits.rows;
+  }
+
+  -- fit as they did, or after want of memory
+  pub fit-after : {X E : Type 0} (r : Result X E) → AllFit t c o →
+      OnOk r (state_of after calls ≡ changed (state_of t c) a) → OnErr r (after ≡ t) → OnErr r (calls ≡ c) →
+      AllFit after calls o
+  fit-after (Ok x) fits state same_tables same_calls =
+      let here = carried-fits t after c calls a fits.0.links fits.0.rows done.keeps local rows state in
+      (here, owner-fits fits.1 here state)
+  fit-after (Err e) fits state same_tables same_calls =
+      subst (λ b. AllFit b calls o) (sym same_tables) (subst (λ d. AllFit t d o) (sym same_calls) fits)

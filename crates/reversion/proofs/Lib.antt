@@ -1,0 +1,5 @@
+pub mod Decides
+pub mod Handled
+pub mod Standing
+mod Ticked
+mod Whole

@@ -1,0 +1,186 @@
+-- What an answer by which calls go back leaves as it was, whatever stands when it comes: calls name their LSPs by their
+-- roles, backups alone are Armed, no leg that begins here takes a label, and the owner's claims are those of the legs.
+use Rattle.std.proofs.Common.{◌≡◌, ℕ, Bool, true, false, cond, not, nat_eq, nat_le, List, [], ◌∷◌, ◌++◌, refl, sym, ap, subst, ◌∙◌, arith}
+use Rattle.std.specs.Prelude.{◌+◌, ◌&&◌, Option, Some, None, IfSome}
+use Rattle.std.specs.List.{AllByRecursion}
+use Rattle.ason_base.specs.Lsps.{same_lsp}
+use Rattle.ason_base.specs.declared.calls.Phase.{Phase}
+use Rattle.ason_base.specs.declared.calls.Phase.TheVariants.{Held}
+use Rattle.ason_base.specs.declared.calls.Role.TheVariants.{Work, Back}
+use Rattle.ason_base.specs.declared.ids.Lsp.{Lsp}
+use Rattle.ason_base.specs.declared.tables.CallRec.{CallRec}
+use Rattle.ason_base.specs.declared.tables.Leg.{Leg}
+use Rattle.mesh_rules.specs.declared.changes.CallChange.{CallChange}
+use Rattle.mesh_rules.specs.declared.changes.LegChange.{LegChange}
+use Rattle.mesh_rules.specs.declared.changes.LegChange.TheVariants as leg
+use Rattle.mesh_rules.specs.Calls.{call_changed, calls_changed, guarded, is_turned, with_call}
+use Rattle.mesh_rules.specs.Changes.{Answer, followed_by, nothing, puts}
+use Rattle.mesh_rules.specs.Legs.{find_leg, is_in_use, leg_changed, leg_of, legs_changed, with_leg, with_phase}
+use Rattle.mesh_rules.specs.LocalNodes.{LocalNode}
+use Rattle.mesh_rules.specs.State.{NodeState}
+use Rattle.mesh_rules.specs.Turns.{call_put, disarms, go_back, has_any}
+use Rattle.mesh_rules.specs.Waits.{all_ticked, ticked}
+use Rattle.mesh_nodes.proofs.Alarms.{all-append}
+use Rattle.mesh_nodes.proofs.CallList.{all-with_call}
+use Rattle.mesh_nodes.proofs.Cases.{if_cases}
+use Rattle.mesh_nodes.proofs.LegList.{all-with_leg, find-with_leg, same_lsp-eq}
+use Rattle.leg_table.specs.LegClaims.{ChangesNoLabel, ClaimsStay}
+use Rattle.leg_table.proofs.Carried.{left-with}
+use Rattle.leg_table.proofs.ClaimChanges.{kind-none, left-fit}
+use Rattle.call_control.specs.Ingress.{AllNameByRole, IsArmedAsBackup, NamesByRole, role_at}
+use Rattle.call_control.proofs.Named.{Begins, leg_of-begins}
+use Rattle.call_control.proofs.Roles.{BeginAlone, RolesStay, alone-with, calls-stay, changed-stay, lone-taken, lsp-stays, none-taken}
+
+legs-then : (cs ds : List LegChange) (legs : List Leg) →
+    legs_changed (cs ++ ds) legs ≡ legs_changed ds (legs_changed cs legs)
+legs-then [] ds legs = refl
+legs-then (c ∷ cs) ds legs = legs-then cs ds (leg_changed c legs)
+
+calls-then : (cs ds : List CallChange) (calls : List CallRec) →
+    calls_changed (cs ++ ds) calls ≡ calls_changed ds (calls_changed cs calls)
+calls-then [] ds calls = refl
+calls-then (c ∷ cs) ds calls = calls-then cs ds (call_changed c calls)
+
+-- s is what the answer reads
+module _ (p : LocalNode) (s : NodeState) (all : AllNameByRole p s) (alone : BeginAlone p s.legs)
+    (armed : AllByRecursion (IsArmedAsBackup p.id.0) s.legs) where
+  abbrev Names : CallRec → Type 0
+  Names c = NamesByRole p.id.0 s.lsp s.legs c
+
+  -- these legs and calls do, and the LSPs that had a leg have one of its role
+  pub record Stand (legs : List Leg) (calls : List CallRec) : Type 0 where
+    pub names : AllByRecursion (NamesByRole p.id.0 s.lsp legs) calls
+    pub single : BeginAlone p legs
+    pub backs : AllByRecursion (IsArmedAsBackup p.id.0) legs
+    pub roles : (l : Lsp) → role_at (find_leg l legs) ≡ role_at (find_leg l s.legs)
+    pub claims : ClaimsStay s.legs legs
+
+  pub record Leaves (a : Answer) : Type 0 where
+    pub numbers : a.numbers ≡ None
+    pub no_down : a.down ≡ None
+    pub labels : AllByRecursion (ChangesNoLabel s.legs) a.legs
+    pub stands : (legs : List Leg) (calls : List CallRec) → Stand legs calls →
+        Stand (legs_changed a.legs legs) (calls_changed a.calls calls)
+
+  pub at-start : Stand s.legs s.calls
+  at-start = record {
+    names = all;
+    single = alone;
+    backs = armed;
+    roles = λ l. refl;
+    claims = λ o fit. fit;
+  }
+
+  -- One change
+
+  roles-stay : (legs : List Leg) → ((l : Lsp) → role_at (find_leg l legs) ≡ role_at (find_leg l s.legs)) →
+      RolesStay s.lsp s.legs legs
+  roles-stay legs same l r less here = subst (λ o. IfSome o (λ q. q ≡ r)) (sym (same l)) here
+
+  -- a call that names its LSPs by their roles is put in its place
+  call-stands : (c : CallRec) → Names c → (legs : List Leg) (calls : List CallRec) → Stand legs calls →
+      Stand legs (with_call c calls)
+  call-stands c here legs calls st =
+      let stay = roles-stay legs st.roles in
+      record {
+        names = all-with_call (NamesByRole p.id.0 s.lsp legs) c calls
+            (record {
+              work = lsp-stays p.id.0 s.lsp s.lsp Work s.legs legs c.work (omega arith) stay here.work;
+              back = lsp-stays p.id.0 s.lsp s.lsp Back s.legs legs c.back (omega arith) stay here.back;
+            }) st.names;
+        single = st.single;
+        backs = st.backs;
+        roles = st.roles;
+        claims = st.claims;
+      }
+
+  -- the leg of a backup that begins here changes its phase
+  leg-stands : (q : Phase) (b : Leg) → Begins p s.legs Back b → (legs : List Leg) (calls : List CallRec) →
+      Stand legs calls → Stand (with_leg (with_phase q b) legs) calls
+  leg-stands q b begins legs calls st =
+      let g : Leg = with_phase q b in
+      let there : role_at (find_leg b.lsp legs) ≡ Some b.role = st.roles b.lsp ∙ begins.there in
+      record {
+        names = calls-stay p.id.0 s.lsp s.lsp legs (with_leg g legs) calls (omega arith)
+            (changed-stay s.lsp g legs there) st.names;
+        single = alone-with p g legs begins.alone st.single;
+        backs = all-with_leg (IsArmedAsBackup p.id.0) g legs (λ begun e. begins.role) st.backs;
+        roles = λ l. ap role_at (find-with_leg g legs l) ∙ either l (same_lsp b.lsp l) refl;
+        claims = λ o fit.
+            left-fit b.lsp legs (with_leg g legs) o (st.claims o fit)
+            (left-with g legs (lone-taken g begins.alone))
+            (λ f x. kind-none f x (find_leg b.lsp legs) (none-taken p legs st.single b.lsp begins.begun));
+      }
+    where
+      either : (l : Lsp) (x : Bool) → same_lsp b.lsp l ≡ x →
+          role_at (cond x (Some (with_phase q b)) (find_leg l legs)) ≡ role_at (find_leg l s.legs)
+      either l true e = sym begins.there ∙ ap (λ k. role_at (find_leg k s.legs)) (same_lsp-eq b.lsp l e)
+      either l false e = st.roles l
+
+  -- One answer
+
+  pub nothing-leaves : Leaves nothing
+  nothing-leaves = record { numbers = refl; no_down = refl; labels = tt; stands = λ legs calls st. st }
+
+  pub call-leaves : (c : CallRec) → Names c → Leaves (call_put c)
+  call-leaves c here = record { numbers = refl; no_down = refl; labels = tt; stands = call-stands c here }
+
+  unlabelled : (q : Phase) (b : Leg) → Begins p s.legs Back b → ChangesNoLabel s.legs (leg.Put (with_phase q b))
+  unlabelled q b begins = (none-taken p s.legs alone b.lsp begins.begun, lone-taken (with_phase q b) begins.alone)
+
+  pub leg-leaves : (q : Phase) (b : Leg) → Begins p s.legs Back b → Leaves (puts (with_phase q b) [])
+  leg-leaves q b begins = record {
+    numbers = refl;
+    no_down = refl;
+    labels = (unlabelled q b begins, tt);
+    stands = leg-stands q b begins;
+  }
+
+  disarms-leaves : (c : CallRec) (b : Leg) → Names c → Begins p s.legs Back b → Leaves (disarms c b)
+  disarms-leaves c b here begins = record {
+    numbers = refl;
+    no_down = refl;
+    labels = (unlabelled Held b begins, tt);
+    stands = λ legs calls st.
+        call-stands (guarded c) (record { work = here.work; back = here.back }) (with_leg (with_phase Held b) legs)
+        calls (leg-stands Held b begins legs calls st);
+  }
+
+  pub go_back-leaves : (c : CallRec) (o : Option Leg) → Names c → IfSome o (Begins p s.legs Back) →
+      Leaves (go_back c o)
+  go_back-leaves c None here begins = call-leaves c here
+  go_back-leaves c (Some b) here begins =
+      if_cases Leaves (is_in_use b.phase) _ _ (λ e. disarms-leaves c b here begins) (λ e. call-leaves c here)
+
+  -- the backup of a call that names its LSPs by their roles
+  pub backed-leaves : (c : CallRec) → Names c → Leaves (go_back c (leg_of c.back s.legs))
+  backed-leaves c here =
+      go_back-leaves c (leg_of c.back s.legs) here (leg_of-begins p s all alone armed Back c.back here.back)
+
+  -- One answer after the other
+
+  pub then-leaves : (a b : Answer) → Leaves a → Leaves b → Leaves (followed_by a b)
+  then-leaves a b first second = record {
+    numbers = rw (first.numbers, second.numbers) refl;
+    no_down = rw (first.no_down, second.no_down) refl;
+    labels = all-append _ a.legs b.legs first.labels second.labels;
+    stands = λ legs calls st.
+        subst (λ ls. Stand ls (calls_changed (a.calls ++ b.calls) calls)) (sym (legs-then a.legs b.legs legs))
+        (subst (λ cs. Stand (legs_changed b.legs (legs_changed a.legs legs)) cs)
+        (sym (calls-then a.calls b.calls calls))
+        (second.stands (legs_changed a.legs legs) (calls_changed a.calls calls) (first.stands legs calls st)));
+  }
+
+  ticked-leaves : (wait : ℕ) (c : CallRec) → Names c → Leaves (ticked wait s.legs c)
+  ticked-leaves wait c here =
+      if_cases Leaves (not (nat_eq wait 0) && (is_turned c.state && not (has_any c.work_reports))) _ _
+      (λ e. if_cases Leaves (nat_le wait (c.ticks + 1)) _ _ (λ e. backed-leaves c here)
+      (λ e. call-leaves (record c { ticks = c.ticks + 1 }) (record { work = here.work; back = here.back })))
+      (λ e. nothing-leaves)
+
+  pub ticks-leave : (wait : ℕ) (calls : List CallRec) → AllByRecursion Names calls →
+      Leaves (all_ticked wait s.legs calls)
+  ticks-leave wait [] each = nothing-leaves
+  ticks-leave wait (c ∷ calls) each =
+      then-leaves (ticked wait s.legs c) (all_ticked wait s.legs calls) (ticked-leaves wait c each.0)
+      (ticks-leave wait calls each.1)

@@ -1,0 +1,138 @@
+-- The whole rule of a message by which a call goes back.
+use Rattle.std.proofs.Common.{◌≡◌, ℕ, Bool, true, false, cond, refl, sym, ap, subst, ◌∙◌}
+use Rattle.std.specs.Prelude.{◌&&◌, Option, Some, None, IsSome, is_some}
+use Rattle.ason_base.specs.Labels.{has}
+use Rattle.ason_base.specs.declared.calls.Phase.{Phase}
+use Rattle.ason_base.specs.declared.calls.Phase.TheVariants.{Asked, Held, Armed, Live, Closing, Falling}
+use Rattle.ason_base.specs.declared.codes.ErrCode.{ErrCode}
+use Rattle.ason_base.specs.Lsps.{is_lsp}
+use Rattle.ason_base.specs.declared.ids.Fibre.{Fibre}
+use Rattle.ason_base.specs.declared.ids.LinkId.{LinkId}
+use Rattle.ason_base.specs.declared.ids.Lsp.{Lsp}
+use Rattle.ason_base.specs.declared.ids.NodeId.{NodeId}
+use Rattle.ason_base.specs.declared.messages.Msg.{Msg}
+use Rattle.ason_base.specs.declared.messages.Msg.TheVariants.{Resv, Notify}
+use Rattle.ason_base.specs.declared.tables.CallRec.{CallRec}
+use Rattle.ason_base.specs.declared.tables.Leg.{Leg}
+use Rattle.mesh_rules.specs.declared.arrivals.Arrival.{Arrival}
+use Rattle.mesh_rules.specs.ActivationAnswers.{is_confirmed}
+use Rattle.mesh_rules.specs.Calls.{call_with}
+use Rattle.mesh_rules.specs.Legs.{find_leg, following, is_armed, is_asked, is_over, leg_of, previous}
+use Rattle.mesh_rules.specs.LocalNodes.{LocalNode}
+use Rattle.mesh_rules.specs.Messages.{arrival, on_message}
+use Rattle.mesh_rules.specs.Pairs.{route_from}
+use Rattle.mesh_rules.specs.Reports.{call_reported, fibre_into, reported, reported_on, with_report}
+use Rattle.mesh_rules.specs.Resvs.{is_expected, resv_with}
+use Rattle.mesh_rules.specs.State.{NodeState}
+use Rattle.mesh_rules.specs.Turns.{decide}
+use Rattle.mesh_nodes.proofs.Cases.{both_left, both_right, if_cases}
+use Rattle.leg_table.specs.States.{local_of, state_of}
+use Rattle.leg_table.specs.Tables.{CallTable, LegTable}
+use Rattle.call_control.specs.GoingBack.{going_back, reported_by, turned_by}
+use Rattle.call_control.specs.Handlers.{begins_at, confirmed_by, goes_back, takes_notify}
+use Rattle.call_control.specs.Rules.{reported_here, told_here}
+use Rattle.call_control.proofs.AfterLeg.{Tells, begins-is, resv-confirms, tells}
+use Rattle.reversion.specs.Answers.{back_once_live}
+
+armed-unasked : (q : Phase) → is_armed q ≡ true → is_asked q ≡ false
+armed-unasked Asked e = absurd (cc e)
+armed-unasked Held e = refl
+armed-unasked Armed e = refl
+armed-unasked Live e = refl
+armed-unasked Closing e = refl
+armed-unasked Falling e = refl
+
+-- a leg that takes the Resv of an activation waits for no labels
+confirmed-unexpected : (a : Arrival) (x : ℕ) (g : Leg) → is_confirmed a x g ≡ true → is_expected a x g ≡ false
+confirmed-unexpected a x g e =
+    ap (λ b. b && (is_over (following g) a.from a.link && has g.sent x))
+    (armed-unasked g.phase (both_left (is_armed g.phase) _ e))
+
+-- where a call is told there was a reason to
+told-true : (b : Bool) (o : Option CallRec) → is_some (going_back (cond b o None)) ≡ true → b ≡ true
+told-true true o e = refl
+told-true false o e = absurd (cc e)
+
+module _ (t : LegTable) (c : CallTable) (u : NodeId) (l : Lsp) (e : NodeId) where
+  abbrev p : LocalNode
+  p = local_of t
+
+  abbrev s : NodeState
+  s = state_of t c
+
+  module _ (k : LinkId) (x : ℕ) where
+    abbrev a : Arrival
+    a = arrival l e u k
+
+    -- the leg of a backup, which begins here, is Live by this Resv, and its call goes back
+    pub record GoesLive : Type 0 where
+      pub leg : Leg
+      pub found : find_leg l t.legs ≡ Some leg
+      pub first : previous leg ≡ None
+      pub armed : is_armed leg.phase ≡ true
+      pub back : IsSome (going_back (turned_by c leg))
+      pub whole : on_message p s u (Resv l e k x) ≡ back_once_live c leg
+
+    pub goes-live : IsSome (goes_back t c u (Resv l e k x)) → GoesLive
+    goes-live told = go (find_leg l t.legs) refl told
+      where
+        go : (o : Option Leg) → find_leg l t.legs ≡ o → is_some (going_back (confirmed_by c a x o)) ≡ true → GoesLive
+        go None found told = absurd (cc told)
+        go (Some g) found told =
+            let takes = told-true (begins_at (previous g) && is_confirmed a x g) (turned_by c g) told in
+            let first = begins-is (previous g) (both_left (begins_at (previous g)) _ takes) in
+            let confirmed = both_right (begins_at (previous g)) _ takes in
+            record {
+              leg = g;
+              found = found;
+              first = first;
+              armed = both_left (is_armed g.phase) _ confirmed;
+              back = ap (λ b. is_some (going_back (cond b (turned_by c g) None))) (sym takes) ∙ told;
+              whole = ap (resv_with p s a x) found
+                  ∙ resv-confirms t t c u l e k x s g first (confirmed-unexpected a x g confirmed) confirmed;
+            }
+
+  -- the call of a Notify's LSP, which begins here, goes back
+  module _ (at : NodeId) (k : LinkId) (code : ErrCode) where
+    abbrev m : Msg
+    m = Notify l e at k code
+
+    pub record IsTold : Type 0 where
+      pub tells : Tells t t c u l e at k code
+      pub back : IsSome (going_back (reported_by t c m))
+      pub whole : on_message p s u m ≡ reported_here t c m
+
+    pub is-told : IsSome (goes_back t c u m) → IsTold
+    is-told told =
+        let takes = told-true (takes_notify u code (find_leg l t.legs)) (reported_by t c m) told in
+        let took = tells t t c u l e at k code (record { applies = takes; after = refl }) in
+        record {
+          tells = took;
+          back = ap (λ b. is_some (going_back (cond b (reported_by t c m) None))) (sym takes) ∙ told;
+          whole = took.whole ∙ sym (ap (λ o. told_here t c at k o (reported code)) took.found
+              ∙ ap (told_here t c at k (Some took.leg)) took.told);
+        }
+
+-- a message that is a Notify
+pub notify-back : (t : LegTable) (c : CallTable) (u : NodeId) (m : Msg) → IsSome (goes_back t c u m) → (l : Lsp)
+    (e at : NodeId) (k : LinkId) (code : ErrCode) → m ≡ Notify l e at k code → IsSome (going_back (reported_by t c m))
+notify-back t c u m told l e at k code same =
+    let told' = ap (λ n. is_some (goes_back t c u n)) (sym same) ∙ told in
+    subst (λ n. IsSome (going_back (reported_by t c n))) (sym same) (is-told t c u l e at k code told').back
+
+-- The call that a Notify tells
+
+module _ (t : LegTable) (c : CallTable) (l : Lsp) (e at : NodeId) (k : LinkId) (code : ErrCode) where
+  back-same : (d : CallRec) (m : Lsp) (down : Bool) (f : Fibre) → (with_report d m down f).back ≡ d.back
+  back-same d m down f = if_cases (λ (r : CallRec). r.back ≡ d.back) (is_lsp d.work m) _ _ (λ x. refl) (λ x. refl)
+
+  -- is decided of with its own backup
+  pub notify-decides : (g : Leg) (down : Bool) (f : Fibre) (d told : CallRec) → find_leg l t.legs ≡ Some g →
+      reported code ≡ Some down → fibre_into (route_from (local_of t) g) g.egress at k ≡ Some f →
+      call_with g.lsp c.calls ≡ Some d → told ≡ with_report d g.lsp down f →
+      decide told (leg_of told.back t.legs) ≡ reported_here t c (Notify l e at k code)
+  notify-decides g down f d told found says into called is =
+      ap (λ (r : CallRec). decide r (leg_of r.back t.legs)) is
+      ∙ ap (λ o. decide (with_report d g.lsp down f) (leg_of o t.legs)) (back-same d g.lsp down f)
+      ∙ sym (ap (λ o. told_here t c at k o (reported code)) found ∙ ap (told_here t c at k (Some g)) says
+      ∙ ap (reported_on (state_of t c) g down) into ∙ ap (call_reported (state_of t c) g.lsp down f) called)

@@ -1,0 +1,61 @@
+-- How calls go back at an ingress of these tables (ITU-T G.8080, call control): by an order, by a tick, and by a Resv
+-- or a Notify.
+use Rattle.std.specs.Prelude.{ℕ, ◌==◌, ◌&&◌, Bool, [], not, is_some, if◌then◌else◌}
+use Rattle.ason_base.specs.declared.calls.Phase.TheVariants.{Live}
+use Rattle.ason_base.specs.declared.ids.CallNo.{CallNo}
+use Rattle.ason_base.specs.declared.ids.NodeId.{NodeId}
+use Rattle.ason_base.specs.declared.messages.Msg.{Msg}
+use Rattle.ason_base.specs.declared.tables.CallRec.{CallRec}
+use Rattle.ason_base.specs.declared.tables.Leg.{Leg}
+use Rattle.mesh_rules.specs.Calls.{is_turned}
+use Rattle.mesh_rules.specs.Changes.{Answer, changed, followed_by, nothing, puts}
+use Rattle.mesh_rules.specs.Legs.{with_phase}
+use Rattle.mesh_rules.specs.Messages.{on_message}
+use Rattle.mesh_rules.specs.Reverts.{on_revert}
+use Rattle.mesh_rules.specs.State.{NodeState}
+use Rattle.mesh_rules.specs.Turns.{has_any}
+use Rattle.mesh_rules.specs.Waits.{on_tick}
+use Rattle.leg_table.specs.States.{local_of, state_of}
+use Rattle.leg_table.specs.Tables.{CallTable, LegTable}
+use Rattle.call_control.specs.Handlers.{goes_back}
+use Rattle.call_control.specs.Rules.{turned_here}
+
+-- An order
+
+abbrev pub revert_here : LegTable → CallTable → CallNo → NodeId → Answer
+revert_here t c n from = on_revert (local_of t) (state_of t c) n from
+
+-- the order of this node
+abbrev pub revert_answer : LegTable → CallTable → CallNo → Answer
+revert_answer t c n = revert_here t c n t.node.id
+
+-- A tick
+
+-- a turned call whose working LSP isn't hit waits, where the network restores calls after so many ticks
+abbrev pub is_waiting : ℕ → CallRec → Bool
+is_waiting wait c = not (wait == 0) && (is_turned c.state && not (has_any c.work_reports))
+
+abbrev pub tick_answer : LegTable → CallTable → Answer
+tick_answer t c = on_tick (local_of t) (state_of t c)
+
+-- A Resv and a Notify
+
+-- the leg of a backup is Live, and its call follows
+abbrev pub back_once_live : CallTable → Leg → Answer
+back_once_live c b = followed_by (puts (with_phase Live b) []) (turned_here c (with_phase Live b))
+
+-- the whole rule of a message by which a call goes back, of the leg and of the call; another message does nothing
+abbrev pub go_back_answer : LegTable → CallTable → NodeId → Msg → Answer
+go_back_answer t c u m =
+    if is_some (goes_back t c u m) then on_message (local_of t) (state_of t c) u m else nothing
+
+-- What is kept then
+
+abbrev pub after_revert : LegTable → CallTable → CallNo → NodeState
+after_revert t c n = changed (state_of t c) (revert_answer t c n)
+
+abbrev pub after_tick : LegTable → CallTable → NodeState
+after_tick t c = changed (state_of t c) (tick_answer t c)
+
+abbrev pub after_go_back : LegTable → CallTable → NodeId → Msg → NodeState
+after_go_back t c u m = changed (state_of t c) (go_back_answer t c u m)

@@ -1,0 +1,104 @@
+//! Calls that go back, and ticks, carried out over an ingress's tables and its calls.
+
+ghost use Rattle.std.specs.Prelude.{◌≡◌, IfOk, OnErr, OnOk};
+ghost use Rattle.leg_table.specs.Fits.{TablesFitOwner};
+ghost use Rattle.leg_table.specs.LegClaims.{StaysOfOneNode};
+ghost use Rattle.leg_table.specs.States.{local_of, state_of};
+ghost use Rattle.call_control.specs.Ingress.{IngressFits};
+ghost use Rattle.reversion.specs.Answers.{after_go_back, after_revert, after_tick, go_back_answer, revert_answer, tick_answer};
+
+use crate::messages::go_back_change;
+use crate::reverts::revert_change;
+use crate::waits::tick_change;
+use ason_base::{CallNo, Msg, NodeId, OutOfMemory, Outs};
+use call_control::id_of;
+use leg_table::handling::handle_calls;
+use leg_table::{Calls, NodeTables};
+use link_owner::Owner;
+use std::alloc::Global;
+
+/// Takes this node's order to go back: a turned call goes back to its working LSP where that isn't
+/// hit. Hands back what is to be sent. An order for another call changes nothing. The owner's
+/// claims stay, since no leg takes a label in there. After want of memory nothing has changed.
+pub fn revert(
+    alloc: Global,
+    tables: &mut NodeTables,
+    owner: &mut Owner,
+    calls: &mut Calls,
+    call: CallNo,
+) -> Result<Outs, OutOfMemory>
+    requires fits { IngressFits tables.old calls.old }
+    requires owner { TablesFitOwner tables.old owner.old }
+    ensures ok { OnOk result
+        (state_of tables.new calls.new ≡ after_revert tables.old calls.old call) }
+    ensures sent { IfOk result (λ outs. outs ≡ (revert_answer tables.old calls.old call).sent) }
+    ensures fits { IngressFits tables.new calls.new }
+    ensures owner { owner.new ≡ owner.old }
+    ensures fits_owner { TablesFitOwner tables.new owner.new }
+    ensures local { local_of tables.new ≡ local_of tables.old }
+    ensures labels { StaysOfOneNode tables.old tables.new }
+    ensures err { OnErr result (tables.new ≡ tables.old) }
+    ensures err_calls { OnErr result (calls.new ≡ calls.old) }
+{
+    let _owner = owner;
+    let change = revert_change(alloc, tables, calls, call, id_of(tables))?;
+    handle_calls(alloc, tables, calls, change)
+}
+
+/// Takes a tick: each turned call whose working LSP isn't hit has waited one tick more, and goes
+/// back at the end of the network's wait, if the network has one. Hands back what is to be sent, in
+/// order of the calls' numbers. The owner's claims stay. After want of memory nothing has changed.
+pub fn tick(
+    alloc: Global,
+    tables: &mut NodeTables,
+    owner: &mut Owner,
+    calls: &mut Calls,
+) -> Result<Outs, OutOfMemory>
+    requires fits { IngressFits tables.old calls.old }
+    requires owner { TablesFitOwner tables.old owner.old }
+    ensures ok { OnOk result (state_of tables.new calls.new ≡ after_tick tables.old calls.old) }
+    ensures sent { IfOk result (λ outs. outs ≡ (tick_answer tables.old calls.old).sent) }
+    ensures fits { IngressFits tables.new calls.new }
+    ensures owner { owner.new ≡ owner.old }
+    ensures fits_owner { TablesFitOwner tables.new owner.new }
+    ensures local { local_of tables.new ≡ local_of tables.old }
+    ensures labels { StaysOfOneNode tables.old tables.new }
+    ensures err { OnErr result (tables.new ≡ tables.old) }
+    ensures err_calls { OnErr result (calls.new ≡ calls.old) }
+{
+    let _owner = owner;
+    let _few = calls.count();
+    let change = tick_change(alloc, tables, calls)?;
+    handle_calls(alloc, tables, calls, change)
+}
+
+/// Takes a Resv or a Notify by which a call goes back, with what it does to the leg and to the call
+/// before: a call that was turning is turned, or a fibre is reported down or isn't any more. Hands
+/// back what is to be sent. A message by which no call goes back changes nothing. The owner's
+/// claims stay. After want of memory nothing has changed.
+pub fn go_back(
+    alloc: Global,
+    tables: &mut NodeTables,
+    owner: &mut Owner,
+    calls: &mut Calls,
+    from: NodeId,
+    msg: &Msg,
+) -> Result<Outs, OutOfMemory>
+    requires fits { IngressFits tables.old calls.old }
+    requires owner { TablesFitOwner tables.old owner.old }
+    ensures ok { OnOk result
+        (state_of tables.new calls.new ≡ after_go_back tables.old calls.old from msg.now) }
+    ensures sent { IfOk result
+        (λ outs. outs ≡ (go_back_answer tables.old calls.old from msg.now).sent) }
+    ensures fits { IngressFits tables.new calls.new }
+    ensures owner { owner.new ≡ owner.old }
+    ensures fits_owner { TablesFitOwner tables.new owner.new }
+    ensures local { local_of tables.new ≡ local_of tables.old }
+    ensures labels { StaysOfOneNode tables.old tables.new }
+    ensures err { OnErr result (tables.new ≡ tables.old) }
+    ensures err_calls { OnErr result (calls.new ≡ calls.old) }
+{
+    let _owner = owner;
+    let change = go_back_change(alloc, tables, calls, from, msg)?;
+    handle_calls(alloc, tables, calls, change)
+}
