@@ -9,7 +9,7 @@ use Rattle.std.proofs.lemmas.List.Sums.{fold-append}
 use Rattle.toml.specs.Data.{Data, table}
 use Rattle.ason_base.specs.Network.{IsTopology, Network, is_node_id}
 use Rattle.ason_base.specs.declared.commands.Command.{Command}
-use Rattle.ason_base.specs.declared.commands.Command.TheVariants.{Fail, Protect, Release, Repair, Retry}
+use Rattle.ason_base.specs.declared.commands.Command.TheVariants.{Fail, Protect, Release, Repair, Retry, Revert}
 use Rattle.ason_base.specs.declared.commands.Group.{Group}
 use Rattle.ason_base.specs.declared.ids.CallNo.{CallNo}
 use Rattle.ason_base.specs.declared.ids.NodeId.{NodeId}
@@ -21,18 +21,18 @@ use Rattle.plan_reader.specs.declared.forms.CommandForm.{CommandForm}
 use Rattle.plan_reader.specs.declared.forms.CommandForm.TheVariants as forms
 use Rattle.plan_reader.specs.declared.forms.SetupForm.{SetupForm}
 use Rattle.plan_reader.specs.declared.lines.Line.{Line}
-use Rattle.plan_reader.specs.declared.lines.Line.TheVariants.{Post, Settle, Show}
-use Rattle.plan_reader.specs.declared.limits.TheConstants.{MOST_CALLS, MOST_NUMBER, MOST_ROUNDS}
+use Rattle.plan_reader.specs.declared.lines.Line.TheVariants.{Post, Settle, Show, Wait}
+use Rattle.plan_reader.specs.declared.limits.TheConstants.{MOST_CALLS, MOST_NUMBER, MOST_ROUNDS, MOST_WAITED}
 use Rattle.plan_reader.specs.declared.plan.Plan.{Plan}
 use Rattle.plan_reader.specs.declared.script.Script.{Script}
 use Rattle.plan_reader.specs.declared.setups.RouteIds.{RouteIds}
 use Rattle.plan_reader.specs.declared.setups.Routes.{Routes}
 use Rattle.plan_reader.specs.PlanCalls.{CallList, call_at, calls_with, with_call}
 use Rattle.plan_reader.specs.PlanCommands.{call_of, command_of, group_numbered, group_of, group_with, known_call}
-use Rattle.plan_reader.specs.PlanForms.{command_form, is_settle, is_show, is_unbuilt, setup_form}
-use Rattle.plan_reader.specs.PlanScript.{by_words, calls_with_line, line_as, line_of, no_script, other_as, other_line, plain_line, posted, put_behind, settle_for, settle_of, with_line}
+use Rattle.plan_reader.specs.PlanForms.{command_form, is_settle, is_show, is_unbuilt, is_wait, setup_form}
+use Rattle.plan_reader.specs.PlanScript.{by_words, calls_with_line, line_as, line_of, no_script, other_as, other_line, plain_line, posted, put_behind, rounds_of, settle_of, wait_of, with_line}
 use Rattle.plan_reader.specs.PlanSetups.{next_setup, node_at, route_ids, routes_over, setup_between, setup_of, setup_over, steps_given}
-use Rattle.plan_reader.specs.PlanTables.{NodeList, elements_at, has_strange, has_top_counts, has_top_kinds, lacks, text_of, top_kind}
+use Rattle.plan_reader.specs.PlanTables.{NodeList, elements_at, has_strange, has_top_counts, has_top_kinds, lacks, text_of, ticks_of, top_kind}
 use Rattle.plan_reader.specs.declared.values.Shape.TheVariants.{OfTop}
 use Rattle.plan_reader.specs.PlanTexts.{number_up_to, word_at, words_of}
 use Rattle.plan_reader.specs.Plans.{ArePostable, HasNames, IsPostable, PlanOf, calls_after, calls_after_line, calls_after_lines, links_of, network_of, nodes_of, plan_of, plan_with, script_of, unless_fault, with_links, with_nodes, with_script}
@@ -217,6 +217,10 @@ command_posts t calls before ws forms.Retry c searchable fit h =
     let call = both_read (call_of calls ws) _ c h in
     let same : Retry call.0.0 call.0.1 ≡ c = cc (call.2) in
     subst (CanPost t calls before ws) same (call_is_known t calls before ws call.0 fit call.1, refl, fit)
+command_posts t calls before ws forms.Revert c searchable fit h =
+    let call = both_read (call_of calls ws) _ c h in
+    let same : Revert call.0.0 call.0.1 ≡ c = cc (call.2) in
+    subst (CanPost t calls before ws) same (call_is_known t calls before ws call.0 fit call.1, refl, fit)
 command_posts t calls before ws forms.Fail c searchable fit h =
     let group = both_read (group_of t ws) _ c h in
     let same : Fail group.0 ≡ c = cc (group.2) in
@@ -244,19 +248,25 @@ posts t calls before ws line (Ok c) can h =
 posts t calls before ws line (Err k) can h = absurd (cc (h))
 
 settle_stands :
-    (t : Network) (calls : CallList) (before : List CallNo) (ws : List (List ℕ)) (line : Line) (o : Option ℕ)
-    → AreFitting t calls before → settle_for o ≡ Ok line → CanStand t calls before ws line
-settle_stands t calls before ws line None fit h = absurd (cc (h))
-settle_stands t calls before ws line (Some r) fit h = go (nat_le 1 r) h
-  where
-    go : (b : Bool) → cond b (Ok (Settle r)) (Err kinds.Range) ≡ Ok line → CanStand t calls before ws line
-    go true k = let same : Settle r ≡ line = cc (k) in subst (CanStand t calls before ws) same (tt, fit)
-    go false k = absurd (cc (k))
+    (t : Network) (calls : CallList) (before : List CallNo) (ws : List (List ℕ)) (line : Line)
+    → AreFitting t calls before → settle_of ws ≡ Ok line → CanStand t calls before ws line
+settle_stands t calls before ws line fit h =
+    let read = both_read (rounds_of MOST_ROUNDS ws) (λ r. Ok (Settle r)) line h in
+    let same : Settle read.0 ≡ line = cc (read.2) in
+    subst (CanStand t calls before ws) same (tt, fit)
+
+wait_stands :
+    (t : Network) (calls : CallList) (before : List CallNo) (ws : List (List ℕ)) (line : Line)
+    → AreFitting t calls before → wait_of ws ≡ Ok line → CanStand t calls before ws line
+wait_stands t calls before ws line fit h =
+    let read = both_read (rounds_of MOST_WAITED ws) (λ r. Ok (Wait r)) line h in
+    let same : Wait read.0 ≡ line = cc (read.2) in
+    subst (CanStand t calls before ws) same (tt, fit)
 
 plain_stands :
     (t : Network) (calls : CallList) (before : List CallNo) (ws : List (List ℕ)) (line : Line)
     → AreFitting t calls before → plain_line ws ≡ Ok line → CanStand t calls before ws line
-plain_stands t calls before ws line fit h = go (is_settle ws) (is_show ws) h
+plain_stands t calls before ws line fit h = go (is_settle ws) (is_wait ws) (is_show ws) h
   where
     Stands : Type 0
     Stands = CanStand t calls before ws line
@@ -268,10 +278,12 @@ plain_stands t calls before ws line fit h = go (is_settle ws) (is_show ws) h
     none true k = absurd (cc (k))
     none false k = absurd (cc (k))
 
-    go : (s w : Bool) → cond s (settle_of ws) (cond w (Ok Show) other) ≡ Ok line → Stands
-    go true w k = settle_stands t calls before ws line (number_up_to MOST_ROUNDS (word_at ws 1)) fit k
-    go false true k = let same : Show ≡ line = cc (k) in subst (CanStand t calls before ws) same (tt, fit)
-    go false false k = none (is_unbuilt ws) k
+    go :
+        (s w o : Bool) → cond s (settle_of ws) (cond w (wait_of ws) (cond o (Ok Show) other)) ≡ Ok line → Stands
+    go true w o k = settle_stands t calls before ws line fit k
+    go false true o k = wait_stands t calls before ws line fit k
+    go false false true k = let same : Show ≡ line = cc (k) in subst (CanStand t calls before ws) same (tt, fit)
+    go false false false k = none (is_unbuilt ws) k
 
 other_stands :
     (t : Network) (calls : CallList) (before : List CallNo) (ws : List (List ℕ)) (line : Line)
@@ -362,8 +374,9 @@ record HasParts (d : Data) (p : Plan) : Type 0 where
   pub counts : has_top_counts d ≡ true
   pub nodes_read : nodes_of (elements_at (codes "node") d) ≡ Ok known
   pub links_read : links_of known (elements_at (codes "link") d) ≡ Ok links
-  pub script_read : script_of (network_of known links) known.names (elements_at (codes "script") d) ≡ Ok script
-  pub plan : plan_with known links script ≡ p
+  pub script_read :
+      script_of (network_of (ticks_of d) known links) known.names (elements_at (codes "script") d) ≡ Ok script
+  pub plan : plan_with (ticks_of d) known links script ≡ p
 
 counts_pass : (d : Data) → top_kind d ≡ None → has_top_counts d ≡ true
 counts_pass d h =
@@ -389,10 +402,10 @@ parts_of_plan d p h = go (top_kind d) refl h
         let known = nodes.0 in
         let links =
         both_read (links_of known (elements_at (codes "link") d)) (λ ls. with_script d known ls) p nodes.2 in
-        let t = network_of known links.0 in
+        let t = network_of (ticks_of d) known links.0 in
         let script =
         both_read (script_of t known.names (elements_at (codes "script") d))
-        (λ s. Ok (plan_with known links.0 s)) p links.2 in
+        (λ s. Ok (plan_with (ticks_of d) known links.0 s)) p links.2 in
         record {
           known = known;
           links = links.0;
@@ -406,13 +419,18 @@ parts_of_plan d p h = go (top_kind d) refl h
     go (Some fault) top k = absurd (cc (k))
 
 script_of_parts :
-    (d : Data) (p : Plan) (parts : HasParts d p) → ScriptFits (network_of parts.known parts.links) parts.script
+    (d : Data) (p : Plan) (parts : HasParts d p)
+    → ScriptFits (network_of (ticks_of d) parts.known parts.links) parts.script
 script_of_parts d p parts =
-    script_fits (network_of parts.known parts.links) parts.known.names (elements_at (codes "script") d) parts.script
-    (topology_searchable (network_of parts.known parts.links) topology) parts.script_read
+    script_fits t parts.known.names (elements_at (codes "script") d) parts.script
+    (topology_searchable t topology) parts.script_read
   where
-    topology : IsTopology (network_of parts.known parts.links)
-    topology = is_topology d parts.known parts.links parts.counts parts.nodes_read parts.links_read
+    t : Network
+    t = network_of (ticks_of d) parts.known parts.links
+
+    topology : IsTopology t
+    topology =
+        is_topology d (ticks_of d) parts.known parts.links parts.counts parts.nodes_read parts.links_read
 
 pub plan_is_postable : (d : Data) (p : Plan) → plan_of d ≡ Ok p → ArePostable p.topology [] p.lines
 plan_is_postable d p h =

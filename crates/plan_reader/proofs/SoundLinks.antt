@@ -260,10 +260,10 @@ link_faulty known before last d e is tells = λ k same.
 
 -- a table without fault says a topology
 pub is_topology :
-    (d : Data) (known : NodeList) (links : List LinkSpec) → has_top_counts d ≡ true
+    (d : Data) (wait : ℕ) (known : NodeList) (links : List LinkSpec) → has_top_counts d ≡ true
     → nodes_of (elements_at (codes "node") d) ≡ Ok known → links_of known (elements_at (codes "link") d) ≡ Ok links
-    → IsTopology (network_of known links)
-is_topology d known links counts nodes_read links_read = record {
+    → IsTopology (network_of wait known links)
+is_topology d wait known links counts nodes_read links_read = record {
   count = counted;
   nodes = λ k below. (nodes_fit (elements_at (codes "node") d) known nodes_read).rise k below;
   links = λ k below. both _ _ (fit.rise k below) (fit.sound k below);

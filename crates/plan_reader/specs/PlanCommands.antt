@@ -11,7 +11,7 @@ use Rattle.mesh_rules.specs.Commands.{is_group}
 use Rattle.plan_reader.specs.declared.faults.PlanKind.{PlanKind}
 use Rattle.plan_reader.specs.declared.faults.PlanKind.TheVariants as kinds
 use Rattle.plan_reader.specs.declared.forms.CommandForm.{CommandForm}
-use Rattle.plan_reader.specs.declared.forms.CommandForm.TheVariants.{Release, Protect, Retry, Fail, Repair}
+use Rattle.plan_reader.specs.declared.forms.CommandForm.TheVariants.{Release, Protect, Retry, Revert, Fail, Repair}
 use Rattle.plan_reader.specs.declared.limits.TheConstants.{MOST_NUMBER}
 use Rattle.plan_reader.specs.Entries.{and_then}
 use Rattle.plan_reader.specs.Names.{is_name}
@@ -53,5 +53,6 @@ abbrev pub command_of : Network → CallList → List (List ℕ) → CommandForm
 command_of t calls ws Release = and_then (call_of calls ws) (λ call. Ok (commands.Release call.0 call.1))
 command_of t calls ws Protect = and_then (call_of calls ws) (λ call. Ok (commands.Protect call.0 call.1))
 command_of t calls ws Retry = and_then (call_of calls ws) (λ call. Ok (commands.Retry call.0 call.1))
+command_of t calls ws Revert = and_then (call_of calls ws) (λ call. Ok (commands.Revert call.0 call.1))
 command_of t calls ws Fail = and_then (group_of t ws) (λ g. Ok (commands.Fail g))
 command_of t calls ws Repair = and_then (group_of t ws) (λ g. Ok (commands.Repair g))

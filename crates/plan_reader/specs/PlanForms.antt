@@ -74,6 +74,10 @@ is_protect ws = begins ws (codes "protect") 2
 abbrev pub is_retry : List (List ℕ) → Bool
 is_retry ws = begins ws (codes "retry") 2
 
+-- `revert NAME`
+abbrev pub is_revert : List (List ℕ) → Bool
+is_revert ws = begins ws (codes "revert") 2
+
 -- `srlg N` or `link N` behind this word
 abbrev pub is_group_line : List (List ℕ) → List ℕ → Bool
 is_group_line ws word =
@@ -93,6 +97,7 @@ command_form ws =
     if is_release ws then Some forms.Release
     else if is_protect ws then Some forms.Protect
     else if is_retry ws then Some forms.Retry
+    else if is_revert ws then Some forms.Revert
     else if is_fail ws then Some forms.Fail
     else if is_repair ws then Some forms.Repair
     else None
@@ -103,15 +108,15 @@ command_form ws =
 abbrev pub is_settle : List (List ℕ) → Bool
 is_settle ws = begins ws (codes "settle") 2 && is_number_word ws 1
 
+-- `wait N`
+abbrev pub is_wait : List (List ℕ) → Bool
+is_wait ws = begins ws (codes "wait") 2 && is_number_word ws 1
+
 -- `show`
 abbrev pub is_show : List (List ℕ) → Bool
 is_show ws = begins ws (codes "show") 1
 
 -- Forms that a plan may have and that aren't built
-
--- `revert NAME`
-abbrev pub is_revert : List (List ℕ) → Bool
-is_revert ws = begins ws (codes "revert") 2
 
 -- `lose A B K`, `repeat A B K`, `hold A B K`
 abbrev pub is_frame_line : List (List ℕ) → Bool
@@ -119,12 +124,5 @@ is_frame_line ws =
     (begins ws (codes "lose") 4 || (begins ws (codes "repeat") 4 || begins ws (codes "hold") 4)) && is_number_word ws 3
 
 -- .. and `noise A B HEX`
-abbrev pub is_channel_line : List (List ℕ) → Bool
-is_channel_line ws = is_frame_line ws || begins ws (codes "noise") 4
-
--- `wait N`
-abbrev pub is_wait : List (List ℕ) → Bool
-is_wait ws = begins ws (codes "wait") 2 && is_number_word ws 1
-
 abbrev pub is_unbuilt : List (List ℕ) → Bool
-is_unbuilt ws = is_revert ws || (is_channel_line ws || is_wait ws)
+is_unbuilt ws = is_frame_line ws || begins ws (codes "noise") 4

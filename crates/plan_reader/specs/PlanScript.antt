@@ -7,26 +7,35 @@ use Rattle.plan_reader.specs.declared.faults.PlanKind.{PlanKind}
 use Rattle.plan_reader.specs.declared.faults.PlanKind.TheVariants as kinds
 use Rattle.plan_reader.specs.declared.forms.CommandForm.{CommandForm}
 use Rattle.plan_reader.specs.declared.forms.SetupForm.{SetupForm}
-use Rattle.plan_reader.specs.declared.limits.TheConstants.{MOST_ROUNDS}
+use Rattle.plan_reader.specs.declared.limits.TheConstants.{MOST_ROUNDS, MOST_WAITED}
 use Rattle.plan_reader.specs.declared.lines.Line.{Line}
-use Rattle.plan_reader.specs.declared.lines.Line.TheVariants.{Post, Settle, Show}
+use Rattle.plan_reader.specs.declared.lines.Line.TheVariants.{Post, Settle, Wait, Show}
 use Rattle.plan_reader.specs.declared.script.Script.{Script}
+use Rattle.plan_reader.specs.Entries.{and_then}
 use Rattle.plan_reader.specs.PlanCalls.{CallList, calls_with, no_calls}
 use Rattle.plan_reader.specs.PlanCommands.{command_of}
-use Rattle.plan_reader.specs.PlanForms.{command_form, is_settle, is_show, is_unbuilt, setup_form}
+use Rattle.plan_reader.specs.PlanForms.{command_form, is_settle, is_show, is_unbuilt, is_wait, setup_form}
 use Rattle.plan_reader.specs.PlanSetups.{setup_of}
 use Rattle.plan_reader.specs.PlanTables.{text_of}
 use Rattle.plan_reader.specs.PlanTexts.{number_up_to, word_at, words_of}
 
--- Settles
+-- Rounds
 
-abbrev pub settle_for : Option ℕ → Result Line PlanKind
-settle_for None = Err kinds.Range
-settle_for (Some rounds) = if nat_le 1 rounds then Ok (Settle rounds) else Err kinds.Range
+abbrev pub rounds_for : Option ℕ → Result ℕ PlanKind
+rounds_for None = Err kinds.Range
+rounds_for (Some rounds) = if nat_le 1 rounds then Ok rounds else Err kinds.Range
+
+-- how many rounds a line makes, at most so many, or the first fault of that
+abbrev pub rounds_of : ℕ → List (List ℕ) → Result ℕ PlanKind
+rounds_of most ws = rounds_for (number_up_to most (word_at ws 1))
 
 -- a settle, or its first fault
 abbrev pub settle_of : List (List ℕ) → Result Line PlanKind
-settle_of ws = settle_for (number_up_to MOST_ROUNDS (word_at ws 1))
+settle_of ws = and_then (rounds_of MOST_ROUNDS ws) (λ rounds. Ok (Settle rounds))
+
+-- a wait, or its first fault
+abbrev pub wait_of : List (List ℕ) → Result Line PlanKind
+wait_of ws = and_then (rounds_of MOST_WAITED ws) (λ rounds. Ok (Wait rounds))
 
 -- Lines
 
@@ -38,6 +47,7 @@ posted (Err kind) = Err kind
 abbrev pub plain_line : List (List ℕ) → Result Line PlanKind
 plain_line ws =
     if is_settle ws then settle_of ws
+    else if is_wait ws then wait_of ws
     else if is_show ws then Ok Show
     else if is_unbuilt ws then Err kinds.Unbuilt
     else Err kinds.Words
@@ -66,6 +76,7 @@ no_script = record { calls = no_calls; lines = [] }
 abbrev pub calls_with_line : CallList → List (List ℕ) → Line → CallList
 calls_with_line calls ws (Post command) = calls_with calls ws command
 calls_with_line calls ws (Settle rounds) = calls
+calls_with_line calls ws (Wait rounds) = calls
 calls_with_line calls ws Show = calls
 
 abbrev pub put_behind : Script → List (List ℕ) → Result Line PlanKind → Result Script PlanKind

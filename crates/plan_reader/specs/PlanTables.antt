@@ -144,11 +144,17 @@ has_top_counts d =
     && (nat_le (length (elements_at (codes "link") d)) MOST_LINKS
     && nat_le (length (elements_at (codes "script") d)) MOST_LINES))
 
+-- the ticks that a call waits before it goes back: none where the number is out of reach
+abbrev pub ticks_in : Data → Option ℕ
+ticks_in d = number_or 0 0 MOST_WAIT (get (codes "wait") d)
+
+abbrev pub ticks_of : Data → ℕ
+ticks_of d = unwrap_or (ticks_in d) 0
+
 abbrev pub top_value_kind : Data → Option PlanKind
 top_value_kind d =
     if not (has_top_counts d) then Some kinds.Count
-    else if is_none (number_or 0 0 MOST_WAIT (get (codes "wait") d)) then Some kinds.Range
-    else if not (lacks (codes "wait") d) then Some kinds.Unbuilt
+    else if is_none (ticks_in d) then Some kinds.Range
     else None
 
 -- the first fault of the top itself

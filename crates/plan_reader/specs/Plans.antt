@@ -17,11 +17,11 @@ use Rattle.plan_reader.specs.declared.faults.PlanFault.{PlanFault}
 use Rattle.plan_reader.specs.declared.faults.PlanKind.{PlanKind}
 use Rattle.plan_reader.specs.declared.faults.PlanKind.TheVariants.{Syntax}
 use Rattle.plan_reader.specs.declared.lines.Line.{Line}
-use Rattle.plan_reader.specs.declared.lines.Line.TheVariants.{Post, Settle, Show}
+use Rattle.plan_reader.specs.declared.lines.Line.TheVariants.{Post, Settle, Wait, Show}
 use Rattle.plan_reader.specs.declared.plan.Plan.{Plan}
 use Rattle.plan_reader.specs.declared.script.Script.{Script}
 use Rattle.plan_reader.specs.Entries.{and_then, read_all}
-use Rattle.plan_reader.specs.PlanTables.{NodeList, elements_at, no_nodes, top_kind, with_link, with_node}
+use Rattle.plan_reader.specs.PlanTables.{NodeList, elements_at, no_nodes, ticks_of, top_kind, with_link, with_node}
 use Rattle.plan_reader.specs.PlanScript.{no_script, with_line}
 
 -- The parts of a plan's table, each read onto those before it, or the first fault
@@ -35,13 +35,13 @@ links_of known ds = read_all Link (with_link known) 1 [] ds
 abbrev pub script_of : Network → List (List ℕ) → List Data → Result Script PlanFault
 script_of t names ds = read_all PlanEntry.Script (with_line t names) 1 no_script ds
 
-abbrev pub network_of : NodeList → List LinkSpec → Network
-network_of known links = record { wait = 0; nodes = known.nodes; links = links }
+abbrev pub network_of : ℕ → NodeList → List LinkSpec → Network
+network_of wait known links = record { wait = wait; nodes = known.nodes; links = links }
 
 -- what a table without fault says
-abbrev pub plan_with : NodeList → List LinkSpec → Script → Plan
-plan_with known links script = record {
-  topology = network_of known links;
+abbrev pub plan_with : ℕ → NodeList → List LinkSpec → Script → Plan
+plan_with wait known links script = record {
+  topology = network_of wait known links;
   node_names = known.names;
   call_names = script.calls.names;
   lines = script.lines;
@@ -49,8 +49,8 @@ plan_with known links script = record {
 
 abbrev pub with_script : Data → NodeList → List LinkSpec → Result Plan PlanFault
 with_script d known links =
-    and_then (script_of (network_of known links) known.names (elements_at (codes "script") d))
-    (λ script. Ok (plan_with known links script))
+    and_then (script_of (network_of (ticks_of d) known links) known.names (elements_at (codes "script") d))
+    (λ script. Ok (plan_with (ticks_of d) known links script))
 
 abbrev pub with_links : Data → NodeList → Result Plan PlanFault
 with_links d known = and_then (links_of known (elements_at (codes "link") d)) (λ links. with_script d known links)
@@ -97,6 +97,7 @@ calls_after before (Repair g) = before
 abbrev pub calls_after_line : List CallNo → Line → List CallNo
 calls_after_line before (Post c) = calls_after before c
 calls_after_line before (Settle r) = before
+calls_after_line before (Wait r) = before
 calls_after_line before Show = before
 
 abbrev pub calls_after_lines : List CallNo → List Line → List CallNo
@@ -113,6 +114,7 @@ pub record HasNames (p : Plan) : Type 0 where
 abbrev pub IsPostable : Network → List CallNo → Line → Type 0
 IsPostable t before (Post c) = (is_valid t c ≡ true) × (is_again before c ≡ false)
 IsPostable t before (Settle r) = Unit {0}
+IsPostable t before (Wait r) = Unit {0}
 IsPostable t before Show = Unit {0}
 
 abbrev pub ArePostable : Network → List CallNo → List Line → Type 0
@@ -123,6 +125,7 @@ ArePostable t before (line ∷ lines) = IsPostable t before line × ArePostable 
 abbrev pub IsValidLine : Network → Line → Type 0
 IsValidLine t (Post c) = is_valid t c ≡ true
 IsValidLine t (Settle r) = Unit {0}
+IsValidLine t (Wait r) = Unit {0}
 IsValidLine t Show = Unit {0}
 
 abbrev pub AreValidLines : Network → List Line → Type 0

@@ -87,6 +87,10 @@ pub fn read_command(
             let (call, from) = read_call(alloc, calls, words)?;
             Ok(Command::Retry { call, from })
         }
+        CommandForm::Revert => {
+            let (call, from) = read_call(alloc, calls, words)?;
+            Ok(Command::Revert { call, from })
+        }
         CommandForm::Fail => {
             let group = read_group(t, words)?;
             Ok(Command::Fail { group })

@@ -2,7 +2,7 @@
 
 ghost use Rattle.std.specs.Prelude.{◌≡◌};
 ghost use Rattle.plan_reader.specs.PlanTexts.{texts};
-ghost use Rattle.plan_reader.specs.PlanForms.{are_numbers_word, begins, command_form, form, is_backed_setup, is_channel_line, is_fail, is_frame_line, is_group_line, is_number_word, is_protect, is_protected_setup, is_protected_via, is_release, is_repair, is_retry, is_revert, is_settle, is_show, is_unbuilt, is_unprotected_setup, is_unprotected_via, is_wait, is_word, setup_form};
+ghost use Rattle.plan_reader.specs.PlanForms.{are_numbers_word, begins, command_form, form, is_backed_setup, is_fail, is_frame_line, is_group_line, is_number_word, is_protect, is_protected_setup, is_protected_via, is_release, is_repair, is_retry, is_revert, is_settle, is_show, is_unbuilt, is_unprotected_setup, is_unprotected_via, is_wait, is_word, setup_form};
 
 use crate::words::{are_numbers, is_number, word};
 
@@ -136,6 +136,13 @@ fn is_retry(words: &[&[u8]]) -> bool
     begins(words, "retry", 2)
 }
 
+// `revert NAME`
+fn is_revert(words: &[&[u8]]) -> bool
+    ensures { result ≡ is_revert (texts words.now) }
+{
+    begins(words, "revert", 2)
+}
+
 // `srlg N` or `link N` behind this word.
 fn is_group_line(words: &[&[u8]], text: &str) -> bool
     ensures { result ≡ is_group_line (texts words.now) text.now }
@@ -165,6 +172,7 @@ pub enum CommandForm {
     Release,
     Protect,
     Retry,
+    Revert,
     Fail,
     Repair,
 }
@@ -179,6 +187,8 @@ pub fn command_form(words: &[&[u8]]) -> Option<CommandForm>
         Some(CommandForm::Protect)
     } else if is_retry(words) {
         Some(CommandForm::Retry)
+    } else if is_revert(words) {
+        Some(CommandForm::Revert)
     } else if is_fail(words) {
         Some(CommandForm::Fail)
     } else if is_repair(words) {
@@ -197,6 +207,13 @@ pub fn is_settle(words: &[&[u8]]) -> bool
     begins(words, "settle", 2) && is_number_word(words, 1)
 }
 
+/// Whether the line is `wait N`.
+pub fn is_wait(words: &[&[u8]]) -> bool
+    ensures { result ≡ is_wait (texts words.now) }
+{
+    begins(words, "wait", 2) && is_number_word(words, 1)
+}
+
 /// Whether the line is `show`.
 pub fn is_show(words: &[&[u8]]) -> bool
     ensures { result ≡ is_show (texts words.now) }
@@ -206,12 +223,6 @@ pub fn is_show(words: &[&[u8]]) -> bool
 
 // Forms that aren't built
 
-fn is_revert(words: &[&[u8]]) -> bool
-    ensures { result ≡ is_revert (texts words.now) }
-{
-    begins(words, "revert", 2)
-}
-
 fn is_frame_line(words: &[&[u8]]) -> bool
     ensures { result ≡ is_frame_line (texts words.now) }
 {
@@ -219,21 +230,9 @@ fn is_frame_line(words: &[&[u8]]) -> bool
         && is_number_word(words, 3)
 }
 
-fn is_channel_line(words: &[&[u8]]) -> bool
-    ensures { result ≡ is_channel_line (texts words.now) }
-{
-    is_frame_line(words) || begins(words, "noise", 4)
-}
-
-fn is_wait(words: &[&[u8]]) -> bool
-    ensures { result ≡ is_wait (texts words.now) }
-{
-    begins(words, "wait", 2) && is_number_word(words, 1)
-}
-
 /// Whether the line is one that a plan may have and that isn't built.
 pub fn is_unbuilt(words: &[&[u8]]) -> bool
     ensures { result ≡ is_unbuilt (texts words.now) }
 {
-    is_revert(words) || is_channel_line(words) || is_wait(words)
+    is_frame_line(words) || begins(words, "noise", 4)
 }

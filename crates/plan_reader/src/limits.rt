@@ -9,7 +9,10 @@ pub const MOST_LINES: usize = 10_000;
 /// The most rounds of a `settle`.
 pub const MOST_ROUNDS: u32 = 1_000;
 
-/// The most ticks until a call is restored.
+/// The most rounds of a `wait`.
+pub const MOST_WAITED: u32 = 10_000;
+
+/// The most ticks until a call goes back.
 pub const MOST_WAIT: u32 = 10_000;
 
 /// The most labels of a link.

@@ -9,6 +9,8 @@ pub enum Line {
     Post(Command),
     /// Makes rounds until all is quiet, at most this many.
     Settle(u32),
+    /// Makes this many rounds.
+    Wait(u32),
     /// Prints the table.
     Show,
 }

@@ -4,7 +4,7 @@ ghost use Rattle.std.specs.Prelude.{◌≡◌, ◌≤◌, codes, length, [], IfO
 ghost use Rattle.toml.specs.View.{view};
 ghost use Rattle.ason_base.specs.Network.{IsTopology};
 ghost use Rattle.plan_reader.specs.Entries.{FailsFirst};
-ghost use Rattle.plan_reader.specs.PlanTables.{elements_at, has_top_counts};
+ghost use Rattle.plan_reader.specs.PlanTables.{elements_at, has_top_counts, ticks_of};
 ghost use Rattle.plan_reader.specs.Plans.{Answers, ArePostable, HasNames, links_of, network_of, nodes_of, plan_of, plan_with, script_of, with_links, with_nodes, with_script};
 ghost use Rattle.plan_reader.specs.declared.faults.PlanError.{PlanError};
 ghost use Rattle.plan_reader.specs.declared.faults.PlanFault.{PlanFault};
@@ -15,19 +15,24 @@ use crate::links::read_links;
 use crate::nodes::{Nodes, read_nodes};
 use crate::plan::Plan;
 use crate::script::read_script;
-use crate::top::top_kind;
+use crate::top::{ticks, top_kind};
 use crate::values::elements;
 use ason_base::{LinkSpec, OutOfMemory, Topology, TopologyFault};
 use std::alloc::Global;
 use toml::Value;
 
-// The topology of the nodes and links that were read.
-fn topology(alloc: Global, known: &Nodes, links: &[LinkSpec]) -> Result<Topology, OutOfMemory>
-    requires { IsTopology (network_of known.now links.now) }
-    ensures value { IfOk result (λ t. t ≡ network_of known.now links.now) }
+// The topology of the nodes and links that were read, with this wait.
+fn topology(
+    alloc: Global,
+    wait: u32,
+    known: &Nodes,
+    links: &[LinkSpec],
+) -> Result<Topology, OutOfMemory>
+    requires { IsTopology (network_of wait known.now links.now) }
+    ensures value { IfOk result (λ t. t ≡ network_of wait known.now links.now) }
     ensures valid { IfOk result (λ t. IsTopology t) }
 {
-    match Topology::new(alloc, 0, known.nodes(), links) {
+    match Topology::new(alloc, wait, known.nodes(), links) {
         Ok(topology) => Ok(topology),
         Err(TopologyFault::OutOfMemory) => Err(OutOfMemory),
         Err(_) => unreachable!(),
@@ -42,12 +47,12 @@ fn read_over(
     links: &[LinkSpec],
 ) -> Result<Plan, PlanError>
     requires few { length (elements_at (codes "script") (view value.now)) ≤ MOST_LINES }
-    requires sound { IsTopology (network_of known links.now) }
+    requires sound { IsTopology (network_of (ticks_of (view value.now)) known links.now) }
     ensures plan { IfOk result (λ p. with_script (view value.now) known links.now ≡ Ok p) }
     ensures valid { IfOk result (λ p. IsTopology p.topology) }
     ensures fault { FailsFirst result (with_script (view value.now) known links.now) }
 {
-    let topology = topology(alloc, &known, links)?;
+    let topology = topology(alloc, ticks(value), &known, links)?;
     let script = read_script(alloc, &topology, known.names(), elements(value, "script"))?;
     Ok(Plan {
         topology,

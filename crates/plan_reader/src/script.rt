@@ -6,7 +6,7 @@ ghost use Rattle.plan_reader.specs.Entries.{FailsBy, FailsFirst};
 ghost use Rattle.plan_reader.specs.PlanCalls.{CallList};
 ghost use Rattle.plan_reader.specs.PlanTables.{views};
 ghost use Rattle.plan_reader.specs.PlanTexts.{texts, words_of};
-ghost use Rattle.plan_reader.specs.PlanScript.{by_words, calls_with_line, line_as, line_of, no_script, other_as, other_line, plain_line, settle_of, with_line};
+ghost use Rattle.plan_reader.specs.PlanScript.{by_words, calls_with_line, line_as, line_of, no_script, other_as, other_line, plain_line, rounds_of, settle_of, wait_of, with_line};
 ghost use Rattle.plan_reader.specs.Plans.{script_of};
 ghost use Rattle.plan_reader.specs.declared.faults.PlanError.{PlanError};
 ghost use Rattle.plan_reader.specs.declared.faults.PlanFault.{PlanFault};
@@ -15,8 +15,8 @@ ghost use Rattle.plan_reader.specs.declared.faults.PlanKind.{PlanKind};
 use crate::calls::Calls;
 use crate::commands::read_command;
 use crate::faults::{EntryError, PlanEntry, PlanError, PlanKind, error_at};
-use crate::forms::{command_form, is_settle, is_show, is_unbuilt, setup_form};
-use crate::limits::{MOST_LINES, MOST_ROUNDS};
+use crate::forms::{command_form, is_settle, is_show, is_unbuilt, is_wait, setup_form};
+use crate::limits::{MOST_LINES, MOST_ROUNDS, MOST_WAITED};
 use crate::lines::{Line, Lines};
 use crate::names::Names;
 use crate::setups::read_setup;
@@ -26,17 +26,35 @@ use ason_base::Topology;
 use std::alloc::Global;
 use toml::Value;
 
-// Settles
+// Rounds
+
+// How many rounds a line makes, at most so many, or the first fault of that.
+fn read_rounds(words: &[&[u8]], most: u32) -> Result<u32, EntryError>
+    ensures rounds { IfOk result (λ r. rounds_of most (texts words.now) ≡ Ok r) }
+    ensures fault { FailsBy result (rounds_of most (texts words.now)) }
+{
+    match number(word(words, 1), most) {
+        Some(rounds) if rounds >= 1 => Ok(rounds),
+        _ => Err(EntryError::Fault(PlanKind::Range)),
+    }
+}
 
 // A settle, or its first fault.
 fn read_settle(words: &[&[u8]]) -> Result<Line, EntryError>
     ensures line { IfOk result (λ l. settle_of (texts words.now) ≡ Ok l) }
     ensures fault { FailsBy result (settle_of (texts words.now)) }
 {
-    match number(word(words, 1), MOST_ROUNDS) {
-        Some(rounds) if rounds >= 1 => Ok(Line::Settle(rounds)),
-        _ => Err(EntryError::Fault(PlanKind::Range)),
-    }
+    let rounds = read_rounds(words, MOST_ROUNDS)?;
+    Ok(Line::Settle(rounds))
+}
+
+// A wait, or its first fault.
+fn read_wait(words: &[&[u8]]) -> Result<Line, EntryError>
+    ensures line { IfOk result (λ l. wait_of (texts words.now) ≡ Ok l) }
+    ensures fault { FailsBy result (wait_of (texts words.now)) }
+{
+    let rounds = read_rounds(words, MOST_WAITED)?;
+    Ok(Line::Wait(rounds))
 }
 
 // Lines
@@ -49,6 +67,9 @@ fn read_plain_line(words: &[&[u8]]) -> Result<Line, EntryError>
 {
     if is_settle(words) {
         return read_settle(words);
+    }
+    if is_wait(words) {
+        return read_wait(words);
     }
     if is_show(words) {
         return Ok(Line::Show);

@@ -53,7 +53,7 @@ labels = 2
 ";
 
 // Script lines, and the first fault of them, if any: the number of its line and its kind.
-const LINES: [(&[&str], Option<(u32, PlanKind)>); 42] = [
+const LINES: [(&[&str], Option<(u32, PlanKind)>); 52] = [
     (&["setup c1 a d"], None),
     (&["setup c1 a d via 1,2"], None),
     (&["setup c1 a d via 1,2 backup 5"], None),
@@ -64,6 +64,7 @@ const LINES: [(&[&str], Option<(u32, PlanKind)>); 42] = [
     (&["setup c1 a d unprotected", "protect c1"], None),
     (&["setup c1 a d", "release c1", "protect c1"], None),
     (&["setup c1 a d", "retry c1"], None),
+    (&["setup c1 a d", "revert c1", "wait 1", "wait 10000"], None),
     (
         &[
             "fail srlg 7",
@@ -115,6 +116,10 @@ const LINES: [(&[&str], Option<(u32, PlanKind)>); 42] = [
     (&["protect c1"], Some((1, PlanKind::Call))),
     (&["retry 9x"], Some((1, PlanKind::Name))),
     (&["retry c1"], Some((1, PlanKind::Call))),
+    (&["revert 9x"], Some((1, PlanKind::Name))),
+    (&["revert c1"], Some((1, PlanKind::Call))),
+    (&["show", "wait 0"], Some((2, PlanKind::Range))),
+    (&["wait 10001"], Some((1, PlanKind::Range))),
     (&["fail srlg 4294967296"], Some((1, PlanKind::Range))),
     // a link or an SRLG that the network doesn't have
     (&["fail srlg 1"], Some((1, PlanKind::Group))),
@@ -138,12 +143,18 @@ const LINES: [(&[&str], Option<(u32, PlanKind)>); 42] = [
     (&["fail srlg"], Some((1, PlanKind::Words))),
     (&["fail link 01"], Some((1, PlanKind::Words))),
     (&["repair node 1"], Some((1, PlanKind::Words))),
-    (&["setup c1 a d", "revert c1"], Some((2, PlanKind::Unbuilt))),
+    (&["revert"], Some((1, PlanKind::Words))),
+    (&["wait"], Some((1, PlanKind::Words))),
+    (&["wait 01"], Some((1, PlanKind::Words))),
+    // forms that aren't built
+    (&["hold a b 1"], Some((1, PlanKind::Unbuilt))),
+    (&["noise a b -"], Some((1, PlanKind::Unbuilt))),
+    (&["lose a b c"], Some((1, PlanKind::Words))),
 ];
 
-// The bytes of a plan with these lines.
-fn plan_bytes(alloc: Global, lines: &[&str]) -> Result<Vec<u8>, Fail> {
-    let mut text = String::new(alloc);
+// The bytes of a plan with these lines, below keys of the top table.
+fn plan_bytes_below(alloc: Global, keys: &str, lines: &[&str]) -> Result<Vec<u8>, Fail> {
+    let mut text = keys.to_string(alloc)?;
     text.push_str("script = [")?;
     for line in lines {
         text.push_str("\"")?;
@@ -153,6 +164,10 @@ fn plan_bytes(alloc: Global, lines: &[&str]) -> Result<Vec<u8>, Fail> {
     text.push_str("]\n")?;
     text.push_str(NETWORK)?;
     Ok(text.into_bytes())
+}
+
+fn plan_bytes(alloc: Global, lines: &[&str]) -> Result<Vec<u8>, Fail> {
+    plan_bytes_below(alloc, "", lines)
 }
 
 #[test]
@@ -214,5 +229,56 @@ fn a_setup_has_its_routes(rt: HostRuntime) -> Result<(), Fail> {
     };
     assert_eq!(rt; via.items(), [step(4, 4), step(3, 3)].as_slice());
     assert_eq!(rt; backup.items(), [step(4, 5)].as_slice());
+    Ok(())
+}
+
+// Keys of the top table, and the wait of their plan or its fault.
+const WAITS: [(&str, Result<u32, PlanKind>); 6] = [
+    ("", Ok(0)),
+    ("wait = 0\n", Ok(0)),
+    ("wait = 10000\n", Ok(10_000)),
+    ("wait = 10001\n", Err(PlanKind::Range)),
+    ("wait = -1\n", Err(PlanKind::Range)),
+    ("wait = \"3\"\n", Err(PlanKind::Kind)),
+];
+
+#[test]
+fn a_network_has_the_wait_of_its_plan(rt: HostRuntime) -> Result<(), Fail> {
+    let alloc = rt.alloc();
+    for (keys, wait) in WAITS {
+        let read = read_plan(alloc, &plan_bytes_below(alloc, keys, &["show"])?);
+        let fault = |kind| PlanError::Fault(PlanFault {
+            entry: PlanEntry::Top,
+            kind,
+        });
+        assert_eq!(rt;
+            read.map(|plan| plan.topology.wait()),
+            wait.map_err(fault),
+            "{keys:?}"
+        );
+    }
+    Ok(())
+}
+
+#[test]
+fn a_wait_has_its_rounds(rt: HostRuntime) -> Result<(), Fail> {
+    let alloc = rt.alloc();
+    let plan = read_plan(
+        alloc,
+        &plan_bytes(alloc, &["setup c1 a d", "wait 7", "revert c1"])?,
+    )?;
+    let [
+        Line::Post(_),
+        Line::Wait(7),
+        Line::Post(
+            Command::Revert {
+                call: CallNo(0),
+                from: NodeId(1),
+            },
+        ),
+    ] = plan.lines.items()
+    else {
+        return Err(Fail::new("other lines"));
+    };
     Ok(())
 }

@@ -2,7 +2,7 @@
 
 ghost use Rattle.std.specs.Prelude.{◌≡◌, IfNone, IsTrue};
 ghost use Rattle.toml.specs.View.{view};
-ghost use Rattle.plan_reader.specs.PlanTables.{has_top_counts, has_top_kinds, top_kind, top_value_kind};
+ghost use Rattle.plan_reader.specs.PlanTables.{has_top_counts, has_top_kinds, ticks_of, top_kind, top_value_kind};
 
 use crate::faults::PlanKind;
 use crate::limits::{MOST_LINES, MOST_WAIT};
@@ -41,10 +41,14 @@ fn value_kind(value: &Value) -> Option<PlanKind>
     if number_or(value, "wait", 0, 0, MOST_WAIT).is_none() {
         return Some(PlanKind::Range);
     }
-    if !lacks(value, "wait") {
-        return Some(PlanKind::Unbuilt);
-    }
     None
+}
+
+/// The ticks that a call waits before it goes back; 0: by command alone.
+pub fn ticks(value: &Value) -> u32
+    ensures { result ≡ ticks_of (view value.now) }
+{
+    number_or(value, "wait", 0, 0, MOST_WAIT).unwrap_or(0)
 }
 
 /// The first fault of the top table itself.

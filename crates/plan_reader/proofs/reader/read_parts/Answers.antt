@@ -1,5 +1,6 @@
 use Rattle.std.proofs.Common.{Ok, ap, sym, ◌∙◌}
 use Rattle.toml.specs.View.{view}
+use Rattle.plan_reader.specs.PlanTables.{ticks_of}
 use Rattle.plan_reader.specs.Plans.{links_of, nodes_of}
 use Rattle.plan_reader.proofs.SoundLinks.{is_topology}
 use Rattle.plan_reader.proofs.reader.read_parts.Goals as goal
@@ -11,4 +12,5 @@ read_over-requires-clause-sound c =
     let links_read =
     sym (ap (links_of nodes) c.elements-2.ensures) ∙ c.in_ok-links.ensures.links
     ∙ ap (λ ls. Ok ls) (sym c.deref.ensures.value) in
-    is_topology (view c.args.value.now) nodes c.deref.result.now c.requires nodes_read links_read
+    let d = view c.args.value.now in
+    is_topology d (ticks_of d) nodes c.deref.result.now c.requires nodes_read links_read
