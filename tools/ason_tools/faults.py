@@ -305,7 +305,6 @@ _MEANINGS = {
     "top kind": "a value of the plan has another type than its key wants",
     "top count": f"the plan has not 1 to {MOST_NODES} nodes, at most {MOST_LINKS} links and at most {MOST_LINES:,} script lines",
     "top range": f"wait isn't 0 to {MOST_WAIT:,}",
-    "top unbuilt": "this version doesn't run plans with wait",
     "script words": "the line has none of the forms of a script line",
     "script range": "a number of the line is outside its range",
     "script name": "the name of the call is no name",

@@ -47,24 +47,26 @@ class Link:
 
 @dataclass
 class Plan:
-    """A network and a script."""
+    """A network and a script. A turned call waits so many ticks before it goes back; 0: by command alone."""
 
     nodes: list[Node] = field(default_factory=list)
     links: list[Link] = field(default_factory=list)
     script: list[str] = field(default_factory=list)
+    wait: int = 0
 
     def link(self, number: int) -> Link | None:
         """The link with this id."""
         return next((link for link in self.links if link.id == number), None)
 
     def with_labels(self, labels: int) -> "Plan":
-        """The same network with so many labels on each link, where each node converts, and without a script."""
+        """The same network with so many labels on each link, where each node converts, without a wait and a script."""
         nodes = [replace(node, convert=True) for node in self.nodes]
         return Plan(nodes, [replace(link, labels=labels) for link in self.links])
 
     def text(self) -> str:
         """The plan in TOML. A node's position is a comment, which the pictures read and `ason` doesn't."""
-        lines = ["script = [", *(f'    "{line}",' for line in self.script), "]"]
+        lines = [f"wait = {self.wait}"] if self.wait else []
+        lines += ["script = [", *(f'    "{line}",' for line in self.script), "]"]
         for node in self.nodes:
             lines += ["[[node]]", f'name = "{node.name}"', f"id = {node.id}"]
             lines += ["convert = true"] if node.convert else []
@@ -92,7 +94,7 @@ def read(text: str) -> Plan:
     """The plan that the text spells, as far as pictures need it. A plan that `ason` refuses may have no such reading."""
     top = parse(text)
     places = _places(text)
-    plan = Plan(script=[line for line in _array(top, "script") if isinstance(line, str)])
+    plan = Plan(script=[line for line in _array(top, "script") if isinstance(line, str)], wait=_wait(top))
     for number, table in enumerate(_array(top, "node"), 1):
         name, key = _value(table, "name", str, f"node {number}"), _value(table, "id", int, f"node {number}")
         plan.nodes.append(Node(name, key, table.get("convert") is True, places.get(name)))
@@ -117,6 +119,10 @@ def _link(table: Any, entry: str, names: set[str]) -> Link:
     if not isinstance(metric, int) or not isinstance(srlgs, list):
         raise ToolError(f"{entry} has a metric or SRLGs of another type")
     return Link(_value(table, "id", int, entry), (ends[0], ends[1]), labels, metric, tuple(srlgs))
+
+
+def _wait(top: dict[str, Any]) -> int:
+    return _value(top, "wait", int, "the top table") if "wait" in top else 0
 
 
 def _array(top: dict[str, Any], key: str) -> list[Any]:
