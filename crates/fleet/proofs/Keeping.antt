@@ -11,7 +11,7 @@ use Rattle.world_core.specs.Runs.{is_channel}
 use Rattle.station.specs.Histories.{History, handled, handled_first, if_able, made, popped, took, took_first, with_event_over, world_after}
 use Rattle.station.specs.Turns.{desk_done, neighbours, repeated, ring_done, turn}
 use Rattle.station.proofs.NewStations.{all-near}
-use Rattle.fleet.specs.Rounds.{is_quiet, round, settled}
+use Rattle.fleet.specs.Rounds.{is_quiet, round, settled, waited}
 
 -- what the events of node n keep
 pub record IsKeptBy (t : Network) (n : NodeId) (P : History → Type 0) : Type 0 where
@@ -96,6 +96,12 @@ pub round_keeps : (t : Network) (P : History → Type 0) → IsKept t P → (h :
 round_keeps t P kept h is =
     fold_keeps P (λ (n : NodeSpec). is_node_id t.nodes n.id ≡ true) (λ g n. turn t true n.id g)
     (λ n known g r. turn_keeps t P true n.id (kept n.id) known g r) t.nodes (all_known t.nodes) h is
+
+pub waited_keeps : (t : Network) (P : History → Type 0) → IsKept t P → (rounds : ℕ) (h : History) → P h →
+    P (waited t rounds h)
+unfolding waited
+waited_keeps t P kept zero h is = is
+waited_keeps t P kept (suc r) h is = waited_keeps t P kept r (round t h) (round_keeps t P kept h is)
 
 pub settled_keeps : (t : Network) (P : History → Type 0) → IsKept t P → (rounds : ℕ) (h : History) → P h →
     P (settled t rounds h)

@@ -16,11 +16,11 @@ use Rattle.world_core.specs.Worlds.{World, frame_at, numbered_at, start, with_ev
 use Rattle.world_core.specs.Runs.{IsEnabled, IsRun, after, posted, step}
 use Rattle.station.specs.Histories.{History, all_pushed, count_of, if_able, made_by, numbers_after, popped, pushed, refilled, sent_between, stopped_at, with_event_over, world_after}
 use Rattle.station.proofs.Doing.{made_kept, world-with}
-use Rattle.fleet.specs.Laws.{PostsAreRunning, SettlingGoesOn, SettlingIsRunning, TheStartIsRunning}
-use Rattle.fleet.specs.Rounds.{settled}
+use Rattle.fleet.specs.Laws.{PostsAreRunning, SettlingGoesOn, SettlingIsRunning, TheStartIsRunning, WaitingGoesOn, WaitingIsRunning}
+use Rattle.fleet.specs.Rounds.{settled, waited}
 use Rattle.fleet.specs.Running.{AreRings, IsRunning, IsSent}
 use Rattle.fleet.proofs.Growing.{count-grows}
-use Rattle.fleet.proofs.Keeping.{IsKept, settled_keeps}
+use Rattle.fleet.proofs.Keeping.{IsKept, settled_keeps, waited_keeps}
 
 -- Rings
 
@@ -237,6 +237,9 @@ running_is_kept t n = record {
 pub settling_is_running : SettlingIsRunning
 settling_is_running t rounds h is = settled_keeps t (IsRunning t) (running_is_kept t) rounds h is
 
+pub waiting_is_running : WaitingIsRunning
+waiting_is_running t rounds h is = waited_keeps t (IsRunning t) (running_is_kept t) rounds h is
+
 pub posts_are_running : PostsAreRunning
 posts_are_running t h c is going on =
     runs_with t h h.waiting (Post c) is is.rings on (λ n. subst (λ k. k ≤ 50000)
@@ -281,8 +284,15 @@ part_is_kept t h n = record {
         able_cases t (IsPart h) n g (with_event_over t g rings e) is (λ going below. part_with h g rings t e is)
         (λ going above. record { left = is.left; whole = is.whole })
 
+whole_part : (h : History) → IsPart h h
+whole_part h = record { left = []; whole = append-nil h.events }
+
 pub settling_goes_on : SettlingGoesOn
 settling_goes_on t rounds h =
-    let part : IsPart h (settled t rounds h) = settled_keeps t (IsPart h)
-    (part_is_kept t h) rounds h (record { left = []; whole = append-nil h.events }) in
+    let part : IsPart h (settled t rounds h) = settled_keeps t (IsPart h) (part_is_kept t h) rounds h (whole_part h) in
+    (part.left, part.whole)
+
+pub waiting_goes_on : WaitingGoesOn
+waiting_goes_on t rounds h =
+    let part : IsPart h (waited t rounds h) = waited_keeps t (IsPart h) (part_is_kept t h) rounds h (whole_part h) in
     (part.left, part.whole)

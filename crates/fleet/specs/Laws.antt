@@ -12,7 +12,7 @@ use Rattle.world_core.specs.Runs.{IsEnabled}
 use Rattle.world_core.specs.Images.{mesh_events}
 use Rattle.world_core.specs.Laws.{EachIsFound}
 use Rattle.station.specs.Histories.{History, new_history, state_after, with_event, world_after}
-use Rattle.fleet.specs.Rounds.{settled}
+use Rattle.fleet.specs.Rounds.{settled, waited}
 use Rattle.fleet.specs.Running.{IsRunning}
 
 -- where nothing was made, a run begins
@@ -33,6 +33,14 @@ SettlingIsRunning = (t : Network) (rounds : ℕ) (h : History) → IsRunning t h
 abbrev pub SettlingGoesOn : Type 0
 SettlingGoesOn = (t : Network) (rounds : ℕ) (h : History) → (left : List Event) ×
     (h.events ++ left ≡ (settled t rounds h).events)
+
+-- the same of rounds that don't end where it is quiet
+abbrev pub WaitingIsRunning : Type 0
+WaitingIsRunning = (t : Network) (rounds : ℕ) (h : History) → IsRunning t h → IsRunning t (waited t rounds h)
+
+abbrev pub WaitingGoesOn : Type 0
+WaitingGoesOn = (t : Network) (rounds : ℕ) (h : History) → (left : List Event) ×
+    (h.events ++ left ≡ (waited t rounds h).events)
 
 -- the mesh that a run shows is where a run of the mesh leads, of which the laws of the mesh hold
 pub record IsShown (t : Network) (h : History) : Type 0 where

@@ -1,4 +1,4 @@
--- Rounds of the nodes, in order of number, and how a run settles.
+-- Rounds of the nodes, in order of number, and how a run waits and settles.
 use Rattle.std.specs.Prelude.{ℕ, zero, suc, ◌==◌, ◌&&◌, Bool, true, length, fold, sum_by, if◌then◌else◌}
 use Rattle.std.specs.List.{list_all}
 use Rattle.ason_base.specs.declared.ids.NodeId.{NodeId}
@@ -13,6 +13,11 @@ use Rattle.station.specs.Turns.{turn}
 -- a round gives each node one turn with a tick, in order of number
 abbrev pub round : Network → History → History
 round t h = fold (λ g n. turn t true n.id g) h t.nodes
+
+-- so many rounds, whether it is quiet or not
+unfoldable pub waited : Network → ℕ → History → History
+waited t zero h = h
+waited t (suc r) h = waited t r (round t h)
 
 -- What waits
 

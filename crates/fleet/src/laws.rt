@@ -1,6 +1,6 @@
 //! Laws of every run that posts and rounds make.
 
-ghost use Rattle.fleet.specs.Laws.{EveryRunIsShown, PostsAreRunning, SettlingGoesOn, SettlingIsRunning, TheStartIsRunning};
+ghost use Rattle.fleet.specs.Laws.{EveryRunIsShown, PostsAreRunning, SettlingGoesOn, SettlingIsRunning, TheStartIsRunning, WaitingGoesOn, WaitingIsRunning};
 
 use world_core::laws::every_world_run;
 
@@ -12,6 +12,8 @@ pub fn every_script()
     ensures post { PostsAreRunning }
     ensures settle { SettlingIsRunning }
     ensures goes_on { SettlingGoesOn }
+    ensures wait { WaitingIsRunning }
+    ensures waits_on { WaitingGoesOn }
     ensures shown { EveryRunIsShown }
 {
     every_world_run();
