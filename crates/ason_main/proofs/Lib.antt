@@ -11,3 +11,4 @@ pub mod ScriptRuns
 pub mod Scripts
 pub mod Settling
 pub mod Stopping
+pub mod Waiting

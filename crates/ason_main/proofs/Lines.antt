@@ -11,14 +11,14 @@ use Rattle.mesh_rules.specs.Rows.{all_call_rows, all_leg_rows}
 use Rattle.world_core.specs.Images.{image}
 use Rattle.world_core.specs.Runs.{IsEnabled}
 use Rattle.station.specs.Histories.{History, with_event, world_after}
-use Rattle.fleet.specs.Rounds.{is_quiet, items_waiting, rows_waiting, settled, unacked_waiting}
+use Rattle.fleet.specs.Rounds.{is_quiet, items_waiting, rows_waiting, settled, unacked_waiting, waited}
 use Rattle.fleet.specs.Standing.{FleetState, StandsFor}
 use Rattle.plan_reader.specs.declared.lines.Line.{Line}
-use Rattle.plan_reader.specs.declared.lines.Line.TheVariants.{Post, Settle, Show}
+use Rattle.plan_reader.specs.declared.lines.Line.TheVariants.{Post, Settle, Show, Wait}
 use Rattle.plan_reader.specs.declared.plan.Plan.{Plan}
 use Rattle.table_text.specs.TableText.{table_text, unsettled_text}
 use Rattle.ason_main.specs.Outputs.{IsTable, LinePrints, Shows, UnlessStopped, call_before, leg_before, line_done}
-use Rattle.ason_main.specs.Running.{Does, Settles, TellsUnsettled}
+use Rattle.ason_main.specs.Running.{Does, Settles, TellsUnsettled, Waits}
 use Rattle.ason_main.proofs.ScriptRuns.{both_tests, post_goes}
 use Rattle.mesh_rules.specs.Commands.{is_again, is_valid}
 
@@ -84,6 +84,17 @@ settle_does p rounds old new text settles tells = record {
         printed = printed p (Settle rounds) (settled t rounds h) text now.going
             (tells.tells t (settled t rounds h) now);
       };
+}
+
+-- Waiting
+
+pub wait_does : (p : Plan) (rounds : ℕ) (old new : FleetState) (text : List ℕ) → text ≡ [] → Waits rounds old new →
+    Does p (Wait rounds) old new text
+wait_does p rounds old new text none waits = record {
+  done = λ h stands postable.
+      let t = p.topology in
+      let now : StandsFor t new (waited t rounds h) = waits.waited t h stands in
+      record { stands = now; printed = printed p (Wait rounds) (waited t rounds h) text now.going none };
 }
 
 -- Tables

@@ -13,7 +13,7 @@ use Rattle.world_core.specs.Runs.{after}
 use Rattle.world_core.specs.Worlds.{World, start}
 use Rattle.station.specs.Histories.{History, new_history, world_after}
 use Rattle.plan_reader.specs.declared.lines.Line.{Line}
-use Rattle.plan_reader.specs.declared.lines.Line.TheVariants.{Post, Settle, Show}
+use Rattle.plan_reader.specs.declared.lines.Line.TheVariants.{Post, Settle, Show, Wait}
 use Rattle.plan_reader.specs.declared.plan.Plan.{Plan}
 use Rattle.table_text.specs.TableText.{stopped_text, table_text}
 use Rattle.ason_main.specs.Outputs.{IsLawful, IsOneRun, IsOutput, IsStoppedOutput, IsTheOutput, IsTheStoppedOutput, LeadThrough, LinePrints, Prints, Shows, UnlessStopped, line_done, run_of, script_of}
@@ -38,6 +38,7 @@ one_show : (p : Plan) (line : Line) (w : World) (a b : List ℕ) → HasOneTable
     Shows p line w a → Shows p line w b → a ≡ b
 one_show p (Post c) w a b one this that = this ∙ sym that
 one_show p (Settle r) w a b one this that = this ∙ sym that
+one_show p (Wait r) w a b one this that = this ∙ sym that
 one_show p Show w a b one this that =
     let same : this.0 ≡ that.0 =
     one_table p.topology (image w) this.0 that.0 one.legs one.calls this.1 that.1 in

@@ -16,11 +16,11 @@ use Rattle.world_core.specs.Worlds.{World, delivered, frame_at, handed_up, handl
 use Rattle.world_core.specs.Runs.{IsRun, posted, step}
 use Rattle.station.specs.Histories.{History, if_able, made_by, popped, stopped_at, with_event, with_event_over, world_after}
 use Rattle.station.proofs.Doing.{world-with}
-use Rattle.fleet.specs.Rounds.{settled}
+use Rattle.fleet.specs.Rounds.{settled, waited}
 use Rattle.fleet.specs.Running.{IsRunning}
-use Rattle.fleet.proofs.Keeping.{IsKept, settled_keeps}
+use Rattle.fleet.proofs.Keeping.{IsKept, settled_keeps, waited_keeps}
 use Rattle.plan_reader.specs.declared.lines.Line.{Line}
-use Rattle.plan_reader.specs.declared.lines.Line.TheVariants.{Post, Settle, Show}
+use Rattle.plan_reader.specs.declared.lines.Line.TheVariants.{Post, Settle, Show, Wait}
 use Rattle.plan_reader.specs.Plans.{ArePostable, IsPostable, calls_after, calls_after_line}
 use Rattle.ason_main.specs.Laws.{WorldLaws}
 use Rattle.ason_main.specs.Outputs.{LeadThrough, line_done, lines_done, posted_on}
@@ -95,6 +95,9 @@ line_posted t (Post c) h going =
 line_posted t (Settle r) h going =
     (settled_keeps t (HasPosted t (world_after t h).posted) (posted_is_kept t (world_after t h).posted) r h
     (record { calls = refl })).calls
+line_posted t (Wait r) h going =
+    (waited_keeps t (HasPosted t (world_after t h).posted) (posted_is_kept t (world_after t h).posted) r h
+    (record { calls = refl })).calls
 line_posted t Show h going = refl
 
 -- The run
@@ -108,6 +111,7 @@ line_running laws t (Post c) h going postable is =
     subst (IsRunning t) (sym (post_goes t c h going)) (laws.post t h c is going
     (both_tests (is_valid t c) (is_again (world_after t h).posted c) postable.0 postable.1))
 line_running laws t (Settle r) h going postable is = laws.settle t r h is
+line_running laws t (Wait r) h going postable is = laws.wait t r h is
 line_running laws t Show h going postable is = is
 
 pub lines_running : WorldLaws → (t : Network) (lines : List Line) (h : History) → CanPost t h lines →
@@ -150,6 +154,9 @@ line_goes_on laws t (Post c) h = go (is_some h.stopped)
     go false = record { left = event.Post c ∷ []; whole = refl }
 line_goes_on laws t (Settle r) h =
     let part = laws.goes_on t r h in
+    record { left = part.0; whole = part.1 }
+line_goes_on laws t (Wait r) h =
+    let part = laws.waits_on t r h in
     record { left = part.0; whole = part.1 }
 line_goes_on laws t Show h = same_part h
 

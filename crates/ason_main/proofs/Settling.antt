@@ -11,7 +11,7 @@ use Rattle.fleet.specs.Standing.{FleetState, StandsFor}
 use Rattle.ason_main.specs.Running.{StopsSettling}
 use Rattle.ason_main.proofs.Stopping.{settled_stays}
 
-one_less : (count i : ℕ) → i < count → count - i ≡ suc (count - (i + 1))
+pub one_less : (count i : ℕ) → i < count → count - i ≡ suc (count - (i + 1))
 one_less count i h = omega arith
 
 settled_step : (t : Network) (r : ℕ) (h : History) →

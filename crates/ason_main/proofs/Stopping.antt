@@ -5,10 +5,10 @@ use Rattle.ason_base.specs.declared.ids.NodeId.{NodeId}
 use Rattle.ason_base.specs.declared.commands.Event.TheVariants.{Deliver, Desk, Tick}
 use Rattle.ason_base.specs.Network.{Network}
 use Rattle.plan_reader.specs.declared.lines.Line.{Line}
-use Rattle.plan_reader.specs.declared.lines.Line.TheVariants.{Post, Settle, Show}
+use Rattle.plan_reader.specs.declared.lines.Line.TheVariants.{Post, Settle, Show, Wait}
 use Rattle.station.specs.Histories.{History, if_able, made_by, popped, stopped_at, with_event, with_event_over}
-use Rattle.fleet.specs.Rounds.{round, settled}
-use Rattle.fleet.proofs.Keeping.{IsKept, round_keeps, settled_keeps}
+use Rattle.fleet.specs.Rounds.{round, settled, waited}
+use Rattle.fleet.proofs.Keeping.{IsKept, round_keeps, settled_keeps, waited_keeps}
 use Rattle.ason_main.specs.Outputs.{line_done, lines_done}
 
 -- the run is stopped at this node
@@ -44,9 +44,14 @@ pub settled_stays : (t : Network) (rounds : ℕ) (h : History) (k : NodeId) → 
 settled_stays t rounds h k is =
     (settled_keeps t (IsSame k h) (same_is_kept t k h) rounds h (record { same = refl; at = is })).same
 
+pub waited_stays : (t : Network) (rounds : ℕ) (h : History) (k : NodeId) → IsStoppedAt k h → waited t rounds h ≡ h
+waited_stays t rounds h k is =
+    (waited_keeps t (IsSame k h) (same_is_kept t k h) rounds h (record { same = refl; at = is })).same
+
 pub line_stays : (t : Network) (line : Line) (h : History) (k : NodeId) → IsStoppedAt k h → line_done t h line ≡ h
 line_stays t (Post c) h k is = rw is.stopped refl
 line_stays t (Settle r) h k is = settled_stays t r h k is
+line_stays t (Wait r) h k is = waited_stays t r h k is
 line_stays t Show h k is = refl
 
 pub lines_stay : (t : Network) (lines : List Line) (h : History) (k : NodeId) → IsStoppedAt k h →

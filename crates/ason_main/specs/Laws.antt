@@ -1,6 +1,6 @@
 -- The laws on which a run rests.
 use Rattle.world_core.specs.Laws.{EventsAreCounted, EveryImageHasTheLaws, EveryRunIsShown, TopologiesFindEach}
-use Rattle.fleet.specs.Laws.{PostsAreRunning, SettlingGoesOn, SettlingIsRunning, TheStartIsRunning}
+use Rattle.fleet.specs.Laws.{PostsAreRunning, SettlingGoesOn, SettlingIsRunning, TheStartIsRunning, WaitingGoesOn, WaitingIsRunning}
 
 -- the laws of worlds, and of posts and rounds
 pub record WorldLaws : Type 0 where
@@ -12,3 +12,5 @@ pub record WorldLaws : Type 0 where
   pub post : PostsAreRunning
   pub settle : SettlingIsRunning
   pub goes_on : SettlingGoesOn
+  pub wait : WaitingIsRunning
+  pub waits_on : WaitingGoesOn

@@ -18,9 +18,9 @@ use Rattle.world_core.specs.Runs.{IsRun, events_of}
 use Rattle.world_core.specs.Images.{image, mesh_events}
 use Rattle.world_core.specs.Laws.{IsShown}
 use Rattle.station.specs.Histories.{History, new_history, with_event, world_after}
-use Rattle.fleet.specs.Rounds.{is_quiet, items_waiting, rows_waiting, settled, unacked_waiting}
+use Rattle.fleet.specs.Rounds.{is_quiet, items_waiting, rows_waiting, settled, unacked_waiting, waited}
 use Rattle.plan_reader.specs.declared.lines.Line.{Line}
-use Rattle.plan_reader.specs.declared.lines.Line.TheVariants.{Post, Settle, Show}
+use Rattle.plan_reader.specs.declared.lines.Line.TheVariants.{Post, Settle, Wait, Show}
 use Rattle.plan_reader.specs.declared.plan.Plan.{Plan}
 use Rattle.table_text.specs.TableText.{stopped_text, table_text, unsettled_text}
 
@@ -51,6 +51,7 @@ posted_on t c h = if is_some h.stopped then h else with_event t h (event.Post c)
 abbrev pub line_done : Network → History → Line → History
 line_done t h (Post c) = posted_on t c h
 line_done t h (Settle r) = settled t r h
+line_done t h (Wait r) = waited t r h
 line_done t h Show = h
 
 -- the network settles before the plan's lines and after them, and the table comes last
@@ -79,6 +80,7 @@ unsettled_line t w =
 abbrev pub Shows : Plan → Line → World → List ℕ → Type 0
 Shows p (Post c) w text = text ≡ []
 Shows p (Settle r) w text = text ≡ unsettled_line p.topology w
+Shows p (Wait r) w text = text ≡ []
 Shows p Show w text = (rows : TableRows) × IsTable p.topology (image w) rows × (text ≡ table_text p rows)
 
 -- nothing is printed once the run is stopped

@@ -9,7 +9,7 @@ use Rattle.ason_base.specs.Network.{Network}
 use Rattle.station.specs.Histories.{History, with_event, world_after}
 use Rattle.fleet.specs.declared.fleet.RoundFault.{RoundFault}
 use Rattle.fleet.specs.declared.fleet.RoundFault.TheVariants as round
-use Rattle.fleet.specs.Rounds.{settled}
+use Rattle.fleet.specs.Rounds.{settled, waited}
 use Rattle.fleet.specs.Standing.{FleetState, StandsFor}
 use Rattle.plan_reader.specs.declared.lines.Line.{Line}
 use Rattle.plan_reader.specs.declared.plan.Plan.{Plan}
@@ -19,17 +19,26 @@ use Rattle.ason_main.specs.declared.runner.stops.Stop.{Stop}
 use Rattle.ason_main.specs.Outputs.{IsBegun, IsTheOutput, IsTheStoppedOutput, LinePrints, Prints, PrintsFirst, line_done, lines_done, unsettled_line}
 use Rattle.table_text.specs.TableText.{stopped_text}
 
--- Settling
+-- Rounds
 
 -- in whatever run the stations stand, they stand after so many rounds, or after fewer where all is quiet
 pub record Settles (rounds : ℕ) (old new : FleetState) : Type 0 where
   pub settled : (t : Network) (h : History) → StandsFor t old h → StandsFor t new (settled t rounds h)
+
+-- in whatever run the stations stand, they stand after so many rounds
+pub record Waits (rounds : ℕ) (old new : FleetState) : Type 0 where
+  pub waited : (t : Network) (h : History) → StandsFor t old h → StandsFor t new (waited t rounds h)
 
 -- in one of these rounds a node comes to its limit; or memory is wanting, which may be at any time
 abbrev pub StopsSettling : ℕ → FleetState → RoundFault → Type 0
 StopsSettling rounds old (round.AtLimit n) =
     (t : Network) (h : History) → StandsFor t old h → (settled t rounds h).stopped ≡ Some n
 StopsSettling rounds old round.Starved = Unit {0}
+
+abbrev pub StopsWaiting : ℕ → FleetState → RoundFault → Type 0
+StopsWaiting rounds old (round.AtLimit n) =
+    (t : Network) (h : History) → StandsFor t old h → (waited t rounds h).stopped ≡ Some n
+StopsWaiting rounds old round.Starved = Unit {0}
 
 abbrev pub stop_of : RoundFault → Stop
 stop_of (round.AtLimit n) = Stop.AtLimit n

@@ -4,3 +4,4 @@ pub mod lines;
 pub mod run;
 pub mod settling;
 pub mod stops;
+pub mod waiting;

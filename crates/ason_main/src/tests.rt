@@ -21,6 +21,12 @@ ends = [\"a\", \"b\"]
 labels = 1
 ";
 
+// A node without a link. It makes one event a round.
+const LONE: &str = "[[node]]
+name = \"a\"
+id = 1
+";
+
 // Links from b to each of a, c and d, with one label each.
 const STAR: &str = "[[node]]
 name = \"a\"
@@ -225,7 +231,31 @@ call c2 c d blocked - - set
         PAIR,
         &[],
         Status::PlanRefused,
+        "refused plan script 1 call\n",
+    ),
+    (
+        RUN,
+        "\"hold a b 1\"",
+        PAIR,
+        &[],
+        Status::PlanRefused,
         "refused plan script 1 unbuilt\n",
+    ),
+    (
+        RUN,
+        "\"wait 10000\", \"wait 10000\", \"wait 10000\", \"wait 10000\", \"wait 10000\"",
+        LONE,
+        &[],
+        Status::Done,
+        "calls 0 legs 0\n",
+    ),
+    (
+        RUN,
+        "\"wait 10000\", \"wait 10000\", \"wait 10000\", \"wait 10000\", \"wait 10000\", \"wait 1\"",
+        LONE,
+        &[],
+        Status::EventLimit,
+        "stopped at limit a\n",
     ),
     (
         RUN,

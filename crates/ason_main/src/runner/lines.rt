@@ -7,6 +7,7 @@ ghost use Rattle.ason_main.specs.Running.{Does, Stops, TellsUnsettled};
 
 use crate::runner::settling::settle;
 use crate::runner::stops::Stop;
+use crate::runner::waiting::wait;
 use crate::table_rows::sort_rows;
 use ason_base::{Command, OutOfMemory};
 use fleet::Fleet;
@@ -48,6 +49,16 @@ fn settle_line(alloc: Global, fleet: &mut Fleet, rounds: u32) -> Result<Vec<u8>,
     Ok(text)
 }
 
+// Waits so many rounds, which prints nothing.
+fn wait_line(alloc: Global, fleet: &mut Fleet, rounds: u32) -> Result<Vec<u8>, Stop>
+    ensures done { (p : Plan) → IfOk result
+        (λ text. Does p (said.Wait rounds) fleet.old fleet.new text.items) }
+    ensures stops { (p : Plan) → IfErr result (Stops p (said.Wait rounds) fleet.old) }
+{
+    wait(fleet, rounds)?;
+    Ok(Vec::new(alloc))
+}
+
 // Tells the table.
 fn show_line(alloc: Global, plan: &Plan, fleet: &Fleet) -> Result<Vec<u8>, Stop>
     ensures done { IfOk result (λ text. Does plan.now said.Show fleet.now fleet.now text.items) }
@@ -72,6 +83,7 @@ pub fn line_text(
     match line {
         Line::Post(command) => post_line(alloc, fleet, command),
         Line::Settle(rounds) => settle_line(alloc, fleet, *rounds),
+        Line::Wait(rounds) => wait_line(alloc, fleet, *rounds),
         Line::Show => show_line(alloc, plan, fleet),
     }
 }

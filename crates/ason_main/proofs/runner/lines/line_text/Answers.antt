@@ -12,3 +12,8 @@ pub returns-in-Settle-clause-stops : goal.returns-in-Settle-clause-stops
 returns-in-Settle-clause-stops c =
     subst (λ l. IfErr c.settle_line.result (Stops c.args.plan.now l c.args.fleet.now)) (sym c.in-Settle.is)
     (c.settle_line.ensures.stops c.args.plan.now)
+
+pub returns-in-Wait-clause-stops : goal.returns-in-Wait-clause-stops
+returns-in-Wait-clause-stops c =
+    subst (λ l. IfErr c.wait_line.result (Stops c.args.plan.now l c.args.fleet.now)) (sym c.in-Wait.is)
+    (c.wait_line.ensures.stops c.args.plan.now)

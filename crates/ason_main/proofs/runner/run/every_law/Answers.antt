@@ -10,4 +10,6 @@ returns c = record {
   post = c.every_script.ensures.post;
   settle = c.every_script.ensures.settle;
   goes_on = c.every_script.ensures.goes_on;
+  wait = c.every_script.ensures.wait;
+  waits_on = c.every_script.ensures.waits_on;
 }
