@@ -11,6 +11,6 @@ mod taken_back;
 
 pub use handlers::{activate, busy, connect, take_back};
 pub use path_errs::{busy_change, contends};
-pub use paths::activate_change;
+pub use paths::{activate_change, is_active};
 pub use resvs::{carries, connect_change};
 pub use taken_back::take_back_change;

@@ -96,7 +96,8 @@ fn activate_leg(
     }
 }
 
-fn is_active(role: &PathRole) -> bool
+/// Whether a Path with this role activates a backup.
+pub fn is_active(role: &PathRole) -> bool
     ensures { result ≡ is_active role.now }
 {
     match role {
