@@ -1,5 +1,5 @@
 -- A node's answer to any input fits, and so does the node after it.
-use Rattle.std.proofs.Common.{◌≡◌, ◌∙◌, List, [], ap, sym, subst, Result, Ok, Err, arith}
+use Rattle.std.proofs.Common.{◌≡◌, ◌≤◌, ◌∙◌, List, [], length, ap, sym, subst, Result, Ok, Err, arith}
 use Rattle.std.specs.Prelude.{OnErr, OnOk}
 use Rattle.ason_base.specs.Network.{IsTopology, Network}
 use Rattle.ason_base.specs.declared.ids.NodeId.{NodeId}
@@ -13,7 +13,7 @@ use Rattle.leg_table.specs.LegClaims.{AreOfOneNode, MayBeMade, WorksAreLive}
 use Rattle.leg_table.specs.States.{local_of, no_call, state_of}
 use Rattle.leg_table.specs.Tables.{CallTable, LegTable, new_table}
 use Rattle.leg_table.proofs.AtStart.{at_start-fits, at_start-is}
-use Rattle.leg_table.proofs.RuleChanges.{item-may, message-may}
+use Rattle.leg_table.proofs.RuleChanges.{item-may, message-may, tick-may}
 use Rattle.mesh_rules.specs.Changes.{Answer, changed, learns, nothing}
 use Rattle.mesh_rules.specs.KnownRows.{has_row, known_rows}
 use Rattle.mesh_rules.specs.State.{new_node}
@@ -21,28 +21,36 @@ use Rattle.mesh_nodes.specs.Kept.{NodeFits}
 use Rattle.mesh_nodes.specs.Routes.{RowsFit}
 use Rattle.mesh_nodes.specs.Sent.{AnswerFits}
 use Rattle.mesh_nodes.proofs.Cases.{if_cases}
-use Rattle.mesh_nodes.proofs.LearnsNothing.{item-learns_nothing, message-learns_nothing}
+use Rattle.mesh_nodes.proofs.LearnsNothing.{item-learns_nothing, message-learns_nothing, tick-learns_nothing}
 use Rattle.mesh_nodes.proofs.routes.Learnt.{learning-fits, rows-stay_fit, same-rows_fit}
 use Rattle.mesh_nodes.proofs.routes.Topologies.{new-rows}
 use Rattle.mesh_nodes.proofs.Items.{items-fit}
 use Rattle.mesh_nodes.proofs.Messages.{messages-fit}
-use Rattle.mesh_nodes.proofs.Paths.{nothing-fits}
+use Rattle.mesh_nodes.proofs.Ticks.{tick-kept, ticks-fit}
 use Rattle.node_core.specs.declared.inputs.Input.{Input}
 use Rattle.node_core.specs.declared.inputs.Input.TheVariants.{Message, Desk, Tick, Learn}
 use Rattle.node_core.specs.Nodes.{IsAnswerOf, IsNode, IsWritableInput, MayTake, NodeView, answer_to, node_of}
 
-pub answer-fits : (n : NodeView) (i : Input) → IsNode n → AnswerFits n.place n.state (IsWritableInput i) (answer_to n i)
-answer-fits n (Message u m) fits = messages-fit n.place n.state u m fits.place fits.state
-answer-fits n (Desk item) fits = items-fit n.place n.state item fits.place fits.state
-answer-fits n Tick fits = nothing-fits n.place n.state (Unit {0}) fits.state
-answer-fits n (Learn row) fits = learning-fits n.place n.state row fits.state
+pub answer-fits : (n : NodeView) (i : Input) → IsNode n → length n.state.calls ≤ 65536 →
+    AnswerFits n.place n.state (IsWritableInput i) (answer_to n i)
+answer-fits n (Message u m) fits few = messages-fit n.place n.state u m fits.place fits.state
+answer-fits n (Desk item) fits few = items-fit n.place n.state item fits.place fits.state
+answer-fits n Tick fits few = ticks-fit n.place n.state fits.state few
+answer-fits n (Learn row) fits few = learning-fits n.place n.state row fits.state
+
+kept-fits : (n : NodeView) (i : Input) → IsNode n → NodeFits n.place (changed n.state (answer_to n i))
+kept-fits n (Message u m) fits = (messages-fit n.place n.state u m fits.place fits.state).kept
+kept-fits n (Desk item) fits = (items-fit n.place n.state item fits.place fits.state).kept
+kept-fits n Tick fits = tick-kept n.place n.state fits.state
+kept-fits n (Learn row) fits = (learning-fits n.place n.state row fits.state).kept
 
 rows-fit : (n : NodeView) (i : Input) → IsNode n → MayTake n i → RowsFit n.place (changed n.state (answer_to n i))
 rows-fit n (Message u m) fits may =
     same-rows_fit n.place n.state (answer_to n (Message u m)) (message-learns_nothing n.place n.state u m) fits.rows
 rows-fit n (Desk item) fits may =
     same-rows_fit n.place n.state (answer_to n (Desk item)) (item-learns_nothing n.place n.state item) fits.rows
-rows-fit n Tick fits may = record { searchable = fits.rows.searchable; others = fits.rows.others }
+rows-fit n Tick fits may =
+    same-rows_fit n.place n.state (answer_to n Tick) (tick-learns_nothing n.place n.state) fits.rows
 rows-fit n (Learn row) fits may = rows-stay_fit n.place n.state row fits.rows may
 
 -- the node after an answer of it
@@ -50,7 +58,7 @@ pub answered-fits : (n : NodeView) (a : Answer) → IsNode n → IsAnswerOf n a 
     IsNode (record { place = n.place; state = changed n.state a })
 answered-fits n a fits (i, may, is) = record {
   place = fits.place;
-  state = subst (λ b. NodeFits n.place (changed n.state b)) (sym is) (answer-fits n i fits).kept;
+  state = subst (λ b. NodeFits n.place (changed n.state b)) (sym is) (kept-fits n i fits);
   rows = subst (λ b. RowsFit n.place (changed n.state b)) (sym is) (rows-fit n i fits may);
 }
 
@@ -62,7 +70,7 @@ answered-may n a fits live (i, may, is) = subst (λ b. MayBeMade n.place n.state
     by_input : (i : Input) → MayBeMade n.place n.state.legs (answer_to n i).legs
     by_input (Message u m) = message-may n.place n.state n.state.lsp u m fits.state.legs.each fits.state.calls.each live
     by_input (Desk item) = item-may n.place n.state n.state.lsp item fits.state.legs.each fits.state.calls.each
-    by_input Tick = tt
+    by_input Tick = tick-may n.place n.state n.state.lsp fits.state.legs.each fits.state.calls.each
     by_input (Learn row) =
         if_cases (λ b. MayBeMade n.place n.state.legs b.legs) (has_row (known_rows n.place n.state) row.link) nothing
         (learns row) (λ known. tt) (λ none. tt)

@@ -1,18 +1,21 @@
 -- What becomes of a leg by a message, and at the ingress what becomes of its call then.
-use Rattle.std.specs.Prelude.{ℕ, Bool, true, false, Option, Some, None, if◌then◌else◌}
+use Rattle.std.specs.Prelude.{◌≡◌, ℕ, Bool, true, false, Option, Some, None, if◌then◌else◌}
 use Rattle.ason_base.specs.declared.calls.Phase.TheVariants.{Held, Live}
 use Rattle.ason_base.specs.declared.codes.ErrCode.{ErrCode}
 use Rattle.ason_base.specs.declared.ids.Lsp.{Lsp}
 use Rattle.ason_base.specs.declared.ids.NodeId.{NodeId}
 use Rattle.ason_base.specs.declared.messages.Msg.{Msg}
+use Rattle.ason_base.specs.declared.messages.PathRole.{PathRole}
 use Rattle.ason_base.specs.declared.tables.Leg.{Leg}
 use Rattle.mesh_rules.specs.Changes.{Answer, followed_by, nothing}
 use Rattle.mesh_rules.specs.Legs.{connected, find_leg, is_armed, with_phase}
+use Rattle.mesh_rules.specs.Paths.{is_active}
 use Rattle.leg_table.specs.Tables.{CallTable, LegTable}
-use Rattle.activation.specs.Answers.{activate_answer, busy_answer, carries, connect_answer, contends}
+use Rattle.activation.specs.Answers.{activate_answer, busy_answer, carries, connect_answer, contends, take_back_answer}
 use Rattle.notify.specs.Answers.{pass_answer, reports}
 use Rattle.path_state.specs.Answers.{path_answer}
 use Rattle.resv_state.specs.Answers.{connects, path_err_answer, refuses, resv_answer}
+use Rattle.call_control.specs.GoingBack.{going_back, turned_by}
 use Rattle.call_control.specs.Rules.{answered_here, contended_here, refused_here, reported_here, turned_here}
 
 abbrev pub followed_if : Bool → Answer → Answer → Answer
@@ -20,13 +23,13 @@ followed_if b a after = if b then followed_by a after else a
 
 -- Paths
 
-abbrev pub path_at : LegTable → NodeId → Msg → Option Leg → Answer
-path_at t u m None = path_answer t u m
-path_at t u m (Some g) = activate_answer t u m
+abbrev pub path_at : LegTable → NodeId → PathRole → Msg → Option Leg → Answer
+path_at t u r m None = path_answer t u m
+path_at t u r m (Some g) = if is_active r then activate_answer t u m else take_back_answer t u m
 
--- a Path makes a leg where none of its LSP stands, and may activate the one that does
-abbrev pub path_followed : LegTable → NodeId → Lsp → Msg → Answer
-path_followed t u l m = path_at t u m (find_leg l t.legs)
+-- a Path makes a leg where none of its LSP stands, and may activate the one that does, or take its activation back
+abbrev pub path_followed : LegTable → NodeId → Lsp → PathRole → Msg → Answer
+path_followed t u l r m = path_at t u r m (find_leg l t.legs)
 
 -- Resvs
 
@@ -39,6 +42,11 @@ connection_followed t c u x m g =
 abbrev pub activation_followed : LegTable → CallTable → NodeId → Msg → Leg → Answer
 activation_followed t c u m g =
     followed_if (carries t u m) (connect_answer t u m) (turned_here c (with_phase Live g))
+
+-- by this message no call goes back at once, whose backup's leg here it activates
+abbrev pub StaysTurned : LegTable → CallTable → NodeId → Msg → Option Leg → Type 0
+StaysTurned t c u m None = Unit {0}
+StaysTurned t c u m (Some g) = carries t u m ≡ true → going_back (turned_by c g) ≡ None
 
 abbrev pub resv_at : LegTable → CallTable → NodeId → ℕ → Msg → Option Leg → Answer
 resv_at t c u x m None = nothing

@@ -1,47 +1,56 @@
 //! The rule of each message from a neighbour: what becomes of the leg of its LSP, and at the ingress
 //! what becomes of the call then.
 
-ghost use Rattle.std.specs.Prelude.{◌≡◌, IfOk, OnOk, Some};
+ghost use Rattle.std.specs.Prelude.{◌≡◌, IfOk, None, OnOk, Some};
 ghost use Rattle.std.specs.Option.{option_copied};
 ghost use Rattle.mesh_rules.specs.Changes.{followed_by};
 ghost use Rattle.mesh_rules.specs.Legs.{find_leg};
 ghost use Rattle.mesh_nodes.specs.LocalNodes.{LocalNodeFits};
 ghost use Rattle.leg_table.specs.Fits.{TablesFit};
 ghost use Rattle.leg_table.specs.States.{local_of};
+ghost use Rattle.call_control.specs.Handlers.{goes_back};
 ghost use Rattle.call_control.specs.Rules.{answered_here};
-ghost use Rattle.node_core.specs.Followed.{activation_followed, busy_followed, connection_followed, notice_followed, path_followed, removal_followed, resv_followed};
+ghost use Rattle.node_core.specs.Followed.{StaysTurned, activation_followed, busy_followed, connection_followed, notice_followed, path_followed, removal_followed, resv_followed};
 ghost use Rattle.node_core.specs.Rules.{CanSearch, message_here};
 
 use crate::routes::backup_beside;
 use crate::rules::NodeParts;
-use activation::{activate_change, busy_change, carries, connect_change, contends};
-use ason_base::{ErrCode, Label, Leg, Lsp, Msg, NodeId, OutOfMemory, Phase};
+use activation::{
+    activate_change, busy_change, carries, connect_change, contends, is_active, take_back_change,
+};
+use ason_base::{ErrCode, Label, Leg, Lsp, Msg, NodeId, OutOfMemory, PathRole, Phase};
 use call_control::{
-    answer_busy, answer_confirmed, answer_report, answer_resv, refuse_lsp, sought_by_resv,
+    answer_busy, answer_confirmed, answer_report, answer_resv, goes_back, refuse_lsp,
+    sought_by_resv,
 };
 use leg_table::one_leg::{connected, with_phase};
 use leg_table::{Calls, Change, NodeTables};
 use notify::{pass_change, reports};
 use path_state::{path_change, tear_change};
 use resv_state::{connects, path_err_change, refuses, resv_change};
+use reversion::go_back_change;
 use std::alloc::Global;
 
 // Paths
 
-// A Path makes a leg where none of its LSP stands, and may activate the one that does.
+// A Path makes a leg where none of its LSP stands, and may activate the one that does, or take its
+// activation back.
 fn on_path(
     alloc: Global,
     parts: &NodeParts<'_>,
     from: NodeId,
     lsp: Lsp,
+    role: &PathRole,
     msg: &Msg,
 ) -> Result<Change, OutOfMemory>
     requires tables { TablesFit parts.now.tables.now parts.now.owner.now parts.now.shares.now }
-    ensures { IfOk result (λ c. c ≡ path_followed parts.now.tables.now from lsp msg.now) }
+    ensures { IfOk result
+        (λ c. c ≡ path_followed parts.now.tables.now from lsp role.now msg.now) }
 {
     match parts.tables.get(&lsp) {
         None => path_change(alloc, parts.tables, parts.owner, parts.shares, from, msg),
-        Some(_) => activate_change(alloc, parts.tables, parts.owner, from, msg),
+        Some(_) if is_active(role) => activate_change(alloc, parts.tables, parts.owner, from, msg),
+        Some(_) => take_back_change(alloc, parts.tables, from, msg),
     }
 }
 
@@ -87,7 +96,7 @@ fn connect(
     Ok(change)
 }
 
-// A Resv at a leg that is Armed.
+// A Resv at a leg that is Armed, by which no call goes back.
 fn confirm(
     alloc: Global,
     parts: &NodeParts<'_>,
@@ -95,6 +104,7 @@ fn confirm(
     leg: &Leg,
     msg: &Msg,
 ) -> Result<Change, OutOfMemory>
+    requires { StaysTurned parts.now.tables.now parts.now.calls.now from msg.now (Some leg.now) }
     ensures { IfOk result (λ c. c
         ≡ activation_followed parts.now.tables.now parts.now.calls.now from msg.now leg.now) }
 {
@@ -116,6 +126,8 @@ fn on_resv(
 ) -> Result<Change, OutOfMemory>
     requires tables { TablesFit parts.now.tables.now parts.now.owner.now parts.now.shares.now }
     requires rows { CanSearch parts.now.tables.now }
+    requires stays { StaysTurned parts.now.tables.now parts.now.calls.now from msg.now
+        (find_leg lsp parts.now.tables.now.legs) }
     ensures { IfOk result (λ c. c
         ≡ resv_followed parts.now.tables.now parts.now.calls.now from lsp label msg.now) }
 {
@@ -178,6 +190,7 @@ fn on_notify(
     from: NodeId,
     msg: &Msg,
 ) -> Result<Change, OutOfMemory>
+    requires { goes_back parts.now.tables.now parts.now.calls.now from msg.now ≡ None }
     ensures { IfOk result (λ c. c
         ≡ notice_followed parts.now.tables.now parts.now.calls.now from msg.now) }
 {
@@ -189,8 +202,8 @@ fn on_notify(
     pass_change(alloc, parts.tables, from, msg)
 }
 
-/// What a message from a neighbour does to the leg of its LSP. At the ingress its call follows.
-pub(crate) fn on_message(
+// A message by which no call goes back.
+fn on_other_message(
     alloc: Global,
     parts: &NodeParts<'_>,
     from: NodeId,
@@ -198,11 +211,12 @@ pub(crate) fn on_message(
 ) -> Result<Change, OutOfMemory>
     requires tables { TablesFit parts.now.tables.now parts.now.owner.now parts.now.shares.now }
     requires rows { CanSearch parts.now.tables.now }
+    requires stays { goes_back parts.now.tables.now parts.now.calls.now from msg.now ≡ None }
     ensures { IfOk result
         (λ c. c ≡ message_here parts.now.tables.now parts.now.calls.now from msg.now) }
 {
     match msg {
-        Msg::Path { lsp, .. } => on_path(alloc, parts, from, *lsp, msg),
+        Msg::Path { lsp, role, .. } => on_path(alloc, parts, from, *lsp, role, msg),
         Msg::Resv { lsp, label, .. } => on_resv(alloc, parts, from, *lsp, *label, msg),
         Msg::PathTear { .. } => tear_change(alloc, parts.tables, from, msg),
         Msg::PathErr {
@@ -218,5 +232,23 @@ pub(crate) fn on_message(
             }
         }
         Msg::Notify { .. } => on_notify(alloc, parts, from, msg),
+    }
+}
+
+/// What a message from a neighbour does to the leg of its LSP. At the ingress its call follows.
+pub(crate) fn on_message(
+    alloc: Global,
+    parts: &NodeParts<'_>,
+    from: NodeId,
+    msg: &Msg,
+) -> Result<Change, OutOfMemory>
+    requires tables { TablesFit parts.now.tables.now parts.now.owner.now parts.now.shares.now }
+    requires rows { CanSearch parts.now.tables.now }
+    ensures { IfOk result
+        (λ c. c ≡ message_here parts.now.tables.now parts.now.calls.now from msg.now) }
+{
+    match goes_back(parts.tables, parts.calls, from, msg) {
+        Some(_) => go_back_change(alloc, parts.tables, parts.calls, from, msg),
+        None => on_other_message(alloc, parts, from, msg),
     }
 }

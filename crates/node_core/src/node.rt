@@ -70,14 +70,15 @@ impl Node {
         self.tables.node().id
     }
 
-    /// Law: the node knows its own links, what it keeps fits them, and routes can be asked of the
-    /// rows that it knows.
+    /// Law: the node knows its own links, what it keeps fits them, routes can be asked of the rows
+    /// that it knows, and at most 65,536 calls begin at it.
     pub fn fits(&self)
         ensures place { LocalNodeFits self.now.place }
         ensures state { NodeFits self.now.place self.now.state }
         ensures rows { RowsFit self.now.place self.now.state }
+        ensures few { length self.now.state.calls ≤ 65536 }
     {
-        let _tables = &self.tables;
+        let _count = self.calls.count();
     }
 
     /// Whether the node knows the link: as its own, or by a row that it learnt.

@@ -3,11 +3,10 @@
 ghost use Rattle.std.specs.Prelude.{◌≡◌, IfOk, OnOk};
 ghost use Rattle.std.specs.Option.{option_copied};
 ghost use Rattle.mesh_rules.specs.Changes.{followed_by};
-ghost use Rattle.mesh_rules.specs.Orders.{on_tick};
 ghost use Rattle.mesh_nodes.specs.LocalNodes.{LocalNodeFits};
 ghost use Rattle.mesh_nodes.specs.Routes.{AreSearchable};
 ghost use Rattle.leg_table.specs.Fits.{TablesFit};
-ghost use Rattle.leg_table.specs.States.{local_of, state_of};
+ghost use Rattle.leg_table.specs.States.{local_of};
 ghost use Rattle.call_control.specs.Rules.{answered_here, protect_here, setup_here};
 ghost use Rattle.call_control.specs.Searches.{IsBackupFor};
 ghost use Rattle.node_core.specs.Nodes.{answer_to, node_of};
@@ -21,6 +20,7 @@ use call_control::{SetupRequest, protect, release, retry, seeks_route, set_up, s
 use leg_table::{Calls, Change, NodeTables};
 use link_owner::Owner;
 use notify::{alarm_change, clear_change};
+use reversion::{revert_change, tick_change};
 use share_check::Shares;
 use std::alloc::Global;
 
@@ -105,9 +105,8 @@ fn on_order(
         Command::Release { call, from } => release(alloc, tables, calls, *call, *from),
         Command::Protect { call, from } => on_protect(alloc, tables, calls, *call, *from),
         Command::Retry { call, from } => retry(alloc, tables, calls, *call, *from),
-        Command::Revert { .. } | Command::Fail { .. } | Command::Repair { .. } => Ok(
-            Change::nothing(alloc),
-        ),
+        Command::Revert { call, from } => revert_change(alloc, tables, calls, *call, *from),
+        Command::Fail { .. } | Command::Repair { .. } => Ok(Change::nothing(alloc)),
     }
 }
 
@@ -127,13 +126,6 @@ fn on_item(
         DeskItem::Alarm(fibre) => alarm_change(alloc, tables, *fibre),
         DeskItem::Clear(fibre) => clear_change(alloc, tables, *fibre),
     }
-}
-
-// What a tick does.
-fn on_tick(alloc: Global, tables: &NodeTables, calls: &Calls) -> Change
-    ensures { result ≡ on_tick (local_of tables.now) (state_of tables.now calls.now) }
-{
-    Change::nothing(alloc)
 }
 
 // What a row of a link that a neighbour knows does: it is learnt, unless the link is known.
@@ -167,7 +159,7 @@ pub(crate) fn on_input(
     match input {
         Input::Message { from, msg } => on_message(alloc, parts, *from, msg),
         Input::Desk(item) => on_item(alloc, parts.tables, parts.calls, item),
-        Input::Tick => Ok(on_tick(alloc, parts.tables, parts.calls)),
+        Input::Tick => tick_change(alloc, parts.tables, parts.calls),
         Input::Learn(row) => on_row(alloc, parts.tables, parts.calls, row),
     }
 }

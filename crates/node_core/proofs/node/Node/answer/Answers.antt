@@ -27,7 +27,7 @@ fit c =
       state = c.fits.ensures.state;
       rows =
           c.fits.ensures.rows;
-    }))
+    }) c.fits.ensures.few)
 
 pub returns-clause-near : goal.returns-clause-near
 returns-clause-near c = (fit c).near
