@@ -24,7 +24,7 @@ use Rattle.hop_reliable.proofs.Members.{each-append}
 use Rattle.mesh_nodes.specs.Learnt.{MayLearn}
 use Rattle.mesh_nodes.specs.LocalNodes.{is_neighbour}
 use Rattle.mesh_nodes.specs.Routes.{IsElsewhere}
-use Rattle.mesh_nodes.proofs.LearnsNothing.{nothing-else}
+use Rattle.mesh_nodes.proofs.LearnsNothing.{nothing-else, tick-learns_nothing}
 use Rattle.mesh_rules.specs.Changes.{Answer, changed, learns, learnt_after, nothing}
 use Rattle.mesh_rules.specs.Events.{on_first}
 use Rattle.mesh_rules.specs.KnownRows.{has_row, known_rows}
@@ -320,7 +320,8 @@ fits-ticked n m f g fits node ticks =
     subst (λ (h : FloodState). FloodFits m.place m.state h) (sym ticks)
     (subst (λ (k : NodeView). FloodFits k.place k.state (flood.ticked f)) (sym node) (record {
       me = fits.me;
-      rows = fits.rows;
+      rows = fits.rows ∙ sym (ap (λ rows. known_rows n.place (record n.state { learnt = learnt_after rows n.state.learnt }))
+          (tick-learns_nothing n.place n.state));
       neighbours = ids-mapped older_neighbour (λ n. refl) f.neighbours ∙ fits.neighbours;
       due = due-mapped older_neighbour (λ n h. older-go n.due h) f.neighbours fits.due;
     }))

@@ -20,13 +20,15 @@ use Rattle.hop_reliable.specs.declared.unacked.Unacked.{Unacked}
 use Rattle.hop_reliable.specs.Hop.{HopState, answers_to, handed_up_of, is_acked, older, received, sent_message, still_unacked}
 use Rattle.mesh_nodes.proofs.Items.{items-fit}
 use Rattle.mesh_nodes.proofs.Messages.{messages-fit}
+use Rattle.mesh_nodes.proofs.Ticks.{ticks-fit}
 use Rattle.mesh_nodes.specs.Kept.{NodeFits}
 use Rattle.mesh_nodes.specs.LocalNodes.{LocalNodeFits, is_neighbour}
 use Rattle.mesh_nodes.specs.Sent.{AllToNeighbours, AllWritable, AnswerFits, CanBePassedOn}
 use Rattle.mesh_rules.specs.Changes.{Answer, nothing}
 use Rattle.mesh_rules.specs.Events.{on_first}
 use Rattle.mesh_rules.specs.LocalNodes.{LocalNode, local_node}
-use Rattle.mesh_rules.specs.Orders.{on_item, on_tick}
+use Rattle.mesh_rules.specs.Orders.{on_item}
+use Rattle.mesh_rules.specs.Waits.{on_tick}
 use Rattle.mesh_rules.specs.State.{NodeState}
 use Rattle.controller.specs.declared.adjacencies.Adjacency.{Adjacency}
 use Rattle.controller.specs.declared.frames.Frame.{Frame}
@@ -154,8 +156,8 @@ pub item-sent : (p : LocalNode) (s : NodeState) (i : DeskItem) → LocalNodeFits
     CanBeSent p (on_item p s i)
 item-sent p s i place fits = fits-sent p s (Unit {0}) (on_item p s i) (items-fit p s i place fits) tt
 
-pub tick-sent : (p : LocalNode) (s : NodeState) → CanBeSent p (on_tick p s)
-tick-sent p s = nothing-sent p
+pub tick-sent : (p : LocalNode) (s : NodeState) → NodeFits p s → length s.calls ≤ 65536 → CanBeSent p (on_tick p s)
+tick-sent p s fits few = fits-sent p s (Unit {0}) (on_tick p s) (ticks-fit p s fits few) tt
 
 pub heard-answered : (p : LocalNode) (s : NodeState) (u : NodeId) (v : Heard) (q : Packet) → LocalNodeFits p →
     NodeFits p s →

@@ -14,7 +14,8 @@ use Rattle.hop_reliable.specs.declared.heard.Heard.TheVariants.{Acked, Unnumbere
 use Rattle.hop_reliable.specs.Hop.{HopState, all_sent, handed_up_of, heard_as, received, taken, ticked}
 use Rattle.mesh_rules.specs.Changes.{changed}
 use Rattle.mesh_rules.specs.Events.{on_first}
-use Rattle.mesh_rules.specs.Orders.{on_item, on_tick}
+use Rattle.mesh_rules.specs.Orders.{on_item}
+use Rattle.mesh_rules.specs.Waits.{on_tick}
 use Rattle.node_core.specs.declared.inputs.Input.TheVariants as input
 use Rattle.node_core.specs.Nodes.{NodeView, stepped}
 use Rattle.controller.specs.declared.adjacencies.Adjacency.{Adjacency}

@@ -20,7 +20,8 @@ use Rattle.mesh_rules.specs.Changes.{Answer, changed}
 use Rattle.mesh_rules.specs.Events.{on_first}
 use Rattle.mesh_rules.specs.Learnt.{on_row}
 use Rattle.mesh_rules.specs.LocalNodes.{LocalNode}
-use Rattle.mesh_rules.specs.Orders.{on_item, on_tick}
+use Rattle.mesh_rules.specs.Orders.{on_item}
+use Rattle.mesh_rules.specs.Waits.{on_tick}
 use Rattle.mesh_rules.specs.State.{NodeState}
 use Rattle.node_core.specs.Nodes.{NodeView}
 use Rattle.controller.specs.declared.adjacencies.Adjacency.{Adjacency}

@@ -27,7 +27,8 @@ use Rattle.mesh.specs.declared.queues.Sent.{Sent}
 use Rattle.mesh_rules.specs.Changes.{Answer, changed, nothing}
 use Rattle.mesh_rules.specs.Learnt.{on_link, on_row}
 use Rattle.mesh_rules.specs.LocalNodes.{local_node}
-use Rattle.mesh_rules.specs.Orders.{on_item, on_tick}
+use Rattle.mesh_rules.specs.Orders.{on_item}
+use Rattle.mesh_rules.specs.Waits.{on_tick}
 use Rattle.mesh_rules.specs.Messages.{on_message}
 use Rattle.mesh_rules.specs.Machine.{Mesh, commit, sent_to, without_first, without_item, with_item}
 use Rattle.mesh_rules.specs.Events.{on_first, on_first_item, step}

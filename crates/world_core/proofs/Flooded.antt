@@ -27,7 +27,7 @@ use Rattle.mesh_rules.specs.Events.{on_first_item}
 use Rattle.mesh_rules.specs.KnownRows.{known_rows}
 use Rattle.mesh_rules.specs.LocalNodes.{LocalNode, local_node}
 use Rattle.mesh_rules.specs.Messages.{on_message}
-use Rattle.mesh_rules.specs.Orders.{on_tick}
+use Rattle.mesh_rules.specs.Waits.{on_tick}
 use Rattle.mesh_rules.specs.State.{NodeState}
 use Rattle.controller.specs.Controllers.{with_learnt}
 use Rattle.controller.proofs.Beginning.{own-are}
@@ -265,7 +265,8 @@ flooded-step others t w (Deliver d u k) f =
 flooded-step others t w (Noise d u bytes) f = flooded-event t w d.0 f
 flooded-step others t w (Tick n) f =
     let before : World = hops_ticked (with_event w n.0) n.0 in
-    flooded-commit t (floods_ticked before n.0) n.0 (on_tick (local_node t n) (w.nodes n.0)) refl
+    flooded-commit t (floods_ticked before n.0) n.0 (on_tick (local_node t n) (w.nodes n.0))
+    (others.2 (local_node t n) (w.nodes n.0))
     (flooded-ticked t before n (flooded-hops t (with_event w n.0) n.0 (flooded-event t w n.0 f)))
 flooded-step others t w (Desk n) f =
     flooded-commit t (without_item (with_event w n.0) n.0) n.0

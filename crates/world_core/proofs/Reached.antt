@@ -21,7 +21,7 @@ use Rattle.mesh_rules.specs.Events.{on_first_item}
 use Rattle.mesh_rules.specs.LocalNodes.{local_node}
 use Rattle.mesh_rules.specs.Machine.{sent_to}
 use Rattle.mesh_rules.specs.Messages.{on_message}
-use Rattle.mesh_rules.specs.Orders.{on_tick}
+use Rattle.mesh_rules.specs.Waits.{on_tick}
 use Rattle.world_core.specs.Worlds.{World, commit, delivered, flooded, floods_ticked, frame_at, handed_up, handled, hops_ticked, sends_all, start, taken, with_event}
 use Rattle.world_core.specs.Runs.{IsEnabled, IsRun, after, is_channel, may_act, posted, step, without_item}
 use Rattle.world_core.proofs.Channels.{HasPackets, IsMade, has-flooded, has-sent, has-taken, has-ticked, is-made}

@@ -28,7 +28,7 @@ use Rattle.mesh_rules.specs.LocalNodes.{local_node}
 use Rattle.mesh_rules.specs.Machine.{Mesh, sent_to}
 use Rattle.mesh_rules.specs.Machine as mesh
 use Rattle.mesh_rules.specs.Messages.{on_message}
-use Rattle.mesh_rules.specs.Orders.{on_tick}
+use Rattle.mesh_rules.specs.Waits.{on_tick}
 use Rattle.mesh_rules.specs.State.{NodeState}
 use Rattle.controller.specs.Controllers.{with_learnt}
 use Rattle.world_core.specs.Worlds.{World, commit, delivered, flooded, floods_ticked, frame_at, handed_up, handled, heard_at, hops_ticked, taken, with_event}

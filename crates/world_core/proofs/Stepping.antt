@@ -21,7 +21,8 @@ use Rattle.mesh_rules.specs.Events.{on_first, on_first_item}
 use Rattle.mesh_rules.specs.LocalNodes.{local_node}
 use Rattle.mesh_rules.specs.Machine.{sent_to}
 use Rattle.mesh_rules.specs.Messages.{on_message}
-use Rattle.mesh_rules.specs.Orders.{on_item, on_tick}
+use Rattle.mesh_rules.specs.Orders.{on_item}
+use Rattle.mesh_rules.specs.Waits.{on_tick}
 use Rattle.controller.specs.Adjacencies.{again_to, hop_at, packets_on}
 use Rattle.controller.specs.Controllers.{Meaning, acks_to, after_tick, carried, flood_after, floods_to, handled, heard_hops, took_flood, took_frame, with_learnt}
 use Rattle.controller.specs.Frames.{Sending}

@@ -15,7 +15,7 @@ use Rattle.mesh_rules.specs.Changes.{Answer}
 use Rattle.mesh_rules.specs.Events.{on_first_item}
 use Rattle.mesh_rules.specs.LocalNodes.{local_node}
 use Rattle.mesh_rules.specs.Messages.{on_message}
-use Rattle.mesh_rules.specs.Orders.{on_tick}
+use Rattle.mesh_rules.specs.Waits.{on_tick}
 use Rattle.world_core.specs.Worlds.{World, commit, delivered, floods_ticked, frame_at, handed_up, handled, hops_ticked, taken, with_event}
 use Rattle.world_core.specs.Runs.{posted, step, without_item}
 use Rattle.world_core.specs.Standing.{ChannelsJoinNeighbours, IsUntouched, OthersAreUntouched}

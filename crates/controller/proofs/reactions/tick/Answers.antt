@@ -4,7 +4,7 @@ use Rattle.flood.specs.State.{sent_at_tick}
 use Rattle.hop_reliable.proofs.Members.{each-append}
 use Rattle.hop_reliable.specs.Hop.{ticked}
 use Rattle.mesh_nodes.specs.LocalNodes.{is_neighbour}
-use Rattle.mesh_rules.specs.Orders.{on_tick}
+use Rattle.mesh_rules.specs.Waits.{on_tick}
 use Rattle.controller.specs.Adjacencies.{again_to, hop_at}
 use Rattle.controller.specs.Controllers.{floods_to}
 use Rattle.controller.specs.Frames.{Sending}
@@ -36,7 +36,7 @@ returns-clause-kept c = λ k kept.
     kept (λ d. refl)
     (λ d. older-again (hop_at c.args.adjacencies.now d).unacked (kept.again d))
     (λ d. older-waits (hop_at c.args.adjacencies.now d).unacked (hop_at c.args.adjacencies.now d).sent
-    (kept.waiting d)) (tick-sent c.args.node.now.place c.args.node.now.state)
+    (kept.waiting d)) (tick-sent c.args.node.now.place c.args.node.now.state c.fits.ensures.state c.fits.ensures.few)
     (ticked-made c.args.node.now c.give.new.node c.id-me.result c.args.adjacencies.now c.give.new.adjacencies
     c.age_all.new.adjacencies c.commit_all.new.adjacencies c.args.flood.now
     c.new-frames.result.items c.frame_due.new.frames.items c.frame_floods_due.new.frames.items c.give.new.frames.items
@@ -60,7 +60,7 @@ returns-clause-near c =
     (flat_map again_to c.args.adjacencies.now) (floods_to (sent_at_tick c.args.flood.now))
     (again-near c.args.node.now.place c.args.adjacencies.now c.requires.ready.near)
     (floods-near c.args.node.now.place c.args.flood.now c.requires.fits.neighbours))
-    (tick-sent c.args.node.now.place c.args.node.now.state)
+    (tick-sent c.args.node.now.place c.args.node.now.state c.fits.ensures.state c.fits.ensures.few)
     (ticked-made c.args.node.now c.give.new.node c.id-me.result c.args.adjacencies.now c.give.new.adjacencies
     c.age_all.new.adjacencies c.commit_all.new.adjacencies c.args.flood.now
     c.new-frames.result.items c.frame_due.new.frames.items c.frame_floods_due.new.frames.items c.give.new.frames.items
@@ -77,7 +77,7 @@ returns-clause-few c =
     (flat_map again_to c.args.adjacencies.now ++ floods_to (sent_at_tick c.args.flood.now)) c.give.new.frames.items
     (first-few c.args.node.now.place c.args.adjacencies.now c.args.flood.now c.requires.ready.waiting
     c.requires.ready.narrow c.requires.fits.neighbours c.counts.ensures)
-    (tick-sent c.args.node.now.place c.args.node.now.state)
+    (tick-sent c.args.node.now.place c.args.node.now.state c.fits.ensures.state c.fits.ensures.few)
     (ticked-made c.args.node.now c.give.new.node c.id-me.result c.args.adjacencies.now c.give.new.adjacencies
     c.age_all.new.adjacencies c.commit_all.new.adjacencies c.args.flood.now
     c.new-frames.result.items c.frame_due.new.frames.items c.frame_floods_due.new.frames.items c.give.new.frames.items
