@@ -214,6 +214,36 @@ const CONVERTING: &[Case] = &[
         &[],
         NOTHING,
     ),
+    // the activation of a backup is taken back before it has ended: no run of a mesh comes to it
+    (
+        B,
+        &[(
+            1,
+            1,
+            &[
+                Said::BackupOn(false),
+                Said::Resv(C, 2, 1),
+                Said::BackupOn(true),
+            ],
+        )],
+        &[(C, Told::BackupPath(2, 1))],
+        (1, Some(Phase::Armed), None),
+    ),
+    (
+        B,
+        &[(
+            1,
+            1,
+            &[
+                Said::BackupOn(false),
+                Said::Resv(C, 2, 1),
+                Said::BackupOn(true),
+                Said::BackupOn(false),
+            ],
+        )],
+        &[(C, Told::BackupPath(2, 1))],
+        (1, Some(Phase::Held), None),
+    ),
     (
         A,
         &[(1, 1, &[Said::Setup, Said::Resv(B, 1, 1), Said::Release])],

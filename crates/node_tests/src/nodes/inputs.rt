@@ -32,6 +32,9 @@ pub(super) enum Said {
     Path(NodeId, &'static [(u32, u32)], u8),
     /// A Path of a backup from a over link 1 to b, with one label: the route of its primary.
     BackupPath(&'static [(u32, u32)]),
+    /// A Path of a backup from a over b to c, with one label, whose primary goes over link 1; and
+    /// whether it activates.
+    BackupOn(bool),
     /// A Resv from this node over this link with this label.
     Resv(NodeId, u32, u8),
     /// The same for the backup in the tunnel of the first call.
@@ -143,22 +146,32 @@ fn path(
     Ok(Input::Message { from: A, msg })
 }
 
-fn backup_path(alloc: Global, number: u16, primary: &[(u32, u32)]) -> Result<Input, Fail> {
-    let primary = steps(alloc, primary)?;
+fn backup_path(lsp: Lsp, egress: NodeId, route: Steps, active: bool, primary: Steps) -> Input {
     let msg = Msg::Path {
-        lsp: lsp(number),
-        egress: B,
+        lsp,
+        egress,
         link: LinkId(1),
-        route: Steps::new(alloc),
+        route,
         set: labels(1),
         upstream: None,
         role: PathRole::Back {
-            active: false,
+            active,
             work: 1,
             primary,
         },
     };
-    Ok(Input::Message { from: A, msg })
+    Input::Message { from: A, msg }
+}
+
+fn backup_to_b(alloc: Global, number: u16, primary: &[(u32, u32)]) -> Result<Input, Fail> {
+    let primary = steps(alloc, primary)?;
+    Ok(backup_path(lsp(number), B, Steps::new(alloc), false, primary))
+}
+
+fn backup_on(alloc: Global, number: u16, active: bool) -> Result<Input, Fail> {
+    let route = steps(alloc, &[(2, 2)])?;
+    let primary = steps(alloc, &[(1, 1)])?;
+    Ok(backup_path(lsp(number), C, route, active, primary))
 }
 
 fn resv(lsp: Lsp, from: NodeId, link: u32, label: u8) -> Result<Input, Fail> {
@@ -202,7 +215,8 @@ pub(super) fn input(alloc: Global, number: u16, said: Said) -> Result<Input, Fai
         Said::Protect(call) => Ok(protect(call)),
         Said::Release => Ok(release(number)),
         Said::Path(egress, hops, count) => path(alloc, number, egress, hops, count),
-        Said::BackupPath(primary) => backup_path(alloc, number, primary),
+        Said::BackupPath(primary) => backup_to_b(alloc, number, primary),
+        Said::BackupOn(active) => backup_on(alloc, number, active),
         Said::Resv(from, link, label) => resv(lsp(number), from, link, label),
         Said::BackupResv(from, link, label) => resv(backup_lsp(number), from, link, label),
         Said::PathErr(from, code) => Ok(path_err(lsp(number), from, code)),
