@@ -87,7 +87,7 @@ class IndexTest(unittest.TestCase):
         text = (TOP / "docs/machine.md").read_text()
         rules = {**sections(sections(text, "##")["Messages"], "###"), "Commands": sections(text, "##")["Commands"]}
         rules |= dict(re.findall(r"^\*\*(Setup|Release|Alarm and Clear)\*\*((?:(?!^\*\*(?!In the)|^## ).*\n)*)", text, re.MULTILINE))
-        self.assertEqual(len(rules), 10)
+        self.assertEqual(len(rules), 11)
         for rule, says in rules.items():
             with self.subTest(rule=rule):
                 self.assertIn(INDEX + ":**", says)
