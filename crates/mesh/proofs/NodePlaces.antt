@@ -9,7 +9,7 @@ use Rattle.ason_base.specs.Network.{IsTopology, Network}
 use Rattle.ason_base.proofs.Ordered.{contains-none}
 use Rattle.mesh_rules.specs.LocalNodes.{local_node}
 use Rattle.mesh_nodes.specs.Routes.{AreRowsOf}
-use Rattle.mesh_nodes.proofs.LearnsNothing.{item-learns_nothing, message-learns_nothing}
+use Rattle.mesh_nodes.proofs.LearnsNothing.{item-learns_nothing, message-learns_nothing, tick-learns_nothing}
 use Rattle.mesh_nodes.proofs.routes.Learnt.{learnt-stay_true, network-rows-may, same-rows_true}
 use Rattle.node_core.specs.declared.inputs.Input.{Input}
 use Rattle.node_core.specs.declared.inputs.Input.TheVariants.{Message, Desk, Tick, Learn}
@@ -235,7 +235,9 @@ rows-after s n (Message u m) all may =
 rows-after s n (Desk item) all may =
     same-rows_true s.network (state_at n.0 s.nodes) (answer_to (node_at s n) (Desk item))
     (item-learns_nothing (local_node s.network n) (state_at n.0 s.nodes) item) (learnt-at s.network n.0 s.nodes all)
-rows-after s n Tick all may = learnt-at s.network n.0 s.nodes all
+rows-after s n Tick all may =
+    same-rows_true s.network (state_at n.0 s.nodes) (answer_to (node_at s n) Tick)
+    (tick-learns_nothing (local_node s.network n) (state_at n.0 s.nodes)) (learnt-at s.network n.0 s.nodes all)
 rows-after s n (Learn row) all may =
     learnt-stay_true s.network (local_node s.network n) (state_at n.0 s.nodes) row
     (learnt-at s.network n.0 s.nodes all) may
