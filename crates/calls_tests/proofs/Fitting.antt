@@ -36,7 +36,7 @@ use Rattle.resv_state.specs.Answers as resvs
 use Rattle.activation.specs.Answers.{after_busy, after_connect, carries, carries_leg, contends, contends_leg}
 use Rattle.activation.specs.Answers as activations
 use Rattle.notify.specs.Answers.{reports, reports_leg}
-use Rattle.call_control.specs.Handlers.{WereBefore, begins_at, sought_by_command, takes_err, takes_notify, takes_resv}
+use Rattle.call_control.specs.Handlers.{WereBefore, begins_at, goes_back, sought_by_command, takes_err, takes_notify, takes_resv}
 use Rattle.call_control.specs.Ingress.{IngressFits}
 use Rattle.call_control.specs.Searches.{IsBackupFor}
 use Rattle.calls_tests.specs.Orders.{IsUnrouted}
@@ -62,6 +62,11 @@ owner-fits t o s c fits node =
     }
 
 -- Routes
+
+-- none is there
+pub none-there : {X : Type 0} (o : Option X) → is_some o ≡ false → o ≡ None
+none-there None e = refl
+none-there (Some x) e = absurd (cc e)
 
 -- of a setup over a route that is given none is sought
 pub none-asked : (new here : Bool) → (new && (here && false)) ≡ true → ⊥
@@ -118,10 +123,10 @@ module _ (t after : LegTable) (c : CallTable) (u : NodeId) (fits : IngressFits t
       ap (λ b. cond b (answered p s a x g (previous g)) nothing) expected
       ∙ sym (ap (λ b. cond b (answered p s a x g (previous g)) (resv_again s a x g)) expected)
 
-  pub before-resv : (m : Msg) → connects t u m ≡ true → after ≡ after_resv t u m →
+  pub before-resv : (m : Msg) → connects t u m ≡ true → goes_back t c u m ≡ None → after ≡ after_resv t u m →
       (b : LegTable) × WereBefore after c u m b
-  before-resv (Path l e k route set up r) applies is = absurd (cc applies)
-  before-resv (Resv l e k x) applies is =
+  before-resv (Path l e k route set up r) applies none is = absurd (cc applies)
+  before-resv (Resv l e k x) applies none is =
       let a = arrival l e u k in (
         t,
         record {
@@ -130,11 +135,12 @@ module _ (t after : LegTable) (c : CallTable) (u : NodeId) (fits : IngressFits t
             after = is ∙ ap (legs_after t) (connects-rule a x (find_leg l t.legs) applies);
           };
           fits = fits;
+          none_back = none;
         },
       )
-  before-resv (PathTear l e k) applies is = absurd (cc applies)
-  before-resv (PathErr l e at gone code) applies is = absurd (cc applies)
-  before-resv (Notify l e at k code) applies is = absurd (cc applies)
+  before-resv (PathTear l e k) applies none is = absurd (cc applies)
+  before-resv (PathErr l e at gone code) applies none is = absurd (cc applies)
+  before-resv (Notify l e at k code) applies none is = absurd (cc applies)
 
   carries-taken : (a : Arrival) (x : ℕ) (o : Option Leg) → carries_leg a x o ≡ true → takes_resv a x o ≡ true
   carries-taken a x None e = absurd (cc e)
@@ -151,10 +157,10 @@ module _ (t after : LegTable) (c : CallTable) (u : NodeId) (fits : IngressFits t
       sym (ap (λ b. cond (b && (is_over (following g) a.from a.link && has g.sent x)) (answered p s a x g (previous g))
       (resv_again s a x g)) (armed-waits g.phase armed))
 
-  pub before-confirmation : (m : Msg) → carries t u m ≡ true → after ≡ after_connect t u m →
-      (b : LegTable) × WereBefore after c u m b
-  before-confirmation (Path l e k route set up r) applies is = absurd (cc applies)
-  before-confirmation (Resv l e k x) applies is =
+  pub before-confirmation : (m : Msg) → carries t u m ≡ true → goes_back t c u m ≡ None →
+      after ≡ after_connect t u m → (b : LegTable) × WereBefore after c u m b
+  before-confirmation (Path l e k route set up r) applies none is = absurd (cc applies)
+  before-confirmation (Resv l e k x) applies none is =
       let a = arrival l e u k in (
         t,
         record {
@@ -163,11 +169,12 @@ module _ (t after : LegTable) (c : CallTable) (u : NodeId) (fits : IngressFits t
             after = is ∙ ap (legs_after t) (carries-rule a x (find_leg l t.legs) applies);
           };
           fits = fits;
+          none_back = none;
         },
       )
-  before-confirmation (PathTear l e k) applies is = absurd (cc applies)
-  before-confirmation (PathErr l e at gone code) applies is = absurd (cc applies)
-  before-confirmation (Notify l e at k code) applies is = absurd (cc applies)
+  before-confirmation (PathTear l e k) applies none is = absurd (cc applies)
+  before-confirmation (PathErr l e at gone code) applies none is = absurd (cc applies)
+  before-confirmation (Notify l e at k code) applies none is = absurd (cc applies)
 
   -- PathErrs
 
@@ -202,6 +209,7 @@ module _ (t after : LegTable) (c : CallTable) (u : NodeId) (fits : IngressFits t
             after = is ∙ ap (legs_after t) (refuses-rule f (find_leg l t.legs) refl applies);
           };
           fits = fits;
+          none_back = refl;
         },
       )
 
@@ -232,6 +240,7 @@ module _ (t after : LegTable) (c : CallTable) (u : NodeId) (fits : IngressFits t
             after = is ∙ ap (legs_after t) (contends-rule f (find_leg l t.legs) refl);
           };
           fits = fits;
+          none_back = refl;
         },
       )
 
@@ -249,15 +258,16 @@ module _ (t after : LegTable) (c : CallTable) (u : NodeId) (fits : IngressFits t
       (both_left (not (is_closing g.phase)) _ told) ∙ from
 
 pub before-notify : (t : LegTable) (c : CallTable) (u : NodeId) (m : Msg) → IngressFits t c → reports t u m ≡ true →
-    (b : LegTable) × WereBefore t c u m b
-before-notify t c u (Path l e k route set up r) fits applies = absurd (cc applies)
-before-notify t c u (Resv l e k x) fits applies = absurd (cc applies)
-before-notify t c u (PathTear l e k) fits applies = absurd (cc applies)
-before-notify t c u (PathErr l e at gone code) fits applies = absurd (cc applies)
-before-notify t c u (Notify l e at k code) fits applies = (
+    goes_back t c u m ≡ None → (b : LegTable) × WereBefore t c u m b
+before-notify t c u (Path l e k route set up r) fits applies none = absurd (cc applies)
+before-notify t c u (Resv l e k x) fits applies none = absurd (cc applies)
+before-notify t c u (PathTear l e k) fits applies none = absurd (cc applies)
+before-notify t c u (PathErr l e at gone code) fits applies none = absurd (cc applies)
+before-notify t c u (Notify l e at k code) fits applies none = (
   t,
   record {
     leg = record { applies = reports-taken t t c u fits code (find_leg l t.legs) applies; after = refl };
     fits = fits;
+    none_back = none;
   },
 )

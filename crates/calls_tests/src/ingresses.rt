@@ -8,12 +8,13 @@ use ason_base::{
     CallNo, CallState, Command, ErrCode, Label, LinkId, LinkSpec, Lsp, Msg, NodeId, NodeSpec,
     Numbers, Outs, PathRole, Step, Steps, Topology,
 };
-use call_control::{answer, command, laws, setup, sought_by_answer};
+use call_control::{answer, command, goes_back, laws, setup, sought_by_answer};
 use leg_table::laws::at_start;
 use leg_table::{Calls, NodeTables};
 use link_owner::Owner;
 use notify::reports;
 use resv_state::{connects, path_err, refuses, resv};
+use reversion::{go_back, revert, tick};
 use share_check::Shares;
 use std::alloc::Global;
 use std::marker::Model;
@@ -38,6 +39,9 @@ pub(crate) const BACK: Lsp = Lsp {
     tunnel: 1,
     lsp: 2,
 };
+
+/// The ticks that the network waits to restore a call.
+const WAIT: u32 = 2;
 
 const WORK_LINK: LinkId = LinkId(1);
 
@@ -77,7 +81,7 @@ fn two_links(alloc: Global) -> Result<Topology, Fail> {
         srlgs: Numbers::new(alloc),
     };
     let links = [link(WORK_LINK), link(BACK_LINK)];
-    Ok(Topology::new(alloc, 0, &[node(A), node(B)], &links)?)
+    Ok(Topology::new(alloc, WAIT, &[node(A), node(B)], &links)?)
 }
 
 pub(crate) fn start(alloc: Global) -> Result<Ingress, Fail> {
@@ -180,6 +184,9 @@ pub(crate) fn take_resv(
     if !connects(&tables, B, msg) {
         return Err(Fail::new("a Resv that no leg takes"));
     }
+    if goes_back(&tables, &calls, B, msg).is_some() {
+        return Err(Fail::new("a call goes back"));
+    }
     let _none = resv(alloc, &mut tables, &mut owner, &mut shares, B, msg)?;
     if sought_by_answer(&tables, &calls, msg).is_some() {
         return Err(Fail::new("a backup route is sought"));
@@ -210,6 +217,9 @@ pub(crate) fn take_confirmation(
     } = ingress;
     if !carries(&tables, B, msg) {
         return Err(Fail::new("a Resv that no leg takes"));
+    }
+    if goes_back(&tables, &calls, B, msg).is_some() {
+        return Err(Fail::new("a call goes back"));
     }
     let _none = connect(alloc, &mut tables, &mut owner, B, msg)?;
     if sought_by_answer(&tables, &calls, msg).is_some() {
@@ -296,17 +306,81 @@ pub(crate) fn take_notify(
         shares,
         mut calls,
     } = ingress;
-    let msg = Msg::Notify {
-        lsp,
-        egress: B,
-        at: B,
-        link: link_of(lsp),
-        code,
-    };
+    let msg = notify_for(lsp, code);
     if !reports(&tables, B, &msg) {
         return Err(Fail::new("a Notify that no leg takes"));
     }
+    if goes_back(&tables, &calls, B, &msg).is_some() {
+        return Err(Fail::new("a call goes back"));
+    }
     let sent = answer(alloc, &mut tables, &mut calls, B, &msg, None)?;
+    Ok((
+        Ingress {
+            tables,
+            owner,
+            shares,
+            calls,
+        },
+        sent,
+    ))
+}
+
+/// A Resv or a Notify of b by which a call goes back.
+pub(crate) fn take_back(
+    alloc: Global,
+    ingress: Ingress,
+    msg: &Msg,
+) -> Result<(Ingress, Outs), Fail> {
+    let Ingress {
+        mut tables,
+        mut owner,
+        shares,
+        mut calls,
+    } = ingress;
+    if goes_back(&tables, &calls, B, msg).is_none() {
+        return Err(Fail::new("no call goes back"));
+    }
+    let sent = go_back(alloc, &mut tables, &mut owner, &mut calls, B, msg)?;
+    Ok((
+        Ingress {
+            tables,
+            owner,
+            shares,
+            calls,
+        },
+        sent,
+    ))
+}
+
+/// The order to go back.
+pub(crate) fn order_back(alloc: Global, ingress: Ingress) -> Result<(Ingress, Outs), Fail> {
+    let Ingress {
+        mut tables,
+        mut owner,
+        shares,
+        mut calls,
+    } = ingress;
+    let sent = revert(alloc, &mut tables, &mut owner, &mut calls, CALL)?;
+    Ok((
+        Ingress {
+            tables,
+            owner,
+            shares,
+            calls,
+        },
+        sent,
+    ))
+}
+
+/// One tick.
+pub(crate) fn wait_a_tick(alloc: Global, ingress: Ingress) -> Result<(Ingress, Outs), Fail> {
+    let Ingress {
+        mut tables,
+        mut owner,
+        shares,
+        mut calls,
+    } = ingress;
+    let sent = tick(alloc, &mut tables, &mut owner, &mut calls)?;
     Ok((
         Ingress {
             tables,
@@ -332,6 +406,17 @@ pub(crate) fn resv_for(lsp: Lsp) -> Result<Msg, Fail> {
         link: link_of(lsp),
         label: Label::new(2).ok_or("a label")?,
     })
+}
+
+/// The Notify of b that its fibre in of this LSP went down or came up.
+pub(crate) fn notify_for(lsp: Lsp, code: ErrCode) -> Msg {
+    Msg::Notify {
+        lsp,
+        egress: B,
+        at: B,
+        link: link_of(lsp),
+        code,
+    }
 }
 
 /// What a message tells.
