@@ -35,7 +35,7 @@ use Rattle.mesh_rules.specs.Learnt.{on_link}
 use Rattle.mesh_rules.specs.Legs.{is_in_use}
 use Rattle.mesh_rules.specs.LocalNodes.{local_node}
 use Rattle.mesh_rules.specs.Machine.{Mesh, start}
-use Rattle.mesh_rules.specs.Orders.{on_tick}
+use Rattle.mesh_rules.specs.Waits.{on_tick}
 use Rattle.mesh_rules.specs.Paths.{is_active}
 use Rattle.mesh_rules.specs.Reports.{same_code}
 use Rattle.mesh_rules.specs.State.{NodeState}
@@ -185,7 +185,7 @@ is_refusal (Notify l e at k code) = false
 abbrev pub sent_in : Network → Mesh → MeshEvent → List Out
 sent_in t s (Take d u) = (on_first (local_node t d) (s.nodes d.0) u (s.mail u.0 d.0)).sent
 sent_in t s (Desk n) = (on_first_item (local_node t n) (s.nodes n.0) (s.desks n.0)).sent
-sent_in t s (Tick n) = (on_tick (local_node t n) (s.nodes n.0)).sent
+sent_in t s (Tick n) = (on_tick t.wait (s.nodes n.0)).sent
 sent_in t s (Learn n k) = (on_link (local_node t n) (s.nodes n.0) (find_link t k)).sent
 sent_in t s (Post c) = []
 

@@ -4,7 +4,7 @@ use Rattle.std.specs.Prelude.{ℕ, ◌&&◌, Bool, true, false, List, [], ◌∷
 use Rattle.ason_base.specs.Codes.{busy_code}
 use Rattle.ason_base.specs.declared.ids.Fibre.{Fibre}
 use Rattle.ason_base.specs.declared.ids.NodeId.{NodeId}
-use Rattle.ason_base.specs.declared.calls.Phase.TheVariants.{Armed, Live}
+use Rattle.ason_base.specs.declared.calls.Phase.TheVariants.{Armed, Held, Live}
 use Rattle.ason_base.specs.declared.messages.Msg.TheVariants.{Path, Resv, PathErr}
 use Rattle.ason_base.specs.declared.messages.PathRole.{PathRole}
 use Rattle.ason_base.specs.declared.messages.PathRole.TheVariants.{Work, Back}
@@ -16,7 +16,7 @@ use Rattle.mesh_rules.specs.declared.neighbours.Neighbour.{Neighbour}
 use Rattle.mesh_rules.specs.State.{NodeState}
 use Rattle.mesh_rules.specs.Changes.{Answer, nothing, sends, puts, to_node}
 use Rattle.mesh_rules.specs.LocalNodes.{LocalNode}
-use Rattle.mesh_rules.specs.Legs.{following, is_busy, is_held, is_over, previous, with_phase}
+use Rattle.mesh_rules.specs.Legs.{following, is_busy, is_held, is_in_use, is_over, previous, with_phase}
 
 -- Messages
 
@@ -53,10 +53,24 @@ activated p s a route r g =
     if is_contended s.legs g g.in_fibre g.in_label then sends (busy_to p g a.from ∷ [])
     else armed_on g route r (following g)
 
--- A Held leg is activated from its previous node. All else changes nothing.
+-- Taking back
+
+-- the Path that takes the activation back goes on as it came; at the egress none does
+abbrev pub taken_on : Leg → List Step → PathRole → Option Neighbour → List Out
+taken_on g route r None = []
+taken_on g route r (Some h) = path_to g route r h ∷ []
+
+-- the leg is Held again
+abbrev pub taken_back : Leg → List Step → PathRole → Answer
+taken_back g route r = puts (with_phase Held g) (taken_on g route r (following g))
+
+-- From its previous node a Held leg is activated, and the activation of a backup's leg that is Armed or Live is taken back.
+-- All else changes nothing.
 abbrev pub path_again : LocalNode → NodeState → Arrival → List Step → PathRole → Leg → Answer
 path_again p s a route (Work guard) g = nothing
 path_again p s a route (Back true work primary) g =
     if is_held g.phase && is_over (previous g) a.from a.link then activated p s a route (Back true work primary) g
     else nothing
-path_again p s a route (Back false work primary) g = nothing
+path_again p s a route (Back false work primary) g =
+    if is_in_use g.phase && is_over (previous g) a.from a.link then taken_back g route (Back false work primary)
+    else nothing

@@ -67,6 +67,10 @@ abbrev pub is_turning : CallState → Bool
 is_turning Turning = true
 is_turning _ = false
 
+abbrev pub is_turned : CallState → Bool
+is_turned Turned = true
+is_turned _ = false
+
 abbrev pub is_stuck : CallState → Bool
 is_stuck Stuck = true
 is_stuck _ = false

@@ -23,7 +23,8 @@ use Rattle.mesh_rules.specs.KnownRows.{has_row, known_rows}
 use Rattle.mesh_rules.specs.Learnt.{on_link}
 use Rattle.mesh_rules.specs.LocalNodes.{LocalNode, local_node}
 use Rattle.mesh_rules.specs.Messages.{on_message}
-use Rattle.mesh_rules.specs.Orders.{on_item, on_tick}
+use Rattle.mesh_rules.specs.Orders.{on_item}
+use Rattle.mesh_rules.specs.Waits.{on_tick}
 use Rattle.mesh_rules.specs.Commands.{is_valid, is_again}
 use Rattle.mesh_rules.specs.Machine.{Mesh, commit, without_first, without_item, with_item, with_posted}
 
@@ -75,7 +76,7 @@ posted t s (Repair g) = with_failed t s (without_group g s.failed)
 abbrev pub step : Network → Mesh → MeshEvent → Mesh
 step t s (Take d u) = commit (without_first s u.0 d.0) d.0 (on_first (local_node t d) (s.nodes d.0) u (s.mail u.0 d.0))
 step t s (Desk n) = commit (without_item s n.0) n.0 (on_first_item (local_node t n) (s.nodes n.0) (s.desks n.0))
-step t s (Tick n) = commit s n.0 (on_tick (local_node t n) (s.nodes n.0))
+step t s (Tick n) = commit s n.0 (on_tick t.wait (s.nodes n.0))
 step t s (Learn n k) = commit s n.0 (on_link (local_node t n) (s.nodes n.0) (find_link t k))
 step t s (Post c) = posted t s c
 
@@ -115,7 +116,7 @@ sent_at_ingress t s (Take d u) l = if d.0 == l.ingress.0
     then (on_first (local_node t d) (s.nodes d.0) u (s.mail u.0 d.0)).sent else []
 sent_at_ingress t s (Desk n) l = if n.0 == l.ingress.0
     then (on_first_item (local_node t n) (s.nodes n.0) (s.desks n.0)).sent else []
-sent_at_ingress t s (Tick n) l = if n.0 == l.ingress.0 then (on_tick (local_node t n) (s.nodes n.0)).sent else []
+sent_at_ingress t s (Tick n) l = if n.0 == l.ingress.0 then (on_tick t.wait (s.nodes n.0)).sent else []
 sent_at_ingress t s (Learn n k) l = []
 sent_at_ingress t s (Post c) l = []
 

@@ -26,8 +26,10 @@ pub mod Releases
 pub mod Reports
 pub mod Resvs
 pub mod Retries
+pub mod Reverts
 pub mod Rows
 pub mod Setups
 pub mod State
 pub mod Tears
 pub mod Turns
+pub mod Waits

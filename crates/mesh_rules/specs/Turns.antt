@@ -3,9 +3,9 @@
 use Rattle.std.specs.Prelude.{Bool, true, false, List, [], ◌∷◌, Option, Some, None, if◌then◌else◌}
 use Rattle.ason_base.specs.declared.ids.Fibre.{Fibre}
 use Rattle.ason_base.specs.declared.calls.CallState.{CallState}
-use Rattle.ason_base.specs.declared.calls.CallState.TheVariants.{Guarded, Stuck}
+use Rattle.ason_base.specs.declared.calls.CallState.TheVariants.{Guarded, Stuck, Turned}
 use Rattle.ason_base.specs.declared.calls.Cause.TheVariants.{BackDown}
-use Rattle.ason_base.specs.declared.calls.Phase.TheVariants.{Armed}
+use Rattle.ason_base.specs.declared.calls.Phase.TheVariants.{Armed, Held}
 use Rattle.ason_base.specs.declared.messages.PathRole.{PathRole}
 use Rattle.ason_base.specs.declared.messages.PathRole.TheVariants.{Work, Back}
 use Rattle.ason_base.specs.declared.tables.CallRec.{CallRec}
@@ -17,7 +17,7 @@ use Rattle.mesh_rules.specs.declared.neighbours.Neighbour.{Neighbour}
 use Rattle.mesh_rules.specs.Activations.{path_to}
 use Rattle.mesh_rules.specs.Calls.{guarded, stuck, turning}
 use Rattle.mesh_rules.specs.Changes.{Answer, nothing, changes_calls}
-use Rattle.mesh_rules.specs.Legs.{following, is_held, with_phase}
+use Rattle.mesh_rules.specs.Legs.{following, is_held, is_in_use, with_phase}
 
 abbrev pub call_put : CallRec → Answer
 call_put c = changes_calls (call.Put c ∷ [])
@@ -47,6 +47,31 @@ abbrev pub turn : CallRec → Option Leg → Answer
 turn c None = call_put c
 turn c (Some b) = if is_held b.phase then arms c b else call_put c
 
+-- Going back
+
+-- the role of a Path that takes an activation back
+abbrev pub taking_back : PathRole → PathRole
+taking_back (Work guard) = Work guard
+taking_back (Back active work primary) = Back false work primary
+
+abbrev pub taking_path : Leg → Option Neighbour → List Out
+taking_path b None = []
+taking_path b (Some h) = path_to b b.route (taking_back b.path_role) h ∷ []
+
+-- the backup is Held here, and its Path goes out to take the activation back; nothing is decided then, since there are no
+-- working reports
+abbrev pub disarms : CallRec → Leg → Answer
+disarms c b = record nothing {
+  legs = leg.Put (with_phase Held b) ∷ [];
+  calls = call.Put (guarded c) ∷ [];
+  sent = taking_path b (following b);
+}
+
+-- a backup that isn't Live can't be left
+abbrev pub go_back : CallRec → Option Leg → Answer
+go_back c None = call_put c
+go_back c (Some b) = if is_in_use b.phase then disarms c b else call_put c
+
 -- Decisions
 
 abbrev pub has_any : List Fibre → Bool
@@ -57,6 +82,7 @@ has_any (f ∷ fibres) = true
 abbrev pub decided : CallRec → Option Leg → CallState → Bool → Bool → Answer
 decided c b Guarded true false = turn c b
 decided c b Guarded true true = call_put (stuck c BackDown)
+decided c b Turned false true = go_back c b
 decided c b Stuck false backs = call_put (guarded c)
 decided c b state works backs = call_put c
 
