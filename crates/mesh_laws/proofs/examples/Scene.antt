@@ -178,3 +178,8 @@ seen t s = record {
   down = map (λ n. length (s.nodes n.id.0).down) t.nodes;
   mail = map (λ l. (length (s.mail l.low.0 l.high.0), length (s.mail l.high.0 l.low.0))) t.links;
 }
+
+-- a call that waits, after so many ticks
+abbrev pub waiting : ℕ → CallState → Cause → ℕ → ℕ → ℕ → SeenCall
+waiting number state cause works backs ticks =
+    record { number = number; state = state; cause = cause; work_reports = works; back_reports = backs; ticks = ticks }
