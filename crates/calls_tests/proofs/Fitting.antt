@@ -8,7 +8,6 @@ use Rattle.ason_base.specs.declared.calls.Phase.TheVariants.{Asked, Held, Armed,
 use Rattle.ason_base.specs.declared.codes.ErrCode.{ErrCode}
 use Rattle.ason_base.specs.declared.commands.Command.{Command}
 use Rattle.ason_base.specs.declared.commands.Command.TheVariants.{Setup, Release, Protect, Retry, Revert, Fail, Repair}
-use Rattle.ason_base.specs.declared.ids.Lsp.{Lsp}
 use Rattle.ason_base.specs.declared.ids.NodeId.{NodeId}
 use Rattle.ason_base.specs.declared.messages.Msg.{Msg}
 use Rattle.ason_base.specs.declared.messages.Msg.TheVariants.{Path, Resv, PathTear, PathErr, Notify}
@@ -28,7 +27,6 @@ use Rattle.mesh_rules.specs.Resvs.{answered, is_expected, resv_with}
 use Rattle.mesh_rules.specs.State.{NodeState, new_node}
 use Rattle.mesh_nodes.proofs.Cases.{both_left, both_right}
 use Rattle.leg_table.specs.Fits.{TablesFit, TablesFitOwner, legs_after}
-use Rattle.leg_table.specs.LegClaims.{AreOfOneNode}
 use Rattle.leg_table.specs.States.{legs_state, local_of}
 use Rattle.leg_table.specs.Tables.{CallTable, LegTable}
 use Rattle.resv_state.specs.Answers.{after_path_err, after_resv, connects, connects_leg, refuses, refuses_leg}
@@ -36,29 +34,30 @@ use Rattle.resv_state.specs.Answers as resvs
 use Rattle.activation.specs.Answers.{after_busy, after_connect, carries, carries_leg, contends, contends_leg}
 use Rattle.activation.specs.Answers as activations
 use Rattle.notify.specs.Answers.{reports, reports_leg}
-use Rattle.call_control.specs.Handlers.{WereBefore, begins_at, goes_back, sought_by_command, takes_err, takes_notify, takes_resv}
+use Rattle.call_control.specs.Handlers.{IsRouteOf, begins_at, goes_back, sought_by_command, takes_err, takes_notify, takes_resv}
 use Rattle.call_control.specs.Ingress.{IngressFits}
 use Rattle.call_control.specs.Searches.{IsBackupFor}
-use Rattle.calls_tests.specs.Orders.{IsUnrouted}
+use Rattle.calls_tests.specs.Ingresses.{IsAtLeg, IsIngress}
+use Rattle.calls_tests.specs.Orders.{HasRoute, IsUnrouted}
 
-pub tables-fit : (t : LegTable) (o : List FibreClaims) (s : List Guard) (c : CallTable) → IngressFits t c →
-    AreOfOneNode t o s → TablesFit t o s
-tables-fit t o s c fits node =
-    let first = fits.kept.first in
-    let numbers = fits.kept.numbers in
-    record { links = fits.links; legs = (c.lsp, omega arith, fits.kept.legs); node = node }
+pub tables-fit : (t : LegTable) (o : List FibreClaims) (s : List Guard) (c : CallTable) → IsIngress t o s c →
+    TablesFit t o s
+tables-fit t o s c is =
+    let first = is.fits.kept.first in
+    let numbers = is.fits.kept.numbers in
+    record { links = is.fits.links; legs = (c.lsp, omega arith, is.fits.kept.legs); node = is.node }
 
-pub owner-fits : (t : LegTable) (o : List FibreClaims) (s : List Guard) (c : CallTable) → IngressFits t c →
-    AreOfOneNode t o s → TablesFitOwner t o
-owner-fits t o s c fits node =
-    let first = fits.kept.first in
-    let numbers = fits.kept.numbers in
+pub owner-fits : (t : LegTable) (o : List FibreClaims) (s : List Guard) (c : CallTable) → IsIngress t o s c →
+    TablesFitOwner t o
+owner-fits t o s c is =
+    let first = is.fits.kept.first in
+    let numbers = is.fits.kept.numbers in
     record {
-      links = fits.links;
-      legs = (c.lsp, omega arith, fits.kept.legs);
-      claims = node.labels.claims;
-      fibres = node.fibres;
-      rows = node.rows;
+      links = is.fits.links;
+      legs = (c.lsp, omega arith, is.fits.kept.legs);
+      claims = is.node.labels.claims;
+      fibres = is.node.fibres;
+      rows = is.node.rows;
     }
 
 -- Routes
@@ -68,11 +67,21 @@ pub none-there : {X : Type 0} (o : Option X) → is_some o ≡ false → o ≡ N
 none-there None e = refl
 none-there (Some x) e = absurd (cc e)
 
--- of a setup over a route that is given none is sought
-pub none-asked : (new here : Bool) → (new && (here && false)) ≡ true → ⊥
+none-asked : (new here : Bool) → (new && (here && false)) ≡ true → ⊥
 none-asked true true e = cc e
 none-asked true false e = cc e
 none-asked false here e = cc e
+
+-- of a setup over a route that is given none is sought
+pub none-beyond : (t : LegTable) (c : CallTable) (order : Command) → HasRoute order → IsRouteOf t c order None
+none-beyond t c (Setup n from to protected both None backup) has = absurd has
+none-beyond t c (Setup n from to protected both (Some via) backup) has = λ sought. absurd (none-asked _ _ sought)
+none-beyond t c (Release n from) has = tt
+none-beyond t c (Protect n from) has = tt
+none-beyond t c (Retry n from) has = tt
+none-beyond t c (Revert n from) has = tt
+none-beyond t c (Fail g) has = tt
+none-beyond t c (Repair g) has = tt
 
 pub none-beside : (t : LegTable) (c : CallTable) (order : Command) → IsUnrouted order →
     IsBackupFor t (sought_by_command t c order) None
@@ -124,7 +133,7 @@ module _ (t after : LegTable) (c : CallTable) (u : NodeId) (fits : IngressFits t
       ∙ sym (ap (λ b. cond b (answered p s a x g (previous g)) (resv_again s a x g)) expected)
 
   pub before-resv : (m : Msg) → connects t u m ≡ true → goes_back t c u m ≡ None → after ≡ after_resv t u m →
-      (b : LegTable) × WereBefore after c u m b
+      IsAtLeg after c u m
   before-resv (Path l e k route set up r) applies none is = absurd (cc applies)
   before-resv (Resv l e k x) applies none is =
       let a = arrival l e u k in (
@@ -158,7 +167,7 @@ module _ (t after : LegTable) (c : CallTable) (u : NodeId) (fits : IngressFits t
       (resv_again s a x g)) (armed-waits g.phase armed))
 
   pub before-confirmation : (m : Msg) → carries t u m ≡ true → goes_back t c u m ≡ None →
-      after ≡ after_connect t u m → (b : LegTable) × WereBefore after c u m b
+      after ≡ after_connect t u m → IsAtLeg after c u m
   before-confirmation (Path l e k route set up r) applies none is = absurd (cc applies)
   before-confirmation (Resv l e k x) applies none is =
       let a = arrival l e u k in (
@@ -177,6 +186,11 @@ module _ (t after : LegTable) (c : CallTable) (u : NodeId) (fits : IngressFits t
   before-confirmation (Notify l e at k code) applies none is = absurd (cc applies)
 
   -- PathErrs
+
+  refuses-gone : (f : PathFailure) (o : Option Leg) → refuses_leg u f o ≡ true → f.removed ≡ true
+  refuses-gone f None e = absurd (cc e)
+  refuses-gone f (Some g) e =
+      both_left f.removed _ (both_left (f.removed && is_node (following g) u) _ e)
 
   refuses-taken : (f : PathFailure) (o : Option Leg) → f.removed ≡ true → refuses_leg u f o ≡ true →
       takes_err u true o ≡ true
@@ -197,21 +211,26 @@ module _ (t after : LegTable) (c : CallTable) (u : NodeId) (fits : IngressFits t
       ∙ sym (ap (λ b. cond b (cond f.removed (removed s g f) (contended s g f.msg)) nothing) from
       ∙ ap (λ b. cond b (removed s g f) (contended s g f.msg)) gone)
 
-  pub before-error : (l : Lsp) (e at : NodeId) (code : ErrCode) → refuses t u (PathErr l e at true code) ≡ true →
-      after ≡ after_path_err t u (PathErr l e at true code) →
-      (b : LegTable) × WereBefore after c u (PathErr l e at true code) b
-  before-error l e at code applies is =
-      let f : PathFailure = record { lsp = l; msg = PathErr l e at true code; removed = true; code = code } in (
+  pub before-error : (m : Msg) → refuses t u m ≡ true → after ≡ after_path_err t u m → IsAtLeg after c u m
+  before-error (Path l e k route set up r) applies is = absurd (cc applies)
+  before-error (Resv l e k x) applies is = absurd (cc applies)
+  before-error (PathTear l e k) applies is = absurd (cc applies)
+  before-error (PathErr l e at gone code) applies is =
+      let f : PathFailure = record { lsp = l; msg = PathErr l e at gone code; removed = gone; code = code } in
+      let is_gone = refuses-gone f (find_leg l t.legs) applies in (
         t,
         record {
           leg = record {
-            applies = refuses-taken f (find_leg l t.legs) refl applies;
-            after = is ∙ ap (legs_after t) (refuses-rule f (find_leg l t.legs) refl applies);
+            applies =
+                subst (λ b. takes_err u b (find_leg l t.legs) ≡ true) (sym is_gone)
+                (refuses-taken f (find_leg l t.legs) is_gone applies);
+            after = is ∙ ap (legs_after t) (refuses-rule f (find_leg l t.legs) is_gone applies);
           };
           fits = fits;
           none_back = refl;
         },
       )
+  before-error (Notify l e at k code) applies is = absurd (cc applies)
 
   contends-taken : (o : Option Leg) → contends_leg u o ≡ true → takes_err u false o ≡ true
   contends-taken None e = absurd (cc e)
@@ -228,10 +247,12 @@ module _ (t after : LegTable) (c : CallTable) (u : NodeId) (fits : IngressFits t
   contends-rule f (Some g) gone =
       sym (ap (λ b. cond (is_node (following g) u) (cond b (removed s g f) (contended s g f.msg)) nothing) gone)
 
-  pub before-contention : (l : Lsp) (e at : NodeId) (code : ErrCode) →
-      contends t u (PathErr l e at false code) ≡ true → after ≡ after_busy t u (PathErr l e at false code) →
-      (b : LegTable) × WereBefore after c u (PathErr l e at false code) b
-  before-contention l e at code applies is =
+  pub before-contention : (m : Msg) → contends t u m ≡ true → after ≡ after_busy t u m → IsAtLeg after c u m
+  before-contention (Path l e k route set up r) applies is = absurd (cc applies)
+  before-contention (Resv l e k x) applies is = absurd (cc applies)
+  before-contention (PathTear l e k) applies is = absurd (cc applies)
+  before-contention (PathErr l e at true code) applies is = absurd (cc applies)
+  before-contention (PathErr l e at false code) applies is =
       let f : PathFailure = record { lsp = l; msg = PathErr l e at false code; removed = false; code = code } in (
         t,
         record {
@@ -243,6 +264,7 @@ module _ (t after : LegTable) (c : CallTable) (u : NodeId) (fits : IngressFits t
           none_back = refl;
         },
       )
+  before-contention (Notify l e at k code) applies is = absurd (cc applies)
 
   -- Notifies
 
@@ -258,7 +280,7 @@ module _ (t after : LegTable) (c : CallTable) (u : NodeId) (fits : IngressFits t
       (both_left (not (is_closing g.phase)) _ told) ∙ from
 
 pub before-notify : (t : LegTable) (c : CallTable) (u : NodeId) (m : Msg) → IngressFits t c → reports t u m ≡ true →
-    goes_back t c u m ≡ None → (b : LegTable) × WereBefore t c u m b
+    goes_back t c u m ≡ None → IsAtLeg t c u m
 before-notify t c u (Path l e k route set up r) fits applies none = absurd (cc applies)
 before-notify t c u (Resv l e k x) fits applies none = absurd (cc applies)
 before-notify t c u (PathTear l e k) fits applies none = absurd (cc applies)

@@ -1,1 +1,2 @@
+pub mod Ingresses
 pub mod Orders

@@ -1,9 +1,12 @@
 //! An ingress, the first of two nodes that two links join, and what it is given.
 
-ghost use Rattle.calls_tests.specs.Orders.{IsUnrouted};
+ghost use Rattle.std.specs.Prelude.{◌≡◌, IfOk, None, OnOk};
+ghost use Rattle.leg_table.specs.LegClaims.{AreOfOneNode};
+ghost use Rattle.call_control.specs.Handlers.{goes_back};
+ghost use Rattle.calls_tests.specs.Ingresses.{IsAtLeg, IsIngress};
+ghost use Rattle.calls_tests.specs.Orders.{HasRoute, IsUnrouted};
 
 use activation::{busy, carries, connect, contends};
-use ason_base::codes::{BUSY, SET};
 use ason_base::{
     CallNo, CallState, Command, ErrCode, Label, LinkId, LinkSpec, Lsp, Msg, NodeId, NodeSpec,
     Numbers, Outs, PathRole, Step, Steps, Topology,
@@ -47,27 +50,14 @@ const WORK_LINK: LinkId = LinkId(1);
 
 const BACK_LINK: LinkId = LinkId(2);
 
-/// What the ingress has. A step takes it whole, since it fits no more where memory is refused amid
-/// one.
+/// What the ingress has. Where memory is refused amid a step it may fit no more, so a step says that
+/// it fits where the step succeeds.
 #[derive(Drop)]
 pub(crate) struct Ingress {
     tables: NodeTables,
     owner: Owner,
     shares: Shares,
     calls: Calls,
-}
-
-impl Model for Ingress {
-    ghost use Rattle.leg_table.specs.LegClaims.{AreOfOneNode};
-    ghost use Rattle.leg_table.specs.Tables.{CallTable, LegTable};
-    ghost use Rattle.call_control.specs.Ingress.{IngressFits};
-
-    ghost Value = { LegTable × CallTable };
-
-    ghost view = { λ n. (n.tables, n.calls) };
-
-    ghost invariant = { λ n. IngressFits n.tables n.calls ×
-        AreOfOneNode n.tables n.owner n.shares };
 }
 
 fn two_links(alloc: Global) -> Result<Topology, Fail> {
@@ -84,7 +74,9 @@ fn two_links(alloc: Global) -> Result<Topology, Fail> {
     Ok(Topology::new(alloc, WAIT, &[node(A), node(B)], &links)?)
 }
 
-pub(crate) fn start(alloc: Global) -> Result<Ingress, Fail> {
+pub(crate) fn start(alloc: Global) -> Result<Ingress, Fail>
+    ensures { IfOk result (λ n. IsIngress n.tables n.owner n.shares n.calls) }
+{
     let t = two_links(alloc)?;
     let tables = NodeTables::new(alloc, &t, A)?;
     let owner = Owner::new(alloc, &t, A)?;
@@ -106,290 +98,97 @@ fn over(alloc: Global, link: LinkId) -> Result<Steps, Fail> {
     Ok(route)
 }
 
-/// A setup of a call over the one link, with a backup over the other one if it is protected.
-pub(crate) fn set_up(
-    alloc: Global,
-    ingress: Ingress,
-    protected: bool,
-) -> Result<(Ingress, Outs), Fail> {
-    let Ingress {
-        mut tables,
-        owner,
-        shares,
-        mut calls,
-    } = ingress;
-    let order = Command::Setup {
+/// An order of a call over the one link, with a backup over the other one if it is protected.
+fn setup_order(alloc: Global, protected: bool) -> Result<Command, Fail>
+    ensures { IfOk result HasRoute }
+{
+    let via = Some(over(alloc, WORK_LINK)?);
+    let backup = if protected {
+        Some(over(alloc, BACK_LINK)?)
+    } else {
+        None
+    };
+    Ok(Command::Setup {
         call: CALL,
         from: A,
         to: B,
         protected,
         both: false,
-        via: Some(over(alloc, WORK_LINK)?),
-        backup: if protected {
-            Some(over(alloc, BACK_LINK)?)
-        } else {
-            None
-        },
-    };
-    let sent = setup(alloc, &mut tables, &mut calls, &order, None)?;
-    Ok((
-        Ingress {
-            tables,
-            owner,
-            shares,
-            calls,
-        },
-        sent,
-    ))
+        via,
+        backup,
+    })
+}
+
+/// A setup of the call.
+pub(crate) fn set_up(alloc: Global, at: &mut Ingress, protected: bool) -> Result<Outs, Fail>
+    requires { IsIngress at.old.tables at.old.owner at.old.shares at.old.calls }
+    ensures { OnOk result (IsIngress at.new.tables at.new.owner at.new.shares at.new.calls) }
+{
+    let order = setup_order(alloc, protected)?;
+    Ok(setup(alloc, &mut at.tables, &mut at.calls, &order, None)?)
 }
 
 /// An order that needs no route.
-pub(crate) fn give(
-    alloc: Global,
-    ingress: Ingress,
-    order: &Command,
-) -> Result<(Ingress, Outs), Fail>
-    requires { IsUnrouted order.now }
+pub(crate) fn give(alloc: Global, at: &mut Ingress, order: &Command) -> Result<Outs, Fail>
+    requires unrouted { IsUnrouted order.now }
+    requires fits { IsIngress at.old.tables at.old.owner at.old.shares at.old.calls }
+    ensures { OnOk result (IsIngress at.new.tables at.new.owner at.new.shares at.new.calls) }
 {
-    let Ingress {
-        mut tables,
-        owner,
-        shares,
-        mut calls,
-    } = ingress;
-    let sent = command(alloc, &mut tables, &mut calls, order, None)?;
-    Ok((
-        Ingress {
-            tables,
-            owner,
-            shares,
-            calls,
-        },
-        sent,
-    ))
-}
-
-/// A Resv of b at a leg that waits for its labels, and what becomes of the call.
-pub(crate) fn take_resv(
-    alloc: Global,
-    ingress: Ingress,
-    msg: &Msg,
-) -> Result<(Ingress, Outs), Fail> {
-    let Ingress {
-        mut tables,
-        mut owner,
-        mut shares,
-        mut calls,
-    } = ingress;
-    if !connects(&tables, B, msg) {
-        return Err(Fail::new("a Resv that no leg takes"));
-    }
-    if goes_back(&tables, &calls, B, msg).is_some() {
-        return Err(Fail::new("a call goes back"));
-    }
-    let _none = resv(alloc, &mut tables, &mut owner, &mut shares, B, msg)?;
-    if sought_by_answer(&tables, &calls, msg).is_some() {
-        return Err(Fail::new("a backup route is sought"));
-    }
-    let sent = answer(alloc, &mut tables, &mut calls, B, msg, None)?;
-    Ok((
-        Ingress {
-            tables,
-            owner,
-            shares,
-            calls,
-        },
-        sent,
-    ))
-}
-
-/// A Resv of b at a leg that is Armed, and what becomes of the call.
-pub(crate) fn take_confirmation(
-    alloc: Global,
-    ingress: Ingress,
-    msg: &Msg,
-) -> Result<(Ingress, Outs), Fail> {
-    let Ingress {
-        mut tables,
-        mut owner,
-        shares,
-        mut calls,
-    } = ingress;
-    if !carries(&tables, B, msg) {
-        return Err(Fail::new("a Resv that no leg takes"));
-    }
-    if goes_back(&tables, &calls, B, msg).is_some() {
-        return Err(Fail::new("a call goes back"));
-    }
-    let _none = connect(alloc, &mut tables, &mut owner, B, msg)?;
-    if sought_by_answer(&tables, &calls, msg).is_some() {
-        return Err(Fail::new("a backup route is sought"));
-    }
-    let sent = answer(alloc, &mut tables, &mut calls, B, msg, None)?;
-    Ok((
-        Ingress {
-            tables,
-            owner,
-            shares,
-            calls,
-        },
-        sent,
-    ))
-}
-
-/// A PathErr of b at a leg that is Asked, and what becomes of the call.
-pub(crate) fn take_error(alloc: Global, ingress: Ingress, lsp: Lsp) -> Result<Ingress, Fail> {
-    let Ingress {
-        mut tables,
-        mut owner,
-        mut shares,
-        mut calls,
-    } = ingress;
-    let msg = Msg::PathErr {
-        lsp,
-        egress: B,
-        at: B,
-        removed: true,
-        code: SET,
-    };
-    if !refuses(&tables, B, &msg) {
-        return Err(Fail::new("a PathErr that no leg takes"));
-    }
-    let _none = path_err(alloc, &mut tables, &mut owner, &mut shares, B, &msg)?;
-    let _sent = answer(alloc, &mut tables, &mut calls, B, &msg, None)?;
-    Ok(Ingress {
-        tables,
-        owner,
-        shares,
-        calls,
-    })
-}
-
-/// A PathErr of b at a leg that is Armed, and what becomes of the call.
-pub(crate) fn take_contention(alloc: Global, ingress: Ingress, lsp: Lsp) -> Result<Ingress, Fail> {
-    let Ingress {
-        mut tables,
-        mut owner,
-        shares,
-        mut calls,
-    } = ingress;
-    let msg = Msg::PathErr {
-        lsp,
-        egress: B,
-        at: B,
-        removed: false,
-        code: BUSY,
-    };
-    if !contends(&tables, B, &msg) {
-        return Err(Fail::new("a PathErr that no leg takes"));
-    }
-    let _none = busy(alloc, &mut tables, &mut owner, B, &msg)?;
-    let _sent = answer(alloc, &mut tables, &mut calls, B, &msg, None)?;
-    Ok(Ingress {
-        tables,
-        owner,
-        shares,
-        calls,
-    })
-}
-
-/// A Notify of b that its fibre in went down or came up, and what becomes of the call of this LSP.
-pub(crate) fn take_notify(
-    alloc: Global,
-    ingress: Ingress,
-    lsp: Lsp,
-    code: ErrCode,
-) -> Result<(Ingress, Outs), Fail> {
-    let Ingress {
-        mut tables,
-        owner,
-        shares,
-        mut calls,
-    } = ingress;
-    let msg = notify_for(lsp, code);
-    if !reports(&tables, B, &msg) {
-        return Err(Fail::new("a Notify that no leg takes"));
-    }
-    if goes_back(&tables, &calls, B, &msg).is_some() {
-        return Err(Fail::new("a call goes back"));
-    }
-    let sent = answer(alloc, &mut tables, &mut calls, B, &msg, None)?;
-    Ok((
-        Ingress {
-            tables,
-            owner,
-            shares,
-            calls,
-        },
-        sent,
-    ))
-}
-
-/// A Resv or a Notify of b by which a call goes back.
-pub(crate) fn take_back(
-    alloc: Global,
-    ingress: Ingress,
-    msg: &Msg,
-) -> Result<(Ingress, Outs), Fail> {
-    let Ingress {
-        mut tables,
-        mut owner,
-        shares,
-        mut calls,
-    } = ingress;
-    if goes_back(&tables, &calls, B, msg).is_none() {
-        return Err(Fail::new("no call goes back"));
-    }
-    let sent = go_back(alloc, &mut tables, &mut owner, &mut calls, B, msg)?;
-    Ok((
-        Ingress {
-            tables,
-            owner,
-            shares,
-            calls,
-        },
-        sent,
-    ))
+    Ok(command(alloc, &mut at.tables, &mut at.calls, order, None)?)
 }
 
 /// The order to go back.
-pub(crate) fn order_back(alloc: Global, ingress: Ingress) -> Result<(Ingress, Outs), Fail> {
-    let Ingress {
-        mut tables,
-        mut owner,
-        shares,
-        mut calls,
-    } = ingress;
-    let sent = revert(alloc, &mut tables, &mut owner, &mut calls, CALL)?;
-    Ok((
-        Ingress {
-            tables,
-            owner,
-            shares,
-            calls,
-        },
-        sent,
-    ))
+pub(crate) fn order_back(alloc: Global, at: &mut Ingress) -> Result<Outs, Fail>
+    requires { IsIngress at.old.tables at.old.owner at.old.shares at.old.calls }
+    ensures { OnOk result (IsIngress at.new.tables at.new.owner at.new.shares at.new.calls) }
+{
+    Ok(revert(alloc, &mut at.tables, &mut at.owner, &mut at.calls, CALL)?)
 }
 
 /// One tick.
-pub(crate) fn wait_a_tick(alloc: Global, ingress: Ingress) -> Result<(Ingress, Outs), Fail> {
-    let Ingress {
-        mut tables,
-        mut owner,
-        shares,
-        mut calls,
-    } = ingress;
-    let sent = tick(alloc, &mut tables, &mut owner, &mut calls)?;
-    Ok((
-        Ingress {
-            tables,
-            owner,
-            shares,
-            calls,
-        },
-        sent,
-    ))
+pub(crate) fn wait_a_tick(alloc: Global, at: &mut Ingress) -> Result<Outs, Fail>
+    requires { IsIngress at.old.tables at.old.owner at.old.shares at.old.calls }
+    ensures { OnOk result (IsIngress at.new.tables at.new.owner at.new.shares at.new.calls) }
+{
+    Ok(tick(alloc, &mut at.tables, &mut at.owner, &mut at.calls)?)
+}
+
+/// A message of b, at the leg that it is for and then at its call.
+pub(crate) fn take(alloc: Global, at: &mut Ingress, msg: &Msg) -> Result<Outs, Fail>
+    requires { IsIngress at.old.tables at.old.owner at.old.shares at.old.calls }
+    ensures { OnOk result (IsIngress at.new.tables at.new.owner at.new.shares at.new.calls) }
+{
+    if goes_back(&at.tables, &at.calls, B, msg).is_some() {
+        return Ok(go_back(alloc, &mut at.tables, &mut at.owner, &mut at.calls, B, msg)?);
+    }
+    follow(alloc, at, B, msg)?;
+    if sought_by_answer(&at.tables, &at.calls, msg).is_some() {
+        return Err(Fail::new("a backup route is sought"));
+    }
+    Ok(answer(alloc, &mut at.tables, &mut at.calls, B, msg, None)?)
+}
+
+// The rule of the leg that a message is for, where no call goes back by it.
+fn follow(alloc: Global, at: &mut Ingress, from: NodeId, msg: &Msg) -> Result<(), Fail>
+    requires fits { IsIngress at.old.tables at.old.owner at.old.shares at.old.calls }
+    requires none { goes_back at.old.tables at.old.calls from msg.now ≡ None }
+    ensures rule { OnOk result (IsAtLeg at.new.tables at.new.calls from msg.now) }
+    ensures node { OnOk result (AreOfOneNode at.new.tables at.new.owner at.new.shares) }
+{
+    let tables = &mut at.tables;
+    let owner = &mut at.owner;
+    if connects(tables, from, msg) {
+        let _none = resv(alloc, tables, owner, &mut at.shares, from, msg)?;
+    } else if carries(tables, from, msg) {
+        let _none = connect(alloc, tables, owner, from, msg)?;
+    } else if refuses(tables, from, msg) {
+        let _none = path_err(alloc, tables, owner, &mut at.shares, from, msg)?;
+    } else if contends(tables, from, msg) {
+        let _none = busy(alloc, tables, owner, from, msg)?;
+    } else if !reports(tables, from, msg) {
+        return Err(Fail::new("a message that no leg takes"));
+    }
+    Ok(())
 }
 
 // Messages
@@ -406,6 +205,17 @@ pub(crate) fn resv_for(lsp: Lsp) -> Result<Msg, Fail> {
         link: link_of(lsp),
         label: Label::new(2).ok_or("a label")?,
     })
+}
+
+/// The PathErr of b for this LSP.
+pub(crate) fn error_for(lsp: Lsp, removed: bool, code: ErrCode) -> Msg {
+    Msg::PathErr {
+        lsp,
+        egress: B,
+        at: B,
+        removed,
+        code,
+    }
 }
 
 /// The Notify of b that its fibre in of this LSP went down or came up.
@@ -440,15 +250,12 @@ fn tells(msg: &Msg) -> Told {
     }
 }
 
-/// What the messages to b tell, one after the other.
-pub(crate) fn messages(alloc: Global, outs: &Outs) -> Result<Vec<Told>, Fail> {
-    let mut messages = Vec::new(alloc);
-    for out in outs.items() {
-        if out.to == B {
-            messages.push(tells(&out.msg))?;
-        }
+/// What the one message to b tells.
+pub(crate) fn only(outs: &Outs) -> Option<Told> {
+    match outs.items() {
+        [out] if out.to == B => Some(tells(&out.msg)),
+        _ => None,
     }
-    Ok(messages)
 }
 
 impl Ingress {

@@ -1,10 +1,11 @@
-use Rattle.calls_tests.proofs.Fitting.{none-asked}
+use Rattle.calls_tests.proofs.Fitting.{none-beyond}
 use Rattle.calls_tests.proofs.ingresses.set_up.Goals as goal
 
 pub setup-requires-clause-route : goal.setup-requires-clause-route
-setup-requires-clause-route c = λ sought. absurd (none-asked _ _ sought)
+setup-requires-clause-route c = none-beyond c.args.at.now.tables c.args.at.now.calls _ c.in_ok-order.ensures
 
-pub invariant_of-result : goal.invariant_of-result
-invariant_of-result c =
-    let n = c.ingress.inside in
-    (c.setup.ensures.fits, c.setup.ensures.labels n.owner n.shares c.ingress.invariant.1)
+pub returns : goal.returns
+returns c = record {
+  fits = c.in_ok-setup.ensures.fits;
+  node = c.setup.ensures.labels c.args.at.now.owner c.args.at.now.shares c.requires.node;
+}
