@@ -14,6 +14,3 @@ pub use sink::Sink;
 pub use source::{Failed, Source};
 pub use sure::{SureSink, SureSource};
 pub use whole::{ReadAllFault, read_all, write_all};
-
-#[cfg(test)]
-mod tests;

@@ -2,10 +2,16 @@
 #![tactic(auto)]
 
 #[cfg(test)]
+mod fields;
+#[cfg(test)]
 mod floods;
+#[cfg(test)]
+mod hops;
 #[cfg(test)]
 mod link_tlvs;
 #[cfg(test)]
 mod messages;
 #[cfg(test)]
 mod objects;
+#[cfg(test)]
+mod recovery;

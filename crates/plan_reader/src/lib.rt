@@ -14,8 +14,6 @@ pub mod plan;
 pub mod reader;
 mod script;
 mod setups;
-#[cfg(test)]
-mod tests;
 mod top;
 mod values;
 mod words;

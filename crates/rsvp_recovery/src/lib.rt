@@ -8,6 +8,3 @@ pub mod protection;
 pub use association::{Association, read_association, write_association};
 pub use primary::{read_primary, write_primary};
 pub use protection::{Protection, read_protection, write_protection};
-
-#[cfg(test)]
-mod tests;

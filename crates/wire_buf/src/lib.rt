@@ -14,6 +14,3 @@ pub use objects::put_header;
 pub use pushes::{push_u8, push_u16, push_u24, push_u32, put_u8, put_u16, put_u24, put_u32};
 pub use routes::{read_steps, write_steps};
 pub use tlv::at_most_one;
-
-#[cfg(test)]
-mod tests;

@@ -1,9 +1,7 @@
 //! Lines of scripts, each with what it says.
 
-use crate::faults::{PlanEntry, PlanError, PlanFault, PlanKind};
-use crate::lines::Line;
-use crate::reader::read_plan;
 use ason_base::{CallNo, Command, LinkId, NodeId, Step};
+use plan_reader::{Line, PlanEntry, PlanError, PlanFault, PlanKind, read_plan};
 use std::alloc::Global;
 use std::test::Fail;
 

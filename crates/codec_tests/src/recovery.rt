@@ -1,5 +1,10 @@
-use super::*;
+//! The objects of recovery, both ways.
+
 use ason_base::{LinkId, NodeId, Step, Steps};
+use rsvp_recovery::{
+    Association, Protection, read_association, read_primary, read_protection, write_association,
+    write_primary, write_protection,
+};
 use std::test::Fail;
 
 #[test]

@@ -1,6 +1,6 @@
 //! Reads and writes that succeed, a fault in mid-stream, and the real ends.
 
-use crate::{
+use ason_io::{
     MemSink, MemSource, ReadAllFault, StdSink, StdSource, SureSink, SureSource, read_all, write_all,
 };
 use std::fs::{self, File};

@@ -1,6 +1,10 @@
-use super::*;
+//! Fields, checksums and routes.
+
 use ason_base::{LinkId, NodeId, Step, Steps};
 use std::test::Fail;
+use wire_buf::{
+    Cursor, internet_checksum, push_u8, push_u16, push_u24, push_u32, read_steps, write_steps,
+};
 
 // A PathTear of 72 bytes. Its checksum stands in the bytes 2 and 3.
 const TEAR: [u8; 72] = [
