@@ -1,5 +1,5 @@
 -- After a post a fleet stands for the run with that post.
-use Rattle.std.proofs.Common.{◌≡◌, ◌≤◌, ◌<◌, ◌*◌, ◌+◌, ◌-◌, ◌^◌, ℕ, Bool, true, false, cond, nat_eq, nat_le, List, [], ◌∷◌, ◌++◌, length, refl, sym, ap, ◌∙◌, subst, arith}
+use Rattle.std.proofs.Common.{◌≡◌, ◌≤◌, ◌<◌, ◌*◌, ◌+◌, ◌-◌, ◌^◌, ℕ, Bool, true, false, cond, nat_eq, List, [], ◌∷◌, ◌++◌, length, refl, sym, ap, ◌∙◌, subst, arith}
 use Rattle.std.specs.Prelude.{◌&&◌, not, Some, None, slice_get, slice_set}
 use Rattle.std.proofs.lemmas.List.{length-append}
 use Rattle.ason_base.specs.declared.ids.NodeId.{NodeId}
@@ -9,12 +9,12 @@ use Rattle.ason_base.specs.declared.commands.DeskItem.{DeskItem}
 use Rattle.ason_base.specs.declared.commands.Group.{Group}
 use Rattle.ason_base.specs.declared.commands.DeskItem.TheVariants.{Order}
 use Rattle.ason_base.specs.declared.commands.Event.TheVariants.{Post}
-use Rattle.ason_base.specs.Network.{IsTopology, Network, is_node_id}
+use Rattle.ason_base.specs.Network.{Network, is_node_id}
 use Rattle.controller.specs.Controllers.{ControllerState}
 use Rattle.mesh_rules.specs.Commands.{has_backup_way, has_way, is_again, is_searchable, is_valid}
 use Rattle.mesh_rules.specs.Failures.{all_news, failed_after}
-use Rattle.mesh_rules.proofs.Conjunctions.{and_second}
-use Rattle.mesh_rules.proofs.LinkNews.{few-news}
+use Rattle.mesh_rules.proofs.LinkNews.{few-links, few-news}
+use Rattle.world_core.specs.Replays.{ingress_of}
 use Rattle.world_core.specs.Runs.{IsEnabled, posted}
 use Rattle.world_core.specs.Standing.{IsUntouched}
 use Rattle.world_core.specs.Worlds.{World}
@@ -23,7 +23,7 @@ use Rattle.world_core.proofs.Untouched.{others-are-untouched}
 use Rattle.station.specs.Histories.{History, refilled, with_event, world_after}
 use Rattle.station.specs.Standing.{AreParcelsOf, NodeStands, StationState}
 use Rattle.station.proofs.Doing.{self_test, world-with}
-use Rattle.fleet.specs.Posts.{Changes, ChangesThere, HasChanged, IsOrderedAt, IsToldBy, Orders, ingress_of, with_items}
+use Rattle.fleet.specs.Posts.{Changes, ChangesThere, HasChanged, IsOrderedAt, IsToldBy, Orders, with_items}
 use Rattle.fleet.specs.Standing.{AreSeats, AreStations, FleetState, IsStationOf, IsWired, StandsFor, Wires, ids_of}
 use Rattle.fleet.proofs.Elsewhere.{unfilled}
 use Rattle.fleet.proofs.Places.{IsThere, there, within, apart, get-set, get-set-elsewhere, length-set, one_there, rising-ids, same_node, same_number}
@@ -167,14 +167,6 @@ post-stands t h c old new s on seats few stations fewer network failed = record 
   where
     world : world_after t (with_event t h (Post c)) ≡ posted t (world_after t h) c
     world = world-with t h h.waiting (Post c)
-
-few-links : (t : Network) → IsTopology t → length t.links ≤ 256
-few-links t valid =
-    at-most (length t.links) (and_second (nat_le (length t.nodes) 64) (nat_le (length t.links) 256)
-    (and_second (nat_le 1 (length t.nodes)) (nat_le (length t.nodes) 64 && nat_le (length t.links) 256) valid.count))
-  where
-    at-most : (k : ℕ) → nat_le k 256 ≡ true → k ≤ 256
-    at-most k h = grind arith
 
 -- each node is told of it, where there was room on each desk
 changed-stands : (t : Network) (h : History) (c : Command) (old new : FleetState) → ingress_of c ≡ None →

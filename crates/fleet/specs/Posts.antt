@@ -1,8 +1,7 @@
 -- Where a command goes, and what a post makes of a fleet.
-use Rattle.std.specs.Prelude.{◌≡◌, ◌≤◌, ◌<◌, ◌+◌, ◌==◌, ℕ, Bool, List, [], ◌∷◌, ◌++◌, length, map, Option, Some, None, true, slice_get, slice_set}
+use Rattle.std.specs.Prelude.{◌≡◌, ◌≤◌, ◌<◌, ◌+◌, ◌==◌, ℕ, Bool, List, [], ◌∷◌, ◌++◌, length, map, Some, true, slice_get, slice_set}
 use Rattle.ason_base.specs.declared.ids.NodeId.{NodeId}
 use Rattle.ason_base.specs.declared.commands.Command.{Command}
-use Rattle.ason_base.specs.declared.commands.Command.TheVariants.{Setup, Release, Protect, Retry, Revert, Fail, Repair}
 use Rattle.ason_base.specs.declared.commands.DeskItem.{DeskItem}
 use Rattle.ason_base.specs.declared.commands.DeskItem.TheVariants.{Order}
 use Rattle.ason_base.specs.declared.commands.Event.TheVariants.{Post}
@@ -17,16 +16,6 @@ use Rattle.fleet.specs.Standing.{FleetState, KeepsRest, StandsFor, ids_of}
 
 abbrev pub is_seat : NodeId → Seat → Bool
 is_seat n s = s.id.0 == n.0
-
--- a call's command goes to its ingress
-abbrev pub ingress_of : Command → Option NodeId
-ingress_of (Setup n from to protected both via backup) = Some from
-ingress_of (Release n from) = Some from
-ingress_of (Protect n from) = Some from
-ingress_of (Retry n from) = Some from
-ingress_of (Revert n from) = Some from
-ingress_of (Fail g) = None
-ingress_of (Repair g) = None
 
 -- with these items at the end of the desk, and room for so many more
 abbrev pub with_items : StationState → List DeskItem → ℕ → StationState

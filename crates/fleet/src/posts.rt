@@ -1,7 +1,7 @@
 //! Where a command goes.
 
 ghost use Rattle.std.specs.Prelude.{◌≡◌};
-ghost use Rattle.fleet.specs.Posts.{ingress_of};
+ghost use Rattle.world_core.specs.Replays.{ingress_of};
 
 use ason_base::{Command, NodeId};
 

@@ -8,15 +8,14 @@ use Rattle.ason_base.specs.declared.ids.Lsp.{Lsp}
 use Rattle.ason_base.specs.declared.tables.CallRec.{CallRec}
 use Rattle.ason_base.specs.declared.tables.Leg.{Leg}
 use Rattle.ason_base.specs.Lsps.{same_lsp}
-use Rattle.mesh_rules.specs.declared.changes.CallChange.{CallChange}
-use Rattle.mesh_rules.specs.declared.changes.LegChange.{LegChange}
-use Rattle.mesh_rules.specs.Calls.{call_changed, calls_changed, guarded, is_turned}
+use Rattle.mesh_rules.specs.Calls.{calls_changed, guarded, is_turned}
 use Rattle.mesh_rules.specs.Changes.{Answer, changed, followed_by, nothing}
-use Rattle.mesh_rules.specs.Legs.{find_leg, following, is_in_use, leg_changed, leg_of, legs_changed, with_leg, with_phase}
+use Rattle.mesh_rules.specs.Legs.{find_leg, following, is_in_use, leg_of, legs_changed, with_leg, with_phase}
 use Rattle.mesh_rules.specs.LocalNodes.{LocalNode}
 use Rattle.mesh_rules.specs.State.{NodeState}
 use Rattle.mesh_rules.specs.Turns.{call_put, disarms, go_back, has_any}
 use Rattle.mesh_rules.specs.Waits.{all_ticked, on_tick, ticked}
+use Rattle.mesh_rules.proofs.ChangeLists.{calls-then, legs-then}
 use Rattle.mesh_nodes.specs.Kept.{CallFits, CallsFit, LegFits, LegsFit, NodeFits}
 use Rattle.mesh_nodes.specs.Laws.{TicksFit}
 use Rattle.mesh_nodes.specs.Sent.{AllToNeighbours, AllWritable}
@@ -26,16 +25,6 @@ use Rattle.mesh_nodes.proofs.Kept.{calls-put, in_use-beyond, legs-changed, phase
 use Rattle.mesh_nodes.proofs.LegList.{find-with_leg, found-all}
 use Rattle.mesh_nodes.proofs.Reports.{backup-begins}
 use Rattle.mesh_nodes.proofs.Turns.{BeginsHere, taking-sent}
-
-legs-then : (cs ds : List LegChange) (legs : List Leg) →
-    legs_changed (cs ++ ds) legs ≡ legs_changed ds (legs_changed cs legs)
-legs-then [] ds legs = refl
-legs-then (c ∷ cs) ds legs = legs-then cs ds (leg_changed c legs)
-
-calls-then : (cs ds : List CallChange) (calls : List CallRec) →
-    calls_changed (cs ++ ds) calls ≡ calls_changed ds (calls_changed cs calls)
-calls-then [] ds calls = refl
-calls-then (c ∷ cs) ds calls = calls-then cs ds (call_changed c calls)
 
 found-some : (o : Option Leg) → is_some o ≡ true → (k : Leg) × (o ≡ Some k)
 found-some None there = absurd (cc there)

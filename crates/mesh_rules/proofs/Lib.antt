@@ -1,3 +1,4 @@
+pub mod ChangeLists
 pub mod Conjunctions
 pub mod KnownLinks
 pub mod LinkNews

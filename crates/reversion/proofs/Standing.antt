@@ -10,16 +10,15 @@ use Rattle.ason_base.specs.declared.calls.Role.TheVariants.{Work, Back}
 use Rattle.ason_base.specs.declared.ids.Lsp.{Lsp}
 use Rattle.ason_base.specs.declared.tables.CallRec.{CallRec}
 use Rattle.ason_base.specs.declared.tables.Leg.{Leg}
-use Rattle.mesh_rules.specs.declared.changes.CallChange.{CallChange}
-use Rattle.mesh_rules.specs.declared.changes.LegChange.{LegChange}
 use Rattle.mesh_rules.specs.declared.changes.LegChange.TheVariants as leg
-use Rattle.mesh_rules.specs.Calls.{call_changed, calls_changed, guarded, is_turned, with_call}
+use Rattle.mesh_rules.specs.Calls.{calls_changed, guarded, is_turned, with_call}
 use Rattle.mesh_rules.specs.Changes.{Answer, followed_by, nothing, puts}
-use Rattle.mesh_rules.specs.Legs.{find_leg, is_in_use, leg_changed, leg_of, legs_changed, with_leg, with_phase}
+use Rattle.mesh_rules.specs.Legs.{find_leg, is_in_use, leg_of, legs_changed, with_leg, with_phase}
 use Rattle.mesh_rules.specs.LocalNodes.{LocalNode}
 use Rattle.mesh_rules.specs.State.{NodeState}
 use Rattle.mesh_rules.specs.Turns.{call_put, disarms, go_back, has_any}
 use Rattle.mesh_rules.specs.Waits.{all_ticked, ticked}
+use Rattle.mesh_rules.proofs.ChangeLists.{calls-then, legs-then}
 use Rattle.mesh_nodes.proofs.Alarms.{all-append}
 use Rattle.mesh_nodes.proofs.CallList.{all-with_call}
 use Rattle.mesh_nodes.proofs.Cases.{if_cases}
@@ -30,16 +29,6 @@ use Rattle.leg_table.proofs.ClaimChanges.{kind-none, left-fit}
 use Rattle.call_control.specs.Ingress.{AllNameByRole, IsArmedAsBackup, NamesByRole, role_at}
 use Rattle.call_control.proofs.Named.{Begins, leg_of-begins}
 use Rattle.call_control.proofs.Roles.{BeginAlone, RolesStay, alone-with, calls-stay, changed-stay, lone-taken, lsp-stays, none-taken}
-
-legs-then : (cs ds : List LegChange) (legs : List Leg) →
-    legs_changed (cs ++ ds) legs ≡ legs_changed ds (legs_changed cs legs)
-legs-then [] ds legs = refl
-legs-then (c ∷ cs) ds legs = legs-then cs ds (leg_changed c legs)
-
-calls-then : (cs ds : List CallChange) (calls : List CallRec) →
-    calls_changed (cs ++ ds) calls ≡ calls_changed ds (calls_changed cs calls)
-calls-then [] ds calls = refl
-calls-then (c ∷ cs) ds calls = calls-then cs ds (call_changed c calls)
 
 -- s is what the answer reads
 module _ (p : LocalNode) (s : NodeState) (all : AllNameByRole p s) (alone : BeginAlone p s.legs)
