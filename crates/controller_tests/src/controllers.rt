@@ -35,14 +35,14 @@ pub(crate) fn controller(alloc: Global, t: &Topology, id: NodeId) -> Result<Cont
     }
 }
 
-// The call of this number from a to b is asked for at a.
-fn set_up(alloc: Global, a: &mut Controller, call: u16) -> Result<Frames, Fail> {
+// The call of this number from a to b.
+fn setup(alloc: Global, call: u16) -> Result<Command, Fail> {
     let mut via = Steps::new(alloc);
     via.push(Step {
         node: A,
         link: LinkId(1),
     })?;
-    let command = Command::Setup {
+    Ok(Command::Setup {
         call: CallNo(call),
         from: A,
         to: B,
@@ -50,19 +50,19 @@ fn set_up(alloc: Global, a: &mut Controller, call: u16) -> Result<Frames, Fail> 
         both: false,
         via: Some(via),
         backup: None,
-    };
-    if a.steps() < MOST_STEPS {
-        Ok(a.step(&CoreInput::Desk(DeskItem::Order(command)))?)
-    } else {
-        Ok(None.ok_or("too many steps")?)
-    }
+    })
 }
 
-pub(crate) fn tick(c: &mut Controller) -> Result<Frames, Fail> {
-    if c.steps() < MOST_STEPS {
-        Ok(c.step(&CoreInput::Tick)?)
+/// What a controller sends when it is given this, which may be a frame of a neighbour.
+pub(crate) fn give(c: &mut Controller, input: CoreInput) -> Result<Frames, Fail> {
+    let near = match &input {
+        CoreInput::Frame { from, .. } => c.has_neighbour(*from),
+        CoreInput::Tick | CoreInput::Desk(_) => true,
+    };
+    if c.steps() < MOST_STEPS && near {
+        Ok(c.step(&input)?)
     } else {
-        Ok(None.ok_or("too many steps")?)
+        Err(Fail::new("not a step"))
     }
 }
 
@@ -79,56 +79,63 @@ enum Act {
     ToB(usize, usize),
 }
 
-// Two controllers, and what each act sent.
+// The controllers of a and b, and what each act sent. They lie in lists, since the drop of one that
+// doesn't is proved anew at each place where it happens.
 #[derive(Drop)]
 struct Driven {
-    a: Controller,
-    b: Controller,
+    nodes: Vec<Controller>,
     sent: Vec<Frames>,
 }
 
-fn take(
-    alloc: Global,
-    c: &mut Controller,
-    from: NodeId,
-    sent: &[Frames],
-    (act, place): (usize, usize),
-) -> Result<Frames, Fail> {
+fn frame_of(alloc: Global, sent: &[Frames], act: usize, place: usize) -> Result<Bytes, Fail> {
     let frames = sent.get(act).ok_or("no such act")?;
     let frame = frames.items().get(place).ok_or("no such frame")?;
-    let bytes = frame.bytes.copy(alloc)?;
-    take_bytes(c, from, bytes)
+    Ok(frame.bytes.copy(alloc)?)
 }
 
-pub(crate) fn take_bytes(c: &mut Controller, from: NodeId, bytes: Bytes) -> Result<Frames, Fail> {
-    if c.steps() < MOST_STEPS && c.has_neighbour(from) {
-        Ok(c.step(&CoreInput::Frame { from, bytes })?)
-    } else {
-        Ok(None.ok_or("not a step")?)
+fn input_of(alloc: Global, sent: &[Frames], act: Act) -> Result<CoreInput, Fail> {
+    Ok(match act {
+        Act::SetUp(call) => CoreInput::Desk(DeskItem::Order(setup(alloc, call)?)),
+        Act::Tick => CoreInput::Tick,
+        Act::ToA(act, place) => CoreInput::Frame {
+            from: B,
+            bytes: frame_of(alloc, sent, act, place)?,
+        },
+        Act::ToB(act, place) => CoreInput::Frame {
+            from: A,
+            bytes: frame_of(alloc, sent, act, place)?,
+        },
+    })
+}
+
+// Where it happens.
+fn place_of(act: Act) -> usize {
+    match act {
+        Act::ToB(..) => 1,
+        Act::SetUp(_) | Act::Tick | Act::ToA(..) => 0,
     }
 }
 
 fn carry_out(alloc: Global, driven: &mut Driven, act: Act) -> Result<(), Fail> {
-    let Driven { a, b, sent } = driven;
-    let frames = match act {
-        Act::SetUp(call) => set_up(alloc, a, call)?,
-        Act::Tick => tick(a)?,
-        Act::ToA(act, place) => take(alloc, a, B, sent, (act, place))?,
-        Act::ToB(act, place) => take(alloc, b, A, sent, (act, place))?,
-    };
-    sent.push(frames)?;
-    Ok(())
+    let Driven { nodes, sent } = driven;
+    let node = nodes.get_mut(place_of(act)).ok_or("no such node")?;
+    let frames = give(node, input_of(alloc, sent, act)?)?;
+    Ok(sent.push(frames)?)
+}
+
+fn started(alloc: Global) -> Result<Driven, Fail> {
+    let t = two_nodes(alloc)?;
+    let mut nodes = Vec::new(alloc);
+    nodes.push(controller(alloc, &t, A)?)?;
+    nodes.push(controller(alloc, &t, B)?)?;
+    Ok(Driven {
+        nodes,
+        sent: Vec::new(alloc),
+    })
 }
 
 fn drive(alloc: Global, acts: &[Act]) -> Result<Driven, Fail> {
-    let t = two_nodes(alloc)?;
-    let a = controller(alloc, &t, A)?;
-    let b = controller(alloc, &t, B)?;
-    let mut driven = Driven {
-        a,
-        b,
-        sent: Vec::new(alloc),
-    };
+    let mut driven = started(alloc)?;
     for next in acts {
         carry_out(alloc, &mut driven, *next)?;
     }
@@ -143,7 +150,7 @@ fn sent_each(driven: &Driven, counts: &[usize]) -> bool {
 
 // No message waits for an acknowledgement.
 fn is_done(driven: &Driven) -> bool {
-    driven.a.pending().hop == 0 && driven.b.pending().hop == 0
+    driven.nodes.iter().all(|node| node.pending().hop == 0)
 }
 
 // The legs are Live, and come in and go out on these labels.
@@ -154,6 +161,19 @@ fn are_live(rows: &TableRows, labels_in: &[Option<Label>], labels_out: &[Option<
     legs.iter().all(|leg| leg.phase == Phase::Live)
         && enter.eq(labels_in.iter().copied())
         && leave.eq(labels_out.iter().copied())
+}
+
+// The legs at the node in this place are Live, with these labels.
+fn shows(
+    alloc: Global,
+    driven: &Driven,
+    place: usize,
+    labels_in: &[Option<Label>],
+    labels_out: &[Option<Label>],
+) -> Result<bool, Fail> {
+    let node = driven.nodes.get(place).ok_or("no such node")?;
+    let rows = node.rows(alloc)?;
+    Ok(are_live(&rows, labels_in, labels_out))
 }
 
 // The first Path is lost and goes again at the tick, before the row of the link; it comes twice; the Resv overtakes the
@@ -174,10 +194,8 @@ fn a_path_that_is_lost_goes_again(rt: HostRuntime) -> Result<(), Fail> {
     let driven = drive(alloc, LOST)?;
     assert!(rt; sent_each(&driven, &[1, 2, 2, 1, 1, 0, 0]));
     assert!(rt; is_done(&driven));
-    let rows = driven.a.rows(alloc)?;
-    assert!(rt; are_live(&rows, &[None], &[Label::new(1)]));
-    let rows = driven.b.rows(alloc)?;
-    assert!(rt; are_live(&rows, &[Label::new(1)], &[None]));
+    assert!(rt; shows(alloc, &driven, 0, &[None], &[Label::new(1)])?);
+    assert!(rt; shows(alloc, &driven, 1, &[Label::new(1)], &[None])?);
     Ok(())
 }
 
@@ -204,10 +222,9 @@ fn a_newer_frame_waits_for_the_older(rt: HostRuntime) -> Result<(), Fail> {
     let driven = drive(alloc, OVERTAKEN)?;
     assert!(rt; sent_each(&driven, &[1, 1, 0, 2, 2, 1, 0, 0, 1, 0, 0, 1, 0]));
     assert!(rt; is_done(&driven));
-    let rows = driven.a.rows(alloc)?;
-    assert!(rt; are_live(&rows, &[None, None], &[Label::new(1), Label::new(2)]));
-    let rows = driven.b.rows(alloc)?;
-    assert!(rt; are_live(&rows, &[Label::new(1), Label::new(2)], &[None, None]));
+    let labels = [Label::new(1), Label::new(2)];
+    assert!(rt; shows(alloc, &driven, 0, &[None, None], &labels)?);
+    assert!(rt; shows(alloc, &driven, 1, &labels, &[None, None])?);
     Ok(())
 }
 
@@ -220,7 +237,8 @@ fn sends(alloc: Global, acts: &[Act], counts: &[usize]) -> Result<bool, Fail> {
 // How many rows of a aren't acknowledged after these acts.
 fn rows_due(alloc: Global, acts: &[Act]) -> Result<usize, Fail> {
     let driven = drive(alloc, acts)?;
-    Ok(driven.a.pending().flood)
+    let a = driven.nodes.first().ok_or("no node")?;
+    Ok(a.pending().flood)
 }
 
 // The row of its link is due to a neighbour from the start, goes first at the first tick, and is due until it is
@@ -248,16 +266,28 @@ fn a_row_that_is_lost_goes_again(rt: HostRuntime) -> Result<(), Fail> {
     Ok(())
 }
 
+// How many frames b sends for these bytes of a.
+fn sent_for(alloc: Global, b: &mut Controller, noise: &[u8]) -> Result<usize, Fail> {
+    let bytes = Bytes::from_vec(Vec::from_slice(alloc, noise)?);
+    let sent = give(b, CoreInput::Frame { from: A, bytes })?;
+    Ok(sent.items().len())
+}
+
+// What b comes to by these bytes, none of which is answered.
+fn after_noise(alloc: Global) -> Result<(u64, Pending), Fail> {
+    let mut driven = started(alloc)?;
+    let b = driven.nodes.get_mut(1).ok_or("no such node")?;
+    for noise in [[].as_slice(), &[46], &[46, 0x10, 1, 0], &[89, 0, 0]] {
+        if sent_for(alloc, b, noise)? > 0 {
+            return Err(Fail::new("noise is answered"));
+        }
+    }
+    Ok((b.steps(), b.pending()))
+}
+
 // Bytes that spell nothing: none, a byte alone, an unfinished message, and an unfinished flood.
 #[test]
 fn noise_is_not_answered(rt: HostRuntime) -> Result<(), Fail> {
-    let alloc = rt.alloc();
-    let t = two_nodes(alloc)?;
-    let mut b = controller(alloc, &t, B)?;
-    for noise in [[].as_slice(), &[46], &[46, 0x10, 1, 0], &[89, 0, 0]] {
-        let bytes = Bytes::from_vec(Vec::from_slice(alloc, noise)?);
-        assert!(rt; take_bytes(&mut b, A, bytes)?.items().is_empty());
-    }
-    assert_eq!(rt; (b.steps(), b.pending()), (4, Pending { hop: 0, flood: 1 }));
+    assert_eq!(rt; after_noise(rt.alloc())?, (4, Pending { hop: 0, flood: 1 }));
     Ok(())
 }

@@ -1,10 +1,9 @@
 //! Controllers of three nodes in a row: the first learns of the second link by a flood.
 
-use crate::controllers::{controller, take_bytes, tick};
+use crate::controllers::{controller, give};
 use ason_base::{
     CallNo, Command, Copied, DeskItem, LinkId, LinkSpec, NodeId, NodeSpec, Numbers, Topology,
 };
-use controller::controller::MOST_STEPS;
 use controller::{Controller, CoreInput, Frames, Pending};
 use std::alloc::Global;
 use std::test::Fail;
@@ -33,9 +32,9 @@ fn three_nodes(alloc: Global) -> Result<Topology, Fail> {
     Ok(t.ok_or("no topology")?)
 }
 
-// The call of this number from a to c, over whatever route, is asked for at a.
-fn set_up(a: &mut Controller, call: u16) -> Result<Frames, Fail> {
-    let command = Command::Setup {
+// The call of this number from a to c, over whatever route.
+fn setup(call: u16) -> Command {
+    Command::Setup {
         call: CallNo(call),
         from: A,
         to: C,
@@ -43,11 +42,6 @@ fn set_up(a: &mut Controller, call: u16) -> Result<Frames, Fail> {
         both: false,
         via: None,
         backup: None,
-    };
-    if a.steps() < MOST_STEPS {
-        Ok(a.step(&CoreInput::Desk(DeskItem::Order(command)))?)
-    } else {
-        Ok(None.ok_or("too many steps")?)
     }
 }
 
@@ -60,20 +54,20 @@ fn due_at(alloc: Global, t: &Topology, id: NodeId) -> Result<Pending, Fail> {
 // What this node sends at its first tick.
 fn sent_first(alloc: Global, t: &Topology, id: NodeId) -> Result<Frames, Fail> {
     let mut c = controller(alloc, t, id)?;
-    tick(&mut c)
+    give(&mut c, CoreInput::Tick)
 }
 
 // How many frames a sends when it takes the second of these frames of b.
 fn take_second(alloc: Global, a: &mut Controller, rows: &Frames) -> Result<usize, Fail> {
     let second = rows.items().get(1).ok_or("no row")?;
     let bytes = second.bytes.copy(alloc)?;
-    let sent = take_bytes(a, B, bytes)?;
+    let sent = give(a, CoreInput::Frame { from: B, bytes })?;
     Ok(sent.items().len())
 }
 
 // How many frames a sends when the call of this number is asked for.
 fn asks(a: &mut Controller, call: u16) -> Result<usize, Fail> {
-    let sent = set_up(a, call)?;
+    let sent = give(a, CoreInput::Desk(DeskItem::Order(setup(call))))?;
     Ok(sent.items().len())
 }
 
