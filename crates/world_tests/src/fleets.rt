@@ -47,11 +47,35 @@ fn setup(alloc: Global, call: u16) -> Result<Command, Fail> {
     })
 }
 
-fn release() -> Command {
-    Command::Release {
-        call: CallNo(0),
-        from: A,
-    }
+// What is asked of the fleet.
+#[derive(Clone, Copy, Debug, PartialEq, Eq, Drop)]
+enum Order {
+    // The call of this number is set up.
+    SetUp(u16),
+    // The first call is released.
+    Release,
+    // The link fails.
+    Fail,
+    // The link is repaired.
+    Repair,
+}
+
+fn command_of(alloc: Global, order: Order) -> Result<Command, Fail> {
+    let group = Group::Link(LINK);
+    Ok(match order {
+        Order::SetUp(call) => setup(alloc, call)?,
+        Order::Release => Command::Release {
+            call: CallNo(0),
+            from: A,
+        },
+        Order::Fail => Command::Fail { group },
+        Order::Repair => Command::Repair { group },
+    })
+}
+
+fn post(alloc: Global, fleet: &mut Fleet, order: Order) -> Result<(), Fail> {
+    let command = command_of(alloc, order)?;
+    Ok(fleet.post(&command)?)
 }
 
 // Rounds until nothing waits, at most ten.
@@ -101,60 +125,104 @@ fn is_bare(alloc: Global, fleet: &Fleet) -> Result<bool, Fail> {
     Ok(rows.calls.items().is_empty() && rows.legs.items().is_empty())
 }
 
+// What is done to a fleet, or what must be seen of it.
+#[derive(Clone, Copy, Debug, PartialEq, Eq, Drop)]
+enum Act {
+    Post(Order),
+    // A round of so many events.
+    Round(u64),
+    // Rounds until nothing waits.
+    Settle,
+    // So much waits: on desks, of hops and of floods.
+    Waits(usize, usize, usize),
+    // The call stands.
+    Stands,
+    // There is no call.
+    Bare,
+}
+
+fn holds(alloc: Global, fleet: &mut Fleet, act: Act) -> Result<bool, Fail> {
+    match act {
+        Act::Post(order) => post(alloc, fleet, order)?,
+        Act::Round(events) => return Ok(fleet.round() == Ok(events)),
+        Act::Settle => settle(fleet)?,
+        Act::Waits(desk, hop, flood) => return Ok(waits(fleet, desk, hop, flood)),
+        Act::Stands => return stands(alloc, fleet),
+        Act::Bare => return is_bare(alloc, fleet),
+    }
+    Ok(true)
+}
+
+// The place of the first act that isn't seen as it must be.
+fn first_unseen(alloc: Global, acts: &[Act]) -> Result<Option<usize>, Fail> {
+    let mut fleet = new_fleet(alloc)?;
+    for (place, act) in acts.iter().enumerate() {
+        if !holds(alloc, &mut fleet, *act)? {
+            return Ok(Some(place));
+        }
+    }
+    Ok(None)
+}
+
 // After the first round the Path, the Resv and the rows of both nodes aren't acknowledged; the second brings all
 // acknowledgements. The events are those that proofs/Example works out.
+const SET_UP: &[Act] = &[
+    Act::Waits(0, 0, 2),
+    Act::Bare,
+    Act::Post(Order::SetUp(0)),
+    Act::Waits(1, 0, 2),
+    Act::Round(5),
+    Act::Waits(0, 2, 2),
+    Act::Round(10),
+    Act::Waits(0, 0, 0),
+    Act::Stands,
+];
+
 #[test]
 fn a_call_is_set_up_in_two_rounds(rt: HostRuntime) -> Result<(), Fail> {
-    let alloc = rt.alloc();
-    let mut fleet = new_fleet(alloc)?;
-    assert!(rt; waits(&fleet, 0, 0, 2));
-    assert!(rt; is_bare(alloc, &fleet)?);
-    fleet.post(&setup(alloc, 0)?)?;
-    assert!(rt; waits(&fleet, 1, 0, 2));
-    assert!(rt; fleet.round() == Ok(5));
-    assert!(rt; waits(&fleet, 0, 2, 2));
-    assert!(rt; fleet.round() == Ok(10));
-    assert!(rt; waits(&fleet, 0, 0, 0));
-    assert!(rt; stands(alloc, &fleet)?);
+    assert_eq!(rt; first_unseen(rt.alloc(), SET_UP)?, None);
     Ok(())
 }
 
 // A release leaves no call and no leg, and the label is free for another call.
+const RELEASED: &[Act] = &[
+    Act::Post(Order::SetUp(0)),
+    Act::Settle,
+    Act::Post(Order::Release),
+    Act::Waits(1, 0, 0),
+    Act::Stands,
+    Act::Settle,
+    Act::Waits(0, 0, 0),
+    Act::Bare,
+    Act::Post(Order::SetUp(1)),
+    Act::Settle,
+    Act::Stands,
+];
+
 #[test]
 fn a_call_that_is_released_leaves_nothing(rt: HostRuntime) -> Result<(), Fail> {
-    let alloc = rt.alloc();
-    let mut fleet = new_fleet(alloc)?;
-    fleet.post(&setup(alloc, 0)?)?;
-    settle(&mut fleet)?;
-    fleet.post(&release())?;
-    assert!(rt; waits(&fleet, 1, 0, 0));
-    assert!(rt; stands(alloc, &fleet)?);
-    settle(&mut fleet)?;
-    assert!(rt; waits(&fleet, 0, 0, 0));
-    assert!(rt; is_bare(alloc, &fleet)?);
-    fleet.post(&setup(alloc, 1)?)?;
-    settle(&mut fleet)?;
-    assert!(rt; stands(alloc, &fleet)?);
+    assert_eq!(rt; first_unseen(rt.alloc(), RELEASED)?, None);
     Ok(())
 }
 
 // Each end of a link that fails is told once, and once when it is repaired. In two rounds each node has the other's row and its
 // acknowledgement; in the third come those that were sent again, and from then on a round is a tick of each node.
+const FAILED: &[Act] = &[
+    Act::Post(Order::Fail),
+    Act::Waits(2, 0, 2),
+    Act::Post(Order::Fail),
+    Act::Waits(2, 0, 2),
+    Act::Round(5),
+    Act::Round(6),
+    Act::Waits(0, 0, 0),
+    Act::Post(Order::Repair),
+    Act::Waits(2, 0, 0),
+    Act::Round(7),
+    Act::Round(2),
+];
+
 #[test]
 fn both_ends_are_told_of_a_link_that_fails(rt: HostRuntime) -> Result<(), Fail> {
-    let alloc = rt.alloc();
-    let mut fleet = new_fleet(alloc)?;
-    let group = Group::Link(LINK);
-    fleet.post(&Command::Fail { group })?;
-    assert!(rt; waits(&fleet, 2, 0, 2));
-    fleet.post(&Command::Fail { group })?;
-    assert!(rt; waits(&fleet, 2, 0, 2));
-    assert!(rt; fleet.round() == Ok(5));
-    assert!(rt; fleet.round() == Ok(6));
-    assert!(rt; waits(&fleet, 0, 0, 0));
-    fleet.post(&Command::Repair { group })?;
-    assert!(rt; waits(&fleet, 2, 0, 0));
-    assert!(rt; fleet.round() == Ok(7));
-    assert!(rt; fleet.round() == Ok(2));
+    assert_eq!(rt; first_unseen(rt.alloc(), FAILED)?, None);
     Ok(())
 }

@@ -136,45 +136,61 @@ fn replayed(alloc: Global, acts: &[Act]) -> Result<World, Fail> {
 
 // By hand
 
-// The two controllers, and what each sent.
+// The controllers of a and b, and what each sent. They lie in lists, since the drop of one that
+// doesn't is proved anew at each place where it happens.
 #[derive(Drop)]
 struct Driven {
-    a: Controller,
-    b: Controller,
-    from_a: Vec<Bytes>,
-    from_b: Vec<Bytes>,
+    nodes: Vec<Controller>,
+    sent: Vec<Vec<Bytes>>,
 }
 
 fn controller(alloc: Global, t: &Topology, id: NodeId) -> Result<Controller, Fail> {
     match t.node(id) {
         Some(_) => Ok(Controller::new(alloc, t, id)?),
-        None => Ok(None.ok_or("no such node")?),
+        None => Err(Fail::new("no such node")),
     }
 }
 
-fn give(c: &mut Controller, input: &CoreInput) -> Result<Frames, Fail> {
-    let near = match input {
+fn give(c: &mut Controller, input: CoreInput) -> Result<Frames, Fail> {
+    let near = match &input {
         CoreInput::Frame { from, .. } => c.has_neighbour(*from),
         CoreInput::Tick | CoreInput::Desk(_) => true,
     };
     if c.steps() < MOST_STEPS && near {
-        Ok(c.step(input)?)
+        Ok(c.step(&input)?)
     } else {
-        Ok(None.ok_or("not a step")?)
+        Err(Fail::new("not a step"))
     }
 }
 
-fn take(
-    alloc: Global,
-    c: &mut Controller,
-    from: NodeId,
-    sent: &[Bytes],
-    number: u64,
-) -> Result<Frames, Fail> {
+fn frame_of(alloc: Global, sent: &[Vec<Bytes>], from: usize, number: u64) -> Result<Bytes, Fail> {
+    let sent = sent.get(from).ok_or("no such node")?;
     let place = number.checked_sub(1).ok_or("no number")?;
     let frame = sent.get(place as usize).ok_or("no such frame")?;
-    let bytes = frame.copy(alloc)?;
-    give(c, &CoreInput::Frame { from, bytes })
+    Ok(frame.copy(alloc)?)
+}
+
+fn input_of(alloc: Global, sent: &[Vec<Bytes>], act: Act) -> Result<CoreInput, Fail> {
+    Ok(match act {
+        Act::SetUp(call) => CoreInput::Desk(DeskItem::Order(setup(alloc, call)?)),
+        Act::TickA | Act::TickB => CoreInput::Tick,
+        Act::ToA(number) => CoreInput::Frame {
+            from: B,
+            bytes: frame_of(alloc, sent, 1, number)?,
+        },
+        Act::ToB(number) => CoreInput::Frame {
+            from: A,
+            bytes: frame_of(alloc, sent, 0, number)?,
+        },
+    })
+}
+
+// Where it happens.
+fn place_of(act: Act) -> usize {
+    match act {
+        Act::SetUp(_) | Act::TickA | Act::ToA(_) => 0,
+        Act::TickB | Act::ToB(_) => 1,
+    }
 }
 
 fn keep(sent: &mut Vec<Bytes>, frames: Frames) -> Result<(), Fail> {
@@ -184,41 +200,40 @@ fn keep(sent: &mut Vec<Bytes>, frames: Frames) -> Result<(), Fail> {
     Ok(())
 }
 
-fn set_up(alloc: Global, a: &mut Controller, call: u16) -> Result<Frames, Fail> {
-    let command = setup(alloc, call)?;
-    give(a, &CoreInput::Desk(DeskItem::Order(command)))
+fn carry_out(alloc: Global, driven: &mut Driven, act: Act) -> Result<(), Fail> {
+    let Driven { nodes, sent } = driven;
+    let place = place_of(act);
+    let node = nodes.get_mut(place).ok_or("no such node")?;
+    let frames = give(node, input_of(alloc, sent, act)?)?;
+    keep(sent.get_mut(place).ok_or("no such node")?, frames)
 }
 
-fn carry_out(alloc: Global, driven: &mut Driven, act: Act) -> Result<(), Fail> {
-    let Driven {
-        a,
-        b,
-        from_a,
-        from_b,
-    } = driven;
-    match act {
-        Act::SetUp(call) => keep(from_a, set_up(alloc, a, call)?),
-        Act::TickA => keep(from_a, give(a, &CoreInput::Tick)?),
-        Act::TickB => keep(from_b, give(b, &CoreInput::Tick)?),
-        Act::ToA(number) => keep(from_a, take(alloc, a, B, from_b, number)?),
-        Act::ToB(number) => keep(from_b, take(alloc, b, A, from_a, number)?),
+fn started(alloc: Global) -> Result<Driven, Fail> {
+    let t = two_nodes(alloc)?;
+    let mut nodes = Vec::new(alloc);
+    let mut sent = Vec::new(alloc);
+    for id in [A, B] {
+        nodes.push(controller(alloc, &t, id)?)?;
+        sent.push(Vec::new(alloc))?;
     }
+    Ok(Driven { nodes, sent })
 }
 
 fn drive(alloc: Global, acts: &[Act]) -> Result<Driven, Fail> {
-    let t = two_nodes(alloc)?;
-    let a = controller(alloc, &t, A)?;
-    let b = controller(alloc, &t, B)?;
-    let mut driven = Driven {
-        a,
-        b,
-        from_a: Vec::new(alloc),
-        from_b: Vec::new(alloc),
-    };
+    let mut driven = started(alloc)?;
     for act in acts {
         carry_out(alloc, &mut driven, *act)?;
     }
     Ok(driven)
+}
+
+// The tables of a and b.
+fn rows_of(alloc: Global, driven: &Driven) -> Result<Vec<TableRows>, Fail> {
+    let mut rows = Vec::new(alloc);
+    for node in &driven.nodes {
+        rows.push(node.rows(alloc)?)?;
+    }
+    Ok(rows)
 }
 
 fn same_legs(all: &[LegRow], first: &[LegRow], second: &[LegRow]) -> bool {
@@ -227,6 +242,17 @@ fn same_legs(all: &[LegRow], first: &[LegRow], second: &[LegRow]) -> bool {
 
 fn same_calls(all: &[CallRow], first: &[CallRow], second: &[CallRow]) -> bool {
     all.iter().eq(first.iter().chain(second))
+}
+
+// The table of the replay has the rows of a, and then those of b.
+fn is_joined(all: &TableRows, rows: &[TableRows]) -> bool {
+    match rows {
+        [a, b] => {
+            same_calls(all.calls.items(), a.calls.items(), b.calls.items())
+                && same_legs(all.legs.items(), a.legs.items(), b.legs.items())
+        }
+        _ => false,
+    }
 }
 
 // The legs are Live and go out, or come in, on labels 1, 2 and 3.
@@ -239,41 +265,51 @@ fn are_live(rows: &TableRows) -> bool {
         && into.iter().map(|leg| leg.in_label).eq(labels())
 }
 
-// The replay and the two that are driven by hand show the same table, in which all calls stand.
+// Whether the replay and the two that are driven by hand show the same table, in which all calls
+// stand.
+fn agree(alloc: Global, world: &World, acts: &[Act]) -> Result<bool, Fail> {
+    let driven = drive(alloc, acts)?;
+    let rows = rows_of(alloc, &driven)?;
+    let all = world.rows(alloc)?;
+    Ok(is_joined(&all, &rows) && are_live(&all))
+}
+
 #[test]
 fn a_replay_is_what_its_controllers_do(rt: HostRuntime) -> Result<(), Fail> {
-    let alloc = rt.alloc();
-    let world = replayed(alloc, ACTS)?;
-    let hand = drive(alloc, ACTS)?;
-    let rows = world.rows(alloc)?;
-    let (a, b) = (hand.a.rows(alloc)?, hand.b.rows(alloc)?);
-    assert!(rt; same_calls(rows.calls.items(), a.calls.items(), b.calls.items()));
-    assert!(rt; same_legs(rows.legs.items(), a.legs.items(), b.legs.items()));
-    assert!(rt; are_live(&rows));
+    let world = replayed(rt.alloc(), ACTS)?;
+    assert!(rt; agree(rt.alloc(), &world, ACTS)?);
     assert!(rt; world.quiet());
     Ok(())
+}
+
+// Whether all calls stand after these acts, and whether nothing waits then.
+fn live_and_quiet(alloc: Global, acts: &[Act]) -> Result<(bool, bool), Fail> {
+    let world = replayed(alloc, acts)?;
+    Ok((are_live(&world.rows(alloc)?), world.quiet()))
 }
 
 // The last acknowledgement is missing.
 #[test]
 fn a_world_waits_for_the_last_acknowledgement(rt: HostRuntime) -> Result<(), Fail> {
-    let alloc = rt.alloc();
-    let world = replayed(alloc, &ACTS[..25])?;
-    assert!(rt; are_live(&world.rows(alloc)?));
-    assert!(rt; !world.quiet());
+    assert_eq!(rt; live_and_quiet(rt.alloc(), &ACTS[..25])?, (true, false));
     Ok(())
 }
 
-fn refused(alloc: Global, more: Event) -> Result<bool, Fail> {
+// The number of the first event that isn't enabled.
+fn first_refused(alloc: Global, events: &[Event]) -> Result<Option<usize>, Fail> {
     let t = two_nodes(alloc)?;
+    Ok(match replay(alloc, &t, events) {
+        Err(ReplayError::NotRun(number)) => Some(number),
+        Err(_) | Ok(_) => None,
+    })
+}
+
+fn refused(alloc: Global, more: Event) -> Result<bool, Fail> {
     let mut events = events_of(alloc, &ACTS[..5])?;
     let number = events.len() + 1;
     events.push(more)?;
     events.push(Event::Tick { node: NodeId(9) })?;
-    Ok(match replay(alloc, &t, &events) {
-        Ok(_) => false,
-        Err(e) => e == ReplayError::NotRun(number),
-    })
+    Ok(first_refused(alloc, &events)? == Some(number))
 }
 
 fn bytes(alloc: Global, bytes: &[u8]) -> Result<Bytes, Fail> {
@@ -283,18 +319,13 @@ fn bytes(alloc: Global, bytes: &[u8]) -> Result<Bytes, Fail> {
 // No message is unacknowledged, and the rows are.
 #[test]
 fn a_world_waits_for_its_rows(rt: HostRuntime) -> Result<(), Fail> {
-    let world = replayed(rt.alloc(), &[])?;
-    assert!(rt; !world.quiet());
+    assert_eq!(rt; live_and_quiet(rt.alloc(), &[])?, (false, false));
     Ok(())
 }
 
-// Bytes that spell nothing: none, a byte alone, an unfinished message, and an unfinished flood.
-#[test]
-fn noise_changes_nothing(rt: HostRuntime) -> Result<(), Fail> {
-    let alloc = rt.alloc();
-    let t = two_nodes(alloc)?;
+fn noise(alloc: Global, all: &[&[u8]]) -> Result<Vec<Event>, Fail> {
     let mut events = Vec::new(alloc);
-    for noise in [[].as_slice(), &[46], &[46, 0x10, 1, 0], &[89, 0, 0]] {
+    for noise in all {
         let bytes = bytes(alloc, noise)?;
         events.push(Event::Noise {
             to: B,
@@ -302,9 +333,36 @@ fn noise_changes_nothing(rt: HostRuntime) -> Result<(), Fail> {
             bytes,
         })?;
     }
-    let world = replay(alloc, &t, &events)?;
-    assert!(rt; world.rows(alloc)?.legs.items().is_empty());
+    Ok(events)
+}
+
+// How many legs stand after these events.
+fn legs_after(alloc: Global, events: &[Event]) -> Result<usize, Fail> {
+    let t = two_nodes(alloc)?;
+    let world = replay(alloc, &t, events)?;
+    Ok(world.rows(alloc)?.legs.items().len())
+}
+
+// Bytes that spell nothing: none, a byte alone, an unfinished message, and an unfinished flood.
+#[test]
+fn noise_changes_nothing(rt: HostRuntime) -> Result<(), Fail> {
+    let alloc = rt.alloc();
+    let events = noise(alloc, &[&[], &[46], &[46, 0x10, 1, 0], &[89, 0, 0]])?;
+    assert_eq!(rt; legs_after(alloc, &events)?, 0);
     Ok(())
+}
+
+fn deliver(number: u64) -> Event {
+    Event::Deliver {
+        to: B,
+        from: A,
+        number,
+    }
+}
+
+fn post(alloc: Global, call: u16) -> Result<Event, Fail> {
+    let command = setup(alloc, call)?;
+    Ok(Event::Post { command })
 }
 
 // The first event that isn't enabled is told by its number: a frame with number 0, one that was never sent, an empty desk, a
@@ -312,16 +370,10 @@ fn noise_changes_nothing(rt: HostRuntime) -> Result<(), Fail> {
 #[test]
 fn the_first_event_that_is_not_enabled_is_told(rt: HostRuntime) -> Result<(), Fail> {
     let alloc = rt.alloc();
-    let deliver = |number: u64| Event::Deliver {
-        to: B,
-        from: A,
-        number,
-    };
-    let command = setup(alloc, 1)?;
     assert!(rt; refused(alloc, deliver(0))?);
     assert!(rt; refused(alloc, deliver(8))?);
     assert!(rt; refused(alloc, Event::Desk { node: A })?);
     assert!(rt; refused(alloc, Event::Tick { node: NodeId(3) })?);
-    assert!(rt; refused(alloc, Event::Post { command })?);
+    assert!(rt; refused(alloc, post(alloc, 1)?)?);
     Ok(())
 }
