@@ -7,17 +7,18 @@ use ason_base::{
 };
 use mesh::{MeshEvent, MeshState, StepFault};
 use std::alloc::Global;
-use std::process::Abort;
 use std::test::Fail;
 
 /// The number of a link, its ends, and its labels.
 type Joins = (u32, u32, u32, u8);
 
-/// The route of a call that is set up: the nodes and links of its steps, and its egress.
-type Setup = (&'static [(u32, u32)], u32);
-
 /// A leg: its node, and its link and label in and out.
 type Leg = (u32, Option<(u32, u8)>, Option<(u32, u8)>);
+
+/// The number of a call, its state and its cause.
+type Call = (u16, CallState, Cause);
+
+const STANDS: Call = (0, CallState::Bare, Cause::Unset);
 
 fn topology(alloc: Global, nodes: u32, joins: &[Joins]) -> Result<Topology, Fail> {
     let mut specs = Vec::new(alloc);
@@ -74,46 +75,91 @@ fn search(call: u16, from: u32, to: u32) -> Command {
     }
 }
 
-fn learn(node: u32, link: u32) -> MeshEvent {
-    MeshEvent::Learn {
-        node: NodeId(node),
-        link: LinkId(link),
+/// What happens. Nodes and links are named by their numbers.
+#[derive(Clone, Copy, Drop)]
+enum Act {
+    /// The call of this number is asked for over these steps to this node.
+    SetUp(u16, &'static [(u32, u32)], u32),
+    /// The call of this number is asked for from this node to that one, over whatever route.
+    Search(u16, u32, u32),
+    Desk(u32),
+    Tick(u32),
+    /// The first node takes a message of the second.
+    Take(u32, u32),
+    /// The node learns the row of the link.
+    Learn(u32, u32),
+}
+
+fn event_of(alloc: Global, act: Act) -> Result<MeshEvent, Fail> {
+    Ok(match act {
+        Act::SetUp(call, route, to) => MeshEvent::Post {
+            command: setup(alloc, call, route, to)?,
+        },
+        Act::Search(call, from, to) => MeshEvent::Post {
+            command: search(call, from, to),
+        },
+        Act::Desk(node) => MeshEvent::Desk { node: NodeId(node) },
+        Act::Tick(node) => MeshEvent::Tick { node: NodeId(node) },
+        Act::Take(to, from) => MeshEvent::Take {
+            to: NodeId(to),
+            from: NodeId(from),
+        },
+        Act::Learn(node, link) => MeshEvent::Learn {
+            node: NodeId(node),
+            link: LinkId(link),
+        },
+    })
+}
+
+/// Whether it is enabled; then it happens.
+fn carry_out(alloc: Global, mesh: &mut MeshState, act: Act) -> Result<bool, Fail> {
+    let event = event_of(alloc, act)?;
+    match mesh.step(alloc, &event) {
+        Ok(()) => Ok(true),
+        Err(StepFault::NotEnabled) => Ok(false),
+        Err(StepFault::OutOfMemory) => Err(Fail::new("no memory")),
     }
+}
+
+fn started(alloc: Global, nodes: u32, joins: &[Joins]) -> Result<MeshState, Fail> {
+    let t = topology(alloc, nodes, joins)?;
+    Ok(MeshState::new(alloc, &t)?)
+}
+
+/// Which of these acts are enabled, one after the other.
+fn enabled(alloc: Global, nodes: u32, joins: &[Joins], acts: &[Act]) -> Result<Vec<bool>, Fail> {
+    let mut mesh = started(alloc, nodes, joins)?;
+    let mut enabled = Vec::new(alloc);
+    for act in acts {
+        enabled.push(carry_out(alloc, &mut mesh, *act)?)?;
+    }
+    Ok(enabled)
 }
 
 /// Each node ticks, handles an item of its desk and takes a message of each other node, where there
 /// is one.
-fn round(alloc: Global, mesh: &mut MeshState, nodes: u32) {
+fn round(alloc: Global, mesh: &mut MeshState, nodes: u32) -> Result<(), Fail> {
     for n in 0..nodes {
-        let node = NodeId(n + 1);
-        let _ = mesh.step(alloc, &MeshEvent::Tick { node }).is_ok();
-        let _ = mesh.step(alloc, &MeshEvent::Desk { node }).is_ok();
+        let node = n + 1;
+        let _ticks = carry_out(alloc, mesh, Act::Tick(node))?;
+        let _handles = carry_out(alloc, mesh, Act::Desk(node))?;
         for u in 0..nodes {
-            let from = NodeId(u + 1);
-            let _ = mesh
-                .step(alloc, &MeshEvent::Take { to: node, from })
-                .is_ok();
+            let _takes = carry_out(alloc, mesh, Act::Take(node, u + 1))?;
         }
     }
+    Ok(())
 }
 
-/// The mesh once these setups are posted and nothing waits.
-fn settled(
-    alloc: Global,
-    nodes: u32,
-    joins: &[Joins],
-    setups: &[Setup],
-) -> Result<MeshState, Fail> {
-    let t = topology(alloc, nodes, joins)?;
-    let mut mesh = MeshState::new(alloc, &t)?;
-    let mut call = 0;
-    for (route, to) in setups {
-        let command = setup(alloc, call, route, *to)?;
-        mesh.step(alloc, &MeshEvent::Post { command })?;
-        call = 1;
+/// The mesh once these acts have happened, each of which must be enabled, and nothing waits.
+fn settled(alloc: Global, nodes: u32, joins: &[Joins], acts: &[Act]) -> Result<MeshState, Fail> {
+    let mut mesh = started(alloc, nodes, joins)?;
+    for act in acts {
+        if !carry_out(alloc, &mut mesh, *act)? {
+            return Err(Fail::new("an act that isn't enabled"));
+        }
     }
     for _ in 0..20 {
-        round(alloc, &mut mesh, nodes);
+        round(alloc, &mut mesh, nodes)?;
     }
     Ok(mesh)
 }
@@ -131,78 +177,70 @@ fn are_legs(rows: &[LegRow], legs: &[Leg]) -> bool {
     rows.len() == legs.len() && rows.iter().zip(legs).all(|(row, leg)| is_leg(row, leg))
 }
 
-fn has_call(rows: &[CallRow], call: u16, state: CallState, cause: Cause) -> bool {
-    rows.iter().any(|row| row.call == CallNo(call) && row.state == state && row.cause == cause)
+fn is_call(row: &CallRow, call: &Call) -> bool {
+    row.call == CallNo(call.0) && row.state == call.1 && row.cause == call.2
+}
+
+fn are_calls(rows: &[CallRow], calls: &[Call]) -> bool {
+    rows.len() == calls.len() && rows.iter().zip(calls).all(|(row, call)| is_call(row, call))
+}
+
+/// Whether nothing is under way, and these calls and legs are shown.
+fn shows(alloc: Global, mesh: &MeshState, calls: &[Call], legs: &[Leg]) -> Result<bool, Fail> {
+    let rows = mesh.rows(alloc)?;
+    Ok(mesh.is_quiet() && are_calls(rows.calls.items(), calls) && are_legs(rows.legs.items(), legs))
 }
 
 // The call stands after its setup, the Path and the Resv; then nothing is under way.
 #[test]
 fn a_call_over_one_link(rt: HostRuntime) -> Result<(), Fail> {
-    let alloc = rt.alloc();
-    let (ingress, egress) = (NodeId(1), NodeId(2));
-    let t = topology(alloc, 2, &[(1, 1, 2, 1)])?;
-    let mut mesh = MeshState::new(alloc, &t)?;
-    let command = setup(alloc, 0, &[(1, 1)], 2)?;
-    let take = |to: NodeId, from: NodeId| MeshEvent::Take { to, from };
-    let events = [
-        MeshEvent::Post { command },
-        MeshEvent::Desk { node: ingress },
-        take(egress, ingress),
-        take(ingress, egress),
-        MeshEvent::Tick { node: ingress },
+    let acts = [
+        Act::SetUp(0, &[(1, 1)], 2),
+        Act::Desk(1),
+        Act::Take(2, 1),
+        Act::Take(1, 2),
+        Act::Tick(1),
+        Act::Take(1, 2),
     ];
-    for event in &events {
-        assert!(rt; mesh.step(alloc, event).is_ok());
-    }
-    let again = mesh.step(alloc, &take(ingress, egress));
-    assert!(rt; again == Err(StepFault::NotEnabled));
+    let enabled = enabled(rt.alloc(), 2, &[(1, 1, 2, 1)], &acts)?;
+    assert_eq!(rt;
+        enabled.as_slice(),
+        [true, true, true, true, true, false].as_slice()
+    );
     Ok(())
 }
 
 // The table of examples/line.toml.
 #[test]
 fn a_call_over_two_links(rt: HostRuntime) -> Result<(), Fail> {
-    let alloc = rt.alloc();
     let joins = [(3, 1, 2, 40), (5, 2, 3, 80)];
-    let mesh = settled(alloc, 3, &joins, &[(&[(1, 3), (2, 5)], 3)])?;
-    let rows = mesh.rows(alloc)?;
+    let acts = [Act::SetUp(0, &[(1, 3), (2, 5)], 3)];
     let legs = [
         (1, None, Some((3, 1))),
         (2, Some((3, 1)), Some((5, 1))),
         (3, Some((5, 1)), None),
     ];
-    assert!(rt; mesh.is_quiet());
-    assert!(rt; rows.calls.items().len() == 1);
-    assert!(rt; has_call(rows.calls.items(), 0, CallState::Bare, Cause::Unset));
-    assert!(rt; are_legs(rows.legs.items(), &legs));
+    let mesh = settled(rt.alloc(), 3, &joins, &acts)?;
+    assert!(rt; shows(rt.alloc(), &mesh, &[STANDS], &legs)?);
     Ok(())
 }
 
 // The first table of examples/two.toml: the second call finds no wavelength.
 #[test]
 fn a_call_that_is_blocked(rt: HostRuntime) -> Result<(), Fail> {
-    let alloc = rt.alloc();
     let joins = [(1, 1, 2, 1), (2, 2, 3, 1), (3, 2, 4, 1)];
-    let setups: [Setup; 2] = [(&[(1, 1), (2, 3)], 4), (&[(3, 2), (2, 3)], 4)];
-    let mesh = settled(alloc, 4, &joins, &setups)?;
-    let rows = mesh.rows(alloc)?;
+    let acts = [
+        Act::SetUp(0, &[(1, 1), (2, 3)], 4),
+        Act::SetUp(1, &[(3, 2), (2, 3)], 4),
+    ];
+    let calls = [STANDS, (1, CallState::Blocked, Cause::Code(codes::SET))];
     let legs = [
         (1, None, Some((1, 1))),
         (2, Some((1, 1)), Some((3, 1))),
         (4, Some((3, 1)), None),
     ];
-    assert!(rt; mesh.is_quiet());
-    assert!(rt; rows.calls.items().len() == 2);
-    assert!(rt; has_call(rows.calls.items(), 0, CallState::Bare, Cause::Unset));
-    assert!(rt;
-        has_call(
-            rows.calls.items(),
-            1,
-            CallState::Blocked,
-            Cause::Code(codes::SET)
-        )
-    );
-    assert!(rt; are_legs(rows.legs.items(), &legs));
+    let mesh = settled(rt.alloc(), 4, &joins, &acts)?;
+    assert!(rt; shows(rt.alloc(), &mesh, &calls, &legs)?);
     Ok(())
 }
 
@@ -211,23 +249,22 @@ fn a_call_that_is_blocked(rt: HostRuntime) -> Result<(), Fail> {
 // both are known.
 #[test]
 fn calls_over_learnt_links(rt: HostRuntime) -> Result<(), Fail> {
-    let alloc = rt.alloc();
     let joins = [(1, 1, 2, 1), (2, 1, 3, 1), (3, 2, 4, 1), (4, 3, 4, 1)];
-    let t = topology(alloc, 4, &joins)?;
-    let mut mesh = MeshState::new(alloc, &t)?;
-    for call in 0..3 {
-        let command = search(call, 1, 4);
-        mesh.step(alloc, &MeshEvent::Post { command })?;
-    }
-    mesh.step(alloc, &MeshEvent::Desk { node: NodeId(1) })?;
-    mesh.step(alloc, &learn(1, 4))?;
-    mesh.step(alloc, &MeshEvent::Desk { node: NodeId(1) })?;
-    mesh.step(alloc, &learn(1, 3))?;
-    mesh.step(alloc, &learn(1, 3))?;
-    for _ in 0..20 {
-        round(alloc, &mut mesh, 4);
-    }
-    let rows = mesh.rows(alloc)?;
+    let acts = [
+        Act::Search(0, 1, 4),
+        Act::Search(1, 1, 4),
+        Act::Search(2, 1, 4),
+        Act::Desk(1),
+        Act::Learn(1, 4),
+        Act::Desk(1),
+        Act::Learn(1, 3),
+        Act::Learn(1, 3),
+    ];
+    let calls = [
+        (0, CallState::Blocked, Cause::NoRoute),
+        (1, CallState::Bare, Cause::Unset),
+        (2, CallState::Bare, Cause::Unset),
+    ];
     let legs = [
         (1, None, Some((2, 1))),
         (1, None, Some((1, 1))),
@@ -236,26 +273,26 @@ fn calls_over_learnt_links(rt: HostRuntime) -> Result<(), Fail> {
         (4, Some((4, 1)), None),
         (4, Some((3, 1)), None),
     ];
-    let calls = rows.calls.items();
-    assert!(rt; mesh.is_quiet());
-    assert!(rt; calls.len() == 3);
-    assert!(rt; has_call(calls, 0, CallState::Blocked, Cause::NoRoute));
-    assert!(rt; has_call(calls, 1, CallState::Bare, Cause::Unset));
-    assert!(rt; has_call(calls, 2, CallState::Bare, Cause::Unset));
-    assert!(rt; are_legs(rows.legs.items(), &legs));
+    let mesh = settled(rt.alloc(), 4, &joins, &acts)?;
+    assert!(rt; shows(rt.alloc(), &mesh, &calls, &legs)?);
     Ok(())
 }
 
 // A row goes from node to node: the next one learns it once its neighbour did.
 #[test]
 fn a_row_from_node_to_node(rt: HostRuntime) -> Result<(), Fail> {
-    let alloc = rt.alloc();
-    let t = topology(alloc, 4, &[(1, 1, 2, 1), (2, 2, 3, 1), (3, 3, 4, 1)])?;
-    let mut mesh = MeshState::new(alloc, &t)?;
-    assert!(rt; mesh.step(alloc, &learn(1, 3)) == Err(StepFault::NotEnabled));
-    assert!(rt; mesh.step(alloc, &learn(1, 9)) == Err(StepFault::NotEnabled));
-    assert!(rt; mesh.step(alloc, &learn(9, 1)) == Err(StepFault::NotEnabled));
-    assert!(rt; mesh.step(alloc, &learn(2, 3)).is_ok());
-    assert!(rt; mesh.step(alloc, &learn(1, 3)).is_ok());
+    let joins = [(1, 1, 2, 1), (2, 2, 3, 1), (3, 3, 4, 1)];
+    let acts = [
+        Act::Learn(1, 3),
+        Act::Learn(1, 9),
+        Act::Learn(9, 1),
+        Act::Learn(2, 3),
+        Act::Learn(1, 3),
+    ];
+    let enabled = enabled(rt.alloc(), 4, &joins, &acts)?;
+    assert_eq!(rt;
+        enabled.as_slice(),
+        [false, false, false, true, true].as_slice()
+    );
     Ok(())
 }

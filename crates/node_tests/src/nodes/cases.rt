@@ -323,18 +323,17 @@ fn sent(alloc: Global, outs: &Outs) -> Result<Vec<Sent>, Fail> {
     Ok(sent)
 }
 
-// A row is given by knowing alone.
-fn step(alloc: Global, node: &mut Node, input: &Input) -> Result<Outs, Fail> {
-    match input {
-        Input::Message { .. } | Input::Desk(_) | Input::Tick => Ok(node.step(alloc, input)?),
+/// What the node sends when it is given this. A row is given by knowing alone.
+pub(super) fn step(alloc: Global, node: &mut Node, input: Input) -> Result<Outs, Fail> {
+    match &input {
+        Input::Message { .. } | Input::Desk(_) | Input::Tick => Ok(node.step(alloc, &input)?),
         Input::Learn(_) => Err(Fail::new("a row")),
     }
 }
 
 // One input, and what is sent.
 fn give(alloc: Global, node: &mut Node, number: u16, said: Said) -> Result<Vec<Sent>, Fail> {
-    let input = input(alloc, number, said)?;
-    let outs = step(alloc, node, &input)?;
+    let outs = step(alloc, node, input(alloc, number, said)?)?;
     sent(alloc, &outs)
 }
 
@@ -383,7 +382,8 @@ fn give_all(alloc: Global, node: &mut Node, given: &[Given]) -> Result<Vec<Sent>
     Ok(last)
 }
 
-fn shown(alloc: Global, node: &Node) -> Result<Shown, Fail> {
+/// What a table shows of the node.
+pub(super) fn shown(alloc: Global, node: &Node) -> Result<Shown, Fail> {
     let rows = node.rows(alloc)?;
     let legs = rows.legs.items();
     let phase = legs.last().map(|leg| leg.phase);
@@ -431,19 +431,33 @@ fn transparent_nodes(rt: HostRuntime) -> Result<(), Fail> {
     go_through(&rt, rt.alloc(), &t, TRANSPARENT)
 }
 
+// The node knows the links 1 and 2, and no third.
+fn knows_two(node: &Node) -> bool {
+    node.knows(LinkId(1)) && node.knows(LinkId(2)) && !node.knows(LinkId(3))
+}
+
+// What the node a sends for a call to c, and what is shown of it then, once it has learnt the row of
+// link 2.
+fn after_learning(alloc: Global) -> Result<(Vec<Sent>, Shown), Fail> {
+    let t = line(alloc, true, 1)?;
+    let mut nodes = Vec::new(alloc);
+    nodes.push(knowing(alloc, &t, A, LinkId(2))?)?;
+    match nodes.get_mut(0) {
+        Some(node) if knows_two(node) => {
+            let sent = give(alloc, node, 1, Said::SetupTo(C))?;
+            Ok((sent, shown(alloc, node)?))
+        }
+        _ => Err(Fail::new("a node that knows the links 1 and 2")),
+    }
+}
+
 // A call to a node beyond the neighbour goes over the link that was learnt.
 #[test]
 fn a_link_is_learnt(rt: HostRuntime) -> Result<(), Fail> {
-    let alloc = rt.alloc();
-    let t = line(alloc, true, 1)?;
-    let mut node = knowing(alloc, &t, A, LinkId(2))?;
-    assert!(rt; node.knows(LinkId(1)));
-    assert!(rt; node.knows(LinkId(2)));
-    assert!(rt; !node.knows(LinkId(3)));
-    let sent = give(alloc, &mut node, 1, Said::SetupTo(C))?;
+    let (sent, shown) = after_learning(rt.alloc())?;
     let path: [Sent; 1] = [(B, Told::Path([true, false, false]))];
-    assert_eq!(rt; sent.as_slice(), path.as_slice());
     let call = Some((CallState::Asking, Cause::Unset));
-    assert_eq!(rt; shown(alloc, &node)?, (1, Some(Phase::Asked), call));
+    assert_eq!(rt; sent.as_slice(), path.as_slice());
+    assert_eq!(rt; shown, (1, Some(Phase::Asked), call));
     Ok(())
 }

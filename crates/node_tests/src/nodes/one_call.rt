@@ -1,73 +1,94 @@
 //! One call over one link, step by step.
 
+use crate::nodes::cases::{Shown, shown, step};
+use crate::nodes::inputs::{A, B};
 use ason_base::{
-    CallNo, CallState, Command, Copied, DeskItem, LinkId, LinkSpec, Msg, NodeId, NodeSpec, Numbers,
-    Outs, Phase, Step, Steps, Topology,
+    CallNo, CallState, Cause, Command, Copied, DeskItem, LinkId, LinkSpec, Msg, NodeId, NodeSpec,
+    Numbers, Outs, Phase, Step, Steps, Topology,
 };
 use node_core::{Input, Node};
 use std::alloc::Global;
+use std::test::Fail;
 
 // Two nodes that convert, and one link of one label.
-fn two_nodes(alloc: Global) -> Option<Topology> {
-    let node = |id: u32| NodeSpec {
-        id: NodeId(id),
-        convert: true,
-    };
+fn two_nodes(alloc: Global) -> Result<Topology, Fail> {
+    let node = |id: NodeId| NodeSpec { id, convert: true };
     let link = LinkSpec {
         id: LinkId(1),
-        low: NodeId(1),
-        high: NodeId(2),
+        low: A,
+        high: B,
         labels: 1,
         metric: 1,
         srlgs: Numbers::new(alloc),
     };
-    Topology::new(alloc, 0, &[node(1), node(2)], &[link]).ok()
+    Ok(Topology::new(alloc, 0, &[node(A), node(B)], &[link])?)
 }
 
-fn setup(alloc: Global) -> Option<Command> {
+fn setup(alloc: Global) -> Result<Input, Fail> {
     let mut via = Steps::new(alloc);
     via.push(Step {
-        node: NodeId(1),
+        node: A,
         link: LinkId(1),
-    })
-    .ok()?;
-    Some(Command::Setup {
+    })?;
+    Ok(Input::Desk(DeskItem::Order(Command::Setup {
         call: CallNo(0),
-        from: NodeId(1),
-        to: NodeId(2),
+        from: A,
+        to: B,
         protected: false,
         both: false,
         via: Some(via),
         backup: None,
-    })
+    })))
+}
+
+// The nodes a and b.
+fn both(alloc: Global) -> Result<Vec<Node>, Fail> {
+    let t = two_nodes(alloc)?;
+    let mut nodes = Vec::new(alloc);
+    nodes.push(Node::new(alloc, &t, A)?)?;
+    nodes.push(Node::new(alloc, &t, B)?)?;
+    Ok(nodes)
+}
+
+// What the node in this place sends when it is given this.
+fn give(alloc: Global, nodes: &mut Vec<Node>, place: usize, input: Input) -> Result<Outs, Fail> {
+    match nodes.get_mut(place) {
+        None => Err(Fail::new("no such node")),
+        Some(node) => step(alloc, node, input),
+    }
 }
 
 // The only message of a step.
-fn only(outs: Outs) -> Option<Msg> {
-    let out = outs.into_vec().pop()?;
-    Some(out.msg)
+fn only(outs: Outs) -> Result<Msg, Fail> {
+    let out = outs.into_vec().pop().ok_or("no message")?;
+    Ok(out.msg)
+}
+
+// The nodes once the Path and the Resv of a call are taken, and a has ticked.
+fn connected(alloc: Global) -> Result<Vec<Node>, Fail> {
+    let mut nodes = both(alloc)?;
+    let msg = only(give(alloc, &mut nodes, 0, setup(alloc)?)?)?;
+    let msg = only(give(alloc, &mut nodes, 1, Input::Message { from: A, msg })?)?;
+    let _none = give(alloc, &mut nodes, 0, Input::Message { from: B, msg })?;
+    let _none = give(alloc, &mut nodes, 0, Input::Tick)?;
+    Ok(nodes)
+}
+
+// What a table shows of a copy of a.
+fn shown_of_copy(alloc: Global, nodes: &[Node]) -> Result<Shown, Fail> {
+    let a = nodes.first().ok_or("no node")?;
+    let again = a.copy(alloc)?;
+    shown(alloc, &again)
 }
 
 // A call over one link: the Path, the Resv, and what a table shows.
 #[test]
-fn one_call(rt: HostRuntime) {
-    let alloc = rt.alloc();
-    let t = two_nodes(alloc).expect(&rt, "a topology");
-    let (a, b) = (NodeId(1), NodeId(2));
-    let mut ingress = Node::new(alloc, &t, a).ok().expect(&rt, "a node");
-    let mut egress = Node::new(alloc, &t, b).ok().expect(&rt, "a node");
-    let order = setup(alloc).expect(&rt, "a setup");
-    let asked = ingress.step(alloc, &Input::Desk(DeskItem::Order(order)));
-    let path = only(asked.ok().expect(&rt, "a step")).expect(&rt, "a Path");
-    let answered = egress.step(alloc, &Input::Message { from: a, msg: path });
-    let resv = only(answered.ok().expect(&rt, "a step")).expect(&rt, "a Resv");
-    let connected = ingress.step(alloc, &Input::Message { from: b, msg: resv });
-    assert!(rt; connected.is_ok());
-    assert!(rt; ingress.step(alloc, &Input::Tick).is_ok());
-    let again = ingress.copy(alloc).ok().expect(&rt, "a copy");
-    let rows = again.rows(alloc).ok().expect(&rt, "rows");
-    let states = rows.calls.items().iter().map(|call| call.state);
-    assert!(rt; states.eq([CallState::Bare].iter().copied()));
-    let phases = rows.legs.items().iter().map(|leg| leg.phase);
-    assert!(rt; phases.eq([Phase::Live].iter().copied()));
+fn one_call(rt: HostRuntime) -> Result<(), Fail> {
+    let nodes = connected(rt.alloc())?;
+    let call = Some((CallState::Bare, Cause::Unset));
+    assert_eq!(rt;
+        shown_of_copy(rt.alloc(), &nodes)?,
+        (1, Some(Phase::Live), call)
+    );
+    Ok(())
 }
