@@ -9,10 +9,14 @@ use Rattle.mesh_laws.proofs.alone.Law.{every_activation_admitted}
 use Rattle.mesh_laws.proofs.hops.Beside.{every_backup_beside}
 use Rattle.mesh_laws.proofs.hops.Joined.{every_call_joined}
 use Rattle.mesh_laws.proofs.hops.Laws.{every_hop}
+use Rattle.mesh_laws.proofs.hops.NodeLabels.{every_leg_keeps}
 use Rattle.mesh_laws.proofs.hops.Recorded.{every_backup_records}
+use Rattle.mesh_laws.proofs.hops.ReportedFibres.{every_report_of_route}
 use Rattle.mesh_laws.proofs.hops.Safe.{every_run_safe}
 use Rattle.mesh_laws.proofs.reports.Desks.{every_desk_tells}
 use Rattle.mesh_laws.proofs.reports.Laws.{every_report_tells}
+use Rattle.mesh_laws.proofs.nodes.CallsStand.{every_call_stands}
+use Rattle.mesh_laws.proofs.hops.Ordered.{every_known, every_ordered, every_tidy}
 use Rattle.mesh_laws.proofs.nodes.Laws.{every_call, every_label, every_learnt_row, every_live}
 use Rattle.mesh_laws.proofs.restoration.Law.{every_hit_call}
 
@@ -22,7 +26,13 @@ laws_hold t events run =
     record {
       labels = every_label t events run;
       labelled = every_live t events run;
+      kept = every_leg_keeps t events run;
       calls = every_call t events run;
+      tidy = every_tidy t events run;
+      ordered = every_ordered t events run;
+      stand = every_call_stands t events run;
+      reported = every_report_of_route t events run;
+      known = every_known t events run;
       one_leg = hops.0;
       hops = hops.1;
       safe = every_run_safe t events run;

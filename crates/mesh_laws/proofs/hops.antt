@@ -13,10 +13,13 @@ pub mod Recorded
 pub mod Rest
 pub mod Risks
 pub mod NoticeRule
+pub mod NodeLabels
 pub mod Notices
+pub mod Ordered
 pub mod Own
 pub mod PathRule
 pub mod Plans
+pub mod ReportedFibres
 pub mod ResvRule
 pub mod Sending
 pub mod Upstream

@@ -6,6 +6,7 @@ pub mod CallParts
 pub mod CallStepKeeps
 pub mod CallTouched
 pub mod CallsHold
+pub mod CallsStand
 pub mod Decides
 pub mod Facts
 pub mod Laws

@@ -6,6 +6,8 @@ use Rattle.ason_base.specs.declared.ids.NodeId.{NodeId}
 use Rattle.ason_base.specs.declared.ids.Lsp.{Lsp}
 use Rattle.ason_base.specs.declared.calls.CallState.{CallState}
 use Rattle.ason_base.specs.declared.calls.CallState.TheVariants.{Asking, Bare, Blocked, Guarded, Pairing, Stuck, Turned, Turning}
+use Rattle.ason_base.specs.declared.calls.Cause.{Cause}
+use Rattle.ason_base.specs.declared.calls.Cause.TheVariants.{Unset}
 use Rattle.ason_base.specs.declared.calls.Phase.{Phase}
 use Rattle.ason_base.specs.declared.calls.Phase.TheVariants.{Armed, Asked, Held, Live}
 use Rattle.ason_base.specs.declared.calls.Role.{Role}
@@ -16,7 +18,7 @@ use Rattle.ason_base.specs.declared.tables.CallRec.{CallRec}
 use Rattle.ason_base.specs.declared.tables.Leg.{Leg}
 use Rattle.ason_base.specs.Network.{Network}
 use Rattle.mesh_rules.specs.declared.events.MeshEvent.{MeshEvent}
-use Rattle.mesh_rules.specs.Calls.{names}
+use Rattle.mesh_rules.specs.Calls.{is_bare, is_turned, names}
 use Rattle.mesh_rules.specs.Legs.{find_leg, is_closing, leg_of}
 use Rattle.mesh_rules.specs.Pairs.{beside_lsp}
 use Rattle.mesh_rules.specs.State.{NodeState}
@@ -99,3 +101,39 @@ abbrev pub EveryCallFitsItsLegs : Type 0
 EveryCallFitsItsLegs =
     (t : Network) (events : List MeshEvent) → IsRun t start events → (n : ℕ) →
     CallsFit n ((after t start events).nodes n)
+
+-- The cause and the ticks of a call
+
+-- a cause is kept where the call is blocked, bare or stuck
+abbrev pub fits_cause : CallState → Cause → Bool
+fits_cause Blocked cause = true
+fits_cause Bare cause = true
+fits_cause Stuck cause = true
+fits_cause state Unset = true
+fits_cause state cause = false
+
+-- a call counts ticks where it turned and no fibre of its working LSP is reported down
+abbrev pub fits_ticks : CallState → Bool → ℕ → Bool
+fits_ticks state works ticks = ticks == 0 || (is_turned state && not works)
+
+abbrev pub is_unset : Cause → Bool
+is_unset Unset = true
+is_unset cause = false
+
+-- a protected call that is bare has a cause: a backup was asked for, or couldn't be
+abbrev pub fits_protected : CallState → Cause → Bool → Bool
+fits_protected state cause protected = not (is_bare state && (is_unset cause && protected))
+
+pub record IsTidy (c : CallRec) : Type 0 where
+  pub cause : IsTrue (fits_cause c.state c.cause)
+  pub ticks : IsTrue (fits_ticks c.state (has_any c.work_reports) c.ticks)
+  pub paired : IsTrue (fits_protected c.state c.cause c.protected)
+
+abbrev pub CallsAreTidy : List CallRec → Type 0
+CallsAreTidy calls = All IsTidy calls
+
+-- over every network and every run, at each node
+abbrev pub EveryCallIsTidy : Type 0
+EveryCallIsTidy =
+    (t : Network) (events : List MeshEvent) → IsRun t start events → (n : ℕ) →
+    CallsAreTidy ((after t start events).nodes n).calls

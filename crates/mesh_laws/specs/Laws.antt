@@ -1,21 +1,25 @@
 -- All laws of one state of a run, in one word.
-use Rattle.std.specs.Prelude.{ℕ, List}
+use Rattle.std.specs.Prelude.{ℕ, List, IsTrue, All}
 use Rattle.ason_base.specs.declared.ids.Lsp.{Lsp}
+use Rattle.ason_base.specs.declared.ids.NodeId.{NodeId}
 use Rattle.ason_base.specs.Network.{IsTopology, Network}
 use Rattle.mesh_rules.specs.declared.events.MeshEvent.{MeshEvent}
 use Rattle.mesh_rules.specs.Machine.{start}
-use Rattle.mesh_rules.specs.Events.{IsRun, after, route_of}
+use Rattle.mesh_rules.specs.Events.{IsRun, after, is_enabled, route_of}
 use Rattle.mesh_laws.specs.AloneLaw.{ActivationsAreAdmitted}
 use Rattle.mesh_laws.specs.BesideLaw.{BackupsGoBeside}
-use Rattle.mesh_laws.specs.CallLaw.{CallsFit}
+use Rattle.mesh_laws.specs.CallLaw.{CallsAreTidy, CallsFit}
 use Rattle.mesh_laws.specs.HopLaw.{HasOneLegEach, LspFits}
 use Rattle.mesh_laws.specs.JoinedLaw.{CallsAreJoined}
-use Rattle.mesh_laws.specs.LabelLaw.{LabelsAreShared, LiveLegsAreLabelled}
+use Rattle.mesh_laws.specs.KnownLaw.{KnownFibresComeIn}
+use Rattle.mesh_laws.specs.LabelLaw.{LabelsAreShared, LegsKeepLabels, LiveLegsAreLabelled}
 use Rattle.mesh_laws.specs.LearntLaw.{LearntRowsAreTrue}
-use Rattle.mesh_laws.specs.ReportLaw.{DesksTell, ReportsTell}
+use Rattle.mesh_laws.specs.OrderLaw.{CallsAreOrdered}
+use Rattle.mesh_laws.specs.ReportLaw.{DesksTell, ReportsAreOfRoutes, ReportsTell}
 use Rattle.mesh_laws.specs.RestorationLaw.{RestorationHolds}
 use Rattle.mesh_laws.specs.RiskLaw.{BackupsRecordRisks}
 use Rattle.mesh_laws.specs.SafeLaw.{IsSafe}
+use Rattle.mesh_laws.specs.StandLaw.{CallsStand}
 
 -- what holds of the state to which these events lead from the start
 pub record LawsHold (t : Network) (events : List MeshEvent) : Type 0 where
@@ -23,7 +27,18 @@ pub record LawsHold (t : Network) (events : List MeshEvent) : Type 0 where
   -- leg has its labels; and each call fits its legs and its reports
   pub labels : (n : ℕ) → LabelsAreShared ((after t start events).nodes n).legs
   pub labelled : (n : ℕ) → LiveLegsAreLabelled ((after t start events).nodes n).legs
+  -- a leg at a node that doesn't convert has one label, and its label in is one of its link's
+  pub kept : (n : NodeId) → LegsKeepLabels t n ((after t start events).nodes n.0).legs
   pub calls : (n : ℕ) → CallsFit n ((after t start events).nodes n)
+  -- the cause and the ticks of each call fit its state, and the call is that of a posted setup
+  pub tidy : (n : ℕ) → CallsAreTidy ((after t start events).nodes n).calls
+  pub ordered : CallsAreOrdered t events
+  -- over each event that is enabled a call stands with its working LSP and its backup, unless it is released
+  pub stand : (e : MeshEvent) → IsTrue (is_enabled t (after t start events) e) → CallsStand t (after t start events) e
+  -- each fibre that is reported of an LSP of a call is of the LSP's route
+  pub reported : (n : ℕ) → All (ReportsAreOfRoutes t events) ((after t start events).nodes n).calls
+  -- each fibre that a node knows to be down comes in there
+  pub known : KnownFibresComeIn t (after t start events)
   -- each hop of each LSP has a shape of the table
   pub one_leg : HasOneLegEach (after t start events)
   pub hops : (l : Lsp) → LspFits t (after t start events) l (route_of t start events l)

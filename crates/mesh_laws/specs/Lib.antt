@@ -4,11 +4,14 @@ pub mod CallLaw
 pub mod HopLaw
 pub mod HopShapes
 pub mod JoinedLaw
+pub mod KnownLaw
 pub mod LabelLaw
 pub mod Laws
 pub mod LearntLaw
 pub mod NodeLaw
+pub mod OrderLaw
 pub mod ReportLaw
 pub mod RestorationLaw
 pub mod RiskLaw
 pub mod SafeLaw
+pub mod StandLaw

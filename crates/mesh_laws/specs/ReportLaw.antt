@@ -1,6 +1,8 @@
 -- What nodes and ingresses are told of failures: alarms, clears and Notifies (RFC 4872, section 8; RFC 3473, section
 -- 4.3).
-use Rattle.std.specs.Prelude.{◌≡◌, ◌≤◌, ◌==◌, ◌||◌, ◌&&◌, ℕ, zero, suc, Bool, true, false, not, List, [], ◌∷◌, ◌++◌, Contains, Option, Some, None, IsTrue, drop, flat_map, slice_get, if◌then◌else◌}
+use Rattle.std.specs.Prelude.{◌≡◌, ◌≤◌, ◌==◌, ◌||◌, ◌&&◌, ℕ, zero, suc, Bool, true, false, not, List, [], ◌∷◌, ◌++◌, Contains, Option, Some, None, IsTrue, All, drop, flat_map, slice_get, if◌then◌else◌}
+use Rattle.std.specs.List.{AllByRecursion}
+use Rattle.ason_base.specs.Routes.{makes_route}
 use Rattle.ason_base.specs.Lsps.{has_fibre, is_lsp, same_fibre}
 use Rattle.ason_base.specs.Network.{IsTopology, Network, find_link, touches}
 use Rattle.ason_base.specs.declared.commands.DeskItem.{DeskItem}
@@ -22,7 +24,7 @@ use Rattle.mesh_rules.specs.Failures.{is_cut}
 use Rattle.mesh_rules.specs.Legs.{is_closing}
 use Rattle.mesh_rules.specs.LocalNodes.{fibre_in}
 use Rattle.mesh_rules.specs.Machine.{Mesh, start}
-use Rattle.mesh_rules.specs.Reports.{first_node, reported}
+use Rattle.mesh_rules.specs.Reports.{fibre_into, first_node, reported}
 use Rattle.mesh_laws.specs.HopLaw.{leg_at, notices_between}
 
 -- What desks tell
@@ -71,6 +73,38 @@ told_by_all n k ms = flat_map (told_by n k) ms
 abbrev pub told : Bool → List Bool → Bool
 told known [] = known
 told known (down ∷ more) = told down more
+
+-- Of which fibres
+
+-- the fibre is one of the route that the LSP's ingress sent it on, o of each LSP: it comes in at a node of the route
+pub record IsOfRoute (t : Network) (o : Lsp → Option (List Step)) (l : Lsp) (f : Fibre) : Type 0 where
+  pub route : List Step
+  pub sent : o l ≡ Some route
+  -- the route leads from the ingress to this node
+  pub to : NodeId
+  pub made : IsTrue (makes_route t l.ingress to route)
+  pub at : NodeId
+  pub link : LinkId
+  pub into : fibre_into route to at link ≡ Some f
+
+-- R holds of each of these fibres, which are reported of an LSP
+abbrev pub AreOf : (Lsp → Fibre → Type 0) → Option Lsp → List Fibre → Type 0
+AreOf R None fibres = Unit {0}
+AreOf R (Some l) fibres = AllByRecursion (R l) fibres
+
+pub record ReportsAreOf (R : Lsp → Fibre → Type 0) (c : CallRec) : Type 0 where
+  pub work : AreOf R c.work c.work_reports
+  pub back : AreOf R c.back c.back_reports
+
+-- each fibre that is reported of an LSP of a call is of the LSP's route
+abbrev pub ReportsAreOfRoutes : Network → List MeshEvent → CallRec → Type 0
+ReportsAreOfRoutes t events c = ReportsAreOf (IsOfRoute t (route_of t start events)) c
+
+-- over every network and every run, at each node
+abbrev pub EveryReportIsOfItsRoute : Type 0
+EveryReportIsOfItsRoute =
+    (t : Network) (events : List MeshEvent) → IsRun t start events → (n : ℕ) →
+    All (ReportsAreOfRoutes t events) ((after t start events).nodes n).calls
 
 -- Along a route
 

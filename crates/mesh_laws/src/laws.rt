@@ -2,45 +2,82 @@
 
 ghost use Rattle.mesh_laws.specs.AloneLaw.{EveryActivationIsAdmitted, EveryRunStartsCalm};
 ghost use Rattle.mesh_laws.specs.BesideLaw.{EveryBackupGoesBeside};
-ghost use Rattle.mesh_laws.specs.CallLaw.{EveryCallFitsItsLegs};
+ghost use Rattle.mesh_laws.specs.CallLaw.{EveryCallFitsItsLegs, EveryCallIsTidy};
 ghost use Rattle.mesh_laws.specs.HopLaw.{EveryHopHasAShape};
 ghost use Rattle.mesh_laws.specs.JoinedLaw.{EveryCallIsJoined};
-ghost use Rattle.mesh_laws.specs.LabelLaw.{EveryLabelIsShared, EveryLiveLegIsLabelled};
+ghost use Rattle.mesh_laws.specs.KnownLaw.{EveryKnownFibreComesIn};
+ghost use Rattle.mesh_laws.specs.LabelLaw.{EveryLabelIsShared, EveryLegKeepsLabels, EveryLiveLegIsLabelled};
 ghost use Rattle.mesh_laws.specs.Laws.{EveryRunKeepsTheLaws};
 ghost use Rattle.mesh_laws.specs.LearntLaw.{EveryLearntRowIsTrue, EveryNodeCanSearch};
 ghost use Rattle.mesh_laws.specs.NodeLaw.{EveryNodeSharesLawfully};
-ghost use Rattle.mesh_laws.specs.ReportLaw.{EveryDeskTellsFailures, EveryReportTellsFailures};
+ghost use Rattle.mesh_laws.specs.OrderLaw.{EveryCallIsOrdered};
+ghost use Rattle.mesh_laws.specs.ReportLaw.{EveryDeskTellsFailures, EveryReportIsOfItsRoute, EveryReportTellsFailures};
 ghost use Rattle.mesh_laws.specs.RestorationLaw.{EveryHitCallIsRestored};
 ghost use Rattle.mesh_laws.specs.RiskLaw.{EveryBackupRecordsItsRisks};
 ghost use Rattle.mesh_laws.specs.SafeLaw.{EveryRunIsSafe};
+ghost use Rattle.mesh_laws.specs.StandLaw.{EveryCallStands};
 
-/// In each state of each run, at each node: a label of a fibre is taken by one leg alone, or by backups whose primaries have
-/// no risk in common, at most one of them Armed or Live; a Live leg has a label in exactly where it has a fibre in, and a
-/// label out exactly where it has a fibre out; and the state of each call that begins there fits its legs, each of which is
-/// of one call, and its reports. Each hop of each LSP, its legs at both ends with the messages between them, has a shape of
-/// the table, and each leg names the end of its LSP's route as its egress; Notifies go up these hops alone, and each names
-/// the node that it comes from or one beyond it. No label of a fibre is cross-connected for two LSPs. Each call that is
-/// neither asking nor blocked is joined: its working LSP is Live at each node of its route, each label out being the next
-/// node's label in; and the backup of a guarded or a stuck call is joined so, Held at each node, or still Live where the call
-/// went back and the Path that takes the activation back hasn't come; that of a turned call is joined Live at each node, and
-/// that of a turning call Held, Armed or Live. The route of each backup leads from end to end, has no risk
-/// in common with that of the working LSP which its call has, or had, and shares no node with it between the ends. What a
-/// node learnt of links are rows of the network; over a topology routes can be asked of what it knows. Over a topology the
-/// leg of a backup, at any node, records the risks of the route of the working LSP that its Path names, also where that LSP
-/// is gone. A state is calm where no group has failed and nothing of an earlier failure is left, as at the start. Over a
-/// topology, while since a calm state one group alone has failed, no activation of a backup is refused, no call is stuck, and
-/// all that is activated, reported, under way or waiting for a failure concerns that group. Over a topology, once no message
-/// is under way and each desk is empty while since a calm state one group alone has failed, each call is restored whose
-/// ingress has its backup Held, Armed or Live: where a fibre of its working LSP is physically down it turned to its backup,
-/// and the LSP that carries it, the backup where it turned and else the working LSP, is joined, Live at each node of its
-/// route, and none of its fibres is physically down. Over a topology the items of each node's desk, one after the other on
-/// what it knows, tell which of its fibres in are physically down; and along the route of an LSP, as far as its legs stand
-/// and aren't torn, what a node's Notifies on their way to the ingress tell, the nearest to it first on what the call knows,
-/// is what that node knows to be down. The last clause says all but the searching of one state, in one word.
+/// Of every network, every run, and each state to which a run leads:
+///
+/// Labels, at each node. A label of a fibre is taken by one leg alone, or by backups whose
+/// primaries have no risk in common, at most one of them Armed or Live (`labels`); a Live leg has a
+/// label in exactly where it has a fibre in, and a label out exactly where it has a fibre out
+/// (`labelled`); a leg with a label in and a label out has one label where the node doesn't
+/// convert, and its label in is one of the labels of its fibre's link (`kept`).
+///
+/// Calls, at each node. The state of each call that begins there fits its legs, each of which is of
+/// one call, and its reports (`calls`). A cause is kept in blocked, bare and stuck alone; ticks are
+/// counted in turned alone, while no fibre of the working LSP is reported down; a protected call
+/// that is bare has a cause (`tidy`). The call is that of a posted setup from there, of its number,
+/// to its egress, protected where the setup says so and with the backup route that it gives; where
+/// the setup gives a route, its working LSP was sent on that (`ordered`). Over each event that is
+/// enabled, a call that is neither asking nor blocked stands with its number, its egress and its
+/// working LSP, and with its backup where it is guarded, turning, turned or stuck, which it is then
+/// after the event too, unless the event carries out its release (`stand`). Each fibre that is
+/// reported of an LSP of a call is of the LSP's route (`reported`), and each fibre that a node
+/// knows to be down comes in there (`known`).
+///
+/// LSPs. Each hop of each LSP, its legs at both ends with the messages between them, has a shape of
+/// the table, and each leg names the end of its LSP's route as its egress; Notifies go up these
+/// hops alone, and each names the node that it comes from or one beyond it (`hops`). No label of a
+/// fibre is cross-connected for two LSPs (`safe`). Each call that is neither asking nor blocked is
+/// joined: its working LSP is Live at each node of its route, each label out being the next node's
+/// label in; the backup of a guarded or a stuck call is joined so, Held at each node, or still Live
+/// where the call went back and the Path that takes the activation back hasn't come; that of a
+/// turned call is joined Live at each node, and that of a turning call Held, Armed or Live
+/// (`joined`). The route of each backup leads from end to end, has no risk in common with that of
+/// the working LSP which its call has, or had, and shares no node with it between the ends
+/// (`beside`).
+///
+/// Links. What a node learnt of them are rows of the network (`learnt`); over a topology routes can
+/// be asked of what it knows (`searchable`). Over a topology the leg of a backup, at any node,
+/// records the risks of the route of the working LSP that its Path names, also where that LSP is
+/// gone (`risks`).
+///
+/// Failures, over a topology. The items of each node's desk, one after the other on what it knows,
+/// tell which of its fibres in are physically down (`desks`); and along the route of an LSP, as far
+/// as its legs stand and aren't torn, what a node's Notifies on their way to the ingress tell, the
+/// nearest to it first on what the call knows, is what that node knows to be down (`reports`). A
+/// state is calm where no group has failed and nothing of an earlier failure is left, as at the
+/// start (`calm`). While since a calm state one group alone has failed, no activation of a backup
+/// is refused, no call is stuck, and all that is activated, reported, under way or waiting for a
+/// failure concerns that group (`admitted`). Once besides no message is under way and each desk is
+/// empty, each call is restored whose ingress has its backup Held, Armed or Live: where a fibre of
+/// its working LSP is physically down it turned to its backup, and the LSP that carries it, the
+/// backup where it turned and else the working LSP, is joined, Live at each node of its route, and
+/// none of its fibres is physically down (`restored`).
+///
+/// The last clause says all but the searching of one state, in one word (`together`).
 pub fn every_run()
     ensures labels { EveryLabelIsShared }
     ensures labelled { EveryLiveLegIsLabelled }
+    ensures kept { EveryLegKeepsLabels }
     ensures calls { EveryCallFitsItsLegs }
+    ensures tidy { EveryCallIsTidy }
+    ensures ordered { EveryCallIsOrdered }
+    ensures stand { EveryCallStands }
+    ensures reported { EveryReportIsOfItsRoute }
+    ensures known { EveryKnownFibreComesIn }
     ensures hops { EveryHopHasAShape }
     ensures safe { EveryRunIsSafe }
     ensures joined { EveryCallIsJoined }

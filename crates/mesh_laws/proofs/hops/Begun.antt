@@ -42,7 +42,7 @@ use Rattle.mesh_nodes.proofs.routes.Nodes.{found-leads}
 use Rattle.mesh_nodes.proofs.LegList.{same_lsp-eq, same_lsp-refl}
 use Rattle.mesh_laws.proofs.hops.Views.{leg-here, leg-there, mail-from, mail-else, notices-plain}
 use Rattle.mesh_laws.proofs.hops.Rest.{Purpose, Carries, DownFits, Each, Tells, tells_role}
-use Rattle.mesh_laws.proofs.hops.Chain.{LegFits, RisksFit, Fits, HopAt, OnRoute, IsPlace, Chain, asked_fits, is_or_not, at_or_else}
+use Rattle.mesh_laws.proofs.hops.Chain.{LegFits, RisksFit, Fits, HopAt, OnRoute, IsPlace, Chain, asked_fits, is_or_not, at_or_else, no_label_in}
 use Rattle.mesh_laws.proofs.hops.Sending.{sent_by, sent-first, sent-past}
 use Rattle.mesh_laws.proofs.hops.Upstream.{hop_idle, hop_asks}
 use Rattle.mesh_laws.proofs.hops.Own.{IsOf, IsQuiet, leg-other, mail-other}
@@ -266,6 +266,7 @@ module _ (t : Network) (s : Mesh) (n : NodeId) (o : Routes) (st : NodeState) (q 
         route = refl;
         sent = tt;
         phase = asked_fits q 0 (suc (length w.route)) (omega arith);
+        labels = no_label_in (local_node t (node_at p 0)) leg refl;
       }
 
   goes_to : (b : NodeId) → b.0 ≢ (node_at (plan (hop ∷ w.route) w.egress) 1).0 → sent_by w.lsp answer.sent b ≡ []

@@ -14,7 +14,9 @@ use Rattle.ason_base.specs.declared.messages.Msg.{Msg}
 use Rattle.ason_base.specs.declared.tables.Leg.{Leg}
 use Rattle.mesh_rules.specs.Commands.{is_searchable}
 use Rattle.mesh_rules.specs.Legs.{reserved}
+use Rattle.mesh_rules.specs.LocalNodes.{LocalNode, local_node}
 use Rattle.mesh_laws.specs.HopShapes.{Shape, leg_kind, msg_kind}
+use Rattle.mesh_laws.specs.LabelLaw.{KeepsLabels}
 use Rattle.mesh_laws.specs.RiskLaw.{rows_of}
 use Rattle.mesh_laws.proofs.hops.Plans.{Plan, hops, node_at, fibre_at}
 use Rattle.mesh_laws.proofs.hops.Rest.{Purpose, Carries, Guards, Rest, Tells, role_of, has_path}
@@ -77,6 +79,14 @@ abbrev pub WasSent : List ℕ → Option ℕ → Type 0
 WasSent sent None = Unit {0}
 WasSent sent (Some x) = has sent x ≡ true
 
+-- a leg without a label in keeps the labels of its node
+pub no_label_in : (p : LocalNode) (g : Leg) → g.in_label ≡ None → KeepsLabels p g
+no_label_in p g none =
+    record {
+      one = λ keeps x y enters leaves. absurd (cc (none, enters));
+      of_link = λ f x on enters. absurd (cc (none, enters));
+    }
+
 pub record LegFits (t : Network) (q : Purpose) (l : Lsp) (p : Plan) (i : ℕ) (g : Leg) : Type 0 where
   pub own : g.lsp ≡ l
   pub egress : g.egress ≡ p.egress
@@ -90,6 +100,7 @@ pub record LegFits (t : Network) (q : Purpose) (l : Lsp) (p : Plan) (i : ℕ) (g
   pub route : g.route ≡ drop (suc i) p.route
   pub sent : WasSent g.sent g.out_label
   pub phase : PhaseFits q g.phase i (hops p) g.in_label g.out_label
+  pub labels : KeepsLabels (local_node t (node_at p i)) g
 
 abbrev pub Fits : Network → Purpose → Lsp → Plan → ℕ → Option Leg → Type 0
 Fits t q l p i None = Unit {0}

@@ -9,6 +9,7 @@ use Rattle.ason_base.specs.Routes.{is_beside}
 use Rattle.ason_base.specs.declared.codes.ErrCode.{ErrCode}
 use Rattle.ason_base.specs.declared.ids.CallNo.{CallNo}
 use Rattle.ason_base.specs.declared.ids.Fibre.{Fibre}
+use Rattle.ason_base.specs.declared.ids.LinkId.{LinkId}
 use Rattle.ason_base.specs.declared.ids.Lsp.{Lsp}
 use Rattle.ason_base.specs.declared.ids.NodeId.{NodeId}
 use Rattle.ason_base.specs.declared.steps.Step.{Step}
@@ -23,14 +24,16 @@ use Rattle.ason_base.specs.declared.tables.Leg.{Leg}
 use Rattle.mesh_rules.specs.declared.events.MeshEvent.{MeshEvent}
 use Rattle.mesh_rules.specs.declared.events.MeshEvent.TheVariants.{Take, Desk, Tick, Learn, Post}
 use Rattle.mesh_rules.specs.Alarms.{enters, knows_down}
-use Rattle.mesh_rules.specs.Calls.{find_call, guarded, is_stuck, is_turned, turning}
+use Rattle.mesh_rules.specs.Calls.{find_call, guarded, is_asking, is_stuck, is_turned, turning}
 use Rattle.mesh_rules.specs.Changes.{Answer, changed, learns, nothing}
 use Rattle.mesh_rules.specs.Commands.{has_backup_way, is_valid}
 use Rattle.mesh_rules.specs.Events.{first_route, on_first, on_first_item, or_route, posted, sent_at_ingress, step}
 use Rattle.mesh_rules.specs.FirstLegs.{first_link}
 use Rattle.mesh_rules.specs.KnownRows.{has_row, known_rows}
 use Rattle.mesh_rules.specs.Learnt.{on_link}
-use Rattle.mesh_rules.specs.Legs.{is_held, is_in_use, leg_of}
+use Rattle.mesh_rules.specs.Legs.{find_leg, is_held, is_in_use, leg_of, previous}
+use Rattle.mesh_rules.specs.Pairs.{route_from}
+use Rattle.mesh_rules.specs.Reports.{fibre_into}
 use Rattle.mesh_rules.specs.Retries.{retries, retry_with}
 use Rattle.mesh_rules.specs.Reverts.{revert_with, reverts}
 use Rattle.mesh_rules.specs.Turns.{arms, call_put, disarms, go_back, has_any, turn}
@@ -44,10 +47,12 @@ use Rattle.mesh_nodes.specs.Order.{CallsRise}
 use Rattle.mesh_nodes.proofs.Alarms.{all-append}
 use Rattle.mesh_nodes.proofs.CallList.{all-calls_found}
 use Rattle.mesh_nodes.proofs.Cases.{both_left, both_right, if_cases}
-use Rattle.mesh_nodes.proofs.LegList.{same_lsp-refl}
-use Rattle.mesh_laws.proofs.nodes.CallsHold.{ArePut, EachCall, IsSameCall, each-after, message-holds, protect-holds, release-holds, setup-holds}
+use Rattle.mesh_nodes.proofs.LegList.{all-then, same_lsp-refl}
+use Rattle.mesh_laws.specs.ReportLaw.{AreOf, IsOfRoute, ReportsAreOf}
+use Rattle.mesh_laws.proofs.nodes.CallsHold.{ArePut, EachCall, IsSameCall, MayGo, each-after, message-holds, moves-none, protect-holds, release-holds, setup-holds, to-guarded, to-turning, waits-more}
 use Rattle.mesh_laws.proofs.hops.Plans.{found_id, same, same_node}
 use Rattle.mesh_laws.proofs.hops.Planned.{Routes, Follows, EachFollows, Grow}
+use Rattle.mesh_laws.proofs.hops.Paired.{no_previous, whole-made, whole-route}
 use Rattle.mesh_laws.proofs.hops.Begun.{grown, grown-grow}
 
 -- where the call has a working LSP, which went over a route, and was given a backup route
@@ -56,38 +61,77 @@ GivenBeside t o n c =
     (l : Lsp) (backup : List Step) → c.work ≡ Some l → c.backup ≡ Some backup →
     (route : List Step) × (o l ≡ Some route) × (is_beside t n c.egress (Some route) backup ≡ true)
 
+-- and each fibre that is reported of an LSP of the call is of the LSP's route
+pub record IsGiven (t : Network) (o : Routes) (n : NodeId) (c : CallRec) : Type 0 where
+  pub beside : GivenBeside t o n c
+  pub told : ReportsAreOf (IsOfRoute t o) c
+
 abbrev pub EachGivenBeside : Network → Mesh → Routes → Type 0
-EachGivenBeside t s o = (n : NodeId) → EachCall (GivenBeside t o n) (s.nodes n.0).calls
+EachGivenBeside t s o = (n : NodeId) → EachCall (IsGiven t o n) (s.nodes n.0).calls
 
 -- What was sent first stays, and so does what a call was given
 
-still-beside : (t : Network) (o o' : Routes) (n : NodeId) → Grow o o' → (c d : CallRec) → IsSameCall c d →
-    GivenBeside t o n c → GivenBeside t o' n d
-still-beside t o o' n grow c d is beside l backup work given = elim is.work [
-  | inl same_work ↦
-      (let b = beside l backup (sym same_work ∙ work) (sym is.backup ∙ given) in
-      (b.0, grow l b.0 b.1, rw is.egress b.2))
-  | inr none ↦ absurd (cc (none, work))
-]
+grown-of : (t : Network) (o o' : Routes) → Grow o o' → (l : Lsp) (f : Fibre) → IsOfRoute t o l f → IsOfRoute t o' l f
+grown-of t o o' grow l f of = record {
+  route = of.route;
+  sent = grow l of.route of.sent;
+  to = of.to;
+  made = of.made;
+  at = of.at;
+  link = of.link;
+  into = of.into;
+}
 
-same-call : (c : CallRec) → IsSameCall c c
-same-call c = record { egress = refl; protected = refl; backup = refl; work = inl refl }
+grown-all : (t : Network) (o o' : Routes) → Grow o o' → (l : Option Lsp) (fibres : List Fibre) →
+    AreOf (IsOfRoute t o) l fibres → AreOf (IsOfRoute t o') l fibres
+grown-all t o o' grow None fibres all = tt
+grown-all t o o' grow (Some l) fibres all =
+    all-then (IsOfRoute t o l) (IsOfRoute t o' l) fibres (grown-of t o o' grow l) all
+
+still-beside : (t : Network) (o o' : Routes) (n : NodeId) → Grow o o' → (c d : CallRec) →
+    IsSameCall (IsOfRoute t o) c d → IsGiven t o n c → IsGiven t o' n d
+still-beside t o o' n grow c d is given = record {
+  beside = λ l backup work back. go l backup work back is.work;
+  told = (
+      let told = is.moves.told given.told in
+      record {
+        work = grown-all t o o' grow d.work d.work_reports told.work;
+        back = grown-all t o o' grow d.back d.back_reports told.back;
+      });
+}
+  where
+    go : (l : Lsp) (backup : List Step) → d.work ≡ Some l → d.backup ≡ Some backup →
+        (d.work ≡ c.work) ⊎ ((d.work ≡ None) × (is_asking c.state ≡ true)) →
+        (route : List Step) × (o' l ≡ Some route) × (is_beside t n d.egress (Some route) backup ≡ true)
+    go l backup work back (inl same_work) =
+        let b = given.beside l backup (sym same_work ∙ work) (sym is.backup ∙ back) in
+        (b.0, grow l b.0 b.1, rw is.egress b.2)
+    go l backup work back (inr none) = absurd (let gone = none.0 in cc (gone, work))
+
+same-call : (t : Network) (o : Routes) (c : CallRec) → IsSameCall (IsOfRoute t o) c c
+same-call t o c = record {
+  egress = refl;
+  protected = refl;
+  backup = refl;
+  work = inl refl;
+  moves = moves-none (IsOfRoute t o) c;
+}
 
 grown-beside : (t : Network) (s : Mesh) (o o' : Routes) → Grow o o' → EachGivenBeside t s o → EachGivenBeside t s o'
-grown-beside t s o o' grow each n k c found = still-beside t o o' n grow c c (same-call c) (each n k c found)
+grown-beside t s o o' grow each n k c found = still-beside t o o' n grow c c (same-call t o c) (each n k c found)
 
 -- an answer is carried out at the node n
 committed : (t : Network) (s : Mesh) (n : NodeId) (a : Answer) (o o' : Routes) → Grow o o' →
-    ArePut (GivenBeside t o' n) a.calls → EachGivenBeside t s o → EachGivenBeside t (commit s n.0 a) o'
+    ArePut (IsGiven t o' n) a.calls → EachGivenBeside t s o → EachGivenBeside t (commit s n.0 a) o'
 committed t s n a o o' grow put each m = go (nat_eq m.0 n.0) refl
   where
     go : (b : Bool) → nat_eq m.0 n.0 ≡ b →
-        EachCall (GivenBeside t o' m) (cond b (changed (s.nodes m.0) a) (s.nodes m.0)).calls
+        EachCall (IsGiven t o' m) (cond b (changed (s.nodes m.0) a) (s.nodes m.0)).calls
     go true e =
         let number : m.0 ≡ n.0 = grind arith in
         let is : m ≡ n = same_node m n number in
-        each-after (GivenBeside t o' m) a.calls (s.nodes m.0).calls
-        (subst (λ x. ArePut (GivenBeside t o' x) a.calls) (sym is) put) (grown-beside t s o o' grow each m)
+        each-after (IsGiven t o' m) a.calls (s.nodes m.0).calls
+        (subst (λ x. ArePut (IsGiven t o' x) a.calls) (sym is) put) (grown-beside t s o o' grow each m)
     go false e = grown-beside t s o o' grow each m
 
 -- A setup
@@ -128,7 +172,8 @@ module _ (t : Network) (s : Mesh) (n : NodeId) (o : Routes) (f : EachFollows t s
           let below : (s.nodes n.0).lsp < (s.nodes n.0).lsp = pl.number in absurd (omega arith)
 
   -- its first Path goes over the route
-  sent-over : (w : SetupRequest) (route : List Step) (out : LinkSpec) → first_link (local_node t n) route ≡ Some out →
+  pub sent-over : (w : SetupRequest) (route : List Step) (out : LinkSpec) →
+      first_link (local_node t n) route ≡ Some out →
       grown n o (begins (local_node t n) (s.nodes n.0) w out (drop 1 route))
       (next_lsp (local_node t n) (s.nodes n.0)) ≡ Some route
   sent-over w route out first =
@@ -163,18 +208,40 @@ module _ (t : Network) (s : Mesh) (n : NodeId) (o : Routes) (f : EachFollows t s
   -- An item of a desk
 
   module _ (rise : CallsRise (s.nodes n.0).calls) (each : EachGivenBeside t s o) where
-    abbrev Puts : Answer → Type 0
-    Puts a = ArePut (GivenBeside t (grown n o a) n) a.calls
+    -- a fibre that a Notify reports at the ingress is of the route
+    rep-here : (g : Leg) (m : NodeId) (k : LinkId) (x : Fibre) → find_leg g.lsp (s.nodes n.0).legs ≡ Some g →
+        previous g ≡ None → fibre_into (route_from (local_node t n) g) g.egress m k ≡ Some x → IsOfRoute t o g.lsp x
+    rep-here g m k x found first into =
+        let here : g.lsp.ingress ≡ n = no_previous t s o g.lsp n g (o g.lsp) (f g.lsp) found first in
+        record {
+          route = route_from (local_node t n) g;
+          sent = whole-route t s o g.lsp n g (o g.lsp) (f g.lsp) here found;
+          to = g.egress;
+          made = whole-made t s o g.lsp n g (o g.lsp) (f g.lsp) here found;
+          at = m;
+          link = k;
+          into = into;
+        }
 
-    keeps : (a : Answer) (c d : CallRec) → IsSameCall c d → GivenBeside t o n c → GivenBeside t (grown n o a) n d
+    abbrev Puts : Answer → Type 0
+    Puts a = ArePut (IsGiven t (grown n o a) n) a.calls
+
+    keeps : (a : Answer) (c d : CallRec) → IsSameCall (IsOfRoute t o) c d → IsGiven t o n c →
+        IsGiven t (grown n o a) n d
     keeps a c d is here = still-beside t o (grown n o a) n (grown-grow n o a) c d is here
 
     setup-puts : (w : SetupRequest) → has_backup_way t w.from w.egress w.protected w.via w.backup ≡ true →
         (known : Option CallRec) → Puts (setup_with (local_node t n) (s.nodes n.0) w known)
     setup-puts w way known =
-        setup-holds place (s.nodes n.0) w (λ a. GivenBeside t (grown n o a) n)
-        (λ a cause l backup work given. absurd (cc work))
-        (λ route out over first ordered. begun-beside w (here ordered) way route out over first) known
+        setup-holds MayGo place (s.nodes n.0) w (λ a. IsGiven t (grown n o a) n)
+        (λ a cause. record {
+          beside = λ l backup work given. absurd (cc work);
+          told = record { work = tt; back = tt };
+        })
+        (λ route out over first ordered. record {
+          beside = begun-beside w (here ordered) way route out over first;
+          told = record { work = tt; back = tt };
+        }) known
       where
         here : is_order_here (local_node t n) w ≡ true → w.from ≡ n
         here ordered =
@@ -182,26 +249,38 @@ module _ (t : Network) (s : Mesh) (n : NodeId) (o : Routes) (f : EachFollows t s
             let number : w.from.0 ≡ n.0 = grind arith in
             same_node w.from n number
 
-    same-puts : (a : Answer) (c d : CallRec) → IsSameCall c d → GivenBeside t o n c →
-        GivenBeside t (grown n o a) n d × Unit {0}
+    same-puts : (a : Answer) (c d : CallRec) → IsSameCall (IsOfRoute t o) c d → IsGiven t o n c →
+        IsGiven t (grown n o a) n d × Unit {0}
     same-puts a c d is here = (keeps a c d is here, tt)
 
-    turn-puts : (c : CallRec) (b : Option Leg) → GivenBeside t o n c → Puts (turn c b)
-    turn-puts c None here = same-puts (turn c None) c c (same-call c) here
+    turn-puts : (c : CallRec) (b : Option Leg) → IsGiven t o n c → Puts (turn c b)
+    turn-puts c None here = same-puts (turn c None) c c (same-call t o c) here
     turn-puts c (Some b) here =
         if_cases Puts (is_held b.phase) (arms c b) (call_put c)
         (λ h. same-puts (arms c b) c (turning c)
-        (record { egress = refl; protected = refl; backup = refl; work = inl refl }) here)
-        (λ h. same-puts (call_put c) c c (same-call c) here)
+        (record {
+          egress = refl;
+          protected = refl;
+          backup = refl;
+          work = inl refl;
+          moves = to-turning (IsOfRoute t o) c;
+        }) here)
+        (λ h. same-puts (call_put c) c c (same-call t o c) here)
 
-    back-puts : (a : Answer) (c : CallRec) (b : Option Leg) → GivenBeside t o n c →
-        ArePut (GivenBeside t (grown n o a) n) (go_back c b).calls
-    back-puts a c None here = same-puts a c c (same-call c) here
+    back-puts : (a : Answer) (c : CallRec) (b : Option Leg) → IsGiven t o n c →
+        ArePut (IsGiven t (grown n o a) n) (go_back c b).calls
+    back-puts a c None here = same-puts a c c (same-call t o c) here
     back-puts a c (Some b) here =
-        if_cases (λ x. ArePut (GivenBeside t (grown n o a) n) x.calls) (is_in_use b.phase) (disarms c b) (call_put c)
+        if_cases (λ x. ArePut (IsGiven t (grown n o a) n) x.calls) (is_in_use b.phase) (disarms c b) (call_put c)
         (λ h. same-puts a c (guarded c)
-        (record { egress = refl; protected = refl; backup = refl; work = inl refl }) here)
-        (λ h. same-puts a c c (same-call c) here)
+        (record {
+          egress = refl;
+          protected = refl;
+          backup = refl;
+          work = inl refl;
+          moves = to-guarded (IsOfRoute t o) c;
+        }) here)
+        (λ h. same-puts a c c (same-call t o c) here)
 
     retry-puts : (from : NodeId) (k : CallNo) (c : Option CallRec) → find_call k (s.nodes n.0).calls ≡ c →
         Puts (retry_with (local_node t n) (s.nodes n.0) from c)
@@ -226,21 +305,27 @@ module _ (t : Network) (s : Mesh) (n : NodeId) (o : Routes) (f : EachFollows t s
 
     -- at a tick, whatever the answer is a part of
 
-    ticked-puts : (a : Answer) (c : CallRec) → GivenBeside t o n c →
-        ArePut (GivenBeside t (grown n o a) n) (ticked t.wait (s.nodes n.0).legs c).calls
+    ticked-puts : (a : Answer) (c : CallRec) → IsGiven t o n c →
+        ArePut (IsGiven t (grown n o a) n) (ticked t.wait (s.nodes n.0).legs c).calls
     ticked-puts a c here =
         let legs : List Leg = (s.nodes n.0).legs in
-        if_cases (λ x. ArePut (GivenBeside t (grown n o a) n) x.calls)
+        if_cases (λ x. ArePut (IsGiven t (grown n o a) n) x.calls)
         (not (nat_eq t.wait 0) && (is_turned c.state && not (has_any c.work_reports))) (waits t.wait legs c) nothing
-        (λ waiting. if_cases (λ x. ArePut (GivenBeside t (grown n o a) n) x.calls) (nat_le t.wait (c.ticks + 1))
+        (λ waiting. if_cases (λ x. ArePut (IsGiven t (grown n o a) n) x.calls) (nat_le t.wait (c.ticks + 1))
         (go_back c (leg_of c.back legs)) (call_put (record c { ticks = c.ticks + 1 }))
         (λ over. back-puts a c (leg_of c.back legs) here)
         (λ over. same-puts a c (record c { ticks = c.ticks + 1 })
-        (record { egress = refl; protected = refl; backup = refl; work = inl refl }) here))
+        (record {
+          egress = refl;
+          protected = refl;
+          backup = refl;
+          work = inl refl;
+          moves = waits-more (IsOfRoute t o) c (both_right (not (nat_eq t.wait 0)) _ waiting);
+        }) here))
         (λ other. tt)
 
-    all_ticked-puts : (a : Answer) (calls : List CallRec) → AllByRecursion (GivenBeside t o n) calls →
-        ArePut (GivenBeside t (grown n o a) n) (all_ticked t.wait (s.nodes n.0).legs calls).calls
+    all_ticked-puts : (a : Answer) (calls : List CallRec) → AllByRecursion (IsGiven t o n) calls →
+        ArePut (IsGiven t (grown n o a) n) (all_ticked t.wait (s.nodes n.0).legs calls).calls
     all_ticked-puts a [] here = tt
     all_ticked-puts a (c ∷ calls) here =
         all-append _ (ticked t.wait (s.nodes n.0).legs c).calls _ (ticked-puts a c here.0)
@@ -249,7 +334,7 @@ module _ (t : Network) (s : Mesh) (n : NodeId) (o : Routes) (f : EachFollows t s
     tick-puts : Puts (on_tick (local_node t n) (s.nodes n.0))
     tick-puts =
         all_ticked-puts (on_tick place (s.nodes n.0)) (s.nodes n.0).calls
-        (all-calls_found (GivenBeside t o n) (s.nodes n.0).calls rise (each n))
+        (all-calls_found (IsGiven t o n) (s.nodes n.0).calls rise (each n))
 
     told-puts : (f : Fibre) (code : ErrCode) (fibres : List Fibre) (b : Bool) →
         Puts (cond b (knows_down (local_node t n) (s.nodes n.0) f code fibres) nothing)
@@ -264,11 +349,13 @@ module _ (t : Network) (s : Mesh) (n : NodeId) (o : Routes) (f : EachFollows t s
         (both_right _ (has_backup_way t from to protected via backup) (valid _ refl))
         (find_call k (s.nodes n.0).calls)
     item-puts (Order (Release k from)) valid =
-        release-holds (GivenBeside t o n) _ (keeps (on_item place (s.nodes n.0) (Order (Release k from)))) place
-        (s.nodes n.0) rise (each n) from (find_call k (s.nodes n.0).calls)
+        release-holds (IsOfRoute t o) MayGo (IsGiven t o n) _
+        (keeps (on_item place (s.nodes n.0) (Order (Release k from)))) place
+        (s.nodes n.0) rep-here rise (each n) from (find_call k (s.nodes n.0).calls) (λ c is. tt)
     item-puts (Order (Protect k from)) valid =
-        protect-holds (GivenBeside t o n) _ (keeps (on_item place (s.nodes n.0) (Order (Protect k from)))) place
-        (s.nodes n.0) rise (each n) k from (find_call k (s.nodes n.0).calls) refl
+        protect-holds (IsOfRoute t o) MayGo (IsGiven t o n) _
+        (keeps (on_item place (s.nodes n.0) (Order (Protect k from)))) place
+        (s.nodes n.0) rep-here rise (each n) k from (find_call k (s.nodes n.0).calls) refl
     item-puts (Order (Retry k from)) valid = retry-puts from k (find_call k (s.nodes n.0).calls) refl
     item-puts (Order (Revert k from)) valid = revert-puts from k (find_call k (s.nodes n.0).calls) refl
     item-puts (Order (Fail g)) valid = tt
@@ -288,19 +375,20 @@ module _ (t : Network) (s : Mesh) (n : NodeId) (o : Routes) (f : EachFollows t s
 
     -- whatever the routes grow to
     first-puts : (u : NodeId) (ms : List Msg) (o' : Routes) → Grow o o' →
-        ArePut (GivenBeside t o' n) (on_first (local_node t n) (s.nodes n.0) u ms).calls
+        ArePut (IsGiven t o' n) (on_first (local_node t n) (s.nodes n.0) u ms).calls
     first-puts u [] o' grow = tt
     first-puts u (m ∷ ms) o' grow =
-        message-holds (GivenBeside t o n) (GivenBeside t o' n) (still-beside t o o' n grow) place (s.nodes n.0) rise
+        message-holds (IsOfRoute t o) MayGo (IsGiven t o n) (IsGiven t o' n) (still-beside t o o' n grow) place
+        (s.nodes n.0) rep-here rise
         (each n) u m
 
 -- Every event
 
 link-puts : (t : Network) (o : Routes) (n : NodeId) (p : LocalNode) (s : NodeState) (found : Option LinkSpec) →
-    ArePut (GivenBeside t o n) (on_link p s found).calls
+    ArePut (IsGiven t o n) (on_link p s found).calls
 link-puts t o n p s None = tt
 link-puts t o n p s (Some l) =
-    if_cases (λ a. ArePut (GivenBeside t o n) a.calls) (has_row (known_rows p s) l.id) nothing (learns (row_of l))
+    if_cases (λ a. ArePut (IsGiven t o n) a.calls) (has_row (known_rows p s) l.id) nothing (learns (row_of l))
     (λ known. tt) (λ new. tt)
 
 posted-nodes : (t : Network) (s : Mesh) (c : Command) → (posted t s c).nodes ≡ s.nodes
@@ -335,5 +423,5 @@ given-step t s (Learn n k) o f rise valid each =
     (link-puts t o' n (local_node t n) (s.nodes n.0) (find_link t k)) each
 given-step t s (Post c) o f rise valid each =
     let o' : Routes = λ l. or_route (o l) None in
-    subst (λ (nodes : ℕ → NodeState). (n : NodeId) → EachCall (GivenBeside t o' n) (nodes n.0).calls)
+    subst (λ (nodes : ℕ → NodeState). (n : NodeId) → EachCall (IsGiven t o' n) (nodes n.0).calls)
     (sym (posted-nodes t s c)) (grown-beside t s o o' (λ l route sent. rw sent refl) each)

@@ -39,7 +39,7 @@ use Rattle.mesh_laws.proofs.hops.Planned.{EachFollows}
 use Rattle.mesh_laws.proofs.hops.Ticked.{AreApart, HaveTwo, apart-rising}
 use Rattle.mesh_laws.proofs.hops.Turned.{BackFits, IsLiveBackup}
 use Rattle.mesh_laws.proofs.hops.Released.{CallStands, NamedStands}
-use Rattle.mesh_laws.proofs.hops.Run.{CanBeProtected, ItemFits, StepFacts, WorksFor, follows_run}
+use Rattle.mesh_laws.proofs.hops.Run.{CanBeProtected, Carried, ItemFits, StepFacts, WorksFor, follows_run}
 use Rattle.mesh_laws.proofs.hops.Law.{lsp_fits}
 
 -- A call and its LSPs
@@ -276,14 +276,18 @@ step_facts t s facts = record {
 }
 
 -- each LSP with its route, in every state of every run
-pub follows : (t : Network) (events : List MeshEvent) → IsRun t start events →
-    EachFollows t (after t start events) (route_of t start events)
-follows t events run =
-    (follows_run t (MeshFacts t) (step_facts t) (facts-step t) start events run (facts-start t) (λ l. None)
+pub carried : (t : Network) (events : List MeshEvent) → IsRun t start events →
+    Carried t (after t start events) (route_of t start events)
+carried t events run =
+    follows_run t (MeshFacts t) (step_facts t) (facts-step t) start events run (facts-start t) (λ l. None)
     (record {
       follows = λ l. record { legs = λ n. refl; mail = λ a b. refl; notices = λ a b. refl };
       given = λ n k c found. absurd (cc found);
-    })).follows
+    })
+
+pub follows : (t : Network) (events : List MeshEvent) → IsRun t start events →
+    EachFollows t (after t start events) (route_of t start events)
+follows t events run = (carried t events run).follows
 
 pub found_of : (legs : List Leg) → LegsRise legs → (g : Leg) → Contains legs g → find_leg g.lsp legs ≡ Some g
 found_of legs rise g has =

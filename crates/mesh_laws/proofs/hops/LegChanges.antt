@@ -11,12 +11,14 @@ use Rattle.ason_base.specs.declared.calls.Role.{Role}
 use Rattle.ason_base.specs.declared.calls.Role.TheVariants as role
 use Rattle.ason_base.specs.declared.tables.Leg.{Leg}
 use Rattle.mesh_rules.specs.Legs.{closed, closing_phase, connected, previous, following, is_armed, is_asked, is_beyond_asked, is_closing, reserved, with_phase}
+use Rattle.mesh_rules.specs.LocalNodes.{local_node}
+use Rattle.mesh_laws.specs.LabelLaw.{KeepsLabels}
 use Rattle.mesh_laws.specs.HopShapes.{NoLeg, AskedLeg, HeldLeg, ArmedLeg, LiveLeg, FallingLeg, IsTorn, Closes, Falls, leg_kind, phase_kind}
 use Rattle.mesh_nodes.proofs.LegList.{same_lsp-refl}
 use Rattle.mesh_laws.proofs.hops.Plans.{Plan, hops, node_at, fibre_at, lt_true, lt_false}
 use Rattle.mesh_laws.proofs.hops.Rest.{Purpose, Carries, Guards, role_of}
 use Rattle.mesh_laws.proofs.hops.Rows.{Stands, AskedStands, HeldStands, ArmedStands, LiveStands, is_reserved, reserved_leg, torn_leg}
-use Rattle.mesh_laws.proofs.hops.Chain.{LegFits, Fits, HasIn, HasOut, PhaseFits, WasSent, reserved_fits}
+use Rattle.mesh_laws.proofs.hops.Chain.{LegFits, Fits, HasIn, HasOut, PhaseFits, WasSent, no_label_in, reserved_fits}
 use Rattle.mesh_laws.proofs.hops.Activation.{UsedHasOut}
 
 pub same_of : (k l : Lsp) → k ≡ l → same_lsp k l ≡ true
@@ -204,6 +206,7 @@ module _ (t : Network) (q : Purpose) (l : Lsp) (p : Plan) where
     route = fits.route;
     sent = fits.sent;
     phase = rw fits.role (go q g.phase fits.phase);
+    labels = no_label_in (local_node t (node_at p i)) (closed g) refl;
   }
     where
       go : (q : Purpose) (f : Phase) → PhaseFits q f i (hops p) g.in_label g.out_label →
@@ -239,8 +242,9 @@ module _ (t : Network) (q : Purpose) (l : Lsp) (p : Plan) where
 
   -- the leg of a Resv
   pub connected_fits : (i : ℕ) (g : Leg) (label : Option ℕ) (x : ℕ) → LegFits t q l p i g → HasIn i label →
-      has g.sent x ≡ true → LegFits t q l p i (connected g label x)
-  connected_fits i g label x fits enters sent = record {
+      has g.sent x ≡ true → KeepsLabels (local_node t (node_at p i)) (connected g label x) →
+      LegFits t q l p i (connected g label x)
+  connected_fits i g label x fits enters sent labels = record {
     own = fits.own;
     egress = fits.egress;
     role = fits.role;
@@ -253,6 +257,7 @@ module _ (t : Network) (q : Purpose) (l : Lsp) (p : Plan) where
     route = fits.route;
     sent = sent;
     phase = rw fits.role (reserved_fits q i (hops p) label (Some x) enters (λ small. (x, refl)));
+    labels = labels;
   }
 
   -- it has its label
@@ -276,6 +281,7 @@ module _ (t : Network) (q : Purpose) (l : Lsp) (p : Plan) where
     route = fits.route;
     sent = fits.sent;
     phase = phase;
+    labels = record { one = fits.labels.one; of_link = fits.labels.of_link };
   }
 
   out_label : (i : ℕ) (g : Leg) → LegFits t q l p i g → (x : ℕ) × (g.out_label ≡ Some x) →

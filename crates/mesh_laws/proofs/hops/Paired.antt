@@ -66,6 +66,17 @@ whole-route t s o l n w (Some route) (e, q, pl) here stands =
     let fits : LegFits t q l (plan route e) 0 w = rw first at (pl.chain.fits 0 (omega arith)) in
     ap Some (sym (along t l q n e route w here pl.route fits))
 
+-- which leads to its egress
+pub whole-made : (t : Network) (s : Mesh) (o : Routes) (l : Lsp) (n : NodeId) (w : Leg) (c : Option (List Step)) →
+    Follows t s o l c → l.ingress ≡ n → leg_at s l n ≡ Some w →
+    makes_route t l.ingress w.egress (route_from (local_node t n) w) ≡ true
+whole-made t s o l n w None f here stands = absurd (let none = f.legs n in cc (none, stands))
+whole-made t s o l n w (Some route) (e, q, pl) here stands =
+    let first : leg_at s l (node_at (plan route e) 0) ≡ Some w =
+    subst (λ m. leg_at s l m ≡ Some w) (sym (pl.route.first ∙ here)) stands in
+    let fits : LegFits t q l (plan route e) 0 w = rw first at (pl.chain.fits 0 (omega arith)) in
+    rw (fits.egress, along t l q n e route w here pl.route fits) pl.made
+
 -- an LSP begins where its leg has no previous node
 pub no_previous : (t : Network) (s : Mesh) (o : Routes) (l : Lsp) (n : NodeId) (g : Leg) (c : Option (List Step)) →
     Follows t s o l c → leg_at s l n ≡ Some g → previous g ≡ None → l.ingress ≡ n

@@ -1,7 +1,7 @@
 -- A first Path is taken at a node of its route.
 use Rattle.std.proofs.Common.{◌≡◌, ◌≢◌, ◌<◌, ◌≤◌, ℕ, zero, suc, true, false, nat_eq, nat_lt, List, [], ◌∷◌, length, drop, refl, sym, ap, ◌∙◌, subst, arith, append-nil}
 use Rattle.std.specs.Prelude.{slice_get, Option, Some, None}
-use Rattle.ason_base.specs.Labels.{has, least}
+use Rattle.ason_base.specs.Labels.{has, least, up_to}
 use Rattle.ason_base.specs.Network.{Network}
 use Rattle.ason_base.specs.declared.codes.ErrCode.{ErrCode}
 use Rattle.ason_base.specs.declared.ids.Lsp.{Lsp}
@@ -16,7 +16,7 @@ use Rattle.ason_base.specs.declared.messages.Msg.TheVariants.{Path, Resv, PathEr
 use Rattle.ason_base.specs.declared.tables.Leg.{Leg}
 use Rattle.mesh_rules.specs.State.{NodeState}
 use Rattle.mesh_rules.specs.Changes.{Answer, sends}
-use Rattle.mesh_rules.specs.LocalNodes.{LocalNode, local_node, fibre_in}
+use Rattle.mesh_rules.specs.LocalNodes.{LocalNode, labels_of, local_node, own_link, fibre_in}
 use Rattle.mesh_rules.specs.KnownRows.{known_rows}
 use Rattle.mesh_rules.specs.Legs.{reserved}
 use Rattle.mesh_rules.specs.Paths.{PathRequest, is_none, is_primary_unknown, first_failure, checks, error_to, egress_leg, set_on, transit_leg}
@@ -27,7 +27,7 @@ use Rattle.mesh_rules.specs.Machine.{Mesh}
 use Rattle.mesh_laws.specs.HopShapes.{PlainPath, path_kind, phase_kind}
 use Rattle.mesh_laws.specs.HopLaw.{is_message_of, messages_of, leg_at, mail_between}
 use Rattle.mesh_laws.proofs.hops.Plans.{Plan, hops, node_at, link_at, fibre_at, IsRoute, Leads, distinct, other, lt_true, lt_false, joined, own_near, own_far, fibre_in_is, fibre_out_is}
-use Rattle.mesh_laws.proofs.hops.Labels.{has_least, has_meet}
+use Rattle.mesh_laws.proofs.hops.Labels.{has_least, has_meet, left_of_link}
 use Rattle.mesh_nodes.proofs.LegList.{same_lsp-refl}
 use Rattle.mesh_laws.proofs.nodes.PathKeeps.{none_fails}
 use Rattle.mesh_nodes.specs.Routes.{AreRowsOf}
@@ -35,7 +35,7 @@ use Rattle.mesh_nodes.proofs.routes.Nodes.{known-are}
 use Rattle.mesh_laws.proofs.hops.Rest.{Purpose, Tells, role_of, tells_role, has_path, plain_inactive}
 use Rattle.mesh_laws.proofs.hops.Risks.{recorded-fit}
 use Rattle.mesh_laws.proofs.hops.Rows.{reserved_leg}
-use Rattle.mesh_laws.proofs.hops.Chain.{Hop, IsVacant, Chain, RisksFit, asked_fits, reserved_fits}
+use Rattle.mesh_laws.proofs.hops.Chain.{Hop, IsVacant, Chain, RisksFit, asked_fits, no_label_in, reserved_fits}
 use Rattle.mesh_laws.proofs.hops.Sending.{sends_back, sends_on}
 use Rattle.mesh_laws.proofs.hops.LegChanges.{reserved_kind}
 use Rattle.mesh_laws.proofs.hops.Downstream.{path_last, path_passed, path_answered, path_refused}
@@ -224,6 +224,16 @@ module _ (t : Network) (q : Purpose) (s : Mesh) (l : Lsp) (p : Plan) (i : ℕ) (
             sent = tt;
             phase = rw asked_for
                 (reserved_fits q (suc i) (hops p) (Some y) None (y, refl) (λ small. absurd (omega arith)));
+            labels = record {
+              one = λ keeps a b enters leaves. absurd (cc leaves);
+              of_link = λ f z on label.
+                  let fibre : fibre_in over.link d ≡ f = cc on in
+                  let is_y : y ≡ z = cc label in
+                  subst (λ f. has (up_to (labels_of (own_link place f.link))) z ≡ true) fibre
+                  (subst (λ z. has (up_to (labels_of (own_link place (fibre_in over.link d).link))) z ≡ true) is_y
+                  (left_of_link place state.legs (asked_role purpose) risks (fibre_in over.link d) set y
+                  (has_least offered y is)));
+            };
           })
           (path_answered q p i (leg_at s l u) l e k r set label purpose (messages_of l rest) _ plain hop_here
           (egress_leg place asks over.link risks offered y) e over.link.id y kind refl
@@ -259,6 +269,7 @@ module _ (t : Network) (q : Purpose) (s : Mesh) (l : Lsp) (p : Plan) (i : ℕ) (
             route = is;
             sent = tt;
             phase = asked_fits q (suc i) (hops p) small;
+            labels = no_label_in place g refl;
           })
           (path_passed q p i (leg_at s l u) l e k r set label purpose (messages_of l rest) _ plain
           hop_here g refl within)

@@ -80,7 +80,7 @@ module _ (t : Network) (s : Mesh) (o : Routes) where
         path = path_before (mail_between s l (node_at p 0) (node_at p 1)) (tear ∷ []) refl path;
       }))
 
-  own_tears : (l : Lsp) (g : Leg) → g.lsp ≡ l → IsOf l (tears (Some g))
+  pub own_tears : (l : Lsp) (g : Leg) → g.lsp ≡ l → IsOf l (tears (Some g))
   own_tears l g is = record { legs = (is, tt); sent = to_next (following g) }
     where
       to_next : (o : Option Neighbour) → AllSent l (tear_to g o)

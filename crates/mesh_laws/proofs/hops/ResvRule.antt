@@ -2,7 +2,7 @@
 use Rattle.std.proofs.Common.{◌≡◌, ◌<◌, ℕ, suc, true, false, List, [], ◌∷◌, ◌++◌, refl, sym, ap, ◌∙◌, subst, arith, inl, inr, append-nil}
 use Rattle.std.specs.Prelude.{Option, Some, None}
 use Rattle.ason_base.specs.Codes.{label_code}
-use Rattle.ason_base.specs.Labels.{has, meet}
+use Rattle.ason_base.specs.Labels.{has, meet, up_to}
 use Rattle.ason_base.specs.Lsps.{same_lsp}
 use Rattle.ason_base.specs.Network.{Network}
 use Rattle.ason_base.specs.declared.ids.Lsp.{Lsp}
@@ -18,7 +18,7 @@ use Rattle.mesh_rules.specs.declared.neighbours.Neighbour.{Neighbour}
 use Rattle.mesh_rules.specs.State.{NodeState}
 use Rattle.mesh_rules.specs.ActivationAnswers.{is_confirmed}
 use Rattle.mesh_rules.specs.Changes.{Answer, nothing, puts, to_node}
-use Rattle.mesh_rules.specs.LocalNodes.{LocalNode, local_node}
+use Rattle.mesh_rules.specs.LocalNodes.{LocalNode, labels_of, local_node, own_link}
 use Rattle.mesh_rules.specs.Legs.{closed, connected, previous, usable, with_phase}
 use Rattle.mesh_rules.specs.Resvs.{is_expected, label_back, passed_back}
 use Rattle.mesh_rules.specs.Messages.{arrival}
@@ -26,11 +26,11 @@ use Rattle.mesh_rules.specs.Machine.{Mesh}
 use Rattle.mesh_laws.specs.HopShapes.{LegKind, NoLeg, IsTorn, StillWaits, leg_kind}
 use Rattle.mesh_laws.specs.HopLaw.{is_message_of, messages_of, leg_at, mail_between}
 use Rattle.mesh_laws.proofs.hops.Plans.{Plan, hops, node_at, link_at, fibre_at, IsRoute, same}
-use Rattle.mesh_laws.proofs.hops.Labels.{has_label_back, has_meet}
+use Rattle.mesh_laws.proofs.hops.Labels.{back_same, has_label_back, has_meet, left_of_link}
 use Rattle.mesh_nodes.proofs.LegList.{same_lsp-refl}
 use Rattle.mesh_laws.proofs.hops.Rows.{nothing_torn, TakesResv, ByAsked, ByArmed, ByTorn, takes_resv, reserved_leg, resv_armed}
 use Rattle.mesh_laws.proofs.hops.Rest.{Purpose, LabelsMeet, in_label_of, role_of}
-use Rattle.mesh_laws.proofs.hops.Chain.{LegFits, Hop, Chain}
+use Rattle.mesh_laws.proofs.hops.Chain.{LegFits, Hop, Chain, in_fibre_at, no_label_in}
 use Rattle.mesh_laws.proofs.hops.Changed.{Sends}
 use Rattle.mesh_laws.proofs.hops.Sending.{sent_by, sends_none, sends_back, sends_on_back}
 use Rattle.mesh_laws.proofs.hops.LegChanges.{Before, before_or_first, same_of, asked_phase, armed_phase, in_label_is, in_use_out, live_fits, torn_not_armed, torn_not_asked, closed_torn, closed_fits, connected_fits, connected_kind, previous_is, previous_none, following_is}
@@ -106,7 +106,7 @@ module _ (t : Network) (q : Purpose) (s : Mesh) (l : Lsp) (p : Plan) (i : ℕ) (
           up_taken t q s l p i route chain below (Resv l e k x) rest was own
           (puts (connected g None x) []) (Some (connected g None x)) [] []
           (rw mine refl) (sends_none l p i) (connected_fits t q l p i g None x fits (rw first refl)
-          (resv_sent q p i _ _ _ g l e k x asked hop_of))
+          (resv_sent q p i _ _ _ g l e k x asked hop_of) (no_label_in place (connected g None x) refl))
           (λ j eq. absurd (omega arith))
           (resv_connects q p i _ _ _ g l e k x asked hop_of (connected g None x)
           (kind None) refl refl)
@@ -132,9 +132,10 @@ module _ (t : Network) (q : Purpose) (s : Mesh) (l : Lsp) (p : Plan) (i : ℕ) (
           over)
           (λ m eq gone. absurd cc) refl
 
-      reserves : (j y : ℕ) → suc j ≡ i → has g.offered y ≡ true →
+      reserves : (j y : ℕ) → suc j ≡ i → has g.offered y ≡ true → (place.convert ≡ false → y ≡ x) →
+          has (up_to (labels_of (own_link place (fibre_at t p j).link))) y ≡ true →
           Keeps (passed_back place came g (record { node = node_at p j; fibre = fibre_at t p j }) x (Some y))
-      reserves j y before offered =
+      reserves j y before offered one of_link =
           let resv : Msg = Resv g.lsp g.egress (link_at p j) y in
           up_taken t q s l p i route chain below (Resv l e k x) rest was own
           (passed_back place came g (record { node = node_at p j; fibre = fibre_at t p j }) x (Some y))
@@ -143,7 +144,17 @@ module _ (t : Network) (q : Purpose) (s : Mesh) (l : Lsp) (p : Plan) (i : ℕ) (
           (subst (λ m. Sends p m (sent_by l (to_node (node_at p j) resv ∷ [])) (resv ∷ []) []) before
           (sends_back t l l.ingress p route j resv (omega arith) mine))
           (connected_fits t q l p i g (Some y) x fits (rw (← before) (y, refl))
-          (resv_sent q p i _ _ _ g l e k x asked hop_of))
+          (resv_sent q p i _ _ _ g l e k x asked hop_of) (record {
+            one = λ keeps a b enters leaves.
+                let in_is : y ≡ a = cc enters in let out_is : x ≡ b = cc leaves in sym in_is ∙ one keeps ∙ out_is;
+            of_link = λ f z on label.
+                let fibre : Some (fibre_at t p j) ≡ Some f =
+                ap (in_fibre_at t p) before ∙ sym fits.in_fibre ∙ on in
+                let there : fibre_at t p j ≡ f = cc fibre in
+                let is_y : y ≡ z = cc label in
+                subst (λ f. has (up_to (labels_of (own_link place f.link))) z ≡ true) there
+                (subst (λ z. has (up_to (labels_of (own_link place (fibre_at t p j).link))) z ≡ true) is_y of_link);
+          }))
           (λ m eq. let at_j : m ≡ j = omega arith in
           asked_reserved q p m _ _ _ g (hop_before m eq) (connected g (Some y) x) g.lsp g.egress (link_at p j) y
           asked (kind (Some y)) refl offered (rw at_j refl))
@@ -151,10 +162,13 @@ module _ (t : Network) (q : Purpose) (s : Mesh) (l : Lsp) (p : Plan) (i : ℕ) (
           (kind (Some y)) refl refl)
           (λ m eq gone. absurd cc) refl
 
-      goes_back : (j : ℕ) → suc j ≡ i → (o : Option ℕ) → ((y : ℕ) → o ≡ Some y → has g.offered y ≡ true) →
+      goes_back : (j : ℕ) → suc j ≡ i → (o : Option ℕ) →
+          ((y : ℕ) → o ≡ Some y → (has g.offered y ≡ true) × (place.convert ≡ false → y ≡ x) ×
+          (has (up_to (labels_of (own_link place (fibre_at t p j).link))) y ≡ true)) →
           Keeps (passed_back place came g (record { node = node_at p j; fibre = fibre_at t p j }) x o)
       goes_back j before None good = closes j before
-      goes_back j before (Some y) good = reserves j y before (good y refl)
+      goes_back j before (Some y) good =
+          let is = good y refl in reserves j y before is.0 is.1 is.2
 
       answers : Before i → Keeps (leg_answers place state came x g (previous g))
       answers (inl first) =
@@ -165,8 +179,12 @@ module _ (t : Network) (q : Purpose) (s : Mesh) (l : Lsp) (p : Plan) (i : ℕ) (
           let labels : List ℕ = meet g.offered (usable place state.legs g.role g.risks (fibre_at t p j)) in
           rw (previous_is t q l p j g fits')
           (goes_back j before (label_back place labels x)
-          (λ y q. has_meet g.offered (usable place state.legs g.role g.risks (fibre_at t p j)) y
-          (has_label_back place labels x y q)))
+          (λ y q.
+          let back = has_label_back place labels x y q in (
+            has_meet g.offered (usable place state.legs g.role g.risks (fibre_at t p j)) y back,
+            (λ keeps. back_same place labels x y keeps q),
+            left_of_link place state.legs g.role g.risks (fibre_at t p j) g.offered y back,
+          )))
 
       taken : Keeps (leg_of_resv place state came x (Some g))
       taken =

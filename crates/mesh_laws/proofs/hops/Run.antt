@@ -87,21 +87,21 @@ pub record StepFacts (t : Network) (s : Mesh) : Type 0 where
   pub desk : (n : ℕ) (i : DeskItem) (items : List DeskItem) → s.desks n ≡ i ∷ items → ItemFits t i
   pub learnt : (n : ℕ) → AreRowsOf t (s.nodes n).learnt
 
-may_pair : (t : Network) (s : Mesh) (o : Routes) (n : NodeId) (c : CallRec) (w : Leg) → EachGivenBeside t s o →
+pub may_pair : (t : Network) (s : Mesh) (o : Routes) (n : NodeId) (c : CallRec) (w : Leg) → EachGivenBeside t s o →
     WorksFor t s n c w → MayPair t n o c w
 may_pair t s o n c w each works = record {
   given = λ primary route sent given.
-      let b = each n works.number c works.found w.lsp route works.work given in
+      let b = (each n works.number c works.found).beside w.lsp route works.work given in
       let one : b.0 ≡ primary = (let was = b.1 in cc (was, sent)) in
       rw (works.egress, ← one) b.2;
   searched = works.searched;
 }
 
-calls_may_pair : (t : Network) (s : Mesh) (o : Routes) → StepFacts t s → EachGivenBeside t s o → CallsMayPair t s o
+pub calls_may_pair : (t : Network) (s : Mesh) (o : Routes) → StepFacts t s → EachGivenBeside t s o → CallsMayPair t s o
 calls_may_pair t s o facts each n g c here called work protected =
     may_pair t s o n c g each (facts.pair n g c here called work protected)
 
-backs_here : (t : Network) (s : Mesh) → StepFacts t s → CallsBackHere s
+pub backs_here : (t : Network) (s : Mesh) → StepFacts t s → CallsBackHere s
 backs_here t s facts n l c called =
     facts.backs n c.call c (called-found l (s.nodes n.0).calls c (facts.rise n.0) called)
 
@@ -241,7 +241,7 @@ desk_same t s n a l = record {
 }
 
 -- a row that is learnt leaves the legs and messages
-link_quiet : (p : LocalNode) (s : NodeState) (found : Option LinkSpec) → IsQuiet (on_link p s found)
+pub link_quiet : (p : LocalNode) (s : NodeState) (found : Option LinkSpec) → IsQuiet (on_link p s found)
 link_quiet p s None = record { legs = refl; sent = refl; numbers = refl }
 link_quiet p s (Some l) =
     if_cases IsQuiet (has_row (known_rows p s) l.id) nothing (learns (row_of l))

@@ -66,10 +66,10 @@ module _ (t : Network) (n : NodeId) (o : Routes) (wait : ℕ) (legs : List Leg) 
   none_quiet = record { legs = refl; sent = refl; numbers = refl }
 
   -- what a backup of this call has
-  abbrev Fits : Mesh → CallRec → Type 0
+  abbrev pub Fits : Mesh → CallRec → Type 0
   Fits s c = BackFits s n c.state (leg_of c.back legs)
 
-  ticked_stays : (s : Mesh) → EachFollows t s o → (c : CallRec) → Fits s c → EachStays t s n o (ticked wait legs c)
+  pub ticked_stays : (s : Mesh) → EachFollows t s o → (c : CallRec) → Fits s c → EachStays t s n o (ticked wait legs c)
   ticked_stays s f c fits =
       if_cases (EachStays t s n o) (not (nat_eq wait 0) && (is_turned c.state && not (has_any c.work_reports))) _ _
       (λ waiting. if_cases (EachStays t s n o) (nat_le wait (c.ticks + 1)) _ _
@@ -103,7 +103,7 @@ module _ (t : Network) (n : NodeId) (o : Routes) (wait : ℕ) (legs : List Leg) 
         (λ other. still nothing none_quiet)
 
   -- the later calls
-  still_fit : (s : Mesh) (c : CallRec) (calls : List CallRec) → AllByRecursion (Fits s) calls →
+  pub still_fit : (s : Mesh) (c : CallRec) (calls : List CallRec) → AllByRecursion (Fits s) calls →
       AllByRecursion (HaveTwo legs c) calls → AllByRecursion (Fits (commit s n.0 (ticked wait legs c))) calls
   still_fit s c [] fits apart = tt
   still_fit s c (d ∷ calls) fits apart = (

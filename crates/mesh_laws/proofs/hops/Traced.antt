@@ -64,7 +64,7 @@ CallsBackHere s =
     BackFits s n c.state (leg_of c.back (s.nodes n.0).legs)
 
 -- a report changes no call's state
-reported_state : (c : CallRec) (l : Lsp) (down : Bool) (f : Fibre) → (with_report c l down f).state ≡ c.state
+pub reported_state : (c : CallRec) (l : Lsp) (down : Bool) (f : Fibre) → (with_report c l down f).state ≡ c.state
 reported_state c l down f =
     if_cases (λ (d : CallRec). d.state ≡ c.state) (is_lsp c.work l) _ _ (λ works. refl) (λ backs. refl)
 

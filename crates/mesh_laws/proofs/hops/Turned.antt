@@ -112,7 +112,7 @@ module _ (t : Network) (s : Mesh) (o : Routes) (c : CallRec) (l : Lsp) (q : Purp
       (fits.egress, refl, fits.route, path.tells) refl (λ gone. absurd (never gone)) hop)
 
 module _ (c : CallRec) (g : Leg) where
-  own_arms : IsOf g.lsp (arms c g)
+  pub own_arms : IsOf g.lsp (arms c g)
   own_arms = record { legs = (refl, tt); sent = to_next (following g) }
     where
       to_next : (h : Option Neighbour) → AllSent g.lsp (activating_path g h)

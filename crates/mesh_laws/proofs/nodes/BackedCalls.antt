@@ -21,7 +21,7 @@ use Rattle.mesh_nodes.specs.Order.{CallsRise}
 use Rattle.mesh_nodes.proofs.Cases.{both_right}
 use Rattle.mesh_laws.specs.NodeLaw.{FitsDesk}
 use Rattle.mesh_laws.proofs.nodes.Facts.{CanBeBacked}
-use Rattle.mesh_laws.proofs.nodes.CallsHold.{ArePut, EachCall, IsSameCall, alarm-holds, clear-holds, each-after, message-holds, protect-holds, release-holds, retry-holds, revert-holds, setup-holds, tick-holds}
+use Rattle.mesh_laws.proofs.nodes.CallsHold.{ArePut, EachCall, IsSameCall, MayGo, OfAny, alarm-holds, clear-holds, each-after, message-holds, protect-holds, release-holds, retry-holds, revert-holds, setup-holds, tick-holds}
 
 abbrev pub AreBacked : Network → List CallChange → Type 0
 AreBacked t cs = ArePut (CanBeBacked t) cs
@@ -33,13 +33,14 @@ pub backed-after : (t : Network) (cs : List CallChange) (calls : List CallRec) �
     CallsBacked t calls → CallsBacked t (calls_changed cs calls)
 backed-after t cs calls here backed = each-after (CanBeBacked t) cs calls here backed
 
-still-backed : (t : Network) (c d : CallRec) → IsSameCall c d → CanBeBacked t c → CanBeBacked t d
+still-backed : (t : Network) (c d : CallRec) → IsSameCall OfAny c d → CanBeBacked t c → CanBeBacked t d
 still-backed t c d is can = λ on none. can (sym is.protected ∙ on) (sym is.backup ∙ none)
 
 pub backs-message : (t : Network) (p : LocalNode) (s : NodeState) → CallsRise s.calls → CallsBacked t s.calls →
     (u : NodeId) (m : Msg) → AreBacked t (on_message p s u m).calls
 backs-message t p s rise backed u m =
-    message-holds (CanBeBacked t) (CanBeBacked t) (still-backed t) p s rise backed u m
+    message-holds OfAny MayGo (CanBeBacked t) (CanBeBacked t) (still-backed t) p s (λ g m j f found first into. tt)
+    rise backed u m
 
 -- of a valid setup
 none-searched : (t : Network) (from to : NodeId) (protected : Bool) (via backup : Option (List Step)) →
@@ -53,24 +54,32 @@ pub backs-item : (t : Network) (n : ℕ) (p : LocalNode) (s : NodeState) → Cal
 backs-item t n p s rise backed (Order (Setup k from to protected both via backup)) fits =
     let can : IsTrue protected → backup ≡ None → IsTrue (is_searchable t) = none-searched t from to protected via backup
     (both_right _ (has_backup_way t from to protected via backup) fits.0) in
-    setup-holds p s
+    setup-holds MayGo p s
     (record { call = k; from = from; egress = to; protected = protected; both = both; via = via; backup = backup })
     (λ a. CanBeBacked t) (λ a cause. can) (λ route out over first ordered. can) (find_call k s.calls)
 backs-item t n p s rise backed (Order (Release k from)) fits =
-    release-holds (CanBeBacked t) (CanBeBacked t) (still-backed t) p s rise backed from (find_call k s.calls)
+    release-holds OfAny MayGo (CanBeBacked t) (CanBeBacked t) (still-backed t) p s (λ g m j f found first into. tt)
+    rise backed from (find_call k s.calls)
+    (λ c is. tt)
 backs-item t n p s rise backed (Order (Protect k from)) fits =
-    protect-holds (CanBeBacked t) (CanBeBacked t) (still-backed t) p s rise backed k from (find_call k s.calls) refl
+    protect-holds OfAny MayGo (CanBeBacked t) (CanBeBacked t) (still-backed t) p s (λ g m j f found first into. tt)
+    rise backed k from (find_call k s.calls) refl
 backs-item t n p s rise backed (Order (Retry k from)) fits =
-    retry-holds (CanBeBacked t) (CanBeBacked t) (still-backed t) p s rise backed k from (find_call k s.calls) refl
+    retry-holds OfAny MayGo (CanBeBacked t) (CanBeBacked t) (still-backed t) p s (λ g m j f found first into. tt)
+    rise backed k from (find_call k s.calls) refl
 backs-item t n p s rise backed (Order (Revert k from)) fits =
-    revert-holds (CanBeBacked t) (CanBeBacked t) (still-backed t) p s rise backed k from (find_call k s.calls) refl
+    revert-holds OfAny MayGo (CanBeBacked t) (CanBeBacked t) (still-backed t) p s (λ g m j f found first into. tt)
+    rise backed k from (find_call k s.calls) refl
 backs-item t n p s rise backed (Order (Fail g)) fits = tt
 backs-item t n p s rise backed (Order (Repair g)) fits = tt
 backs-item t n p s rise backed (Alarm f) fits =
-    alarm-holds (CanBeBacked t) (CanBeBacked t) (still-backed t) p s rise backed f
+    alarm-holds OfAny MayGo (CanBeBacked t) (CanBeBacked t) (still-backed t) p s (λ g m j f found first into. tt)
+    rise backed f
 backs-item t n p s rise backed (Clear f) fits =
-    clear-holds (CanBeBacked t) (CanBeBacked t) (still-backed t) p s rise backed f
+    clear-holds OfAny MayGo (CanBeBacked t) (CanBeBacked t) (still-backed t) p s (λ g m j f found first into. tt)
+    rise backed f
 
 pub backs-tick : (t : Network) (p : LocalNode) (s : NodeState) → CallsRise s.calls → CallsBacked t s.calls →
     AreBacked t (on_tick p s).calls
-backs-tick t p s rise backed = tick-holds (CanBeBacked t) (CanBeBacked t) (still-backed t) p s rise backed
+backs-tick t p s rise backed = tick-holds OfAny MayGo (CanBeBacked t) (CanBeBacked t) (still-backed t) p s
+    (λ g m j f found first into. tt) rise backed

@@ -153,7 +153,7 @@ unnamed-part n next l p legs legs' calls becomes unnamed needs_none part = recor
 abbrev pub Replaced : CallNo → Option CallRec → List CallRec → List CallRec → Type 0
 Replaced k o calls calls' = (m : CallNo) → find_call m calls' ≡ cond (nat_eq k.0 m.0) o (find_call m calls)
 
-number-is : (k m : CallNo) → nat_eq k.0 m.0 ≡ true → k ≡ m
+pub number-is : (k m : CallNo) → nat_eq k.0 m.0 ≡ true → k ≡ m
 number-is k m e = let p : k.0 ≡ m.0 = grind arith in λ i. record { 0 = p i }
 
 pub found-call : (P : Type 0) (k m : CallNo) (o : Option CallRec) (c : CallRec) (calls calls' : List CallRec) →
@@ -266,7 +266,8 @@ lone-part n next c legs calls calls' rise replaced unknown work back facts part 
     (record {
       stay = λ m never. refl;
       apart = λ m d l other there named. refl;
-      only = λ d l is named. absurd (no_name l (let one : c ≡ d = cc is in subst (λ x. names l x ≡ true) (sym one) named));
+      only = λ d l is named. absurd (no_name l
+          (let one : c ≡ d = cc is in subst (λ x. names l x ≡ true) (sym one) named));
       kept = λ d l there named never. absurd (cc (unknown, there));
       facts = λ d is. (let one : c ≡ d = cc is in subst (FitsLegs n next legs) one facts);
       number = λ d is. (let one : c ≡ d = cc is in ap (λ x. x.call) (sym one));

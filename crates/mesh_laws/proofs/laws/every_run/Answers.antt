@@ -3,8 +3,12 @@ use Rattle.mesh_laws.proofs.alone.Law.{every_activation_admitted, run_starts_cal
 use Rattle.mesh_laws.proofs.hops.Beside.{every_backup_beside}
 use Rattle.mesh_laws.proofs.hops.Joined.{every_call_joined}
 use Rattle.mesh_laws.proofs.hops.Laws.{every_hop}
+use Rattle.mesh_laws.proofs.hops.NodeLabels.{every_leg_keeps}
 use Rattle.mesh_laws.proofs.hops.Recorded.{every_backup_records}
+use Rattle.mesh_laws.proofs.hops.ReportedFibres.{every_report_of_route}
 use Rattle.mesh_laws.proofs.hops.Safe.{every_run_safe}
+use Rattle.mesh_laws.proofs.nodes.CallsStand.{every_call_stands}
+use Rattle.mesh_laws.proofs.hops.Ordered.{every_known, every_ordered, every_tidy}
 use Rattle.mesh_laws.proofs.nodes.Laws.{every_call, every_label, every_learnt_row, every_live}
 use Rattle.mesh_laws.proofs.nodes.Searches.{every_search}
 use Rattle.mesh_laws.proofs.reports.Desks.{every_desk_tells}
@@ -18,8 +22,26 @@ returns-clause-labels c = every_label
 pub returns-clause-labelled : goal.returns-clause-labelled
 returns-clause-labelled c = every_live
 
+pub returns-clause-kept : goal.returns-clause-kept
+returns-clause-kept c = every_leg_keeps
+
 pub returns-clause-calls : goal.returns-clause-calls
 returns-clause-calls c = every_call
+
+pub returns-clause-tidy : goal.returns-clause-tidy
+returns-clause-tidy c = every_tidy
+
+pub returns-clause-ordered : goal.returns-clause-ordered
+returns-clause-ordered c = every_ordered
+
+pub returns-clause-stand : goal.returns-clause-stand
+returns-clause-stand c = every_call_stands
+
+pub returns-clause-reported : goal.returns-clause-reported
+returns-clause-reported c = every_report_of_route
+
+pub returns-clause-known : goal.returns-clause-known
+returns-clause-known c = every_known
 
 pub returns-clause-hops : goal.returns-clause-hops
 returns-clause-hops c = every_hop

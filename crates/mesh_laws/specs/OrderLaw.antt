@@ -1,0 +1,36 @@
+-- In every state of every run each call is that of a setup that was posted.
+use Rattle.std.specs.Prelude.{◌≡◌, ◌⊎◌, ℕ, Bool, List, [], ◌∷◌, Option, Some, All}
+use Rattle.ason_base.specs.declared.commands.Command.{Command}
+use Rattle.ason_base.specs.declared.commands.Command.TheVariants.{Setup}
+use Rattle.ason_base.specs.declared.ids.Lsp.{Lsp}
+use Rattle.ason_base.specs.declared.ids.NodeId.{NodeId}
+use Rattle.ason_base.specs.declared.steps.Step.{Step}
+use Rattle.ason_base.specs.declared.tables.CallRec.{CallRec}
+use Rattle.ason_base.specs.Network.{Network}
+use Rattle.mesh_rules.specs.declared.events.MeshEvent.{MeshEvent}
+use Rattle.mesh_rules.specs.declared.events.MeshEvent.TheVariants.{Post}
+use Rattle.mesh_rules.specs.Machine.{start}
+use Rattle.mesh_rules.specs.Events.{IsRun, after, route_of}
+
+-- the command is posted in one of these events
+abbrev pub WasPosted : Command → List MeshEvent → Type 0
+WasPosted c [] = ⊥
+WasPosted c (e ∷ events) = (e ≡ Post c) ⊎ WasPosted c events
+
+-- the call at node n is that of a setup from there: of its number, to its egress, protected where it says so, with the
+-- backup route that it gives; and where it gives a route its working LSP was sent on it. o: the route of each LSP.
+pub record IsOrdered (o : Lsp → Option (List Step)) (events : List MeshEvent) (n : ℕ) (c : CallRec) : Type 0 where
+  pub from : NodeId
+  pub both : Bool
+  pub via : Option (List Step)
+  pub here : from.0 ≡ n
+  pub posted : WasPosted (Setup c.call from c.egress c.protected both via c.backup) events
+  pub over : (l : Lsp) (route : List Step) → c.work ≡ Some l → via ≡ Some route → o l ≡ Some route
+
+abbrev pub CallsAreOrdered : Network → List MeshEvent → Type 0
+CallsAreOrdered t events =
+    (n : ℕ) → All (IsOrdered (route_of t start events) events n) ((after t start events).nodes n).calls
+
+-- over every network and every run, at each node
+abbrev pub EveryCallIsOrdered : Type 0
+EveryCallIsOrdered = (t : Network) (events : List MeshEvent) → IsRun t start events → CallsAreOrdered t events

@@ -1,0 +1,65 @@
+-- A call stands until its release, and so does its working LSP; once its backup is reserved, that stands too (shared
+-- mesh restoration: RFC 4872, section 8).
+use Rattle.std.specs.Prelude.{◌≡◌, ◌==◌, ◌&&◌, ℕ, Bool, true, false, List, [], ◌∷◌, Some, IsTrue}
+use Rattle.ason_base.specs.declared.calls.CallState.{CallState}
+use Rattle.ason_base.specs.declared.calls.CallState.TheVariants.{Asking, Blocked, Guarded, Stuck, Turned, Turning}
+use Rattle.ason_base.specs.declared.commands.Command.TheVariants.{Release}
+use Rattle.ason_base.specs.declared.commands.DeskItem.{DeskItem}
+use Rattle.ason_base.specs.declared.commands.DeskItem.TheVariants.{Order}
+use Rattle.ason_base.specs.declared.ids.CallNo.{CallNo}
+use Rattle.ason_base.specs.declared.tables.CallRec.{CallRec}
+use Rattle.ason_base.specs.Network.{Network}
+use Rattle.mesh_rules.specs.declared.events.MeshEvent.{MeshEvent}
+use Rattle.mesh_rules.specs.declared.events.MeshEvent.TheVariants.{Desk}
+use Rattle.mesh_rules.specs.Calls.{find_call}
+use Rattle.mesh_rules.specs.Events.{IsRun, after, is_enabled, step}
+use Rattle.mesh_rules.specs.Machine.{Mesh, start}
+
+-- the working LSP is cross-connected: the call is neither asking nor blocked
+abbrev pub is_standing_call : CallState → Bool
+is_standing_call Asking = false
+is_standing_call Blocked = false
+is_standing_call _ = true
+
+-- the backup is reserved
+abbrev pub has_backup : CallState → Bool
+has_backup Guarded = true
+has_backup Turning = true
+has_backup Turned = true
+has_backup Stuck = true
+has_backup _ = false
+
+-- d is the call c after an event: it stands with its number, its egress and its working LSP, and its backup stays
+-- reserved
+pub record StandsOn (c d : CallRec) : Type 0 where
+  pub number : d.call ≡ c.call
+  pub egress : d.egress ≡ c.egress
+  pub work : d.work ≡ c.work
+  pub stands : IsTrue (is_standing_call d.state)
+  pub back : IsTrue (has_backup c.state) → IsTrue (has_backup d.state) × (d.back ≡ c.back)
+
+-- the item is the release of this call
+abbrev pub is_release_of : CallNo → DeskItem → Bool
+is_release_of k (Order (Release m from)) = m.0 == k.0
+is_release_of k item = false
+
+abbrev pub is_first_release : CallNo → List DeskItem → Bool
+is_first_release k [] = false
+is_first_release k (i ∷ items) = is_release_of k i
+
+-- the event carries out the release of the call k at node n
+abbrev pub is_released_by : Mesh → ℕ → CallNo → MeshEvent → Bool
+is_released_by s n k (Desk m) = m.0 == n && is_first_release k (s.desks n)
+is_released_by s n k e = false
+
+-- over one event
+abbrev pub CallsStand : Network → Mesh → MeshEvent → Type 0
+CallsStand t s e =
+    (n : ℕ) (k : CallNo) (c : CallRec) → find_call k (s.nodes n).calls ≡ Some c → IsTrue (is_standing_call c.state) →
+    is_released_by s n k e ≡ false → (d : CallRec) × (find_call k ((step t s e).nodes n).calls ≡ Some d) × StandsOn c d
+
+-- over every network, after every run, over each event that is enabled there
+abbrev pub EveryCallStands : Type 0
+EveryCallStands =
+    (t : Network) (events : List MeshEvent) → IsRun t start events → (e : MeshEvent) →
+    IsTrue (is_enabled t (after t start events) e) → CallsStand t (after t start events) e
