@@ -18,6 +18,7 @@ use Rattle.mesh_laws.proofs.reports.Laws.{every_report_tells}
 use Rattle.mesh_laws.proofs.nodes.CallsStand.{every_call_stands}
 use Rattle.mesh_laws.proofs.hops.Ordered.{every_known, every_ordered, every_tidy}
 use Rattle.mesh_laws.proofs.nodes.Laws.{every_call, every_label, every_learnt_row, every_live}
+use Rattle.mesh_laws.proofs.rest.Rests.{every_run_ends, every_run_rests}
 use Rattle.mesh_laws.proofs.restoration.Law.{every_hit_call}
 
 pub laws_hold : EveryRunKeepsTheLaws
@@ -44,6 +45,8 @@ laws_hold t events run =
       reports = λ valid. every_report_tells t events valid run;
       admitted = λ valid. every_activation_admitted t events valid run;
       restored = λ valid. every_hit_call t events valid run;
+      rests = λ valid. every_run_rests t events valid run;
+      ends = λ valid. every_run_ends t events valid run;
     }
 
 run_so_far : (t : Network) (s : Mesh) (events later : List MeshEvent) → IsRun t s (events ++ later) → IsRun t s events

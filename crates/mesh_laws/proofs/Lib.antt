@@ -5,3 +5,4 @@ pub mod hops
 pub mod nodes
 pub mod reports
 pub mod restoration
+pub mod rest

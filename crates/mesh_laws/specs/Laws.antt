@@ -1,5 +1,5 @@
 -- All laws of one state of a run, in one word.
-use Rattle.std.specs.Prelude.{ℕ, List, IsTrue, All}
+use Rattle.std.specs.Prelude.{◌≤◌, ℕ, List, IsTrue, All}
 use Rattle.ason_base.specs.declared.ids.Lsp.{Lsp}
 use Rattle.ason_base.specs.declared.ids.NodeId.{NodeId}
 use Rattle.ason_base.specs.Network.{IsTopology, Network}
@@ -16,6 +16,7 @@ use Rattle.mesh_laws.specs.LabelLaw.{LabelsAreShared, LegsKeepLabels, LiveLegsAr
 use Rattle.mesh_laws.specs.LearntLaw.{LearntRowsAreTrue}
 use Rattle.mesh_laws.specs.OrderLaw.{CallsAreOrdered}
 use Rattle.mesh_laws.specs.ReportLaw.{DesksTell, ReportsAreOfRoutes, ReportsTell}
+use Rattle.mesh_laws.specs.RestLaw.{RunEnds, added, handled}
 use Rattle.mesh_laws.specs.RestorationLaw.{RestorationHolds}
 use Rattle.mesh_laws.specs.RiskLaw.{BackupsRecordRisks}
 use Rattle.mesh_laws.specs.SafeLaw.{IsSafe}
@@ -62,6 +63,10 @@ pub record LawsHold (t : Network) (events : List MeshEvent) : Type 0 where
   -- so once nothing is under way each guarded call is carried from end to end over fibres that are up, by its backup
   -- where its working LSP is hit
   pub restored : IsTopology t → RestorationHolds t events
+  -- and of the events that take a message or handle an item there are at most so many for each post and each tick
+  pub rests : IsTopology t → handled events ≤ added t events
+  -- so after these only so many can follow while nothing more is posted and no node ticks
+  pub ends : IsTopology t → RunEnds t events
 
 -- over every network and every run
 abbrev pub EveryRunKeepsTheLaws : Type 0

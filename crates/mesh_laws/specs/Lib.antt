@@ -11,7 +11,10 @@ pub mod LearntLaw
 pub mod NodeLaw
 pub mod OrderLaw
 pub mod ReportLaw
+pub mod RestLaw
 pub mod RestorationLaw
 pub mod RiskLaw
 pub mod SafeLaw
 pub mod StandLaw
+pub mod Weights
+pub mod Work

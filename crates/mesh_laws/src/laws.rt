@@ -12,6 +12,7 @@ ghost use Rattle.mesh_laws.specs.LearntLaw.{EveryLearntRowIsTrue, EveryNodeCanSe
 ghost use Rattle.mesh_laws.specs.NodeLaw.{EveryNodeSharesLawfully};
 ghost use Rattle.mesh_laws.specs.OrderLaw.{EveryCallIsOrdered};
 ghost use Rattle.mesh_laws.specs.ReportLaw.{EveryDeskTellsFailures, EveryReportIsOfItsRoute, EveryReportTellsFailures};
+ghost use Rattle.mesh_laws.specs.RestLaw.{EveryRestIsQuiet, EveryRunEnds, EveryRunRests};
 ghost use Rattle.mesh_laws.specs.RestorationLaw.{EveryHitCallIsRestored};
 ghost use Rattle.mesh_laws.specs.RiskLaw.{EveryBackupRecordsItsRisks};
 ghost use Rattle.mesh_laws.specs.SafeLaw.{EveryRunIsSafe};
@@ -67,6 +68,11 @@ ghost use Rattle.mesh_laws.specs.StandLaw.{EveryCallStands};
 /// backup where it turned and else the working LSP, is joined, Live at each node of its route, and
 /// none of its fibres is physically down (`restored`).
 ///
+/// Rest, over a topology. Of the events of a run that take a message or handle an item of a desk
+/// there are at most so many for each post and each tick (`rests`). So after a run only so many can
+/// follow while nothing more is posted and no node ticks (`ends`), and where no such event is
+/// enabled no message is under way and each desk is empty (`quiet`).
+///
 /// The last clause says all but the searching of one state, in one word (`together`).
 pub fn every_run()
     ensures labels { EveryLabelIsShared }
@@ -90,6 +96,9 @@ pub fn every_run()
     ensures calm { EveryRunStartsCalm }
     ensures admitted { EveryActivationIsAdmitted }
     ensures restored { EveryHitCallIsRestored }
+    ensures rests { EveryRunRests }
+    ensures ends { EveryRunEnds }
+    ensures quiet { EveryRestIsQuiet }
     ensures together { EveryRunKeepsTheLaws }
 {}
 

@@ -13,6 +13,7 @@ use Rattle.mesh_laws.proofs.nodes.Laws.{every_call, every_label, every_learnt_ro
 use Rattle.mesh_laws.proofs.nodes.Searches.{every_search}
 use Rattle.mesh_laws.proofs.reports.Desks.{every_desk_tells}
 use Rattle.mesh_laws.proofs.reports.Laws.{every_report_tells}
+use Rattle.mesh_laws.proofs.rest.Rests.{every_rest_quiet, every_run_ends, every_run_rests}
 use Rattle.mesh_laws.proofs.restoration.Law.{every_hit_call}
 use Rattle.mesh_laws.proofs.laws.every_run.Goals as goal
 
@@ -72,6 +73,15 @@ returns-clause-admitted c = every_activation_admitted
 
 pub returns-clause-restored : goal.returns-clause-restored
 returns-clause-restored c = every_hit_call
+
+pub returns-clause-rests : goal.returns-clause-rests
+returns-clause-rests c = every_run_rests
+
+pub returns-clause-ends : goal.returns-clause-ends
+returns-clause-ends c = every_run_ends
+
+pub returns-clause-quiet : goal.returns-clause-quiet
+returns-clause-quiet c = every_rest_quiet
 
 pub returns-clause-desks : goal.returns-clause-desks
 returns-clause-desks c = every_desk_tells

@@ -1,0 +1,113 @@
+-- How much the work grows by an answer, while the routes grow by those of the first Paths that it sends.
+use Rattle.std.proofs.Common.{◌≡◌, ◌≤◌, ◌<◌, ℕ, suc, ◌+◌, Bool, true, false, cond, nat_eq, List, [], ◌∷◌, drop, length, refl, sym, ◌∙◌, subst, arith}
+use Rattle.std.specs.Prelude.{◌&&◌, nat_lt, Some, None}
+use Rattle.ason_base.specs.Lsps.{same_lsp}
+use Rattle.ason_base.specs.Network.{Network}
+use Rattle.ason_base.specs.declared.ids.Lsp.{Lsp}
+use Rattle.ason_base.specs.declared.ids.NodeId.{NodeId}
+use Rattle.ason_base.specs.declared.steps.Step.{Step}
+use Rattle.ason_base.specs.declared.network.LinkSpec.{LinkSpec}
+use Rattle.ason_base.specs.declared.tables.CallRec.{CallRec}
+use Rattle.mesh_rules.specs.declared.changes.NextNumbers.{NextNumbers}
+use Rattle.mesh_rules.specs.Changes.{Answer}
+use Rattle.mesh_rules.specs.Events.{first_route, or_route}
+use Rattle.mesh_rules.specs.FirstLegs.{NewLsp, asks_for, first_link}
+use Rattle.mesh_rules.specs.LocalNodes.{LocalNode, local_node, own_link}
+use Rattle.mesh_rules.specs.Machine.{Mesh, commit}
+use Rattle.mesh_rules.specs.State.{NodeState}
+use Rattle.mesh_nodes.proofs.LegList.{same_lsp-eq}
+use Rattle.mesh_laws.proofs.hops.Begun.{grown}
+use Rattle.mesh_laws.proofs.hops.Own.{AllSent, IsQuiet, route-other}
+use Rattle.mesh_laws.proofs.hops.Planned.{IsUntouched, or_none}
+use Rattle.mesh_laws.specs.Weights.{Routes, path_weight}
+use Rattle.mesh_laws.specs.Work.{WorkIsWithin}
+use Rattle.mesh_laws.proofs.rest.BeginRests.{begins-grow, known-else}
+use Rattle.mesh_laws.proofs.rest.Grown.{GrowsBy, grows-quiet}
+use Rattle.mesh_laws.proofs.rest.TurnRests.{AreShort}
+
+pub record Expands (s : Mesh) (n : NodeId) (o : Routes) (more : ℕ) (a : Answer) : Type 0 where
+  pub grow : (w : ℕ) → WorkIsWithin o s w → WorkIsWithin (grown n o a) (commit s n.0 a) (w + more)
+  pub short : AreShort o → AreShort (grown n o a)
+
+-- no first Path of a new LSP is sent
+abbrev pub IsKnown : Routes → Answer → Type 0
+IsKnown o a = (l : Lsp) → or_route (o l) (first_route l a.sent) ≡ o l
+
+pub expands-known : (s : Mesh) (n : NodeId) (o : Routes) (more : ℕ) (a : Answer) → IsKnown o a → GrowsBy o s n more a →
+    Expands s n o more a
+expands-known s n o more a known grow = record {
+  grow = λ w within. subst (λ (x : Routes). WorkIsWithin x (commit s n.0 a) (w + more)) all (grow w within);
+  short = λ short. subst AreShort all short;
+}
+  where
+    each : (l : Lsp) → o l ≡ grown n o a l
+    each l = go (nat_eq n.0 l.ingress.0)
+      where
+        go : (b : Bool) → o l ≡ or_route (o l) (first_route l (cond b a.sent []))
+        go true = sym (known l)
+        go false = sym (or_none (o l))
+
+    all : o ≡ grown n o a
+    all = λ i l. each l i
+
+pub expands-quiet : (s : Mesh) (n : NodeId) (o : Routes) (more : ℕ) (a : Answer) → IsQuiet a → Expands s n o more a
+expands-quiet s n o more a quiet =
+    expands-known s n o more a (λ l. rw quiet.sent (or_none (o l))) (grows-quiet o s n a more quiet)
+
+pub expands-more : (s : Mesh) (n : NodeId) (o : Routes) (m k : ℕ) (a : Answer) → m ≤ k → Expands s n o m a →
+    Expands s n o k a
+expands-more s n o m k a small first = record {
+  grow = λ w within ps apart. (let h = first.grow w within ps apart in omega arith);
+  short = first.short;
+}
+
+-- what is sent is of an LSP that has its route
+pub known-of : (o : Routes) (j : Lsp) (route : List Step) (a : Answer) → AllSent j a.sent → o j ≡ Some route →
+    IsKnown o a
+known-of o j route a of is l = go (same_lsp j l) refl
+  where
+    go : (b : Bool) → same_lsp j l ≡ b → or_route (o l) (first_route l a.sent) ≡ o l
+    go true e =
+        let known : o l ≡ Some route = subst (λ (k : Lsp). o k ≡ Some route) (same_lsp-eq j l e) is in
+        rw known refl
+    go false e = rw (route-other j l a.sent of e) (or_none (o l))
+
+-- the first link of a route
+pub first-short : (p : LocalNode) (route : List Step) (out : LinkSpec) → first_link p route ≡ Some out →
+    length (drop 1 route) < 63
+first-short p [] out e = absurd (cc e)
+first-short p (hop ∷ route) out e =
+    go (nat_eq hop.node.0 p.id.0) (nat_lt (length route) 63) refl e
+  where
+    go : (b c : Bool) → nat_lt (length route) 63 ≡ c → cond (b && c) (own_link p hop.link) None ≡ Some out →
+        length route < 63
+    go true true small e = grind arith
+    go true false small e = absurd (cc e)
+    go false c small e = absurd (cc e)
+
+-- a new LSP
+module _ (t : Network) (s : Mesh) (o : Routes) (n : NodeId) (st : NodeState) (w : NewLsp) (c : CallRec)
+    (numbers : NextNumbers) (blank : IsUntouched s w.lsp) (none : o w.lsp ≡ None) (small : length w.route < 63) where
+  abbrev answer : Answer
+  answer = asks_for (local_node t n) st w c numbers
+
+  new-short : AreShort o → AreShort (grown n o answer)
+  new-short short l route is = go (same_lsp w.lsp l) refl
+    where
+      new : (b : Bool) → same_lsp w.lsp l ≡ true → o l ≡ None →
+          or_route (o l) (first_route l (cond b answer.sent [])) ≡ Some route →
+          length route ≤ 63
+      new true same empty e =
+          let is : Some (record { node = w.lsp.ingress; link = w.out.id } ∷ w.route) ≡ Some route =
+          rw (empty, same) at e in
+          let one : record { node = w.lsp.ingress; link = w.out.id } ∷ w.route ≡ route = cc is in
+          rw (← one) (omega arith)
+      new false same empty e = absurd (let never : None ≡ Some route = rw empty at e in cc never)
+
+      go : (b : Bool) → same_lsp w.lsp l ≡ b → length route ≤ 63
+      go true e =
+          new (nat_eq n.0 l.ingress.0) e (subst (λ (k : Lsp). o k ≡ None) (same_lsp-eq w.lsp l e) none) is
+      go false e = short l route (sym (known-else t s o n st w c numbers blank l e) ∙ is)
+
+  pub begins-expand : Expands s n o (path_weight w.role None (suc (length w.route))) answer
+  begins-expand = record { grow = begins-grow t s o n st w c numbers blank; short = new-short }

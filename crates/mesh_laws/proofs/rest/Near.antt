@@ -1,0 +1,324 @@
+-- A message of an LSP is taken at a place of its route and its leg there changes: when nothing that stays gets heavier.
+use Rattle.std.proofs.Common.{◌≡◌, ◌≢◌, ◌≤◌, ◌<◌, ℕ, zero, suc, ◌+◌, ◌-◌, ◌*◌, Bool, true, false, cond, List, [], ◌∷◌, length, refl, sym, ◌∙◌, ap, subst, arith, inl, inr}
+use Rattle.std.specs.Prelude.{◌⊎◌, not, Option, Some, None}
+use Rattle.ason_base.specs.Lsps.{same_lsp}
+use Rattle.ason_base.specs.Network.{Network}
+use Rattle.ason_base.specs.declared.ids.Lsp.{Lsp}
+use Rattle.ason_base.specs.declared.ids.NodeId.{NodeId}
+use Rattle.ason_base.specs.declared.ids.LinkId.{LinkId}
+use Rattle.ason_base.specs.declared.steps.Step.{Step}
+use Rattle.ason_base.specs.declared.calls.Phase.{Phase}
+use Rattle.ason_base.specs.declared.calls.Phase.TheVariants.{Asked, Held, Armed, Live, Closing, Falling}
+use Rattle.ason_base.specs.declared.calls.Role.{Role}
+use Rattle.ason_base.specs.declared.calls.Role.TheVariants as role
+use Rattle.ason_base.specs.declared.messages.PathRole.{PathRole}
+use Rattle.ason_base.specs.declared.messages.PathRole.TheVariants.{Work, Back}
+use Rattle.ason_base.specs.declared.messages.Msg.{Msg}
+use Rattle.ason_base.specs.declared.messages.Msg.TheVariants.{Path, Resv, PathTear, PathErr, Notify}
+use Rattle.ason_base.specs.declared.tables.Leg.{Leg}
+use Rattle.mesh_rules.specs.Changes.{Answer, nothing}
+use Rattle.mesh_rules.specs.Legs.{find_leg, closing_phase, is_asked, previous, reserved}
+use Rattle.mesh_rules.specs.Machine.{Mesh, commit, without_first}
+use Rattle.mesh_laws.specs.HopShapes.{NoLeg, ArmedLeg, FallingLeg, leg_kind, phase_kind}
+use Rattle.mesh_laws.specs.HopLaw.{lsp_of, is_notice, is_message_of, messages_of, leg_at, mail_between}
+use Rattle.mesh_nodes.proofs.Cases.{both_right}
+use Rattle.mesh_nodes.proofs.LegList.{same_lsp-eq}
+use Rattle.mesh_laws.proofs.hops.Plans.{Plan, hops, fibre_at, node_at, IsRoute, same, other}
+use Rattle.mesh_laws.proofs.hops.Rest.{Purpose, has_path, role_of}
+use Rattle.mesh_laws.proofs.hops.Chain.{Chain, Fits, LegFits, OnRoute, is_or_not}
+use Rattle.mesh_laws.proofs.hops.LegChanges.{previous_is, previous_none}
+use Rattle.mesh_laws.proofs.hops.Own.{IsOf}
+use Rattle.mesh_laws.proofs.hops.Tables.{leg_after}
+use Rattle.mesh_laws.proofs.hops.Views.{leg-here}
+use Rattle.mesh_laws.specs.Weights.{Routes, hops_back, weight, path_weight, asked_weight, phase_weight, resv_weight}
+use Rattle.mesh_laws.specs.Work.{WorkIsWithin}
+use Rattle.mesh_laws.proofs.rest.Works.{NoHeavier}
+use Rattle.mesh_laws.proofs.rest.Committed.{StayLight, sent_weight, taken_mesh, taken-lightens}
+use Rattle.mesh_laws.proofs.rest.Light.{stay-own}
+use Rattle.mesh_laws.proofs.rest.RowKinds.{has_resv}
+
+-- A leg and what it becomes, for these messages to it
+
+abbrev pub PathLight : Option Leg → Option Leg → Type 0
+PathLight g g' = (r : PathRole) (k : ℕ) → path_weight r g' k ≤ path_weight r g k
+
+abbrev pub ResvLight : Option Leg → Option Leg → Type 0
+ResvLight g g' = (k : ℕ) → resv_weight g' (suc k) ≤ resv_weight g (suc k)
+
+pub record LightFor (g g' : Option Leg) (ms : List Msg) : Type 0 where
+  pub path : has_path ms ≡ true → PathLight g g'
+  pub resv : has_resv ms ≡ true → ResvLight g g'
+
+pub light-empty : (g g' : Option Leg) → LightFor g g' []
+light-empty g g' = record { path = λ never. absurd (cc never); resv = λ never. absurd (cc never) }
+
+pub light-both : (g g' : Option Leg) (ms : List Msg) → PathLight g g' → ResvLight g g' → LightFor g g' ms
+light-both g g' ms path resv = record { path = λ _. path; resv = λ _. resv }
+
+pub light-same : (g g' : Option Leg) (ms : List Msg) → g' ≡ g → LightFor g g' ms
+light-same g g' ms is = light-both g g' ms (λ r k. rw is (omega arith)) (λ k. rw is (omega arith))
+
+pub light-no_resv : (g g' : Option Leg) (ms : List Msg) → PathLight g g' → has_resv ms ≡ false → LightFor g g' ms
+light-no_resv g g' ms path none = record { path = λ _. path; resv = λ some. absurd (cc (none, some)) }
+
+pub light-no_path : (g g' : Option Leg) (ms : List Msg) → has_path ms ≡ false → ResvLight g g' → LightFor g g' ms
+light-no_path g g' ms none resv = record { path = λ some. absurd (cc (none, some)); resv = λ _. resv }
+
+-- each message of the LSP to the node
+pub near-light : (o : Routes) (s s' : Mesh) (l : Lsp) (x b : ℕ) (ms : List Msg) →
+    LightFor (find_leg l (s.nodes b).legs) (find_leg l (s'.nodes b).legs) (messages_of l ms) →
+    NoHeavier (weight o s x b) (weight o s' x b) (messages_of l ms)
+near-light o s s' l x b [] light = tt
+near-light o s s' l x b (m ∷ ms) light = go (is_message_of l m) refl light (near-light o s s' l x b ms)
+  where
+    g : Option Leg
+    g = find_leg l (s.nodes b).legs
+
+    g' : Option Leg
+    g' = find_leg l (s'.nodes b).legs
+
+    by_kind : (m : Msg) → lsp_of m ≡ l → LightFor g g' (m ∷ messages_of l ms) →
+        (weight o s' x b m ≤ weight o s x b m) × LightFor g g' (messages_of l ms)
+    by_kind (Path j e k route set up r) is light =
+        (rw is (light.path refl r (suc (length route))), record { path = λ _. light.path refl; resv = light.resv })
+    by_kind (Resv j e k y) is light =
+        (rw is (light.resv refl (hops_back o l b)), record { path = light.path; resv = λ _. light.resv refl })
+    by_kind (PathTear j e k) is light = (omega arith, record { path = light.path; resv = light.resv })
+    by_kind (PathErr j e at gone code) is light = (omega arith, record { path = light.path; resv = light.resv })
+    by_kind (Notify j e at k code) is light = (omega arith, record { path = light.path; resv = light.resv })
+
+    go : (c : Bool) → is_message_of l m ≡ c → LightFor g g' (cond c (m ∷ messages_of l ms) (messages_of l ms)) →
+        (LightFor g g' (messages_of l ms) → NoHeavier (weight o s x b) (weight o s' x b) (messages_of l ms)) →
+        NoHeavier (weight o s x b) (weight o s' x b) (cond c (m ∷ messages_of l ms) (messages_of l ms))
+    go true is light more =
+        let same : same_lsp (lsp_of m) l ≡ true = both_right (not (is_notice m)) _ is in
+        let both = by_kind m (same_lsp-eq (lsp_of m) l same) light in
+        (both.0, more both.1)
+    go false is light more = more light
+
+-- An answer to the message m, which came from u to d
+
+module _ (o : Routes) (s : Mesh) (l : Lsp) (u d : NodeId) (m : Msg) (rest : List Msg) (was : s.mail u.0 d.0 ≡ m ∷ rest)
+  where
+    -- no message of the LSP to d gets heavier, and what is sent weighs less than m
+    pub record Part (a : Answer) : Type 0 where
+      pub light : (x : ℕ) →
+          LightFor (leg_at s l d) (leg_after l a.legs (leg_at s l d))
+          (messages_of l ((without_first s u.0 d.0).mail x d.0))
+      pub sends : sent_weight (weight o (taken_mesh s u.0 d.0 a) d.0) a.sent < weight o s u.0 d.0 m
+
+    pub part-lightens : (a : Answer) → IsOf l a → Part a → (w : ℕ) → WorkIsWithin o s w →
+        (left : ℕ) × WorkIsWithin o (taken_mesh s u.0 d.0 a) left ×
+        (left + weight o s u.0 d.0 m ≡ w + sent_weight (weight o (taken_mesh s u.0 d.0 a) d.0) a.sent)
+    part-lightens a of part w within =
+        let base : Mesh = without_first s u.0 d.0 in
+        let stays : StayLight o base o (commit base d.0 a) base =
+        stay-own o base d l a of
+        (λ x. near-light o base (commit base d.0 a) l x d.0 (base.mail x d.0)
+        (subst (λ g. LightFor (leg_at s l d) g (messages_of l (base.mail x d.0))) (sym (leg-here base d l a))
+        (part.light x))) in
+        taken-lightens o o s u.0 d.0 m rest was a stays w within
+        (sent_weight (weight o (taken_mesh s u.0 d.0 a) d.0) a.sent) (omega arith) part.sends
+
+    -- nothing changes
+    pub part-nothing : 0 < weight o s u.0 d.0 m → Part nothing
+    part-nothing some = record { light = λ x. light-same _ _ _ refl; sends = some }
+
+-- What may be on its way to a place
+
+-- to the place after i, from which the first message down is taken
+module _ (t : Network) (q : Purpose) (s : Mesh) (l : Lsp) (p : Plan) (i : ℕ) (route : IsRoute t l.ingress p)
+    (chain : Chain t q l p (leg_at s l) (mail_between s l)) (below : i < hops p) (m : Msg) (rest : List Msg)
+    (was : s.mail (node_at p i).0 (node_at p (suc i)).0 ≡ m ∷ rest) (Q : List Msg → Type 0) where
+  pub near-down : Q [] → Q (messages_of l rest) →
+      (suc i < hops p → Q (mail_between s l (node_at p (suc (suc i))) (node_at p (suc i)))) → (x : ℕ) →
+      Q (messages_of l ((without_first s (node_at p i).0 (node_at p (suc i)).0).mail x (node_at p (suc i)).0))
+  near-down none after next x = go (is_or_not x (node_at p i).0)
+    where
+      go : (x ≡ (node_at p i).0) ⊎ (x ≢ (node_at p i).0) →
+          Q (messages_of l ((without_first s (node_at p i).0 (node_at p (suc i)).0).mail x (node_at p (suc i)).0))
+      go (inl is) = rw (is, same (node_at p i).0, same (node_at p (suc i)).0, was) after
+      go (inr apart) = rw (other x (node_at p i).0 apart) (far (chain.ways (record { 0 = x }) (node_at p (suc i))))
+        where
+          far : (mail_between s l (record { 0 = x }) (node_at p (suc i)) ≡ []) ⊎
+              OnRoute p (record { 0 = x }) (node_at p (suc i)) →
+              Q (mail_between s l (record { 0 = x }) (node_at p (suc i)))
+          far (inl empty) = rw empty none
+          far (inr (j, small, inl (at_x, at_d))) =
+              let is : suc i ≡ suc j = route.apart (suc i) (suc j) (omega arith) (omega arith) at_d in
+              let from : j ≡ i = omega arith in
+              absurd (apart (at_x ∙ ap (λ n. (node_at p n).0) from))
+          far (inr (j, small, inr (at_x, at_d))) =
+              let is : suc i ≡ j = route.apart (suc i) j (omega arith) (omega arith) at_d in
+              let from : x ≡ (node_at p (suc (suc i))).0 = at_x ∙ ap (λ n. (node_at p (suc n)).0) (sym is) in
+              rw from (next (omega arith))
+
+-- to place i, from which the first message up is taken
+module _ (t : Network) (q : Purpose) (s : Mesh) (l : Lsp) (p : Plan) (i : ℕ) (route : IsRoute t l.ingress p)
+    (chain : Chain t q l p (leg_at s l) (mail_between s l)) (below : i < hops p) (m : Msg) (rest : List Msg)
+    (was : s.mail (node_at p (suc i)).0 (node_at p i).0 ≡ m ∷ rest) (Q : List Msg → Type 0) where
+  pub near-up : Q [] → Q (messages_of l rest) →
+      ((k : ℕ) → suc k ≡ i → Q (mail_between s l (node_at p k) (node_at p i))) → (x : ℕ) →
+      Q (messages_of l ((without_first s (node_at p (suc i)).0 (node_at p i).0).mail x (node_at p i).0))
+  near-up none after prev x = go (is_or_not x (node_at p (suc i)).0)
+    where
+      go : (x ≡ (node_at p (suc i)).0) ⊎ (x ≢ (node_at p (suc i)).0) →
+          Q (messages_of l ((without_first s (node_at p (suc i)).0 (node_at p i).0).mail x (node_at p i).0))
+      go (inl is) = rw (is, same (node_at p (suc i)).0, same (node_at p i).0, was) after
+      go (inr apart) = rw (other x (node_at p (suc i)).0 apart) (far (chain.ways (record { 0 = x }) (node_at p i)))
+        where
+          far : (mail_between s l (record { 0 = x }) (node_at p i) ≡ []) ⊎
+              OnRoute p (record { 0 = x }) (node_at p i) → Q (mail_between s l (record { 0 = x }) (node_at p i))
+          far (inl empty) = rw empty none
+          far (inr (j, small, inl (at_x, at_d))) =
+              let is : i ≡ suc j = route.apart i (suc j) (omega arith) (omega arith) at_d in
+              rw at_x (prev j (sym is))
+          far (inr (j, small, inr (at_x, at_d))) =
+              let is : i ≡ j = route.apart i j (omega arith) (omega arith) at_d in
+              absurd (apart (at_x ∙ ap (λ n. (node_at p (suc n)).0) (sym is)))
+
+-- Small facts of weights
+
+pub path-most : (r : PathRole) (g : Option Leg) (k : ℕ) → path_weight r g k ≤ path_weight r None k
+path-most (Work guard) g k = omega arith
+path-most (Back true work primary) g k = omega arith
+path-most (Back false work primary) None k = omega arith
+path-most (Back false work primary) (Some g) k = omega arith
+
+pub path-less : (r : PathRole) (k : ℕ) → path_weight r None k < path_weight r None (suc k)
+path-less (Work guard) k = omega arith
+path-less (Back true work primary) k = omega arith
+path-less (Back false work primary) k = omega arith
+
+pub path-still : (r : PathRole) (g h : Leg) (k : ℕ) → path_weight r (Some h) k ≤ path_weight r (Some g) k
+path-still (Work guard) g h k = omega arith
+path-still (Back true work primary) g h k = omega arith
+path-still (Back false work primary) g h k = omega arith
+
+phase-some : (f : Phase) (r : Role) (k : ℕ) → 1 ≤ phase_weight f r (suc k)
+phase-some Asked role.Work k = omega arith
+phase-some Asked role.Back k = omega arith
+phase-some Held r k = omega arith
+phase-some Armed r k = omega arith
+phase-some Live r k = omega arith
+phase-some Closing r k = omega arith
+phase-some Falling r k = omega arith
+
+pub resv-some : (g : Option Leg) (k : ℕ) → 1 ≤ resv_weight g (suc k)
+resv-some None k = omega arith
+resv-some (Some g) k = phase-some g.phase g.role k
+
+-- a leg that takes no Resv
+abbrev pub IsDeaf : Leg → Type 0
+IsDeaf g = (k : ℕ) → phase_weight g.phase g.role k ≡ 1
+
+pub deaf-light : (g : Option Leg) (h : Leg) → IsDeaf h → ResvLight g (Some h)
+deaf-light g h deaf k = let one = deaf (suc k) in let some = resv-some g k in omega arith
+
+pub closed-deaf : (f : Phase) (r : Role) (k : ℕ) → phase_weight (closing_phase f r) r k ≡ 1
+closed-deaf Armed role.Back k = refl
+closed-deaf Live role.Back k = refl
+closed-deaf Armed role.Work k = refl
+closed-deaf Live role.Work k = refl
+closed-deaf Asked r k = refl
+closed-deaf Held r k = refl
+closed-deaf Closing r k = refl
+closed-deaf Falling r k = refl
+
+pub reserved-deaf : (r : Role) (k : ℕ) → phase_weight (reserved r) r k ≡ 1
+reserved-deaf role.Work k = refl
+reserved-deaf role.Back k = refl
+
+-- the most that a Resv to a leg of this role weighs
+asked-more : (r : Role) (k : ℕ) → k + 64 ≤ asked_weight r k
+asked-more role.Work k = omega arith
+asked-more role.Back k = omega arith
+
+phase-most : (f : Phase) (r : Role) (k : ℕ) → phase_weight f r (suc k) ≤ asked_weight r (suc k)
+phase-most Asked r k = omega arith
+phase-most Armed r k = asked-more r (suc k)
+phase-most Held r k = let h = asked-more r (suc k) in omega arith
+phase-most Live r k = let h = asked-more r (suc k) in omega arith
+phase-most Closing r k = let h = asked-more r (suc k) in omega arith
+phase-most Falling r k = let h = asked-more r (suc k) in omega arith
+
+pub resv-most : (t : Network) (q : Purpose) (l : Lsp) (p : Plan) (i : ℕ) (g : Option Leg) (k : ℕ) → Fits t q l p i g →
+    resv_weight g (suc k) ≤ asked_weight (role_of q) (suc k)
+resv-most t q l p i None k fits = let h = asked-more (role_of q) (suc k) in omega arith
+resv-most t q l p i (Some g) k fits =
+    subst (λ r. phase_weight g.phase g.role (suc k) ≤ asked_weight r (suc k)) fits.role (phase-most g.phase g.role k)
+
+-- at a leg that is Armed or Falling
+pub resv-marked : (g : Option Leg) (k : ℕ) → (leg_kind g ≡ ArmedLeg) ⊎ (leg_kind g ≡ FallingLeg) →
+    resv_weight g (suc k) ≤ suc k + 64
+resv-marked None k marked = omega arith
+resv-marked (Some g) k marked = go g.phase marked
+  where
+    go : (f : Phase) → (phase_kind f ≡ ArmedLeg) ⊎ (phase_kind f ≡ FallingLeg) →
+        phase_weight f g.role (suc k) ≤ suc k + 64
+    go Asked (inl e) = absurd (cc e)
+    go Asked (inr e) = absurd (cc e)
+    go Armed e = omega arith
+    go Held e = omega arith
+    go Live e = omega arith
+    go Closing e = omega arith
+    go Falling e = omega arith
+
+-- what is sent to a node whose leg stays
+
+pub one-less : (x m y : ℕ) → x ≤ m → m < y → x + 0 < y
+one-less x m y most less = omega arith
+
+pub sent-resv : (o : Routes) (s s' : Mesh) (l j : Lsp) (n : NodeId) (most : ℕ) → j ≡ l →
+    leg_at s' j n ≡ leg_at s j n → resv_weight (leg_at s l n) (suc (hops_back o l n.0)) ≤ most →
+    (d : ℕ) (e : NodeId) (k : LinkId) (x : ℕ) → weight o s' d n.0 (Resv j e k x) ≤ most
+sent-resv o s s' l j n most is stays small d e k x =
+    subst (λ (h : Option Leg). resv_weight h (suc (hops_back o j n.0)) ≤ most) (sym stays)
+    (subst (λ (m : Lsp). resv_weight (leg_at s m n) (suc (hops_back o m n.0)) ≤ most) (sym is) small)
+
+pub sent-back : (o : Routes) (s s' : Mesh) (l j : Lsp) (n : NodeId) (h : Leg) → j ≡ l →
+    leg_at s' j n ≡ leg_at s j n → leg_at s l n ≡ Some h →
+    (d : ℕ) (e : NodeId) (k : LinkId) (route : List Step) (set : List ℕ) (up : Option ℕ) (work : ℕ)
+    (primary : List Step) →
+    weight o s' d n.0 (Path j e k route set up (Back false work primary)) ≤ suc (length route)
+sent-back o s s' l j n h is stays there d e k route set up work primary =
+    subst (λ (x : Option Leg). path_weight (Back false work primary) x (suc (length route)) ≤ suc (length route))
+    (sym stays)
+    (subst (λ (m : Lsp). path_weight (Back false work primary) (leg_at s m n) (suc (length route)) ≤ suc (length route))
+    (sym is) (rw there (omega arith)))
+
+pub no-leg_kind : (f : Phase) → phase_kind f ≡ NoLeg → ⊥
+no-leg_kind Asked e = cc e
+no-leg_kind Held e = cc e
+no-leg_kind Armed e = cc e
+no-leg_kind Live e = cc e
+no-leg_kind Closing e = cc e
+no-leg_kind Falling e = cc e
+
+pub asked-phase : (f : Phase) → is_asked f ≡ true → f ≡ Asked
+asked-phase Asked e = refl
+asked-phase Held e = absurd (cc e)
+asked-phase Armed e = absurd (cc e)
+asked-phase Live e = absurd (cc e)
+asked-phase Closing e = absurd (cc e)
+asked-phase Falling e = absurd (cc e)
+
+pub asked-less : (r : Role) (k : ℕ) → asked_weight r (suc k) < asked_weight r (suc (suc k))
+asked-less role.Work k = omega arith
+asked-less role.Back k = omega arith
+
+-- a PathTear and a PathErr weigh less than a Resv to a leg that waits for it
+pub asked-tears : (r : Role) (n i k : ℕ) → suc k ≡ i → i < n → n ≤ 63 →
+    suc (64 * (n - i)) + (suc k + 0) < asked_weight r (suc i)
+asked-tears role.Work n i k is below short = omega arith
+asked-tears role.Back n i k is below short = omega arith
+
+-- the previous node of a leg
+pub data PrevOf (t : Network) (p : Plan) (i : ℕ) (g : Leg) : Type 0 where
+  AtIngress : previous g ≡ None → PrevOf t p i g
+  After : (k : ℕ) → suc k ≡ i → previous g ≡ Some (record { node = node_at p k; fibre = fibre_at t p k }) →
+      PrevOf t p i g
+
+pub prev-of : (t : Network) (q : Purpose) (l : Lsp) (p : Plan) (i : ℕ) (g : Leg) → LegFits t q l p i g → PrevOf t p i g
+prev-of t q l p zero g fits = AtIngress (previous_none t q l p g fits)
+prev-of t q l p (suc k) g fits = After k refl (previous_is t q l p k g fits)

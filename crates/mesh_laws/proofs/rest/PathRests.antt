@@ -1,0 +1,209 @@
+-- A Path is taken at a node of its route: what it sends weighs less, and nothing that stays gets heavier.
+use Rattle.std.proofs.Common.{◌≡◌, ◌≢◌, ◌≤◌, ◌<◌, ℕ, suc, ◌+◌, ◌-◌, true, false, not, nat_eq, List, [], ◌∷◌, drop, length, length-drop, refl, arith, inl, inr}
+use Rattle.std.specs.Prelude.{◌⊎◌, ◌&&◌, Option, Some, None}
+use Rattle.ason_base.specs.Labels.{least}
+use Rattle.ason_base.specs.Lsps.{same_lsp}
+use Rattle.ason_base.specs.Network.{Network}
+use Rattle.ason_base.specs.declared.codes.ErrCode.{ErrCode}
+use Rattle.ason_base.specs.declared.ids.Lsp.{Lsp}
+use Rattle.ason_base.specs.declared.ids.NodeId.{NodeId}
+use Rattle.ason_base.specs.declared.ids.LinkId.{LinkId}
+use Rattle.ason_base.specs.declared.steps.Step.{Step}
+use Rattle.ason_base.specs.declared.network.LinkSpec.{LinkSpec}
+use Rattle.ason_base.specs.declared.messages.PathRole.{PathRole}
+use Rattle.ason_base.specs.declared.messages.PathRole.TheVariants.{Work, Back}
+use Rattle.ason_base.specs.declared.messages.Msg.{Msg}
+use Rattle.ason_base.specs.declared.messages.Msg.TheVariants.{Path}
+use Rattle.ason_base.specs.declared.risks.Risk.{Risk}
+use Rattle.ason_base.specs.declared.tables.Leg.{Leg}
+use Rattle.mesh_rules.specs.declared.neighbours.Neighbour.{Neighbour}
+use Rattle.mesh_rules.specs.State.{NodeState}
+use Rattle.mesh_rules.specs.Changes.{Answer, nothing, sends}
+use Rattle.mesh_rules.specs.LocalNodes.{LocalNode, local_node, own_link, leads}
+use Rattle.mesh_rules.specs.Legs.{following}
+use Rattle.mesh_rules.specs.Messages.{arrival}
+use Rattle.mesh_rules.specs.Machine.{Mesh, without_first}
+use Rattle.mesh_rules.specs.Paths.{PathRequest, is_active, risks_here, first_failure, checks, offered_labels, at_egress, in_transit, admitted, judged, first_path, error_to}
+use Rattle.mesh_laws.specs.HopLaw.{messages_of, leg_at, mail_between}
+use Rattle.mesh_nodes.proofs.LegList.{same_lsp-refl, found-lsp}
+use Rattle.mesh_nodes.proofs.Cases.{if_cases, both_left, not-true}
+use Rattle.mesh_laws.proofs.hops.Plans.{Plan, hops, node_at, IsRoute, distinct}
+use Rattle.mesh_laws.proofs.hops.Rest.{Purpose, Carries, Guards, Tells, role_of}
+use Rattle.mesh_laws.proofs.hops.Chain.{Chain, LegFits, Hop, IsVacant, below_or_not}
+use Rattle.mesh_laws.proofs.hops.LegChanges.{following_none}
+use Rattle.mesh_laws.proofs.hops.Taken.{down_hop, down_mine}
+use Rattle.mesh_laws.proofs.hops.Views.{leg-there}
+use Rattle.mesh_laws.specs.Weights.{Routes, hops_back, weight, path_weight, asked_weight}
+use Rattle.mesh_laws.proofs.rest.Committed.{taken_mesh}
+use Rattle.mesh_laws.proofs.rest.Places.{place-is}
+use Rattle.mesh_laws.proofs.rest.RowKinds.{has_resv, no-label_down, resv-kinds}
+use Rattle.mesh_laws.proofs.rest.Near.{LightFor, Part, part-nothing, light-empty, light-same, light-no_resv, near-down, path-most, path-less, resv-most}
+
+-- the first Path of a purpose weighs more than a Resv to a leg that waits for it
+first-outweighs : (q : Purpose) (r : PathRole) (k i : ℕ) → Tells q r → is_active r ≡ false → suc i ≤ 63 →
+    asked_weight (role_of q) (suc i) < path_weight r None (suc k)
+first-outweighs Carries (Work guard) k i tells plain small = omega arith
+first-outweighs Carries (Back active work primary) k i tells plain small = absurd tells
+first-outweighs (Guards w route) (Work guard) k i tells plain small = absurd tells
+first-outweighs (Guards w route) (Back true work primary) k i tells plain small = absurd (cc plain)
+first-outweighs (Guards w route) (Back false work primary) k i tells plain small = omega arith
+
+first-heavy : (r : PathRole) (k : ℕ) → 65 < path_weight r None (suc k)
+first-heavy (Work guard) k = omega arith
+first-heavy (Back true work primary) k = omega arith
+first-heavy (Back false work primary) k = omega arith
+
+-- one message is sent
+one-less : (x m y : ℕ) → x ≤ m → m < y → x + 0 < y
+one-less x m y most less = omega arith
+
+module _ (t : Network) (q : Purpose) (s : Mesh) (l : Lsp) (p : Plan) (i : ℕ) (route : IsRoute t l.ingress p)
+    (chain : Chain t q l p (leg_at s l) (mail_between s l)) (below : i < hops p)
+    (e : NodeId) (k : LinkId) (r : List Step) (set : List ℕ) (label : Option ℕ) (purpose : PathRole) (rest : List Msg)
+    (was : s.mail (node_at p i).0 (node_at p (suc i)).0 ≡ Path l e k r set label purpose ∷ rest)
+    (o : Routes) (known : o l ≡ Some p.route) (short : hops p ≤ 63) where
+  abbrev u : NodeId
+  u = node_at p i
+
+  abbrev d : NodeId
+  d = node_at p (suc i)
+
+  abbrev next : NodeId
+  next = node_at p (suc (suc i))
+
+  abbrev place : LocalNode
+  place = local_node t d
+
+  abbrev state : NodeState
+  state = s.nodes d.0
+
+  abbrev message : Msg
+  message = Path l e k r set label purpose
+
+  abbrev asks : PathRequest
+  asks = record { arrival = arrival l e u k; route = r; set = set; role = purpose }
+
+  abbrev IsPart : Answer → Type 0
+  IsPart a = Part o s l u d message rest was a
+
+  abbrev after : Answer → Mesh
+  after a = taken_mesh s u.0 d.0 a
+
+  pub back-is : (j : ℕ) → j ≤ hops p → hops_back o l (node_at p j).0 ≡ j
+  back-is j small = rw known (place-is t l.ingress p route j small)
+
+  pub hop : Hop q p i (leg_at s l u) (leg_at s l d) (message ∷ messages_of l rest) (mail_between s l d u)
+  hop = down_hop t q s l p i route chain below message rest was (same_lsp-refl l)
+
+  pub far : u.0 ≢ d.0
+  far = distinct t l.ingress p route i (suc i) (omega arith) (omega arith) (omega arith)
+
+  -- no Resv is behind the Path
+  pub no-resv : has_resv (messages_of l rest) ≡ false
+  no-resv = resv-kinds (message ∷ messages_of l rest) (no-label_down (role_of q) _ _ _ _ hop.shape)
+
+  -- the leg at the previous node stays
+  pub leg-before : (a : Answer) → leg_at (after a) l u ≡ leg_at s l u
+  leg-before a = leg-there (without_first s u.0 d.0) d u l a far
+
+  -- The first Path
+
+  module _ (none : leg_at s l (node_at p (suc i)) ≡ None) where
+    heavy : path_weight purpose None (suc (length r)) ≡ weight o s u.0 d.0 message
+    heavy = rw none refl
+
+    refused : (code : ErrCode) → IsPart (sends (error_to u place asks.arrival code ∷ []))
+    refused code = record {
+      light = λ x. light-same _ _ _ refl;
+      sends = (let a = back-is i (omega arith) in let b = first-heavy purpose (length r) in
+          rw (← heavy, a) (omega arith));
+    }
+
+    vacant : suc i ≤ hops p → IsVacant p (leg_at s l) (mail_between s l) (suc i)
+    vacant small =
+        chain.fresh i below (record {
+          gone = none;
+          path = rw (down_mine t q s l p i route chain below message rest was (same_lsp-refl l)) refl;
+        }) (suc i) (omega arith) small
+
+    -- a leg that comes
+    light-new : (g : Leg) (x : ℕ) → LightFor (leg_at s l d) (Some g)
+        (messages_of l ((without_first s u.0 d.0).mail x d.0))
+    light-new g x = rw none (near-down t q s l p i route chain below message rest was (LightFor None (Some g))
+        (light-empty None (Some g)) (light-no_resv None (Some g) _ (λ r k. path-most r (Some g) k) no-resv)
+        (λ small. rw ((vacant (omega arith)).no_up small) (light-empty None (Some g))) x)
+
+    no-part : IsPart nothing
+    no-part = part-nothing o s l u d message rest was
+        (let b = first-heavy purpose (length r) in rw (← heavy) (omega arith))
+
+    module _ (plain : is_active purpose ≡ false) where
+      ends : (link : LinkSpec) (risks : List Risk) (offered : List ℕ) (x : Option ℕ) →
+          IsPart (at_egress place asks link risks offered x)
+      ends link risks offered None = no-part
+      ends link risks offered (Some y) =
+          let a : Answer = at_egress place asks link risks offered (Some y) in
+          record {
+            light = rw (same_lsp-refl l) (light-new _);
+            sends =
+                (let b = back-is i (omega arith) in
+                let most = resv-most t q l p i (leg_at s l u) i (chain.fits i (omega arith)) in
+                let less = first-outweighs q purpose (length r) i hop.rest.going_down.0.3 plain (omega arith) in
+                rw (← heavy, leg-before a, b) (omega arith));
+          }
+
+      goes : (link : LinkSpec) (risks : List Risk) (further : List Step) (h : Step) (offered : List ℕ)
+          (out : Option LinkSpec) → r ≡ h ∷ further → IsPart (in_transit place asks link risks further offered out)
+      goes link risks further h offered None is = no-part
+      goes link risks further h offered (Some out) is = record {
+        light = rw (same_lsp-refl l) (light-new _);
+        sends = rw (← heavy, is)
+            (one-less _ _ _ (path-most purpose _ (suc (length further))) (path-less purpose (suc (length further))));
+      }
+
+      admits : (link : LinkSpec) (risks : List Risk) (offered : List ℕ) (r' : List Step) → r ≡ r' →
+          IsPart (admitted place asks link risks offered r')
+      admits link risks offered [] is = ends link risks offered (least offered)
+      admits link risks offered (h ∷ further) is = goes link risks further h offered (own_link place h.link) is
+
+      judges : (link : LinkSpec) (c : Option ErrCode) → IsPart (judged place state asks link c)
+      judges link (Some code) = refused code
+      judges link None = admits link (risks_here place state asks) (offered_labels place state asks link) r refl
+
+    pub first : (link : Option LinkSpec) → IsPart (first_path place state asks link)
+    first None = no-part
+    first (Some link) =
+        if_cases IsPart (not (is_active purpose) && (leads (Some link) u d && not (nat_eq l.ingress.0 d.0))) _ _
+        (λ may. judges (not-true (is_active purpose) (both_left (not (is_active purpose)) _ may)) link
+        (first_failure (checks place state asks link)))
+        (λ may. no-part)
+
+  -- A Path of an LSP that has a leg here
+
+  module _ (g : Leg) (here : leg_at s l (node_at p (suc i)) ≡ Some g) where
+    pub own : g.lsp ≡ l
+    own = found-lsp l state.legs g here
+
+    pub mine : same_lsp g.lsp l ≡ true
+    mine = rw own (same_lsp-refl l)
+
+    pub fits : LegFits t q l p (suc i) g
+    fits = rw here at (chain.fits (suc i) (omega arith))
+
+    pub no-change : (a : Answer) → a ≡ nothing → 0 < weight o s u.0 d.0 message → IsPart a
+    no-change a is some = rw is (part-nothing o s l u d message rest was some)
+
+    -- steps are left where the route goes on
+    pub longer : (h : Neighbour) → following g ≡ Some h → suc i < hops p
+    longer h on = go (below_or_not (suc i) (hops p))
+      where
+        go : (suc i < hops p) ⊎ (hops p ≤ suc i) → suc i < hops p
+        go (inl small) = small
+        go (inr end) = absurd (let is = following_none t q l p (suc i) g fits end in cc (is, on))
+
+    pub left-is : (h : Neighbour) → following g ≡ Some h → suc (length (drop 1 r)) ≡ length r
+    left-is h on =
+        let small = longer h on in
+        let is : length r ≡ hops p - suc i = rw hop.rest.going_down.0.2 (length-drop (suc i) p.route) in
+        let less : length (drop 1 r) ≡ length r - 1 = length-drop 1 r in
+        omega arith
