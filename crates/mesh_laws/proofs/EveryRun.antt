@@ -13,9 +13,10 @@ use Rattle.mesh_laws.proofs.hops.NodeLabels.{every_leg_keeps}
 use Rattle.mesh_laws.proofs.hops.Recorded.{every_backup_records}
 use Rattle.mesh_laws.proofs.hops.ReportedFibres.{every_report_of_route}
 use Rattle.mesh_laws.proofs.hops.Safe.{every_run_safe}
+use Rattle.mesh_laws.proofs.hops.Wavelengths.{every_call_keeps}
 use Rattle.mesh_laws.proofs.reports.Desks.{every_desk_tells}
 use Rattle.mesh_laws.proofs.reports.Laws.{every_report_tells}
-use Rattle.mesh_laws.proofs.nodes.CallsStand.{every_call_stands}
+use Rattle.mesh_laws.proofs.nodes.CallsStand.{every_call_stands, every_call_stands_until_released}
 use Rattle.mesh_laws.proofs.hops.Ordered.{every_known, every_ordered, every_tidy}
 use Rattle.mesh_laws.proofs.nodes.Laws.{every_call, every_label, every_learnt_row, every_live}
 use Rattle.mesh_laws.proofs.rest.Rests.{every_run_ends, every_run_rests}
@@ -32,12 +33,14 @@ laws_hold t events run =
       tidy = every_tidy t events run;
       ordered = every_ordered t events run;
       stand = every_call_stands t events run;
+      until = every_call_stands_until_released t events run;
       reported = every_report_of_route t events run;
       known = every_known t events run;
       one_leg = hops.0;
       hops = hops.1;
       safe = every_run_safe t events run;
       joined = every_call_joined t events run;
+      wavelengths = every_call_keeps t events run;
       learnt = every_learnt_row t events run;
       beside = every_backup_beside t events run;
       risks = λ valid. every_backup_records t events valid run;

@@ -14,6 +14,7 @@ pub mod Rest
 pub mod Risks
 pub mod NoticeRule
 pub mod NodeLabels
+pub mod Wavelengths
 pub mod Notices
 pub mod Ordered
 pub mod Own

@@ -20,7 +20,8 @@ use Rattle.mesh_laws.specs.RestLaw.{RunEnds, added, handled}
 use Rattle.mesh_laws.specs.RestorationLaw.{RestorationHolds}
 use Rattle.mesh_laws.specs.RiskLaw.{BackupsRecordRisks}
 use Rattle.mesh_laws.specs.SafeLaw.{IsSafe}
-use Rattle.mesh_laws.specs.StandLaw.{CallsStand}
+use Rattle.mesh_laws.specs.StandLaw.{CallsStand, CallsStandOver}
+use Rattle.mesh_laws.specs.WavelengthLaw.{CallsKeepWavelengths}
 
 -- what holds of the state to which these events lead from the start
 pub record LawsHold (t : Network) (events : List MeshEvent) : Type 0 where
@@ -36,6 +37,9 @@ pub record LawsHold (t : Network) (events : List MeshEvent) : Type 0 where
   pub ordered : CallsAreOrdered t events
   -- over each event that is enabled a call stands with its working LSP and its backup, unless it is released
   pub stand : (e : MeshEvent) → IsTrue (is_enabled t (after t start events) e) → CallsStand t (after t start events) e
+  -- and so it does over any events with which the run goes on
+  pub until : (later : List MeshEvent) → IsRun t (after t start events) later →
+      CallsStandOver t (after t start events) later
   -- each fibre that is reported of an LSP of a call is of the LSP's route
   pub reported : (n : ℕ) → All (ReportsAreOfRoutes t events) ((after t start events).nodes n).calls
   -- each fibre that a node knows to be down comes in there
@@ -48,6 +52,8 @@ pub record LawsHold (t : Network) (events : List MeshEvent) : Type 0 where
   -- each call that stands is cross-connected from end to end; the backup of a guarded or a stuck one is reserved so,
   -- while legs of it may still be cross-connected after the call went back; and that of a turned one is cross-connected
   pub joined : CallsAreJoined t events
+  -- along the routes of these LSPs the wavelength changes at converting nodes alone
+  pub wavelengths : CallsKeepWavelengths t events
   -- what a node learnt of links is true of the network
   pub learnt : LearntRowsAreTrue t (after t start events)
   -- the route of each backup stands beside that of the working LSP that it guards

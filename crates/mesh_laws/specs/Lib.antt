@@ -16,5 +16,6 @@ pub mod RestorationLaw
 pub mod RiskLaw
 pub mod SafeLaw
 pub mod StandLaw
+pub mod WavelengthLaw
 pub mod Weights
 pub mod Work

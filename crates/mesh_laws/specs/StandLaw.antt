@@ -58,8 +58,26 @@ CallsStand t s e =
     (n : ℕ) (k : CallNo) (c : CallRec) → find_call k (s.nodes n).calls ≡ Some c → IsTrue (is_standing_call c.state) →
     is_released_by s n k e ≡ false → (d : CallRec) × (find_call k ((step t s e).nodes n).calls ≡ Some d) × StandsOn c d
 
+-- none of these events carries out the release of the call k at node n
+abbrev pub IsUnreleased : Network → Mesh → ℕ → CallNo → List MeshEvent → Type 0
+IsUnreleased t s n k [] = Unit {0}
+IsUnreleased t s n k (e ∷ events) = (is_released_by s n k e ≡ false) × IsUnreleased t (step t s e) n k events
+
+-- over these events
+abbrev pub CallsStandOver : Network → Mesh → List MeshEvent → Type 0
+CallsStandOver t s events =
+    (n : ℕ) (k : CallNo) (c : CallRec) → find_call k (s.nodes n).calls ≡ Some c → IsTrue (is_standing_call c.state) →
+    IsUnreleased t s n k events →
+    (d : CallRec) × (find_call k ((after t s events).nodes n).calls ≡ Some d) × StandsOn c d
+
 -- over every network, after every run, over each event that is enabled there
 abbrev pub EveryCallStands : Type 0
 EveryCallStands =
     (t : Network) (events : List MeshEvent) → IsRun t start events → (e : MeshEvent) →
     IsTrue (is_enabled t (after t start events) e) → CallsStand t (after t start events) e
+
+-- and over any events with which the run goes on
+abbrev pub EveryCallStandsUntilReleased : Type 0
+EveryCallStandsUntilReleased =
+    (t : Network) (events : List MeshEvent) → IsRun t start events → (later : List MeshEvent) →
+    IsRun t (after t start events) later → CallsStandOver t (after t start events) later

@@ -16,7 +16,8 @@ ghost use Rattle.mesh_laws.specs.RestLaw.{EveryRestIsQuiet, EveryRunEnds, EveryR
 ghost use Rattle.mesh_laws.specs.RestorationLaw.{EveryHitCallIsRestored};
 ghost use Rattle.mesh_laws.specs.RiskLaw.{EveryBackupRecordsItsRisks};
 ghost use Rattle.mesh_laws.specs.SafeLaw.{EveryRunIsSafe};
-ghost use Rattle.mesh_laws.specs.StandLaw.{EveryCallStands};
+ghost use Rattle.mesh_laws.specs.StandLaw.{EveryCallStands, EveryCallStandsUntilReleased};
+ghost use Rattle.mesh_laws.specs.WavelengthLaw.{EveryCallKeepsItsWavelengths};
 
 /// Of every network, every run, and each state to which a run leads:
 ///
@@ -34,9 +35,10 @@ ghost use Rattle.mesh_laws.specs.StandLaw.{EveryCallStands};
 /// the setup gives a route, its working LSP was sent on that (`ordered`). Over each event that is
 /// enabled, a call that is neither asking nor blocked stands with its number, its egress and its
 /// working LSP, and with its backup where it is guarded, turning, turned or stuck, which it is then
-/// after the event too, unless the event carries out its release (`stand`). Each fibre that is
-/// reported of an LSP of a call is of the LSP's route (`reported`), and each fibre that a node
-/// knows to be down comes in there (`known`).
+/// after the event too, unless the event carries out its release (`stand`); so it does over any
+/// events with which the run goes on, none of which carries out its release (`until`). Each fibre
+/// that is reported of an LSP of a call is of the LSP's route (`reported`), and each fibre that a
+/// node knows to be down comes in there (`known`).
 ///
 /// LSPs. Each hop of each LSP, its legs at both ends with the messages between them, has a shape of
 /// the table, and each leg names the end of its LSP's route as its egress; Notifies go up these
@@ -46,9 +48,10 @@ ghost use Rattle.mesh_laws.specs.StandLaw.{EveryCallStands};
 /// label in; the backup of a guarded or a stuck call is joined so, Held at each node, or still Live
 /// where the call went back and the Path that takes the activation back hasn't come; that of a
 /// turned call is joined Live at each node, and that of a turning call Held, Armed or Live
-/// (`joined`). The route of each backup leads from end to end, has no risk in common with that of
-/// the working LSP which its call has, or had, and shares no node with it between the ends
-/// (`beside`).
+/// (`joined`). Along the routes of these LSPs the wavelength changes at converting nodes alone, and
+/// is on each link one of those of the link (`wavelengths`). The route of each backup leads from
+/// end to end, has no risk in common with that of the working LSP which its call has, or had, and
+/// shares no node with it between the ends (`beside`).
 ///
 /// Links. What a node learnt of them are rows of the network (`learnt`); over a topology routes can
 /// be asked of what it knows (`searchable`). Over a topology the leg of a backup, at any node,
@@ -82,11 +85,13 @@ pub fn every_run()
     ensures tidy { EveryCallIsTidy }
     ensures ordered { EveryCallIsOrdered }
     ensures stand { EveryCallStands }
+    ensures until { EveryCallStandsUntilReleased }
     ensures reported { EveryReportIsOfItsRoute }
     ensures known { EveryKnownFibreComesIn }
     ensures hops { EveryHopHasAShape }
     ensures safe { EveryRunIsSafe }
     ensures joined { EveryCallIsJoined }
+    ensures wavelengths { EveryCallKeepsItsWavelengths }
     ensures learnt { EveryLearntRowIsTrue }
     ensures searchable { EveryNodeCanSearch }
     ensures beside { EveryBackupGoesBeside }

@@ -5,6 +5,7 @@ use Rattle.std.specs.Prelude.{slice_get, Option, Some, None, IfSome}
 use Rattle.std.proofs.lemmas.Option.{slice_get_within}
 use Rattle.std.proofs.lemmas.List.Elements.{All-from_recursion}
 use Rattle.ason_base.specs.Network.{Network, other_end}
+use Rattle.ason_base.specs.declared.ids.CallNo.{CallNo}
 use Rattle.ason_base.specs.declared.ids.Lsp.{Lsp}
 use Rattle.ason_base.specs.declared.ids.NodeId.{NodeId}
 use Rattle.ason_base.specs.declared.steps.Step.{Step}
@@ -17,6 +18,7 @@ use Rattle.ason_base.specs.declared.calls.Role.TheVariants.{Work, Back}
 use Rattle.ason_base.specs.declared.tables.CallRec.{CallRec}
 use Rattle.ason_base.specs.declared.tables.Leg.{Leg}
 use Rattle.mesh_rules.specs.declared.events.MeshEvent.{MeshEvent}
+use Rattle.mesh_rules.specs.Calls.{find_call}
 use Rattle.mesh_rules.specs.Legs.{find_leg, is_beyond_asked, leg_of}
 use Rattle.mesh_rules.specs.Machine.{Mesh, start}
 use Rattle.mesh_rules.specs.Events.{IsRun, after, route_of}
@@ -273,13 +275,19 @@ module _ (t : Network) (events : List MeshEvent) (run : IsRun t start events) wh
     call_joined Stuck phases = (work_joined phases.0, back_held phases.1)
     call_joined Blocked phases = tt
 
+-- the call of this number
+pub call_joined_there : (t : Network) (events : List MeshEvent) → IsRun t start events → (n : ℕ) (k : CallNo)
+    (c : CallRec) → find_call k ((after t start events).nodes n).calls ≡ Some c → CallIsJoined t events c c.state
+call_joined_there t events run n k c found =
+    let s : Mesh = after t start events in
+    let fit = ((facts-hold t events run).node n).call k c found in
+    call_joined t events run n c fit c.state
+    (phases_of c.state (phase_of (leg_of c.work (s.nodes n).legs)) (phase_of (leg_of c.back (s.nodes n).legs)) fit.state)
+
 pub every_call_joined : EveryCallIsJoined
 every_call_joined t events run n =
     let s : Mesh = after t start events in
     let facts : MeshFacts t s = facts-hold t events run in
     All-from_recursion (λ c. CallIsJoined t events c c.state) (s.nodes n).calls
-    (all-calls_found (λ c. CallIsJoined t events c c.state) (s.nodes n).calls (facts.node n).calls_rise (λ k c found.
-    let fit = (facts.node n).call k c found in
-    call_joined t events run n c fit c.state
-    (phases_of c.state (phase_of (leg_of c.work (s.nodes n).legs)) (phase_of (leg_of c.back (s.nodes n).legs))
-    fit.state)))
+    (all-calls_found (λ c. CallIsJoined t events c c.state) (s.nodes n).calls (facts.node n).calls_rise
+    (call_joined_there t events run n))

@@ -25,7 +25,8 @@ module _ (t : Network) (events : List MeshEvent) where
   abbrev s : Mesh
   s = after t start events
 
-  keeps : (l : Lsp) (n : NodeId) (g : Leg) (c : Option (List Step)) → Follows t s (route_of t start events) l c →
+  -- a leg of any LSP, at any node
+  pub keeps : (l : Lsp) (n : NodeId) (g : Leg) (c : Option (List Step)) → Follows t s (route_of t start events) l c →
       leg_at s l n ≡ Some g → KeepsLabels (local_node t n) g
   keeps l n g None f here = absurd (let none = f.legs n in cc (none, here))
   keeps l n g (Some route) (e, q, pl) here =

@@ -17,7 +17,7 @@ use Rattle.mesh_rules.specs.declared.events.MeshEvent.{MeshEvent}
 use Rattle.mesh_rules.specs.declared.events.MeshEvent.TheVariants.{Take, Desk, Tick, Learn, Post}
 use Rattle.mesh_rules.specs.Calls.{call_changed, calls_changed, find_call, with_call}
 use Rattle.mesh_rules.specs.Changes.{Answer, changed, learns, nothing}
-use Rattle.mesh_rules.specs.Events.{after, on_first, on_first_item, posted, step}
+use Rattle.mesh_rules.specs.Events.{IsRun, after, on_first, on_first_item, posted, step}
 use Rattle.mesh_rules.specs.KnownRows.{has_row, known_rows}
 use Rattle.mesh_rules.specs.Learnt.{on_link}
 use Rattle.mesh_rules.specs.LocalNodes.{LocalNode, local_node}
@@ -29,15 +29,20 @@ use Rattle.mesh_rules.specs.Waits.{on_tick}
 use Rattle.mesh_nodes.specs.Order.{CallsRise}
 use Rattle.mesh_nodes.proofs.CallList.{find-with_call, find-without_call, found-number}
 use Rattle.mesh_nodes.proofs.Cases.{if_cases}
-use Rattle.mesh_laws.specs.StandLaw.{EveryCallStands, StandsOn, is_first_release, is_release_of, is_released_by, is_standing_call}
+use Rattle.mesh_laws.specs.StandLaw.{CallsStandOver, EveryCallStands, EveryCallStandsUntilReleased, StandsOn, is_first_release, is_release_of, is_released_by, is_standing_call}
 use Rattle.mesh_laws.proofs.nodes.CallParts.{number-is}
 use Rattle.mesh_laws.proofs.nodes.CallsHold.{AreChanges, EachCall, IsSameCall, OfAny, alarm-holds, asking-stands, clear-holds, message-holds, protect-holds, release-holds, retry-holds, revert-holds, setup-holds, tick-holds}
 use Rattle.mesh_laws.proofs.nodes.Facts.{MeshFacts}
-use Rattle.mesh_laws.proofs.nodes.Runs.{facts-hold}
+use Rattle.mesh_laws.proofs.nodes.Runs.{facts-hold, facts-step}
 
 -- the call of this number stands on
 abbrev pub Stands : CallRec → CallNo → List CallRec → Type 0
 Stands c k calls = (d : CallRec) × (find_call k calls ≡ Some d) × StandsOn c d
+
+-- where nothing of the call changes
+stands-still : (c : CallRec) → is_standing_call c.state ≡ true → StandsOn c c
+stands-still c standing =
+    record { number = refl; egress = refl; work = refl; stands = standing; back = λ e. (e, refl) }
 
 -- k is the number of the call c, which stands at its node before the rule
 module _ (k : CallNo) (c : CallRec) (standing : is_standing_call c.state ≡ true) where
@@ -158,7 +163,7 @@ module _ (k : CallNo) (c : CallRec) (standing : is_standing_call c.state ≡ tru
       itself = (
         c,
         found,
-        record { number = refl; egress = refl; work = refl; stands = standing; back = λ e. (e, refl) },
+        stands-still c standing,
       )
 
       go : (b : Bool) → nat_eq n m.0 ≡ b → Stands c k (cond b (changed (s.nodes n) a) (s.nodes n)).calls
@@ -191,7 +196,7 @@ module _ (k : CallNo) (c : CallRec) (standing : is_standing_call c.state ≡ tru
       (subst (λ x. find_call k (s.nodes x).calls ≡ Some c) is found) (find_link t l))
   step-stands t s (Post p) n rise found other =
       subst (λ (nodes : ℕ → NodeState). Stands c k (nodes n).calls) (sym (posted-nodes p))
-      (c, found, record { number = refl; egress = refl; work = refl; stands = standing; back = λ e. (e, refl) })
+      (c, found, stands-still c standing)
     where
       posted-nodes : (p : Command) → (posted t s p).nodes ≡ s.nodes
       posted-nodes (Setup j from to protected both via backup) = refl
@@ -206,3 +211,27 @@ pub every_call_stands : EveryCallStands
 every_call_stands t events run e enabled n k c found standing other =
     let facts : MeshFacts t (after t start events) = facts-hold t events run in
     step-stands k c standing t (after t start events) e n (λ m. (facts.node m).calls_rise) found other
+
+-- Until its release
+
+stands-then : (c d e : CallRec) → StandsOn c d → StandsOn d e → StandsOn c e
+stands-then c d e first second = record {
+  number = second.number ∙ first.number;
+  egress = second.egress ∙ first.egress;
+  work = second.work ∙ first.work;
+  stands = second.stands;
+  back = λ h. let b = first.back h in let a = second.back b.0 in (a.0, a.1 ∙ b.1);
+}
+
+stands-over : (t : Network) (s : Mesh) → MeshFacts t s → (events : List MeshEvent) → IsRun t s events →
+    CallsStandOver t s events
+stands-over t s facts [] run n k c found standing unreleased = (c, found, stands-still c standing)
+stands-over t s facts (e ∷ events) run n k c found standing unreleased =
+    let one = step-stands k c standing t s e n (λ m. (facts.node m).calls_rise) found unreleased.0 in
+    let more = stands-over t (step t s e) (facts-step t s e run.0 facts) events run.1 n k one.0 one.1 one.2.stands
+    unreleased.1 in
+    (more.0, more.1, stands-then c one.0 more.0 one.2 more.2)
+
+pub every_call_stands_until_released : EveryCallStandsUntilReleased
+every_call_stands_until_released t events run later more =
+    stands-over t (after t start events) (facts-hold t events run) later more

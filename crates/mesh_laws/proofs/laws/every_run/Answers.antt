@@ -7,7 +7,8 @@ use Rattle.mesh_laws.proofs.hops.NodeLabels.{every_leg_keeps}
 use Rattle.mesh_laws.proofs.hops.Recorded.{every_backup_records}
 use Rattle.mesh_laws.proofs.hops.ReportedFibres.{every_report_of_route}
 use Rattle.mesh_laws.proofs.hops.Safe.{every_run_safe}
-use Rattle.mesh_laws.proofs.nodes.CallsStand.{every_call_stands}
+use Rattle.mesh_laws.proofs.hops.Wavelengths.{every_call_keeps}
+use Rattle.mesh_laws.proofs.nodes.CallsStand.{every_call_stands, every_call_stands_until_released}
 use Rattle.mesh_laws.proofs.hops.Ordered.{every_known, every_ordered, every_tidy}
 use Rattle.mesh_laws.proofs.nodes.Laws.{every_call, every_label, every_learnt_row, every_live}
 use Rattle.mesh_laws.proofs.nodes.Searches.{every_search}
@@ -38,6 +39,9 @@ returns-clause-ordered c = every_ordered
 pub returns-clause-stand : goal.returns-clause-stand
 returns-clause-stand c = every_call_stands
 
+pub returns-clause-until : goal.returns-clause-until
+returns-clause-until c = every_call_stands_until_released
+
 pub returns-clause-reported : goal.returns-clause-reported
 returns-clause-reported c = every_report_of_route
 
@@ -52,6 +56,9 @@ returns-clause-safe c = every_run_safe
 
 pub returns-clause-joined : goal.returns-clause-joined
 returns-clause-joined c = every_call_joined
+
+pub returns-clause-wavelengths : goal.returns-clause-wavelengths
+returns-clause-wavelengths c = every_call_keeps
 
 pub returns-clause-learnt : goal.returns-clause-learnt
 returns-clause-learnt c = every_learnt_row
