@@ -5,7 +5,11 @@ pub mod CallKeeps
 pub mod CallParts
 pub mod CallStepKeeps
 pub mod CallTouched
+pub mod CallMoves
+pub mod CallChanges
+pub mod CallSteps
 pub mod CallsHold
+pub mod SetupsHold
 pub mod CallsStand
 pub mod Decides
 pub mod Facts

@@ -104,21 +104,20 @@ EveryCallFitsItsLegs =
 
 -- The cause and the ticks of a call
 
--- a cause is kept where the call is blocked, bare or stuck
+abbrev pub is_unset : Cause → Bool
+is_unset Unset = true
+is_unset cause = false
+
+-- a blocked call and a stuck one have a cause, a bare one may have one, and any other has none
 abbrev pub fits_cause : CallState → Cause → Bool
-fits_cause Blocked cause = true
+fits_cause Blocked cause = not (is_unset cause)
+fits_cause Stuck cause = not (is_unset cause)
 fits_cause Bare cause = true
-fits_cause Stuck cause = true
-fits_cause state Unset = true
-fits_cause state cause = false
+fits_cause state cause = is_unset cause
 
 -- a call counts ticks where it turned and no fibre of its working LSP is reported down
 abbrev pub fits_ticks : CallState → Bool → ℕ → Bool
 fits_ticks state works ticks = ticks == 0 || (is_turned state && not works)
-
-abbrev pub is_unset : Cause → Bool
-is_unset Unset = true
-is_unset cause = false
 
 -- a protected call that is bare has a cause: a backup was asked for, or couldn't be
 abbrev pub fits_protected : CallState → Cause → Bool → Bool

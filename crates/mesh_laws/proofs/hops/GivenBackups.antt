@@ -49,7 +49,10 @@ use Rattle.mesh_nodes.proofs.CallList.{all-calls_found}
 use Rattle.mesh_nodes.proofs.Cases.{both_left, both_right, if_cases}
 use Rattle.mesh_nodes.proofs.LegList.{all-then, same_lsp-refl}
 use Rattle.mesh_laws.specs.ReportLaw.{AreOf, IsOfRoute, ReportsAreOf}
-use Rattle.mesh_laws.proofs.nodes.CallsHold.{ArePut, EachCall, IsSameCall, MayGo, each-after, message-holds, moves-none, protect-holds, release-holds, setup-holds, to-guarded, to-turning, waits-more}
+use Rattle.mesh_laws.proofs.nodes.CallMoves.{IsSameCall, moves-none, to-guarded, to-turning, waits-more}
+use Rattle.mesh_laws.proofs.nodes.CallChanges.{ArePut, EachCall, MayGo, each-after}
+use Rattle.mesh_laws.proofs.nodes.CallsHold.{message-holds, protect-holds, release-holds}
+use Rattle.mesh_laws.proofs.nodes.SetupsHold.{setup-holds}
 use Rattle.mesh_laws.proofs.hops.Plans.{found_id, same, same_node}
 use Rattle.mesh_laws.proofs.hops.Planned.{Routes, Follows, EachFollows, Grow}
 use Rattle.mesh_laws.proofs.hops.Paired.{no_previous, whole-made, whole-route}
@@ -234,7 +237,7 @@ module _ (t : Network) (s : Mesh) (n : NodeId) (o : Routes) (f : EachFollows t s
         (known : Option CallRec) → Puts (setup_with (local_node t n) (s.nodes n.0) w known)
     setup-puts w way known =
         setup-holds MayGo place (s.nodes n.0) w (λ a. IsGiven t (grown n o a) n)
-        (λ a cause. record {
+        (λ a cause known. record {
           beside = λ l backup work given. absurd (cc work);
           told = record { work = tt; back = tt };
         })

@@ -45,7 +45,10 @@ use Rattle.mesh_laws.specs.CallLaw.{EveryCallIsTidy, IsTidy}
 use Rattle.mesh_laws.specs.KnownLaw.{ComesIn, EveryKnownFibreComesIn}
 use Rattle.mesh_laws.specs.NodeLaw.{DeskFits, FitsDesk}
 use Rattle.mesh_laws.specs.OrderLaw.{EveryCallIsOrdered, IsOrdered, WasPosted}
-use Rattle.mesh_laws.proofs.nodes.CallsHold.{ArePut, EachCall, IsSameCall, MayGo, OfAny, alarm-holds, clear-holds, each-after, message-holds, moves-none, protect-holds, release-holds, retry-holds, revert-holds, setup-holds, tick-holds}
+use Rattle.mesh_laws.proofs.nodes.CallMoves.{IsSameCall, moves-none}
+use Rattle.mesh_laws.proofs.nodes.CallChanges.{ArePut, EachCall, MayGo, OfAny, each-after}
+use Rattle.mesh_laws.proofs.nodes.CallsHold.{alarm-holds, clear-holds, message-holds, protect-holds, release-holds, retry-holds, revert-holds, tick-holds}
+use Rattle.mesh_laws.proofs.nodes.SetupsHold.{setup-holds}
 use Rattle.mesh_laws.proofs.nodes.Facts.{MeshFacts}
 use Rattle.mesh_laws.proofs.nodes.Runs.{facts-hold, facts-start, facts-step}
 use Rattle.mesh_laws.proofs.hops.Begun.{grown, grown-grow}
@@ -129,8 +132,8 @@ module _ (t : Network) (all : List MeshEvent) where
         let w : SetupRequest =
         record { call = k; from = from; egress = to; protected = protected; both = both; via = via; backup = backup } in
         setup-holds MayGo p state w (λ a. IsKept (grown n o a) n.0)
-        (λ a cause. record {
-          tidy = record { cause = refl; ticks = refl; paired = refl };
+        (λ a cause known. record {
+          tidy = record { cause = ap not known; ticks = refl; paired = refl };
           order = record {
             from = from;
             both = both;

@@ -21,7 +21,10 @@ use Rattle.mesh_nodes.specs.Order.{CallsRise}
 use Rattle.mesh_nodes.proofs.Cases.{both_right}
 use Rattle.mesh_laws.specs.NodeLaw.{FitsDesk}
 use Rattle.mesh_laws.proofs.nodes.Facts.{CanBeBacked}
-use Rattle.mesh_laws.proofs.nodes.CallsHold.{ArePut, EachCall, IsSameCall, MayGo, OfAny, alarm-holds, clear-holds, each-after, message-holds, protect-holds, release-holds, retry-holds, revert-holds, setup-holds, tick-holds}
+use Rattle.mesh_laws.proofs.nodes.CallMoves.{IsSameCall}
+use Rattle.mesh_laws.proofs.nodes.CallChanges.{ArePut, EachCall, MayGo, OfAny, each-after}
+use Rattle.mesh_laws.proofs.nodes.CallsHold.{alarm-holds, clear-holds, message-holds, protect-holds, release-holds, retry-holds, revert-holds, tick-holds}
+use Rattle.mesh_laws.proofs.nodes.SetupsHold.{setup-holds}
 
 abbrev pub AreBacked : Network → List CallChange → Type 0
 AreBacked t cs = ArePut (CanBeBacked t) cs
@@ -56,7 +59,7 @@ backs-item t n p s rise backed (Order (Setup k from to protected both via backup
     (both_right _ (has_backup_way t from to protected via backup) fits.0) in
     setup-holds MayGo p s
     (record { call = k; from = from; egress = to; protected = protected; both = both; via = via; backup = backup })
-    (λ a. CanBeBacked t) (λ a cause. can) (λ route out over first ordered. can) (find_call k s.calls)
+    (λ a. CanBeBacked t) (λ a cause known. can) (λ route out over first ordered. can) (find_call k s.calls)
 backs-item t n p s rise backed (Order (Release k from)) fits =
     release-holds OfAny MayGo (CanBeBacked t) (CanBeBacked t) (still-backed t) p s (λ g m j f found first into. tt)
     rise backed from (find_call k s.calls)

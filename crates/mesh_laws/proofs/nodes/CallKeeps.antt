@@ -128,7 +128,8 @@ module _ (n : ℕ) (s : NodeState) (facts : NodeFacts n s) (g : Leg) (here : fin
       go false t = refl
       go true t =
           let name = named-lsp n s.lsp s.legs Work c.egress c.work m fit.work work in
-          let found : find_leg m s.legs ≡ Some g = subst (λ k. find_leg k s.legs ≡ Some g) (same_lsp-eq g.lsp m t) here in
+          let found : find_leg m s.legs ≡ Some g =
+          subst (λ k. find_leg k s.legs ≡ Some g) (same_lsp-eq g.lsp m t) here in
           let no : is_work g.role ≡ true = ap is_work (named-leg n s.lsp s.legs Work c.egress m g name found).0 in
           absurd (cc (no, e))
 

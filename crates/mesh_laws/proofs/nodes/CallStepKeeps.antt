@@ -51,7 +51,8 @@ module _ (p : LocalNode) (s : NodeState) (g : Leg) (facts : NodeFacts p.id.0 s) 
       keeps-protected : is_work g.role ≡ true → Connects (pair p s c (connected g None x))
       keeps-protected e =
           after-puts p s (pair p s c (connected g None x)) (connected g None x)
-          (keeps-pair p s (with_leg (connected g None x) s.legs) (with_call (bare c) s.calls) (bare c) (connected g None x)
+          (keeps-pair p s (with_leg (connected g None x) s.legs) (with_call (bare c) s.calls) (bare c)
+          (connected g None x)
           legs_kept (call-bare p.id.0 s facts g here c called x e asked)
           (record {
             found = rw (find-with_call (bare c) s.calls c.call, itself) refl;

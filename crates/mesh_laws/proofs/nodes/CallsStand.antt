@@ -31,7 +31,10 @@ use Rattle.mesh_nodes.proofs.CallList.{find-with_call, find-without_call, found-
 use Rattle.mesh_nodes.proofs.Cases.{if_cases}
 use Rattle.mesh_laws.specs.StandLaw.{CallsStandOver, EveryCallStands, EveryCallStandsUntilReleased, StandsOn, is_first_release, is_release_of, is_released_by, is_standing_call}
 use Rattle.mesh_laws.proofs.nodes.CallParts.{number-is}
-use Rattle.mesh_laws.proofs.nodes.CallsHold.{AreChanges, EachCall, IsSameCall, OfAny, alarm-holds, asking-stands, clear-holds, message-holds, protect-holds, release-holds, retry-holds, revert-holds, setup-holds, tick-holds}
+use Rattle.mesh_laws.proofs.nodes.CallMoves.{IsSameCall, asking-stands}
+use Rattle.mesh_laws.proofs.nodes.CallChanges.{AreChanges, EachCall, OfAny}
+use Rattle.mesh_laws.proofs.nodes.CallsHold.{alarm-holds, clear-holds, message-holds, protect-holds, release-holds, retry-holds, revert-holds, tick-holds}
+use Rattle.mesh_laws.proofs.nodes.SetupsHold.{setup-holds}
 use Rattle.mesh_laws.proofs.nodes.Facts.{MeshFacts}
 use Rattle.mesh_laws.proofs.nodes.Runs.{facts-hold, facts-step}
 
@@ -104,7 +107,7 @@ module _ (k : CallNo) (c : CallRec) (standing : is_standing_call c.state ≡ tru
         AreChanges Other On (setup_with p s w o).calls
     setup-stands w (Some d) known = tt
     setup-stands w None known =
-        setup-holds Other p s w (λ a. On) (λ a cause number. never number)
+        setup-holds Other p s w (λ a. On) (λ a cause known number. never number)
         (λ route out over first ordered number. never number) None
       where
         never : {X : Type 0} → w.call ≡ k → X
