@@ -6,6 +6,7 @@ mod BackByReport
 mod BackupPartlyRepaired
 mod BareWithReports
 mod BothArmed
+mod ComesToRest
 mod Contended
 mod Deactivating
 mod Found
