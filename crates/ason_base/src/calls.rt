@@ -106,7 +106,7 @@ pub type CallRows = Items<CallRow>;
 pub type LegRows = Items<LegRow>;
 
 /// The calls and legs of one node, or of a network.
-#[derive(Debug, Drop)]
+#[derive(Drop)]
 pub struct TableRows {
     pub calls: CallRows,
     pub legs: LegRows,

@@ -16,7 +16,7 @@ pub enum Group {
 }
 
 /// What an operator asks for.
-#[derive(Debug, Drop)]
+#[derive(Drop)]
 pub enum Command {
     /// A call, over the routes that are given, one-way or (`both`) two-way.
     Setup {
@@ -107,7 +107,7 @@ impl Copied for Command {
 }
 
 /// What stands on a node's desk.
-#[derive(Debug, Drop)]
+#[derive(Drop)]
 pub enum DeskItem {
     Order(Command),
     /// A fibre that comes in here went down.
@@ -132,7 +132,7 @@ impl Copied for DeskItem {
 }
 
 /// What happens in a network of controllers.
-#[derive(Debug, Drop)]
+#[derive(Drop)]
 pub enum Event {
     /// The frame of this number on the channel from `from` reaches `to`.
     Deliver {
@@ -188,7 +188,7 @@ impl Copied for Event {
 }
 
 /// One line of a log: an event with its logical time, at a node, or a post.
-#[derive(Debug, Drop)]
+#[derive(Drop)]
 pub struct Entry {
     pub stamp: u64,
     pub node: Option<NodeId>,

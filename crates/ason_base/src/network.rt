@@ -27,7 +27,7 @@ pub struct NodeSpec {
 }
 
 /// A link between two nodes, of which `low` has the lesser number. Each of its two fibres has `labels` labels.
-#[derive(Debug, Drop)]
+#[derive(Drop)]
 pub struct LinkSpec {
     pub id: LinkId,
     pub low: NodeId,
@@ -108,7 +108,7 @@ pub enum TopologyFault {
 }
 
 /// The nodes and links of a network, each in order of number, and the ticks that a call waits before it is restored.
-#[derive(Debug, Drop)]
+#[derive(Drop)]
 pub struct Topology {
     wait: u32,
     nodes: Vec<NodeSpec>,

@@ -23,7 +23,7 @@ pub enum Risk {
 }
 
 /// A list of distinct risks, rising.
-#[derive(Debug, Drop)]
+#[derive(Drop)]
 pub struct RiskSet {
     risks: Vec<Risk>,
 }

@@ -21,7 +21,7 @@ fn is_other_fibre(f: Fibre, g: Fibre) -> bool
 }
 
 /// A list of distinct fibres.
-#[derive(Debug, Drop)]
+#[derive(Drop)]
 pub struct Fibres {
     fibres: Vec<Fibre>,
 }
@@ -86,7 +86,7 @@ impl Copied for Fibres {
 }
 
 /// One LSP at one node.
-#[derive(Debug, Drop)]
+#[derive(Drop)]
 pub struct Leg {
     pub lsp: Lsp,
     pub egress: NodeId,
@@ -144,7 +144,7 @@ impl Copied for Leg {
 }
 
 /// A call at its ingress (ITU-T G.8080, call controller).
-#[derive(Debug, Drop)]
+#[derive(Drop)]
 pub struct CallRec {
     pub call: CallNo,
     pub egress: NodeId,
@@ -187,7 +187,7 @@ impl Copied for CallRec {
 }
 
 /// A message, and the neighbour that it goes to.
-#[derive(Debug, Drop)]
+#[derive(Drop)]
 pub struct Out {
     pub to: NodeId,
     pub msg: Msg,

@@ -25,7 +25,7 @@ use std::marker::Model;
 pub const MOST_STEPS: u64 = 50_000;
 
 /// The controller of one node: the node, a reliable hop to each neighbour, and the rows of links that it floods.
-#[derive(Debug, Drop)]
+#[derive(Drop)]
 pub struct Controller {
     maker: FrameMaker,
     node: Node,

@@ -3,7 +3,7 @@
 use ason_base::{Bytes, DeskItem, NodeId};
 
 /// One input of a controller.
-#[derive(Debug, Drop)]
+#[derive(Drop)]
 pub enum CoreInput {
     /// A frame that came from a neighbour.
     Frame { from: NodeId, bytes: Bytes },

@@ -11,7 +11,7 @@ use std::alloc::Global;
 use std::marker::Model;
 
 /// A leg in a box.
-#[derive(Debug, Drop)]
+#[derive(Drop)]
 pub struct BoxedLeg {
     leg: Box<Leg>,
 }
@@ -75,14 +75,14 @@ impl Copied for BoxedLeg {
 }
 
 /// What becomes of a leg, which is in a box where it is put.
-#[derive(Debug, Drop)]
+#[derive(Drop)]
 pub enum BoxedChange {
     Goes(Lsp),
     Put(BoxedLeg),
 }
 
 /// A change of a leg, for which memory was taken.
-#[derive(Debug, Drop)]
+#[derive(Drop)]
 pub struct LegEdit {
     change: BoxedChange,
 }

@@ -89,7 +89,7 @@ fn lesser(a: Option<CallNo>, b: Option<CallNo>) -> Option<CallNo>
 }
 
 /// The calls, their working LSPs and their backup LSPs.
-#[derive(Debug, Drop)]
+#[derive(Drop)]
 pub struct CallList {
     pub(crate) calls: Vec<CallRec>,
     works: Vec<LspOfCall>,

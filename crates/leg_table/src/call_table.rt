@@ -14,7 +14,7 @@ use std::alloc::Global;
 use std::marker::Model;
 
 /// The calls of an ingress, and the tunnel and LSP numbers that it gives out next.
-#[derive(Debug, Drop)]
+#[derive(Drop)]
 pub struct Calls {
     pub(crate) alloc: Global,
     pub(crate) list: CallList,

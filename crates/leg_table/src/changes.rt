@@ -12,7 +12,7 @@ use std::alloc::Global;
 use std::marker::Model;
 
 /// What a rule changes at its node, and what it sends, in order. All else stays.
-#[derive(Debug, Drop)]
+#[derive(Drop)]
 pub struct Change {
     alloc: Global,
     pub(crate) legs: Vec<LegEdit>,

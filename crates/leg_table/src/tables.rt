@@ -32,7 +32,7 @@ pub enum PutFault {
 }
 
 /// A node's own links, the rows that it knows, the fibres that it knows to be down, and its legs.
-#[derive(Debug, Drop)]
+#[derive(Drop)]
 pub struct NodeTables {
     node: NodeSpec,
     wait: u32,

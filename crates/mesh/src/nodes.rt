@@ -27,7 +27,7 @@ fn ends_at(t: &Topology, node: NodeId, link: LinkId) -> bool
 }
 
 /// The network, and the nodes that have had an input.
-#[derive(Debug, Drop)]
+#[derive(Drop)]
 pub(crate) struct Nodes {
     network: Topology,
     nodes: Vec<Node>,

@@ -11,7 +11,7 @@ use mesh_rules::failures::news_of;
 use std::alloc::Global;
 
 /// An item on a node's desk.
-#[derive(Debug, Drop)]
+#[derive(Drop)]
 pub(crate) struct Waiting {
     pub(crate) node: NodeId,
     pub(crate) item: DeskItem,

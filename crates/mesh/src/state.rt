@@ -57,7 +57,7 @@ fn is_nothing<T>(items: &[T]) -> bool
 
 /// The mesh of a topology: its nodes, their desks, the messages under way, the calls that were set up, and the groups that have
 /// failed.
-#[derive(Debug, Drop)]
+#[derive(Drop)]
 pub struct MeshState {
     nodes: Nodes,
     desks: Vec<Waiting>,

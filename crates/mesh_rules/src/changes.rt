@@ -3,7 +3,7 @@
 use ason_base::{CallNo, CallRec, Leg, Lsp};
 
 /// What becomes of one leg.
-#[derive(Debug, Drop)]
+#[derive(Drop)]
 pub enum LegChange {
     /// The leg of this LSP goes.
     Goes(Lsp),
@@ -12,7 +12,7 @@ pub enum LegChange {
 }
 
 /// What becomes of one call.
-#[derive(Debug, Drop)]
+#[derive(Drop)]
 pub enum CallChange {
     /// The call of this number goes.
     Goes(CallNo),

@@ -3,7 +3,7 @@
 use ason_base::{Command, LinkId, NodeId};
 
 /// One event of the mesh.
-#[derive(Debug, Drop)]
+#[derive(Drop)]
 pub enum MeshEvent {
     /// The first message on the way from `from` to `to` is taken.
     Take { to: NodeId, from: NodeId },

@@ -3,7 +3,7 @@
 use ason_base::{DeskItem, Msg, NodeId, TeRow};
 
 /// One input of a node.
-#[derive(Debug, Drop)]
+#[derive(Drop)]
 pub enum Input {
     /// A message from a neighbour.
     Message { from: NodeId, msg: Msg },

@@ -26,7 +26,7 @@ use std::marker::Model;
 
 /// One node: the tables of its links and legs, who has the labels of the fibres that come in, which
 /// risks keep backups off them, and its calls.
-#[derive(Debug, Drop)]
+#[derive(Drop)]
 pub struct Node {
     tables: NodeTables,
     owner: Owner,

@@ -12,7 +12,7 @@ use std::collections::BTreeMap;
 use std::marker::Model;
 
 /// Calls by their names, each with its ingress, in order of number. A map finds the number of a name.
-#[derive(Debug, Drop)]
+#[derive(Drop)]
 pub struct Calls {
     names: Vec<Name>,
     ingresses: Vec<NodeId>,

@@ -3,7 +3,7 @@
 use ason_base::{Command, Items};
 
 /// One line of a script.
-#[derive(Debug, Drop)]
+#[derive(Drop)]
 pub enum Line {
     /// Posts a command.
     Post(Command),

@@ -38,7 +38,7 @@ pub fn is_name(text: &[u8]) -> bool
 }
 
 /// A name: contracts see its text.
-#[derive(Debug, Drop)]
+#[derive(Drop)]
 pub struct Name {
     text: String,
 }
@@ -78,7 +78,7 @@ impl Name {
 }
 
 /// A list of names.
-#[derive(Debug, Drop)]
+#[derive(Drop)]
 pub struct Names {
     names: Vec<Name>,
 }

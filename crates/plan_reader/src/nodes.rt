@@ -22,7 +22,7 @@ use std::marker::Model;
 use toml::Value;
 
 /// Nodes, and their names in the same order.
-#[derive(Debug, Drop)]
+#[derive(Drop)]
 pub struct Nodes {
     names: Names,
     nodes: Vec<NodeSpec>,

@@ -5,7 +5,7 @@ use crate::names::Names;
 use ason_base::Topology;
 
 /// A plan: the network, the names of its nodes and calls, each in order of number, and the script's lines.
-#[derive(Debug, Drop)]
+#[derive(Drop)]
 pub struct Plan {
     pub topology: Topology,
     pub node_names: Names,

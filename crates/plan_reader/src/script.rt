@@ -122,7 +122,7 @@ fn read_line(
 }
 
 /// The calls and the lines of a script.
-#[derive(Debug, Drop)]
+#[derive(Drop)]
 pub struct Script {
     pub calls: Calls,
     pub lines: Lines,

@@ -9,7 +9,7 @@ use ason_base::{Copied, Fibre, Label, LabelSet, Lsp, OutOfMemory, Risk, RiskSet}
 use std::alloc::Global;
 
 /// An LSP keeps off its label those backups whose primaries have one of these risks.
-#[derive(Debug, Drop)]
+#[derive(Drop)]
 pub struct Guard {
     pub fibre: Fibre,
     pub label: Label,

@@ -11,7 +11,7 @@ use std::marker::Model;
 
 /// The risks that keep backups off labels. Backups may share a label where their primaries have no risk in common, so
 /// that no failure of one risk needs the label for both.
-#[derive(Debug, Drop)]
+#[derive(Drop)]
 pub struct Shares {
     guards: Vec<Guard>,
 }

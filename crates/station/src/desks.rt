@@ -11,7 +11,7 @@ use std::marker::Model;
 const LEAST_ROOM: usize = 4;
 
 /// Items, the oldest first.
-#[derive(Debug, Drop)]
+#[derive(Drop)]
 pub struct Desk {
     items: VecDeque<DeskItem>,
 }

@@ -22,7 +22,7 @@ use std::collections::VecDeque;
 use std::marker::Model;
 
 /// A node's controller, its desk, and the channels that lead from it.
-#[derive(Debug, Drop)]
+#[derive(Drop)]
 pub struct Seat {
     node: NodeId,
     controller: Controller,

@@ -30,7 +30,7 @@ use std::marker::Model;
 
 /// The controllers of a network with their desks, all that was ever sent on each channel, the call numbers of the setups that
 /// were posted, and the groups that have failed.
-#[derive(Debug, Drop)]
+#[derive(Drop)]
 pub struct World {
     seats: Vec<Seat>,
     posted: Vec<CallNo>,
