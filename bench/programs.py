@@ -15,11 +15,11 @@ def ason():
     # The script says on the standard error when it builds, and why it can't.
     if subprocess.run([script, "decode"], stdin=subprocess.DEVNULL, stdout=subprocess.DEVNULL, check=False).returncode:
         sys.exit(f"{script} can't be built")
-    return os.path.join(TOP, "crates", "ason_main", "out", "ason_main")
+    return os.path.join(TOP, "out", "ason")
 
 
 def of_crate(name):
-    """The path of the program of a crate beside `ason_main`."""
+    """The path of the program of a crate beside `ason`."""
     folder = os.path.join(TOP, "crates", name)
     program = os.path.join(folder, "out", name)
     if not os.access(program, os.X_OK):

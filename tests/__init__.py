@@ -1,6 +1,6 @@
 """Tests of the tools beside `ason`: `python3 -m unittest` at the top of the repository.
 
-The program is the one that the environment variable ASON names, or the script `ason`.
+The program is the one that the environment variable ASON names, or the one that the script `ason` has built.
 """
 
 import sys

@@ -7,8 +7,8 @@
         print(call.name, call.state, call.cause)
 
 `run` answers the process's status, the tables of each `show` and of the end, and the `unsettled` lines. `decode` answers
-what is told of lines of RSVP messages. The program is the one that the environment variable ASON names, or the script
-`ason` of this repository. Put the folder of this file into PYTHONPATH.
+what is told of lines of RSVP messages. The program is the one that the environment variable ASON names, or the one that
+the script `ason` of this repository has built. Put the folder of this file into PYTHONPATH.
 """
 
 from ason_tools.errors import ToolError

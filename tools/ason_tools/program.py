@@ -1,8 +1,9 @@
-"""Runs `ason`: the program that the environment variable ASON names, or the script beside the folder of the tools."""
+"""Runs `ason`: the program that the environment variable ASON names, or the one that the script `ason` has built."""
 
 import os
 import subprocess
 from dataclasses import dataclass
+from functools import cache
 from pathlib import Path
 
 from . import tables
@@ -16,9 +17,31 @@ DONE, USAGE, PLAN_REFUSED, READ_FAULT, WRITE_FAULT, EVENT_LIMIT, OUT_OF_MEMORY, 
 """The statuses of `ason`."""
 
 
+NO_BUILD = {"ASON_BUILD": "no"}
+"""Has the script `ason` build nothing."""
+
+
+@cache
 def program_path() -> str:
-    """The path of the program."""
-    return os.environ.get("ASON") or str(REPOSITORY / "ason")
+    """The path of the program. A ToolError says that there is none of these sources: no tool starts a build, which is long."""
+    named = os.environ.get("ASON")
+    if named:
+        return named
+    script = str(REPOSITORY / "ason")
+    try:
+        # The script judges whether what is built is of these sources; no bytes to decode give nothing.
+        asked = subprocess.run(
+            [script, "decode"],
+            env=os.environ | NO_BUILD,
+            stdin=subprocess.DEVNULL,
+            capture_output=True,
+            check=False,
+        )
+    except OSError as error:
+        raise ToolError(f"{script} can't be run: {error.strerror}") from error
+    if asked.returncode != DONE:
+        raise ToolError(f"ason isn't built of these sources: {script} run builds it, or ASON names a program that is built")
+    return str(REPOSITORY / "out" / "ason")
 
 
 @dataclass(frozen=True)
@@ -71,7 +94,7 @@ def _start(word: str, given: str | bytes) -> Run:
     path = program_path()
     data = given.encode("utf-8", "surrogateescape") if isinstance(given, str) else given
     try:
-        ended = subprocess.run([path, word], input=data, stdout=subprocess.PIPE, check=False)
+        ended = subprocess.run([path, word], input=data, stdout=subprocess.PIPE, env=os.environ | NO_BUILD, check=False)
     except OSError as error:
         raise ToolError(f"{path} can't be run: {error.strerror}") from error
     if ended.returncode < 0 or ended.returncode in (USAGE, NOT_BUILT, 126, 127):
