@@ -1,6 +1,5 @@
 pub mod EveryRun
 pub mod alone
-mod examples
 pub mod hops
 pub mod nodes
 pub mod reports

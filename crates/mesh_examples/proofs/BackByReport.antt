@@ -1,0 +1,94 @@
+-- A run after which a turned call goes back, since its backup is hit and its working route is repaired.
+use Rattle.std.proofs.Common.{◌≡◌, true, false, List, [], ◌∷◌, ◌++◌, refl}
+use Rattle.std.specs.Prelude.{Some, None}
+use Rattle.ason_base.specs.Codes.{set_code}
+use Rattle.ason_base.specs.Labels as labels
+use Rattle.ason_base.specs.Network.{Network}
+use Rattle.ason_base.specs.declared.calls.CallState.TheVariants.{Blocked, Guarded}
+use Rattle.ason_base.specs.declared.calls.Cause.TheVariants.{Code, Unset}
+use Rattle.ason_base.specs.declared.calls.Phase.TheVariants.{Held, Live}
+use Rattle.mesh_rules.specs.declared.events.MeshEvent.{MeshEvent}
+use Rattle.mesh_rules.specs.Events.{after}
+use Rattle.mesh_rules.specs.Machine.{start}
+use Rattle.mesh_examples.proofs.Scene.{all_enabled, called, desk, fails_link, joins, learns, leg, over, repairs_link, reported, reverts, seen, Seen, sets_up, spec, takes, ticks}
+
+abbrev network : Network
+network = record {
+  wait = 2;
+  nodes = spec 1 false ∷ spec 2 false ∷ spec 3 false ∷ spec 4 false ∷ spec 5 true ∷ spec 6 true ∷ [];
+  links =
+      joins 1 1 3 1 [] ∷ joins 2 1 4 1 (1 ∷ []) ∷ joins 3 1 5 1 [] ∷ joins 4 1 6 1 [] ∷ joins 5 2 6 2 (1 ∷ 2
+      ∷ []) ∷ joins 6 3 6 1 (2 ∷ []) ∷ joins 7 4 5 3 [] ∷ [];
+}
+
+abbrev events : List MeshEvent
+events =
+    learns 1 (5 ∷ 6 ∷ 7 ∷ [])
+    ++ learns 2 (4 ∷ 6 ∷ [])
+    ++ learns 3 (2 ∷ 3 ∷ 4 ∷ 5 ∷ 7 ∷ [])
+    ++ learns 4 (1 ∷ 3 ∷ 4 ∷ 5 ∷ 6 ∷ [])
+    ++ learns 5 (1 ∷ 2 ∷ 4 ∷ 5 ∷ 6 ∷ [])
+    ++ learns 6 (1 ∷ 2 ∷ 3 ∷ 7 ∷ [])
+    ++ learns 2 (1 ∷ 2 ∷ 3 ∷ 7 ∷ [])
+    ++ sets_up 1 1 6 (over 1 1 ∷ over 3 6 ∷ []) (over 1 4 ∷ [])
+    ∷ desk 1
+    ∷ ticks 1
+    ∷ takes 3 1
+    ∷ reverts 1 1
+    ∷ takes 6 3
+    ∷ takes 3 6
+    ∷ takes 1 3
+    ∷ desk 1
+    ∷ fails_link 1
+    ∷ sets_up 2 1 6 (over 1 1 ∷ over 3 6 ∷ []) (over 1 4 ∷ [])
+    ∷ takes 6 1
+    ∷ desk 3
+    ∷ repairs_link 1
+    ∷ desk 3
+    ∷ takes 1 6
+    ∷ desk 1
+    ∷ takes 1 3
+    ∷ takes 6 1
+    ∷ desk 1
+    ∷ takes 1 3
+    ∷ takes 1 6
+    ∷ takes 3 1
+    ∷ desk 1
+    ∷ takes 1 3
+    ∷ fails_link 4
+    ∷ sets_up 3 1 6 (over 1 1 ∷ over 3 6 ∷ []) (over 1 4 ∷ [])
+    ∷ desk 6
+    ∷ desk 1
+    ∷ takes 1 6
+    ∷ []
+
+abbrev as_reached : Seen
+as_reached = record {
+  legs =
+      (leg 1 1 Live None (Some 1) 0 1 1 ∷ leg 1 2 Held None (Some 1) 0 1 0 ∷ [])
+      ∷ []
+      ∷ (leg 1 1 Live (Some 1) (Some 1) 1 1 0 ∷ [])
+      ∷ []
+      ∷ []
+      ∷ (leg 1 1 Live (Some 1) None 1 0 0 ∷ leg 1 2 Live (Some 1) None 1 0 0 ∷ [])
+      ∷ [];
+  calls =
+      (reported 1 Guarded Unset 0 1 ∷ called 2 Blocked (Code set_code) ∷ [])
+      ∷ []
+      ∷ []
+      ∷ []
+      ∷ []
+      ∷ []
+      ∷ [];
+  known = 7 ∷ 7 ∷ 7 ∷ 7 ∷ 7 ∷ 7 ∷ [];
+  down = 1 ∷ 0 ∷ 0 ∷ 0 ∷ 0 ∷ 1 ∷ [];
+  mail = (0, 0) ∷ (0, 0) ∷ (0, 0) ∷ (1, 0) ∷ (0, 0) ∷ (0, 0) ∷ (0, 0) ∷ [];
+}
+
+enabled : all_enabled network start events ≡ true
+unfolding labels.numbers_from
+enabled = refl
+
+reached : seen network (after network start events) ≡ as_reached
+unfolding labels.numbers_from
+reached = refl

@@ -1,0 +1,111 @@
+-- A run in which a protected call is set up, its working link is cut and the call turns, and the link is repaired and
+-- the call goes back by an order: what each part adds, how much is handled in it, and that the mesh is quiet at the
+-- end.
+use Rattle.std.proofs.Common.{◌≡◌, ℕ, true, false, List, [], ◌∷◌, ◌++◌, refl}
+use Rattle.std.specs.Prelude.{length, map, Some, None}
+use Rattle.ason_base.specs.Labels as labels
+use Rattle.ason_base.specs.Network.{Network}
+use Rattle.ason_base.specs.declared.calls.CallState.TheVariants.{Guarded, Turned}
+use Rattle.ason_base.specs.declared.calls.Cause.TheVariants.{Unset}
+use Rattle.ason_base.specs.declared.calls.Phase.TheVariants.{Held, Live}
+use Rattle.mesh_rules.specs.declared.events.MeshEvent.{MeshEvent}
+use Rattle.mesh_rules.specs.Events.{after}
+use Rattle.mesh_rules.specs.Machine.{start}
+use Rattle.mesh_laws.specs.RestLaw.{added, handled}
+use Rattle.mesh_examples.proofs.Scene.{all_enabled, called, desk, fails_link, joins, learns, leg, over, repairs_link, reported, reverts, seen, Seen, SeenCall, SeenLeg, sets_up, spec, takes}
+
+-- the working route goes over link 1, the backup over links 2 and 3
+abbrev network : Network
+network = record {
+  wait = 0;
+  nodes = spec 1 true ∷ spec 2 true ∷ spec 3 true ∷ [];
+  links = joins 1 1 2 1 [] ∷ joins 2 1 3 1 [] ∷ joins 3 2 3 1 [] ∷ [];
+}
+
+abbrev set_up : List MeshEvent
+set_up =
+    learns 3 (1 ∷ [])
+    ++ sets_up 1 1 2 (over 1 1 ∷ []) (over 1 2 ∷ over 3 3 ∷ [])
+    ∷ desk 1
+    ∷ takes 2 1
+    ∷ takes 1 2
+    ∷ takes 3 1
+    ∷ takes 2 3
+    ∷ takes 3 2
+    ∷ takes 1 3
+    ∷ []
+
+abbrev cut : List MeshEvent
+cut =
+    fails_link 1
+    ∷ desk 2
+    ∷ takes 1 2
+    ∷ takes 3 1
+    ∷ takes 2 3
+    ∷ takes 3 2
+    ∷ takes 1 3
+    ∷ desk 1
+    ∷ []
+
+abbrev way_back : List MeshEvent
+way_back =
+    repairs_link 1
+    ∷ desk 2
+    ∷ takes 1 2
+    ∷ reverts 1 1
+    ∷ desk 1
+    ∷ desk 1
+    ∷ takes 3 1
+    ∷ takes 2 3
+    ∷ []
+
+abbrev turned : Seen
+turned = record {
+  legs =
+      (leg 1 1 Live None (Some 1) 0 1 0 ∷ leg 1 2 Live None (Some 1) 0 1 1 ∷ [])
+      ∷ (leg 1 1 Live (Some 1) None 1 0 0 ∷ leg 1 2 Live (Some 1) None 1 0 0 ∷ [])
+      ∷ (leg 1 2 Live (Some 1) (Some 1) 1 1 0 ∷ [])
+      ∷ [];
+  calls = (reported 1 Turned Unset 1 0 ∷ []) ∷ [] ∷ [] ∷ [];
+  known = 2 ∷ 2 ∷ 3 ∷ [];
+  down = 1 ∷ 1 ∷ 0 ∷ [];
+  mail = (0, 0) ∷ (0, 0) ∷ (0, 0) ∷ [];
+}
+
+abbrev back : Seen
+back = record {
+  legs =
+      (leg 1 1 Live None (Some 1) 0 1 0 ∷ leg 1 2 Held None (Some 1) 0 1 1 ∷ [])
+      ∷ (leg 1 1 Live (Some 1) None 1 0 0 ∷ leg 1 2 Held (Some 1) None 1 0 0 ∷ [])
+      ∷ (leg 1 2 Held (Some 1) (Some 1) 1 1 0 ∷ [])
+      ∷ [];
+  calls = (called 1 Guarded Unset ∷ []) ∷ [] ∷ [] ∷ [];
+  known = 2 ∷ 2 ∷ 3 ∷ [];
+  down = 0 ∷ 0 ∷ 0 ∷ [];
+  mail = (0, 0) ∷ (0, 0) ∷ (0, 0) ∷ [];
+}
+
+enabled : all_enabled network start (set_up ++ cut ++ way_back) ≡ true
+unfolding labels.numbers_from
+enabled = refl
+
+turns : seen network (after network start (set_up ++ cut)) ≡ turned
+unfolding labels.numbers_from
+turns = refl
+
+goes_back : seen network (after network start (set_up ++ cut ++ way_back)) ≡ back
+unfolding labels.numbers_from
+goes_back = refl
+
+-- no item is left on a desk
+rests : map (λ n. length ((after network start (set_up ++ cut ++ way_back)).desks n)) (1 ∷ 2 ∷ 3 ∷ []) ≡ 0 ∷ 0 ∷ 0 ∷ []
+unfolding labels.numbers_from
+rests = refl
+
+-- an item handled and six messages taken; two and five; three and three
+handled_each : map handled (set_up ∷ cut ∷ way_back ∷ []) ≡ 7 ∷ 7 ∷ 6 ∷ []
+handled_each = refl
+
+-- a post each, and two at last, on three links
+added_each : map (added network) (set_up ∷ cut ∷ way_back ∷ []) ≡ 6299529 ∷ 6299529 ∷ 12599058 ∷ []
+added_each = refl

@@ -1,0 +1,84 @@
+-- A run after which the activation of a backup is taken back: the Path that does so is on its way.
+use Rattle.std.proofs.Common.{◌≡◌, true, false, List, [], ◌∷◌, ◌++◌, refl}
+use Rattle.std.specs.Prelude.{Some, None}
+use Rattle.ason_base.specs.Labels as labels
+use Rattle.ason_base.specs.Network.{Network}
+use Rattle.ason_base.specs.declared.calls.CallState.TheVariants.{Guarded}
+use Rattle.ason_base.specs.declared.calls.Cause.TheVariants.{Unset}
+use Rattle.ason_base.specs.declared.calls.Phase.TheVariants.{Held, Live}
+use Rattle.ason_base.specs.declared.calls.Role.TheVariants.{Back}
+use Rattle.mesh_rules.specs.declared.events.MeshEvent.{MeshEvent}
+use Rattle.mesh_rules.specs.Events.{after}
+use Rattle.mesh_rules.specs.Machine.{start}
+use Rattle.mesh_laws.specs.HopLaw.{HasShape}
+use Rattle.mesh_laws.specs.HopShapes as row
+use Rattle.mesh_examples.proofs.Scene.{all_enabled, desk, fails_link, joins, learns, leg, lsp, node, over, repairs_link, reported, Seen, seen, sets_up, spec, takes}
+
+abbrev network : Network
+network = record {
+  wait = 2;
+  nodes = spec 1 false ∷ spec 2 false ∷ spec 3 false ∷ spec 4 false ∷ spec 5 true ∷ spec 6 true ∷ [];
+  links =
+      joins 1 1 3 1 [] ∷ joins 2 1 4 1 (1 ∷ []) ∷ joins 3 1 5 1 [] ∷ joins 4 1 6 1 [] ∷ joins 5 2 6 2 (1 ∷ 2
+      ∷ []) ∷ joins 6 3 6 1 (2 ∷ []) ∷ joins 7 4 5 3 [] ∷ [];
+}
+
+abbrev events : List MeshEvent
+events =
+    learns 1 (6 ∷ [])
+    ++ learns 6 (1 ∷ [])
+    ++ sets_up 1 1 6 (over 1 1 ∷ over 3 6 ∷ []) (over 1 4 ∷ [])
+    ∷ desk 1
+    ∷ takes 3 1
+    ∷ takes 6 3
+    ∷ takes 3 6
+    ∷ takes 1 3
+    ∷ fails_link 1
+    ∷ takes 6 1
+    ∷ desk 3
+    ∷ repairs_link 1
+    ∷ desk 3
+    ∷ takes 1 6
+    ∷ takes 1 3
+    ∷ takes 6 1
+    ∷ takes 1 3
+    ∷ takes 1 6
+    ∷ fails_link 4
+    ∷ desk 6
+    ∷ takes 1 6
+    ∷ []
+
+abbrev as_reached : Seen
+as_reached = record {
+  legs =
+      (leg 1 1 Live None (Some 1) 0 1 1 ∷ leg 1 2 Held None (Some 1) 0 1 0 ∷ [])
+      ∷ []
+      ∷ (leg 1 1 Live (Some 1) (Some 1) 1 1 0 ∷ [])
+      ∷ []
+      ∷ []
+      ∷ (leg 1 1 Live (Some 1) None 1 0 0 ∷ leg 1 2 Live (Some 1) None 1 0 0 ∷ [])
+      ∷ [];
+  calls =
+      (reported 1 Guarded Unset 0 1 ∷ [])
+      ∷ []
+      ∷ []
+      ∷ []
+      ∷ []
+      ∷ []
+      ∷ [];
+  known = 5 ∷ 1 ∷ 2 ∷ 2 ∷ 2 ∷ 4 ∷ [];
+  down = 0 ∷ 0 ∷ 0 ∷ 0 ∷ 0 ∷ 1 ∷ [];
+  mail = (0, 0) ∷ (0, 0) ∷ (0, 0) ∷ (1, 0) ∷ (0, 0) ∷ (0, 0) ∷ (0, 0) ∷ [];
+}
+
+enabled : all_enabled network start events ≡ true
+unfolding labels.numbers_from
+enabled = refl
+
+reached : seen network (after network start events) ≡ as_reached
+unfolding labels.numbers_from
+reached = refl
+
+in_row : HasShape (after network start events) Back (lsp 1 1 2) (node 1) (node 6)
+unfolding labels.numbers_from
+in_row = row.Deactivating

@@ -1,0 +1,99 @@
+-- A run after which a backup is refused over a fibre that is known to be down.
+use Rattle.std.proofs.Common.{◌≡◌, true, false, List, [], ◌∷◌, ◌++◌, refl}
+use Rattle.std.specs.Prelude.{Some, None}
+use Rattle.ason_base.specs.Codes.{down_code}
+use Rattle.ason_base.specs.Labels as labels
+use Rattle.ason_base.specs.Network.{Network}
+use Rattle.ason_base.specs.declared.calls.CallState.TheVariants.{Bare}
+use Rattle.ason_base.specs.declared.calls.Cause.TheVariants.{Code}
+use Rattle.ason_base.specs.declared.calls.Phase.TheVariants.{Closing, Held, Live}
+use Rattle.mesh_rules.specs.declared.events.MeshEvent.{MeshEvent}
+use Rattle.mesh_rules.specs.Events.{after}
+use Rattle.mesh_rules.specs.Machine.{start}
+use Rattle.mesh_examples.proofs.Scene.{all_enabled, desk, fails_link, joins, learns, leg, over, protects, releases, reported, reverts, seen, Seen, sets_up, spec, takes, ticks}
+
+abbrev network : Network
+network = record {
+  wait = 2;
+  nodes = spec 1 false ∷ spec 2 false ∷ spec 3 false ∷ spec 4 false ∷ spec 5 true ∷ spec 6 false ∷ [];
+  links =
+      joins 1 1 2 1 (1 ∷ []) ∷ joins 2 3 4 1 (2 ∷ []) ∷ joins 3 1 5 2 [] ∷ joins 4 2 6 2 [] ∷ joins 5 5 6 1 []
+      ∷ joins 6 3 5 2 [] ∷ joins 7 4 6 2 [] ∷ [];
+}
+
+abbrev events : List MeshEvent
+events =
+    learns 5 (1 ∷ [])
+    ++ learns 6 (1 ∷ [])
+    ++ learns 5 (2 ∷ [])
+    ++ learns 6 (2 ∷ [])
+    ++ sets_up 1 1 2 (over 1 1 ∷ []) (over 1 3 ∷ over 5 5 ∷ over 6 4 ∷ [])
+    ∷ sets_up 2 3 4 (over 3 2 ∷ []) (over 3 6 ∷ over 5 5 ∷ over 6 7 ∷ [])
+    ∷ desk 3
+    ∷ takes 4 3
+    ∷ takes 3 4
+    ∷ takes 5 3
+    ∷ desk 1
+    ∷ takes 6 5
+    ∷ fails_link 5
+    ∷ desk 6
+    ∷ takes 2 1
+    ∷ protects 2 3
+    ∷ takes 5 6
+    ∷ desk 5
+    ∷ takes 4 6
+    ∷ takes 6 4
+    ∷ takes 5 6
+    ∷ fails_link 1
+    ∷ desk 3
+    ∷ desk 2
+    ∷ takes 3 5
+    ∷ desk 1
+    ∷ takes 3 5
+    ∷ takes 1 2
+    ∷ takes 1 2
+    ∷ takes 5 1
+    ∷ takes 6 5
+    ∷ takes 5 6
+    ∷ takes 1 5
+    ∷ ticks 3
+    ∷ reverts 2 3
+    ∷ desk 3
+    ∷ releases 2 3
+    ∷ desk 3
+    ∷ takes 4 3
+    ∷ takes 5 3
+    ∷ takes 6 5
+    ∷ takes 3 4
+    ∷ []
+
+abbrev as_reached : Seen
+as_reached = record {
+  legs =
+      (leg 1 1 Live None (Some 1) 0 1 0 ∷ [])
+      ∷ (leg 1 1 Live (Some 1) None 1 0 0 ∷ [])
+      ∷ (leg 3 2 Closing None (Some 1) 0 2 2 ∷ [])
+      ∷ (leg 3 2 Held (Some 1) None 1 0 0 ∷ [])
+      ∷ (leg 3 2 Closing None (Some 1) 2 1 1 ∷ [])
+      ∷ (leg 3 2 Closing None (Some 1) 1 1 0 ∷ [])
+      ∷ [];
+  calls =
+      (reported 1 Bare (Code down_code) 1 0 ∷ [])
+      ∷ []
+      ∷ []
+      ∷ []
+      ∷ []
+      ∷ []
+      ∷ [];
+  known = 2 ∷ 2 ∷ 2 ∷ 2 ∷ 5 ∷ 5 ∷ [];
+  down = 1 ∷ 1 ∷ 0 ∷ 0 ∷ 1 ∷ 1 ∷ [];
+  mail = (0, 0) ∷ (0, 0) ∷ (0, 0) ∷ (0, 0) ∷ (0, 1) ∷ (0, 1) ∷ (0, 1) ∷ [];
+}
+
+enabled : all_enabled network start events ≡ true
+unfolding labels.numbers_from
+enabled = refl
+
+reached : seen network (after network start events) ≡ as_reached
+unfolding labels.numbers_from
+reached = refl

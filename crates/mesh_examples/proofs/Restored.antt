@@ -1,0 +1,88 @@
+-- A run after which a call whose working LSP is hit is carried by its backup, and nothing is under way.
+use Rattle.std.proofs.Common.{◌≡◌, true, false, List, [], ◌∷◌, ◌++◌, length, map, refl}
+use Rattle.std.specs.Prelude.{Some, None}
+use Rattle.ason_base.specs.Labels as labels
+use Rattle.ason_base.specs.Network.{Network}
+use Rattle.ason_base.specs.declared.calls.CallState.TheVariants.{Turned}
+use Rattle.ason_base.specs.declared.calls.Cause.TheVariants.{Unset}
+use Rattle.ason_base.specs.declared.calls.Phase.TheVariants.{Live}
+use Rattle.ason_base.specs.declared.commands.Group.TheVariants.{Link}
+use Rattle.mesh_rules.specs.declared.events.MeshEvent.{MeshEvent}
+use Rattle.mesh_rules.specs.Events.{after}
+use Rattle.mesh_rules.specs.Machine.{start}
+use Rattle.mesh_laws.specs.AloneLaw.{Alone}
+use Rattle.mesh_laws.specs.RestorationLaw.{is_guarded, is_hit}
+use Rattle.mesh_laws.proofs.alone.Law.{run_starts_calm}
+use Rattle.mesh_examples.proofs.Scene.{all_enabled, desk, fails_link, joins, learns, leg, link, lsp, over, reported, seen, Seen, sets_up, spec, takes}
+
+abbrev network : Network
+network = record {
+  wait = 0;
+  nodes = spec 1 true ∷ spec 2 false ∷ spec 3 false ∷ [];
+  links = joins 1 1 2 2 [] ∷ joins 2 1 3 2 [] ∷ joins 3 2 3 2 [] ∷ [];
+}
+
+abbrev events : List MeshEvent
+events =
+    learns 1 (3 ∷ [])
+    ++ learns 2 (2 ∷ [])
+    ++ learns 3 (1 ∷ [])
+    ++ sets_up 1 1 2 (over 1 1 ∷ []) (over 1 2 ∷ over 3 3 ∷ [])
+    ∷ desk 1
+    ∷ takes 2 1
+    ∷ takes 1 2
+    ∷ takes 3 1
+    ∷ takes 2 3
+    ∷ takes 3 2
+    ∷ takes 1 3
+    ∷ fails_link 1
+    ∷ desk 1
+    ∷ desk 2
+    ∷ takes 1 2
+    ∷ takes 3 1
+    ∷ takes 2 3
+    ∷ takes 3 2
+    ∷ takes 1 3
+    ∷ []
+
+abbrev as_reached : Seen
+as_reached = record {
+  legs =
+      (leg 1 1 Live None (Some 1) 0 2 0 ∷ leg 1 2 Live None (Some 1) 0 2 1 ∷ [])
+      ∷ (leg 1 1 Live (Some 1) None 2 0 0 ∷ leg 1 2 Live (Some 1) None 2 0 0 ∷ [])
+      ∷ (leg 1 2 Live (Some 1) (Some 1) 2 2 0 ∷ [])
+      ∷ [];
+  calls = (reported 1 Turned Unset 1 0 ∷ []) ∷ [] ∷ [] ∷ [];
+  known = 3 ∷ 3 ∷ 3 ∷ [];
+  down = 1 ∷ 1 ∷ 0 ∷ [];
+  mail = (0, 0) ∷ (0, 0) ∷ (0, 0) ∷ [];
+}
+
+enabled : all_enabled network start events ≡ true
+unfolding labels.numbers_from
+enabled = refl
+
+reached : seen network (after network start events) ≡ as_reached
+unfolding labels.numbers_from
+reached = refl
+
+alone : Alone network events (Link (link 1))
+alone = record { before = []; since = events; parts = refl; calm = run_starts_calm; only = assumption (tt, refl) }
+
+-- each desk is empty
+rests : map (λ n. length ((after network start events).desks n.id.0)) network.nodes ≡ 0 ∷ 0 ∷ 0 ∷ []
+unfolding labels.numbers_from
+rests = refl
+
+guarded : map (is_guarded ((after network start events).nodes 1)) ((after network start events).nodes 1).calls
+    ≡ true ∷ []
+unfolding labels.numbers_from
+guarded = refl
+
+hit : is_hit network events (Some (lsp 1 1 1)) ≡ true
+unfolding labels.numbers_from
+hit = refl
+
+up : is_hit network events (Some (lsp 1 1 2)) ≡ false
+unfolding labels.numbers_from
+up = refl
