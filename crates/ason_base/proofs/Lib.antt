@@ -1,8 +1,9 @@
 pub mod Bridges
 pub mod MaskMembers
 pub mod Ordered
+pub mod ParsedNumerals
 pub mod Results
+pub mod RisingNumbers
 pub mod RiskOrder
 pub mod RiskUnion
-pub mod RisingNumbers
 pub mod RouteNodes

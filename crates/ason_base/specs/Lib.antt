@@ -3,6 +3,7 @@ pub mod InOrder
 pub mod Labels
 pub mod Lsps
 pub mod Network
+pub mod Numerals
 pub mod Risks
 pub mod Routes
 pub mod Texts

@@ -105,6 +105,12 @@ row_of l = record { link = l.id; low = l.low; high = l.high; metric = l.metric; 
 abbrev pub joins : Network → LinkId → NodeId → NodeId → Bool
 joins t k a b = has_ends (find_link t k) a b
 
+-- a channel leads from a node of the topology to another, where a link joins them
+abbrev pub is_channel : Network → NodeId → NodeId → Bool
+is_channel t u d =
+    is_node_id t.nodes u && is_node_id t.nodes d && not (u.0 == d.0)
+    && list_any (λ l. are_ends l.low l.high u d) t.links
+
 -- the node is an end of the link
 abbrev pub touches : NodeId → LinkSpec → Bool
 touches n l = l.low.0 == n.0 || l.high.0 == n.0

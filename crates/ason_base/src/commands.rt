@@ -208,6 +208,14 @@ impl Copied for Entry {
     }
 }
 
+/// A line of a log whose event is lent.
+#[derive(Clone, Copy)]
+pub struct EntryRef<'a> {
+    pub stamp: u64,
+    pub node: Option<NodeId>,
+    pub event: &'a Event,
+}
+
 /// What is done to one frame of a channel.
 #[derive(Clone, Copy, Debug, PartialEq, Eq, Drop)]
 pub enum DisturbKind {

@@ -19,7 +19,7 @@ impl<T: Drop> From<AllocFailed<T>> for OutOfMemory {
 }
 
 /// A node's number (the router id of RFC 3477).
-#[derive(Clone, Copy, Debug, PartialEq, Eq, PartialOrd, Ord, Drop)]
+#[derive(Clone, Copy, Debug, PartialEq, Eq, PartialOrd, Ord, Hash, Drop)]
 pub struct NodeId(pub u32);
 
 /// A link's number, the same at both ends (the interface id of RFC 3477).
@@ -38,7 +38,7 @@ pub struct Fibre {
 }
 
 /// A label switched path (RFC 3209): where it begins, the tunnel that it serves and its own number there.
-#[derive(Clone, Copy, Debug, PartialEq, Eq, PartialOrd, Ord, Drop)]
+#[derive(Clone, Copy, Debug, PartialEq, Eq, PartialOrd, Ord, Hash, Drop)]
 pub struct Lsp {
     pub ingress: NodeId,
     pub tunnel: u16,

@@ -1,8 +1,9 @@
 //! The network: its nodes, its links, and which nodes they join.
 
 ghost use Rattle.std.specs.Prelude.{◌≡◌, ◌<◌, IfErr, IfNone, IfOk, IfSome, length, false};
+ghost use Rattle.std.specs.List.{list_any};
 ghost use Rattle.std.specs.Option.{option_copied};
-ghost use Rattle.ason_base.specs.Network.{AreLinks, AreNodes, FaultOf, IsTopology, find_link, find_node, is_after, is_distinct, is_link, is_link_at, is_node_at, is_node_id, joins, receiver_of, row_of, sender_of};
+ghost use Rattle.ason_base.specs.Network.{AreLinks, AreNodes, FaultOf, IsTopology, are_ends, find_link, find_node, is_after, is_channel, is_distinct, is_link, is_link_at, is_node_at, is_node_id, joins, receiver_of, row_of, sender_of};
 
 use crate::copies::{Copied, copy_all};
 use crate::ids::{Fibre, LinkId, NodeId, OutOfMemory};
@@ -218,8 +219,18 @@ impl Topology {
     {
         match self.link(link) {
             None => false,
-            Some(link) => { (link.low == a && link.high == b) || (link.low == b && link.high == a) }
+            Some(link) => are_ends(link, a, b),
         }
+    }
+
+    /// Whether a channel leads from one node to the other: whether they are two nodes that a link joins.
+    pub fn is_channel(&self, from: NodeId, to: NodeId) -> bool
+        ensures { result ≡ is_channel self.now from to }
+    {
+        is_node_id(&self.nodes, from)
+            && is_node_id(&self.nodes, to)
+            && from != to
+            && are_joined(&self.links, from, to)
     }
 }
 
@@ -235,6 +246,20 @@ impl Copied for Topology {
             links,
         })
     }
+}
+
+// Whether the two are the ends of the link, whichever of them is the low one.
+fn are_ends(link: &LinkSpec, a: NodeId, b: NodeId) -> bool
+    ensures { result ≡ are_ends link.now.low link.now.high a b }
+{
+    (link.low == a && link.high == b) || (link.low == b && link.high == a)
+}
+
+// Whether one of the links joins the two.
+fn are_joined(links: &[LinkSpec], a: NodeId, b: NodeId) -> bool
+    ensures { result ≡ list_any (λ l. are_ends l.low l.high a b) links.now }
+{
+    links.iter().any(|link| are_ends(link, a, b))
 }
 
 fn is_node_at(nodes: &[NodeSpec], i: usize) -> bool
