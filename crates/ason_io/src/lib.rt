@@ -2,6 +2,7 @@
 #![tactic(auto)]
 
 pub mod adapters;
+pub mod gate;
 pub mod memory;
 pub mod sink;
 pub mod source;
@@ -9,6 +10,7 @@ pub mod sure;
 pub mod whole;
 
 pub use adapters::{StdSink, StdSource};
+pub use gate::{Gate, NoGate};
 pub use memory::{MemSink, MemSource};
 pub use sink::Sink;
 pub use source::{Failed, Source};
