@@ -3,6 +3,7 @@
 
 pub mod checksum;
 pub mod cursor;
+pub mod hex;
 pub mod objects;
 pub mod pushes;
 pub mod routes;
@@ -10,6 +11,7 @@ pub mod tlv;
 
 pub use checksum::internet_checksum;
 pub use cursor::Cursor;
+pub use hex::{hex_digit, push_hex, read_hex};
 pub use objects::put_header;
 pub use pushes::{push_u8, push_u16, push_u24, push_u32, put_u8, put_u16, put_u24, put_u32};
 pub use routes::{read_steps, write_steps};

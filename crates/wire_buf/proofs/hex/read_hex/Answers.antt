@@ -1,0 +1,10 @@
+use Rattle.wire_buf.proofs.HexDigits.{pair_read}
+use Rattle.wire_buf.proofs.hex.read_hex.Goals as goal
+
+pub bytes-preserved : goal.bytes-preserved
+bytes-preserved c =
+    let long = c.in-len2-up.len_at_least in
+    let digits = c.in-Some-Some in
+    let more = c.in_ok-push-in-len2-up.ensures.items in
+    pair_read c.bytes.bytes.items _ c.args.text.now c.bytes.rest.now digits.high digits.low long
+    digits.ensures digits.ensures' more c.bytes.invariant
