@@ -5,6 +5,7 @@
 pub mod arrivals;
 pub mod changes;
 pub mod commands;
+pub mod constants;
 pub mod events;
 pub mod failures;
 pub mod limits;

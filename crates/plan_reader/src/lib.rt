@@ -3,6 +3,7 @@
 
 mod calls;
 mod commands;
+pub mod constants;
 pub mod faults;
 mod forms;
 pub mod limits;

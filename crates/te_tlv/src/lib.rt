@@ -1,6 +1,7 @@
 //! Rows of links as Link TLVs (RFC 3630, RFC 4203).
 #![tactic(auto)]
 
+pub mod constants;
 pub mod laws;
 pub mod reading;
 pub mod srlgs;

@@ -2,6 +2,7 @@
 #![tactic(auto)]
 
 pub mod checksum;
+pub mod constants;
 pub mod cursor;
 pub mod hex;
 pub mod objects;
