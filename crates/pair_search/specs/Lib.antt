@@ -1,0 +1,4 @@
+pub mod Certificates
+pub mod Checks
+pub mod Claims
+pub mod Pairs
