@@ -8,6 +8,7 @@ import unittest
 from pathlib import Path
 
 from .support import TOP
+from .test_index import crates, sections
 
 PAGES = ["README.md", *sorted(f"docs/{path.name}" for path in (TOP / "docs").glob("*.md"))]
 PICTURES = {
@@ -54,6 +55,84 @@ class DocsTest(unittest.TestCase):
     def test_the_pages_about_tools_have_consoles(self) -> None:
         for page in PICTURES:
             self.assertGreater(len(commands(page)), 5)
+
+
+class PagesTest(unittest.TestCase):
+    """What several pages say, or a page and the code, is the same."""
+
+    def page(self, name: str) -> str:
+        return (TOP / name).read_text()
+
+    def first_column(self, text: str) -> list[str]:
+        """The words in code of the first column of the tables."""
+        return re.findall(r"^\| `(\w+)` \|", text, re.MULTILINE)
+
+    def test_the_states_of_a_call_are_those_of_the_code(self) -> None:
+        body = re.search(r"pub enum CallState \{(.*?)\}", self.page("crates/ason_base/src/calls.rt"), re.DOTALL)
+        states = re.findall(r"^    (\w+),", body[1], re.MULTILINE)
+        states = [state.lower() for state in states]
+        self.assertEqual(self.first_column(self.page("docs/calls.md").split("\n## ")[0]), states)
+        told = re.search(r"^\| STATE \| ([^:]*):", self.page("docs/formats.md"), re.MULTILINE)
+        self.assertCountEqual(re.findall(r"`(\w+)`", told[1]), states)
+
+    def test_the_causes_are_those_of_the_table(self) -> None:
+        formats = self.page("docs/formats.md")
+        own = re.findall(r"`(\w+)`", re.search(r"^\| CAUSE \| `-`, (.*), the name of a code", formats, re.MULTILINE)[1])
+        codes = re.findall(r"`(\w+)`", re.search(r"^The names of codes are (.*?);", formats, re.MULTILINE)[1])
+        # A torn LSP is of no call any more.
+        told = sections(self.page("docs/calls.md"), "##")["Causes"]
+        self.assertCountEqual(self.first_column(told), {*own, *codes} - {"torn"})
+
+    def test_the_glossary_has_the_words_of_protection(self) -> None:
+        told = re.findall(r"^\| ([^|]+) \|", sections(self.page("docs/first-plan.md"), "##")["Glossary"], re.MULTILINE)
+        words = {word for row in told for word in row.split(", ")}
+        self.assertLessEqual({"bare", "guarded", "turned", "stuck", "blocked", "backup", "SRLG", "wait", "quiet"}, words)
+
+    def test_what_settles_is_told_alike(self) -> None:
+        whole = "every desk is empty,? and every message and every row of a link is acknowledged"
+        for page in ("README.md", "docs/DECISIONS.md", "docs/first-plan.md", "docs/formats.md"):
+            self.assertRegex(self.page(page), whole)
+
+    def test_the_crates_of_the_rules_are_one_list(self) -> None:
+        layout = self.page("docs/layout.md")
+        marked = re.findall(r"^\| `(\w+)` \|[^|]*\|[^|]*\*\*the code of the rules\*\*", layout, re.MULTILINE)
+        row = re.search(r"^\| code \| a crate of the rules: ([^;]*);", layout, re.MULTILINE)
+        self.assertEqual(re.findall(r"\[(\w+)\]", row[1]), marked)
+        self.assertIn("[layout.md](layout.md#where-a-rule-is)", self.page("docs/DECISIONS.md"))
+
+    def test_the_list_above_the_crates_is_whole(self) -> None:
+        listed = re.findall(r"^\[\w+\]\(#.*$", self.page("docs/crates.md"), re.MULTILINE)
+        self.assertEqual([re.findall(r"\[(\w+)\]", line) for line in listed], [list(crates())])
+
+    def test_each_clause_of_a_law_is_told(self) -> None:
+        told, seen = sections(self.page("docs/crates.md"), "##"), 0
+        law = re.compile(r"^pub fn \w+\(\)((?:\n    (?:ensures|requires) .*)+)\n\{", re.MULTILINE)
+        for path in (TOP / "crates").glob("*/src/laws.rt"):
+            crate = path.parents[1].name
+            for clauses in law.findall(path.read_text()):
+                for name in re.findall(r"ensures (\w+) \{", clauses):
+                    seen += 1
+                    with self.subTest(crate=crate, clause=name):
+                        self.assertIn(f"`{name}`", told[crate])
+        self.assertGreater(seen, 50)
+
+    def test_each_clause_that_is_told_is_there(self) -> None:
+        words = re.findall(r"`(\w+)`", sections(self.page("docs/calls.md"), "##")["Causes"])
+        everywhere = set(words)
+        named: dict[str, set[str]] = {}
+        for crate in crates():
+            files = [path.read_text() for path in (TOP / "crates" / crate).rglob("*") if path.suffix in (".rt", ".antt")]
+            text = "\n".join(files)
+            named[crate] = set(re.findall(r"\b(?:ensures|requires|ghost|fn) (\w+)", text)) | set(re.findall(r"^ *pub (\w+) :", text, re.MULTILINE))
+            everywhere |= set(re.findall(r"^(?:(?:abbrev|unfoldable|pub) )*([a-z]\w*) *:", text, re.MULTILINE))
+        for crate, text in sections(self.page("docs/crates.md"), "##").items():
+            told = {name for inner in re.findall(r"\(([^()]*)\)", text) for name in re.findall(r"`([a-z]\w*)`", inner)}
+            with self.subTest(crate=crate):
+                self.assertEqual(told - named.get(crate, set()) - everywhere, set())
+
+    def test_the_readme_begins_with_five_sentences(self) -> None:
+        first = self.page("README.md").split("\n\n")[1]
+        self.assertEqual(len(re.split(r"\. (?=[A-Z])", first)), 5)
 
 
 if __name__ == "__main__":
