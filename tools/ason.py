@@ -7,11 +7,14 @@
         print(call.name, call.state, call.cause)
 
 `run` answers the process's status, the tables of each `show` and of the end, and the `unsettled` lines. `decode` answers
-what is told of lines of RSVP messages. The program is the one that the environment variable ASON names, or the one that
+what is told of lines of RSVP messages, `route` the least route between two nodes and its backup. `plan_of_graph` makes a
+plan of a graph of networkx; `text` of a plan is what `run` and `route` take. The program is the one that the environment variable ASON names, or the one that
 the script `ason` of this repository has built. Put the folder of this file into PYTHONPATH.
 """
 
 from ason_tools.errors import ToolError
+from ason_tools.graphs import plan_of_graph
+from ason_tools.plan import Link, Node, Plan
 from ason_tools.program import (
     DONE,
     EVENT_LIMIT,
@@ -19,8 +22,10 @@ from ason_tools.program import (
     TOO_LONG,
     Run,
     decode,
+    route,
     run,
 )
+from ason_tools.routes_told import Route, Routes
 from ason_tools.tables import (
     Call,
     Hold,
@@ -45,18 +50,25 @@ __all__ = [
     "Call",
     "Hold",
     "Leg",
+    "Link",
     "Lsp",
     "Message",
     "NoMessage",
+    "Node",
     "ObjectLine",
     "Output",
+    "Plan",
     "Refused",
+    "Route",
+    "Routes",
     "Run",
     "Stopped",
     "Table",
     "ToolError",
     "Unsettled",
     "decode",
+    "plan_of_graph",
     "read",
+    "route",
     "run",
 ]

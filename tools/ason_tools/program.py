@@ -6,8 +6,9 @@ from dataclasses import dataclass
 from functools import cache
 from pathlib import Path
 
-from . import tables
+from . import routes_told, tables
 from .errors import ToolError
+from .routes_told import Routes
 from .tables import Output, Refused, Stopped, Table, Unsettled
 
 REPOSITORY = Path(__file__).resolve().parents[2]
@@ -82,24 +83,34 @@ class Run:
 
 def run(plan: str | bytes) -> Run:
     """Runs `ason run` on this plan. A ToolError says that the program couldn't be run or built."""
-    return _start("run", plan)
+    return _run("run", plan)
+
+
+def route(plan: str | bytes, source: str, target: str) -> Routes:
+    """Runs `ason route` on this plan, between the nodes of these names. A ToolError says that it tells no routes, and why."""
+    return routes_told.read(_start(("route", source, target), plan)[1])
 
 
 def decode(lines: str | bytes) -> Run:
     """Runs `ason decode` on these lines of hexadecimal digits."""
-    return _start("decode", lines)
+    return _run("decode", lines)
 
 
-def _start(word: str, given: str | bytes) -> Run:
+def _run(word: str, given: str | bytes) -> Run:
+    status, text = _start((word,), given)
+    return Run(status, text, tables.read(text))
+
+
+def _start(words: tuple[str, ...], given: str | bytes) -> tuple[int, str]:
+    """The status and the output of the program with these words."""
     path = program_path()
     data = given.encode("utf-8", "surrogateescape") if isinstance(given, str) else given
     try:
-        ended = subprocess.run([path, word], input=data, stdout=subprocess.PIPE, env=os.environ | NO_BUILD, check=False)
+        ended = subprocess.run([path, *words], input=data, stdout=subprocess.PIPE, env=os.environ | NO_BUILD, check=False)
     except OSError as error:
         raise ToolError(f"{path} can't be run: {error.strerror}") from error
     if ended.returncode < 0 or ended.returncode in (USAGE, NOT_BUILT, 126, 127):
         raise ToolError(f"{path} couldn't be run: its status is {ended.returncode}")
     if ended.returncode in (READ_FAULT, WRITE_FAULT, OUT_OF_MEMORY):
         raise ToolError(f"{path} came to no end: its status is {ended.returncode}")
-    text = ended.stdout.decode("utf-8", "replace")
-    return Run(ended.returncode, text, tables.read(text))
+    return ended.returncode, ended.stdout.decode("utf-8", "replace")

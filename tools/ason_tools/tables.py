@@ -178,6 +178,15 @@ class Output:
     def tables(self) -> list[Table]:
         return [part for part in self.parts if isinstance(part, Table)]
 
+    def table(self, place: int | None = None) -> Table:
+        """The table at this place, from 1, or the last one."""
+        found = self.tables
+        if not found:
+            raise ToolError("the output has no table")
+        if place is not None and not 1 <= place <= len(found):
+            raise ToolError(f"there is no table {place}: the output has {len(found)}")
+        return found[-1 if place is None else place - 1]
+
     def text(self) -> str:
         return "".join(part.text() for part in self.parts)
 
