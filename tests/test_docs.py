@@ -49,7 +49,9 @@ class DocsTest(unittest.TestCase):
         """What the command prints, in the way that a terminal shows it."""
         if "ASON" in os.environ:
             command = command.replace("./ason ", '"$ASON" ')
-        ended = subprocess.run(["sh", "-c", command], stdout=subprocess.PIPE, stderr=subprocess.STDOUT, cwd=room, check=False)
+        # A page must not start a build.
+        how = {"stdout": subprocess.PIPE, "stderr": subprocess.STDOUT, "env": os.environ | {"ASON_BUILD": "no"}}
+        ended = subprocess.run(["sh", "-c", command], cwd=room, check=False, **how)
         return ended.stdout.decode()
 
     def test_the_pages_about_tools_have_consoles(self) -> None:
