@@ -6,10 +6,11 @@
     for call in run.table.calls:
         print(call.name, call.state, call.cause)
 
-`run` answers the process's status, the tables of each `show` and of the end, and the `unsettled` lines. `decode` answers
-what is told of lines of RSVP messages, `route` the least route between two nodes and its backup. `plan_of_graph` makes a
-plan of a graph of networkx; `text` of a plan is what `run` and `route` take. The program is the one that the environment variable ASON names, or the one that
-the script `ason` of this repository has built. Put the folder of this file into PYTHONPATH.
+`run` answers the process's status, the tables of each `show` and of the end, and the `unsettled` lines. `decode`
+answers what is told of lines of RSVP messages, `route` the least route between two nodes and its backup.
+`plan_of_graph` makes a plan of a graph of networkx; the `text` of a plan is what `run` and `route` take. The program is
+the one that the environment variable ASON names, or the one that the script `ason` of this repository has built. Put
+the folder of this file into PYTHONPATH.
 """
 
 from ason_tools.errors import ToolError

@@ -12,7 +12,7 @@ MOST_NUMBER = 4_294_967_295
 
 
 class Builder:
-    """The plan so far, which titles of nodes became which names, and a sentence on each thing that was left out or merged."""
+    """The plan so far, which titles became which names, and a sentence on each thing that was left out or merged."""
 
     def __init__(self) -> None:
         self.plan = Plan()
@@ -36,7 +36,9 @@ class Builder:
         self._by_title.setdefault(title, name)
         self.plan.nodes.append(Node(name, len(self.plan.nodes) + 1, convert, position))
 
-    def add_link(self, key: object, ends: tuple[Hashable, Hashable], labels: int, metric: int, srlgs: Iterable[int]) -> None:
+    def add_link(
+        self, key: object, ends: tuple[Hashable, Hashable], labels: int, metric: int, srlgs: Iterable[int]
+    ) -> None:
         """A link between these nodes; the key says in sentences which it is."""
         shown = f"link {quoted(key)}"
         missing = next((end for end in ends if end not in self._names), None)

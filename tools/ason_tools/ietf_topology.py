@@ -55,7 +55,8 @@ def build(top: dict[str, Any], wanted: str | None, labels: int, convert: bool) -
     for link, other in _pairs(_links(network, builder), builder):
         srlgs = link.srlgs | (other.srlgs if other else frozenset())
         if other and other.metric != link.metric:
-            builder.notes.append(f"links {quoted(link.key)} and {quoted(other.key)} have different metrics: the first counts")
+            pair = f"{quoted(link.key)} and {quoted(other.key)}"
+            builder.notes.append(f"links {pair} have different metrics: the first counts")
         builder.add_link(link.key, link.ends, labels, link.metric, srlgs)
     return builder
 
@@ -66,7 +67,8 @@ def _chosen(networks: list[Any], wanted: str | None, builder: Builder) -> Any:
         raise ToolError(f"no network has the id {quoted(wanted)}")
     if not networks:
         raise ToolError("it has no network")
-    typed = [number for number, network in enumerate(networks) if _member(_member(network, "network-types") or {}, TE_TYPE) is not None]
+    types = [_member(network, "network-types") for network in networks]
+    typed = [number for number, type_ in enumerate(types) if _member(type_, TE_TYPE) is not None]
     place = ids.index(wanted) if wanted is not None else (typed or [0])[0]
     builder.notes += [f"network {quoted(key)} is left out" for number, key in enumerate(ids) if number != place]
     return networks[place]
