@@ -14,6 +14,7 @@ PAGES = ["README.md", *sorted(f"docs/{path.name}" for path in (TOP / "docs").glo
 PICTURES = {
     "docs/tools.md": {"before.svg": "docs/nsfnet.svg", "blocking.svg": "docs/blocking.svg", "twenty.svg": "docs/twenty.svg"},
     "docs/first-plan.md": {"my.svg": "docs/first-plan.svg"},
+    "docs/restoration.md": {"strip.svg": "docs/restored.svg"},
 }
 
 

@@ -1,6 +1,8 @@
 """What a table says of a plan's links: where each circuit goes, which labels it holds, which fibres are full."""
 
-from dataclasses import dataclass, field
+from collections.abc import Iterable
+from dataclasses import dataclass, field, replace
+from functools import reduce
 
 from .errors import ToolError
 from .plan import Link, Plan
@@ -12,50 +14,54 @@ Fibre = tuple[int, str]
 
 @dataclass(frozen=True)
 class Span:
-    """A circuit on one link, by its working or its backup LSP."""
+    """A circuit on one link, and whether its signal goes over it there."""
 
     circuit: "Circuit"
     link: int
-    is_backup: bool
+    carries: bool
 
 
 @dataclass(frozen=True)
 class Circuit:
-    """A call with its number in the picture and the links of its two LSPs, in the order of the route."""
+    """A call with its number in the picture, the links of its two LSPs along their routes, and the LSP that carries it.
+
+    A turned call is carried by its backup, any other by its working LSP. Nothing carries it where this LSP isn't
+    connected at each node of its route, or a link of it is down.
+    """
 
     number: int
     call: Call
     work: tuple[int, ...]
     backup: tuple[int, ...]
+    carrier: Lsp | None
 
     @property
     def spans(self) -> list[Span]:
-        return [Span(self, link, False) for link in self.work] + [Span(self, link, True) for link in self.backup]
+        """The links of the working LSP, then those of the backup."""
+        routes = ((self.call.work, self.work), (self.call.backup, self.backup))
+        return [Span(self, link, lsp == self.carrier) for lsp, route in routes for link in route]
+
+    @property
+    def is_cut_off(self) -> bool:
+        """Whether the call has a working LSP and nothing carries it."""
+        return self.call.work is not None and self.carrier is None
 
 
 @dataclass(frozen=True)
 class Holder:
-    """Who holds a label: a circuit, or an LSP that no call has any more, and its role."""
+    """Who holds a label: a circuit, or an LSP that no call has any more; and whether the LSP is connected there."""
 
     circuit: Circuit | None
     lsp: Lsp
-    role: str
+    is_connected: bool
 
 
 @dataclass
 class Usage:
-    """All circuits, and of each fibre the holders of its labels."""
+    """All circuits, and of each fibre the holders of its labels: one, or several backups that share it."""
 
     circuits: list[Circuit] = field(default_factory=list)
-    holders: dict[Fibre, dict[int, Holder]] = field(default_factory=dict)
-
-    def spans_by_link(self) -> dict[int, list[Span]]:
-        """The circuits on each link."""
-        by_link: dict[int, list[Span]] = {}
-        for circuit in self.circuits:
-            for span in circuit.spans:
-                by_link.setdefault(span.link, []).append(span)
-        return by_link
+    holders: dict[Fibre, dict[int, list[Holder]]] = field(default_factory=dict)
 
     def full(self, plan: Plan) -> set[Fibre]:
         """The fibres without a free label."""
@@ -63,25 +69,46 @@ class Usage:
         return {fibre for fibre, held in self.holders.items() if len(held) >= labels[fibre[0]]}
 
 
-def usage(plan: Plan, table: Table) -> Usage:
-    """What the table says. It must be one of this plan's network."""
+def usage(plan: Plan, table: Table, failed: frozenset[int] = frozenset()) -> Usage:
+    """What the table says, where these links are down. It must be one of this plan's network."""
     _check(plan, table)
     legs: dict[Lsp, list[Leg]] = {}
     for leg in table.legs:
         legs.setdefault(leg.lsp, []).append(leg)
     links = {link.id: link for link in plan.links}
-    circuits = [
-        Circuit(number, call, _route(links, call.work, legs), _route(links, call.backup, legs))
-        for number, call in enumerate(table.calls, 1)
-    ]
+    circuits = [_circuit(number, call, links, legs, failed) for number, call in enumerate(table.calls, 1)]
+    return Usage(circuits, _holders(circuits, links, table))
+
+
+def _circuit(
+    number: int, call: Call, links: dict[int, Link], legs: dict[Lsp, list[Leg]], failed: frozenset[int]
+) -> Circuit:
+    work, backup = (_route(links, lsp, legs) for lsp in (call.work, call.backup))
+    lsp, route = (call.backup, backup) if call.state == "turned" else (call.work, work)
+    own = legs.get(lsp, []) if lsp else []
+    end = reduce(lambda node, link: links[link].other(node), route, call.source)
+    is_connected = len(own) == len(route) + 1 and end == call.target and all(leg.phase == "live" for leg in own)
+    is_whole = is_connected and failed.isdisjoint(route)
+    return Circuit(number, call, work, backup, lsp if is_whole else None)
+
+
+def _holders(circuits: list[Circuit], links: dict[int, Link], table: Table) -> dict[Fibre, dict[int, list[Holder]]]:
     owners = {lsp: circuit for circuit in circuits for lsp in (circuit.call.work, circuit.call.backup) if lsp}
-    result = Usage(circuits)
+    found: dict[Fibre, dict[int, list[Holder]]] = {}
     for leg in table.legs:
-        holder = Holder(owners.get(leg.lsp), leg.lsp, leg.role)
-        for fibre, hold in _fibres(links, leg):
-            if hold.label is not None:
-                result.holders.setdefault(fibre, {})[hold.label] = holder
-    return result
+        holder = Holder(owners.get(leg.lsp), leg.lsp, leg.phase == "live")
+        for fibre, label in _labels(links, leg):
+            _add(found.setdefault(fibre, {}).setdefault(label, []), holder)
+    return found
+
+
+def _add(held: list[Holder], holder: Holder) -> None:
+    """Adds what a leg at one end of the fibre holds: an LSP is there once, and connected where both its legs are."""
+    for place, other in enumerate(held):
+        if other.lsp == holder.lsp:
+            held[place] = replace(other, is_connected=other.is_connected and holder.is_connected)
+            return
+    held.append(holder)
 
 
 def _check(plan: Plan, table: Table) -> None:
@@ -92,9 +119,10 @@ def _check(plan: Plan, table: Table) -> None:
             raise ToolError(f"the table names the node {name}, which the plan doesn't have")
     ends = {link.id: link.ends for link in plan.links}
     for leg in table.legs:
-        for hold in (leg.incoming, leg.outgoing, leg.back_incoming, leg.back_outgoing):
-            if hold and leg.node not in ends.get(hold.link, ()):
-                raise ToolError(f"the table has a leg of {leg.node} on link {hold.link}, which doesn't end there in the plan")
+        for hold in _holds(leg):
+            if leg.node not in ends.get(hold.link, ()):
+                where = f"a leg of {leg.node} on link {hold.link}"
+                raise ToolError(f"the table has {where}, which doesn't end there in the plan")
 
 
 def _route(links: dict[int, Link], lsp: Lsp | None, legs: dict[Lsp, list[Leg]]) -> tuple[int, ...]:
@@ -110,24 +138,14 @@ def _route(links: dict[int, Link], lsp: Lsp | None, legs: dict[Lsp, list[Leg]]) 
     return tuple(route)
 
 
-def _fibres(links: dict[int, Link], leg: Leg) -> list[tuple[Fibre, Hold]]:
-    """The fibres that the leg is on, each with what it holds there."""
+def _holds(leg: Leg) -> list[Hold]:
+    return [hold for hold in (leg.incoming, leg.outgoing, leg.back_incoming, leg.back_outgoing) if hold]
+
+
+def _labels(links: dict[int, Link], leg: Leg) -> Iterable[tuple[Fibre, int]]:
+    """The labels that the leg holds, each with its fibre: the one that it sends on, or the one that comes in."""
     sent = [hold for hold in (leg.outgoing, leg.back_outgoing) if hold]
     taken = [hold for hold in (leg.incoming, leg.back_incoming) if hold]
-    found = [((hold.link, leg.node), hold) for hold in sent]
-    return found + [((hold.link, links[hold.link].other(leg.node)), hold) for hold in taken]
-
-
-def failed_links(plan: Plan, shows: int | None = None) -> set[int]:
-    """The links that the script has failed and not repaired: at its end, or where this many tables were shown before."""
-    links, srlgs = set(), set()
-    for line in plan.script:
-        words = line.split()
-        if words == ["show"] and shows is not None:
-            if shows == 0:
-                break
-            shows -= 1
-        if len(words) == 3 and words[0] in ("fail", "repair") and words[2].isascii() and words[2].isdigit():
-            group = {"link": links, "srlg": srlgs}.get(words[1], set())
-            (group.add if words[0] == "fail" else group.discard)(int(words[2]))
-    return {link.id for link in plan.links if link.id in links or srlgs.intersection(link.srlgs)}
+    found = [((hold.link, leg.node), hold.label) for hold in sent]
+    found += [((hold.link, links[hold.link].other(leg.node)), hold.label) for hold in taken]
+    return [(fibre, label) for fibre, label in found if label is not None]

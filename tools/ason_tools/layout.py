@@ -8,8 +8,8 @@ from .plan import Plan
 
 Point = tuple[float, float]
 
-_ROUNDS = 60
-"""Rounds of the force layout."""
+_ROUNDS = 30
+"""Rounds of the force layout, which settles in about so many."""
 
 _APART = 0.15
 """The least distance of two nodes, as a share of the box's width, where there is room."""
@@ -18,7 +18,10 @@ _BESIDE = 40.0
 """The least distance of a node and a link that doesn't end there, where there is room."""
 
 _PUSHES = 80
-"""Rounds in which what is too near is pushed apart."""
+"""The most rounds in which what is too near is pushed apart."""
+
+_MOST_LOOKS = 500_000
+"""How often at most, over all rounds, two nodes or a node and a link are looked at."""
 
 
 def layout(plan: Plan, width: float, height: float) -> dict[str, Point]:
@@ -109,51 +112,74 @@ def _apart(plan: Plan, points: dict[str, Point], width: float, height: float) ->
     room = math.sqrt(width * height / max(1, len(points)))
     apart, beside = min(_APART * width, 0.7 * room), min(_BESIDE, 0.2 * room)
     places = {name: list(point) for name, point in points.items()}
-    for _ in range(_PUSHES):
-        for number, (a, b) in enumerate(combinations(places.values(), 2)):
-            _part(a, b, apart, number)
-        for link in plan.links:
-            ends = (places[link.ends[0]], places[link.ends[1]])
-            for name, place in places.items():
-                if name not in link.ends:
-                    _clear(place, ends, beside)
+    looks = len(places) * (len(places) + len(plan.links))
+    for _ in range(max(1, min(_PUSHES, _MOST_LOOKS // looks))):
+        moved = _part_all(list(places.values()), apart)
+        moved |= any([_clear_all(places, link.ends, beside) for link in plan.links])
         for place in places.values():
             place[0] = min(width, max(0.0, place[0]))
             place[1] = min(height, max(0.0, place[1]))
+        if not moved:
+            break
     return {name: (place[0], place[1]) for name, place in places.items()}
 
 
-def _part(a: list[float], b: list[float], apart: float, number: int) -> None:
-    """Moves the two away from each other where they are nearer than this. The number gives a way to two at one point."""
+def _part_all(places: list[list[float]], apart: float) -> bool:
+    """Moves every two that are nearer than this away from each other. Tells whether there were any."""
+    near = [
+        (a, b, number)
+        for number, (a, b) in enumerate(combinations(places, 2))
+        if abs(a[0] - b[0]) < apart and abs(a[1] - b[1]) < apart
+    ]
+    return any([_part(a, b, apart, number) for a, b, number in near])
+
+
+def _part(a: list[float], b: list[float], apart: float, number: int) -> bool:
+    """Moves the two apart where they are nearer than this. The number gives a way to two at one point."""
     east, north = b[0] - a[0], b[1] - a[1]
     distance = math.hypot(east, north)
     if distance >= apart:
-        return
+        return False
     if distance < 1e-9:
         east, north, distance = math.cos(number), math.sin(number), 1.0
     move = (apart - distance) / distance / 2
     for place, way in ((a, -move), (b, move)):
         place[0] += way * east
         place[1] += way * north
+    return True
 
 
-def _clear(place: list[float], ends: tuple[list[float], list[float]], beside: float) -> None:
+def _clear_all(places: dict[str, list[float]], ends: tuple[str, str], beside: float) -> bool:
+    """Moves each node that the link between these two passes too near away from it. Tells whether there were any."""
+    start, end = places[ends[0]], places[ends[1]]
+    west, east = min(start[0], end[0]) - beside, max(start[0], end[0]) + beside
+    north, south = min(start[1], end[1]) - beside, max(start[1], end[1]) + beside
+    near = [
+        place
+        for name, place in places.items()
+        if west < place[0] < east and north < place[1] < south and name not in ends
+    ]
+    return any([_clear(place, (start, end), beside) for place in near])
+
+
+def _clear(place: list[float], ends: tuple[list[float], list[float]], beside: float) -> bool:
     """Moves the node and the link apart where it passes nearer than this: the node most, the ends a little."""
     (x1, y1), (x2, y2) = ends
     wide, high = x2 - x1, y2 - y1
     square = wide * wide + high * high
     if square < 1e-9:
-        return
+        return False
     share = ((place[0] - x1) * wide + (place[1] - y1) * high) / square
     if not 0.0 < share < 1.0:
-        return
+        return False
     length = math.sqrt(square)
     aside = ((place[1] - y1) * wide - (place[0] - x1) * high) / length
     if abs(aside) >= beside:
-        return
+        return False
     move = math.copysign(beside - abs(aside), aside) / length / 2
     place[0] -= move * high
     place[1] += move * wide
     for end in ends:
         end[0] += move * high / 4
         end[1] -= move * wide / 4
+    return True

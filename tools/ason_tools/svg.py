@@ -1,7 +1,7 @@
 """SVG, element by element."""
 
 from collections.abc import Iterable
-from xml.sax.saxutils import escape, quoteattr
+from html import escape
 
 Value = str | int | float
 
@@ -33,7 +33,7 @@ class Drawing:
         self._add("circle", {"cx": x, "cy": y, "r": radius}, style)
 
     def text(self, x: float, y: float, text: str, size: float, **style: Value) -> None:
-        self._add("text", {"x": x, "y": y, "font-size": size}, style, escape(text))
+        self._add("text", {"x": x, "y": y, "font-size": size}, style, escape(text, quote=False))
 
     def outlined(self, x: float, y: float, text: str, size: float, **style: Value) -> None:
         """A text with a white edge, so that it reads over lines."""
@@ -44,12 +44,12 @@ class Drawing:
         """The whole document."""
         width, height = map(_text, self._size)
         head = f'<svg xmlns="http://www.w3.org/2000/svg" width="{width}" height="{height}" viewBox="0 0 {width} {height}"'
-        lines = [f'{head} font-family="{FONT}">', f"<title>{escape(self._title)}</title>", *self._elements, "</svg>"]
+        lines = [f'{head} font-family="{FONT}">', f"<title>{escape(self._title, quote=False)}</title>", *self._elements, "</svg>"]
         return "\n".join(lines) + "\n"
 
     def _add(self, name: str, places: dict[str, Value], style: dict[str, Value], content: str | None = None) -> None:
         attributes = places | {key.replace("_", "-"): value for key, value in style.items()}
-        written = " ".join(f"{key}={quoteattr(_text(value))}" for key, value in attributes.items())
+        written = " ".join(f'{key}="{escape(_text(value))}"' for key, value in attributes.items())
         self._elements.append(f"<{name} {written}/>" if content is None else f"<{name} {written}>{content}</{name}>")
 
 
