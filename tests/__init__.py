@@ -1,4 +1,4 @@
-"""Tests of the tools beside `ason`: `python3 -m unittest` at the top of the repository.
+"""Tests of `ason` and of the tools beside it: `python3 -m unittest` at the top of the repository.
 
 The program is the one that the environment variable ASON names, or the one that the script `ason` has built.
 """

@@ -5,7 +5,7 @@ use Rattle.std.specs.Io.KnownBytes.{Appends, Consumes}
 use Rattle.ason_io.specs.Faults.{Rose}
 use Rattle.ason_io.specs.Reading.{WasReadToEnd}
 use Rattle.plan_reader.specs.declared.plan.Plan.{Plan}
-use Rattle.ason_main.specs.declared.ason.Status.{Status}
+use Rattle.ason_main.specs.declared.answers.Status.{Status}
 use Rattle.ason_main.specs.Answers.{Decode, Request, Route, Run}
 use Rattle.ason_main.specs.Answers.{Done, EventLimit, PlanRefused, ReadFault, Reply, TooLong, Unfinished, Usage}
 use Rattle.ason_main.specs.Answers.{EndsTooLong, EndsWell, HasReadFew, IsComplete, IsDecodeReply, IsDoneOrOutOfMemory, IsEnd, IsJudged, IsReadAndJudged, IsReply, IsReplyFor, IsReplyTo, IsRouteReply, IsRunReply, WasGiven, request_of, status_of}

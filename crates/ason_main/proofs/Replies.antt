@@ -8,7 +8,7 @@ use Rattle.ason_io.specs.Faults.{Rose}
 use Rattle.plan_reader.specs.declared.plan.Plan.{Plan}
 use Rattle.plan_reader.specs.Plans.{PlanOf}
 use Rattle.table_text.specs.TableText.{stopped_text}
-use Rattle.ason_main.specs.declared.ason.Status.{Status}
+use Rattle.ason_main.specs.declared.answers.Status.{Status}
 use Rattle.ason_main.specs.Answers.{Decode, Done, EventLimit, Reply, Request, Route, Run, Unfinished, Usage}
 use Rattle.ason_main.specs.Answers.{IsAnswered, IsReply, IsReplyFor, IsReplyTo, WasToldOrNothing, request_of}
 use Rattle.ason_main.specs.Outputs.{IsBegun, IsTheOutput}

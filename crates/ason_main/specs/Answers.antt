@@ -4,8 +4,8 @@ use Rattle.std.specs.Io.KnownBytes.{Appends}
 use Rattle.ason_io.specs.Faults.{Rose}
 use Rattle.ason_io.specs.Reading.{HasRead, WasReadToEnd}
 use Rattle.plan_reader.specs.declared.plan.Plan.{Plan}
-use Rattle.ason_main.specs.declared.ason.Status.{Status}
-use Rattle.ason_main.specs.declared.ason.Task.{Task}
+use Rattle.ason_main.specs.declared.answers.Status.{Status}
+use Rattle.ason_main.specs.declared.answers.Task.{Task}
 use Rattle.ason_base.specs.declared.ids.NodeId.{NodeId}
 use Rattle.plan_reader.specs.declared.faults.PlanFault.{PlanFault}
 use Rattle.message_text.specs.DecodeText.{IsDecodeText}

@@ -1,8 +1,8 @@
 use Rattle.std.proofs.Common.{subst}
-use Rattle.ason_main.specs.declared.ason.Status.{Status}
+use Rattle.ason_main.specs.declared.answers.Status.{Status}
 use Rattle.ason_main.specs.Answers.{PlanRefused, Route, Run, WasTold}
 use Rattle.ason_main.proofs.Replies.{no_memory}
-use Rattle.ason_main.proofs.ason.refuse.Goals as goal
+use Rattle.ason_main.proofs.answers.refuse.Goals as goal
 
 pub returns-in-Ok-clause-run : goal.returns-in-Ok-clause-run
 returns-in-Ok-clause-run g c bs plan = (

@@ -1,6 +1,6 @@
 use Rattle.std.proofs.Common.{map, string_bytes}
 use Rattle.ason_main.proofs.Complete.{is_complete}
-use Rattle.ason_main.proofs.ason.ason.Goals as goal
+use Rattle.ason_main.proofs.answers.ason.Goals as goal
 
 pub returns-clause-complete : goal.returns-clause-complete
 returns-clause-complete g c =

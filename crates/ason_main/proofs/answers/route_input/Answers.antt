@@ -1,6 +1,6 @@
 use Rattle.ason_main.specs.Answers.{Route}
 use Rattle.ason_main.proofs.Replies.{no_memory}
-use Rattle.ason_main.proofs.ason.route_input.Goals as goal
+use Rattle.ason_main.proofs.answers.route_input.Goals as goal
 
 pub returns-in-Err-OutOfMemory : goal.returns-in-Err-OutOfMemory
 returns-in-Err-OutOfMemory g c =

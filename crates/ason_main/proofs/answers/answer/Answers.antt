@@ -4,7 +4,7 @@ use Rattle.std.proofs.KnownBytes.{Appends-nil}
 use Rattle.ason_main.specs.Answers.{IsJudged, ReadFault, TooLong, Unfinished, Usage, request_for}
 use Rattle.ason_main.proofs.Complete.{judged_reply}
 use Rattle.ason_main.proofs.Replies.{reply_read, usage_reply}
-use Rattle.ason_main.proofs.ason.answer.Goals as goal
+use Rattle.ason_main.proofs.answers.answer.Goals as goal
 
 pub returns-in_default : goal.returns-in_default
 returns-in_default g c = (

@@ -1,13 +1,8 @@
-//! `ason`: the controllers of an optical network.
+//! The program `ason`: the words and the standard input go to the top call, and what it writes to the standard output.
 #![tactic(auto)]
 
-mod ason;
-mod runner;
-mod table_rows;
-#[cfg(test)]
-mod tests;
-
 use ason_io::{StdSink, StdSource};
+use ason_main::{Status, ason};
 use std::env;
 use std::io::ErrorKind;
 use std::process::ExitCode;
@@ -21,9 +16,9 @@ fn main(rt: HostRuntime) -> ExitCode {
         Err(_) => None,
     };
     let Some(words) = words else {
-        return ExitCode::from(ason::Status::OutOfMemory.code());
+        return ExitCode::from(Status::OutOfMemory.code());
     };
     let mut src = StdSource::new(rt.stdin().lock());
     let mut out = StdSink::new(rt.stdout());
-    ExitCode::from(ason::ason(alloc, &words, &mut src, &mut out).code())
+    ExitCode::from(ason(alloc, &words, &mut src, &mut out).code())
 }

@@ -1,5 +1,5 @@
 use Rattle.ason_main.proofs.Replies.{ended, failed, stopped, unfinished}
-use Rattle.ason_main.proofs.ason.run.Goals as goal
+use Rattle.ason_main.proofs.answers.run.Goals as goal
 
 pub returns-in-Ended : goal.returns-in-Ended
 returns-in-Ended g c bs plan =

@@ -1,8 +1,8 @@
 use Rattle.std.proofs.Common.{subst}
-use Rattle.ason_main.specs.declared.ason.Status.{Status}
+use Rattle.ason_main.specs.declared.answers.Status.{Status}
 use Rattle.ason_main.specs.Answers.{Decode, Done, WasTold}
 use Rattle.ason_main.proofs.Replies.{no_memory}
-use Rattle.ason_main.proofs.ason.decode_input.Goals as goal
+use Rattle.ason_main.proofs.answers.decode_input.Goals as goal
 
 pub returns-in-Ok : goal.returns-in-Ok
 returns-in-Ok g c = (

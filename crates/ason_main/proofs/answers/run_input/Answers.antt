@@ -1,6 +1,6 @@
 use Rattle.ason_main.specs.Answers.{Run}
 use Rattle.ason_main.proofs.Replies.{no_memory}
-use Rattle.ason_main.proofs.ason.run_input.Goals as goal
+use Rattle.ason_main.proofs.answers.run_input.Goals as goal
 
 pub returns-in-Err-OutOfMemory : goal.returns-in-Err-OutOfMemory
 returns-in-Err-OutOfMemory g c = no_memory g.K.Sink.written g.K.Sink.faults Run c.args.bytes.now c.args.out.now

@@ -1,0 +1,8 @@
+//! What `ason` does with its words and its input: it runs plans over a fleet of stations, and tells routes and messages.
+#![tactic(auto)]
+
+pub mod answers;
+mod runner;
+mod table_rows;
+
+pub use answers::{Status, ason};
