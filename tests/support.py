@@ -5,6 +5,8 @@ import sys
 from dataclasses import dataclass
 from pathlib import Path
 
+from ason_tools.program import program_path
+
 TOP = Path(__file__).resolve().parents[1]
 TOOLS = TOP / "tools"
 EXAMPLES = TOP / "examples"
@@ -24,6 +26,13 @@ def tool(name: str, *words: str, given: bytes | str = b"", folder: Path | str = 
     data = given.encode() if isinstance(given, str) else given
     command = [sys.executable, str(TOOLS / name), *words]
     ended = subprocess.run(command, input=data, capture_output=True, cwd=folder, check=False)
+    return Ended(ended.returncode, ended.stdout.decode(), ended.stderr.decode())
+
+
+def ason_told(*words: str, given: bytes | str = b"") -> Ended:
+    """Runs the program with these words and this standard input."""
+    data = given.encode() if isinstance(given, str) else given
+    ended = subprocess.run([program_path(), *words], input=data, capture_output=True, check=False)
     return Ended(ended.returncode, ended.stdout.decode(), ended.stderr.decode())
 
 

@@ -13,6 +13,7 @@ INDEX = "**In the sources"
 PARTS = ["definition", "code", "at a node", "along the route", "wrong body", "test"]
 ANTT = r"^\s*(?:(?:abbrev|unfoldable|pub|record|data)\s+)*{}\s*(?:[:({{]|$)"
 RATTLE = r"\b(?:fn|struct|enum|const|type|trait)\s+{}\b"
+FORMS = {".antt": ANTT, ".rt": RATTLE, ".py": r"^ *def {}\b"}
 NAME = r"[A-Za-z_][\w-]*"
 # Words in small letters that are joined, or two and more that begin with a capital: such names are of the sources alone.
 JOINED = r"[a-z][a-z0-9]*(?:[_-][a-z0-9_-]+)+|(?:[A-Z][a-z0-9]+){2,}"
@@ -27,7 +28,7 @@ def declares(path: Path, name: str) -> bool:
     """Whether the file declares the name; a wrong body is named by its file."""
     if path.suffix == ".edit":
         return path.stem == name
-    form = ANTT if path.suffix == ".antt" else RATTLE
+    form = FORMS[path.suffix]
     return re.search(form.format(re.escape(name)), path.read_text(), re.MULTILINE) is not None
 
 
@@ -53,6 +54,8 @@ def names_in_sources() -> set[str]:
                 found |= {part, path.name, path.stem}
                 if path.suffix in (".rt", ".antt"):
                     found |= set(re.findall(NAME, path.read_text()))
+    for path in (TOP / "tests").glob("test_*.py"):
+        found |= {path.stem, *re.findall(r"def (\w+)", path.read_text())}
     return found | {BY_HAND.name} | {path.stem for path in BY_HAND.rglob("*.edit")}
 
 
@@ -77,7 +80,7 @@ class IndexTest(unittest.TestCase):
         for page in PAGES:
             for text, target in links((TOP / page).read_text()):
                 path = (TOP / page).parent / target
-                if re.fullmatch(r"`[^`]+`", text) and path.suffix in (".antt", ".rt", ".edit"):
+                if re.fullmatch(r"`[^`]+`", text) and path.suffix in (*FORMS, ".edit"):
                     seen += 1
                     with self.subTest(page=page, name=text, target=target):
                         self.assertTrue(declares(path, text.strip("`")))

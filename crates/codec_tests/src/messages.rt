@@ -1,7 +1,7 @@
-//! Whole messages, both ways, and what is no message.
+//! Whole messages, both ways.
 
 use ason_base::{DecodeError, NodeId};
-use rsvp_messages::{Fate, ObjectLine, decode, encode, is_writable, objects};
+use rsvp_messages::{decode, encode, is_writable};
 use std::alloc::Global;
 use std::test::Fail;
 
@@ -94,64 +94,5 @@ fn written_forms_come_back(rt: HostRuntime) -> Result<(), Fail> {
         let written = again(rt.alloc(), sender, bytes)?.ok_or("a message")?;
         assert_eq!(rt; written.as_slice(), bytes);
     }
-    Ok(())
-}
-
-#[test]
-fn checksums(rt: HostRuntime) -> Result<(), Fail> {
-    let mut without = ACK;
-    without[2] = 0;
-    without[3] = 0;
-    let written = again(rt.alloc(), 1, &without)?.ok_or("a message")?;
-    assert_eq!(rt; written.as_slice(), ACK.as_slice());
-    let mut wrong = ACK;
-    wrong[3] = 0xCC;
-    assert!(rt; again(rt.alloc(), 1, &wrong)?.is_none());
-    assert!(rt; again(rt.alloc(), 1, &ACK[..19])?.is_none(), "cut short");
-    Ok(())
-}
-
-#[test]
-fn a_session_at_the_end(rt: HostRuntime) -> Result<(), Fail> {
-    let mut moved = Vec::from_slice(rt.alloc(), &TEAR[..20])?;
-    moved.extend_from_slice(&TEAR[36..])?;
-    moved.extend_from_slice(&TEAR[20..36])?;
-    let written = again(rt.alloc(), 1, &moved)?.ok_or("a message")?;
-    assert_eq!(rt; written.as_slice(), TEAR.as_slice());
-    Ok(())
-}
-
-// Without a checksum, and with the length that it has.
-#[test]
-fn a_session_that_comes_twice(rt: HostRuntime) -> Result<(), Fail> {
-    let mut twice = Vec::from_slice(rt.alloc(), &TEAR)?;
-    twice.extend_from_slice(&TEAR[20..36])?;
-    twice[2] = 0;
-    twice[3] = 0;
-    twice[7] = 0x58;
-    assert!(rt; again(rt.alloc(), 1, &twice)?.is_none());
-    Ok(())
-}
-
-#[test]
-fn lists_objects(rt: HostRuntime) -> Result<(), Fail> {
-    let lines = objects(rt.alloc(), &RESV).ok().ok_or("a message")?;
-    let line = |class, ctype, length, fate| ObjectLine {
-        class,
-        ctype,
-        length,
-        fate,
-    };
-    let expected = [
-        line(23, 1, 12, Fate::Read),
-        line(1, 7, 16, Fate::Read),
-        line(3, 3, 24, Fate::Read),
-        line(5, 1, 8, Fate::Carried),
-        line(8, 1, 8, Fate::Carried),
-        line(9, 2, 36, Fate::Carried),
-        line(10, 7, 12, Fate::Read),
-        line(16, 2, 8, Fate::Read),
-    ];
-    assert_eq!(rt; lines.as_slice(), expected.as_slice());
     Ok(())
 }

@@ -1,54 +1,13 @@
 //! The objects of RSVP-TE's messages, both ways.
 
-use ason_base::{ErrCode, Label, LabelSet, LinkId, MsgId, NodeId, Step, Steps};
+use ason_base::{ErrCode, Label, LabelSet, LinkId, MsgId, NodeId};
 use rsvp_objects::{
-    ErrorSpec, HopObject, LabelRequest, LabelSetObject, SenderRef, Session, read_error, read_hop,
-    read_id, read_label_set, read_route, read_sender, read_session, write_ack, write_error,
-    write_error_ipv4, write_filter, write_hop, write_id, write_label, write_label_set,
-    write_request, write_route, write_sender, write_session, write_upstream,
+    ErrorSpec, LabelRequest, LabelSetObject, SenderRef, read_error, read_label_set, write_ack,
+    write_error, write_error_ipv4, write_filter, write_label, write_label_set, write_request,
+    write_upstream,
 };
 use std::process::Abort;
 use std::test::Fail;
-
-// The objects of a PathTear, number 5, of LSP 1.1.2 with egress 3, sent by node 1 over link 2.
-const TEAR: [u8; 64] = [
-    0x00, 0x0C, 0x17, 0x01, 0x01, 0x00, 0x00, 0x01, 0x00, 0x00, 0x00, 0x05, 0x00, 0x10, 0x01, 0x07,
-    0x00, 0x00, 0x00, 0x03, 0x00, 0x00, 0x00, 0x01, 0x00, 0x00, 0x00, 0x01, 0x00, 0x18, 0x03, 0x03,
-    0x00, 0x00, 0x00, 0x01, 0x00, 0x00, 0x00, 0x00, 0x00, 0x03, 0x00, 0x0C, 0x00, 0x00, 0x00, 0x01,
-    0x00, 0x00, 0x00, 0x02, 0x00, 0x0C, 0x0B, 0x07, 0x00, 0x00, 0x00, 0x01, 0x00, 0x00, 0x00, 0x02,
-];
-
-#[test]
-fn objects_of_a_tear(rt: HostRuntime) -> Result<(), Fail> {
-    let id = MsgId {
-        epoch: 1,
-        number: 5,
-    };
-    let session = Session {
-        endpoint: NodeId(3),
-        tunnel: 1,
-        extended: 1,
-    };
-    let hop = HopObject {
-        sender: NodeId(1),
-        link: LinkId(2),
-    };
-    let sender = SenderRef {
-        sender: NodeId(1),
-        lsp: 2,
-    };
-    let mut out = Vec::new(rt.alloc());
-    write_id(&mut out, &id)?;
-    write_session(&mut out, &session)?;
-    write_hop(&mut out, &hop)?;
-    write_sender(&mut out, &sender)?;
-    assert_eq!(rt; out.as_slice(), TEAR.as_slice());
-    assert_eq!(rt; read_id(&TEAR[4..12]), Some(id));
-    assert_eq!(rt; read_session(&TEAR[16..28]), Some(session));
-    assert_eq!(rt; read_hop(&TEAR[32..52]), Some(hop));
-    assert_eq!(rt; read_sender(&TEAR[56..]), Some(sender));
-    Ok(())
-}
 
 #[test]
 fn other_objects(rt: HostRuntime) -> Result<(), Fail> {
@@ -98,44 +57,6 @@ fn other_objects(rt: HostRuntime) -> Result<(), Fail> {
     assert_eq!(rt; out.as_slice(), expected.as_slice());
     assert_eq!(rt; read_error(&expected[76..]), Some(about));
     Ok(())
-}
-
-#[test]
-fn routes(rt: HostRuntime) -> Result<(), Fail> {
-    let step = Step {
-        node: NodeId(1),
-        link: LinkId(2),
-    };
-    let mut steps = Steps::new(rt.alloc());
-    steps.push(step)?;
-    let mut out = Vec::new(rt.alloc());
-    write_route(&mut out, &steps)?;
-    assert_eq!(rt;
-        out.as_slice(),
-        [0, 16, 20, 1, 4, 12, 0, 0, 0, 0, 0, 1, 0, 0, 0, 2].as_slice()
-    );
-    let read = read_route(rt.alloc(), &[4, 12, 0, 0, 0, 0, 0, 1, 0, 0, 0, 2])
-        .ok()
-        .ok_or("a route")?;
-    assert_eq!(rt; read.items(), [step].as_slice());
-    Ok(())
-}
-
-// TLVs of an RSVP_HOP after address and handle: one of another type and odd length, its padding, and an IF_INDEX.
-#[test]
-fn hops_with_other_tlvs(rt: HostRuntime) {
-    let body = [
-        0, 0, 0, 1, 9, 9, 9, 9, 0, 7, 0, 5, 1, 8, 8, 8, 0, 3, 0, 12, 0, 0, 0, 4, 0, 0, 0, 2,
-    ];
-    assert_eq!(rt;
-        read_hop(&body),
-        Some(HopObject {
-            sender: NodeId(1),
-            link: LinkId(2)
-        })
-    );
-    assert_eq!(rt; read_hop(&body[..16]), None, "without IF_INDEX");
-    assert_eq!(rt; read_hop(&body[..24]), None, "an IF_INDEX past the end");
 }
 
 fn check(rt: &impl Abort, body: &[u8], include: bool, low: u8, high: u8) {

@@ -1,2 +1,0 @@
-pub mod Ingresses
-pub mod Orders
