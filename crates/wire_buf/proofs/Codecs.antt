@@ -1,9 +1,10 @@
 -- What a reader and a writer show at each of their ends.
-use Rattle.std.proofs.Common.{◌≡◌, Some, None, Result, Ok, Err, ap, ◌<◌, ◌+◌, ◌++◌, ℕ, List, length, IsErr}
+use Rattle.std.proofs.Common.{◌≡◌, Some, None, Result, Ok, Err, ap, sym, ◌∙◌, ◌<◌, ◌+◌, ◌++◌, ℕ, List, length, IsErr, OnOk}
 use Rattle.std.proofs.Common.{vec_len, vec_capacity}
 use Rattle.std.specs.Global.{Vec}
+use Rattle.ason_base.specs.declared.messages.DecodeError.{DecodeError}
 use Rattle.ason_base.specs.declared.messages.DecodeError.TheVariants.{NotMessage}
-use Rattle.wire_buf.specs.Codecs.{Appends, Decodes, Reads}
+use Rattle.wire_buf.specs.Codecs.{Appends, Decodes, HasOneMeaning, Reads}
 
 module _ {X : Type 0} {Means : X → Type 0} where
   -- None, since the bytes mean nothing
@@ -16,6 +17,11 @@ module _ {X : Type 0} {Means : X → Type 0} where
 
   pub decodes_none : ((x : X) → Means x → ⊥) → Decodes Means (Err NotMessage)
   decodes_none none = record { found = tt; only = λ x means. tt; not_message = λ e. none }
+
+  -- Where bytes are read, they have one meaning.
+  pub one_meaning : (r : Result X DecodeError) → Decodes Means r → OnOk r (HasOneMeaning Means)
+  one_meaning (Ok z) decodes = λ x y means other. sym (decodes.only x means) ∙ decodes.only y other
+  one_meaning (Err e) decodes = tt
 
   pub decodes_some : (x : X) → Means x → ((y : X) → Means y → x ≡ y) → Decodes Means (Ok x)
   decodes_some x means once = record { found = means; only = once; not_message = λ e y other. absurd cc }

@@ -17,6 +17,10 @@ pub record Decodes {X : Type 0} (Means : X → Type 0) (result : Result X Decode
   pub only : (x : X) → Means x → IfOk result (λ read. read ≡ x)
   pub not_message : IsErrOf result NotMessage → (x : X) → Means x → ⊥
 
+-- Bytes have one meaning at most.
+abbrev pub HasOneMeaning : {X : Type 0} → (X → Type 0) → Type 0
+HasOneMeaning {X} Means = (x y : X) → Means x → Means y → x ≡ y
+
 -- These bytes come behind those that were there. After want of memory nothing has changed, and it comes only where the
 -- room was too small.
 pub record Appends {X E : Type 0} (old new : Vec ℕ) (bytes : List ℕ) (result : Result X E) : Type 0 where
