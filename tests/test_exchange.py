@@ -16,8 +16,7 @@ from .test_commands import BAD_FILES
 
 ALPS = json.loads((EXAMPLES / "alps.json").read_text())
 
-# Three nodes in a ring, as an appendix of RFC 8345 has them: without anything of traffic engineering, and without the names of
-# modules before members.
+# Three nodes in a ring, without anything of traffic engineering, and without the names of modules before members.
 RING = {
     "networks": {
         "network": [
