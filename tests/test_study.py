@@ -27,10 +27,39 @@ class StudyTest(unittest.TestCase):
             self.assertLessEqual(int(most), max(0, int(load) - 2))
         self.assertEqual(rows[-1], ["40", "36.0", "36", "36", "90.0%"])
 
+    def test_protected_calls_hold_wavelengths_for_their_backups(self) -> None:
+        twice = PAIR + '[[link]]\nid = 2\nends = ["a", "b"]\nlabels = 80\n'
+        words = ("--protected", "--labels", "80", "--most", "6", "--step", "3", "--trials", "2")
+        # All calls are over link 1, so their backups over link 2 can share nothing.
+        head, *rows = self.study(*words, plan=twice)
+        self.assertEqual(head, ["calls", "blocked", "bare", "working", "shared", "apart", "saved"])
+        self.assertEqual(rows, [["3", "0.0", "0.0", "3.0", "3.0", "3.0", "0.0%"], ["6", "0.0", "0.0", "6.0", "6.0", "6.0", "0.0%"]])
+        # Without a second link there is no backup.
+        self.assertEqual(self.study(*words, plan=PAIR)[1], ["3", "0.0", "3.0", "3.0", "0.0", "0.0", "0.0%"])
+
+    def test_backups_share_wavelengths(self) -> None:
+        # On a ring of three a call has one link, and its backup the two others.
+        ring = PAIR + '[[link]]\nid = 2\nends = ["a", "c"]\nlabels = 80\n[[link]]\nid = 3\nends = ["b", "c"]\nlabels = 80\n'
+        ring = ring.replace("[[link]]", '[[node]]\nname = "c"\nid = 3\n[[link]]', 1)
+        _, row = self.study("--protected", "--labels", "80", "--most", "20", "--step", "20", "--trials", "1", plan=ring)
+        self.assertEqual((row[3], row[5]), ("20.0", "40.0"))
+        self.assertLess(float(row[4]), 40.0)
+        # A wavelength is shared by at most one call of each of the two links that its own link can stand in for.
+        self.assertGreaterEqual(float(row[4]), 20.0)
+
     def test_the_picture_has_a_point_for_each_load(self) -> None:
         ended = tool("study-load", "-", "--most", "12", "--step", "3", "--trials", "1", "--svg", given=PAIR)
         self.assertEqual(ended.status, 0)
         self.assertEqual(len(ElementTree.fromstring(ended.out).findall("{*}circle")), 4)
+
+    def test_the_picture_of_protected_calls_has_two_lines(self) -> None:
+        words = ("--most", "4", "--step", "2", "--trials", "1", "--protected", "--svg")
+        ended = tool("study-load", "-", *words, given=PAIR)
+        self.assertEqual(ended.status, 0)
+        root = ElementTree.fromstring(ended.out)
+        self.assertEqual(len(root.findall("{*}circle")), 4)
+        texts = [text.text for text in root.findall("{*}text")]
+        self.assertIn("each backup its own", texts)
 
     def test_what_can_not_be_studied(self) -> None:
         apart = PAIR[: PAIR.index("[[link]]")]

@@ -41,6 +41,10 @@ class Circuit:
         routes = ((self.call.work, self.work), (self.call.backup, self.backup))
         return [Span(self, link, lsp == self.carrier) for lsp, route in routes for link in route]
 
+    def carries_over(self, link: int) -> bool:
+        """Whether the call's signal goes over this link."""
+        return any(span.carries and span.link == link for span in self.spans)
+
     @property
     def is_cut_off(self) -> bool:
         """Whether the call has a working LSP and nothing carries it."""

@@ -7,8 +7,9 @@ from dataclasses import dataclass
 from itertools import pairwise
 
 from . import toml_places
+from .errors import quoted
 from .files import MARK, place_of
-from .plan import MOST_LABELS, MOST_LINES, MOST_LINKS, MOST_METRIC, MOST_NODES
+from .plan import MOST_LABELS, MOST_LINES, MOST_LINKS, MOST_METRIC, MOST_NODES, MOST_SRLGS
 from .tables import Refused
 from .toml_places import Placed
 
@@ -17,7 +18,6 @@ NODE = {"name": str, "id": int, "convert": bool}
 LINK = {"id": int, "ends": list, "labels": int, "metric": int, "srlg": list}
 MOST_ID = 4_294_967_295
 MOST_WAIT = 10_000
-MOST_SRLGS = 16
 
 
 @dataclass(frozen=True)
@@ -166,14 +166,14 @@ def _ends(top: Placed, row: Placed, entry: str) -> str:
     ends = [end.value for end in row.value["ends"].items()]
     unknown = next((end for end in ends if end not in names), None)
     if unknown is not None:
-        return f"{entry} ends at {_quoted(unknown)}, and no node of the plan has this name"
-    return f"both ends of {entry} are {_quoted(ends[0])}"
+        return f"{entry} ends at {quoted(unknown)}, and no node of the plan has this name"
+    return f"both ends of {entry} are {quoted(ends[0])}"
 
 
 def _unknown_key(table: Placed, keys: dict[str, type], entry: str) -> Finding:
     for key, value in table.value.items():
         if key not in keys:
-            return value.at, f"{entry} has the key {_quoted(key)}, and the keys are {', '.join(keys)}"
+            return value.at, f"{entry} has the key {quoted(key)}, and the keys are {', '.join(keys)}"
     return None, f"{entry} has a key that isn't one of {', '.join(keys)}"
 
 
@@ -213,9 +213,9 @@ def _in_line(top: Placed, row: Placed, number: int, refused: Refused) -> str:
     """The sentence on a script line."""
     words = [word for word in str(row.value).split(" ") if word]
     details: dict[str, Callable[[], str | None]] = {
-        "name": lambda: f"{_quoted(words[1])} is no name: a letter and up to 15 more letters, digits, _ or -",
+        "name": lambda: f"{quoted(words[1])} is no name: a letter and up to 15 more letters, digits, _ or -",
         "node": lambda: _unknown_node(top, words),
-        "same": lambda: f"the call begins and ends at {_quoted(words[2])}",
+        "same": lambda: f"the call begins and ends at {quoted(words[2])}",
         "call": lambda: _call_fault(words),
         "route": lambda: _route_fault(top, words),
         "backup": lambda: _backup_fault(top, words),
@@ -244,13 +244,13 @@ _RANGES = {
 def _unknown_node(top: Placed, words: list[str]) -> str | None:
     names = _node_names(top)
     unknown = next((word for word in words[2:4] if word not in names), None)
-    return None if unknown is None else f"no node of the plan has the name {_quoted(unknown)}"
+    return None if unknown is None else f"no node of the plan has the name {quoted(unknown)}"
 
 
 def _call_fault(words: list[str]) -> str:
     if words[0] == "setup":
-        return f"a setup before has the name {_quoted(words[1])}"
-    return f"no setup before has the name {_quoted(words[1])}"
+        return f"a setup before has the name {quoted(words[1])}"
+    return f"no setup before has the name {quoted(words[1])}"
 
 
 def _routes(words: list[str]) -> dict[str, list[int]]:
@@ -326,10 +326,3 @@ def _meaning(refused: Refused) -> str:
     """What a kind means at any place."""
     word = (refused.entry or "").partition(" ")[0]
     return _MEANINGS.get(f"{word} {refused.kind}", f"{refused.entry} has a fault of the kind {refused.kind}")
-
-
-def _quoted(text: object) -> str:
-    shown = str(text)
-    return ascii(shown if len(shown) <= 40 else shown[:40] + "..")
-
-

@@ -1,12 +1,15 @@
 """A plan from a topology, with a word on each thing that became another."""
 
-from dataclasses import dataclass
+from dataclasses import dataclass, replace
+import math
 
-from . import graphml, sndlib
-from .errors import ToolError
+from . import gml, graphml, sndlib
+from .ducts import ducts
+from .errors import ToolError, listed, quoted
 from .files import as_text
 from .names import Namer
-from .plan import MOST_LINKS, MOST_METRIC, MOST_NODES, MOST_SETUPS, Link, Node, Plan
+from .plan import MOST_LINKS, MOST_METRIC, MOST_NODES, MOST_SETUPS, MOST_SRLGS, Link, Node, Plan
+from .risks import srlgs_of
 from .routes import by_hops, by_metric, least_route
 from .topology import Demand, Edge, Topology, number_of
 from .xml_tree import read_tree
@@ -16,8 +19,9 @@ from .xml_tree import read_tree
 class Wishes:
     """How the plan is to be made.
 
-    `metric` names an attribute, of which `per` make one unit of the metric. With `settle` each setup comes to its end before
-    the next is posted.
+    `metric` names an attribute, of which `per` make one unit of the metric. `srlg` names the attribute that has an edge's
+    SRLGs; spans at most `duct` kilometres apart get one for their duct. A demand is a setup for each `units` of it. With
+    `settle` each setup comes to its end before the next is posted.
     """
 
     labels: int = 80
@@ -27,6 +31,10 @@ class Wishes:
     calls: tuple[tuple[str, str], ...] = ()
     routes_given: bool = True
     settle: bool = False
+    protected: bool = False
+    srlg: str | None = None
+    duct: float | None = None
+    units: float | None = None
 
 
 @dataclass
@@ -43,8 +51,10 @@ def read_topology(data: bytes) -> Topology:
     head = data.removeprefix(b"\xef\xbb\xbf").lstrip()
     if head.startswith(sndlib.NATIVE_HEAD.encode()):
         return sndlib.read_native(as_text(data, "it").lstrip())
+    if gml.is_gml(head):
+        return gml.read(as_text(head, "it"))
     if not head.startswith((b"<", b"\xff\xfe", b"\xfe\xff")):
-        raise ToolError("it is neither GraphML nor a network of SNDlib")
+        raise ToolError("it is neither GraphML nor GML nor a network of SNDlib")
     root = read_tree(data)
     if root.tag == "graphml":
         return graphml.read(root)
@@ -55,15 +65,19 @@ def read_topology(data: bytes) -> Topology:
 
 def make_plan(topology: Topology, wishes: Wishes) -> Planned:
     """The plan of the topology. Its setups are the demands and then the calls that are wished for."""
-    notes: list[str] = []
+    notes = list(topology.notes)
     edges = _edges(topology, notes)
     _check_size(topology, len(edges))
     nodes, renamed = _nodes(topology, wishes)
     names = {site.key: node.name for site, node in zip(topology.sites, nodes)}
     plan = Plan(nodes)
-    for number, edge in enumerate(edges, 1):
+    risks, named = srlgs_of(edges, wishes.srlg)
+    for number, (edge, srlgs) in enumerate(zip(edges, risks), 1):
         ends = (names[edge.ends[0]], names[edge.ends[1]])
-        plan.links.append(Link(number, ends, wishes.labels, _metric(edge, wishes)))
+        plan.links.append(Link(number, ends, wishes.labels, _metric(edge, wishes), srlgs))
+    renamed += named
+    if wishes.duct is not None:
+        _add_ducts(plan, wishes.duct, notes)
     demands = topology.demands + _wished(topology, names, wishes)
     renamed += _add_setups(plan, demands, names, wishes, notes)
     return Planned(plan, renamed, notes)
@@ -83,7 +97,7 @@ def _nodes(topology: Topology, wishes: Wishes) -> tuple[list[Node], list[tuple[s
     namer, nodes, renamed, keys = Namer("n"), [], [], set()
     for number, site in enumerate(topology.sites, 1):
         if site.key in keys:
-            raise ToolError(f"two nodes have the id {_quoted(site.key)}")
+            raise ToolError(f"two nodes have the id {quoted(site.key)}")
         keys.add(site.key)
         name = namer.name(site.title)
         if name != site.title:
@@ -93,7 +107,7 @@ def _nodes(topology: Topology, wishes: Wishes) -> tuple[list[Node], list[tuple[s
 
 
 def _edges(topology: Topology, notes: list[str]) -> list[Edge]:
-    """The edges that become links: none from a node to itself, and in a directed file one for two ways that belong together."""
+    """The edges that become links: none from a node to itself, and one for two directed ones that belong together."""
     known = {site.key for site in topology.sites}
     kept: list[Edge] = []
     unmatched: dict[tuple[str, str], int] = {}
@@ -101,20 +115,34 @@ def _edges(topology: Topology, notes: list[str]) -> list[Edge]:
     for edge in topology.edges:
         missing = next((end for end in edge.ends if end not in known), None)
         if missing is not None:
-            raise ToolError(f"edge {_quoted(edge.key)} ends at {_quoted(missing)}, which is no node of the file")
+            raise ToolError(f"edge {quoted(edge.key)} ends at {quoted(missing)}, which is no node of the file")
         if edge.ends[0] == edge.ends[1]:
-            notes.append(f"edge {_quoted(edge.key)} is a loop and is left out")
+            notes.append(f"edge {quoted(edge.key)} is a loop and is left out")
             continue
-        if topology.directed and unmatched.get(edge.ends[::-1], 0) > 0:
+        if edge.is_directed and unmatched.get(edge.ends[::-1], 0) > 0:
             unmatched[edge.ends[::-1]] -= 1
             continue
-        unmatched[edge.ends] = unmatched.get(edge.ends, 0) + 1
+        if edge.is_directed:
+            unmatched[edge.ends] = unmatched.get(edge.ends, 0) + 1
         pair = frozenset(edge.ends)
         if pair in joined:
-            notes.append(f"edges {_quoted(joined[pair])} and {_quoted(edge.key)} join the same nodes: each is a link")
+            notes.append(f"edges {quoted(joined[pair])} and {quoted(edge.key)} join the same nodes: each is a link")
         joined.setdefault(pair, edge.key)
         kept.append(edge)
     return kept
+
+
+def _add_ducts(plan: Plan, apart: float, notes: list[str]) -> None:
+    """Gives the links of each duct an SRLG, above those that there are."""
+    first = max((srlg for link in plan.links for srlg in link.srlgs), default=0) + 1
+    for srlg, duct in enumerate(ducts(plan, apart), first):
+        for link in duct:
+            plan.links[link.id - 1] = replace(plan.links[link.id - 1], srlgs=(*plan.links[link.id - 1].srlgs, srlg))
+        *others, last = (str(link.id) for link in duct)
+        notes.append(f"links {', '.join(others)} and {last} lie in one duct: SRLG {srlg}")
+    crowded = next((link for link in plan.links if len(link.srlgs) > MOST_SRLGS), None)
+    if crowded is not None:
+        raise ToolError(f"link {crowded.id} would have {len(crowded.srlgs)} SRLGs, and a link has at most {MOST_SRLGS}")
 
 
 def _metric(edge: Edge, wishes: Wishes) -> int:
@@ -123,18 +151,14 @@ def _metric(edge: Edge, wishes: Wishes) -> int:
         return 1
     text = edge.attributes.get(wishes.metric)
     if text is None:
-        raise ToolError(f"edge {_quoted(edge.key)} has no {_quoted(wishes.metric)}; it has {_listed(edge)}")
+        raise ToolError(f"edge {quoted(edge.key)} has no {quoted(wishes.metric)}; it has {listed(edge.attributes)}")
     number = number_of(text)
     if number is None or number < 0:
-        raise ToolError(f"the {wishes.metric} of edge {_quoted(edge.key)} is {_quoted(text)}, no number from 0 on")
+        raise ToolError(f"the {wishes.metric} of edge {quoted(edge.key)} is {quoted(text)}, no number from 0 on")
     metric = number / wishes.per
     if metric > MOST_METRIC:
-        raise ToolError(f"edge {_quoted(edge.key)} would have the metric {metric:g}, above {MOST_METRIC:,} (--per makes it less)")
+        raise ToolError(f"edge {quoted(edge.key)} would have the metric {metric:g}, above {MOST_METRIC:,} (--per makes it less)")
     return max(1, round(metric))
-
-
-def _listed(edge: Edge) -> str:
-    return ", ".join(_quoted(name) for name in sorted(edge.attributes)[:12]) or "no attribute"
 
 
 def _wished(topology: Topology, names: dict[str, str], wishes: Wishes) -> list[Demand]:
@@ -147,8 +171,8 @@ def _wished(topology: Topology, names: dict[str, str], wishes: Wishes) -> list[D
     for number, call in enumerate(wishes.calls, 1):
         missing = next((end for end in call if end not in keys), None)
         if missing is not None:
-            raise ToolError(f"{_quoted(missing)} is no node of the file")
-        demands.append(Demand(f"c{number}", keys[call[0]], keys[call[1]]))
+            raise ToolError(f"{quoted(missing)} is no node of the file")
+        demands.append(Demand(f"c{number}", keys[call[0]], keys[call[1]], wishes.units))
     return demands
 
 
@@ -161,24 +185,34 @@ def _add_setups(
     for demand in demands:
         missing = next((end for end in (demand.source, demand.target) if end not in names), None)
         if missing is not None:
-            raise ToolError(f"demand {_quoted(demand.key)} ends at {_quoted(missing)}, which is no node of the file")
+            raise ToolError(f"demand {quoted(demand.key)} ends at {quoted(missing)}, which is no node of the file")
         source, target = names[demand.source], names[demand.target]
         route = least_route(plan, source, target, cost)
-        if not route:
-            reason = "has one node at both ends" if source == target else "has no route of at most 63 links"
-            notes.append(f"demand {_quoted(demand.key)} {reason} and is left out")
+        count = _setups_of(demand, wishes)
+        if not route or count == 0:
+            wanting = "has one node at both ends" if source == target else "has no route of at most 63 links"
+            notes.append(f"demand {quoted(demand.key)} {'asks for nothing' if route else wanting} and is left out")
             continue
-        name = namer.name(demand.key)
-        if name != demand.key:
-            renamed.append(("call", demand.key, name))
-        via = " via " + ",".join(str(link.id) for link in route) if wishes.routes_given else ""
-        setups.append(f"setup {name} {source} {target} unprotected{via}")
-    if len(setups) > MOST_SETUPS:
-        raise ToolError(f"it has {len(setups)} demands, and a plan has at most {MOST_SETUPS:,} setups")
+        if len(setups) + count > MOST_SETUPS:
+            needed = f"its demands need {len(setups) + count:,} setups or more"
+            raise ToolError(f"{needed}, and a plan has at most {MOST_SETUPS:,}")
+        given = [namer.name(demand.key) for _ in range(count)]
+        renamed += [("call", demand.key, given[0])] if given[0] != demand.key else []
+        setups += [f"setup {name} {source} {target}{_kind(route, wishes)}" for name in given]
     plan.script = [line for setup in setups for line in ([setup, "settle 1000"] if wishes.settle else [setup])]
     return renamed
 
 
-def _quoted(text: str) -> str:
-    """The text as a sentence shows it: in one line and not too long."""
-    return ascii(text if len(text) <= 40 else text[:40] + "..")
+def _kind(route: list[Link], wishes: Wishes) -> str:
+    """The words of a setup behind its nodes."""
+    kind = "" if wishes.protected else " unprotected"
+    return kind + (" via " + ",".join(str(link.id) for link in route) if wishes.routes_given else "")
+
+
+def _setups_of(demand: Demand, wishes: Wishes) -> int:
+    """How many setups the demand is: one, or one for each wished unit that it needs."""
+    if wishes.units is None:
+        return 1
+    if demand.amount is None or demand.amount < 0:
+        raise ToolError(f"demand {quoted(demand.key)} has no amount from 0 on, of which --units could make setups")
+    return math.ceil(demand.amount / wishes.units - 1e-9)

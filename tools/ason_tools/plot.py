@@ -1,6 +1,7 @@
 """A plot of counts against a load, as SVG."""
 
 import math
+from collections.abc import Callable
 from dataclasses import dataclass
 
 from .svg import Drawing
@@ -10,7 +11,7 @@ LEFT, RIGHT, TOP, BOTTOM = 70.0, 30.0, 56.0, 60.0
 INK = "#212529"
 SOFT = "#868e96"
 FAINT = "#dee2e6"
-PAINT = "#1f77b4"
+PAINTS = ("#1f77b4", "#e67700", "#2ca02c")
 
 
 @dataclass(frozen=True)
@@ -23,9 +24,18 @@ class Row:
     most: int
 
 
-def draw(rows: list[Row], title: str, x_name: str, y_name: str) -> str:
-    """The means as a line, in a band from the least to the greatest."""
-    widest, highest = max(row.x for row in rows), max(1, *(row.most for row in rows))
+@dataclass(frozen=True)
+class Series:
+    """A name and its rows."""
+
+    name: str
+    rows: list[Row]
+
+
+def draw(series: list[Series], title: str, x_name: str, y_name: str) -> str:
+    """The means of each series as a line, in a band from the least to the greatest. Several have their names beside them."""
+    every = [row for it in series for row in it.rows]
+    widest, highest = max(row.x for row in every), max(1, *(row.most for row in every))
     drawing = Drawing(WIDTH, HEIGHT, title)
 
     def at(x: float, y: float) -> tuple[float, float]:
@@ -39,14 +49,22 @@ def draw(rows: list[Row], title: str, x_name: str, y_name: str) -> str:
         drawing.line(*at(x, 0), at(x, 0)[0], at(x, 0)[1] + 5, stroke=SOFT)
         drawing.text(at(x, 0)[0], HEIGHT - BOTTOM + 20, str(x), 12, fill=SOFT, text_anchor="middle")
     drawing.line(*at(0, 0), *at(widest, 0), stroke=SOFT)
-    band = [at(row.x, row.most) for row in rows] + [at(row.x, row.least) for row in reversed(rows)]
-    drawing.polygon(band, fill=PAINT, fill_opacity=0.18)
-    drawing.polyline([at(row.x, row.mean) for row in rows], stroke=PAINT, stroke_width=2.5)
-    for row in rows:
-        drawing.circle(*at(row.x, row.mean), 4, fill=PAINT)
+    for place, it in enumerate(series):
+        _line(drawing, it.rows, at, PAINTS[place])
+        if len(series) > 1:
+            drawing.text(LEFT + 16, TOP + 18 + 18 * place, it.name, 13, fill=PAINTS[place], font_weight="bold")
     drawing.text((LEFT + WIDTH - RIGHT) / 2, HEIGHT - 16, x_name, 13, fill=INK, text_anchor="middle")
     drawing.text(LEFT, TOP - 8, f"{y_name}: mean, and least to greatest", 13, fill=INK)
     return drawing.document()
+
+
+def _line(drawing: Drawing, rows: list[Row], at: Callable[[float, float], tuple[float, float]], paint: str) -> None:
+    """The means, each with a point, in their band."""
+    band = [at(row.x, row.most) for row in rows] + [at(row.x, row.least) for row in reversed(rows)]
+    drawing.polygon(band, fill=paint, fill_opacity=0.18)
+    drawing.polyline([at(row.x, row.mean) for row in rows], stroke=paint, stroke_width=2.5)
+    for row in rows:
+        drawing.circle(*at(row.x, row.mean), 4, fill=paint)
 
 
 def _ticks(greatest: int) -> list[int]:

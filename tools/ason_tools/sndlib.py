@@ -5,7 +5,7 @@ from collections.abc import Iterator
 from xml.etree.ElementTree import Element
 
 from .errors import ToolError
-from .topology import Demand, Edge, Site, Topology, position_of
+from .topology import Demand, Edge, Site, Topology, number_of, position_of
 from .xml_tree import text_of
 
 NATIVE_HEAD = "?SNDlib native format"
@@ -37,7 +37,8 @@ def read_xml(root: Element) -> Topology:
         attributes = {name: text for name, text in found.items() if text}
         topology.edges.append(Edge(_id(link, "link", number), _xml_ends(link, f"link {number}"), attributes))
     for number, demand in enumerate(root.iterfind("demands/demand"), 1):
-        topology.demands.append(Demand(_id(demand, "demand", number), *_xml_ends(demand, f"demand {number}")))
+        ends, amount = _xml_ends(demand, f"demand {number}"), number_of(text_of(demand, "demandValue") or "")
+        topology.demands.append(Demand(_id(demand, "demand", number), *ends, amount))
     return topology
 
 
@@ -111,8 +112,8 @@ def _native_edge(entry: Entry) -> Edge:
 
 def _native_demand(entry: Entry) -> Demand:
     """`ID ( A B ) ROUTING_UNIT VALUE MAX_PATH_LENGTH`."""
-    key, ends, _ = _joined(entry, "demand")
-    return Demand(key, *ends)
+    key, ends, rest = _joined(entry, "demand")
+    return Demand(key, *ends, number_of(rest[1]) if len(rest) > 1 else None)
 
 
 def _joined(entry: Entry, kind: str) -> tuple[str, tuple[str, str], list[str]]:

@@ -6,6 +6,11 @@ from math import isfinite
 Position = tuple[float, float]
 """Where a node is: to the east and to the north. For a place on the globe longitude and latitude, in degrees."""
 
+TITLES = ("label", "name", "Label", "Name")
+EAST = ("Longitude", "longitude", "lon", "x")
+NORTH = ("Latitude", "latitude", "lat", "y")
+"""The attributes of a node that are its title and its position, in order of preference."""
+
 FARTHEST = 1e9
 """The greatest coordinate that counts as one."""
 
@@ -21,30 +26,37 @@ class Site:
 
 @dataclass(frozen=True)
 class Edge:
-    """A line of the file between two nodes, with the texts of its attributes."""
+    """A line of the file between two nodes, with the texts of its attributes. A directed one is one direction of a link."""
 
     key: str
     ends: tuple[str, str]
     attributes: dict[str, str] = field(default_factory=dict)
+    is_directed: bool = False
 
 
 @dataclass(frozen=True)
 class Demand:
-    """A wish for a connection from one node to another."""
+    """A wish for a connection from one node to another, and how much of the file's unit it needs, where that is told."""
 
     key: str
     source: str
     target: str
+    amount: float | None = None
 
 
 @dataclass
 class Topology:
-    """All that is read of a topology file, in its order. In a directed file each edge is one direction."""
+    """All that is read of a topology file, in its order, and a sentence on each thing that wasn't read."""
 
     sites: list[Site] = field(default_factory=list)
     edges: list[Edge] = field(default_factory=list)
     demands: list[Demand] = field(default_factory=list)
-    directed: bool = False
+    notes: list[str] = field(default_factory=list)
+
+
+def first_of(attributes: dict[str, str], names: tuple[str, ...]) -> str | None:
+    """The first of these attributes that is there and isn't empty."""
+    return next((attributes[name] for name in names if attributes.get(name)), None)
 
 
 def number_of(text: str) -> float | None:
