@@ -3,7 +3,7 @@
 
 use crate::nodes::inputs::{A, B, C, Said, input};
 use crate::nodes::outs::{Told, tells};
-use ason_base::codes::{FULL, LABEL, ROUTE, SET, TORN};
+use ason_base::codes::{BUSY, DOWN, FULL, LABEL, ROUTE, SET, TORN};
 use ason_base::{
     CallState, Cause, ErrCode, LinkId, LinkSpec, Msg, NodeId, NodeSpec, Numbers, Outs, Phase,
     TeRow, Topology,
@@ -84,6 +84,13 @@ const CONVERTING: &[Case] = &[
         B,
         &[(1, 1, &[Said::Path(B, &[], 0)])],
         &[(A, Told::Error(SET))],
+        NOTHING,
+    ),
+    // a Path that comes in over a fibre that the node knows to be down
+    (
+        B,
+        &[(1, 1, &[Said::Alarm, Said::Path(C, ON, 1)])],
+        &[(A, Told::Error(DOWN))],
         NOTHING,
     ),
     // a node of 4,096 legs, whatever the route; an ingress of so many
@@ -243,6 +250,19 @@ const CONVERTING: &[Case] = &[
         )],
         &[(C, Told::BackupPath(2, 1))],
         (1, Some(Phase::Held), None),
+    ),
+    // two backups share the label of link 1, since their primaries go over links 1 and 2; while the
+    // one is activated the other is refused, and stays reserved
+    (
+        B,
+        &[
+            (1, 1, &[Said::BackupOn(false), Said::Resv(C, 2, 1)]),
+            (2, 2, &[Said::BackupPath(&[(2, 2)], false)]),
+            (1, 1, &[Said::BackupOn(true)]),
+            (2, 2, &[Said::BackupPath(&[(2, 2)], true)]),
+        ],
+        &[(A, Told::Error(BUSY))],
+        (2, Some(Phase::Held), None),
     ),
     (
         A,

@@ -1,8 +1,8 @@
 //! Inputs of the nodes of a line.
 
 use ason_base::{
-    CallNo, Command, DeskItem, ErrCode, Label, LabelSet, LinkId, Lsp, Msg, NodeId, PathRole, Step,
-    Steps,
+    CallNo, Command, DeskItem, ErrCode, Fibre, Label, LabelSet, LinkId, Lsp, Msg, NodeId, PathRole,
+    Step, Steps,
 };
 use node_core::Input;
 use std::alloc::Global;
@@ -30,8 +30,9 @@ pub(super) enum Said {
     Release,
     /// A Path from a over link 1: its egress, its steps, and how many labels it has.
     Path(NodeId, &'static [(u32, u32)], u8),
-    /// A Path of a backup from a over link 1 to b, with one label: the route of its primary.
-    BackupPath(&'static [(u32, u32)]),
+    /// A Path of a backup from a over link 1 to b, with one label: the route of its primary, and
+    /// whether it activates.
+    BackupPath(&'static [(u32, u32)], bool),
     /// A Path of a backup from a over b to c, with one label, whose primary goes over link 1; and
     /// whether it activates.
     BackupOn(bool),
@@ -45,6 +46,8 @@ pub(super) enum Said {
     BackupErr(NodeId, ErrCode),
     /// A PathTear from a over link 1.
     Tear,
+    /// An alarm of the fibre of link 1 from a to b.
+    Alarm,
 }
 
 fn steps(alloc: Global, hops: &[(u32, u32)]) -> Result<Steps, Fail> {
@@ -163,9 +166,14 @@ fn backup_path(lsp: Lsp, egress: NodeId, route: Steps, active: bool, primary: St
     Input::Message { from: A, msg }
 }
 
-fn backup_to_b(alloc: Global, number: u16, primary: &[(u32, u32)]) -> Result<Input, Fail> {
+fn backup_to_b(
+    alloc: Global,
+    number: u16,
+    primary: &[(u32, u32)],
+    active: bool,
+) -> Result<Input, Fail> {
     let primary = steps(alloc, primary)?;
-    Ok(backup_path(lsp(number), B, Steps::new(alloc), false, primary))
+    Ok(backup_path(lsp(number), B, Steps::new(alloc), active, primary))
 }
 
 fn backup_on(alloc: Global, number: u16, active: bool) -> Result<Input, Fail> {
@@ -205,6 +213,13 @@ fn tear(number: u16) -> Input {
     Input::Message { from: A, msg }
 }
 
+fn alarm() -> Input {
+    Input::Desk(DeskItem::Alarm(Fibre {
+        link: LinkId(1),
+        forward: true,
+    }))
+}
+
 /// The input.
 pub(super) fn input(alloc: Global, number: u16, said: Said) -> Result<Input, Fail> {
     match said {
@@ -215,12 +230,13 @@ pub(super) fn input(alloc: Global, number: u16, said: Said) -> Result<Input, Fai
         Said::Protect(call) => Ok(protect(call)),
         Said::Release => Ok(release(number)),
         Said::Path(egress, hops, count) => path(alloc, number, egress, hops, count),
-        Said::BackupPath(primary) => backup_to_b(alloc, number, primary),
+        Said::BackupPath(primary, active) => backup_to_b(alloc, number, primary, active),
         Said::BackupOn(active) => backup_on(alloc, number, active),
         Said::Resv(from, link, label) => resv(lsp(number), from, link, label),
         Said::BackupResv(from, link, label) => resv(backup_lsp(number), from, link, label),
         Said::PathErr(from, code) => Ok(path_err(lsp(number), from, code)),
         Said::BackupErr(from, code) => Ok(path_err(backup_lsp(number), from, code)),
         Said::Tear => Ok(tear(number)),
+        Said::Alarm => Ok(alarm()),
     }
 }

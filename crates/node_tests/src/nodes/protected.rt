@@ -14,13 +14,13 @@ const CASES: &[Case] = &[
     // doesn't know
     (
         B,
-        &[(1, 1, &[Said::BackupPath(&[(1, 2)])])],
+        &[(1, 1, &[Said::BackupPath(&[(1, 2)], false)])],
         &[(A, Told::Resv(1))],
         (1, Some(Phase::Held), None),
     ),
     (
         B,
-        &[(1, 1, &[Said::BackupPath(&[(1, 9)])])],
+        &[(1, 1, &[Said::BackupPath(&[(1, 9)], false)])],
         &[(A, Told::Error(PRIMARY))],
         NOTHING,
     ),
