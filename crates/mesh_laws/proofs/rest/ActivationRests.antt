@@ -33,7 +33,8 @@ use Rattle.mesh_laws.proofs.hops.Views.{leg-there}
 use Rattle.mesh_laws.specs.Weights.{Routes, hops_back}
 use Rattle.mesh_laws.proofs.rest.Committed.{taken_mesh}
 use Rattle.mesh_laws.proofs.rest.RowKinds.{held-none_up}
-use Rattle.mesh_laws.proofs.rest.Near.{LightFor, Part, part-nothing, light-empty, light-both, light-same, light-no_resv, near-down, path-still, resv-marked, deaf-light, one-less, sent-resv}
+use Rattle.mesh_laws.proofs.rest.LegWeights.{path-still, resv-marked, deaf-light, one-less, sent-resv}
+use Rattle.mesh_laws.proofs.rest.Near.{LightFor, Part, part-nothing, light-empty, light-both, light-same, light-no_resv, near-down}
 use Rattle.mesh_laws.proofs.rest.PathRests.{back-is, hop, no-resv, own, mine, fits, left-is}
 
 module _ (t : Network) (q : Purpose) (s : Mesh) (l : Lsp) (p : Plan) (i : ℕ) (route : IsRoute t l.ingress p)

@@ -28,7 +28,8 @@ use Rattle.mesh_laws.proofs.hops.Taken.{up_hop}
 use Rattle.mesh_laws.specs.Weights.{Routes, hops_back}
 use Rattle.mesh_laws.proofs.rest.Places.{place-is}
 use Rattle.mesh_laws.proofs.rest.RowKinds.{no-way_up, path-kinds}
-use Rattle.mesh_laws.proofs.rest.Near.{LightFor, Part, part-nothing, light-empty, light-both, path-still, deaf-light, asked-phase, PrevOf, AtIngress, After, prev-of, resv-some, light-no_path, near-up}
+use Rattle.mesh_laws.proofs.rest.LegWeights.{path-still, deaf-light, asked-phase, PrevOf, prev-of, resv-some, AtIngress, After}
+use Rattle.mesh_laws.proofs.rest.Near.{LightFor, Part, part-nothing, light-empty, light-both, light-no_path, near-up}
 
 module _ (t : Network) (q : Purpose) (s : Mesh) (l : Lsp) (p : Plan) (i : ℕ) (route : IsRoute t l.ingress p)
     (chain : Chain t q l p (leg_at s l) (mail_between s l)) (below : i < hops p)

@@ -59,7 +59,8 @@ use Rattle.mesh_laws.proofs.rest.CallRests.{back-expand, none-expand, pair-expan
 use Rattle.mesh_laws.proofs.rest.Expanded.{Expands, IsKnown, begins-expand, expands-known, expands-more, expands-quiet, first-short}
 use Rattle.mesh_laws.proofs.rest.Grown.{GrowsBy, grows, grows-quiet, grows-then}
 use Rattle.mesh_laws.proofs.rest.Light.{stay-own}
-use Rattle.mesh_laws.proofs.rest.Near.{LightFor, closed-deaf, deaf-light, light-both, near-light, path-most, path-still}
+use Rattle.mesh_laws.proofs.rest.LegWeights.{closed-deaf, deaf-light, path-most, path-still}
+use Rattle.mesh_laws.proofs.rest.Near.{LightFor, light-both, near-light}
 use Rattle.mesh_laws.proofs.rest.NoticeRests.{alarm-grow, clear-grow}
 use Rattle.mesh_laws.proofs.rest.TurnRests.{AreShort}
 use Rattle.ason_base.specs.declared.messages.PathRole.{PathRole}

@@ -35,7 +35,7 @@ use Rattle.mesh_laws.specs.Work.{WorkIsWithin}
 use Rattle.mesh_laws.proofs.rest.Works.{total-append}
 use Rattle.mesh_laws.proofs.rest.Committed.{sent_weight, taken_mesh, taken-lightens}
 use Rattle.mesh_laws.proofs.rest.Grown.{GrowsBy, grows, grows-quiet, stay-legs}
-use Rattle.mesh_laws.proofs.rest.Near.{PrevOf, AtIngress, After, prev-of}
+use Rattle.mesh_laws.proofs.rest.LegWeights.{PrevOf, prev-of, AtIngress, After}
 use Rattle.mesh_laws.proofs.rest.Places.{place-is}
 use Rattle.mesh_laws.proofs.rest.TurnRests.{AreShort}
 

@@ -37,7 +37,8 @@ use Rattle.mesh_laws.specs.Weights.{Routes, hops_back, weight, path_weight, aske
 use Rattle.mesh_laws.proofs.rest.Committed.{taken_mesh}
 use Rattle.mesh_laws.proofs.rest.Places.{place-is}
 use Rattle.mesh_laws.proofs.rest.RowKinds.{has_resv, no-label_down, resv-kinds}
-use Rattle.mesh_laws.proofs.rest.Near.{LightFor, Part, part-nothing, light-empty, light-same, light-no_resv, near-down, path-most, path-less, resv-most}
+use Rattle.mesh_laws.proofs.rest.LegWeights.{path-most, path-less, resv-most}
+use Rattle.mesh_laws.proofs.rest.Near.{LightFor, Part, part-nothing, light-empty, light-same, light-no_resv, near-down}
 
 -- the first Path of a purpose weighs more than a Resv to a leg that waits for it
 first-outweighs : (q : Purpose) (r : PathRole) (k i : ℕ) → Tells q r → is_active r ≡ false → suc i ≤ 63 →

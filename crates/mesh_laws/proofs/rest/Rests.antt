@@ -1,5 +1,5 @@
 -- Every run comes to rest.
-use Rattle.std.proofs.Common.{◌≡◌, ◌≤◌, ℕ, ◌+◌, ◌*◌, Bool, true, false, cond, nat_eq, List, [], ◌∷◌, ◌++◌, length, refl, sym, subst, arith}
+use Rattle.std.proofs.Common.{◌≡◌, ◌≤◌, ℕ, ◌+◌, Bool, true, false, cond, nat_eq, List, [], ◌∷◌, ◌++◌, refl, sym, subst, arith}
 use Rattle.std.specs.Prelude.{Option, Some, None}
 use Rattle.ason_base.specs.Network.{IsTopology, Network, find_link, row_of}
 use Rattle.ason_base.specs.declared.ids.NodeId.{NodeId}
@@ -7,158 +7,31 @@ use Rattle.ason_base.specs.declared.network.LinkSpec.{LinkSpec}
 use Rattle.ason_base.specs.declared.commands.Command.{Command}
 use Rattle.ason_base.specs.declared.commands.Command.TheVariants.{Setup, Release, Protect, Retry, Revert, Fail, Repair}
 use Rattle.ason_base.specs.declared.commands.DeskItem.{DeskItem}
-use Rattle.ason_base.specs.declared.commands.DeskItem.TheVariants.{Order}
 use Rattle.ason_base.specs.declared.messages.Msg.{Msg}
 use Rattle.mesh_rules.specs.declared.events.MeshEvent.{MeshEvent}
 use Rattle.mesh_rules.specs.declared.events.MeshEvent.TheVariants as event
 use Rattle.mesh_rules.specs.Changes.{Answer, changed, learns, nothing}
-use Rattle.mesh_rules.specs.Events.{IsRun, after, has_first, is_enabled, on_first, on_first_item, or_route, posted, step}
-use Rattle.mesh_rules.specs.Failures.{with_group, without_group}
+use Rattle.mesh_rules.specs.Events.{IsRun, after, has_first, is_enabled, on_first, on_first_item, posted, step}
 use Rattle.mesh_rules.specs.KnownRows.{has_row, known_rows}
 use Rattle.mesh_rules.specs.Learnt.{on_link}
-use Rattle.mesh_rules.specs.Legs.{leg_of}
 use Rattle.mesh_rules.specs.LocalNodes.{local_node}
-use Rattle.mesh_rules.specs.Machine.{Mesh, commit, start, without_first, without_item}
-use Rattle.mesh_rules.specs.Orders.{on_item}
+use Rattle.mesh_rules.specs.Machine.{Mesh, commit, start}
 use Rattle.mesh_rules.specs.Waits.{on_tick}
 use Rattle.mesh_nodes.specs.Kept.{NodeFits}
-use Rattle.mesh_nodes.proofs.CallList.{all-calls_found}
 use Rattle.mesh_nodes.proofs.Cases.{if_cases}
 use Rattle.mesh_nodes.proofs.Items.{items-fit}
 use Rattle.mesh_nodes.proofs.Messages.{messages-fit}
 use Rattle.mesh_nodes.proofs.NewNodes.{new-fits, new-place}
 use Rattle.mesh_nodes.proofs.Ticks.{tick-kept}
-use Rattle.mesh_laws.proofs.nodes.Facts.{MeshFacts}
 use Rattle.mesh_laws.proofs.nodes.Runs.{facts-start, facts-step}
-use Rattle.mesh_laws.proofs.hops.Begun.{grown}
 use Rattle.mesh_laws.proofs.hops.Laws.{step_facts}
-use Rattle.mesh_laws.proofs.hops.Planned.{or_none}
 use Rattle.mesh_laws.proofs.hops.Plans.{same_node}
-use Rattle.mesh_laws.proofs.hops.Run.{Carried, StepFacts, backs_here, calls_may_pair, link_quiet, step_carries, step_routes}
-use Rattle.mesh_laws.proofs.hops.Ticked.{all_ticked_stays}
-use Rattle.mesh_laws.proofs.hops.Turned.{BackFits}
+use Rattle.mesh_laws.proofs.hops.Run.{step_carries, step_routes}
 use Rattle.mesh_laws.specs.Weights.{Routes}
 use Rattle.mesh_laws.specs.Work.{Spot, Desk, Way, amount, WorkIsWithin}
-use Rattle.mesh_laws.specs.RestLaw.{EveryRestIsQuiet, EveryRunEnds, EveryRunRests, added, adds, handled, handles}
+use Rattle.mesh_laws.specs.RestLaw.{EveryRestIsQuiet, EveryRunEnds, EveryRunRests, added, handled}
 use Rattle.mesh_laws.proofs.rest.Works.{total-none}
-use Rattle.mesh_laws.proofs.rest.Expanded.{Expands, expands-known}
-use Rattle.mesh_laws.proofs.rest.Grown.{grows-quiet}
-use Rattle.mesh_laws.proofs.rest.ItemRests.{item-expands}
-use Rattle.mesh_laws.proofs.rest.PostRests.{failed-more, item-dropped, item-more}
-use Rattle.mesh_laws.proofs.rest.TakeRests.{take-rests}
-use Rattle.mesh_laws.proofs.rest.TickGrows.{tick-grows}
-use Rattle.mesh_laws.proofs.rest.TurnRests.{AreShort}
-
--- what holds in every state, and what each step needs
-pub record RestFacts (t : Network) (s : Mesh) (o : Routes) : Type 0 where
-  pub facts : MeshFacts t s
-  pub carried : Carried t s o
-  pub short : AreShort o
-  pub fits : (n : NodeId) → NodeFits (local_node t n) (s.nodes n.0)
-
--- over one event the work falls, but for what the event adds
-pub record Lightens (t : Network) (s : Mesh) (o : Routes) (e : MeshEvent) (w : ℕ) : Type 0 where
-  pub left : ℕ
-  pub within : WorkIsWithin (step_routes t s e o) (step t s e) left
-  pub falls : handles e + left ≤ w + adds t e
-
--- and the routes that are begun are short
-pub record Falls (t : Network) (s : Mesh) (o : Routes) (e : MeshEvent) (w : ℕ) : Type 0 where
-  pub lightens : Lightens t s o e w
-  pub short : AreShort (step_routes t s e o)
-
-none-sent : (o : Routes) → o ≡ (λ l. or_route (o l) None)
-none-sent o = λ i l. sym (or_none (o l)) i
-
-module _ (t : Network) (s : Mesh) (o : Routes) (rest : RestFacts t s o) (w : ℕ) (within : WorkIsWithin o s w) where
-  here : StepFacts t s
-  here = step_facts t s rest.facts
-
-  few : (n : NodeId) → length (s.nodes n.0).legs ≤ 4096
-  few n = (rest.fits n).legs.few
-
-  take-falls : (d u : NodeId) (ms : List Msg) → s.mail u.0 d.0 ≡ ms → has_first ms ≡ true →
-      (left : ℕ) × WorkIsWithin (grown d o (on_first (local_node t d) (s.nodes d.0) u ms))
-      (commit (without_first s u.0 d.0) d.0 (on_first (local_node t d) (s.nodes d.0) u ms)) left × (1 + left ≤ w) ×
-      AreShort (grown d o (on_first (local_node t d) (s.nodes d.0) u ms))
-  take-falls d u [] was some = absurd (cc some)
-  take-falls d u (m ∷ ms) was some =
-      take-rests t s o d u m ms was (here.learnt d.0) rest.carried.follows
-      (calls_may_pair t s o here rest.carried.given)
-      (backs_here t s here) rest.short w within
-
-  desk-falls : (n : NodeId) (items : List DeskItem) → s.desks n.0 ≡ items → has_first items ≡ true →
-      (left : ℕ) × WorkIsWithin (grown n o (on_first_item (local_node t n) (s.nodes n.0) items))
-      (commit (without_item s n.0) n.0 (on_first_item (local_node t n) (s.nodes n.0) items)) left × (1 + left ≤ w) ×
-      AreShort (grown n o (on_first_item (local_node t n) (s.nodes n.0) items))
-  desk-falls n [] was some = absurd (cc some)
-  desk-falls n (i ∷ items) was some =
-      let a : Answer = on_item (local_node t n) (s.nodes n.0) i in
-      let h = item-expands t s n o rest.carried.follows rest.short here (few n) i (here.desk n.0 i items was) in
-      let after = item-dropped (grown n o a) (commit s n.0 a) n.0 i items was (w + h.more) (h.expands.grow w within) in
-      let less = h.less in
-      let is = after.2 in
-      (after.0, after.1, omega arith, h.expands.short rest.short)
-
-  tick-expands : (n : NodeId) → Expands s n o (4096 * 63) (on_tick (local_node t n) (s.nodes n.0))
-  tick-expands n =
-      let calls = (s.nodes n.0).calls in
-      let legs = (s.nodes n.0).legs in
-      let fits = all-calls_found (λ c. BackFits s n c.state (leg_of c.back legs)) calls (here.rise n.0)
-      (here.backs n) in
-      expands-known s n o (4096 * 63) (on_tick (local_node t n) (s.nodes n.0))
-      (all_ticked_stays t n o t.wait legs calls s rest.carried.follows fits (here.apart n.0)).known
-      (tick-grows t n o rest.short t.wait legs s calls rest.carried.follows fits (here.apart n.0) (few n))
-
-  post-within : (c : Command) → WorkIsWithin o (posted t s c) (w + adds t (event.Post c))
-  post-within (Setup k from to protected both via backup) ps apart =
-      let h = item-more o s from.0 (Order (Setup k from to protected both via backup)) w within ps apart in omega arith
-  post-within (Release k from) ps apart =
-      let h = item-more o s from.0 (Order (Release k from)) w within ps apart in omega arith
-  post-within (Protect k from) ps apart =
-      let h = item-more o s from.0 (Order (Protect k from)) w within ps apart in omega arith
-  post-within (Retry k from) ps apart =
-      let h = item-more o s from.0 (Order (Retry k from)) w within ps apart in omega arith
-  post-within (Revert k from) ps apart =
-      let h = item-more o s from.0 (Order (Revert k from)) w within ps apart in omega arith
-  post-within (Fail g) ps apart =
-      let h = failed-more o t s (with_group g s.failed) w within ps apart in omega arith
-  post-within (Repair g) ps apart =
-      let h = failed-more o t s (without_group g s.failed) w within ps apart in omega arith
-
-  pub falls : (e : MeshEvent) → is_enabled t s e ≡ true → Falls t s o e w
-  falls (event.Take d u) enabled =
-      let h = take-falls d u (s.mail u.0 d.0) refl enabled in
-      record { lightens = record { left = h.0; within = h.1; falls = (let less = h.2 in omega arith) }; short = h.3 }
-  falls (event.Desk n) enabled =
-      let h = desk-falls n (s.desks n.0) refl enabled in
-      record { lightens = record { left = h.0; within = h.1; falls = (let less = h.2 in omega arith) }; short = h.3 }
-  falls (event.Tick n) enabled =
-      let h = tick-expands n in
-      record {
-        lightens = record { left = w + 4096 * 63; within = h.grow w within; falls = omega arith };
-        short = h.short rest.short;
-      }
-  falls (event.Learn n k) enabled =
-      let a = on_link (local_node t n) (s.nodes n.0) (find_link t k) in
-      let grow = grows-quiet o s n a 0 (link_quiet (local_node t n) (s.nodes n.0) (find_link t k)) in
-      record {
-        lightens = record {
-          left = w + 0;
-          within = subst (λ (x : Routes). WorkIsWithin x (commit s n.0 a) (w + 0)) (none-sent o) (grow w within);
-          falls = omega arith;
-        };
-        short = subst AreShort (none-sent o) rest.short;
-      }
-  falls (event.Post c) enabled = record {
-    lightens = record {
-      left = w + adds t (event.Post c);
-      within = subst (λ (x : Routes). WorkIsWithin x (posted t s c) (w + adds t (event.Post c))) (none-sent o)
-          (post-within c);
-      falls = omega arith;
-    };
-    short = subst AreShort (none-sent o) rest.short;
-  }
+use Rattle.mesh_laws.proofs.rest.Falls.{falls, RestFacts}
 
 -- What each node keeps fits
 

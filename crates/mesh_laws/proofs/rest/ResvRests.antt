@@ -34,7 +34,8 @@ use Rattle.mesh_laws.proofs.hops.Views.{leg-there}
 use Rattle.mesh_laws.specs.Weights.{Routes, hops_back, hops_in, weight, asked_weight, phase_weight}
 use Rattle.mesh_laws.proofs.rest.Committed.{taken_mesh}
 use Rattle.mesh_laws.proofs.rest.Places.{place-is}
-use Rattle.mesh_laws.proofs.rest.Near.{LightFor, Part, part-nothing, light-both, path-still, resv-most, resv-marked, deaf-light, one-less, sent-resv, asked-phase, asked-less, asked-tears, PrevOf, AtIngress, After, prev-of, resv-some, closed-deaf, reserved-deaf}
+use Rattle.mesh_laws.proofs.rest.LegWeights.{path-still, resv-most, resv-marked, deaf-light, one-less, sent-resv, asked-phase, asked-less, asked-tears, PrevOf, prev-of, resv-some, closed-deaf, reserved-deaf, AtIngress, After}
+use Rattle.mesh_laws.proofs.rest.Near.{LightFor, Part, part-nothing, light-both}
 
 module _ (t : Network) (q : Purpose) (s : Mesh) (l : Lsp) (p : Plan) (i : ℕ) (route : IsRoute t l.ingress p)
     (chain : Chain t q l p (leg_at s l) (mail_between s l)) (below : i < hops p)

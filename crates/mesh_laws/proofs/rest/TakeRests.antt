@@ -54,7 +54,7 @@ use Rattle.mesh_laws.proofs.rest.CallRests.{answered-expand, contended-expand, d
 use Rattle.mesh_laws.proofs.rest.Committed.{sent_weight}
 use Rattle.mesh_laws.proofs.rest.Expanded.{Expands, IsKnown, known-of}
 use Rattle.mesh_laws.proofs.rest.LegRests.{leg-rests}
-use Rattle.mesh_laws.proofs.rest.Near.{asked-phase}
+use Rattle.mesh_laws.proofs.rest.LegWeights.{asked-phase}
 use Rattle.mesh_laws.proofs.rest.TurnRests.{AreShort}
 
 -- a Resv to an Asked leg outweighs what its call may send

@@ -31,7 +31,8 @@ use Rattle.mesh_laws.proofs.hops.LegChanges.{following_is, live_leg}
 use Rattle.mesh_laws.proofs.hops.Views.{leg-there}
 use Rattle.mesh_laws.specs.Weights.{Routes, weight}
 use Rattle.mesh_laws.proofs.rest.Committed.{taken_mesh}
-use Rattle.mesh_laws.proofs.rest.Near.{LightFor, Part, part-nothing, light-both, path-still, deaf-light, one-less, sent-back, no-leg_kind}
+use Rattle.mesh_laws.proofs.rest.LegWeights.{path-still, deaf-light, one-less, sent-back, no-leg_kind}
+use Rattle.mesh_laws.proofs.rest.Near.{LightFor, Part, part-nothing, light-both}
 use Rattle.mesh_laws.proofs.rest.PathRests.{hop, own, mine, fits, longer, left-is}
 
 module _ (t : Network) (q : Purpose) (s : Mesh) (l : Lsp) (p : Plan) (i : ℕ) (route : IsRoute t l.ingress p)

@@ -40,7 +40,8 @@ use Rattle.mesh_laws.specs.Weights.{Routes, weight, path_weight}
 use Rattle.mesh_laws.proofs.rest.Committed.{StayLight}
 use Rattle.mesh_laws.proofs.rest.Grown.{GrowsBy, grows, grows-quiet, grows-more}
 use Rattle.mesh_laws.proofs.rest.Light.{stay-own}
-use Rattle.mesh_laws.proofs.rest.Near.{LightFor, light-empty, light-both, near-light, path-still, deaf-light, sent-back}
+use Rattle.mesh_laws.proofs.rest.LegWeights.{path-still, deaf-light, sent-back}
+use Rattle.mesh_laws.proofs.rest.Near.{LightFor, light-empty, light-both, near-light}
 use Rattle.mesh_laws.proofs.rest.RowKinds.{held-none_up}
 
 -- each route has at most 63 links
