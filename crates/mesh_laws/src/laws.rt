@@ -76,7 +76,8 @@ ghost use Rattle.mesh_laws.specs.WavelengthLaw.{EveryCallKeepsItsWavelengths};
 /// follow while nothing more is posted and no node ticks (`ends`), and where no such event is
 /// enabled no message is under way and each desk is empty (`quiet`).
 ///
-/// The last clause says all but the searching of one state, in one word (`together`).
+/// What all clauses but `searchable`, `calm` and `quiet` say of one state, the last one says in one
+/// word (`together`).
 pub fn every_run()
     ensures labels { EveryLabelIsShared }
     ensures labelled { EveryLiveLegIsLabelled }
