@@ -42,7 +42,7 @@ use Rattle.mesh_rules.specs.Reports.{call_reported, reported_on, with_report}
 use Rattle.mesh_rules.specs.Retries.{retries, retry_with}
 use Rattle.mesh_rules.specs.Setups.{SetupRequest, admitted_setup, begins, call_record, is_order_here, is_spent, new_call, next_lsp, over_first, over_found, refused_setup, setup_with, working_lsp}
 use Rattle.mesh_rules.specs.State.{NodeState}
-use Rattle.mesh_rules.specs.Turns.{activating_path, arms, call_put, decide, decided, disarms, go_back, has_any, taking_path, turn}
+use Rattle.mesh_rules.specs.Turns.{call_put, decide, has_any, turn}
 use Rattle.mesh_nodes.proofs.CallList.{all-with_call, called-names}
 use Rattle.mesh_nodes.proofs.Cases.{if_cases}
 use Rattle.mesh_nodes.proofs.LegList.{all-filter, all-with_leg, find-with_leg, found-lsp, same_lsp-eq}
@@ -50,6 +50,7 @@ use Rattle.mesh_nodes.proofs.Links.{found-one}
 use Rattle.leg_table.specs.LegClaims.{ChangesNoLabel, taken_of}
 use Rattle.call_control.specs.Handlers.{named_role, refused_by_name}
 use Rattle.call_control.specs.Ingress.{AllNameByRole, IsArmedAsBackup, IsNamedAs, NamesByRole, role_at}
+use Rattle.call_control.proofs.Decisions.{HasLspsOf, decide-has, phase_put, turn-has}
 use Rattle.call_control.proofs.Roles.{BeginAlone, RolesStay, calls-stay, changed-stay, lone-taken, lsp-stays, named-as, new-stay, none-taken, own-role}
 
 -- of an answer at node p, which keeps s
@@ -285,11 +286,17 @@ module _ (p : LocalNode) (s : NodeState) (all : AllNameByRole p s) (alone : Begi
       (leg_of-begins Back c.back here.back))
       (λ e. nothing-stays)
 
-  -- Turning
+  -- Decisions
 
-  -- the leg of a backup changes its phase, and this call is put in its place
+  -- a call that names the LSPs of one that names them by their roles
+  pub names-like : (c d : CallRec) → HasLspsOf c d → Names c → Names d
+  names-like c d same here = record {
+    work = subst (λ o. IfSome o (IsNamedAs p.id.0 s.lsp s.legs Work)) (sym same.work) here.work;
+    back = subst (λ o. IfSome o (IsNamedAs p.id.0 s.lsp s.legs Back)) (sym same.back) here.back;
+  }
+
   phase-stays : (q : Phase) (c : CallRec) (b : Leg) (outs : List Out) → Names c → Begins p s.legs Back b →
-      Stays p s (record nothing { legs = leg.Put (with_phase q b) ∷ []; calls = call.Put c ∷ []; sent = outs })
+      Stays p s (phase_put q c b outs)
   phase-stays q c b outs here begins =
       let g : Leg = with_phase q b in
       let stay = changed-stay s.lsp g s.legs begins.there in
@@ -305,52 +312,21 @@ module _ (p : LocalNode) (s : NodeState) (all : AllNameByRole p s) (alone : Begi
         no_down = refl;
       }
 
-  arms-stay : (c : CallRec) (b : Leg) → Names c → Begins p s.legs Back b → Stays p s (arms c b)
-  arms-stay c b here begins =
-      phase-stays Armed (turning c) b (activating_path b (following b)) (record { work = here.work; back = here.back })
-      begins
+  module _ (c : CallRec) (o : Option Leg) (here : Names c) (begins : IfSome o (Begins p s.legs Back)) where
+    like-stays : (d : CallRec) → HasLspsOf c d → Stays p s (call_put d)
+    like-stays d same = put-stays d (names-like c d same here)
 
-  turn-stays : (c : CallRec) (o : Option Leg) → Names c → IfSome o (Begins p s.legs Back) → Stays p s (turn c o)
-  turn-stays c None here begins = put-stays c here
-  turn-stays c (Some b) here begins =
-      if_cases (Stays p s) (is_held b.phase) _ _ (λ e. arms-stay c b here begins) (λ e. put-stays c here)
+    moved-stays : (q : Phase) (d : CallRec) (b : Leg) (outs : List Out) → o ≡ Some b → HasLspsOf c d →
+        Stays p s (phase_put q d b outs)
+    moved-stays q d b outs is same =
+        phase-stays q d b outs (names-like c d same here)
+        (subst (λ o. IfSome o (Begins p s.legs Back)) is begins)
 
-  -- Going back
+    turn-stays : Stays p s (turn c o)
+    turn-stays = turn-has (Stays p s) c o like-stays moved-stays
 
-  disarms-stay : (c : CallRec) (b : Leg) → Names c → Begins p s.legs Back b → Stays p s (disarms c b)
-  disarms-stay c b here begins =
-      phase-stays Held (guarded c) b (taking_path b (following b)) (record { work = here.work; back = here.back })
-      begins
-
-  pub go_back-stays : (c : CallRec) (o : Option Leg) → Names c → IfSome o (Begins p s.legs Back) →
-      Stays p s (go_back c o)
-  go_back-stays c None here begins = put-stays c here
-  go_back-stays c (Some b) here begins =
-      if_cases (Stays p s) (is_in_use b.phase) _ _ (λ e. disarms-stay c b here begins) (λ e. put-stays c here)
-
-  -- Decisions
-
-  decided-stays : (c : CallRec) (o : Option Leg) → Names c → IfSome o (Begins p s.legs Back) →
-      (q : CallState) (works backs : Bool) → Stays p s (decided c o q works backs)
-  decided-stays c o here begins Guarded true false = turn-stays c o here begins
-  decided-stays c o here begins Guarded true true =
-      put-stays (stuck c BackDown) (record { work = here.work; back = here.back })
-  decided-stays c o here begins Guarded false backs = put-stays c here
-  decided-stays c o here begins Stuck false backs =
-      put-stays (guarded c) (record { work = here.work; back = here.back })
-  decided-stays c o here begins Stuck true backs = put-stays c here
-  decided-stays c o here begins Asking works backs = put-stays c here
-  decided-stays c o here begins Bare works backs = put-stays c here
-  decided-stays c o here begins Pairing works backs = put-stays c here
-  decided-stays c o here begins Turning works backs = put-stays c here
-  decided-stays c o here begins Turned false true = go_back-stays c o here begins
-  decided-stays c o here begins Turned false false = put-stays c here
-  decided-stays c o here begins Turned true backs = put-stays c here
-  decided-stays c o here begins Blocked works backs = put-stays c here
-
-  decide-stays : (c : CallRec) (o : Option Leg) → Names c → IfSome o (Begins p s.legs Back) → Stays p s (decide c o)
-  decide-stays c o here begins =
-      decided-stays c o here begins c.state (has_any c.work_reports) (has_any c.back_reports)
+    decide-stays : Stays p s (decide c o)
+    decide-stays = decide-has (Stays p s) c o like-stays moved-stays
 
   pub retry-stays : (n : CallNo) (from : NodeId) (o : Option CallRec) → find_call n s.calls ≡ o →
       Stays p s (retry_with p s from o)

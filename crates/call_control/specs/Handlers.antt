@@ -127,19 +127,6 @@ answer_here t c (PathTear l e k) = nothing
 answer_here t c (PathErr l e at gone code) = err_here t c l gone code
 answer_here t c (Notify l e at k code) = reported_here t c (Notify l e at k code)
 
--- the call that is decided of by this Resv
-abbrev pub resv_decides : CallTable → Option Leg → Option CallRec
-resv_decides c None = None
-resv_decides c (Some g) = if is_activated g then turned_by c g else None
-
--- the call that may go back by the message, as it is decided of
-abbrev pub decided_here : LegTable → CallTable → Msg → Option CallRec
-decided_here t c (Path l e k route set up r) = None
-decided_here t c (Resv l e k x) = resv_decides c (find_leg l t.legs)
-decided_here t c (PathTear l e k) = None
-decided_here t c (PathErr l e at gone code) = None
-decided_here t c (Notify l e at k code) = reported_by t c (Notify l e at k code)
-
 -- the leg beside whose LSP the message leads to a backup
 abbrev pub sought_at : CallTable → Option Leg → Option Leg
 sought_at c None = None
@@ -224,12 +211,10 @@ IsAfterLeg before u (PathErr l e at gone code) t =
 IsAfterLeg before u (Notify l e at k code) t =
     IsCarriedOut before (takes_notify u code (find_leg l before.legs)) nothing t
 
--- before the rule of the message was carried out on the leg, the ingress had these tables, they fitted, and no call
--- went back by it
+-- before the rule of the message was carried out on the leg, the ingress had these tables, and they fitted
 pub record WereBefore (t : LegTable) (c : CallTable) (u : NodeId) (m : Msg) (before : LegTable) : Type 0 where
   pub leg : IsAfterLeg before u m t
   pub fits : IngressFits before c
-  pub none_back : goes_back before c u m ≡ None
 
 -- the whole rule of a Resv, a PathErr or a Notify, of the leg and of its call
 abbrev pub whole_answer : LegTable → CallTable → NodeId → Msg → Answer

@@ -5,3 +5,4 @@ pub mod PairRules
 pub mod Requests
 pub mod Rules
 pub mod Searches
+pub mod Turning

@@ -92,7 +92,7 @@ pub(crate) fn pairing(alloc: Global, call: CallRec, back: Lsp) -> CallRec
 }
 
 /// The call, whose backup is reserved.
-pub fn guarded(call: CallRec) -> CallRec
+pub(crate) fn guarded(call: CallRec) -> CallRec
     ensures { result ≡ guarded call }
 {
     CallRec {
@@ -116,7 +116,7 @@ pub(crate) fn turning(call: CallRec) -> CallRec
 }
 
 /// The call, which its backup carries.
-pub fn turned(call: CallRec) -> CallRec
+pub(crate) fn turned(call: CallRec) -> CallRec
     ensures { result ≡ turned call }
 {
     CallRec {

@@ -1,11 +1,10 @@
 //! What becomes of a call after a Resv or a PathErr at its ingress (ITU-T G.8080, call control).
 
-ghost use Rattle.std.specs.Prelude.{◌≡◌, None, OnOk};
+ghost use Rattle.std.specs.Prelude.{◌≡◌, OnOk};
 ghost use Rattle.std.specs.Option.{option_copied};
 ghost use Rattle.mesh_rules.specs.Changes.{followed_by};
 ghost use Rattle.mesh_nodes.specs.LocalNodes.{LocalNodeFits};
 ghost use Rattle.leg_table.specs.States.{local_of};
-ghost use Rattle.call_control.specs.GoingBack.{going_back, turned_by};
 ghost use Rattle.call_control.specs.Handlers.{gone_here, named_role};
 ghost use Rattle.call_control.specs.Rules.{answered_here, contended_here, refused_as, refused_here, turned_here};
 ghost use Rattle.call_control.specs.Searches.{IsBackupFor, RowsAreKnown, has_no_backup, is_paired_by_resv, sought_by_resv};
@@ -86,14 +85,13 @@ pub fn answer_resv(
 }
 
 /// What becomes of the call of this leg, which begins here and is Live now: a call that was turning
-/// is turned. It isn't one that goes back at once.
+/// is turned, and may go back at once.
 pub fn answer_confirmed(
     alloc: Global,
     change: &mut Change,
     calls: &Calls,
     leg: &Leg,
 ) -> Result<(), OutOfMemory>
-    requires { going_back (turned_by calls.now leg.now) ≡ None }
     ensures { OnOk result (change.new ≡ followed_by change.old (turned_here calls.now leg.now)) }
 {
     match calls.with_lsp(leg.lsp) {

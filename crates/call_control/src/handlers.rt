@@ -1,6 +1,6 @@
 //! Commands, Resvs, PathErrs and Notifies at an ingress, carried out over its tables and its calls.
 
-ghost use Rattle.std.specs.Prelude.{◌≡◌, IfOk, None, OnErr, OnOk};
+ghost use Rattle.std.specs.Prelude.{◌≡◌, IfOk, OnErr, OnOk};
 ghost use Rattle.std.specs.Option.{option_copied};
 ghost use Rattle.mesh_rules.specs.Changes.{followed_by};
 ghost use Rattle.mesh_rules.specs.Legs.{find_leg};
@@ -8,8 +8,7 @@ ghost use Rattle.mesh_nodes.specs.LocalNodes.{LocalNodeFits};
 ghost use Rattle.leg_table.specs.LegClaims.{StaysOfOneNode};
 ghost use Rattle.leg_table.specs.States.{local_of, state_of};
 ghost use Rattle.leg_table.specs.Tables.{LegTable};
-ghost use Rattle.call_control.specs.GoingBack.{going_back};
-ghost use Rattle.call_control.specs.Handlers.{AreSentFor, IsKeptAfter, IsRouteOf, WereBefore, after_command, after_setup, answer_here, command_answer, decided_here, is_activated, resv_decides, resv_here, setup_answer, sought_at, sought_by_answer, sought_by_command};
+ghost use Rattle.call_control.specs.Handlers.{AreSentFor, IsKeptAfter, IsRouteOf, WereBefore, after_command, after_setup, answer_here, command_answer, is_activated, resv_here, setup_answer, sought_at, sought_by_answer, sought_by_command};
 ghost use Rattle.call_control.specs.Ingress.{IngressFits};
 ghost use Rattle.call_control.specs.Searches.{IsBackupFor, RowsAreKnown};
 
@@ -171,8 +170,6 @@ fn follow_resv(
     requires rows { RowsAreKnown tables.now }
     requires backup { IsBackupFor tables.now
         (sought_at calls.now (find_leg lsp tables.now.legs)) (option_copied backup) }
-    requires none_back { going_back
-        (resv_decides calls.now (find_leg lsp tables.now.legs)) ≡ None }
     ensures { OnOk result (change.new ≡ followed_by change.old
         (resv_here tables.now calls.now (find_leg lsp tables.now.legs))) }
 {
@@ -194,7 +191,6 @@ fn answer_change(
     requires rows { RowsAreKnown tables.now }
     requires backup { IsBackupFor tables.now
         (sought_by_answer tables.now calls.now msg.now) (option_copied backup) }
-    requires none_back { going_back (decided_here tables.now calls.now msg.now) ≡ None }
     ensures { IfOk result (λ c. c ≡ answer_here tables.now calls.now msg.now) }
 {
     let mut change = Change::nothing(alloc);
@@ -231,9 +227,8 @@ pub fn sought_by_answer<'a>(tables: &'a NodeTables, calls: &Calls, msg: &Msg) ->
 }
 
 /// Takes a Resv, a PathErr or a Notify at the ingress of its LSP, after its rule was carried out on
-/// the leg: what becomes of the call, where none goes back by it. Hands back what is to be sent
-/// then, in order. A message of another kind changes nothing. After want of memory nothing has
-/// changed.
+/// the leg: what becomes of the call. Hands back what is to be sent then, in order. A message of
+/// another kind changes nothing. After want of memory nothing has changed.
 pub fn answer(
     alloc: Global,
     tables: &mut NodeTables,

@@ -1,7 +1,6 @@
 //! Call control at an ingress (ITU-T G.8080): setups and releases, the backups of protected calls,
-//! when a call turns to its backup, and what becomes of a call after its LSPs. What each changes is
-//! told, or carried out by a handler. Routes that are searched for are handed in. Which call goes
-//! back after a message is told; that it does is none of this crate.
+//! when a call turns to its backup and goes back, and what becomes of a call after its LSPs. What
+//! each changes is told, or carried out by a handler. Routes that are searched for are handed in.
 #![tactic(auto)]
 
 mod call_states;
@@ -19,7 +18,7 @@ mod retries;
 mod setups;
 mod turns;
 
-pub use call_states::{guarded, is_turned, turned};
+pub use call_states::is_turned;
 pub use call_steps::{answer_busy, answer_confirmed, answer_resv, refuse_lsp, sought_by_resv};
 pub use going_back::goes_back;
 pub use handlers::{answer, command, setup, sought_by_answer};
@@ -27,7 +26,7 @@ pub use ingress::{id_of, leg_of};
 pub use pairs::route_from;
 pub use protects::{protect, sought_by_protect};
 pub use releases::release;
-pub use reports::{answer_report, fibre_of, reported, with_report};
+pub use reports::answer_report;
 pub use retries::retry;
 pub use setups::{SetupRequest, seeks_route, set_up};
-pub use turns::{has_any, send_path};
+pub use turns::{go_back, has_any};

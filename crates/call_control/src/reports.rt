@@ -1,12 +1,11 @@
 //! Reports of fibres at the ingress of their LSP: what a call knows to be down of its two routes,
 //! and what follows (ITU-T G.8080, call control; Notify: RFC 3473, section 4.3).
 
-ghost use Rattle.std.specs.Prelude.{◌≡◌, IfOk, None, OnOk};
+ghost use Rattle.std.specs.Prelude.{◌≡◌, IfOk, OnOk};
 ghost use Rattle.mesh_rules.specs.Changes.{followed_by};
 ghost use Rattle.mesh_rules.specs.Pairs.{route_from};
 ghost use Rattle.mesh_rules.specs.Reports.{fibre_into, fibres_after, first_node, reported, with_fibre, with_report};
 ghost use Rattle.leg_table.specs.States.{local_of};
-ghost use Rattle.call_control.specs.GoingBack.{going_back, reported_by};
 ghost use Rattle.call_control.specs.Rules.{reported_here};
 
 use crate::ingress::{id_of, leg_of};
@@ -21,7 +20,7 @@ use std::alloc::Global;
 // What is reported
 
 /// Whether a fibre went down, or came up; another code reports nothing.
-pub fn reported(code: ErrCode) -> Option<bool>
+pub(crate) fn reported(code: ErrCode) -> Option<bool>
     ensures { result ≡ reported code }
 {
     if code == FIBRE_DOWN {
@@ -63,7 +62,7 @@ fn fibre_into(route: &[Step], egress: NodeId, node: NodeId, link: LinkId) -> Opt
 }
 
 /// The fibre of the LSP whose leg begins here that comes in at the node over the link.
-pub fn fibre_of(tables: &NodeTables, leg: &Leg, node: NodeId, link: LinkId) -> Option<Fibre>
+pub(crate) fn fibre_of(tables: &NodeTables, leg: &Leg, node: NodeId, link: LinkId) -> Option<Fibre>
     ensures { result
         ≡ fibre_into (route_from (local_of tables.now) leg.now) leg.now.egress node link }
 {
@@ -101,14 +100,9 @@ fn change_fibres(fibres: &mut Fibres, down: bool, fibre: Fibre) -> Result<(), Ou
     Ok(())
 }
 
-/// The call with the report of a fibre of this LSP. It doesn't wait while its working route has
-/// any.
-pub fn with_report(
-    call: CallRec,
-    lsp: Lsp,
-    down: bool,
-    fibre: Fibre,
-) -> Result<CallRec, OutOfMemory>
+// The call with the report of a fibre of this LSP. It doesn't wait while its working route has
+// any.
+fn with_report(call: CallRec, lsp: Lsp, down: bool, fibre: Fibre) -> Result<CallRec, OutOfMemory>
     ensures { IfOk result (λ c. c ≡ with_report call lsp down fibre) }
 {
     let mut told = call;
@@ -126,8 +120,7 @@ pub fn with_report(
 // What follows
 
 /// What a Notify tells the call of its LSP, whose leg begins here: the fibre is reported down, or
-/// isn't any more, and the call may turn. It isn't one that goes back then. A message of another
-/// kind does nothing.
+/// isn't any more, and the call may turn or go back. A message of another kind does nothing.
 pub fn answer_report(
     alloc: Global,
     change: &mut Change,
@@ -135,7 +128,6 @@ pub fn answer_report(
     calls: &Calls,
     msg: &Msg,
 ) -> Result<(), OutOfMemory>
-    requires { going_back (reported_by tables.now calls.now msg.now) ≡ None }
     ensures { OnOk result (change.new
         ≡ followed_by change.old (reported_here tables.now calls.now msg.now)) }
 {

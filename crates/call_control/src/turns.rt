@@ -1,41 +1,41 @@
-//! A call turns to its backup where its working LSP is hit, as far as the backup isn't (ITU-T
-//! G.8080, call control; RFC 4872, section 8).
+//! A call turns to its backup where its working LSP is hit, as far as the backup isn't, and goes back
+//! where its backup is hit alone (ITU-T G.8080, call control; RFC 4872, section 8).
 
-ghost use Rattle.std.specs.Prelude.{◌≡◌, [], ◌∷◌, IfOk, OnOk, false};
+ghost use Rattle.std.specs.Prelude.{◌≡◌, [], ◌∷◌, IfOk, OnOk};
 ghost use Rattle.std.specs.Option.{option_copied};
 ghost use Rattle.mesh_rules.specs.Activations.{path_to};
 ghost use Rattle.mesh_rules.specs.Changes.{followed_by, sends};
 ghost use Rattle.mesh_rules.specs.Legs.{following};
-ghost use Rattle.mesh_rules.specs.Turns.{activating, activating_path, arms, decide, has_any, turn};
-ghost use Rattle.call_control.specs.GoingBack.{is_going_back};
+ghost use Rattle.mesh_rules.specs.Turns.{arms, decide, disarms, go_back, has_any, turn};
+ghost use Rattle.call_control.specs.Turning.{role_again, sent_again};
 
 use crate::call_states::{guarded, stuck, turning};
 use ason_base::{
     CallRec, CallState, Cause, Copied, Fibres, Leg, Msg, OutOfMemory, PathRole, Phase,
 };
 use leg_table::Change;
-use leg_table::one_leg::{following, is_held, with_phase};
+use leg_table::one_leg::{following, is_held, is_in_use, with_phase};
 use mesh_rules::Neighbour;
 use std::alloc::Global;
 
-// Turning
+// The Path of a backup
 
-// The role of a Path that activates.
-fn activating(alloc: Global, role: &PathRole) -> Result<PathRole, OutOfMemory>
-    ensures { IfOk result (λ r. r ≡ activating role.now) }
+// The role of a Path that activates, or that takes an activation back.
+fn role_again(alloc: Global, active: bool, role: &PathRole) -> Result<PathRole, OutOfMemory>
+    ensures { IfOk result (λ r. r ≡ role_again active role.now) }
 {
     match role {
         PathRole::Work { guard } => Ok(PathRole::Work { guard: *guard }),
         PathRole::Back { work, primary, .. } => Ok(PathRole::Back {
-            active: true,
+            active,
             work: *work,
             primary: primary.copy(alloc)?,
         }),
     }
 }
 
-/// The Path of the LSP of this leg, which begins here, goes to the next node again, for this role.
-pub fn send_path(
+// The Path of the LSP of this leg, which begins here, goes to the next node again, for this role.
+fn send_path(
     alloc: Global,
     change: &mut Change,
     leg: &Leg,
@@ -57,25 +57,34 @@ pub fn send_path(
     change.send(next.node, path)
 }
 
-// The Path that activates the backup goes to the next node.
-fn send_activation(alloc: Global, change: &mut Change, back: &Leg) -> Result<(), OutOfMemory>
+// The Path of the backup goes to the next node again: it activates the backup, or takes its
+// activation back.
+#[tactic(auto, using(crate::proofs::Again::none_again, crate::proofs::Again::next_again))]
+fn send_again(
+    alloc: Global,
+    change: &mut Change,
+    back: &Leg,
+    active: bool,
+) -> Result<(), OutOfMemory>
     ensures { OnOk result (change.new
-        ≡ followed_by change.old (sends (activating_path back.now (following back.now)))) }
+        ≡ followed_by change.old (sends (sent_again active back.now (following back.now)))) }
 {
     match following(back) {
         None => Ok(()),
         Some(next) => {
-            let role = activating(alloc, &back.path_role)?;
+            let role = role_again(alloc, active, &back.path_role)?;
             send_path(alloc, change, back, next, role)
         }
     }
 }
 
+// Turning
+
 // The backup is Armed here, and its Path goes out to activate it.
 fn arm(alloc: Global, change: &mut Change, call: CallRec, back: &Leg) -> Result<(), OutOfMemory>
     ensures { OnOk result (change.new ≡ followed_by change.old (arms call back.now)) }
 {
-    send_activation(alloc, change, back)?;
+    send_again(alloc, change, back, true)?;
     change.put(with_phase(alloc, back, Phase::Armed)?)?;
     change.put_call(turning(call))
 }
@@ -96,6 +105,34 @@ pub(crate) fn turn(
     }
 }
 
+// Going back
+
+// The backup is Held here, and its Path goes out to take its activation back.
+fn disarm(alloc: Global, change: &mut Change, call: CallRec, back: &Leg) -> Result<(), OutOfMemory>
+    ensures { OnOk result (change.new ≡ followed_by change.old (disarms call back.now)) }
+{
+    send_again(alloc, change, back, false)?;
+    change.put(with_phase(alloc, back, Phase::Held)?)?;
+    change.put_call(guarded(call))
+}
+
+/// The call goes back from its backup, which begins here, to its working LSP, if the backup is
+/// Armed or Live.
+pub fn go_back(
+    alloc: Global,
+    change: &mut Change,
+    call: CallRec,
+    back: Option<&Leg>,
+) -> Result<(), OutOfMemory>
+    ensures { OnOk result
+        (change.new ≡ followed_by change.old (go_back call (option_copied back.entry))) }
+{
+    match back {
+        Some(back) if is_in_use(back.phase) => disarm(alloc, change, call, back),
+        _ => change.put_call(call),
+    }
+}
+
 // Decisions
 
 /// Whether a fibre is reported.
@@ -106,15 +143,14 @@ pub fn has_any(fibres: &Fibres) -> bool
 }
 
 /// What follows of the call's state and of the fibres that are reported down: a guarded call turns
-/// where its working LSP is hit alone, and is stuck where its backup is hit too; a stuck one is
-/// guarded again once its working LSP isn't hit. A call that goes back is none of this crate.
+/// where its working LSP is hit alone, and is stuck where its backup is hit too; a turned one goes
+/// back where its backup is hit alone; a stuck one is guarded again once its working LSP isn't hit.
 pub(crate) fn decide(
     alloc: Global,
     change: &mut Change,
     call: CallRec,
     back: Option<&Leg>,
 ) -> Result<(), OutOfMemory>
-    requires { is_going_back call ≡ false }
     ensures { OnOk result
         (change.new ≡ followed_by change.old (decide call (option_copied back.entry))) }
 {
@@ -123,6 +159,7 @@ pub(crate) fn decide(
     match (call.state, works, backs) {
         (CallState::Guarded, true, false) => turn(alloc, change, call, back),
         (CallState::Guarded, true, true) => change.put_call(stuck(call, Cause::BackDown)),
+        (CallState::Turned, false, true) => go_back(alloc, change, call, back),
         (CallState::Stuck, false, _) => change.put_call(guarded(call)),
         _ => change.put_call(call),
     }

@@ -10,7 +10,6 @@ use Rattle.ason_base.specs.declared.ids.Lsp.{Lsp}
 use Rattle.ason_base.specs.declared.ids.NodeId.{NodeId}
 use Rattle.ason_base.specs.declared.messages.Msg.{Msg}
 use Rattle.ason_base.specs.declared.messages.Msg.TheVariants.{Path, Resv, PathTear, PathErr, Notify}
-use Rattle.ason_base.specs.declared.tables.CallRec.{CallRec}
 use Rattle.ason_base.specs.declared.tables.Leg.{Leg}
 use Rattle.mesh_rules.specs.declared.neighbours.Neighbour.{Neighbour}
 use Rattle.mesh_rules.specs.declared.arrivals.Arrival.{Arrival}
@@ -21,7 +20,6 @@ use Rattle.mesh_rules.specs.Changes.{Answer, followed_by, nothing, removes}
 use Rattle.mesh_rules.specs.Legs.{connected, find_leg, following, is_armed, is_asked, is_closing, is_label, is_node, is_over, previous, with_phase}
 use Rattle.mesh_rules.specs.Messages.{arrival, on_message}
 use Rattle.mesh_rules.specs.PathErrs.{PathFailure, err_passed, path_err_with}
-use Rattle.mesh_rules.specs.Reports.{reported}
 use Rattle.mesh_rules.specs.Resvs.{answered, resv_with}
 use Rattle.mesh_rules.specs.State.{NodeState, new_node}
 use Rattle.mesh_nodes.proofs.Followed.{later-none}
@@ -30,11 +28,8 @@ use Rattle.leg_table.specs.States.{legs_state, local_of, state_of}
 use Rattle.leg_table.specs.Tables.{CallTable, LegTable}
 use Rattle.activation.specs.Answers.{carries_leg, connected_here}
 use Rattle.resv_state.specs.Answers.{begins_here, connects_leg, err_taken, refuses_leg, resv_taken}
-use Rattle.notify.specs.Answers.{reports, reports_leg}
-use Rattle.call_control.specs.GoingBack.{going_back, reported_by, turned_by}
-use Rattle.call_control.specs.Handlers.{begins_at, confirmed_by, goes_back, takes_notify}
 use Rattle.call_control.specs.Rules as call
-use Rattle.node_core.specs.Followed.{StaysTurned, followed_if, removal_followed, resv_at, resv_followed}
+use Rattle.node_core.specs.Followed.{followed_if, removal_followed, resv_at, resv_followed}
 
 -- an Armed leg isn't Asked
 armed-not_asked : (q : Phase) → is_armed q ≡ true → is_asked q ≡ false
@@ -139,52 +134,6 @@ module _ (t : LegTable) (c : CallTable) (u : NodeId) (m : Msg) where
   removal-is l e at code is =
       subst (λ m. removal_followed t c u l code m ≡ on_message (local_of t) (state_of t c) u m) (sym is)
       (sym (removal-follows t c u l e at code))
-
--- Calls that stay turned
-
-pub resv-stays : (t : LegTable) (c : CallTable) (u : NodeId) (l : Lsp) (e : NodeId) (k : LinkId) (x : ℕ) →
-    goes_back t c u (Resv l e k x) ≡ None → StaysTurned t c u (Resv l e k x) (find_leg l t.legs)
-resv-stays t c u l e k x none = go (find_leg l t.legs) refl
-  where
-    a : Arrival
-    a = arrival l e u k
-
-    go : (o : Option Leg) → find_leg l t.legs ≡ o → StaysTurned t c u (Resv l e k x) o
-    go None found = tt
-    go (Some g) found = λ carried.
-        by (is_confirmed a x g) (previous g) (ap (λ o. going_back (confirmed_by c a x o)) (sym found) ∙ none)
-        (ap (carries_leg a x) (sym found) ∙ carried)
-      where
-        by : (y : Bool) (h : Option Neighbour) → going_back (cond (begins_at h && y) (turned_by c g) None) ≡ None →
-            (y && not (is_some h)) ≡ true → going_back (turned_by c g) ≡ None
-        by true None stays at = stays
-        by true (Some h) stays at = absurd (cc at)
-        by false h stays at = absurd (cc at)
-
-pub notice-stays : (t : LegTable) (c : CallTable) (u : NodeId) (m : Msg) → reports t u m ≡ true →
-    goes_back t c u m ≡ None → going_back (reported_by t c m) ≡ None
-notice-stays t c u (Path l e k route set up r) told none = refl
-notice-stays t c u (Resv l e k x) told none = refl
-notice-stays t c u (PathTear l e k) told none = refl
-notice-stays t c u (PathErr l e at gone code) told none = refl
-notice-stays t c u (Notify l e at k code) told none = go (find_leg l t.legs) told none
-  where
-    call_of : Option CallRec
-    call_of = reported_by t c (Notify l e at k code)
-
-    go : (o : Option Leg) → reports_leg u code o ≡ true →
-        going_back (cond (takes_notify u code o) call_of None) ≡ None → going_back call_of ≡ None
-    go None told none = absurd (cc told)
-    go (Some g) told none =
-        by (not (is_closing g.phase)) (is_node (following g) u) (is_some (reported code)) (previous g) told none
-      where
-        by : (x y z : Bool) (h : Option Neighbour) → ((x && (y && z)) && not (is_some h)) ≡ true →
-            going_back (cond (begins_at h && ((x && y) && z)) call_of None) ≡ None → going_back call_of ≡ None
-        by true true true None told none = none
-        by true true true (Some h) told none = absurd (cc told)
-        by true true false h told none = absurd (cc told)
-        by true false z h told none = absurd (cc told)
-        by false y z h told none = absurd (cc told)
 
 -- what comes after nothing is the whole answer
 pub after-nothing : (a : Answer) → followed_by nothing a ≡ a

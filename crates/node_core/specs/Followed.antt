@@ -1,5 +1,5 @@
 -- What becomes of a leg by a message, and at the ingress what becomes of its call then.
-use Rattle.std.specs.Prelude.{◌≡◌, ℕ, Bool, true, false, Option, Some, None, if◌then◌else◌}
+use Rattle.std.specs.Prelude.{ℕ, Bool, Option, Some, None, if◌then◌else◌}
 use Rattle.ason_base.specs.declared.calls.Phase.TheVariants.{Held, Live}
 use Rattle.ason_base.specs.declared.codes.ErrCode.{ErrCode}
 use Rattle.ason_base.specs.declared.ids.Lsp.{Lsp}
@@ -15,7 +15,6 @@ use Rattle.activation.specs.Answers.{activate_answer, busy_answer, carries, conn
 use Rattle.notify.specs.Answers.{pass_answer, reports}
 use Rattle.path_state.specs.Answers.{path_answer}
 use Rattle.resv_state.specs.Answers.{connects, path_err_answer, refuses, resv_answer}
-use Rattle.call_control.specs.GoingBack.{going_back, turned_by}
 use Rattle.call_control.specs.Rules.{answered_here, contended_here, refused_here, reported_here, turned_here}
 
 abbrev pub followed_if : Bool → Answer → Answer → Answer
@@ -42,11 +41,6 @@ connection_followed t c u x m g =
 abbrev pub activation_followed : LegTable → CallTable → NodeId → Msg → Leg → Answer
 activation_followed t c u m g =
     followed_if (carries t u m) (connect_answer t u m) (turned_here c (with_phase Live g))
-
--- by this message no call goes back at once, whose backup's leg here it activates
-abbrev pub StaysTurned : LegTable → CallTable → NodeId → Msg → Option Leg → Type 0
-StaysTurned t c u m None = Unit {0}
-StaysTurned t c u m (Some g) = carries t u m ≡ true → going_back (turned_by c g) ≡ None
 
 abbrev pub resv_at : LegTable → CallTable → NodeId → ℕ → Msg → Option Leg → Answer
 resv_at t c u x m None = nothing

@@ -1,16 +1,14 @@
 //! The rule of each message from a neighbour: what becomes of the leg of its LSP, and at the ingress
 //! what becomes of the call then.
 
-ghost use Rattle.std.specs.Prelude.{◌≡◌, IfOk, None, OnOk, Some};
+ghost use Rattle.std.specs.Prelude.{◌≡◌, IfOk, OnOk};
 ghost use Rattle.std.specs.Option.{option_copied};
 ghost use Rattle.mesh_rules.specs.Changes.{followed_by};
-ghost use Rattle.mesh_rules.specs.Legs.{find_leg};
 ghost use Rattle.mesh_nodes.specs.LocalNodes.{LocalNodeFits};
 ghost use Rattle.leg_table.specs.Fits.{TablesFit};
 ghost use Rattle.leg_table.specs.States.{local_of};
-ghost use Rattle.call_control.specs.Handlers.{goes_back};
 ghost use Rattle.call_control.specs.Rules.{answered_here};
-ghost use Rattle.node_core.specs.Followed.{StaysTurned, activation_followed, busy_followed, connection_followed, notice_followed, path_followed, removal_followed, resv_followed};
+ghost use Rattle.node_core.specs.Followed.{activation_followed, busy_followed, connection_followed, notice_followed, path_followed, removal_followed, resv_followed};
 ghost use Rattle.node_core.specs.Rules.{CanSearch, message_here};
 
 use crate::routes::backup_beside;
@@ -20,15 +18,13 @@ use activation::{
 };
 use ason_base::{ErrCode, Label, Leg, Lsp, Msg, NodeId, OutOfMemory, PathRole, Phase};
 use call_control::{
-    answer_busy, answer_confirmed, answer_report, answer_resv, goes_back, refuse_lsp,
-    sought_by_resv,
+    answer_busy, answer_confirmed, answer_report, answer_resv, refuse_lsp, sought_by_resv,
 };
 use leg_table::one_leg::{connected, with_phase};
 use leg_table::{Calls, Change, NodeTables};
 use notify::{pass_change, reports};
 use path_state::{path_change, tear_change};
 use resv_state::{connects, path_err_change, refuses, resv_change};
-use reversion::go_back_change;
 use std::alloc::Global;
 
 // Paths
@@ -96,7 +92,7 @@ fn connect(
     Ok(change)
 }
 
-// A Resv at a leg that is Armed, by which no call goes back.
+// A Resv at a leg that is Armed.
 fn confirm(
     alloc: Global,
     parts: &NodeParts<'_>,
@@ -104,7 +100,6 @@ fn confirm(
     leg: &Leg,
     msg: &Msg,
 ) -> Result<Change, OutOfMemory>
-    requires { StaysTurned parts.now.tables.now parts.now.calls.now from msg.now (Some leg.now) }
     ensures { IfOk result (λ c. c
         ≡ activation_followed parts.now.tables.now parts.now.calls.now from msg.now leg.now) }
 {
@@ -126,8 +121,6 @@ fn on_resv(
 ) -> Result<Change, OutOfMemory>
     requires tables { TablesFit parts.now.tables.now parts.now.owner.now parts.now.shares.now }
     requires rows { CanSearch parts.now.tables.now }
-    requires stays { StaysTurned parts.now.tables.now parts.now.calls.now from msg.now
-        (find_leg lsp parts.now.tables.now.legs) }
     ensures { IfOk result (λ c. c
         ≡ resv_followed parts.now.tables.now parts.now.calls.now from lsp label msg.now) }
 {
@@ -190,7 +183,6 @@ fn on_notify(
     from: NodeId,
     msg: &Msg,
 ) -> Result<Change, OutOfMemory>
-    requires { goes_back parts.now.tables.now parts.now.calls.now from msg.now ≡ None }
     ensures { IfOk result (λ c. c
         ≡ notice_followed parts.now.tables.now parts.now.calls.now from msg.now) }
 {
@@ -202,8 +194,8 @@ fn on_notify(
     pass_change(alloc, parts.tables, from, msg)
 }
 
-// A message by which no call goes back.
-fn on_other_message(
+/// What a message from a neighbour does to the leg of its LSP. At the ingress its call follows.
+pub(crate) fn on_message(
     alloc: Global,
     parts: &NodeParts<'_>,
     from: NodeId,
@@ -211,7 +203,6 @@ fn on_other_message(
 ) -> Result<Change, OutOfMemory>
     requires tables { TablesFit parts.now.tables.now parts.now.owner.now parts.now.shares.now }
     requires rows { CanSearch parts.now.tables.now }
-    requires stays { goes_back parts.now.tables.now parts.now.calls.now from msg.now ≡ None }
     ensures { IfOk result
         (λ c. c ≡ message_here parts.now.tables.now parts.now.calls.now from msg.now) }
 {
@@ -232,23 +223,5 @@ fn on_other_message(
             }
         }
         Msg::Notify { .. } => on_notify(alloc, parts, from, msg),
-    }
-}
-
-/// What a message from a neighbour does to the leg of its LSP. At the ingress its call follows.
-pub(crate) fn on_message(
-    alloc: Global,
-    parts: &NodeParts<'_>,
-    from: NodeId,
-    msg: &Msg,
-) -> Result<Change, OutOfMemory>
-    requires tables { TablesFit parts.now.tables.now parts.now.owner.now parts.now.shares.now }
-    requires rows { CanSearch parts.now.tables.now }
-    ensures { IfOk result
-        (λ c. c ≡ message_here parts.now.tables.now parts.now.calls.now from msg.now) }
-{
-    match goes_back(parts.tables, parts.calls, from, msg) {
-        Some(_) => go_back_change(alloc, parts.tables, parts.calls, from, msg),
-        None => on_other_message(alloc, parts, from, msg),
     }
 }

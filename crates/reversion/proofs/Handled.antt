@@ -16,13 +16,13 @@ use Rattle.ason_base.specs.declared.tables.CallRec.{CallRec}
 use Rattle.ason_base.specs.declared.tables.Leg.{Leg}
 use Rattle.link_owner.specs.Claims.{FibreClaims}
 use Rattle.mesh_rules.specs.CallSteps.{call_turned}
-use Rattle.mesh_rules.specs.Calls.{call_with, calls_changed, find_call, is_turned, names, turned}
+use Rattle.mesh_rules.specs.Calls.{call_with, calls_changed, find_call, is_turned, is_turning, names, turned}
 use Rattle.mesh_rules.specs.Changes.{Answer, changed, followed_by, lsp_after, nothing, puts}
 use Rattle.mesh_rules.specs.Legs.{find_leg, is_armed, leg_of, legs_changed, with_phase}
 use Rattle.mesh_rules.specs.LocalNodes.{LocalNode}
 use Rattle.mesh_rules.specs.Messages.{on_message}
 use Rattle.mesh_rules.specs.Pairs.{route_from}
-use Rattle.mesh_rules.specs.Reports.{call_reported, fibre_into, reported, reported_on, with_report}
+use Rattle.mesh_rules.specs.Reports.{call_reported, fibre_into, reported_on, with_report}
 use Rattle.mesh_rules.specs.Reverts.{revert_with, reverts}
 use Rattle.mesh_rules.specs.State.{NodeState}
 use Rattle.mesh_rules.specs.Turns.{has_any}
@@ -39,15 +39,14 @@ use Rattle.leg_table.specs.Fits.{TablesFitOwner}
 use Rattle.leg_table.specs.LegClaims.{ClaimsFit, ClaimsStay, OwnerFits}
 use Rattle.leg_table.specs.States.{local_of, state_of}
 use Rattle.leg_table.specs.Tables.{CallTable, LegTable}
-use Rattle.call_control.specs.GoingBack.{going_back, once_told, once_turned, told_by}
+use Rattle.call_control.specs.GoingBack.{going_back, once_turned}
 use Rattle.call_control.specs.Handlers.{goes_back}
 use Rattle.call_control.specs.Ingress.{IngressFits, IsArmedAsBackup, NamesByRole, role_at}
 use Rattle.call_control.proofs.Kept.{Keeps, carried-fits}
 use Rattle.call_control.proofs.Named.{Begins, leg_of-begins, reported-names}
 use Rattle.call_control.proofs.Roles.{BeginAlone, fits-alone, named-as}
 use Rattle.reversion.specs.Answers.{go_back_answer, revert_here, tick_answer}
-use Rattle.reversion.proofs.Decides.{decide_goes, is_back, turned-goes}
-use Rattle.reversion.proofs.Standing.{Leaves, at-start, backed-leaves, go_back-leaves, leg-leaves, nothing-leaves, then-leaves, ticks-leave}
+use Rattle.reversion.proofs.Standing.{Leaves, at-start, backed-leaves, decide-leaves, leg-leaves, nothing-leaves, then-leaves, ticks-leave}
 use Rattle.reversion.proofs.Whole.{goes-live, is-told}
 
 -- what an answer keeps, and the claims that fitted the legs
@@ -144,24 +143,24 @@ module _ (t : LegTable) (c : CallTable) (fits : IngressFits t c) where
       let b : Leg = with_phase Live g in
       let at : Begins p s.legs Back g = begins d refl in
       let here = called g.lsp d named in
-      subst (λ a. Left (followed_by (puts b []) a)) (sym (turned-goes b d back))
-      (then-leaves p s fits.names alone fits.armed (puts b []) _ (leg-leaves p s fits.names alone fits.armed Live g at)
-      (go_back-leaves p s fits.names alone fits.armed (turned d) (Some b)
+      then-leaves p s fits.names alone fits.armed (puts b []) _ (leg-leaves p s fits.names alone fits.armed Live g at)
+      (if_cases Left (is_turning d.state) _ _
+      (λ e. decide-leaves p s fits.names alone fits.armed (turned d) (Some b)
       (record { work = here.work; back = here.back })
-      (record { there = at.there; begun = at.begun; alone = at.alone; role = at.role })))
+      (record { there = at.there; begun = at.begun; alone = at.alone; role = at.role }))
+      (λ e. nothing-left))
 
-  told-left : (g : Leg) (down : Bool) (f : Option Fibre) (o : Option CallRec) → call_with g.lsp c.calls ≡ o →
-      IsSome (going_back (once_told g.lsp down f o)) → Left (reported_on s g down f)
-  told-left g down None o named back = absurd (cc back)
-  told-left g down (Some f) None named back = absurd (cc back)
-  told-left g down (Some f) (Some d) named back =
-      let here = called g.lsp d named in
-      let told : CallRec = with_report d g.lsp down f in
-      subst Left
-      (sym (ap (call_reported s g.lsp down f) named ∙ decide_goes told (leg_of d.back s.legs) (is_back told back)))
-      (go_back-leaves p s fits.names alone fits.armed told (leg_of d.back s.legs)
-      (reported-names p s fits.names alone fits.armed d g.lsp down f here)
-      (leg_of-begins p s fits.names alone fits.armed Back d.back here.back))
+  told-left : (g : Leg) (down : Bool) (f : Option Fibre) → Left (reported_on s g down f)
+  told-left g down None = nothing-left
+  told-left g down (Some f) = go (call_with g.lsp s.calls) refl
+    where
+      go : (o : Option CallRec) → call_with g.lsp s.calls ≡ o → Left (call_reported s g.lsp down f o)
+      go None named = nothing-left
+      go (Some d) named =
+          let here = called g.lsp d named in
+          decide-leaves p s fits.names alone fits.armed (with_report d g.lsp down f) (leg_of d.back s.legs)
+          (reported-names p s fits.names alone fits.armed d g.lsp down f here)
+          (leg_of-begins p s fits.names alone fits.armed Back d.back here.back)
 
   message-left : (u : NodeId) (m : Msg) → IsSome (goes_back t c u m) → Left (on_message p s u m)
   message-left u (Path l e k route set up r) told = absurd (cc told)
@@ -174,12 +173,8 @@ module _ (t : LegTable) (c : CallTable) (fits : IngressFits t c) where
   message-left u (PathErr l e at gone code) told = absurd (cc told)
   message-left u (Notify l e at k code) told =
       let here = is-told t c u l e at k code told in
-      let g = here.tells.leg in
-      let down = here.tells.down in
-      subst Left (sym here.tells.whole)
-      (told-left g down (fibre_into (route_from p g) g.egress at k) (call_with g.lsp c.calls) refl
-      (sym (ap (λ o. is_some (going_back (told_by t c at k o (reported code)))) here.tells.found
-      ∙ ap (λ o. is_some (going_back (told_by t c at k (Some g) o))) here.tells.told) ∙ here.back))
+      let g = here.leg in
+      subst Left (sym here.whole) (told-left g here.down (fibre_into (route_from p g) g.egress at k))
 
   pub go_back-handled : (u : NodeId) (m : Msg) → Handled t c (go_back_answer t c u m)
   go_back-handled u m =

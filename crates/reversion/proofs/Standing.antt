@@ -5,18 +5,18 @@ use Rattle.std.specs.Prelude.{◌+◌, ◌&&◌, Option, Some, None, IfSome}
 use Rattle.std.specs.List.{AllByRecursion}
 use Rattle.ason_base.specs.Lsps.{same_lsp}
 use Rattle.ason_base.specs.declared.calls.Phase.{Phase}
-use Rattle.ason_base.specs.declared.calls.Phase.TheVariants.{Held}
 use Rattle.ason_base.specs.declared.calls.Role.TheVariants.{Work, Back}
 use Rattle.ason_base.specs.declared.ids.Lsp.{Lsp}
 use Rattle.ason_base.specs.declared.tables.CallRec.{CallRec}
 use Rattle.ason_base.specs.declared.tables.Leg.{Leg}
+use Rattle.ason_base.specs.declared.tables.Out.{Out}
 use Rattle.mesh_rules.specs.declared.changes.LegChange.TheVariants as leg
-use Rattle.mesh_rules.specs.Calls.{calls_changed, guarded, is_turned, with_call}
+use Rattle.mesh_rules.specs.Calls.{calls_changed, is_turned, with_call}
 use Rattle.mesh_rules.specs.Changes.{Answer, followed_by, nothing, puts}
-use Rattle.mesh_rules.specs.Legs.{find_leg, is_in_use, leg_of, legs_changed, with_leg, with_phase}
+use Rattle.mesh_rules.specs.Legs.{find_leg, leg_of, legs_changed, with_leg, with_phase}
 use Rattle.mesh_rules.specs.LocalNodes.{LocalNode}
 use Rattle.mesh_rules.specs.State.{NodeState}
-use Rattle.mesh_rules.specs.Turns.{call_put, disarms, go_back, has_any}
+use Rattle.mesh_rules.specs.Turns.{call_put, decide, go_back, has_any}
 use Rattle.mesh_rules.specs.Waits.{all_ticked, ticked}
 use Rattle.mesh_rules.proofs.ChangeLists.{calls-then, legs-then}
 use Rattle.mesh_nodes.proofs.Alarms.{all-append}
@@ -27,7 +27,8 @@ use Rattle.leg_table.specs.LegClaims.{ChangesNoLabel, ClaimsStay}
 use Rattle.leg_table.proofs.Carried.{left-with}
 use Rattle.leg_table.proofs.ClaimChanges.{kind-none, left-fit}
 use Rattle.call_control.specs.Ingress.{AllNameByRole, IsArmedAsBackup, NamesByRole, role_at}
-use Rattle.call_control.proofs.Named.{Begins, leg_of-begins}
+use Rattle.call_control.proofs.Decisions.{HasLspsOf, decide-has, go_back-has, phase_put}
+use Rattle.call_control.proofs.Named.{Begins, leg_of-begins, names-like}
 use Rattle.call_control.proofs.Roles.{BeginAlone, RolesStay, alone-with, calls-stay, changed-stay, lone-taken, lsp-stays, none-taken}
 
 -- s is what the answer reads
@@ -125,21 +126,32 @@ module _ (p : LocalNode) (s : NodeState) (all : AllNameByRole p s) (alone : Begi
     stands = leg-stands q b begins;
   }
 
-  disarms-leaves : (c : CallRec) (b : Leg) → Names c → Begins p s.legs Back b → Leaves (disarms c b)
-  disarms-leaves c b here begins = record {
+  phase-leaves : (q : Phase) (c : CallRec) (b : Leg) (outs : List Out) → Names c → Begins p s.legs Back b →
+      Leaves (phase_put q c b outs)
+  phase-leaves q c b outs here begins = record {
     numbers = refl;
     no_down = refl;
-    labels = (unlabelled Held b begins, tt);
+    labels = (unlabelled q b begins, tt);
     stands = λ legs calls st.
-        call-stands (guarded c) (record { work = here.work; back = here.back }) (with_leg (with_phase Held b) legs)
-        calls (leg-stands Held b begins legs calls st);
+        call-stands c here (with_leg (with_phase q b) legs) calls (leg-stands q b begins legs calls st);
   }
 
-  pub go_back-leaves : (c : CallRec) (o : Option Leg) → Names c → IfSome o (Begins p s.legs Back) →
-      Leaves (go_back c o)
-  go_back-leaves c None here begins = call-leaves c here
-  go_back-leaves c (Some b) here begins =
-      if_cases Leaves (is_in_use b.phase) _ _ (λ e. disarms-leaves c b here begins) (λ e. call-leaves c here)
+  -- a call whose backup begins here
+  module _ (c : CallRec) (o : Option Leg) (here : Names c) (begins : IfSome o (Begins p s.legs Back)) where
+    like-leaves : (d : CallRec) → HasLspsOf c d → Leaves (call_put d)
+    like-leaves d same = call-leaves d (names-like p s all alone armed c d same here)
+
+    moved-leaves : (q : Phase) (d : CallRec) (b : Leg) (outs : List Out) → o ≡ Some b → HasLspsOf c d →
+        Leaves (phase_put q d b outs)
+    moved-leaves q d b outs is same =
+        phase-leaves q d b outs (names-like p s all alone armed c d same here)
+        (subst (λ o. IfSome o (Begins p s.legs Back)) is begins)
+
+    go_back-leaves : Leaves (go_back c o)
+    go_back-leaves = go_back-has Leaves c o like-leaves moved-leaves
+
+    pub decide-leaves : Leaves (decide c o)
+    decide-leaves = decide-has Leaves c o like-leaves moved-leaves
 
   -- the backup of a call that names its LSPs by their roles
   pub backed-leaves : (c : CallRec) → Names c → Leaves (go_back c (leg_of c.back s.legs))

@@ -97,42 +97,9 @@ module _ (t : LegTable) (c : CallTable) (u : NodeId) (l : Lsp) (e : NodeId) wher
     abbrev m : Msg
     m = Notify l e at k code
 
-    pub record IsTold : Type 0 where
-      pub tells : Tells t t c u l e at k code
-      pub back : IsSome (going_back (reported_by t c m))
-      pub whole : on_message p s u m ≡ reported_here t c m
-
-    pub is-told : IsSome (goes_back t c u m) → IsTold
+    pub is-told : IsSome (goes_back t c u m) → Tells t t c u l e at k code
     is-told told =
-        let takes = told-true (takes_notify u code (find_leg l t.legs)) (reported_by t c m) told in
-        let took = tells t t c u l e at k code (record { applies = takes; after = refl }) in
-        record {
-          tells = took;
-          back = ap (λ b. is_some (going_back (cond b (reported_by t c m) None))) (sym takes) ∙ told;
-          whole = took.whole ∙ sym (ap (λ o. told_here t c at k o (reported code)) took.found
-              ∙ ap (told_here t c at k (Some took.leg)) took.told);
-        }
-
--- a message that is a Notify
-pub notify-back : (t : LegTable) (c : CallTable) (u : NodeId) (m : Msg) → IsSome (goes_back t c u m) → (l : Lsp)
-    (e at : NodeId) (k : LinkId) (code : ErrCode) → m ≡ Notify l e at k code → IsSome (going_back (reported_by t c m))
-notify-back t c u m told l e at k code same =
-    let told' = ap (λ n. is_some (goes_back t c u n)) (sym same) ∙ told in
-    subst (λ n. IsSome (going_back (reported_by t c n))) (sym same) (is-told t c u l e at k code told').back
-
--- The call that a Notify tells
-
-module _ (t : LegTable) (c : CallTable) (l : Lsp) (e at : NodeId) (k : LinkId) (code : ErrCode) where
-  back-same : (d : CallRec) (m : Lsp) (down : Bool) (f : Fibre) → (with_report d m down f).back ≡ d.back
-  back-same d m down f = if_cases (λ (r : CallRec). r.back ≡ d.back) (is_lsp d.work m) _ _ (λ x. refl) (λ x. refl)
-
-  -- is decided of with its own backup
-  pub notify-decides : (g : Leg) (down : Bool) (f : Fibre) (d told : CallRec) → find_leg l t.legs ≡ Some g →
-      reported code ≡ Some down → fibre_into (route_from (local_of t) g) g.egress at k ≡ Some f →
-      call_with g.lsp c.calls ≡ Some d → told ≡ with_report d g.lsp down f →
-      decide told (leg_of told.back t.legs) ≡ reported_here t c (Notify l e at k code)
-  notify-decides g down f d told found says into called is =
-      ap (λ (r : CallRec). decide r (leg_of r.back t.legs)) is
-      ∙ ap (λ o. decide (with_report d g.lsp down f) (leg_of o t.legs)) (back-same d g.lsp down f)
-      ∙ sym (ap (λ o. told_here t c at k o (reported code)) found ∙ ap (told_here t c at k (Some g)) says
-      ∙ ap (reported_on (state_of t c) g down) into ∙ ap (call_reported (state_of t c) g.lsp down f) called)
+        tells t t c u l e at k code (record {
+          applies = told-true (takes_notify u code (find_leg l t.legs)) (reported_by t c m) told;
+          after = refl;
+        })

@@ -3,13 +3,11 @@
 //! report of the backup. What each changes is told, or carried out by a handler.
 #![tactic(auto)]
 
-mod going_back;
 pub mod handlers;
 mod messages;
 mod reverts;
 mod waits;
 
 pub use handlers::{go_back, revert, tick};
-pub use messages::go_back_change;
 pub use reverts::revert_change;
 pub use waits::tick_change;

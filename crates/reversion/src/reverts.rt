@@ -3,9 +3,8 @@
 ghost use Rattle.std.specs.Prelude.{◌≡◌, IfOk};
 ghost use Rattle.reversion.specs.Answers.{revert_here};
 
-use crate::going_back::go_back;
 use ason_base::{CallNo, Copied, NodeId, OutOfMemory};
-use call_control::{has_any, id_of, is_turned, leg_of};
+use call_control::{go_back, has_any, id_of, is_turned, leg_of};
 use leg_table::{Calls, Change, NodeTables};
 use std::alloc::Global;
 

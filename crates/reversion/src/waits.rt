@@ -6,9 +6,8 @@ ghost use Rattle.mesh_rules.specs.Changes.{followed_by};
 ghost use Rattle.mesh_rules.specs.Waits.{ticked};
 ghost use Rattle.reversion.specs.Answers.{is_waiting, tick_answer};
 
-use crate::going_back::go_back;
 use ason_base::{CallRec, Copied, OutOfMemory};
-use call_control::{has_any, is_turned, leg_of};
+use call_control::{go_back, has_any, is_turned, leg_of};
 use leg_table::{Calls, Change, NodeTables};
 use std::alloc::Global;
 

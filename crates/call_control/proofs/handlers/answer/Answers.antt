@@ -1,6 +1,5 @@
 use Rattle.leg_table.specs.States.{state_of}
 use Rattle.call_control.proofs.Kept.{carried-fits, follows, if-ok, keeps-few, kept-after, on-ok, sent-after}
-use Rattle.call_control.proofs.NoneBack.{none-back}
 use Rattle.call_control.proofs.handlers.answer.Goals as goal
 
 pub answer_change-requires-clause-links : goal.answer_change-requires-clause-links
@@ -14,10 +13,6 @@ answer_change-requires-clause-rows c =
     let t = c.args.tables.now in
     let calls = c.args.calls.now in
     (follows c.requires.before.0 t calls c.args.from c.args.msg.now c.requires.before.1).known
-
-pub answer_change-requires-clause-none_back : goal.answer_change-requires-clause-none_back
-answer_change-requires-clause-none_back c =
-    none-back c.requires.before.0 c.args.tables.now c.args.calls.now c.args.from c.args.msg.now c.requires.before.1
 
 pub handle_calls-requires-clause-few : goal.handle_calls-requires-clause-few
 handle_calls-requires-clause-few c =

@@ -2,13 +2,8 @@ use Rattle.std.proofs.Common.{◌∙◌, ap, cond, sym}
 use Rattle.mesh_rules.specs.Changes.{followed_by}
 use Rattle.notify.specs.Answers.{pass_answer}
 use Rattle.call_control.specs.Rules.{reported_here}
-use Rattle.node_core.proofs.Followed.{after-nothing, notice-stays}
+use Rattle.node_core.proofs.Followed.{after-nothing}
 use Rattle.node_core.proofs.messages.on_notify.Goals as goal
-
-pub answer_report-requires : goal.answer_report-requires
-answer_report-requires c =
-    notice-stays c.args.parts.now.tables.now c.args.parts.now.calls.now c.args.from c.args.msg.now
-    (sym c.reports.ensures ∙ c.if-reports.true) c.requires
 
 pub returns-then-reports : goal.returns-then-reports
 returns-then-reports c =

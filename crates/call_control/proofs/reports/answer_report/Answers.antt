@@ -1,15 +1,11 @@
-use Rattle.std.proofs.Common.{ap, rules, sym, ◌∙◌}
+use Rattle.std.proofs.Common.{ap, sym, ◌∙◌}
 use Rattle.std.proofs.lemmas.Result.{on_ok_weaker}
 use Rattle.mesh_rules.specs.Changes.{followed_by}
 use Rattle.mesh_rules.specs.Reports.{with_report}
 use Rattle.mesh_rules.specs.Turns.{decide}
 use Rattle.call_control.specs.Rules.{reported_here}
-use Rattle.reversion.proofs.Decides.{is_back}
-use Rattle.reversion.proofs.Whole.{notify-decides}
-use Rattle.reversion.proofs.messages.go_back_once_told.Goals as goal
-
-pub decide-requires : goal.decide-requires
-decide-requires c = is_back c.in_ok-call.call (search rules)
+use Rattle.call_control.proofs.Told.{notify-decides}
+use Rattle.call_control.proofs.reports.answer_report.Goals as goal
 
 pub returns : goal.returns
 returns c =

@@ -1,10 +1,7 @@
-use Rattle.std.proofs.Common.{◌≡◌, ◌∙◌, IfOk, None, true, ap, subst, sym}
+use Rattle.std.proofs.Common.{◌≡◌, ◌∙◌, IfOk, ap, subst}
 use Rattle.ason_base.specs.declared.messages.Msg.TheVariants.{PathErr}
-use Rattle.mesh_rules.specs.Legs.{find_leg}
-use Rattle.call_control.specs.Handlers.{goes_back}
-use Rattle.node_core.specs.Followed.{StaysTurned}
-use Rattle.node_core.proofs.Followed.{removal-is, resv-is, resv-stays}
-use Rattle.node_core.proofs.messages.on_other_message.Goals as goal
+use Rattle.node_core.proofs.Followed.{removal-is, resv-is}
+use Rattle.node_core.proofs.messages.on_message.Goals as goal
 
 pub returns-in-Resv : goal.returns-in-Resv
 returns-in-Resv c =
@@ -22,12 +19,3 @@ returns-then-removed c =
     let is = m.is ∙ ap (λ gone. PathErr m.lsp m.egress m.at gone m.code) c.if-removed.true in
     subst (λ a. IfOk c.remove.result (λ change. change ≡ a))
     (removal-is t k c.args.from c.args.msg.now m.lsp m.egress m.at m.code is) c.remove.ensures
-
-pub on_resv-requires-clause-stays : goal.on_resv-requires-clause-stays
-on_resv-requires-clause-stays c =
-    let t = c.args.parts.now.tables.now in
-    let k = c.args.parts.now.calls.now in
-    let m = c.in-Resv in
-    subst (λ a. StaysTurned t k c.args.from a (find_leg m.lsp t.legs)) (sym m.is)
-    (resv-stays t k c.args.from m.lsp m.egress m.link m.label
-    (subst (λ a. goes_back t k c.args.from a ≡ None) m.is c.requires.stays))
