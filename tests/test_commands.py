@@ -10,7 +10,7 @@ from pathlib import Path
 
 from .support import EXAMPLES, TOOLS, Ended, plan_text, tool
 
-READERS = ("plan-from", "why", "draw", "table-json")
+READERS = ("study-cuts", "plan-from", "why", "draw", "table-json")
 BAD_FILES: dict[str, bytes] = {
     "no utf-8": b"\xff\xfe\xfd\xfc",
     "zeros": bytes(1000),
