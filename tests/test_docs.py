@@ -8,9 +8,8 @@ import unittest
 from pathlib import Path
 
 from .support import TOP
-from .test_index import crates, sections
+from .test_index import PAGES, crates, sections
 
-PAGES = ["README.md", *sorted(f"docs/{path.name}" for path in (TOP / "docs").glob("*.md"))]
 PICTURES = {
     "docs/tools.md": {"before.svg": "docs/nsfnet.svg", "blocking.svg": "docs/blocking.svg", "twenty.svg": "docs/twenty.svg"},
     "docs/first-plan.md": {"my.svg": "docs/first-plan.svg"},
@@ -132,6 +131,15 @@ class PagesTest(unittest.TestCase):
             told = {name for inner in re.findall(r"\(([^()]*)\)", text) for name in re.findall(r"`([a-z]\w*)`", inner)}
             with self.subTest(crate=crate):
                 self.assertEqual(told - named.get(crate, set()) - everywhere, set())
+
+    def test_the_proof_reads_in_ten_minutes_and_in_short_paragraphs(self) -> None:
+        self.assertLess(len(self.page("docs/proof.md").split()), 2_000)
+        for page in PAGES:
+            if page.startswith("docs/proof"):
+                # A row of a table is as many texts as it has cells, an item of a list is one.
+                texts = [text for line in self.page(page).splitlines() for text in (line.split("|") if line.startswith("|") else [line])]
+                with self.subTest(page=page):
+                    self.assertLessEqual(max(map(len, texts)), 600)
 
     def test_the_readme_begins_with_five_sentences(self) -> None:
         first = self.page("README.md").split("\n\n")[1]

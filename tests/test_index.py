@@ -6,8 +6,9 @@ from pathlib import Path
 
 from .support import TOP
 
-PAGES = ["README.md", *sorted(f"docs/{path.name}" for path in (TOP / "docs").glob("*.md"))]
-ABOUT_SOURCES = [f"docs/{name}.md" for name in ("DECISIONS", "crates", "decode", "formats", "hop", "layout", "machine", "proof", "world")]
+PAGES = ["README.md", *sorted(str(path.relative_to(TOP)) for path in (TOP / "docs").rglob("*.md"))]
+FOR_USERS = ("README.md", "docs/first-plan.md", "docs/restoration.md", "docs/tools.md")
+ABOUT_SOURCES = [page for page in PAGES if page not in FOR_USERS]
 BY_HAND = TOP / "tests/wrong-bodies"
 INDEX = "**In the sources"
 PARTS = ["definition", "code", "at a node", "along the route", "wrong body", "test"]
@@ -108,7 +109,7 @@ class IndexTest(unittest.TestCase):
         for line in lines:
             for part in PARTS:
                 with self.subTest(line=line[:60], part=part):
-                    self.assertRegex(line, rf"{part} (?:\[`|none)")
+                    self.assertRegex(line, rf"{part} \[`")
 
     def test_the_layers_are_those_of_crates_txt(self) -> None:
         rows = re.findall(r"^\| `(\w+)` \|([^|]*)\|", (TOP / "docs/layout.md").read_text(), re.MULTILINE)
