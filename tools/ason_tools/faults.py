@@ -6,7 +6,7 @@ from collections.abc import Callable, Iterator
 from dataclasses import dataclass
 from itertools import pairwise
 
-from . import toml_places
+from . import script_forms, toml_places
 from .errors import quoted
 from .files import MARK, place_of
 from .plan import MOST_LABELS, MOST_LINES, MOST_LINKS, MOST_METRIC, MOST_NODES, MOST_SRLGS
@@ -22,10 +22,14 @@ MOST_WAIT = 10_000
 
 @dataclass(frozen=True)
 class Fault:
-    """A fault: a sentence, and where it is, as line and column from 1. The place is None where the text shows none."""
+    """A fault: a sentence, where it is, as line and column from 1, and lines that tell more.
+
+    The place is None where the text shows none.
+    """
 
     sentence: str
     place: tuple[int, int] | None
+    more: tuple[str, ...] = ()
 
 
 Finding = tuple[int | None, str]
@@ -44,7 +48,8 @@ def explain(data: bytes, refused: Refused) -> Fault:
     except (toml_places.Unreadable, RecursionError):
         return Fault(f"{_meaning(refused)} (this tool can't read the file's TOML, so it shows no line)", None)
     at, sentence = _find(top, refused)
-    return Fault(sentence, None if at is None else place_of(text[:at]))
+    more = script_forms.FORMS if refused.kind == "words" else ()
+    return Fault(sentence, None if at is None else place_of(text[:at]), more)
 
 
 def _syntax(data: bytes) -> Fault:
@@ -213,6 +218,7 @@ def _in_line(top: Placed, row: Placed, number: int, refused: Refused) -> str:
     """The sentence on a script line."""
     words = [word for word in str(row.value).split(" ") if word]
     details: dict[str, Callable[[], str | None]] = {
+        "words": lambda: script_forms.nearest(words),
         "name": lambda: f"{quoted(words[1])} is no name: a letter and up to 15 more letters, digits, _ or -",
         "node": lambda: _unknown_node(top, words),
         "same": lambda: f"the call begins and ends at {quoted(words[2])}",
