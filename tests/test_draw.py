@@ -126,6 +126,7 @@ class UsageTest(unittest.TestCase):
             ("call east a x bare - - -\n", "calls 1 legs 0\n", "the node x"),
             ("leg a.1.1 a work live - 3/1\n", "calls 0 legs 1\n", "a leg of a on link 3"),
             ("leg a.1.1 a work live - 9/1\n", "calls 0 legs 1\n", "a leg of a on link 9"),
+            ("leg a.1.1 a work live - 1/3\n", "calls 0 legs 1\n", "label 3 of link 1, which has 2 in the plan"),
         ]
         for row, head, words in cases:
             with self.subTest(row=row), self.assertRaisesRegex(ToolError, words):

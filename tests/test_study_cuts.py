@@ -82,8 +82,9 @@ class OutcomeTest(unittest.TestCase):
     def test_a_turned_call_is_hit_on_its_backup(self) -> None:
         network = plan.read((EXAMPLES / "turned.toml").read_text())
         start = cuts.standing(network)
-        self.assertEqual([it.call.state for it in start.carried.values() if it.call.name == "c1"], ["turned"])
-        over = set(start.carried["c1"].backup)
+        # Link 3 has failed, and the backup goes over the links 1 and 2.
+        over = {1, 2}
+        self.assertEqual(start.carried, {"c1": over})
         found = cuts.study(start, cuts.single_cuts(network), 2, lambda done, count: None)
         self.assertEqual({it.links[0] for it in found if len(it.links) == 1 and "c1" in it.hit}, over)
 

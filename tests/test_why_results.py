@@ -1,11 +1,16 @@
 """`tools/why` over tables: where a call failed, what is free beside it, and why no backup can exist."""
 
+import random
 import unittest
+from collections.abc import Iterator
+from itertools import combinations, pairwise, product
 
 from ason_tools import plan, program, tables
+from ason_tools.circuits import Holder, Usage
 from ason_tools.disjoint import Shared, least_backup, other_pair, shared_by_all
 from ason_tools.groups import Group
 from ason_tools.reasons import reasons
+from ason_tools.room import Room
 from ason_tools.script_forms import FORMS
 
 from .support import plan_text, tool
@@ -198,10 +203,67 @@ leg a.2.4 c back held 2/1 -
         found = told(self.TEXT, rows, {5})["z"]
         self.assertEqual(found[1], "its backup via 1,2 is free now: retry z turns it")
 
+    def test_a_turned_call_whose_backup_is_cut(self) -> None:
+        rows = self.ROWS.format(x="turned", phase="live", cause="busy")
+        found = told(self.TEXT, rows, {4, 2})["x"]
+        self.assertEqual(found, ["its working route: link 4 (a to c) is down", "its backup: link 2 (b to c) is down"])
+
+    def test_a_call_that_is_turning(self) -> None:
+        rows = self.ROWS.format(x="turning", phase="armed", cause="busy")
+        found = told(self.TEXT, rows, {4})["x"]
+        self.assertEqual(found[1], "its backup wasn't connected from end to end yet when the table was made")
+
     def test_a_backup_that_is_down_too(self) -> None:
         rows = self.ROWS.format(x="guarded", phase="held", cause="backdown")
         found = told(self.TEXT, rows, {5, 2})["z"]
         self.assertEqual(found, ["its working route: link 5 (a to c) is down", "its backup: link 2 (b to c) is down"])
+
+
+def walks(network: plan.Plan, nodes: tuple[str, ...], target: str) -> Iterator[tuple[str, ...]]:
+    """All ways from the last of these nodes to the target that come to no node twice, by their nodes."""
+    if nodes[-1] == target:
+        yield nodes
+        return
+    ends = [link.other(nodes[-1]) for link in network.links if nodes[-1] in link.ends]
+    for node in ends:
+        if node not in nodes:
+            yield from walks(network, (*nodes, node), target)
+
+
+class RoomTest(unittest.TestCase):
+    """The least free way, against all ways on small networks of both kinds of nodes."""
+
+    def test_the_least_free_way_is_as_short_as_any(self) -> None:
+        chance = random.Random(20261128)
+        for _ in range(150):
+            network, room = self.network(chance)
+            found = room.least("n0", "n4", network)
+            free = [nodes for nodes in walks(network, ("n0",), "n4") if self.has_labels(room, nodes)]
+            self.assertEqual(len(found) if found else None, min((len(nodes) - 1 for nodes in free), default=None))
+            self.assertTrue(found is None or room.narrow("n0", found) is None)
+
+    def network(self, chance: random.Random) -> tuple[plan.Plan, Room]:
+        """Five nodes, a link between some two of them, and labels that somebody holds."""
+        names = [f"n{number}" for number in range(5)]
+        nodes = [plan.Node(name, number, chance.random() < 0.4) for number, name in enumerate(names, 1)]
+        pairs = [pair for pair in combinations(names, 2) if chance.random() < 0.7]
+        links = [plan.Link(number, pair, 2) for number, pair in enumerate(pairs, 1)]
+        holder = Holder(None, tables.Lsp("n0", 9, 9), True)
+        held = {
+            (link.id, end): {label: [holder] for label in (1, 2) if chance.random() < 0.5} for link in links for end in link.ends
+        }
+        network = plan.Plan(nodes, links)
+        return network, Room(network, Usage([], held))
+
+    def has_labels(self, room: Room, nodes: tuple[str, ...]) -> bool:
+        """Whether some choice of labels runs along these nodes, changing at those that convert alone."""
+        links = {frozenset(link.ends): link for link in room.plan.links}
+        converting = {node.name for node in room.plan.nodes if node.convert}
+        fibres = [room.usable[links[frozenset(step)].id, step[0]] for step in pairwise(nodes)]
+        return any(
+            all(node in converting or a == b for node, (a, b) in zip(nodes[1:-1], pairwise(labels)))
+            for labels in product(*fibres)
+        )
 
 
 class ToolTest(unittest.TestCase):

@@ -41,9 +41,10 @@ class Circuit:
         routes = ((self.call.work, self.work), (self.call.backup, self.backup))
         return [Span(self, link, lsp == self.carrier) for lsp, route in routes for link in route]
 
-    def carries_over(self, link: int) -> bool:
-        """Whether the call's signal goes over this link."""
-        return any(span.carries and span.link == link for span in self.spans)
+    @property
+    def carrying(self) -> frozenset[int]:
+        """The links over which the call's signal goes."""
+        return frozenset(span.link for span in self.spans if span.carries)
 
     @property
     def is_cut_off(self) -> bool:
@@ -116,17 +117,19 @@ def _add(held: list[Holder], holder: Holder) -> None:
 
 
 def _check(plan: Plan, table: Table) -> None:
-    """Refuses a table that names a node or a link which the plan doesn't have."""
+    """Refuses a table that names a node, a link or a label which the plan doesn't have."""
     names = {node.name for node in plan.nodes}
     for name in [end for call in table.calls for end in (call.source, call.target)] + [leg.node for leg in table.legs]:
         if name not in names:
             raise ToolError(f"the table names the node {name}, which the plan doesn't have")
-    ends = {link.id: link.ends for link in plan.links}
-    for leg in table.legs:
-        for hold in _holds(leg):
-            if leg.node not in ends.get(hold.link, ()):
-                where = f"a leg of {leg.node} on link {hold.link}"
-                raise ToolError(f"the table has {where}, which doesn't end there in the plan")
+    links = {link.id: link for link in plan.links}
+    for leg, hold in ((leg, hold) for leg in table.legs for hold in _holds(leg)):
+        link = links.get(hold.link)
+        if link is None or leg.node not in link.ends:
+            where = f"a leg of {leg.node} on link {hold.link}"
+            raise ToolError(f"the table has {where}, which doesn't end there in the plan")
+        if hold.label is not None and not 1 <= hold.label <= link.labels:
+            raise ToolError(f"the table has label {hold.label} of link {link.id}, which has {link.labels} in the plan")
 
 
 def _route(links: dict[int, Link], lsp: Lsp | None, legs: dict[Lsp, list[Leg]]) -> tuple[int, ...]:

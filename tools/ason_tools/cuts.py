@@ -40,21 +40,21 @@ class Outcome:
 
 @dataclass(frozen=True)
 class Standing:
-    """A plan whose script comes to a table, and the circuits of that table by name, as far as something carries them."""
+    """A plan whose script comes to a table, and of each call of that table that something carries the links that do."""
 
     plan: Plan
-    carried: dict[str, Circuit]
+    carried: dict[str, frozenset[int]]
 
     def hit(self, links: frozenset[int]) -> tuple[str, ...]:
         """The calls whose carrying LSP has one of these links."""
-        return tuple(name for name, it in self.carried.items() if any(it.carries_over(link) for link in links))
+        return tuple(name for name, route in self.carried.items() if not links.isdisjoint(route))
 
 
 def standing(plan: Plan) -> Standing:
     """What stands at the end of the plan's script, when the network is quiet."""
     script = [line for line in plan.script if line.split() != ["show"]]
     settled = replace(plan, script=[*script, "settle 1000"])
-    return Standing(settled, {name: it for name, it in circuits(settled).items() if it.carrier is not None})
+    return Standing(settled, {name: it.carrying for name, it in circuits(settled).items() if it.carrier is not None})
 
 
 def circuits(plan: Plan) -> dict[str, Circuit]:

@@ -1,5 +1,6 @@
 """Risk groups: what a script's `fail` and `repair` cut and make whole."""
 
+import re
 from collections.abc import Iterable
 from dataclasses import dataclass
 
@@ -7,6 +8,8 @@ from .errors import ToolError
 from .plan import Plan
 
 KINDS = ("srlg", "link")
+
+_NUMBER = re.compile("[0-9]{1,10}")
 
 
 @dataclass(frozen=True)
@@ -35,10 +38,11 @@ def groups_of(plan: Plan) -> list[Group]:
 
 def read_group(words: Iterable[str], plan: Plan) -> Group:
     """The group of the plan that the two words name."""
-    kind, number = words
-    if kind not in KINDS or not (number.isascii() and number.isdigit()):
+    kind, text = words
+    number = number_of(text)
+    if kind not in KINDS or number is None:
         raise ToolError("a group is srlg and a number, or link and a number")
-    group = Group(kind, int(number))
+    group = Group(kind, number)
     if not group.links(plan):
         raise ToolError(f"no link has the {'SRLG' if kind == 'srlg' else 'id'} {number}")
     return group
@@ -49,7 +53,13 @@ def changes(line: str) -> tuple[str, Group] | None:
     words = line.split()
     if len(words) != 3 or words[0] not in ("fail", "repair") or words[1] not in KINDS:
         return None
-    return (words[0], Group(words[1], int(words[2]))) if words[2].isascii() and words[2].isdigit() else None
+    number = number_of(words[2])
+    return None if number is None else (words[0], Group(words[1], number))
+
+
+def number_of(text: str) -> int | None:
+    """The number of a link or an SRLG that the text spells, or None."""
+    return int(text) if _NUMBER.fullmatch(text) else None
 
 
 def failed_links(plan: Plan, shows: int | None = None) -> frozenset[int]:

@@ -40,7 +40,7 @@ class Reason:
 def reasons(plan: Plan, table: Table, failed: frozenset[int]) -> list[Reason]:
     """A reason for each call that is blocked, stuck, bare with a cause, or cut off."""
     used, setups = usage(plan, table, failed), setups_of(plan)
-    teller = _Teller(plan, used, failed)
+    teller = _Teller(plan, used, failed, Room(plan, used))
     return [
         Reason(circuit.call, tuple(teller.sentences(circuit, setups.get(circuit.call.name))))
         for circuit in used.circuits
@@ -55,6 +55,7 @@ class _Teller:
     plan: Plan
     used: Usage
     failed: frozenset[int]
+    room: Room
 
     def sentences(self, circuit: Circuit, setup: Setup | None) -> list[str]:
         """Why the call is as it is."""
@@ -77,7 +78,7 @@ class _Teller:
         route = given or least(self.plan, call.source, call.target)
         if route is None:
             return [self._no_way(call)]
-        found = self._met(Room(self.plan, self.used), call, route, self.plan)
+        found = self._met(self.room, call, route, self.plan)
         if call.cause == "down":
             found += self._unsettled(setup)
         again = "a setup isn't tried again, nor by another way: release it and set it up anew"
@@ -170,6 +171,8 @@ class _Teller:
             return [*found, "it has no backup"]
         if self._down(circuit.backup):
             return [*found, f"its backup: {self._down(circuit.backup)}"]
+        if call.state != "stuck":
+            return [*found, "its backup wasn't connected from end to end yet when the table was made"]
         busy = self._busy(circuit)
         if busy:
             return found + busy
@@ -195,7 +198,7 @@ class _Teller:
         (number, sender), label, other = shared[0]
         link = next(it for it in self.plan.links if it.id == number)
         name = other.circuit.call.name if other.circuit else other.lsp.text()
-        free = sorted(Room(self.plan, self.used).usable[number, sender])
+        free = sorted(self.room.usable[number, sender])
         labels = f"label {_listed(list(map(str, free)))}" if free else "no label"
         return [
             f"at {link.other(sender)}: the fibre of link {number} from {sender}, label {label}, is in use by {name}",

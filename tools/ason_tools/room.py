@@ -7,9 +7,14 @@ from functools import cached_property
 
 from .circuits import Fibre, Usage
 from .disjoint import risks
-from .plan import MOST_STEPS, Link, Plan
+from .plan import MOST_LABELS, MOST_STEPS, Link, Plan
+from .routes import links_around
 from .setups import Route
 from .tables import Lsp
+
+
+EVERY = frozenset(range(1, MOST_LABELS + 1))
+"""What an LSP may have behind its ingress and behind a node that converts: any label."""
 
 
 @dataclass(frozen=True)
@@ -32,7 +37,8 @@ class Narrow:
 class Room:
     """The labels that an LSP could take: a working one those that nobody holds.
 
-    A backup beside this working route can also share those that only backups hold whose working routes have no risk of it.
+    A backup beside this working route can also share those that backups alone hold, whose working routes share no risk
+    with it.
     """
 
     plan: Plan
@@ -48,39 +54,41 @@ class Room:
     def narrow(self, source: str, route: Route) -> Narrow | None:
         """Where an LSP over this route would find no label, or None where it finds them all."""
         links = {link.id: link for link in self.plan.links}
-        node, offered = source, None
+        node, labels = source, EVERY
         for link in (links[number] for number in route):
             usable = self.usable[link.id, node]
-            offered = usable if offered is None or node in self._converting else offered & usable
-            if not offered:
+            labels &= usable
+            if not labels:
                 return Narrow(link, node, bool(usable))
             node = link.other(node)
+            labels = EVERY if node in self._converting else labels
         return None
 
     def least(self, source: str, target: str, ways: Plan) -> Route | None:
         """The least route by links among these ways on which an LSP would find its labels."""
-        heap: list[tuple[int, Route, tuple[str, ...], int]] = [(0, (), (source,), 0)]
-        seen: set[tuple[str, int]] = set()
+        around = links_around(ways)
+        heap: list[tuple[int, Route, tuple[str, ...], frozenset[int]]] = [(0, (), (source,), EVERY)]
+        seen: dict[str, list[frozenset[int]]] = {node: [] for node in around}
         while heap:
-            count, route, nodes, label = heapq.heappop(heap)
-            if nodes[-1] == target:
+            count, route, nodes, labels = heapq.heappop(heap)
+            node = nodes[-1]
+            if node == target:
                 return route
-            state = (nodes[-1], 0 if nodes[-1] in self._converting else label)
-            if state in seen or count == MOST_STEPS:
+            if count == MOST_STEPS or any(labels <= other for other in seen[node]):
                 continue
-            seen.add(state)
-            for link, taken in self._steps(nodes, label, ways):
-                heapq.heappush(heap, (count + 1, (*route, link.id), (*nodes, link.other(nodes[-1])), taken))
+            seen[node].append(labels)
+            for link, kept in self._steps(nodes, labels, around[node]):
+                heapq.heappush(heap, (count + 1, (*route, link.id), (*nodes, link.other(node)), kept))
         return None
 
-    def _steps(self, nodes: tuple[str, ...], label: int, ways: Plan) -> Iterator[tuple[Link, int]]:
-        """The links that lead on from the last node, and the labels that an LSP could have on them."""
-        node = nodes[-1]
-        for link in ways.links:
-            if node in link.ends and link.other(node) not in nodes:
-                usable = self.usable[link.id, node]
-                kept = usable if len(nodes) == 1 or node in self._converting else usable & {label}
-                yield from ((link, taken) for taken in sorted(kept))
+    def _steps(
+        self, nodes: tuple[str, ...], labels: frozenset[int], links: list[Link]
+    ) -> Iterator[tuple[Link, frozenset[int]]]:
+        """Those of the links that lead on from the last node, and the labels with which an LSP could come from there."""
+        for link in links:
+            node, kept = link.other(nodes[-1]), labels & self.usable[link.id, nodes[-1]]
+            if kept and node not in nodes:
+                yield link, EVERY if node in self._converting else kept
 
     @cached_property
     def _converting(self) -> frozenset[str]:
@@ -97,4 +105,5 @@ class Room:
 
     def _usable(self, link: Link, sender: str) -> Iterator[int]:
         held = self.used.holders.get((link.id, sender), {})
-        return (label for label in range(1, link.labels + 1) if all(it.lsp in self._sharing for it in held.get(label, ())))
+        labels = range(1, link.labels + 1)
+        return (label for label in labels if all(it.lsp in self._sharing for it in held.get(label, ())))

@@ -18,12 +18,17 @@ def by_metric(link: Link) -> int:
     return link.metric
 
 
+def links_around(plan: Plan) -> dict[str, list[Link]]:
+    """The links of each node."""
+    around: dict[str, list[Link]] = {node.name: [] for node in plan.nodes}
+    for link, end in ((link, end) for link in plan.links for end in link.ends):
+        around[end].append(link)
+    return around
+
+
 def least_route(plan: Plan, source: str, target: str, cost: Cost) -> list[Link] | None:
     """The links of the route of least cost, and among those of the least list of link ids. None where none leads there."""
-    around: dict[str, list[Link]] = {node.name: [] for node in plan.nodes}
-    for link in plan.links:
-        for end in link.ends:
-            around[end].append(link)
+    around = links_around(plan)
     reached: set[str] = set()
     heap: list[tuple[int, list[int], str, list[Link]]] = [(0, [], source, [])]
     while heap:
