@@ -1,8 +1,17 @@
+mod AllRoutes
 mod BoundChecks
+mod Bounds
+mod EndLists
 mod Exact
+mod Explored
+mod Leaves
 mod OnwardChecks
+mod Orders
 mod Partner
+mod PartnerWalks
 mod Passes
 mod Right
 mod Tests
+mod Totals
+mod Trees
 mod Visits

@@ -1,8 +1,8 @@
--- Pairs of routes that can't fail together.
+-- Pairs of routes that can't fail together, and which of two is the better one.
 use Rattle.std.specs.Prelude.{◌≡◌, ◌≤◌, ◌+◌, ℕ, true, List, [], ◌∷◌, ◌++◌, Option, Some, None}
 use Rattle.ason_base.specs.Network.{is_distinct}
 use Rattle.ason_base.specs.Routes.{nodes_of}
-use Rattle.ason_base.specs.Walks.{IsBackup, IsWalk, NoLink, NoNode}
+use Rattle.ason_base.specs.Walks.{IsAtMost, IsBackup, IsWalk, NoLink, NoNode, links_of}
 use Rattle.ason_base.specs.declared.ids.NodeId.{NodeId}
 use Rattle.ason_base.specs.declared.network.TeRow.{TeRow}
 use Rattle.ason_base.specs.declared.steps.Step.{Step}
@@ -30,3 +30,29 @@ abbrev pub NoneIsBetter : List TeRow → NodeId → NodeId → Option ℕ → Ty
 NoneIsBetter rows from to total =
     (primary backup : List Step) (cost more : ℕ) → IsPair rows from to primary backup cost more →
     IsNotBetter total cost more
+
+-- two routes and the sum of their costs
+pub record Weighed : Type 0 where
+  pub primary : List Step
+  pub backup : List Step
+  pub total : ℕ
+
+-- the first pair is better, or as good: a lesser total, then a lesser primary list of links, then a lesser backup list
+pub record IsAsGood (first second : Weighed) : Type 0 where
+  pub total : first.total ≤ second.total
+  pub primary : first.total ≡ second.total → IsAtMost (links_of first.primary) (links_of second.primary)
+  pub backup : first.total ≡ second.total → links_of first.primary ≡ links_of second.primary →
+      IsAtMost (links_of first.backup) (links_of second.backup)
+
+-- a pair of this total, as good as each other one
+pub record IsBestPair (rows : List TeRow) (from to : NodeId) (best : Weighed) : Type 0 where
+  pub cost : ℕ
+  pub more : ℕ
+  pub pair : IsPair rows from to best.primary best.backup cost more
+  pub sum : best.total ≡ cost + more
+  pub good : (primary backup : List Step) (c m : ℕ) → IsPair rows from to primary backup c m →
+      IsAsGood best (record { primary = primary; backup = backup; total = c + m })
+
+abbrev pub HasNoPair : List TeRow → NodeId → NodeId → Type 0
+HasNoPair rows from to =
+    (primary backup : List Step) (cost more : ℕ) → ¬ IsPair rows from to primary backup cost more
