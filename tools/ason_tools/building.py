@@ -2,13 +2,21 @@
 
 from collections.abc import Hashable, Iterable
 
-from .errors import ToolError
+from .errors import ToolError, quoted
 from .names import Namer
-from .plan import MOST_LABELS, MOST_LINKS, MOST_METRIC, MOST_NODES, MOST_SETUPS, Link, Node, Plan
+from .plan import (
+    MOST_LABELS,
+    MOST_LINKS,
+    MOST_METRIC,
+    MOST_NODES,
+    MOST_SETUPS,
+    MOST_SRLG,
+    MOST_SRLGS,
+    Link,
+    Node,
+    Plan,
+)
 from .topology import Position
-
-MOST_SRLGS = 16
-MOST_NUMBER = 4_294_967_295
 
 
 class Builder:
@@ -50,7 +58,7 @@ class Builder:
         _check(f"the labels of {shown}", labels, 1, MOST_LABELS)
         _check(f"the metric of {shown}", metric, 1, MOST_METRIC)
         for number in numbers:
-            _check(f"an SRLG of {shown}", number, 0, MOST_NUMBER)
+            _check(f"an SRLG of {shown}", number, 0, MOST_SRLG)
         if len(numbers) > MOST_SRLGS:
             raise ToolError(f"{shown} has {len(numbers)} SRLGs, and a plan has at most {MOST_SRLGS} of a link")
         names = (self._names[ends[0]], self._names[ends[1]])
@@ -74,13 +82,6 @@ class Builder:
         if name is None:
             raise ToolError(f"{quoted(end)} is no node")
         return name
-
-
-def quoted(value: object) -> str:
-    """The value as a sentence shows it: in one line and not too long."""
-    text = value if isinstance(value, str) else repr(value)
-    text = text if len(text) <= 40 else text[:40] + ".."
-    return f"'{text}'" if text.isprintable() else ascii(text)
 
 
 def _check(what: str, number: object, least: int, most: int) -> None:

@@ -79,7 +79,7 @@ def pair_cuts(plan: Plan) -> list[Groups]:
 
 
 def study(start: Standing, cuts: list[Groups], jobs: int, tell: Callable[[int, int], None]) -> list[Outcome]:
-    """The outcome of each cut. Runs go side by side, one for each set of links; `tell` hears how many of all are done."""
+    """The outcome of each cut, by one run for each set of links. `tell` hears how many of how many runs are done."""
     links = {cut: frozenset(link for group in cut for link in group.links(start.plan)) for cut in cuts}
     todo = {links[cut]: cut for cut in reversed(cuts) if start.hit(links[cut])}
     after: dict[frozenset[int], dict[str, Circuit]] = {}

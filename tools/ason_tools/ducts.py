@@ -23,9 +23,8 @@ def ducts(plan: Plan, apart: float) -> list[list[Link]]:
     places = {node.name: _place(node.name, node.position) for node in plan.nodes}
     spans = {link.id: (places[link.ends[0]], places[link.ends[1]]) for link in plan.links}
     found: dict[frozenset[int], None] = {}
-    for link in plan.links:
-        beside = [other.id for other in plan.links if other is link or _is_along(spans[link.id], spans[other.id], apart)]
-        found[frozenset(beside)] = None
+    for short, span in spans.items():
+        found[frozenset(long for long in spans if long == short or _is_along(span, spans[long], apart))] = None
     kept = [duct for duct in found if len(duct) > 1 and not any(duct < other for other in found)]
     return [[link for link in plan.links if link.id in duct] for duct in kept]
 
@@ -34,7 +33,8 @@ def _place(name: str, position: Position | None) -> Position:
     if position is None:
         raise ToolError(f"node {quoted(name)} has no position, so no ducts can be told")
     if abs(position[0]) > 180 or abs(position[1]) > 90:
-        raise ToolError(f"the position of node {quoted(name)} isn't a longitude and a latitude, so no ducts can be told")
+        where = f"the position of node {quoted(name)}"
+        raise ToolError(f"{where} isn't a longitude and a latitude, so no ducts can be told")
     return position
 
 

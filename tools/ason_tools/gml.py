@@ -1,4 +1,4 @@
-"""Topologies in GML, as the Topology Zoo and networkx have them: a key and a value, which is a number, a text or a list."""
+"""Topologies in GML, as the Topology Zoo has them: keys with values, each a number, a text or a list."""
 
 import re
 from collections.abc import Iterator

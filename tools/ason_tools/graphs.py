@@ -3,8 +3,8 @@
 from collections.abc import Hashable, Iterable
 from typing import Any, Protocol
 
-from .building import Builder, quoted
-from .errors import ToolError
+from .building import Builder
+from .errors import ToolError, quoted
 from .plan import Plan
 from .topology import Position, position_of
 

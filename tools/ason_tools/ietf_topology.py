@@ -4,8 +4,8 @@ import json
 from dataclasses import dataclass
 from typing import Any
 
-from .building import Builder, quoted
-from .errors import ToolError
+from .building import Builder
+from .errors import ToolError, quoted
 from .topology import Position, position_of
 
 TE_TYPE = "te-topology"

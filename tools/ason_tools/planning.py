@@ -19,9 +19,9 @@ from .xml_tree import read_tree
 class Wishes:
     """How the plan is to be made.
 
-    `metric` names an attribute, of which `per` make one unit of the metric. `srlg` names the attribute that has an edge's
-    SRLGs; spans at most `duct` kilometres apart get one for their duct. A demand is a setup for each `units` of it. With
-    `settle` each setup comes to its end before the next is posted.
+    `metric` names an attribute, of which `per` make one unit of the metric. `srlg` names the attribute that has an
+    edge's SRLGs; spans at most `duct` kilometres apart get one for their duct. A demand is a setup for each `units` of
+    it. With `settle` each setup comes to its end before the next is posted.
     """
 
     labels: int = 80

@@ -33,7 +33,7 @@ class Series:
 
 
 def draw(series: list[Series], title: str, x_name: str, y_name: str) -> str:
-    """The means of each series as a line, in a band from the least to the greatest. Several have their names beside them."""
+    """The means of each series as a line, in a band from the least to the greatest. Several have their names."""
     every = [row for it in series for row in it.rows]
     widest, highest = max(row.x for row in every), max(1, *(row.most for row in every))
     drawing = Drawing(WIDTH, HEIGHT, title)

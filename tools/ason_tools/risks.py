@@ -24,8 +24,8 @@ def srlgs_of(edges: list[Edge], attribute: str | None) -> tuple[list[tuple[int, 
     numbers = [int(word) for row in words for word in row if _is_number(word)]
     named = dict.fromkeys(word for row in words for word in row if not _is_number(word))
     known = {word: number for number, word in enumerate(named, max(numbers, default=0) + 1)}
-    found = [_distinct(edge, [known[word] if word in known else int(word) for word in row]) for edge, row in zip(edges, words)]
-    return found, [("srlg", word, str(number)) for word, number in known.items()]
+    rows = [[known[word] if word in known else int(word) for word in row] for row in words]
+    return [_distinct(edge, row) for edge, row in zip(edges, rows)], [("srlg", word, str(number)) for word, number in known.items()]
 
 
 def _words(text: str) -> list[str]:

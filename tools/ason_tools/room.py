@@ -84,7 +84,7 @@ class Room:
     def _steps(
         self, nodes: tuple[str, ...], labels: frozenset[int], links: list[Link]
     ) -> Iterator[tuple[Link, frozenset[int]]]:
-        """Those of the links that lead on from the last node, and the labels with which an LSP could come from there."""
+        """Those of the links that lead on from the last node, and the labels that an LSP could have behind them."""
         for link in links:
             node, kept = link.other(nodes[-1]), labels & self.usable[link.id, nodes[-1]]
             if kept and node not in nodes:

@@ -28,7 +28,7 @@ def setups_of(plan: Plan) -> dict[str, Setup]:
     found = [_setup(place, words) for place, words in lines if words[:1] == ["setup"] and len(words) >= 4]
     for setup in found:
         if not all(_leads(plan, setup, route) for route in (setup.via, setup.backup) if route is not None):
-            raise ToolError(f"a route of script line {setup.place + 1} doesn't lead from one end of the call to the other")
+            raise ToolError(f"a route of script line {setup.place + 1} doesn't lead from {setup.source} to {setup.target}")
     return {setup.name: setup for setup in found}
 
 

@@ -26,7 +26,7 @@ class Site:
 
 @dataclass(frozen=True)
 class Edge:
-    """A line of the file between two nodes, with the texts of its attributes. A directed one is one direction of a link."""
+    """A line of the file between two nodes, with the texts of its attributes. A directed one is one way of a link."""
 
     key: str
     ends: tuple[str, str]
@@ -36,7 +36,7 @@ class Edge:
 
 @dataclass(frozen=True)
 class Demand:
-    """A wish for a connection from one node to another, and how much of the file's unit it needs, where that is told."""
+    """A wish for a connection from one node to another, and how much it needs, where that is told."""
 
     key: str
     source: str
