@@ -1,5 +1,6 @@
 """`tools/study-cuts`: what each cut does to calls, in each form, and what can't be studied."""
 
+import contextlib
 import csv
 import io
 import json
@@ -47,6 +48,15 @@ def studied(name: str, with_pairs: bool = False) -> dict[str, Outcome]:
     network = plan.read((EXAMPLES / f"{name}.toml").read_text())
     todo = cuts.pair_cuts(network) if with_pairs else cuts.single_cuts(network)
     return {it.name: it for it in cuts.study(cuts.standing(network), todo, 2, lambda done, count: None)}
+
+
+def all_of(terminal: int) -> bytes:
+    """All that was written to the terminal whose other end is closed. It comes in parts; behind the last is an error."""
+    parts = [b""]
+    with contextlib.suppress(OSError):
+        while part := os.read(terminal, 4096):
+            parts.append(part)
+    return b"".join(parts)
 
 
 class OutcomeTest(unittest.TestCase):
@@ -143,7 +153,7 @@ class ToolTest(unittest.TestCase):
         command = [sys.executable, str(TOOLS / "study-cuts"), str(EXAMPLES / "apart.toml")]
         ended = subprocess.run(command, stdout=subprocess.DEVNULL, stderr=writer, check=False)
         os.close(writer)
-        seen = os.read(reader, 10_000)
+        seen = all_of(reader)
         os.close(reader)
         self.assertEqual(ended.returncode, 0)
         self.assertIn(b"\rstudy-cuts: 1 of 3 runs\rstudy-cuts: 2 of 3 runs\r", seen)
