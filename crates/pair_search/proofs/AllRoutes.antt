@@ -1,16 +1,15 @@
 -- A search from the prefix without a step has gone over all routes.
-use Rattle.std.proofs.Common.{◌≡◌, ◌≤◌, ℕ, zero, suc, ◌+◌, Bool, true, false, List, [], Option, Some, None, length, replicate, refl, sym, subst, arith, Contains}
+use Rattle.std.proofs.Common.{◌≡◌, ◌≤◌, ℕ, zero, suc, ◌+◌, Bool, false, List, [], Option, Some, None, length, replicate, refl, sym, subst, arith}
 use Rattle.std.specs.Prelude.{MatchOption, slice_index_or}
 use Rattle.ason_base.specs.declared.ids.NodeId.{NodeId}
 use Rattle.ason_base.specs.declared.network.TeRow.{TeRow}
 use Rattle.ason_base.specs.declared.steps.Step.{Step}
-use Rattle.route_least.specs.Network.{IsClosed, IsNetworkOf}
+use Rattle.route_least.specs.Network.{IsNetworkOf}
 use Rattle.route_least.specs.declared.network.RouteNetwork.{RouteNetwork}
 use Rattle.pair_search.specs.Answers.{IsSmall}
-use Rattle.pair_search.specs.Certificates.{AnyRow, AreBounds}
-use Rattle.pair_search.specs.Pairs.{HasNoPair, IsAsGood, IsBestPair, IsPair}
-use Rattle.pair_search.specs.Searches.{AreEndBounds, IsExplored, IsPrefix, IsSearch, IsSearched, IsSound, Search, HasTree, weighed}
-use Rattle.pair_search.specs.declared.cert.Cert.{Cert}
+use Rattle.pair_search.specs.Certificates.{AnyRow}
+use Rattle.pair_search.specs.Pairs.{HasNoPair, IsAsGood, IsBestPair}
+use Rattle.pair_search.specs.Searches.{AreEndBounds, IsExplored, IsSearch, IsSearched, IsSound, Search, HasTree, weighed}
 use Rattle.pair_search.specs.declared.cert.Tree.{Tree}
 use Rattle.pair_search.specs.declared.pairs.RoutePair.{RoutePair}
 use Rattle.pair_search.specs.declared.prefixes.Prefix.{Prefix}

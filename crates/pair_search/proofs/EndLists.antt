@@ -13,7 +13,7 @@ use Rattle.ason_base.proofs.Ordered.{any-there, contains-cases, contains-head, c
 use Rattle.mesh_nodes.proofs.routes.Lists.{contains-map, contains-unmap}
 use Rattle.pair_search.specs.Answers.{IsSmall}
 use Rattle.pair_search.specs.Searches.{ends_of, with_end, with_ends}
-use Rattle.pair_search.proofs.Tests.{node-same, same-node}
+use Rattle.pair_search.proofs.Tests.{same-node}
 use Rattle.pair_search.proofs.Visits.{distinct-more}
 
 abbrev numbers : List NodeId → List ℕ

@@ -1,18 +1,17 @@
 -- What a search over prefixes keeps: the best pair so far never gets worse, and trees stand for later totals too.
-use Rattle.std.proofs.Common.{◌≡◌, ◌≢◌, ◌≤◌, ◌<◌, ℕ, suc, ◌+◌, ◌*◌, true, List, [], ◌∷◌, ◌++◌, Option, Some, None, length, refl, sym, ap, ◌∙◌, subst, arith, inl, inr, AllPairs, Contains}
+use Rattle.std.proofs.Common.{◌≡◌, ◌≢◌, ◌≤◌, ◌<◌, ℕ, suc, ◌+◌, List, [], ◌∷◌, ◌++◌, Option, Some, None, length, refl, sym, ap, ◌∙◌, subst, arith, inl, inr, Contains}
 use Rattle.std.proofs.lemmas.List.Elements.{All-contains, Contains-append_left, Contains-append_right}
-use Rattle.ason_base.specs.Walks.{HaveDistinctLinks, Hop, IsBackup, IsWalk, NoLink, NoNode}
-use Rattle.ason_base.specs.declared.ids.LinkId.{LinkId}
+use Rattle.ason_base.specs.Walks.{HaveDistinctLinks, IsBackup, NoLink, NoNode}
 use Rattle.ason_base.specs.declared.ids.NodeId.{NodeId}
 use Rattle.ason_base.specs.declared.network.TeRow.{TeRow}
 use Rattle.ason_base.specs.declared.steps.Step.{Step}
 use Rattle.ason_base.proofs.Ordered.{contains-cases, contains-head, contains-none, contains-tail}
 use Rattle.mesh_nodes.proofs.routes.Shorter.{few_links}
 use Rattle.route_least.proofs.WalkLaws.{walk_push}
-use Rattle.pair_search.specs.Certificates.{AnyRow, AreBounds, AreChildren, IsFar, LeadsOn, Stands, bound_at, child_links}
+use Rattle.pair_search.specs.Certificates.{AnyRow, IsFar, LeadsOn, Stands, bound_at, child_links}
 use Rattle.pair_search.specs.Checks.{onward}
-use Rattle.pair_search.specs.Pairs.{VisitsOnce, Weighed}
-use Rattle.pair_search.specs.Searches.{AreExplored, AreRows, ChildrenStand, HasGone, IsExplored, IsNoWorse, IsPrefix, IsReached, IsSearch, IsSound, Search, TreeStands, over, total_of, weighed}
+use Rattle.pair_search.specs.Pairs.{VisitsOnce}
+use Rattle.pair_search.specs.Searches.{AreExplored, ChildrenStand, HasGone, IsExplored, IsNoWorse, IsPrefix, IsReached, IsSearch, Search, TreeStands, over, total_of, weighed}
 use Rattle.pair_search.specs.declared.cert.Children.{Children, End, More'}
 use Rattle.pair_search.specs.declared.cert.Tree.{Tree, Branch'}
 use Rattle.pair_search.specs.declared.pairs.RoutePair.{RoutePair}
@@ -22,7 +21,7 @@ use Rattle.pair_search.proofs.Leaves.{prefix-cost}
 use Rattle.pair_search.proofs.Orders.{good-less, reached-later, worse-trans}
 use Rattle.pair_search.proofs.Partner.{one-row}
 use Rattle.pair_search.proofs.Right.{append-step, next-fresh, walk-bounded}
-use Rattle.pair_search.proofs.Totals.{IsWeaker, child-weaker, stands-weaker, weaker-any, weaker-less, weaker-same}
+use Rattle.pair_search.proofs.Totals.{IsWeaker, stands-weaker, weaker-any, weaker-less, weaker-same}
 use Rattle.pair_search.proofs.Visits.{longer-once, visits-once}
 
 -- Later

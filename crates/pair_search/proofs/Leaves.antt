@@ -1,8 +1,8 @@
 -- A prefix that has come to the end, with its least partner.
-use Rattle.std.proofs.Common.{◌≡◌, ◌≢◌, ◌≤◌, ◌<◌, ℕ, suc, ◌+◌, ◌*◌, Bool, true, false, cond, List, [], ◌∷◌, ◌++◌, Option, Some, None, length, refl, sym, ap, ◌∙◌, subst, arith, inl, inr, Contains}
+use Rattle.std.proofs.Common.{◌≡◌, ◌≤◌, ◌<◌, ℕ, ◌+◌, ◌*◌, Bool, true, false, cond, List, [], ◌∷◌, ◌++◌, Option, Some, None, length, refl, sym, ap, ◌∙◌, subst, arith, inl, inr}
 use Rattle.std.specs.Prelude.{nat_le}
 use Rattle.std.proofs.lemmas.List.Elements.{All-contains, Contains-append_right}
-use Rattle.ason_base.specs.Walks.{HaveFewEnds, HaveMetrics, IsAtMost, IsBackup, IsLeast, IsWalk, NoLink, NoNode, links_of}
+use Rattle.ason_base.specs.Walks.{HaveFewEnds, HaveMetrics, IsBackup, IsLeast, IsWalk, NoLink, NoNode, links_of}
 use Rattle.ason_base.specs.declared.ids.NodeId.{NodeId}
 use Rattle.ason_base.specs.declared.network.TeRow.{TeRow}
 use Rattle.ason_base.specs.declared.steps.Step.{Step}
@@ -10,7 +10,7 @@ use Rattle.ason_base.proofs.Ordered.{contains-head}
 use Rattle.mesh_nodes.proofs.routes.Shorter.{few_links, shorten}
 use Rattle.route_least.specs.declared.answers.Found.{Found}
 use Rattle.pair_search.specs.Certificates.{IsEnough, bound_at}
-use Rattle.pair_search.specs.Pairs.{IsAsGood, IsNotBetter, IsPair, VisitsOnce, Weighed}
+use Rattle.pair_search.specs.Pairs.{IsAsGood, IsNotBetter, VisitsOnce, Weighed}
 use Rattle.pair_search.specs.Searches.{AreEndBounds, HasGone, HasOffered, HasWhole, IsExplored, IsNoWorse, IsOffered, IsOneOf, IsPairOf, IsPartner, IsPrefix, IsReached, IsSearch, IsSound, Search, closed_rows, pair_of, total_of, weighed}
 use Rattle.pair_search.specs.declared.pairs.RoutePair.{RoutePair}
 use Rattle.pair_search.specs.declared.prefixes.Prefix.{Prefix}

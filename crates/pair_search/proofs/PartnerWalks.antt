@@ -1,12 +1,12 @@
 -- Walks over the rows that a partner of a route may use are its partners, and the other way round.
-use Rattle.std.proofs.Common.{◌≡◌, ◌⊎◌, ℕ, ◌+◌, Bool, true, not, List, [], ◌∷◌, Some, refl, sym, ap, ◌∙◌, subst, inl, inr, Contains}
-use Rattle.ason_base.specs.Walks.{HaveDistinctLinks, Hop, IsBackup, IsInner, IsLeast, IsWalk, Joins, NoLink, NoNode, SharesRisk}
+use Rattle.std.proofs.Common.{◌≡◌, ℕ, Bool, List, [], ◌∷◌, Some, sym, ◌∙◌, subst, inl, inr, Contains}
+use Rattle.ason_base.specs.Walks.{HaveDistinctLinks, Hop, IsBackup, IsInner, IsWalk, NoLink, NoNode}
 use Rattle.ason_base.specs.declared.ids.LinkId.{LinkId}
 use Rattle.ason_base.specs.declared.ids.NodeId.{NodeId}
 use Rattle.ason_base.specs.declared.network.TeRow.{TeRow}
 use Rattle.ason_base.specs.declared.steps.Step.{Step}
 use Rattle.ason_base.proofs.Ordered.{contains-cases, contains-head, contains-none, contains-tail}
-use Rattle.route_least.specs.Answers.{IsLeastFound, IsRefusal, JoinsNone}
+use Rattle.route_least.specs.Answers.{IsLeastFound, JoinsNone}
 use Rattle.route_least.specs.Network.{IsClosed}
 use Rattle.route_least.specs.declared.answers.Found.{Found}
 use Rattle.route_least.proofs.Bans.{fewer_walk}
@@ -15,7 +15,7 @@ use Rattle.pair_search.specs.Checks.{may_partner}
 use Rattle.pair_search.specs.Searches.{AreEndBounds, IsPartner, Search, closed_rows}
 use Rattle.pair_search.proofs.Bounds.{bound-there, end-bounds, may-open, open-may, walk-back}
 use Rattle.pair_search.proofs.Partner.{is-partner, one-row, partner-is}
-use Rattle.pair_search.proofs.Right.{ComesTo, comes-to, partner-may}
+use Rattle.pair_search.proofs.Right.{comes-to, partner-may}
 
 -- each step of a walk goes over a row
 step-hop : (rows : List TeRow) (L : LinkId → Type 0) (N : NodeId → Type 0) (b : NodeId) (steps : List Step)

@@ -1,7 +1,7 @@
 -- A tree that stands for a total stands for each lesser one; one that stands without a total stands for every one. So a
 -- search may cut by the least total so far.
-use Rattle.std.proofs.Common.{◌≡◌, ◌<◌, ◌≤◌, ℕ, ◌+◌, ◌*◌, List, [], ◌∷◌, ◌++◌, arith, inl, inr}
-use Rattle.std.specs.Prelude.{◌⊎◌, Option, Some, None}
+use Rattle.std.proofs.Common.{◌≤◌, ℕ, ◌+◌, List, [], ◌∷◌, ◌++◌, arith, inl, inr}
+use Rattle.std.specs.Prelude.{Option, Some, None}
 use Rattle.ason_base.specs.declared.ids.NodeId.{NodeId}
 use Rattle.ason_base.specs.declared.network.TeRow.{TeRow}
 use Rattle.ason_base.specs.declared.steps.Step.{Step}

@@ -1,16 +1,15 @@
 -- What a prefix comes to: the tree that stands there, and the children of its rows one by one.
-use Rattle.std.proofs.Common.{◌≡◌, ◌≢◌, ◌≤◌, ◌<◌, ℕ, suc, ◌+◌, ◌-◌, ◌*◌, true, List, [], ◌∷◌, Option, Some, None, length, take, drop, get_or, refl, sym, ap, ◌∙◌, subst, arith, Contains}
+use Rattle.std.proofs.Common.{◌≡◌, ◌≢◌, ◌≤◌, ◌<◌, ℕ, suc, ◌+◌, ◌-◌, ◌*◌, true, List, [], ◌∷◌, Option, Some, None, length, take, drop, get_or, refl, sym, ap, ◌∙◌, subst, arith}
 use Rattle.std.proofs.Math.Seq.{take-length}
 use Rattle.std.proofs.lemmas.List.{length-append}
 use Rattle.ason_base.specs.declared.ids.NodeId.{NodeId}
 use Rattle.ason_base.specs.declared.network.TeRow.{TeRow}
-use Rattle.ason_base.specs.declared.steps.Step.{Step}
 use Rattle.ason_base.proofs.Ordered.{contains-head, contains-tail}
-use Rattle.pair_search.specs.Certificates.{LeadsOn, bound_at}
+use Rattle.pair_search.specs.Certificates.{bound_at}
 use Rattle.pair_search.specs.Checks.{is_far, onward}
-use Rattle.pair_search.specs.Searches.{AreRows, HasChildren, HasTree, HasWhole, IsPrefix, IsSearch, IsSound, Search, over, total_of}
+use Rattle.pair_search.specs.Searches.{AreRows, HasChildren, HasTree, IsPrefix, IsSearch, IsSound, Search, over, total_of}
 use Rattle.pair_search.specs.declared.cert.Children.{Children, End, More'}
-use Rattle.pair_search.specs.declared.cert.Tree.{Tree, Far, Whole, Branch'}
+use Rattle.pair_search.specs.declared.cert.Tree.{Tree, Far, Branch'}
 use Rattle.pair_search.specs.declared.pairs.RoutePair.{RoutePair}
 use Rattle.pair_search.specs.declared.prefixes.Prefix.{Prefix}
 use Rattle.pair_search.proofs.BoundChecks.{far-is}

@@ -1,5 +1,5 @@
 -- What is told of the best pair, and why there is none.
-use Rattle.std.specs.Prelude.{◌≡◌, ◌≤◌, ℕ, List, All, Some, None, length}
+use Rattle.std.specs.Prelude.{◌≤◌, List, All, Some, None, length}
 use Rattle.std.specs.List.{Contains}
 use Rattle.ason_base.specs.declared.ids.NodeId.{NodeId}
 use Rattle.ason_base.specs.declared.network.TeRow.{TeRow}
