@@ -1,6 +1,6 @@
 -- What one line of a script does.
-use Rattle.std.proofs.Common.{◌≡◌, ◌∙◌, ℕ, true, false, cond, List, [], refl, sym, ap, subst}
-use Rattle.std.specs.Prelude.{Some, None}
+use Rattle.std.proofs.Common.{◌≡◌, ◌∙◌, ℕ, Bool, true, false, cond, List, [], ◌∷◌, refl, sym, ap, subst}
+use Rattle.std.specs.Prelude.{◌↔◌, IsTrue, Some, None}
 use Rattle.std.specs.List.Sorted.{IsPermutation, IsSortedBy}
 use Rattle.ason_base.specs.declared.calls.TableRows.{TableRows}
 use Rattle.ason_base.specs.declared.commands.Command.{Command}
@@ -8,16 +8,18 @@ use Rattle.ason_base.specs.declared.commands.Event.TheVariants as event
 use Rattle.ason_base.specs.declared.ids.NodeId.{NodeId}
 use Rattle.ason_base.specs.Network.{Network}
 use Rattle.mesh_rules.specs.Rows.{all_call_rows, all_leg_rows}
-use Rattle.world_core.specs.Images.{image}
+use Rattle.world_core.specs.Images.{IsQuiet, image}
 use Rattle.world_core.specs.Runs.{IsEnabled}
+use Rattle.world_core.specs.Worlds.{World}
 use Rattle.station.specs.Histories.{History, with_event, world_after}
+use Rattle.fleet.specs.Laws.{QuietIsTheWorlds}
 use Rattle.fleet.specs.Rounds.{is_quiet, items_waiting, rows_waiting, settled, unacked_waiting, waited}
 use Rattle.fleet.specs.Standing.{FleetState, StandsFor}
 use Rattle.plan_reader.specs.declared.lines.Line.{Line}
 use Rattle.plan_reader.specs.declared.lines.Line.TheVariants.{Post, Settle, Show, Wait}
 use Rattle.plan_reader.specs.declared.plan.Plan.{Plan}
 use Rattle.table_text.specs.TableText.{table_text, unsettled_text}
-use Rattle.ason_main.specs.Outputs.{IsTable, LinePrints, Shows, UnlessStopped, call_before, leg_before, line_done}
+use Rattle.ason_main.specs.Outputs.{IsTable, IsUnsettledLine, LinePrints, Shows, UnlessStopped, call_before, leg_before, line_done, unsettled_line}
 use Rattle.ason_main.specs.Running.{Does, Settles, TellsUnsettled, Waits}
 use Rattle.ason_main.proofs.ScriptRuns.{both_tests, post_goes}
 use Rattle.mesh_rules.specs.Commands.{is_again, is_valid}
@@ -51,26 +53,55 @@ post_does p c old new text none posts = record {
 
 -- Settling
 
-pub tells_nothing : (f : FleetState) (text : List ℕ) → text ≡ [] →
+abbrev waiting_text : Network → World → List ℕ
+waiting_text t w = unsettled_text (items_waiting t w) (unacked_waiting t w) (rows_waiting t w)
+
+-- the world that the stations stand for is quiet just where the nodes are
+told_quiet : (t : Network) (w : World) (text : List ℕ) (b : Bool) → is_quiet t w ≡ b →
+    text ≡ unsettled_line t w → IsTrue (is_quiet t w) ↔ IsQuiet w → IsUnsettledLine t w text
+told_quiet t w text true is line law = record {
+  line = line;
+  quiet = (λ none. law.0 is, λ quiet. line ∙ ap (λ b. cond b [] (waiting_text t w)) is);
+}
+told_quiet t w text false is line law = record {
+  line = line;
+  quiet = (
+    λ none. absurd (some (items_waiting t w) (unacked_waiting t w) (rows_waiting t w)
+        (sym (line ∙ ap (λ b. cond b [] (waiting_text t w)) is) ∙ none)),
+    λ quiet. absurd (differ (is_quiet t w) is (law.1 quiet)),
+  );
+}
+  where
+    begins : List ℕ → Bool
+    begins [] = false
+    begins (x ∷ xs) = true
+
+    some : (desk hop flood : ℕ) → unsettled_text desk hop flood ≡ [] → ⊥
+    some desk hop flood e = let begun : true ≡ false = ap begins e in absurd (cc (begun))
+
+    differ : (b : Bool) → b ≡ false → b ≡ true → ⊥
+    differ b h k = absurd (cc (h, k))
+
+pub tells_nothing : (f : FleetState) (text : List ℕ) → text ≡ [] → QuietIsTheWorlds →
     ((t : Network) (h : History) → StandsFor t f h → is_quiet t (world_after t h) ≡ true) → TellsUnsettled f text
-tells_nothing f text none quiet = record {
+tells_nothing f text none law quiet = record {
   tells = λ t h stands.
-      none ∙ sym (ap (λ b. cond b [] (unsettled_text (items_waiting t (world_after t h))
-      (unacked_waiting t (world_after t h)) (rows_waiting t (world_after t h)))) (quiet t h stands));
+      told_quiet t (world_after t h) text true (quiet t h stands)
+      (none ∙ sym (ap (λ b. cond b [] (waiting_text t (world_after t h))) (quiet t h stands))) (law t f h stands);
 }
 
 pub tells_counts : (f : FleetState) (text : List ℕ) (desk hop flood : ℕ) → text ≡ unsettled_text desk hop flood →
+    QuietIsTheWorlds →
     ((t : Network) (h : History) → StandsFor t f h → is_quiet t (world_after t h) ≡ false) →
     ((t : Network) (h : History) → StandsFor t f h → desk ≡ items_waiting t (world_after t h)) →
     ((t : Network) (h : History) → StandsFor t f h → hop ≡ unacked_waiting t (world_after t h)) →
     ((t : Network) (h : History) → StandsFor t f h → flood ≡ rows_waiting t (world_after t h)) →
     TellsUnsettled f text
-tells_counts f text desk hop flood is busy items unacked rows = record {
+tells_counts f text desk hop flood is law busy items unacked rows = record {
   tells = λ t h stands.
-      let w = world_after t h in
-      is ∙ ((λ i. unsettled_text (items t h stands i) (unacked t h stands i) (rows t h stands i))
-      ∙ sym (ap (λ b. cond b [] (unsettled_text (items_waiting t w) (unacked_waiting t w) (rows_waiting t w)))
-      (busy t h stands)));
+      told_quiet t (world_after t h) text false (busy t h stands)
+      (is ∙ ((λ i. unsettled_text (items t h stands i) (unacked t h stands i) (rows t h stands i))
+      ∙ sym (ap (λ b. cond b [] (waiting_text t (world_after t h))) (busy t h stands)))) (law t f h stands);
 }
 
 pub settle_does : (p : Plan) (rounds : ℕ) (old new : FleetState) (text : List ℕ) → Settles rounds old new →

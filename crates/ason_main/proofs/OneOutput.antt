@@ -37,7 +37,7 @@ lawful_table t es is =
 one_show : (p : Plan) (line : Line) (w : World) (a b : List ℕ) → HasOneTable (image w) →
     Shows p line w a → Shows p line w b → a ≡ b
 one_show p (Post c) w a b one this that = this ∙ sym that
-one_show p (Settle r) w a b one this that = this ∙ sym that
+one_show p (Settle r) w a b one this that = this.line ∙ sym that.line
 one_show p (Wait r) w a b one this that = this ∙ sym that
 one_show p Show w a b one this that =
     let same : this.0 ≡ that.0 =

@@ -6,7 +6,12 @@ use Rattle.ason_base.specs.declared.ids.CallNo.{CallNo}
 use Rattle.ason_base.specs.declared.ids.NodeId.{NodeId}
 use Rattle.ason_base.specs.declared.commands.Event.{Event}
 use Rattle.ason_base.specs.Network.{IsTopology, Network}
-use Rattle.world_core.specs.Runs.{IsRun, events_of}
+use Rattle.mesh_rules.specs.Events as mesh_runs
+use Rattle.mesh_rules.specs.Machine as mesh
+use Rattle.mesh_rules.specs.Quiet as mesh_quiet
+use Rattle.mesh_laws.specs.Laws.{LawsHold}
+use Rattle.world_core.specs.Images.{IsQuiet, image, mesh_events}
+use Rattle.world_core.specs.Runs.{IsRun, after, events_of}
 use Rattle.world_core.specs.Worlds.{start}
 use Rattle.station.specs.Histories.{new_history}
 use Rattle.fleet.specs.Running.{IsRunning}
@@ -17,7 +22,7 @@ use Rattle.plan_reader.specs.declared.plan.Plan.{Plan}
 use Rattle.plan_reader.specs.Plans.{ArePostable, calls_after_line}
 use Rattle.table_text.specs.TableText.{stopped_text}
 use Rattle.ason_main.specs.Laws.{WorldLaws}
-use Rattle.ason_main.specs.Outputs.{IsBegun, IsLawful, IsOneRun, IsTheOutput, PrintsFirst, run_of, script_of, settling_script}
+use Rattle.ason_main.specs.Outputs.{AreRestored, IsBegun, IsLawful, IsOneRun, IsTheOutput, PrintsFirst, QuietLawsHold, run_of, script_of, settling_script}
 use Rattle.ason_main.specs.Running.{CutsAll, DoesAll, EndsIn, FailsIn, HasWritten, HasWrittenPart, IsCutShort, RunState}
 use Rattle.ason_main.proofs.OneOutput.{the_output, the_stopped_output}
 use Rattle.ason_main.proofs.ScriptRuns.{first_part, lead_through, lines_running}
@@ -41,14 +46,39 @@ the_run : WorldLaws → (p : Plan) → ArePostable p.topology [] p.lines → IsR
 the_run laws p postable =
     lines_running laws p.topology (script_of p) new_history (postable_script 1000 p postable) (laws.begin p.topology)
 
+quiet_laws : WorldLaws → (t : Network) → IsTopology t → (events : List Event) → IsRun t (start t) events →
+    IsQuiet (after t (start t) events) → QuietLawsHold t events
+quiet_laws laws t valid events run quiet = record {
+  shown = nothing;
+  restored = λ g alone.
+      subst (AreRestored t (mesh_events t (start t) events)) leads
+      (are.restored valid g alone (subst mesh_quiet.IsQuiet (sym leads) nothing));
+  same = laws.same t events valid run quiet;
+  links = laws.links t events valid run quiet;
+}
+  where
+    nothing : mesh_quiet.IsQuiet (image (after t (start t) events))
+    nothing = laws.quiet t events run (record { desks = quiet.desks; hops = quiet.hops })
+
+    are : LawsHold t (mesh_events t (start t) events)
+    are = laws.laws t events (laws.topology t valid) run
+
+    leads : mesh_runs.after t mesh.start (mesh_events t (start t) events) ≡ image (after t (start t) events)
+    leads = (laws.shown t events (laws.topology t valid) run).leads
+
 lawful : WorldLaws → (t : Network) → IsTopology t → (events : List Event) → IsRun t (start t) events →
     IsLawful t events
 lawful laws t valid events run =
     let each = laws.topology t valid in
-    record { shown = laws.shown t events each run; laws = laws.laws t events each run }
+    record {
+      shown = laws.shown t events each run;
+      laws = laws.laws t events each run;
+      quiet = quiet_laws laws t valid events run;
+    }
 
 one_run : WorldLaws → (p : Plan) → IsTopology p.topology → ArePostable p.topology [] p.lines → IsOneRun p
 one_run laws p valid postable = record {
+  topology = valid;
   run = (the_run laws p postable).run;
   laws = λ first left is.
       lawful laws p.topology valid first (first_part p.topology (start p.topology) first left

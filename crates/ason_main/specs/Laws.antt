@@ -1,5 +1,5 @@
 -- The laws on which a run rests.
-use Rattle.world_core.specs.Laws.{EventsAreCounted, EveryImageHasTheLaws, EveryRunIsShown, TopologiesFindEach}
+use Rattle.world_core.specs.Laws.{EventsAreCounted, EveryImageHasTheLaws, EveryRunIsShown, JoinedKnowTheLinks, JoinedKnowTheSame, QuietIsShown, TopologiesFindEach}
 use Rattle.fleet.specs.Laws.{PostsAreRunning, SettlingGoesOn, SettlingIsRunning, TheStartIsRunning, WaitingGoesOn, WaitingIsRunning}
 
 -- the laws of worlds, and of posts and rounds
@@ -7,6 +7,9 @@ pub record WorldLaws : Type 0 where
   pub topology : TopologiesFindEach
   pub shown : EveryRunIsShown
   pub laws : EveryImageHasTheLaws
+  pub quiet : QuietIsShown
+  pub same : JoinedKnowTheSame
+  pub links : JoinedKnowTheLinks
   pub counts : EventsAreCounted
   pub begin : TheStartIsRunning
   pub post : PostsAreRunning

@@ -1,5 +1,5 @@
 -- What the program prints of a plan.
-use Rattle.std.specs.Prelude.{◌≡◌, ℕ, ◌==◌, ◌||◌, ◌&&◌, nat_lt, Bool, List, [], ◌∷◌, ◌++◌, Option, Some, None, fold, is_some, if◌then◌else◌}
+use Rattle.std.specs.Prelude.{◌≡◌, ◌↔◌, ℕ, ◌==◌, ◌||◌, ◌&&◌, nat_lt, All, Bool, IsTrue, List, [], ◌∷◌, ◌++◌, Option, Some, None, fold, is_some, if◌then◌else◌}
 use Rattle.std.specs.List.Sorted.{IsPermutation, IsSortedBy}
 use Rattle.ason_base.specs.declared.calls.CallRow.{CallRow}
 use Rattle.ason_base.specs.declared.calls.LegRow.{LegRow}
@@ -7,16 +7,21 @@ use Rattle.ason_base.specs.declared.calls.TableRows.{TableRows}
 use Rattle.ason_base.specs.declared.commands.Command.{Command}
 use Rattle.ason_base.specs.declared.commands.Event.{Event}
 use Rattle.ason_base.specs.declared.commands.Event.TheVariants as event
+use Rattle.ason_base.specs.declared.commands.Group.{Group}
 use Rattle.ason_base.specs.declared.ids.NodeId.{NodeId}
 use Rattle.ason_base.specs.Lsps.{same_lsp, lsp_before}
-use Rattle.ason_base.specs.Network.{Network}
+use Rattle.ason_base.specs.Network.{IsTopology, Network}
 use Rattle.mesh_rules.specs.Machine.{Mesh}
+use Rattle.mesh_rules.specs.Quiet as mesh_quiet
+use Rattle.mesh_rules.specs.declared.events.MeshEvent.{MeshEvent}
 use Rattle.mesh_rules.specs.Rows.{all_call_rows, all_leg_rows}
+use Rattle.mesh_laws.specs.AloneLaw.{Alone}
 use Rattle.mesh_laws.specs.Laws.{LawsHold}
+use Rattle.mesh_laws.specs.RestorationLaw.{IsRestored, is_guarded}
 use Rattle.world_core.specs.Worlds.{World, start}
-use Rattle.world_core.specs.Runs.{IsRun, events_of}
-use Rattle.world_core.specs.Images.{image, mesh_events}
-use Rattle.world_core.specs.Laws.{IsShown}
+use Rattle.world_core.specs.Runs.{IsRun, after, events_of}
+use Rattle.world_core.specs.Images.{IsQuiet, image, mesh_events}
+use Rattle.world_core.specs.Laws.{IsShown, KnowTheLinks, KnowTheSame}
 use Rattle.station.specs.Histories.{History, new_history, with_event, world_after}
 use Rattle.fleet.specs.Rounds.{is_quiet, items_waiting, rows_waiting, settled, unacked_waiting, waited}
 use Rattle.plan_reader.specs.declared.lines.Line.{Line}
@@ -76,10 +81,15 @@ abbrev pub unsettled_line : Network → World → List ℕ
 unsettled_line t w =
     if is_quiet t w then [] else unsettled_text (items_waiting t w) (unacked_waiting t w) (rows_waiting t w)
 
+-- what `settle` prints of the world that it leads to: no line just where nothing waits in all this world
+pub record IsUnsettledLine (t : Network) (w : World) (text : List ℕ) : Type 0 where
+  pub line : text ≡ unsettled_line t w
+  pub quiet : (text ≡ []) ↔ IsQuiet w
+
 -- what a line prints of the world that it leads to; a table is that of the mesh which this world shows
 abbrev pub Shows : Plan → Line → World → List ℕ → Type 0
 Shows p (Post c) w text = text ≡ []
-Shows p (Settle r) w text = text ≡ unsettled_line p.topology w
+Shows p (Settle r) w text = IsUnsettledLine p.topology w text
 Shows p (Wait r) w text = text ≡ []
 Shows p Show w text = (rows : TableRows) × IsTable p.topology (image w) rows × (text ≡ table_text p rows)
 
@@ -112,14 +122,33 @@ LeadThrough t es [] h = h.events ≡ es
 LeadThrough t es (line ∷ lines) h =
     ((left : List Event) × (h.events ++ left ≡ es)) × LeadThrough t es lines (line_done t h line)
 
+-- each call with a reserved backup is carried over fibres that are up, at each node of this mesh
+abbrev pub AreRestored : Network → List MeshEvent → Mesh → Type 0
+AreRestored t events s =
+    (n : ℕ) → All (λ c. IsTrue (is_guarded (s.nodes n) c) → IsRestored t events c) (s.nodes n).calls
+
+-- what holds beside the laws where nothing waits in the world to which these events lead
+pub record QuietLawsHold (t : Network) (events : List Event) : Type 0 where
+  -- nothing waits in the mesh that it shows
+  pub shown : mesh_quiet.IsQuiet (image (after t (start t) events))
+  -- where since a calm state one group alone failed, each guarded call is restored
+  pub restored : (g : Group) → Alone t (mesh_events t (start t) events) g →
+      AreRestored t (mesh_events t (start t) events) (image (after t (start t) events))
+  -- nodes that a walk joins know the same links, those of each of them among these
+  pub same : KnowTheSame t (after t (start t) events)
+  pub links : KnowTheLinks t (after t (start t) events)
+
 -- what these events of a world show is a run of the machine to the mesh that the last world shows, and the laws hold
--- of it
+-- of it, where nothing waits those of quiet too
 pub record IsLawful (t : Network) (events : List Event) : Type 0 where
   pub shown : IsShown t events
   pub laws : LawsHold t (mesh_events t (start t) events)
+  pub quiet : IsQuiet (after t (start t) events) → QuietLawsHold t events
 
--- one run of a world leads through the whole script, and each first part of it is lawful
+-- over the plan's network, which is a topology, one run of a world leads through the whole script, and each first part
+-- of it is lawful
 pub record IsOneRun (p : Plan) : Type 0 where
+  pub topology : IsTopology p.topology
   pub run : IsRun p.topology (start p.topology) (run_of p).events
   pub laws : (first left : List Event) → first ++ left ≡ (run_of p).events → IsLawful p.topology first
   pub leads : LeadThrough p.topology (run_of p).events (script_of p) new_history

@@ -16,7 +16,7 @@ use Rattle.plan_reader.specs.declared.plan.Plan.{Plan}
 use Rattle.plan_reader.specs.Plans.{ArePostable, IsPostable, calls_after_lines}
 use Rattle.ason_main.specs.declared.runner.run.Ran.{Ran}
 use Rattle.ason_main.specs.declared.runner.stops.Stop.{Stop}
-use Rattle.ason_main.specs.Outputs.{IsBegun, IsTheOutput, IsTheStoppedOutput, LinePrints, Prints, PrintsFirst, line_done, lines_done, unsettled_line}
+use Rattle.ason_main.specs.Outputs.{IsBegun, IsTheOutput, IsTheStoppedOutput, IsUnsettledLine, LinePrints, Prints, PrintsFirst, line_done, lines_done}
 use Rattle.table_text.specs.TableText.{stopped_text}
 
 -- Rounds
@@ -46,7 +46,7 @@ stop_of round.Starved = Stop.OutOfMemory
 
 -- this is the line of what is unsettled, in whatever run the stations stand
 pub record TellsUnsettled (f : FleetState) (text : List ℕ) : Type 0 where
-  pub tells : (t : Network) (h : History) → StandsFor t f h → text ≡ unsettled_line t (world_after t h)
+  pub tells : (t : Network) (h : History) → StandsFor t f h → IsUnsettledLine t (world_after t h) text
 
 -- One line
 

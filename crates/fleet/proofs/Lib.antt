@@ -12,6 +12,7 @@ pub mod Looking
 pub mod Meeting
 pub mod Places
 pub mod Posting
+pub mod Quiet
 pub mod Rounding
 pub mod Runs
 pub mod Splitting

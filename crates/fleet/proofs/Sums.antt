@@ -29,7 +29,7 @@ use Rattle.fleet.proofs.Places.{IsThere, all-places, get-map, same_number, there
 
 -- Two lists side by side
 
-abbrev Along : {X Y : Type 0} → (X → Y → Type 0) → List X → List Y → Type 0
+abbrev pub Along : {X Y : Type 0} → (X → Y → Type 0) → List X → List Y → Type 0
 Along R [] [] = Unit {0}
 Along R [] (y ∷ ys) = ⊥
 Along R (x ∷ xs) [] = ⊥
@@ -68,7 +68,7 @@ rows-along p q (x ∷ xs) (y ∷ ys) all = ap (λ k. k ++ flat_map p xs) all.0
     ∙ ap (λ k. q y ++ k) (rows-along p q xs ys all.1)
 
 -- a fact of each station and its node
-stations-along : (t : Network) (h : History) (f : FleetState) (R : StationState → NodeSpec → Type 0) →
+pub stations-along : (t : Network) (h : History) (f : FleetState) (R : StationState → NodeSpec → Type 0) →
     (s : StandsFor t f h) →
     ((x : StationState) (n : NodeSpec) → IsStationOf t (world_after t h) s.wires n.id x → R x n) →
     Along R f.stations t.nodes

@@ -1,5 +1,5 @@
 -- What holds of every run that posts and rounds make.
-use Rattle.std.specs.Prelude.{◌≡◌, ℕ, List, ◌++◌, None}
+use Rattle.std.specs.Prelude.{◌≡◌, ◌↔◌, ℕ, IsTrue, List, ◌++◌, None}
 use Rattle.ason_base.specs.declared.commands.Command.{Command}
 use Rattle.ason_base.specs.declared.commands.Event.{Event}
 use Rattle.ason_base.specs.declared.commands.Event.TheVariants.{Post}
@@ -9,11 +9,12 @@ use Rattle.mesh_rules.specs.Events as mesh_runs
 use Rattle.mesh_laws.specs.Laws.{LawsHold}
 use Rattle.world_core.specs.Worlds.{start}
 use Rattle.world_core.specs.Runs.{IsEnabled}
-use Rattle.world_core.specs.Images.{mesh_events}
+use Rattle.world_core.specs.Images.{IsQuiet, mesh_events}
 use Rattle.world_core.specs.Laws.{EachIsFound}
 use Rattle.station.specs.Histories.{History, new_history, state_after, with_event, world_after}
-use Rattle.fleet.specs.Rounds.{settled, waited}
+use Rattle.fleet.specs.Rounds.{is_quiet, settled, waited}
 use Rattle.fleet.specs.Running.{IsRunning}
+use Rattle.fleet.specs.Standing.{FleetState, StandsFor}
 
 -- where nothing was made, a run begins
 abbrev pub TheStartIsRunning : Type 0
@@ -51,3 +52,9 @@ pub record IsShown (t : Network) (h : History) : Type 0 where
 -- over every network where numbers tell links apart
 abbrev pub EveryRunIsShown : Type 0
 EveryRunIsShown = (t : Network) (h : History) → EachIsFound t → IsRunning t h → IsShown t h
+
+-- In whatever run the stations stand: where nothing waits at the nodes and on their links, nothing waits in the world.
+abbrev pub QuietIsTheWorlds : Type 0
+QuietIsTheWorlds =
+    (t : Network) (f : FleetState) (h : History) → StandsFor t f h →
+    IsTrue (is_quiet t (world_after t h)) ↔ IsQuiet (world_after t h)

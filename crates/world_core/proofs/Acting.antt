@@ -103,7 +103,7 @@ not_of (world.Desk d) n m of other = turned m d.0 false (differs d.0 n m of othe
 not_of (world.Post c) n m of other = absurd (cc (of))
 
 -- where nothing waited at a number that is no node's, nothing does
-still-nowhere : (t : Network) (w : World) (e : Event) (n m : NodeId) → is_event_of n.0 e ≡ true →
+pub still-nowhere : (t : Network) (w : World) (e : Event) (n m : NodeId) → is_event_of n.0 e ≡ true →
     is_node_id t.nodes n ≡ true → is_node_id t.nodes m ≡ false → IsNowhere w m.0 → IsNowhere (step t w e) m.0
 still-nowhere t w e n m of there none is =
     let other : nat_eq m.0 n.0 ≡ false = not_same (nat_eq m.0 n.0) refl in

@@ -127,7 +127,7 @@ no-own : (nodes : List NodeSpec) (n : NodeId) (ls : List LinkSpec) →
 no-own nodes n [] all none = refl
 no-own nodes n (l ∷ ls) all none = rw (no-end nodes l n all.0 none) (no-own nodes n ls all.1 none)
 
-nothing-due : (t : Network) (n : NodeId) → IsTopology t → is_node_id t.nodes n ≡ false →
+pub nothing-due : (t : Network) (n : NodeId) → IsTopology t → is_node_id t.nodes n ≡ false →
     pending_count ((start t).floods n.0) ≡ 0
 nothing-due t n is none =
     let own : own_rows (map row_of t.links) n ≡ [] =

@@ -10,6 +10,7 @@ pub mod Finding
 pub mod FloodExample
 pub mod Flooded
 pub mod Learnt
+pub mod Nowhere
 pub mod Places
 pub mod Posting
 pub mod Reached

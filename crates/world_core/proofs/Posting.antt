@@ -116,12 +116,31 @@ nowhere_left t w c m same is = record {
 }
 
 -- where no node is, nothing is told
-nothing_told : (t : Network) (w : World) (c : Command) (m : NodeId) → IsTopology t → ingress_of c ≡ None →
+nothing_told : (t : Network) (w : World) (c : Command) (m : NodeId) → IsTopology t → is_valid t c ≡ true →
     is_node_id t.nodes m ≡ false → desk_after t w c (ingress_of c) m.0 ≡ w.desks m.0
-nothing_told t w c m valid none nowhere =
-    ap (λ o. desk_after t w c o m.0) none
-    ∙ ap (λ items. w.desks m.0 ++ items) (no-news t valid w.failed (failed_after c w.failed) m nowhere)
-    ∙ append-nil (w.desks m.0)
+nothing_told t w c m topology valid nowhere = go (ingress_of c) refl
+  where
+    go : (o : Option NodeId) → ingress_of c ≡ o → desk_after t w c o m.0 ≡ w.desks m.0
+    go None e =
+        ap (λ items. w.desks m.0 ++ items) (no-news t topology w.failed (failed_after c w.failed) m nowhere)
+        ∙ append-nil (w.desks m.0)
+    go (Some n) e =
+        ap (λ b. cond b (w.desks m.0 ++ Order c ∷ []) (w.desks m.0)) (other n e (nat_eq m.0 n.0) refl)
+      where
+        other : (n : NodeId) → ingress_of c ≡ Some n → (b : Bool) → nat_eq m.0 n.0 ≡ b → b ≡ false
+        other n e true h =
+            let is : m.0 ≡ n.0 = same_number m.0 n.0 h in
+            absurd (cc (
+              nowhere,
+              subst (λ x. is_node_id t.nodes (record { 0 = x }) ≡ true) (sym is) (ingress-is-node t c n valid e),
+            ))
+        other n e false h = refl
+
+-- a post leaves it so that nothing waits where no node is
+pub nowhere-posted : (t : Network) (w : World) (c : Command) (m : NodeId) → IsTopology t → is_valid t c ≡ true →
+    is_node_id t.nodes m ≡ false → IsNowhere w m.0 → IsNowhere (posted t w c) m.0
+nowhere-posted t w c m topology valid none is =
+    nowhere_left t w c m.0 (nothing_told t w c m topology valid none) is
 
 nodes-told : (t : Network) (before after : List Group) (seats : List SeatState) →
     map (λ (x : SeatState). x.node) (map (told t before after) seats) ≡ map (λ (x : SeatState). x.node) seats
@@ -152,7 +171,7 @@ given-stands t k after w c topology valid stands given = go (ingress_of c) refl 
       seats = subst (AllByRecursion (SeatStands t (posted t w c))) (sym same)
           (each-told (SeatStands t w) (SeatStands t (posted t w c)) (told t w.failed (failed_after c w.failed))
           (λ s sits. seat_told t w c s e sits) k.seats stands.seats);
-      nowhere = λ m none. nowhere_left t w c m.0 (nothing_told t w c m topology e none) (stands.nowhere m none);
+      nowhere = λ m none. nowhere-posted t w c m topology valid none (stands.nowhere m none);
       posted = numbers;
       failed = groups;
     }
@@ -167,7 +186,7 @@ given-stands t k after w c topology valid stands given = go (ingress_of c) refl 
       seats = subst (AllByRecursion (SeatStands t (posted t w c))) (sym put.seats)
           (all-set (SeatStands t w) (SeatStands t (posted t w c)) k.seats put.place put.seat new put.there stands.apart
           stands.seats other here);
-      nowhere = λ m none. nowhere_left t w c m.0 (elsewhere m.0 (not_it m none)) (stands.nowhere m none);
+      nowhere = λ m none. nowhere-posted t w c m topology valid none (stands.nowhere m none);
       posted = numbers;
       failed = groups;
     }
@@ -186,19 +205,6 @@ given-stands t k after w c topology valid stands given = go (ingress_of c) refl 
         elsewhere : (m : ℕ) → nat_eq m n.0 ≡ false → desk_after t w c (ingress_of c) m ≡ w.desks m
         elsewhere m other =
             ap (λ o. desk_after t w c o m) e ∙ ap (λ b. cond b (w.desks m ++ Order c ∷ []) (w.desks m)) other
-
-        not_it : (m : NodeId) → is_node_id t.nodes m ≡ false → nat_eq m.0 n.0 ≡ false
-        not_it m none = by (nat_eq m.0 n.0) refl
-          where
-            by : (b : Bool) → nat_eq m.0 n.0 ≡ b → b ≡ false
-            by true h =
-                let is : m.0 ≡ n.0 = same_number m.0 n.0 h in
-                absurd (cc (
-                  none,
-                  subst (λ x. is_node_id t.nodes (record { 0 = x }) ≡ true) (sym is)
-                      (ingress-is-node t c n valid e),
-                ))
-            by false h = refl
 
         other : (x : SeatState) → nat_eq x.node.0 put.seat.node.0 ≡ false → SeatStands t w x →
             SeatStands t (posted t w c) x

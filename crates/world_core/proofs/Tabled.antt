@@ -2,11 +2,13 @@
 use Rattle.std.proofs.Common.{◌≡◌, ℕ, Bool, true, false, cond, nat_eq, List, [], ◌∷◌, ◌++◌, length, map, refl, sym, ap, ◌∙◌, subst, arith}
 use Rattle.std.specs.Prelude.{◌&&◌, Option, Some, None, find, flat_map, is_some}
 use Rattle.std.specs.List.{AllByRecursion, list_all}
+use Rattle.ason_base.specs.declared.commands.DeskItem.{DeskItem}
 use Rattle.ason_base.specs.declared.ids.NodeId.{NodeId}
 use Rattle.ason_base.specs.declared.network.NodeSpec.{NodeSpec}
 use Rattle.ason_base.specs.Network.{Network}
-use Rattle.flood.specs.State.{pending_count}
+use Rattle.flood.specs.State.{FloodState, pending_count}
 use Rattle.hop_reliable.specs.Hop.{HopState}
+use Rattle.mesh_nodes.proofs.Cases.{both_left, both_right}
 use Rattle.mesh_rules.specs.LocalNodes.{LocalNode, local_node}
 use Rattle.mesh_rules.specs.State.{NodeState}
 use Rattle.controller.specs.declared.adjacencies.Adjacency.{Adjacency}
@@ -50,11 +52,8 @@ rows-are {R} F t w (s ∷ ss) (m ∷ ms) e all =
 all_pass : (p : SeatState → Bool) (seats : List SeatState) → list_all p seats ≡ true →
     AllByRecursion (λ (s : SeatState). p s ≡ true) seats
 all_pass p [] h = tt
-all_pass p (s ∷ ss) h = let parts = both_of (p s) (list_all p ss) h in (parts.0, all_pass p ss parts.1)
-  where
-    both_of : (b c : Bool) → (b && c) ≡ true → (b ≡ true) × (c ≡ true)
-    both_of true c h = (refl, h)
-    both_of false c h = absurd (cc (h))
+all_pass p (s ∷ ss) h =
+    (both_left (p s) (list_all p ss) h, all_pass p ss (both_right (p s) (list_all p ss) h))
 
 pass_all : (p : SeatState → Bool) (seats : List SeatState) → AllByRecursion (λ (s : SeatState). p s ≡ true) seats →
     list_all p seats ≡ true
@@ -85,28 +84,32 @@ zero_is : (n : ℕ) → nat_eq n 0 ≡ true → n ≡ 0
 zero_is n h = grind arith
 
 -- nothing waits at this number
-record IsStill (w : World) (n : ℕ) : Type 0 where
-  desk : w.desks n ≡ []
-  hops : (d : ℕ) → (w.ends n d).hop.unacked ≡ []
-  flood : pending_count (w.floods n) ≡ 0
+pub record IsStill (w : World) (n : ℕ) : Type 0 where
+  pub desk : w.desks n ≡ []
+  pub hops : (d : ℕ) → (w.ends n d).hop.unacked ≡ []
+  pub flood : pending_count (w.floods n) ≡ 0
+
+-- whoever has the node's desk, its hops and what it floods finds nothing waiting there
+pub nothing-waits : (w : World) (n : ℕ) (items : List DeskItem) (xs : List Adjacency) (f : FloodState) →
+    items ≡ w.desks n → ((d : ℕ) → hop_at xs d ≡ (w.ends n d).hop) → f ≡ w.floods n →
+    (nat_eq (length items) 0 && nat_eq (unacknowledged xs) 0 && nat_eq (pending_count f) 0) ≡ true → IsStill w n
+nothing-waits w n items xs f desk hops flood quiet =
+    let none : Bool = nat_eq (length items) 0 in
+    let acked : Bool = nat_eq (unacknowledged xs) 0 in
+    let rows : Bool = nat_eq (pending_count f) 0 in
+    let both = both_left (none && acked) rows quiet in
+    record {
+      desk = sym desk ∙ none_left items (zero_is (length items) (both_left none acked both));
+      hops = λ d. ap (λ (h : HopState). h.unacked) (sym (hops d))
+          ∙ no-unacked xs (zero_is (unacknowledged xs) (both_right none acked both)) d;
+      flood = ap pending_count (sym flood)
+          ∙ zero_is (pending_count f) (both_right (none && acked) rows quiet);
+    }
 
 seat_still : (t : Network) (w : World) (s : SeatState) → is_quiet s ≡ true → SeatStands t w s → IsStill w s.node.0
 seat_still t w s quiet stands =
-    let desk = nat_eq (length s.desk) 0 in
-    let hops = nat_eq (unacknowledged s.controller.adjacencies) 0 in
-    let rows = nat_eq (pending_count s.controller.flood) 0 in
-    let whole = both_of (desk && hops) rows quiet in
-    let parts = both_of desk hops whole.0 in
-    record {
-      desk = sym stands.desk ∙ none_left s.desk (zero_is (length s.desk) parts.0);
-      hops = λ d. ap (λ (h : HopState). h.unacked) (sym (stands.stands.hops d))
-          ∙ no-unacked s.controller.adjacencies (zero_is (unacknowledged s.controller.adjacencies) parts.1) d;
-      flood = ap pending_count (sym stands.flood) ∙ zero_is (pending_count s.controller.flood) whole.1;
-    }
-  where
-    both_of : (b c : Bool) → (b && c) ≡ true → (b ≡ true) × (c ≡ true)
-    both_of true c h = (refl, h)
-    both_of false c h = absurd (cc (h))
+    nothing-waits w s.node.0 s.desk s.controller.adjacencies s.controller.flood stands.desk stands.stands.hops
+    stands.flood quiet
 
 still_at : (t : Network) (k : WorldState) (w : World) → StandsFor t k w → list_all is_quiet k.seats ≡ true →
     (n : NodeId) →

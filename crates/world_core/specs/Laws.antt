@@ -121,16 +121,25 @@ KnownIsTrue =
     (t : Network) (events : List Event) → IsRun t (start t) events → (n : NodeId) (row : TeRow) →
     Contains (known_at t (after t (start t) events) n) row → Contains (map row_of t.links) row
 
--- where nothing is unacknowledged, nodes that a walk joins know the same
+-- nodes that a walk joins know the same
+abbrev pub KnowTheSame : Network → World → Type 0
+KnowTheSame t w =
+    (a b : NodeId) → AreJoined (map row_of t.links) a b → (row : TeRow) →
+    Contains (known_at t w a) row ↔ Contains (known_at t w b) row
+
+-- and they know the rows of each other's links
+abbrev pub KnowTheLinks : Network → World → Type 0
+KnowTheLinks t w =
+    (a b : NodeId) → AreJoined (map row_of t.links) a b → (row : TeRow) → Contains (map row_of t.links) row →
+    is_end a row ≡ true → Contains (known_at t w b) row
+
+-- where nothing is unacknowledged
 abbrev pub JoinedKnowTheSame : Type 0
 JoinedKnowTheSame =
     (t : Network) (events : List Event) → IsTopology t → IsRun t (start t) events →
-    IsQuiet (after t (start t) events) → (a b : NodeId) → AreJoined (map row_of t.links) a b → (row : TeRow) →
-    Contains (known_at t (after t (start t) events) a) row ↔ Contains (known_at t (after t (start t) events) b) row
+    IsQuiet (after t (start t) events) → KnowTheSame t (after t (start t) events)
 
--- and they know the rows of each other's links
 abbrev pub JoinedKnowTheLinks : Type 0
 JoinedKnowTheLinks =
     (t : Network) (events : List Event) → IsTopology t → IsRun t (start t) events →
-    IsQuiet (after t (start t) events) → (a b : NodeId) → AreJoined (map row_of t.links) a b → (row : TeRow) →
-    Contains (map row_of t.links) row → is_end a row ≡ true → Contains (known_at t (after t (start t) events) b) row
+    IsQuiet (after t (start t) events) → KnowTheLinks t (after t (start t) events)

@@ -10,15 +10,16 @@ use crate::runner::stops::Stop;
 use crate::runner::waiting::wait;
 use crate::table_rows::sort_rows;
 use ason_base::{Command, OutOfMemory};
-use fleet::Fleet;
+use fleet::{Fleet, every_script};
 use plan_reader::{Line, Plan};
 use std::alloc::Global;
 use table_text::{write_table, write_unsettled};
 
-// The line of what is unsettled, nothing where all is quiet.
+// The line of what is unsettled, nothing where all is quiet: where the nodes are, the world is.
 fn unsettled_text(alloc: Global, fleet: &Fleet) -> Result<Vec<u8>, OutOfMemory>
     ensures { IfOk result (λ text. TellsUnsettled fleet.now text.items) }
 {
+    every_script();
     let mut text = Vec::new(alloc);
     if fleet.quiet() {
         return Ok(text);

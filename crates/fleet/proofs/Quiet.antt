@@ -1,0 +1,99 @@
+-- Where nothing waits at the nodes of a fleet, nothing waits in the world, and the other way round.
+use Rattle.std.proofs.Common.{◌≡◌, ◌+◌, ℕ, Bool, true, false, nat_eq, List, [], ◌∷◌, length, refl, ◌∙◌, subst}
+use Rattle.std.specs.Prelude.{◌&&◌, ◌||◌, sum_by}
+use Rattle.std.specs.List.{AllByRecursion, list_all}
+use Rattle.std.proofs.lemmas.List.Sums.{sum_by-cons}
+use Rattle.ason_base.specs.declared.ids.NodeId.{NodeId}
+use Rattle.ason_base.specs.declared.network.NodeSpec.{NodeSpec}
+use Rattle.ason_base.specs.Network.{Network, is_node_id}
+use Rattle.mesh_nodes.proofs.Cases.{both_left, both_right}
+use Rattle.mesh_rules.specs.LocalNodes.{local_node}
+use Rattle.controller.specs.Adjacencies.{neighbours}
+use Rattle.world_core.specs.Images.{IsQuiet}
+use Rattle.world_core.specs.Replays.{IsNowhere}
+use Rattle.world_core.specs.Worlds.{World}
+use Rattle.world_core.proofs.Nowhere.{nowhere-run}
+use Rattle.world_core.proofs.Tabled.{IsStill, nothing-waits}
+use Rattle.station.specs.Histories.{History, world_after}
+use Rattle.station.specs.Standing.{StationState}
+use Rattle.fleet.specs.Laws.{QuietIsTheWorlds}
+use Rattle.fleet.specs.Rounds.{is_quiet, is_quiet_at, unacked_at}
+use Rattle.fleet.specs.Standing.{FleetState, IsStationOf, StandsFor}
+use Rattle.fleet.specs.Waiting.{has_nothing}
+use Rattle.fleet.proofs.Places.{same_number}
+use Rattle.fleet.proofs.Sums.{Along, quiet-stands, stations-along}
+
+-- From the nodes to the world
+
+-- what holds of each node whose station passes, where all stations pass
+each-along : {X Y : Type 0} (p : X → Bool) (P : Y → Type 0) (xs : List X) (ys : List Y) →
+    Along (λ x y. p x ≡ true → P y) xs ys → list_all p xs ≡ true → AllByRecursion P ys
+each-along p P [] [] all pass = tt
+each-along p P [] (y ∷ ys) all pass = absurd all
+each-along p P (x ∷ xs) [] all pass = absurd all
+each-along p P (x ∷ xs) (y ∷ ys) all pass = (
+  all.0 (both_left (p x) (list_all p xs) pass),
+  each-along p P xs ys all.1 (both_right (p x) (list_all p xs) pass),
+)
+
+-- what holds of each node holds at the number of one
+node-has : (P : ℕ → Type 0) (nodes : List NodeSpec) (n : NodeId) → AllByRecursion (λ (m : NodeSpec). P m.id.0) nodes →
+    is_node_id nodes n ≡ true → P n.0
+node-has P [] n all there = absurd (cc (there))
+node-has P (m ∷ nodes) n all there = go (nat_eq m.id.0 n.0) refl there (node-has P nodes n all.1)
+  where
+    go : (b : Bool) → nat_eq m.id.0 n.0 ≡ b → (b || is_node_id nodes n) ≡ true →
+        (is_node_id nodes n ≡ true → P n.0) → P n.0
+    go true e h later = subst P (same_number m.id.0 n.0 e) all.0
+    go false e h later = later h
+
+still-at : (t : Network) (f : FleetState) (h : History) → StandsFor t f h → is_quiet t (world_after t h) ≡ true →
+    (n : NodeId) → IsStill (world_after t h) n.0
+still-at t f h stands quiet n = go (is_node_id t.nodes n) refl
+  where
+    w : World
+    w = world_after t h
+
+    one : (x : StationState) (m : NodeSpec) → IsStationOf t w stands.wires m.id x → has_nothing x ≡ true →
+        IsStill w m.id.0
+    one x m is pass =
+        nothing-waits w m.id.0 x.desk x.controller.adjacencies x.controller.flood is.node.desk is.node.stands.hops
+        is.node.flood pass
+
+    go : (b : Bool) → is_node_id t.nodes n ≡ b → IsStill w n.0
+    go false none =
+        let is : IsNowhere w n.0 = nowhere-run t h.events n stands.valid stands.running.run none in
+        record { desk = is.desk; hops = is.hops; flood = is.flood }
+    go true there =
+        node-has (IsStill w) t.nodes n
+        (each-along has_nothing (λ (m : NodeSpec). IsStill w m.id.0) f.stations t.nodes
+        (stations-along t h f (λ x m. has_nothing x ≡ true → IsStill w m.id.0) stands one)
+        (quiet-stands t h f stands ∙ quiet)) there
+
+-- From the world to the nodes
+
+none-unacked : (w : World) (n : ℕ) (us : List ℕ) → IsQuiet w → sum_by (λ u. length (w.ends n u).hop.unacked) us ≡ 0
+none-unacked w n [] quiet = refl
+none-unacked w n (u ∷ us) quiet =
+    sum_by-cons (λ u. length (w.ends n u).hop.unacked) u us
+    ∙ (λ i. length (quiet.hops n u i) + none-unacked w n us quiet i)
+
+quiet-at : (t : Network) (w : World) (n : NodeId) → IsQuiet w → is_quiet_at t w n ≡ true
+quiet-at t w n quiet = λ i. nat_eq (length (quiet.desks n.0 i)) 0
+    && nat_eq (none-unacked w n.0 (neighbours (local_node t n)) quiet i) 0 && nat_eq (quiet.floods n.0 i) 0
+
+quiet-nodes : (t : Network) (w : World) (nodes : List NodeSpec) → IsQuiet w →
+    list_all (λ (n : NodeSpec). is_quiet_at t w n.id) nodes ≡ true
+quiet-nodes t w [] quiet = refl
+quiet-nodes t w (n ∷ nodes) quiet = λ i. quiet-at t w n.id quiet i && quiet-nodes t w nodes quiet i
+
+-- a run's world is quiet just where its nodes are
+pub quiet-is-the-worlds : QuietIsTheWorlds
+quiet-is-the-worlds t f h stands = (
+  λ quiet. record {
+    desks = λ n. (still-at t f h stands quiet (record { 0 = n })).desk;
+    hops = λ u d. (still-at t f h stands quiet (record { 0 = u })).hops d;
+    floods = λ n. (still-at t f h stands quiet (record { 0 = n })).flood;
+  },
+  λ quiet. quiet-nodes t (world_after t h) t.nodes quiet,
+)
