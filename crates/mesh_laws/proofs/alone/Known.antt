@@ -39,7 +39,7 @@ use Rattle.mesh_laws.proofs.hops.Chain.{LegFits, OnRoute, RisksFit}
 use Rattle.mesh_laws.proofs.hops.Paired.{no_previous, whole-route}
 use Rattle.mesh_laws.proofs.hops.Planned.{EachFollows, Follows, Planned}
 use Rattle.mesh_laws.proofs.hops.Plans.{Plan, node_at, plan, same_node}
-use Rattle.mesh_laws.proofs.hops.Rest.{Carries, Guards, Purpose, Tells, role_of}
+use Rattle.mesh_laws.proofs.hops.Purposes.{Carries, Guards, Purpose, Tells, role_of}
 use Rattle.mesh_laws.proofs.hops.Rows.{no_active_up}
 use Rattle.mesh_laws.proofs.hops.Taken.{down_hop, mine, up_hop}
 use Rattle.mesh_laws.proofs.nodes.CallParts.{named-lsp}

@@ -19,10 +19,16 @@ use Rattle.mesh_laws.specs.HopShapes.{LegKind, NoLeg, HeldLeg, ArmedLeg, LiveLeg
 use Rattle.mesh_laws.specs.HopShapes.{MsgKind, PlainPath, ActivePath, Label, Contention}
 use Rattle.mesh_laws.specs.HopShapes.{IsTorn, Shape, Standby, leg_kind, msg_kind}
 use Rattle.mesh_laws.proofs.hops.Plans.{Plan, link_at}
-use Rattle.mesh_laws.proofs.hops.Rows.{is_reserved, ActiveTaken, active_taken, activates, resv_armed, armed_answers}
-use Rattle.mesh_laws.proofs.hops.Rows.{ContentionTaken, HeldAgain, Ignored, contention_taken, deactivates, plain_taken}
-use Rattle.mesh_laws.proofs.hops.Rest.{Purpose, Rest, DownFits, LabelsMeet, SentOn, SetSent, role_of, is_path}
-use Rattle.mesh_laws.proofs.hops.Rest.{out_label_of, down_taken, down_sent, up_taken, up_sent}
+use Rattle.mesh_laws.proofs.hops.RowStates.{is_reserved}
+use Rattle.mesh_laws.proofs.hops.PathTaken.{ActiveTaken, active_taken}
+use Rattle.mesh_laws.proofs.hops.AnswersTaken.{resv_armed, armed_answers}
+use Rattle.mesh_laws.proofs.hops.Rows.{activates}
+use Rattle.mesh_laws.proofs.hops.PathTaken.{plain_taken}
+use Rattle.mesh_laws.proofs.hops.AnswersTaken.{ContentionTaken, HeldAgain, Ignored, contention_taken}
+use Rattle.mesh_laws.proofs.hops.Rows.{deactivates}
+use Rattle.mesh_laws.proofs.hops.Purposes.{Purpose, Rest, DownFits, LabelsMeet, SentOn, SetSent, role_of, is_path}
+use Rattle.mesh_laws.proofs.hops.Purposes.{out_label_of}
+use Rattle.mesh_laws.proofs.hops.Rest.{down_taken, down_sent, up_taken, up_sent}
 use Rattle.mesh_laws.proofs.hops.Rest.{downstream_keeps, upstream_keeps}
 use Rattle.mesh_laws.proofs.hops.Chain.{Hop}
 

@@ -29,11 +29,14 @@ use Rattle.mesh_nodes.proofs.Cases.{if_cases}
 use Rattle.mesh_nodes.proofs.LegList.{same_lsp-refl}
 use Rattle.mesh_laws.proofs.hops.Activation.{arms, arms_on, connects, contends}
 use Rattle.mesh_laws.proofs.hops.Chain.{Chain, Hop, LegFits, below_or_not}
-use Rattle.mesh_laws.proofs.hops.LegChanges.{armed_fits, following_is, following_none, held_leg, held_live_fits}
-use Rattle.mesh_laws.proofs.hops.LegChanges.{in_label_is, in_use_out, previous_is, same_of}
+use Rattle.mesh_laws.proofs.hops.LegKinds.{held_leg}
+use Rattle.mesh_laws.proofs.hops.LegChanges.{armed_fits, following_is, following_none, held_live_fits}
+use Rattle.mesh_laws.proofs.hops.LegKinds.{same_of}
+use Rattle.mesh_laws.proofs.hops.LegChanges.{in_label_is, in_use_out, previous_is}
 use Rattle.mesh_laws.proofs.hops.Plans.{Plan, hops, node_at, link_at, fibre_at, IsRoute, same}
-use Rattle.mesh_laws.proofs.hops.Rest.{Purpose, Tells, role_of}
-use Rattle.mesh_laws.proofs.hops.Rows.{active_taken, leg_downstream}
+use Rattle.mesh_laws.proofs.hops.Purposes.{Purpose, Tells, role_of}
+use Rattle.mesh_laws.proofs.hops.PathTaken.{active_taken}
+use Rattle.mesh_laws.proofs.hops.Rows.{leg_downstream}
 use Rattle.mesh_laws.proofs.hops.Sending.{sends_back, sends_on}
 use Rattle.mesh_laws.proofs.hops.Taken.{KeepsDown, down_hop, down_taken}
 

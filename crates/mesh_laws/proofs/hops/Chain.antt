@@ -19,7 +19,7 @@ use Rattle.mesh_laws.specs.HopShapes.{Shape, leg_kind, msg_kind}
 use Rattle.mesh_laws.specs.LabelLaw.{KeepsLabels}
 use Rattle.mesh_laws.specs.RiskLaw.{rows_of}
 use Rattle.mesh_laws.proofs.hops.Plans.{Plan, hops, node_at, fibre_at}
-use Rattle.mesh_laws.proofs.hops.Rest.{Purpose, Carries, Guards, Rest, Tells, role_of, has_path}
+use Rattle.mesh_laws.proofs.hops.Purposes.{Purpose, Carries, Guards, Rest, Tells, role_of, has_path}
 
 -- Legs
 

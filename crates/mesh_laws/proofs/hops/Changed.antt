@@ -7,7 +7,7 @@ use Rattle.ason_base.specs.declared.ids.NodeId.{NodeId}
 use Rattle.ason_base.specs.declared.messages.Msg.{Msg}
 use Rattle.ason_base.specs.declared.tables.Leg.{Leg}
 use Rattle.mesh_laws.proofs.hops.Plans.{Plan, hops, node_at, IsRoute, distinct, same_node}
-use Rattle.mesh_laws.proofs.hops.Rest.{Purpose, has_path}
+use Rattle.mesh_laws.proofs.hops.Purposes.{Purpose, has_path}
 use Rattle.mesh_laws.proofs.hops.Chain.{Fits, Hop, HopAt, IsPlace, OnRoute, IsFirst, IsVacant, Chain, at_or_else, is_or_not, below_or_not}
 
 -- a step at the node d: its leg is c, and these messages go out; nothing else changes but what goes to d

@@ -15,9 +15,12 @@ use Rattle.ason_base.specs.declared.steps.Step.{Step}
 use Rattle.ason_base.specs.declared.tables.Leg.{Leg}
 use Rattle.mesh_laws.specs.HopShapes.{PlainPath, IsTorn, HasLetGo, NothingLeft, leg_kind, msg_kind, path_kind}
 use Rattle.mesh_laws.proofs.hops.Plans.{Plan, link_at}
-use Rattle.mesh_laws.proofs.hops.Rows.{is_reserved, reserved_leg, reserved_is, Stands, FirstTaken, first_taken}
-use Rattle.mesh_laws.proofs.hops.Rows.{tear_taken, tear_late, AskedAnswers, asked_answers, torn_leaves}
-use Rattle.mesh_laws.proofs.hops.Rest.{Purpose, role_of, Rest, has_path, in_label_of, out_label_of, no_kinds, no_path_down}
+use Rattle.mesh_laws.proofs.hops.RowStates.{is_reserved, reserved_leg, reserved_is, Stands}
+use Rattle.mesh_laws.proofs.hops.PathTaken.{FirstTaken, first_taken}
+use Rattle.mesh_laws.proofs.hops.PathTaken.{tear_taken, tear_late}
+use Rattle.mesh_laws.proofs.hops.AnswersTaken.{AskedAnswers, asked_answers, torn_leaves}
+use Rattle.mesh_laws.proofs.hops.Purposes.{Purpose, role_of, Rest, has_path, in_label_of, out_label_of}
+use Rattle.mesh_laws.proofs.hops.IdleHops.{no_kinds, no_path_down}
 use Rattle.mesh_laws.proofs.hops.Rest.{down_taken, up_sent, downstream_lets_go, downstream_takes, downstream_asked}
 use Rattle.mesh_laws.proofs.hops.Rest.{offer_path, sent_path, sent_offer}
 use Rattle.mesh_laws.proofs.hops.Chain.{Hop}

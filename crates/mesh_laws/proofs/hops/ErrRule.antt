@@ -18,12 +18,15 @@ use Rattle.mesh_laws.specs.HopShapes.{AskedLeg, IsTorn, NothingLeft, leg_kind}
 use Rattle.mesh_laws.specs.HopLaw.{is_message_of, messages_of, leg_at, mail_between}
 use Rattle.mesh_laws.proofs.hops.Plans.{Plan, hops, node_at, fibre_at, IsRoute, same}
 use Rattle.mesh_nodes.proofs.LegList.{same_lsp-refl}
-use Rattle.mesh_laws.proofs.hops.Rows.{contention_to, nothing_torn, removal_taken, asked_answers, torn_leaves}
-use Rattle.mesh_laws.proofs.hops.Rest.{Purpose, role_of, no_path_down}
+use Rattle.mesh_laws.proofs.hops.RowStates.{nothing_torn}
+use Rattle.mesh_laws.proofs.hops.AnswersTaken.{contention_to, removal_taken, asked_answers, torn_leaves}
+use Rattle.mesh_laws.proofs.hops.Purposes.{Purpose, role_of}
+use Rattle.mesh_laws.proofs.hops.IdleHops.{no_path_down}
 use Rattle.mesh_laws.proofs.hops.Chain.{LegFits, Hop, Chain}
 use Rattle.mesh_laws.proofs.hops.Changed.{Sends}
 use Rattle.mesh_laws.proofs.hops.Sending.{sent_by, sends_none, sends_back}
-use Rattle.mesh_laws.proofs.hops.LegChanges.{Before, before_or_first, same_of, asked_phase, armed_phase, held_fits, torn_not_armed, torn_is_closing, torn_not_asked, previous_is, previous_none, following_is}
+use Rattle.mesh_laws.proofs.hops.LegKinds.{same_of, asked_phase, armed_phase, torn_not_armed, torn_is_closing, torn_not_asked}
+use Rattle.mesh_laws.proofs.hops.LegChanges.{Before, before_or_first, held_fits, previous_is, previous_none, following_is}
 use Rattle.mesh_laws.proofs.hops.Activation.{contention_passes, disarms}
 use Rattle.mesh_laws.proofs.hops.Downstream.{asked_lets_go, torn_goes}
 use Rattle.mesh_laws.proofs.hops.Upstream.{contention_kept, removal_leaves}

@@ -1,4 +1,5 @@
--- A call that stands is cross-connected from end to end, and the backup of a guarded call is reserved from end to end,
+-- A call that stands is cross-connected from end to end, and the backup of a guarded call is reserved from
+-- end to end,
 -- while legs of it may still be cross-connected after the call went back.
 use Rattle.std.proofs.Common.{◌≡◌, ◌<◌, ◌≤◌, ℕ, zero, suc, true, List, length, refl, sym, ap, ◌∙◌, subst, arith, inl, inr}
 use Rattle.std.specs.Prelude.{slice_get, Option, Some, None, IfSome}
@@ -32,9 +33,10 @@ use Rattle.mesh_laws.proofs.nodes.Facts.{MeshFacts}
 use Rattle.mesh_laws.proofs.nodes.Runs.{facts-hold}
 use Rattle.mesh_laws.proofs.hops.Plans.{Plan, hops, plan, node_at}
 use Rattle.mesh_laws.proofs.hops.Rows.{held_upstream, live_upstream, reserved_upstream}
-use Rattle.mesh_laws.proofs.hops.Rest.{Purpose, LabelsMeet, role_of}
+use Rattle.mesh_laws.proofs.hops.Purposes.{Purpose, LabelsMeet, role_of}
 use Rattle.mesh_laws.proofs.hops.Chain.{LegFits, Hop, Chain}
-use Rattle.mesh_laws.proofs.hops.LegChanges.{beyond_labels, beyond_reserved, held_leg, live_leg, reserved_there}
+use Rattle.mesh_laws.proofs.hops.LegKinds.{beyond_reserved, held_leg, live_leg, reserved_there}
+use Rattle.mesh_laws.proofs.hops.LegChanges.{beyond_labels}
 use Rattle.mesh_laws.proofs.hops.Planned.{Routes, Planned, Follows}
 use Rattle.mesh_laws.proofs.hops.Law.{link_there, node_is, far_is, route_fits}
 use Rattle.mesh_laws.proofs.hops.Laws.{follows}
@@ -120,7 +122,8 @@ module _ (t : Network) (s : Mesh) (q : Purpose) (l : Lsp) (p : Plan)
               enters = into.1 ∙ ap Some (sym one);
             }
 
-  -- An LSP that is Live at its ingress is so all along; beyond a Held leg each is Held or Live; beyond an Armed one each
+  -- An LSP that is Live at its ingress is so all along; beyond a Held leg each is Held or Live; beyond an
+  -- Armed one each
   -- has its label
 
   live_along : GoesAlong t s q l p IsLive
@@ -282,7 +285,8 @@ call_joined_there t events run n k c found =
     let s : Mesh = after t start events in
     let fit = ((facts-hold t events run).node n).call k c found in
     call_joined t events run n c fit c.state
-    (phases_of c.state (phase_of (leg_of c.work (s.nodes n).legs)) (phase_of (leg_of c.back (s.nodes n).legs)) fit.state)
+    (phases_of c.state (phase_of (leg_of c.work (s.nodes n).legs)) (phase_of (leg_of c.back (s.nodes n).legs))
+    fit.state)
 
 pub every_call_joined : EveryCallIsJoined
 every_call_joined t events run n =

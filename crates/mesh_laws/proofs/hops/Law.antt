@@ -20,10 +20,10 @@ use Rattle.mesh_laws.specs.HopLaw.{leg_at, mail_between, notices_between, EachLa
 use Rattle.mesh_laws.specs.HopLaw.{GoesUp, IsBeyond, NamesBeyond}
 use Rattle.mesh_laws.proofs.hops.Notices.{ComesUp, NoticeFits}
 use Rattle.mesh_laws.proofs.hops.Plans.{Plan, hops, plan, node_at, link_at, IsRoute, distinct, same_node, lt_true, joined, fibre_in_is, fibre_out_is}
-use Rattle.mesh_laws.proofs.hops.Rows.{is_reserved}
-use Rattle.mesh_laws.proofs.hops.Rest.{Purpose, Carries, Guards, role_of, Each, AnswerFits, LabelsMeet}
+use Rattle.mesh_laws.proofs.hops.RowStates.{is_reserved}
+use Rattle.mesh_laws.proofs.hops.Purposes.{Purpose, Carries, Guards, role_of, Each, AnswerFits, LabelsMeet}
 use Rattle.mesh_laws.proofs.hops.Chain.{LegFits, PhaseFits, IsPlace, OnRoute, Chain, below_or_not}
-use Rattle.mesh_laws.proofs.hops.LegChanges.{beyond_reserved}
+use Rattle.mesh_laws.proofs.hops.LegKinds.{beyond_reserved}
 use Rattle.mesh_laws.proofs.hops.Planned.{Planned, Routes, Follows}
 
 meets : (a b : Option ℕ) (x y : ℕ) → LabelsMeet a b → a ≡ Some x → b ≡ Some y → x ≡ y

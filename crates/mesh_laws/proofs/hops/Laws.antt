@@ -1,6 +1,6 @@
 -- Every hop of every LSP has a shape, in every state of every run.
 use Rattle.std.proofs.Common.{◌≡◌, ◌<◌, ℕ, Bool, true, false, List, ◌∷◌, refl, sym, ap, ◌∙◌, subst, arith}
-use Rattle.std.specs.Prelude.{◌||◌, Option, Some, None, IfSome}
+use Rattle.std.specs.Prelude.{◌||◌, Option, Some, None}
 use Rattle.std.specs.List.{AllByRecursion, Contains}
 use Rattle.std.proofs.lemmas.List.Elements.{All-contains, All-from_recursion}
 use Rattle.ason_base.specs.Lsps.{is_lsp, same_lsp}
@@ -10,7 +10,6 @@ use Rattle.ason_base.specs.declared.ids.NodeId.{NodeId}
 use Rattle.ason_base.specs.declared.ids.Lsp.{Lsp}
 use Rattle.ason_base.specs.declared.calls.CallState.TheVariants.{Turned}
 use Rattle.ason_base.specs.declared.calls.Phase.{Phase}
-use Rattle.ason_base.specs.declared.calls.Role.{Role}
 use Rattle.ason_base.specs.declared.calls.Role.TheVariants.{Work, Back}
 use Rattle.ason_base.specs.declared.commands.Command.TheVariants.{Setup, Release, Protect, Retry, Revert, Fail, Repair}
 use Rattle.ason_base.specs.declared.commands.DeskItem.{DeskItem}
@@ -20,7 +19,7 @@ use Rattle.ason_base.specs.declared.tables.Leg.{Leg}
 use Rattle.mesh_rules.specs.declared.events.MeshEvent.{MeshEvent}
 use Rattle.mesh_rules.specs.Calls.{call_with, find_call, names}
 use Rattle.mesh_rules.specs.Commands.{is_searchable}
-use Rattle.mesh_rules.specs.Legs.{find_leg, is_closing, is_work, leg_of}
+use Rattle.mesh_rules.specs.Legs.{find_leg, is_work, leg_of}
 use Rattle.mesh_rules.specs.State.{NodeState}
 use Rattle.mesh_rules.specs.Machine.{Mesh, start}
 use Rattle.mesh_rules.specs.Events.{IsRun, after, route_of}
@@ -41,25 +40,7 @@ use Rattle.mesh_laws.proofs.hops.Turned.{BackFits, IsLiveBackup}
 use Rattle.mesh_laws.proofs.hops.Released.{CallStands, NamedStands}
 use Rattle.mesh_laws.proofs.hops.Run.{CanBeProtected, Carried, ItemFits, StepFacts, WorksFor, follows_run}
 use Rattle.mesh_laws.proofs.hops.Law.{lsp_fits}
-
--- A call and its LSPs
-
--- the phase of a leg that a call names
-named_phase : (n next : ℕ) (legs : List Leg) (r : Role) (egress : NodeId) (named : Option Lsp) (l : Lsp) (g : Leg) →
-    named ≡ Some l → find_leg l legs ≡ Some g → phase_of (leg_of named legs) ≡ Some g.phase
-named_phase n next legs r egress named l g is here = rw (is, here) refl
-
-named_is : (n next : ℕ) (legs : List Leg) (r : Role) (egress : NodeId) (named : Option Lsp) (l : Lsp) →
-    IfSome named (IsNamed n next legs r egress) → named ≡ Some l → IsNamed n next legs r egress l
-named_is n next legs r egress named l fits is =
-    let fits' : IfSome (Some l) (IsNamed n next legs r egress) = rw is at fits in fits'
-
-not_torn : (f : Phase) → (is_closing f ≡ true → ⊥) → is_closing f ≡ false
-not_torn f never = go (is_closing f) never
-  where
-    go : (b : Bool) → (b ≡ true → ⊥) → b ≡ false
-    go true never = absurd (never refl)
-    go false never = refl
+use Rattle.mesh_laws.proofs.hops.NamedPhases.{named_is, named_phase, not_torn}
 
 module _ (n : ℕ) (s : NodeState) (c : CallRec) (fit : FitsLegs n s.lsp s.legs c) where
   abbrev work_phase : Option Phase

@@ -16,17 +16,18 @@ use Rattle.mesh_rules.specs.Machine.{Mesh, commit}
 use Rattle.mesh_laws.specs.HopShapes.{NoLeg, leg_kind}
 use Rattle.mesh_laws.specs.HopLaw.{is_message_of, leg_at, mail_between, notices_between}
 use Rattle.mesh_nodes.proofs.LegList.{same_lsp-eq}
-use Rattle.mesh_laws.proofs.hops.Begun.{EachStepped, first-append, stepped_kept}
+use Rattle.mesh_laws.proofs.hops.Stepped.{EachStepped, first-append, stepped_kept}
 use Rattle.mesh_laws.proofs.hops.Chain.{Chain, Hop, LegFits}
 use Rattle.mesh_laws.proofs.hops.Changed.{place_changed}
 use Rattle.mesh_laws.proofs.hops.FollowedBy.{commit-then}
 use Rattle.mesh_laws.proofs.hops.Notices.{notices_same}
-use Rattle.mesh_laws.proofs.hops.Own.{IsOf, IsQuiet, leg-other, mail-other, route-other, sent-plain}
+use Rattle.mesh_laws.proofs.hops.OtherLsps.{leg-other, mail-other, route-other, sent-plain}
+use Rattle.mesh_laws.proofs.hops.Own.{IsOf, IsQuiet}
 use Rattle.mesh_laws.proofs.hops.Planned.{Planned, Routes, Follows, EachFollows, SameOf, follows_same, next_same}
 use Rattle.mesh_laws.proofs.hops.Planned.{or_assoc, or_none}
 use Rattle.mesh_laws.proofs.hops.Plans.{Plan, plan, node_at, distinct, same_node}
 use Rattle.mesh_laws.proofs.hops.Quiet.{same_quiet}
-use Rattle.mesh_laws.proofs.hops.Rest.{Purpose}
+use Rattle.mesh_laws.proofs.hops.Purposes.{Purpose}
 use Rattle.mesh_laws.proofs.hops.Sending.{sent_by, sends_on, changed-here}
 use Rattle.mesh_laws.proofs.hops.Views.{SendsNoNotice, mail-else, notices-plain}
 

@@ -8,7 +8,7 @@ use Rattle.ason_base.specs.declared.messages.Msg.{Msg}
 use Rattle.ason_base.specs.declared.messages.Msg.TheVariants.{Path, Resv, PathTear, PathErr, Notify}
 use Rattle.mesh_rules.specs.Reports.{reported}
 use Rattle.mesh_laws.proofs.hops.Plans.{Plan, hops, link_at, node_at}
-use Rattle.mesh_laws.proofs.hops.Rest.{Each}
+use Rattle.mesh_laws.proofs.hops.Purposes.{Each}
 
 -- it names a node after place i, with the link by which the route comes in there, and tells that this fibre went down
 -- or came up

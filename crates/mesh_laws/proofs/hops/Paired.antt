@@ -37,13 +37,14 @@ use Rattle.mesh_nodes.proofs.routes.Beside.{found-beside}
 use Rattle.mesh_nodes.proofs.routes.Nodes.{known-are}
 use Rattle.mesh_laws.proofs.hops.Plans.{plan, node_at, fibre_at, IsRoute, lt_true, same_node}
 use Rattle.mesh_laws.proofs.hops.LegChanges.{armed_role, previous_is}
-use Rattle.mesh_laws.proofs.hops.Rest.{Purpose, Guards}
+use Rattle.mesh_laws.proofs.hops.Purposes.{Purpose, Guards}
 use Rattle.mesh_laws.proofs.hops.Risks.{recorded-fit}
 use Rattle.mesh_laws.proofs.hops.Chain.{LegFits}
 use Rattle.mesh_laws.proofs.hops.Own.{IsQuiet}
 use Rattle.mesh_laws.proofs.hops.Turned.{BackStands, decide_stepped}
 use Rattle.mesh_laws.proofs.hops.Planned.{Routes, Follows, EachFollows}
-use Rattle.mesh_laws.proofs.hops.Begun.{EachStepped, starts_over, stepped_quiet, begins_stepped}
+use Rattle.mesh_laws.proofs.hops.Stepped.{EachStepped, starts_over, stepped_quiet}
+use Rattle.mesh_laws.proofs.hops.Begun.{begins_stepped}
 
 -- The whole route of an LSP that begins here
 

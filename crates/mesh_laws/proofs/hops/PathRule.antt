@@ -1,13 +1,12 @@
 -- A first Path is taken at a node of its route.
-use Rattle.std.proofs.Common.{◌≡◌, ◌≢◌, ◌<◌, ◌≤◌, ℕ, zero, suc, true, false, nat_eq, nat_lt, List, [], ◌∷◌, length, drop, refl, sym, ap, ◌∙◌, subst, arith, append-nil}
-use Rattle.std.specs.Prelude.{slice_get, Option, Some, None}
+use Rattle.std.proofs.Common.{◌≡◌, ◌≢◌, ◌<◌, ◌≤◌, ℕ, suc, true, false, nat_eq, nat_lt, List, [], ◌∷◌, length, drop, refl, sym, ap, ◌∙◌, subst, arith, append-nil}
+use Rattle.std.specs.Prelude.{Option, Some, None}
 use Rattle.ason_base.specs.Labels.{has, least, up_to}
 use Rattle.ason_base.specs.Network.{Network}
 use Rattle.ason_base.specs.declared.codes.ErrCode.{ErrCode}
 use Rattle.ason_base.specs.declared.ids.Lsp.{Lsp}
 use Rattle.ason_base.specs.declared.ids.NodeId.{NodeId}
 use Rattle.ason_base.specs.declared.ids.LinkId.{LinkId}
-use Rattle.ason_base.specs.declared.network.LinkSpec.{LinkSpec}
 use Rattle.ason_base.specs.declared.steps.Step.{Step}
 use Rattle.ason_base.specs.declared.messages.PathRole.{PathRole}
 use Rattle.ason_base.specs.declared.risks.Risk.{Risk}
@@ -29,63 +28,18 @@ use Rattle.mesh_laws.specs.HopLaw.{is_message_of, messages_of, leg_at, mail_betw
 use Rattle.mesh_laws.proofs.hops.Plans.{Plan, hops, node_at, link_at, fibre_at, IsRoute, Leads, distinct, other, lt_true, lt_false, joined, own_near, own_far, fibre_in_is, fibre_out_is}
 use Rattle.mesh_laws.proofs.hops.Labels.{has_least, has_meet, left_of_link}
 use Rattle.mesh_nodes.proofs.LegList.{same_lsp-refl}
-use Rattle.mesh_laws.proofs.nodes.PathKeeps.{none_fails}
 use Rattle.mesh_nodes.specs.Routes.{AreRowsOf}
 use Rattle.mesh_nodes.proofs.routes.Nodes.{known-are}
-use Rattle.mesh_laws.proofs.hops.Rest.{Purpose, Tells, role_of, tells_role, has_path, plain_inactive}
+use Rattle.mesh_laws.proofs.hops.Purposes.{Purpose, Tells, role_of, tells_role, has_path, plain_inactive}
 use Rattle.mesh_laws.proofs.hops.Risks.{recorded-fit}
-use Rattle.mesh_laws.proofs.hops.Rows.{reserved_leg}
+use Rattle.mesh_laws.proofs.hops.RowStates.{reserved_leg}
 use Rattle.mesh_laws.proofs.hops.Chain.{Hop, IsVacant, Chain, RisksFit, asked_fits, no_label_in, reserved_fits}
 use Rattle.mesh_laws.proofs.hops.Sending.{sends_back, sends_on}
-use Rattle.mesh_laws.proofs.hops.LegChanges.{reserved_kind}
+use Rattle.mesh_laws.proofs.hops.LegKinds.{reserved_kind}
 use Rattle.mesh_laws.proofs.hops.Downstream.{path_last, path_passed, path_answered, path_refused}
 use Rattle.mesh_laws.proofs.hops.Upstream.{hop_idle, hop_asks}
 use Rattle.mesh_laws.proofs.hops.Taken.{KeepsDown, down_hop, down_mine, down_taken}
-
--- The rest of a route
-
-drop-none : {X : Type 0} (j : ℕ) (xs : List X) → drop j xs ≡ [] → length xs ≤ j
-drop-none zero [] e = omega arith
-drop-none zero (x ∷ xs) e = cc
-drop-none (suc j) [] e = omega arith
-drop-none (suc j) (x ∷ xs) e = let further : length xs ≤ j = drop-none j xs e in omega arith
-
-drop-further : {X : Type 0} (j : ℕ) (xs : List X) → drop j xs ≡ [] → [] ≡ drop (suc j) xs
-drop-further zero [] e = refl
-drop-further zero (x ∷ xs) e = cc
-drop-further (suc j) [] e = refl
-drop-further (suc j) (x ∷ xs) e = drop-further j xs e
-
-record StartsAt {X : Type 0} (j : ℕ) (xs : List X) (h : X) (r : List X) : Type 0 where
-  below : j < length xs
-  first : slice_get xs j ≡ Some h
-  further : r ≡ drop (suc j) xs
-
-drop-some : {X : Type 0} (j : ℕ) (xs : List X) (h : X) (r : List X) → drop j xs ≡ h ∷ r → StartsAt j xs h r
-drop-some zero [] h r e = cc
-drop-some zero (x ∷ xs) h r e = record {
-  below = omega arith;
-  first = (let q : x ≡ h = cc in ap Some q);
-  further = (let q : xs ≡ r = cc in sym q);
-}
-drop-some (suc j) [] h r e = cc
-drop-some (suc j) (x ∷ xs) h r e =
-    let st = drop-some j xs h r e in
-    record { below = (let b = st.below in omega arith); first = st.first; further = st.further }
-
--- Refusals
-
--- where a Path isn't refused, a label is left
-some_label : (p : LocalNode) (s : NodeState) (m : PathRequest) (link : LinkSpec) →
-    first_failure (checks p s m link) ≡ None →
-    is_none (least (offered_labels p s m link)) ≡ false
-some_label p s m link none = (none_fails (checks p s m link) none).1.1.1.1.0
-
--- and each link of its primary's route is known
-primary_known : (p : LocalNode) (s : NodeState) (m : PathRequest) (link : LinkSpec) →
-    first_failure (checks p s m link) ≡ None →
-    is_primary_unknown (known_rows p s) m.role ≡ false
-primary_known p s m link none = (none_fails (checks p s m link) none).1.1.0
+use Rattle.mesh_laws.proofs.hops.PathLabels.{drop-further, drop-none, drop-some, primary_known, some_label}
 
 module _ (t : Network) (q : Purpose) (s : Mesh) (l : Lsp) (p : Plan) (i : ℕ) (route : IsRoute t l.ingress p)
     (chain : Chain t q l p (leg_at s l) (mail_between s l)) (below : i < hops p)

@@ -12,7 +12,7 @@ use Rattle.mesh_rules.specs.Events.{or_route}
 use Rattle.mesh_rules.specs.Pairs.{beside_lsp}
 use Rattle.mesh_laws.specs.HopLaw.{leg_at, mail_between, notices_between}
 use Rattle.mesh_laws.proofs.hops.Plans.{Plan, plan, IsRoute}
-use Rattle.mesh_laws.proofs.hops.Rest.{Purpose, Carries, Guards}
+use Rattle.mesh_laws.proofs.hops.Purposes.{Purpose, Carries, Guards}
 use Rattle.mesh_laws.proofs.hops.Chain.{Chain}
 use Rattle.mesh_laws.proofs.hops.Notices.{NoticesFit, notices_same}
 

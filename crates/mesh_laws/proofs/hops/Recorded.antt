@@ -23,7 +23,7 @@ use Rattle.mesh_nodes.proofs.LegList.{all-found}
 use Rattle.mesh_laws.proofs.nodes.Facts.{MeshFacts}
 use Rattle.mesh_laws.proofs.nodes.Runs.{facts-hold}
 use Rattle.mesh_laws.proofs.hops.Plans.{Plan, plan, node_at, same_node}
-use Rattle.mesh_laws.proofs.hops.Rest.{Purpose, Carries, Guards, Tells, role_of}
+use Rattle.mesh_laws.proofs.hops.Purposes.{Purpose, Carries, Guards, Tells, role_of}
 use Rattle.mesh_laws.proofs.hops.Chain.{LegFits, RisksFit}
 use Rattle.mesh_laws.proofs.hops.Planned.{Follows, IsGuarded}
 use Rattle.mesh_laws.proofs.hops.Laws.{follows}

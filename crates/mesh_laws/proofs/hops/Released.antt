@@ -23,19 +23,21 @@ use Rattle.mesh_laws.specs.HopLaw.{leg_at, mail_between, notices_between}
 use Rattle.mesh_laws.proofs.hops.Plans.{Plan, hops, plan, node_at, link_at, distinct, same_node}
 use Rattle.mesh_nodes.proofs.LegList.{same_lsp-eq}
 use Rattle.mesh_laws.proofs.hops.Views.{SendsNoNotice, mail-else, notices-plain}
-use Rattle.mesh_laws.proofs.hops.Rest.{Purpose}
+use Rattle.mesh_laws.proofs.hops.Purposes.{Purpose}
 use Rattle.mesh_laws.proofs.hops.Chain.{LegFits, Chain}
 use Rattle.mesh_laws.proofs.hops.Changed.{place_changed}
 use Rattle.mesh_laws.proofs.hops.Sending.{sent_by, sends_on, changed-here}
-use Rattle.mesh_laws.proofs.hops.LegChanges.{same_of, phase_stands, closed_kind, closed_fits, following_is}
+use Rattle.mesh_laws.proofs.hops.LegKinds.{same_of, phase_stands}
+use Rattle.mesh_laws.proofs.hops.LegChanges.{closed_kind, closed_fits, following_is}
 use Rattle.mesh_laws.proofs.hops.Upstream.{leg_closes}
 use Rattle.mesh_laws.proofs.hops.Taken.{path_before}
 use Rattle.mesh_nodes.proofs.Cases.{if_cases}
-use Rattle.mesh_laws.proofs.hops.Own.{AllSent, IsOf, found-is, leg-other, mail-other, sent-plain}
+use Rattle.mesh_laws.proofs.hops.OtherLsps.{leg-other, mail-other, sent-plain}
+use Rattle.mesh_laws.proofs.hops.Own.{AllSent, IsOf, found-is}
 use Rattle.mesh_laws.proofs.hops.Notices.{notices_same}
 use Rattle.mesh_laws.proofs.hops.Planned.{Planned, Routes, Follows, EachFollows, SameOf, follows_same, next_same}
 use Rattle.mesh_laws.proofs.hops.Quiet.{same_quiet}
-use Rattle.mesh_laws.proofs.hops.Begun.{EachStepped, begins-none, stepped_quiet, stepped_then}
+use Rattle.mesh_laws.proofs.hops.Stepped.{EachStepped, begins-none, stepped_quiet, stepped_then}
 
 -- the leg of an LSP that a call names begins here and isn't torn
 abbrev pub NamedStands : ℕ → NodeState → Option Lsp → Type 0

@@ -28,12 +28,14 @@ use Rattle.mesh_laws.specs.HopLaw.{is_message_of, messages_of, leg_at, mail_betw
 use Rattle.mesh_laws.proofs.hops.Plans.{Plan, hops, node_at, link_at, fibre_at, IsRoute, same}
 use Rattle.mesh_laws.proofs.hops.Labels.{back_same, has_label_back, has_meet, left_of_link}
 use Rattle.mesh_nodes.proofs.LegList.{same_lsp-refl}
-use Rattle.mesh_laws.proofs.hops.Rows.{nothing_torn, TakesResv, ByAsked, ByArmed, ByTorn, takes_resv, reserved_leg, resv_armed}
-use Rattle.mesh_laws.proofs.hops.Rest.{Purpose, LabelsMeet, in_label_of, role_of}
+use Rattle.mesh_laws.proofs.hops.RowStates.{nothing_torn, reserved_leg}
+use Rattle.mesh_laws.proofs.hops.AnswersTaken.{TakesResv, ByAsked, ByArmed, ByTorn, takes_resv, resv_armed}
+use Rattle.mesh_laws.proofs.hops.Purposes.{Purpose, LabelsMeet, in_label_of, role_of}
 use Rattle.mesh_laws.proofs.hops.Chain.{LegFits, Hop, Chain, in_fibre_at, no_label_in}
 use Rattle.mesh_laws.proofs.hops.Changed.{Sends}
 use Rattle.mesh_laws.proofs.hops.Sending.{sent_by, sends_none, sends_back, sends_on_back}
-use Rattle.mesh_laws.proofs.hops.LegChanges.{Before, before_or_first, same_of, asked_phase, armed_phase, in_label_is, in_use_out, live_fits, torn_not_armed, torn_not_asked, closed_torn, closed_fits, connected_fits, connected_kind, previous_is, previous_none, following_is}
+use Rattle.mesh_laws.proofs.hops.LegKinds.{same_of, asked_phase, armed_phase, torn_not_armed, torn_not_asked}
+use Rattle.mesh_laws.proofs.hops.LegChanges.{Before, before_or_first, in_label_is, in_use_out, live_fits, closed_torn, closed_fits, connected_fits, connected_kind, previous_is, previous_none, following_is}
 use Rattle.mesh_laws.proofs.hops.Activation.{goes_live, live_answers}
 use Rattle.mesh_laws.proofs.hops.ActivationRule.{resv-is}
 use Rattle.mesh_laws.proofs.hops.Downstream.{asked_reserved, asked_lets_go}

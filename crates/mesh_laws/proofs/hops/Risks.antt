@@ -19,7 +19,7 @@ use Rattle.mesh_nodes.proofs.routes.Beside.{knows-each}
 use Rattle.mesh_nodes.proofs.routes.Lists.{contains-map, contains-unmap}
 use Rattle.mesh_nodes.proofs.routes.Nodes.{find-there, found-link}
 use Rattle.mesh_laws.specs.RiskLaw.{rows_of}
-use Rattle.mesh_laws.proofs.hops.Rest.{Purpose, Carries, Guards, Tells}
+use Rattle.mesh_laws.proofs.hops.Purposes.{Purpose, Carries, Guards, Tells}
 use Rattle.mesh_laws.proofs.hops.Chain.{RisksFit}
 
 same_link : (k l : LinkId) → nat_eq k.0 l.0 ≡ true → k ≡ l

@@ -1,5 +1,5 @@
 -- Each LSP with its route in every state of every run.
-use Rattle.std.proofs.Common.{◌≡◌, ℕ, true, nat_eq, List, [], ◌∷◌, refl, sym, subst, arith}
+use Rattle.std.proofs.Common.{◌≡◌, ℕ, true, nat_eq, List, [], ◌∷◌, refl, sym, subst}
 use Rattle.std.specs.Prelude.{◌&&◌, not, Option, Some, None}
 use Rattle.ason_base.specs.declared.network.LinkSpec.{LinkSpec}
 use Rattle.ason_base.specs.Network.{Network, find_link, is_node_id, row_of}
@@ -30,7 +30,7 @@ use Rattle.mesh_rules.specs.Waits.{on_tick}
 use Rattle.mesh_rules.specs.Protects.{protect_with, protects}
 use Rattle.mesh_rules.specs.Orders.{on_order, on_item}
 use Rattle.mesh_rules.specs.Commands.{has_way, is_searchable, is_valid}
-use Rattle.mesh_rules.specs.Machine.{Mesh, commit, without_item}
+use Rattle.mesh_rules.specs.Machine.{Mesh, commit}
 use Rattle.mesh_rules.specs.Events.{is_enabled, on_first_item, posted, step, IsRun, after, first_route, or_route, sent_at_ingress, route_of}
 use Rattle.mesh_rules.proofs.Conjunctions.{and_first, and_second}
 use Rattle.mesh_laws.specs.HopLaw.{leg_at}
@@ -38,18 +38,22 @@ use Rattle.mesh_nodes.specs.Order.{CallsRise}
 use Rattle.mesh_nodes.specs.Routes.{AreRowsOf}
 use Rattle.mesh_nodes.proofs.CallList.{all-calls_found, called-found}
 use Rattle.mesh_nodes.proofs.Cases.{if_cases}
-use Rattle.mesh_laws.proofs.hops.GivenBackups.{EachGivenBeside, given-step}
-use Rattle.mesh_laws.proofs.hops.NoticeRule.{EachStands, alarm_stepped, clear_stepped}
+use Rattle.mesh_laws.proofs.hops.GivenRoutes.{EachGivenBeside}
+use Rattle.mesh_laws.proofs.hops.GivenBackups.{given-step}
+use Rattle.mesh_laws.proofs.hops.NoticesTold.{EachStands, alarm_stepped, clear_stepped}
 use Rattle.mesh_laws.proofs.hops.Moved.{stays_stepped}
 use Rattle.mesh_laws.proofs.hops.Ticked.{AreApart, all_ticked_stays, turned_is}
 use Rattle.mesh_laws.proofs.hops.Turned.{BackFits, go_back_stepped, turn_stepped}
 use Rattle.mesh_laws.proofs.hops.Own.{IsQuiet}
 use Rattle.mesh_laws.proofs.hops.Quiet.{same_quiet}
-use Rattle.mesh_laws.proofs.hops.Planned.{Routes, EachFollows, SameOf, follows_same, or_assoc, or_none}
-use Rattle.mesh_laws.proofs.hops.Traced.{CallsBackHere, traced_take}
-use Rattle.mesh_laws.proofs.hops.Begun.{EachStepped, stepped_nothing, setup_stepped}
+use Rattle.mesh_laws.proofs.hops.Planned.{Routes, EachFollows, follows_same, or_assoc, or_none}
+use Rattle.mesh_laws.proofs.hops.TakenSteps.{CallsBackHere}
+use Rattle.mesh_laws.proofs.hops.Traced.{traced_take}
+use Rattle.mesh_laws.proofs.hops.Stepped.{EachStepped}
+use Rattle.mesh_laws.proofs.hops.Begun.{stepped_nothing, setup_stepped}
 use Rattle.mesh_laws.proofs.hops.Paired.{CallsMayPair, MayPair, pair_stepped, whole-route}
 use Rattle.mesh_laws.proofs.hops.Released.{CallStands, release_stepped}
+use Rattle.mesh_laws.proofs.hops.DeskSteps.{desk_same, posted_same}
 
 -- What a step needs to know: of the calls and legs of each node, of the items on each desk, and of the rows that a node
 -- learnt
@@ -199,46 +203,6 @@ module _ (t : Network) (s : Mesh) (o : Routes) (n : NodeId) (f : EachFollows t s
       (all_ticked_stays t n o t.wait legs calls s f
       (all-calls_found (λ c. BackFits s n c.state (leg_of c.back legs)) calls (facts.rise n.0) (facts.backs n))
       (facts.apart n.0))
-
--- Every event
-
-posted_same : (t : Network) (s : Mesh) (c : Command) (l : Lsp) → SameOf s (posted t s c) l
-posted_same t s (Setup k from to protected both via backup) l = record {
-  still = record { legs = λ n. refl; mail = λ a b. refl; next = omega arith };
-  notices = λ a b. refl;
-}
-posted_same t s (Release k from) l = record {
-  still = record { legs = λ n. refl; mail = λ a b. refl; next = omega arith };
-  notices = λ a b. refl;
-}
-posted_same t s (Protect k from) l = record {
-  still = record { legs = λ n. refl; mail = λ a b. refl; next = omega arith };
-  notices = λ a b. refl;
-}
-posted_same t s (Retry k from) l = record {
-  still = record { legs = λ n. refl; mail = λ a b. refl; next = omega arith };
-  notices = λ a b. refl;
-}
-posted_same t s (Revert k from) l = record {
-  still = record { legs = λ n. refl; mail = λ a b. refl; next = omega arith };
-  notices = λ a b. refl;
-}
-posted_same t s (Fail g) l = record {
-  still = record { legs = λ n. refl; mail = λ a b. refl; next = omega arith };
-  notices = λ a b. refl;
-}
-posted_same t s (Repair g) l = record {
-  still = record { legs = λ n. refl; mail = λ a b. refl; next = omega arith };
-  notices = λ a b. refl;
-}
-
--- an item less on a desk leaves the legs and messages
-desk_same : (t : Network) (s : Mesh) (n : NodeId) (a : Answer) (l : Lsp) →
-    SameOf (commit s n.0 a) (commit (without_item s n.0) n.0 a) l
-desk_same t s n a l = record {
-  still = record { legs = λ m. refl; mail = λ x b. refl; next = omega arith };
-  notices = λ x b. refl;
-}
 
 -- a row that is learnt leaves the legs and messages
 pub link_quiet : (p : LocalNode) (s : NodeState) (found : Option LinkSpec) → IsQuiet (on_link p s found)

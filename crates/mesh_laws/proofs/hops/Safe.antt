@@ -21,9 +21,9 @@ use Rattle.mesh_laws.proofs.nodes.Facts.{MeshFacts}
 use Rattle.mesh_laws.proofs.nodes.Runs.{facts-hold}
 use Rattle.mesh_laws.proofs.hops.Plans.{Plan, hops, plan, node_at, link_at, fibre_at, IsRoute, Leads, distinct, same, same_node, lt_true, lt_false, joined}
 use Rattle.mesh_laws.proofs.hops.Rows.{live_upstream}
-use Rattle.mesh_laws.proofs.hops.Rest.{Purpose, LabelsMeet, role_of}
+use Rattle.mesh_laws.proofs.hops.Purposes.{Purpose, LabelsMeet, role_of}
 use Rattle.mesh_laws.proofs.hops.Chain.{LegFits, HasOut, Hop, Chain, out_fibre_at, below_or_not}
-use Rattle.mesh_laws.proofs.hops.LegChanges.{live_leg}
+use Rattle.mesh_laws.proofs.hops.LegKinds.{live_leg}
 use Rattle.mesh_laws.proofs.hops.Planned.{Routes, Follows, EachFollows}
 use Rattle.mesh_laws.proofs.hops.Laws.{follows, one_leg_each}
 

@@ -12,7 +12,7 @@ use Rattle.mesh_rules.specs.Machine.{Mesh, commit, without_first}
 use Rattle.mesh_laws.specs.HopLaw.{is_message_of, messages_of, leg_at, mail_between}
 use Rattle.mesh_laws.proofs.hops.Plans.{Plan, hops, node_at, IsRoute, distinct}
 use Rattle.mesh_laws.proofs.hops.Tables.{leg_after}
-use Rattle.mesh_laws.proofs.hops.Rest.{Purpose, has_path}
+use Rattle.mesh_laws.proofs.hops.Purposes.{Purpose, has_path}
 use Rattle.mesh_laws.proofs.hops.Chain.{Fits, Hop, OnRoute, IsFirst, IsVacant, Chain, is_or_not}
 use Rattle.mesh_laws.proofs.hops.Changed.{Changed, Sends, place_changed}
 use Rattle.mesh_laws.proofs.hops.Sending.{sent_by, changed-taken, left-taken, elsewhere-taken}

@@ -30,12 +30,15 @@ use Rattle.mesh_nodes.proofs.LegList.{same_lsp-refl}
 use Rattle.mesh_laws.proofs.hops.Activation.{takes_back, takes_back_on}
 use Rattle.mesh_laws.proofs.hops.ActivationRule.{drop-next}
 use Rattle.mesh_laws.proofs.hops.Chain.{Chain, Hop, LegFits, below_or_not}
-use Rattle.mesh_laws.proofs.hops.LegChanges.{following_is, following_none, gone_none, live_held_fits, live_leg}
-use Rattle.mesh_laws.proofs.hops.LegChanges.{previous_is, same_of}
+use Rattle.mesh_laws.proofs.hops.LegKinds.{gone_none, live_leg}
+use Rattle.mesh_laws.proofs.hops.LegChanges.{following_is, following_none, live_held_fits}
+use Rattle.mesh_laws.proofs.hops.LegKinds.{same_of}
+use Rattle.mesh_laws.proofs.hops.LegChanges.{previous_is}
 use Rattle.mesh_laws.proofs.hops.PathRule.{path_keeps}
 use Rattle.mesh_laws.proofs.hops.Plans.{Plan, hops, node_at, link_at, IsRoute, same}
-use Rattle.mesh_laws.proofs.hops.Rest.{Purpose, Tells, role_of, tells_role}
-use Rattle.mesh_laws.proofs.hops.Rows.{leg_downstream, plain_taken}
+use Rattle.mesh_laws.proofs.hops.Purposes.{Purpose, Tells, role_of, tells_role}
+use Rattle.mesh_laws.proofs.hops.PathTaken.{plain_taken}
+use Rattle.mesh_laws.proofs.hops.Rows.{leg_downstream}
 use Rattle.mesh_laws.proofs.hops.Sending.{sends_none, sends_on}
 use Rattle.mesh_laws.proofs.hops.Taken.{KeepsDown, down_hop, down_taken}
 

@@ -21,11 +21,13 @@ use Rattle.mesh_laws.specs.HopShapes.{HasLetGo, NothingLeft, StillWaits, leg_kin
 use Rattle.mesh_laws.specs.HopLaw.{is_message_of, messages_of, leg_at, mail_between}
 use Rattle.mesh_laws.proofs.hops.Plans.{Plan, hops, node_at, link_at, fibre_at, IsRoute, same}
 use Rattle.mesh_nodes.proofs.LegList.{same_lsp-refl}
-use Rattle.mesh_laws.proofs.hops.Rows.{tear_last}
-use Rattle.mesh_laws.proofs.hops.Rest.{Purpose, role_of, has_path, no_kinds}
+use Rattle.mesh_laws.proofs.hops.PathTaken.{tear_last}
+use Rattle.mesh_laws.proofs.hops.Purposes.{Purpose, role_of, has_path}
+use Rattle.mesh_laws.proofs.hops.IdleHops.{no_kinds}
 use Rattle.mesh_laws.proofs.hops.Chain.{LegFits, Fits, Hop, Chain, below_or_not}
 use Rattle.mesh_laws.proofs.hops.Sending.{sends_none, sends_back, sends_back_on}
-use Rattle.mesh_laws.proofs.hops.LegChanges.{same_of, phase_stands, closed_kind, closed_torn, torn_of, closed_fits, previous_is, following_is, following_none}
+use Rattle.mesh_laws.proofs.hops.LegKinds.{same_of, phase_stands}
+use Rattle.mesh_laws.proofs.hops.LegChanges.{closed_kind, closed_torn, torn_of, closed_fits, previous_is, following_is, following_none}
 use Rattle.mesh_laws.proofs.hops.Downstream.{tear_lets_go, tear_kept}
 use Rattle.mesh_laws.proofs.hops.Upstream.{leg_closes}
 use Rattle.mesh_laws.proofs.hops.Taken.{KeepsDown, down_hop, down_taken, path_before}

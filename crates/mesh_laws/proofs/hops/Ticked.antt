@@ -22,7 +22,8 @@ use Rattle.mesh_nodes.specs.Order.{CallsRise}
 use Rattle.mesh_nodes.proofs.Cases.{both_left, both_right, if_cases}
 use Rattle.mesh_nodes.proofs.LegList.{all-then}
 use Rattle.mesh_laws.proofs.hops.Moved.{EachStays, stays_quiet, stays_then}
-use Rattle.mesh_laws.proofs.hops.Own.{IsQuiet, leg-other}
+use Rattle.mesh_laws.proofs.hops.OtherLsps.{leg-other}
+use Rattle.mesh_laws.proofs.hops.Own.{IsQuiet}
 use Rattle.mesh_laws.proofs.hops.Planned.{Routes, EachFollows}
 use Rattle.mesh_laws.proofs.hops.Quiet.{same_quiet}
 use Rattle.mesh_laws.proofs.hops.Turned.{BackFits, go_back_stays, own_disarms}

@@ -29,14 +29,15 @@ use Rattle.mesh_laws.specs.HopLaw.{leg_at, mail_between}
 use Rattle.mesh_nodes.proofs.Cases.{if_cases}
 use Rattle.mesh_laws.proofs.nodes.PhaseLegs.{held-is}
 use Rattle.mesh_laws.proofs.hops.Activation.{arms_on, takes_back_on}
-use Rattle.mesh_laws.proofs.hops.Begun.{EachStepped}
+use Rattle.mesh_laws.proofs.hops.Stepped.{EachStepped}
 use Rattle.mesh_laws.proofs.hops.Chain.{Chain, LegFits, PhaseFits}
-use Rattle.mesh_laws.proofs.hops.LegChanges.{armed_fits, following_is, live_held_fits, same_of}
+use Rattle.mesh_laws.proofs.hops.LegKinds.{same_of}
+use Rattle.mesh_laws.proofs.hops.LegChanges.{armed_fits, following_is, live_held_fits}
 use Rattle.mesh_laws.proofs.hops.Moved.{BeginsHere, EachStays, first_moves, stays_moved, stays_quiet, stays_stepped}
 use Rattle.mesh_laws.proofs.hops.Own.{AllSent, IsOf, IsQuiet}
 use Rattle.mesh_laws.proofs.hops.Planned.{Planned, Routes, EachFollows}
 use Rattle.mesh_laws.proofs.hops.Plans.{Plan, hops, node_at, link_at, fibre_at}
-use Rattle.mesh_laws.proofs.hops.Rest.{Purpose, Carries, Guards, Tells, role_of}
+use Rattle.mesh_laws.proofs.hops.Purposes.{Purpose, Carries, Guards, Tells, role_of}
 use Rattle.mesh_laws.proofs.hops.Rows.{leg_downstream}
 
 -- What the Paths of a backup's ingress tell

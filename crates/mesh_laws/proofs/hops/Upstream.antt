@@ -15,9 +15,11 @@ use Rattle.ason_base.specs.declared.steps.Step.{Step}
 use Rattle.ason_base.specs.declared.tables.Leg.{Leg}
 use Rattle.mesh_laws.specs.HopShapes.{PlainPath, ClosingLeg, IsTorn, Idle, Asking, leg_kind, msg_kind, path_kind}
 use Rattle.mesh_laws.proofs.hops.Plans.{Plan, link_at}
-use Rattle.mesh_laws.proofs.hops.Rows.{is_reserved, reserved_leg, reserved_is, torn_leg, Stands, ResvTaken, resv_asked}
-use Rattle.mesh_laws.proofs.hops.Rows.{resv_torn, removal_taken, contention_torn, tears}
-use Rattle.mesh_laws.proofs.hops.Rest.{Purpose, role_of, DownFits}
+use Rattle.mesh_laws.proofs.hops.RowStates.{is_reserved, reserved_leg, reserved_is, torn_leg, Stands}
+use Rattle.mesh_laws.proofs.hops.AnswersTaken.{ResvTaken, resv_asked}
+use Rattle.mesh_laws.proofs.hops.AnswersTaken.{resv_torn, removal_taken, contention_torn}
+use Rattle.mesh_laws.proofs.hops.Rows.{tears}
+use Rattle.mesh_laws.proofs.hops.Purposes.{Purpose, role_of, DownFits}
 use Rattle.mesh_laws.proofs.hops.Rest.{up_taken, down_sent, upstream_keeps, upstream_connects, upstream_goes}
 use Rattle.mesh_laws.proofs.hops.Chain.{Hop}
 

@@ -31,7 +31,7 @@ use Rattle.mesh_laws.proofs.hops.Laws.{follows}
 use Rattle.mesh_laws.proofs.hops.NodeLabels.{keeps}
 use Rattle.mesh_laws.proofs.hops.Planned.{Follows, Planned, Routes}
 use Rattle.mesh_laws.proofs.hops.Plans.{Plan, distinct, found_id, link_at, node_at, own_far, plan}
-use Rattle.mesh_laws.proofs.hops.Rest.{Purpose}
+use Rattle.mesh_laws.proofs.hops.Purposes.{Purpose}
 
 module _ (t : Network) (events : List MeshEvent) (run : IsRun t start events) where
   abbrev s : Mesh

@@ -43,7 +43,8 @@ pub record IsBareCall (legs : List Leg) (calls : List CallRec) (c : CallRec) (w 
   pub work : c.work ≡ Some w.lsp
   pub leg : find_leg w.lsp legs ≡ Some w
 
--- These legs and calls stand when the rule is carried out. s is what it reads; a call that it puts in its place there is
+-- These legs and calls stand when the rule is carried out. s is what it reads; a call that it puts in its
+-- place there is
 -- in the same place among these calls.
 module _ (p : LocalNode) (s : NodeState) (legs : List Leg) (calls : List CallRec) (c : CallRec) (w : Leg)
     (leg_part : LegPart p.id.0 s.lsp legs) (call_part : CallPart p.id.0 s.lsp legs calls)
@@ -78,7 +79,8 @@ module _ (p : LocalNode) (s : NodeState) (legs : List Leg) (calls : List CallRec
       let d = unbacked c cause in
       let live = standing.0 in
       node_facts p.id.0 (changed (record s { legs = legs }) (leaves_bare c cause)) leg_part
-      (together-part p.id.0 s.lsp s.lsp (λ l. false) c.call (Some d) legs legs calls (with_call d s.calls) (omega arith)
+      (together-part p.id.0 s.lsp s.lsp (λ l. false) c.call (Some d) legs legs calls (with_call d s.calls)
+      (omega arith)
       (rise-with_call d s.calls rise) (put d refl)
       (record {
         stay = λ m never. refl;
@@ -133,7 +135,8 @@ module _ (p : LocalNode) (s : NodeState) (legs : List Leg) (calls : List CallRec
     found : find_leg l legs' ≡ Some g
     found = rw (becomes l, same_lsp-refl l) refl
 
-    unnamed : (m : CallNo) (e : CallRec) (x : Lsp) → find_call m calls ≡ Some e → names x e ≡ true → same_lsp l x ≡ false
+    unnamed : (m : CallNo) (e : CallRec) (x : Lsp) → find_call m calls ≡ Some e → names x e ≡ true →
+        same_lsp l x ≡ false
     unnamed = new-unnamed p.id.0 s.lsp legs calls l refl call_part
 
     work-stays : (m : Lsp) → c.work ≡ Some m → find_leg m legs' ≡ find_leg m legs
@@ -150,7 +153,8 @@ module _ (p : LocalNode) (s : NodeState) (legs : List Leg) (calls : List CallRec
         let there = found in
         record {
           state = rw (first, live, there) refl;
-          work = named-stays p.id.0 s.lsp (s.lsp + 1) Work c.egress c.work legs legs' (omega arith) work-stays fit.work;
+          work = named-stays p.id.0 s.lsp (s.lsp + 1) Work c.egress c.work legs legs' (omega arith) work-stays
+              fit.work;
           back = record {
             ingress = working.ingress;
             number = omega arith;

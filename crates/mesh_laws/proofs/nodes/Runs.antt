@@ -91,7 +91,8 @@ keeps-first : (p : LocalNode) (s : NodeState) (u : NodeId) (ms : List Msg) → N
 keeps-first p s u [] facts = facts
 keeps-first p s u (m ∷ ms) facts = keeps-on_message p s u m facts
 
-pub first-learns_nothing : (p : LocalNode) (s : NodeState) (u : NodeId) (ms : List Msg) → (on_first p s u ms).rows ≡ []
+pub first-learns_nothing : (p : LocalNode) (s : NodeState) (u : NodeId) (ms : List Msg) →
+    (on_first p s u ms).rows ≡ []
 first-learns_nothing p s u [] = refl
 first-learns_nothing p s u (m ∷ ms) = message-learns_nothing p s u m
 
@@ -189,7 +190,8 @@ keeps-failed t s groups facts = record {
   learnt = facts.learnt;
 }
 
-keeps-posted : (t : Network) (s : Mesh) (c : Command) → is_valid t c ≡ true → MeshFacts t s → MeshFacts t (posted t s c)
+keeps-posted : (t : Network) (s : Mesh) (c : Command) → is_valid t c ≡ true → MeshFacts t s →
+    MeshFacts t (posted t s c)
 keeps-posted t s (Setup n from to protected both via backup) valid facts = record {
   node = facts.node;
   desk = more-facts t s from.0 (Order (Setup n from to protected both via backup)) (valid, refl) facts;
@@ -266,7 +268,8 @@ facts-step t s (Take d u) enabled facts =
 facts-step t s (Desk n) enabled facts =
     keeps-commit t (without_item s n.0) n (on_first_item (local_node t n) (s.nodes n.0) (s.desks n.0))
     (keeps-first_item (local_node t n) (s.nodes n.0) (s.desks n.0) (facts.node n.0))
-    (backs-first_item t n (local_node t n) (s.nodes n.0) (facts.node n.0) (facts.backed n.0) (s.desks n.0) (facts.desk n.0))
+    (backs-first_item t n (local_node t n) (s.nodes n.0) (facts.node n.0) (facts.backed n.0) (s.desks n.0)
+    (facts.desk n.0))
     (same-rows_true t (s.nodes n.0) (on_first_item (local_node t n) (s.nodes n.0) (s.desks n.0))
     (first_item-learns_nothing (local_node t n) (s.nodes n.0) (s.desks n.0)) (facts.learnt n.0))
     (without_item-facts t s n.0 facts)

@@ -86,7 +86,8 @@ module _ (p : LocalNode) (s : NodeState) (w : SetupRequest) (away : nat_eq w.egr
         node_facts p.id.0 (changed s (begins p s w out route))
         (part-with_leg p.id.0 s.lsp (s.lsp + 1) g s.legs (omega arith) (leg_part p.id.0 s facts)
         (first-stands p (known_rows p s) (working_lsp p s w out route) (s.lsp + 1) s.legs refl away (omega arith)))
-        (together-part p.id.0 s.lsp (s.lsp + 1) (same_lsp l) w.call (Some c) s.legs legs' s.calls (with_call c s.calls)
+        (together-part p.id.0 s.lsp (s.lsp + 1) (same_lsp l) w.call (Some c) s.legs legs' s.calls
+        (with_call c s.calls)
         (omega arith) (rise-with_call c s.calls facts.calls_rise) (find-with_call c s.calls)
         (record {
           stay = λ x other. other-stays l x (Some g) s.legs legs' becomes other;
@@ -125,7 +126,8 @@ module _ (p : LocalNode) (s : NodeState) (w : SetupRequest) (away : nat_eq w.egr
   keeps-new_call None = keeps-over_found (least_trip (known_rows p s) p.id w.egress)
   keeps-new_call (Some route) = keeps-over_first route (first_link p route)
 
-pub keeps-setup : (p : LocalNode) (s : NodeState) (w : SetupRequest) (o : Option CallRec) → find_call w.call s.calls ≡ o →
+pub keeps-setup : (p : LocalNode) (s : NodeState) (w : SetupRequest) (o : Option CallRec) →
+    find_call w.call s.calls ≡ o →
     NodeFacts p.id.0 s → Keeps p s (setup_with p s w o)
 keeps-setup p s w (Some c) is facts = facts
 keeps-setup p s w None is facts =

@@ -1,4 +1,5 @@
--- A tick keeps the facts of a node: the calls wait or go back one after the other, each by the legs that stood before the
+-- A tick keeps the facts of a node: the calls wait or go back one after the other, each by the legs that
+-- stood before the
 -- tick, since no two calls share an LSP.
 use Rattle.std.proofs.Common.{◌≡◌, ◌<◌, ◌+◌, ℕ, false, not, nat_eq, nat_le, List, [], ◌∷◌, refl, sym, subst, ◌∙◌, arith}
 use Rattle.std.specs.Prelude.{◌&&◌, Option, Some, None}

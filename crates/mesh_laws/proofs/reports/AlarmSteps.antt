@@ -24,14 +24,15 @@ use Rattle.mesh_laws.specs.HopLaw.{leg_at, mail_between, notices_between, notice
 use Rattle.mesh_laws.specs.ReportLaw.{is_standing, on_the_way, reports_of, told, told_by_all}
 use Rattle.mesh_laws.proofs.hops.Chain.{LegFits, is_or_not}
 use Rattle.mesh_laws.proofs.hops.LegChanges.{previous_is}
-use Rattle.mesh_laws.proofs.hops.NoticeRule.{all_notices, still_notified}
+use Rattle.mesh_laws.proofs.hops.NoticesTold.{all_notices, still_notified}
 use Rattle.mesh_laws.proofs.hops.Planned.{Planned, Routes}
 use Rattle.mesh_laws.proofs.hops.Plans.{Plan, distinct, fibre_at, hops, link_at, node_at, same_node}
-use Rattle.mesh_laws.proofs.hops.Rest.{Purpose}
+use Rattle.mesh_laws.proofs.hops.Purposes.{Purpose}
 use Rattle.mesh_laws.proofs.hops.Views.{notices-else, notices-from}
 use Rattle.mesh_laws.proofs.reports.Alarmed.{elsewhere-told, hit-told, missed-told, none-told, one-told, told-all-append}
-use Rattle.mesh_laws.proofs.reports.Gentle.{CallOf, PlaceTold, RouteTold, Stands, Untold, commit-gentle, gentle-told, has_plain, is_waiting, line_at}
-use Rattle.mesh_laws.proofs.reports.GentleAnswers.{nothing-gentle}
+use Rattle.mesh_laws.proofs.reports.GentleWords.{CallOf, PlaceTold, RouteTold, Stands, Untold, gentle-told, has_plain, is_waiting, line_at}
+use Rattle.mesh_laws.proofs.reports.Gentle.{commit-gentle}
+use Rattle.mesh_laws.proofs.reports.AnswerParts.{nothing-gentle}
 use Rattle.mesh_laws.proofs.reports.KnownFibres.{has-less, has-more, same_fibre-is}
 use Rattle.mesh_laws.proofs.reports.OnTheWay.{same_lines, sent_told}
 

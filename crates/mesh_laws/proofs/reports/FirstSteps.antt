@@ -1,22 +1,19 @@
 -- The first Path of an LSP is taken on its route: what its reports tell stays.
-use Rattle.std.proofs.Common.{◌≡◌, ◌≢◌, ◌≤◌, ◌<◌, ℕ, zero, suc, Bool, true, false, cond, nat_eq, not, List, [], ◌∷◌, refl, sym, ap, ◌∙◌, subst, arith, inl, inr}
+use Rattle.std.proofs.Common.{◌≡◌, ◌≢◌, ◌≤◌, ◌<◌, ℕ, suc, Bool, true, false, cond, nat_eq, List, [], ◌∷◌, refl, sym, ap, ◌∙◌, subst, arith, inl, inr}
 use Rattle.std.specs.Prelude.{◌&&◌, ◌⊎◌, map, Option, Some, None}
 use Rattle.ason_base.specs.Lsps.{has_fibre}
 use Rattle.ason_base.specs.Network.{Network}
-use Rattle.ason_base.specs.declared.calls.Phase.{Phase}
-use Rattle.ason_base.specs.declared.calls.Phase.TheVariants.{Armed, Asked, Closing, Falling, Held, Live}
+use Rattle.ason_base.specs.declared.calls.Phase.TheVariants.{Asked}
 use Rattle.ason_base.specs.declared.ids.LinkId.{LinkId}
 use Rattle.ason_base.specs.declared.ids.Lsp.{Lsp}
 use Rattle.ason_base.specs.declared.ids.NodeId.{NodeId}
 use Rattle.ason_base.specs.declared.messages.Msg.{Msg}
-use Rattle.ason_base.specs.declared.messages.Msg.TheVariants.{Path, Resv, PathTear, PathErr, Notify}
+use Rattle.ason_base.specs.declared.messages.Msg.TheVariants.{Path}
 use Rattle.ason_base.specs.declared.messages.PathRole.{PathRole}
 use Rattle.ason_base.specs.declared.steps.Step.{Step}
 use Rattle.ason_base.specs.declared.tables.CallRec.{CallRec}
-use Rattle.ason_base.specs.declared.tables.Leg.{Leg}
 use Rattle.mesh_rules.specs.Calls.{calls_changed, find_call}
 use Rattle.mesh_rules.specs.Changes.{Answer, changed}
-use Rattle.mesh_rules.specs.Legs.{is_asked, is_closing}
 use Rattle.mesh_rules.specs.LocalNodes.{LocalNode, local_node, own_link}
 use Rattle.mesh_rules.specs.Machine.{Mesh, commit, without_first}
 use Rattle.mesh_rules.specs.Messages.{arrival, on_message}
@@ -26,64 +23,25 @@ use Rattle.mesh_nodes.proofs.Cases.{both_right}
 use Rattle.mesh_nodes.proofs.LearnsNothing.{message-keeps_down}
 use Rattle.mesh_nodes.proofs.LegList.{same_lsp-refl}
 use Rattle.mesh_laws.specs.HopLaw.{leg_at, mail_between, messages_of, notices_between}
-use Rattle.mesh_laws.specs.HopShapes.{AskedLeg, ClosingLeg, NoLeg, PlainPath, Shape, leg_kind, msg_kind, path_kind, phase_kind}
+use Rattle.mesh_laws.specs.HopShapes.{NoLeg, PlainPath, Shape, leg_kind, msg_kind, path_kind}
 use Rattle.mesh_laws.specs.ReportLaw.{is_standing, on_the_way, reports_of, told, told_by_all}
 use Rattle.mesh_laws.proofs.hops.Chain.{IsVacant, below_or_not, is_or_not}
-use Rattle.mesh_laws.proofs.hops.Own.{own-leg_part, sent-plain}
+use Rattle.mesh_laws.proofs.hops.OtherLsps.{sent-plain}
+use Rattle.mesh_laws.proofs.hops.Own.{own-leg_part}
 use Rattle.mesh_laws.proofs.hops.PathRule as path_rule
 use Rattle.mesh_laws.proofs.hops.Planned.{Planned, Routes}
 use Rattle.mesh_laws.proofs.hops.Plans.{Leads, Plan, distinct, fibre_at, hops, link_at, node_at, own_far}
-use Rattle.mesh_laws.proofs.hops.Rest.{Purpose, has_path, plain_inactive, role_of}
-use Rattle.mesh_laws.proofs.hops.Rows.{first_taken}
+use Rattle.mesh_laws.proofs.hops.Purposes.{Purpose, has_path, plain_inactive, role_of}
+use Rattle.mesh_laws.proofs.hops.PathTaken.{first_taken}
 use Rattle.mesh_laws.proofs.hops.Sending.{elsewhere-taken, left-taken}
 use Rattle.mesh_laws.proofs.hops.Tables.{leg_after}
 use Rattle.mesh_laws.proofs.hops.Taken.{down_hop}
 use Rattle.mesh_laws.proofs.hops.Views.{leg-here, leg-there, notices-plain, notices-without}
 use Rattle.mesh_laws.proofs.reports.Desks.{same-down}
 use Rattle.mesh_laws.proofs.reports.FirstPaths.{clear-first_path, no_calls-first_path}
-use Rattle.mesh_laws.proofs.reports.Gentle.{CallOf, IsUnreached, PlaceTold, RouteTold, Stands, Untold, has_plain, is_first, is_waiting, line_at}
+use Rattle.mesh_laws.proofs.reports.GentleWords.{CallOf, IsUnreached, PlaceTold, RouteTold, Stands, Untold, has_plain, is_first, is_waiting, line_at}
 use Rattle.mesh_laws.proofs.reports.OnTheWay.{same_lines}
-
--- where no line tells anything, nothing is on the way
-pub silent-way : (line : ℕ → List Bool) (i : ℕ) → ((j : ℕ) → j < i → line j ≡ []) → on_the_way line i ≡ []
-silent-way line zero none = refl
-silent-way line (suc i) none =
-    rw (silent-way line i (λ j less. none j (omega arith)), none i (omega arith)) refl
-
--- an Asked leg waits, and a torn one doesn't stand
-
-asked-waits : (o : Option Leg) → leg_kind o ≡ AskedLeg → is_waiting o ≡ true
-asked-waits None e = absurd (cc e)
-asked-waits (Some g) e = go g.phase e
-  where
-    go : (f : Phase) → phase_kind f ≡ AskedLeg → is_asked f ≡ true
-    go Asked e = refl
-    go Held e = absurd (cc e)
-    go Armed e = absurd (cc e)
-    go Live e = absurd (cc e)
-    go Closing e = absurd (cc e)
-    go Falling e = absurd (cc e)
-
-closing-torn : (o : Option Leg) → leg_kind o ≡ ClosingLeg → is_standing o ≡ false
-closing-torn None e = absurd (cc e)
-closing-torn (Some g) e = go g.phase e
-  where
-    go : (f : Phase) → phase_kind f ≡ ClosingLeg → not (is_closing f) ≡ false
-    go Asked e = absurd (cc e)
-    go Held e = absurd (cc e)
-    go Armed e = absurd (cc e)
-    go Live e = absurd (cc e)
-    go Closing e = refl
-    go Falling e = absurd (cc e)
-
--- a plain Path is a Path
-plain-path : (ms : List Msg) → has_plain ms ≡ true → has_path ms ≡ true
-plain-path [] h = h
-plain-path (Path l e k route set up r ∷ ms) h = refl
-plain-path (Resv l e k x ∷ ms) h = plain-path ms h
-plain-path (PathTear l e k ∷ ms) h = plain-path ms h
-plain-path (PathErr l e at gone code ∷ ms) h = plain-path ms h
-plain-path (Notify l e at k code ∷ ms) h = plain-path ms h
+use Rattle.mesh_laws.proofs.reports.WaitingLegs.{asked-waits, closing-torn, plain-path, silent-way}
 
 module _ (t : Network) (s : Mesh) (o : Routes) (l : Lsp) (q : Purpose) (p : Plan) (i : ℕ) (pl : Planned t s o l q p)
     (below : i < hops p) (e : NodeId) (k : LinkId) (steps : List Step) (set : List ℕ) (label : Option ℕ)

@@ -49,9 +49,12 @@ use Rattle.mesh_laws.specs.CallLaw.{FitsLegs}
 use Rattle.mesh_laws.specs.HopLaw.{is_notice_of, lsp_of}
 use Rattle.mesh_laws.proofs.nodes.CallParts.{named-lsp}
 use Rattle.mesh_laws.proofs.nodes.Facts.{NodeFacts}
-use Rattle.mesh_laws.proofs.reports.Gentle.{AllMild, IsGentle, LegKeeps, is_plain}
-use Rattle.mesh_laws.proofs.reports.GentleAnswers.{asks-gentle, both-gentle, calls-gentle, go_back-gentle, goes-call, mild-gentle, nothing-gentle, pair-gentle, put-other, same-calls, turn-gentle}
-use Rattle.mesh_laws.proofs.reports.GentleRules.{IsOld, again-gentle, closing-closes, closing-done, err-gentle, first_path-gentle, leg-stands, leg-there, new-apart, notify-gentle, resv-gentle, tear-gentle}
+use Rattle.mesh_laws.proofs.reports.GentleWords.{AllMild, IsGentle, LegKeeps, is_plain}
+use Rattle.mesh_laws.proofs.reports.AnswerParts.{both-gentle, calls-gentle, goes-call, mild-gentle, nothing-gentle, put-other, same-calls}
+use Rattle.mesh_laws.proofs.reports.GentleAnswers.{asks-gentle, go_back-gentle, pair-gentle, turn-gentle}
+use Rattle.mesh_laws.proofs.reports.StoodLegs.{closing-closes, closing-done}
+use Rattle.mesh_laws.proofs.reports.StandingCalls.{IsOld, leg-stands, leg-there, new-apart}
+use Rattle.mesh_laws.proofs.reports.GentleRules.{again-gentle, err-gentle, first_path-gentle, notify-gentle, resv-gentle, tear-gentle}
 
 module _ (p : LocalNode) (s : NodeState) (facts : NodeFacts p.id.0 s) (l : Lsp) (old : IsOld p s l) where
   -- Setup

@@ -30,8 +30,8 @@ use Rattle.mesh_laws.proofs.hops.Chain.{LegFits}
 use Rattle.mesh_laws.proofs.hops.Laws.{follows}
 use Rattle.mesh_laws.proofs.hops.Planned.{Follows, Planned, Routes}
 use Rattle.mesh_laws.proofs.hops.Plans.{Plan, fibre_at, fibre_in_is, found_id, hops, link_at, node_at, plan}
-use Rattle.mesh_laws.proofs.hops.Rest.{Purpose}
-use Rattle.mesh_laws.proofs.reports.Gentle.{CallOf, RouteTold, Stands, line_at}
+use Rattle.mesh_laws.proofs.hops.Purposes.{Purpose}
+use Rattle.mesh_laws.proofs.reports.GentleWords.{CallOf, RouteTold, Stands, line_at}
 use Rattle.mesh_laws.proofs.reports.OwnNotices.{LowFirst}
 use Rattle.mesh_laws.proofs.reports.Runs.{told-run}
 

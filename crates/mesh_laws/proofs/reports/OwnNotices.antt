@@ -34,11 +34,15 @@ use Rattle.mesh_laws.proofs.hops.Paired.{along}
 use Rattle.mesh_laws.proofs.hops.Notices.{ComesUp}
 use Rattle.mesh_laws.proofs.hops.Planned.{Planned, Routes}
 use Rattle.mesh_laws.proofs.hops.Plans.{Plan, fibre_at, hops, link_at, node_at, plan, same, same_node}
-use Rattle.mesh_laws.proofs.hops.Rest.{Purpose}
-use Rattle.mesh_laws.proofs.reports.Gentle.{CallOf, IsGentle, RouteTold, Still, commit-gentle, commit-still, gentle-told, notices-after}
-use Rattle.mesh_laws.proofs.reports.GentleAnswers.{IfStands, decide-gentle, nothing-gentle}
-use Rattle.mesh_laws.proofs.reports.GentleRules.{leg-stands}
-use Rattle.mesh_laws.proofs.reports.NoticeSteps.{dropped-told, here-told, passed-told, up}
+use Rattle.mesh_laws.proofs.hops.Purposes.{Purpose}
+use Rattle.mesh_laws.proofs.reports.GentleWords.{CallOf, IsGentle, RouteTold, Still, gentle-told}
+use Rattle.mesh_laws.proofs.reports.Gentle.{commit-gentle, commit-still, notices-after}
+use Rattle.mesh_laws.proofs.reports.AnswerParts.{nothing-gentle}
+use Rattle.mesh_laws.proofs.reports.GentleAnswers.{IfStands, decide-gentle}
+use Rattle.mesh_laws.proofs.reports.StandingCalls.{leg-stands}
+use Rattle.mesh_laws.proofs.reports.NoticeTaken.{dropped-told, up}
+use Rattle.mesh_laws.proofs.reports.NoticeArrives.{here-told}
+use Rattle.mesh_laws.proofs.reports.NoticeSteps.{passed-told}
 use Rattle.mesh_laws.proofs.reports.Reported.{Puts, decide-puts, fibres-after, forward-is, into-found, into-is, into_at, low-first, report-after, report-call}
 
 -- a link's low end has the lesser number

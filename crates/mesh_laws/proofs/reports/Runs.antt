@@ -32,10 +32,10 @@ use Rattle.mesh_laws.proofs.hops.Laws.{step_facts}
 use Rattle.mesh_laws.proofs.hops.Notices.{ComesUp}
 use Rattle.mesh_laws.proofs.hops.Planned.{Follows, IsUntouched, Planned, Routes, or_assoc, or_none}
 use Rattle.mesh_laws.proofs.hops.Plans.{Plan, distinct, fibre_at, hops, link_at, node_at, plan, same_node}
-use Rattle.mesh_laws.proofs.hops.Rest.{Each, Purpose}
+use Rattle.mesh_laws.proofs.hops.Purposes.{Each, Purpose}
 use Rattle.mesh_laws.proofs.hops.Run.{Carried, step_carries, step_routes}
 use Rattle.mesh_laws.proofs.hops.Views.{leg-there, notices-else}
-use Rattle.mesh_laws.proofs.reports.Gentle.{CallOf, RouteTold}
+use Rattle.mesh_laws.proofs.reports.GentleWords.{CallOf, RouteTold}
 use Rattle.mesh_laws.proofs.reports.NewCalls.{first-new, first_item-new}
 use Rattle.mesh_laws.proofs.reports.OwnNotices.{LowFirst}
 use Rattle.mesh_laws.proofs.reports.Steps.{step-told}

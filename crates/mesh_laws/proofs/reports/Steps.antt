@@ -42,14 +42,15 @@ use Rattle.mesh_laws.proofs.nodes.Facts.{MeshFacts}
 use Rattle.mesh_laws.proofs.hops.Chain.{OnRoute}
 use Rattle.mesh_laws.proofs.hops.Planned.{Planned, Routes}
 use Rattle.mesh_laws.proofs.hops.Plans.{Plan, hops, node_at, plan, same_node}
-use Rattle.mesh_laws.proofs.hops.Rest.{Purpose, role_of}
+use Rattle.mesh_laws.proofs.hops.Purposes.{Purpose, role_of}
 use Rattle.mesh_laws.proofs.hops.Rows.{no_path_up}
 use Rattle.mesh_laws.proofs.hops.Taken.{up_hop}
 use Rattle.mesh_laws.proofs.reports.AlarmSteps.{on_alarm-told, on_clear-told}
 use Rattle.mesh_laws.proofs.reports.FirstSteps.{first_path-told}
-use Rattle.mesh_laws.proofs.reports.Gentle.{Gentle, IsGentle, RouteTold, commit-gentle, gentle-then, gentle-told, has_plain, is_plain, is_waiting, taken-gentle}
-use Rattle.mesh_laws.proofs.reports.GentleAnswers.{mild-gentle, nothing-gentle, same-calls, same-legs}
-use Rattle.mesh_laws.proofs.reports.GentleRules.{IsOld}
+use Rattle.mesh_laws.proofs.reports.GentleWords.{Gentle, IsGentle, RouteTold, gentle-then, gentle-told, has_plain, is_plain, is_waiting}
+use Rattle.mesh_laws.proofs.reports.Gentle.{commit-gentle, taken-gentle}
+use Rattle.mesh_laws.proofs.reports.AnswerParts.{mild-gentle, nothing-gentle, same-calls, same-legs}
+use Rattle.mesh_laws.proofs.reports.StandingCalls.{IsOld}
 use Rattle.mesh_laws.proofs.reports.GentleSteps.{message-gentle, order-gentle}
 use Rattle.mesh_laws.proofs.reports.OwnNotices.{LowFirst, own_notice-told}
 use Rattle.mesh_laws.proofs.reports.Ticks.{tick-gentle}

@@ -24,9 +24,10 @@ use Rattle.mesh_laws.specs.HopLaw.{is_notice}
 use Rattle.mesh_laws.specs.ReportLaw.{is_standing, reports_of}
 use Rattle.mesh_laws.proofs.hops.Tables.{leg_after}
 use Rattle.mesh_laws.proofs.nodes.Facts.{NodeFacts}
-use Rattle.mesh_laws.proofs.reports.Gentle.{IsGentle, NoneOf, is_plain, is_waiting}
-use Rattle.mesh_laws.proofs.reports.GentleAnswers.{IfStands, after-both, both-none, calls-both, taken_on-active, taken_on-quiet, taking-is, used-stands}
-use Rattle.mesh_laws.proofs.reports.GentleRules.{leg-stands}
+use Rattle.mesh_laws.proofs.reports.GentleWords.{IsGentle, NoneOf, is_plain, is_waiting}
+use Rattle.mesh_laws.proofs.reports.AnswerParts.{after-both, both-none, calls-both}
+use Rattle.mesh_laws.proofs.reports.GentleAnswers.{IfStands, taken_on-active, taken_on-quiet, taking-is, used-stands}
+use Rattle.mesh_laws.proofs.reports.StandingCalls.{leg-stands}
 
 module _ (s : NodeState) (l : Lsp) where
   -- the calls that have the LSP had it before the tick, with the same reports

@@ -25,8 +25,9 @@ use Rattle.mesh_laws.specs.HopLaw.{messages_of, leg_at, mail_between}
 use Rattle.mesh_nodes.proofs.Cases.{if_cases, both_left}
 use Rattle.mesh_laws.proofs.nodes.PhaseLegs.{held-is}
 use Rattle.mesh_laws.proofs.hops.Plans.{Plan, hops, fibre_at, node_at, IsRoute, distinct}
-use Rattle.mesh_laws.proofs.hops.Rows.{active_taken}
-use Rattle.mesh_laws.proofs.hops.Rest.{Purpose, role_of, no_kinds}
+use Rattle.mesh_laws.proofs.hops.PathTaken.{active_taken}
+use Rattle.mesh_laws.proofs.hops.Purposes.{Purpose, role_of}
+use Rattle.mesh_laws.proofs.hops.IdleHops.{no_kinds}
 use Rattle.mesh_laws.proofs.hops.Chain.{Chain, LegFits, Hop}
 use Rattle.mesh_laws.proofs.hops.LegChanges.{previous_is}
 use Rattle.mesh_laws.proofs.hops.Views.{leg-there}
@@ -127,6 +128,7 @@ module _ (t : Network) (q : Purpose) (s : Mesh) (l : Lsp) (p : Plan) (i : ℕ) (
       let left = left-is t q s l p i route chain below e k r set label role rest was o known short g here h on in
       record { light = rw its-own (light-armed held); sends = omega arith }
 
+  -- A Path that activates a backup weighs more than what its leg sends, and nothing that stays gets heavier.
   pub activation-rests : IsPart (path_with (local_node t d) (s.nodes d.0) asks (Some g))
   activation-rests =
       if_cases IsPart (is_held g.phase && is_over (previous g) u k) _ _

@@ -39,9 +39,11 @@ use Rattle.mesh_laws.proofs.rest.Expanded.{Expands, IsKnown, begins-expand, expa
 use Rattle.mesh_laws.proofs.rest.TurnRests.{AreShort, go_back-grow, turn-grow}
 
 module _ (t : Network) (s : Mesh) (n : NodeId) (o : Routes) (f : EachFollows t s o) (short : AreShort o) where
+  -- A call alone that is put in its place adds no work.
   pub put-expand : (more : ℕ) (c : CallRec) → Expands s n o more (call_put c)
   put-expand more c = expands-quiet s n o more (call_put c) (record { legs = refl; sent = refl; numbers = refl })
 
+  -- An answer that changes nothing adds no work.
   pub none-expand : (more : ℕ) → Expands s n o more nothing
   none-expand more = expands-quiet s n o more nothing (record { legs = refl; sent = refl; numbers = refl })
 
@@ -78,11 +80,13 @@ module _ (t : Network) (s : Mesh) (n : NodeId) (o : Routes) (f : EachFollows t s
       known-of o b.lsp r.0 (disarms c b) (of-disarms b (following b)) r.1))
       (λ used. known-put c)
 
+  -- A turn adds at most 191: what the Path that activates the backup weighs over a route of 63 hops.
   pub turn-expand : (c : CallRec) (b : Option Leg) → ((g : Leg) → b ≡ Some g → BeginsHere s n g) →
       Expands s n o 191 (turn c b)
   turn-expand c b begins =
       expands-known s n o 191 (turn c b) (known-turn c b begins) (turn-grow t s n o f short c b begins)
 
+  -- Going back adds at most 63: a Path that takes the activation back over each hop.
   pub back-expand : (c : CallRec) (b : Option Leg) (state : CallState) → state ≡ Turned → BackFits s n state b →
       Expands s n o 63 (go_back c b)
   back-expand c b state is fit =
@@ -106,6 +110,7 @@ module _ (t : Network) (s : Mesh) (n : NodeId) (o : Routes) (f : EachFollows t s
   decided-expand c b Turning fit works backs = put-expand 191 c
   decided-expand c b Blocked fit works backs = put-expand 191 c
 
+  -- Whether a call turns or goes back, it adds at most 191.
   pub decide-expand : (c : CallRec) (b : Option Leg) → BackFits s n c.state b → Expands s n o 191 (decide c b)
   decide-expand c b fit = decided-expand c b c.state fit (has_any c.work_reports) (has_any c.back_reports)
 
@@ -116,6 +121,7 @@ module _ (t : Network) (s : Mesh) (n : NodeId) (o : Routes) (f : EachFollows t s
   turned-decides c b fit false false = put-expand 63 c
   turned-decides c b fit true backs = put-expand 63 c
 
+  -- A backup that is Live at its ingress adds at most 63, since its call may go back at once.
   pub turned-expand : (b : Leg) → BackStands s n Turned b → (called : Option CallRec) →
       Expands s n o 63 (call_turned b called)
   turned-expand b stands None = none-expand 63
@@ -133,6 +139,7 @@ module _ (t : Network) (s : Mesh) (n : NodeId) (o : Routes) (f : EachFollows t s
   stuck-expand c b false backs = put-expand 0 (guarded c)
   stuck-expand c b true backs = put-expand 0 c
 
+  -- A contended backup adds nothing: its call is stuck until a clock or an order tries it again.
   pub contended-expand : (b : Leg) (called : Option CallRec) → Expands s n o 0 (call_contended b called)
   contended-expand b None = none-expand 0
   contended-expand b (Some c) =
@@ -170,6 +177,7 @@ module _ (t : Network) (s : Mesh) (n : NodeId) (o : Routes) (f : EachFollows t s
       along-expand None = bare-expand NoBackup
       along-expand (Some route) = over-expand route (first_link place route) refl
 
+      -- A call that asks for its backup adds at most 4,223: the first Path over 63 hops.
       pub pair-expand : Expands s n o 4223 (pair (local_node t n) st c w)
       pair-expand =
           if_cases (Expands s n o 4223) (is_some (unknown_link (known_rows place st) (route_from place w))) _ _
@@ -199,6 +207,7 @@ module _ (t : Network) (s : Mesh) (n : NodeId) (o : Routes) (f : EachFollows t s
                 turned = λ e. absurd (cc e);
               })
 
+  -- A refused LSP adds nothing.
   pub refused-expand : (code : ErrCode) (g : Leg) (called : Option CallRec) →
       Expands s n o 0 (call_refused code g called)
   refused-expand code g None = none-expand 0

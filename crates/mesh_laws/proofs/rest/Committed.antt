@@ -38,6 +38,7 @@ one-gain n f o outs (Way a b) = go (nat_eq a n) (nat_eq b o.to.0) (nat_eq o.to.0
     go true false false ex ey ez = omega arith
     go false y z ex ey ez = omega arith
 
+-- What the ways gain by the messages that are sent is at most what these weigh.
 pub gains-within : (n : ℕ) (f : ℕ → Msg → ℕ) (outs : List Out) (ps : List Spot) → AreApart ps →
     total (gain n f outs) ps ≤ sent_weight f outs
 gains-within n f [] ps apart = let h = total-none (gain n f []) ps nothing in omega arith
@@ -58,6 +59,7 @@ gains-within n f (o ∷ outs) ps apart =
 
 -- A message is taken
 
+-- The mesh once the first message from u to d is taken with this answer.
 abbrev pub taken_mesh : Mesh → ℕ → ℕ → Answer → Mesh
 taken_mesh s u d a = commit (without_first s u d) d a
 

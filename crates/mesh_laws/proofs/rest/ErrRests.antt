@@ -18,8 +18,9 @@ use Rattle.mesh_laws.specs.HopLaw.{messages_of, leg_at, mail_between}
 use Rattle.mesh_nodes.proofs.LegList.{same_lsp-refl, found-lsp}
 use Rattle.mesh_nodes.proofs.Cases.{if_cases}
 use Rattle.mesh_laws.proofs.hops.Plans.{Plan, hops, node_at, IsRoute}
-use Rattle.mesh_laws.proofs.hops.Rows.{asked_answers, torn_leaves}
-use Rattle.mesh_laws.proofs.hops.Rest.{Purpose, role_of, has_path, no_path_down}
+use Rattle.mesh_laws.proofs.hops.AnswersTaken.{asked_answers, torn_leaves}
+use Rattle.mesh_laws.proofs.hops.Purposes.{Purpose, role_of, has_path}
+use Rattle.mesh_laws.proofs.hops.IdleHops.{no_path_down}
 use Rattle.mesh_laws.proofs.hops.Chain.{Chain, LegFits, Hop}
 use Rattle.mesh_laws.proofs.hops.LegChanges.{torn_of}
 use Rattle.mesh_rules.specs.PathErrs.{PathFailure}
@@ -125,6 +126,7 @@ module _ (t : Network) (q : Purpose) (s : Mesh) (l : Lsp) (p : Plan) (i : ℕ) (
         if_cases IsPart gone _ _ (λ r. removed)
         (λ r. if_cases IsPart (is_armed g.phase) _ _ (λ a. disarmed (prev-of t q l p i g fits)) (λ a. unchanged))
 
+  -- A PathErr weighs more than what its leg sends, and nothing that stays gets heavier.
   pub err-rests : (h : Option Leg) → leg_at s l (node_at p i) ≡ h → IsPart (leg_of_err (node_at p (suc i)) failure h)
   err-rests None here = unchanged
   err-rests (Some g) here =

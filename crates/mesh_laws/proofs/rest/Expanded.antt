@@ -16,8 +16,9 @@ use Rattle.mesh_rules.specs.LocalNodes.{LocalNode, local_node, own_link}
 use Rattle.mesh_rules.specs.Machine.{Mesh, commit}
 use Rattle.mesh_rules.specs.State.{NodeState}
 use Rattle.mesh_nodes.proofs.LegList.{same_lsp-eq}
-use Rattle.mesh_laws.proofs.hops.Begun.{grown}
-use Rattle.mesh_laws.proofs.hops.Own.{AllSent, IsQuiet, route-other}
+use Rattle.mesh_laws.proofs.hops.Stepped.{grown}
+use Rattle.mesh_laws.proofs.hops.OtherLsps.{route-other}
+use Rattle.mesh_laws.proofs.hops.Own.{AllSent, IsQuiet}
 use Rattle.mesh_laws.proofs.hops.Planned.{IsUntouched, or_none}
 use Rattle.mesh_laws.specs.Weights.{Routes, path_weight}
 use Rattle.mesh_laws.specs.Work.{WorkIsWithin}
@@ -25,6 +26,7 @@ use Rattle.mesh_laws.proofs.rest.BeginRests.{begins-grow, known-else}
 use Rattle.mesh_laws.proofs.rest.Grown.{GrowsBy, grows-quiet}
 use Rattle.mesh_laws.proofs.rest.TurnRests.{AreShort}
 
+-- By this answer the work grows by at most `more`, and routes that are short stay short.
 pub record Expands (s : Mesh) (n : NodeId) (o : Routes) (more : ℕ) (a : Answer) : Type 0 where
   pub grow : (w : ℕ) → WorkIsWithin o s w → WorkIsWithin (grown n o a) (commit s n.0 a) (w + more)
   pub short : AreShort o → AreShort (grown n o a)
@@ -33,6 +35,7 @@ pub record Expands (s : Mesh) (n : NodeId) (o : Routes) (more : ℕ) (a : Answer
 abbrev pub IsKnown : Routes → Answer → Type 0
 IsKnown o a = (l : Lsp) → or_route (o l) (first_route l a.sent) ≡ o l
 
+-- Where no new LSP begins the routes stay, so it is enough that the work grows by no more.
 pub expands-known : (s : Mesh) (n : NodeId) (o : Routes) (more : ℕ) (a : Answer) → IsKnown o a → GrowsBy o s n more a →
     Expands s n o more a
 expands-known s n o more a known grow = record {
@@ -50,10 +53,12 @@ expands-known s n o more a known grow = record {
     all : o ≡ grown n o a
     all = λ i l. each l i
 
+-- An answer that touches no leg and sends nothing adds no work.
 pub expands-quiet : (s : Mesh) (n : NodeId) (o : Routes) (more : ℕ) (a : Answer) → IsQuiet a → Expands s n o more a
 expands-quiet s n o more a quiet =
     expands-known s n o more a (λ l. rw quiet.sent (or_none (o l))) (grows-quiet o s n a more quiet)
 
+-- A bound may be replaced by a greater one.
 pub expands-more : (s : Mesh) (n : NodeId) (o : Routes) (m k : ℕ) (a : Answer) → m ≤ k → Expands s n o m a →
     Expands s n o k a
 expands-more s n o m k a small first = record {
@@ -109,5 +114,6 @@ module _ (t : Network) (s : Mesh) (o : Routes) (n : NodeId) (st : NodeState) (w 
           new (nat_eq n.0 l.ingress.0) e (subst (λ (k : Lsp). o k ≡ None) (same_lsp-eq w.lsp l e) none) is
       go false e = short l route (sym (known-else t s o n st w c numbers blank l e) ∙ is)
 
+  -- An LSP that begins adds the weight of its first Path, and its route is short.
   pub begins-expand : Expands s n o (path_weight w.role None (suc (length w.route))) answer
   begins-expand = record { grow = begins-grow t s o n st w c numbers blank; short = new-short }

@@ -22,7 +22,7 @@ use Rattle.mesh_rules.specs.Waits.{on_tick}
 use Rattle.mesh_nodes.specs.Kept.{NodeFits}
 use Rattle.mesh_nodes.proofs.CallList.{all-calls_found}
 use Rattle.mesh_laws.proofs.nodes.Facts.{MeshFacts}
-use Rattle.mesh_laws.proofs.hops.Begun.{grown}
+use Rattle.mesh_laws.proofs.hops.Stepped.{grown}
 use Rattle.mesh_laws.proofs.hops.Laws.{step_facts}
 use Rattle.mesh_laws.proofs.hops.Planned.{or_none}
 use Rattle.mesh_laws.proofs.hops.Run.{Carried, StepFacts, backs_here, calls_may_pair, link_quiet, step_routes}
@@ -50,6 +50,7 @@ pub record RestFacts (t : Network) (s : Mesh) (o : Routes) : Type 0 where
 pub record Lightens (t : Network) (s : Mesh) (o : Routes) (e : MeshEvent) (w : ℕ) : Type 0 where
   pub left : ℕ
   pub within : WorkIsWithin (step_routes t s e o) (step t s e) left
+  -- Each enabled event is paid for: what it handles and what is left are within what was there and what it adds.
   pub falls : handles e + left ≤ w + adds t e
 
 -- and the routes that are begun are short

@@ -42,7 +42,7 @@ use Rattle.mesh_rules.proofs.Conjunctions.{and_first, and_second}
 use Rattle.mesh_laws.specs.HopLaw.{leg_at, messages_of}
 use Rattle.mesh_nodes.proofs.Cases.{if_cases}
 use Rattle.mesh_nodes.proofs.LegList.{same_lsp-refl}
-use Rattle.mesh_laws.proofs.hops.NoticeRule.{all_notices, notifies-begin_none}
+use Rattle.mesh_laws.proofs.hops.NoticesTold.{all_notices, notifies-begin_none}
 use Rattle.mesh_laws.proofs.hops.Planned.{EachFollows, or_none}
 use Rattle.mesh_laws.proofs.hops.Released.{own_tears}
 use Rattle.mesh_laws.proofs.hops.Run.{ItemFits, StepFacts}
@@ -249,6 +249,7 @@ module _ (t : Network) (s : Mesh) (n : NodeId) (o : Routes) (f : EachFollows t s
   order-expands (Fail g) valid = record { more = 0; expands = none 0; less = omega arith }
   order-expands (Repair g) valid = record { more = 0; expands = none 0; less = omega arith }
 
+  -- An item of a desk sets off no more than it weighs.
   pub item-expands : (i : DeskItem) → ItemFits t i → ItemExpands i
   item-expands (Order c) fits = order-expands c fits
   item-expands (Alarm g) fits = record {

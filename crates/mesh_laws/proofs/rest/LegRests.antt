@@ -24,7 +24,7 @@ use Rattle.mesh_laws.proofs.hops.Notices.{ComesUp}
 use Rattle.mesh_laws.proofs.hops.Own.{Own, own-leg_part}
 use Rattle.mesh_laws.proofs.hops.Planned.{EachFollows, Follows, Planned}
 use Rattle.mesh_laws.proofs.hops.Plans.{Plan, hops, node_at, plan, same_node}
-use Rattle.mesh_laws.proofs.hops.Rest.{Purpose, role_of}
+use Rattle.mesh_laws.proofs.hops.Purposes.{Purpose, role_of}
 use Rattle.mesh_laws.proofs.hops.Rows.{no_resv_down, no_removal_down, no_contention_down, no_path_up, no_active_up, no_tear_up}
 use Rattle.mesh_laws.proofs.hops.Taken.{down_hop, mine, up_hop}
 use Rattle.mesh_laws.specs.Weights.{Routes, weight}
@@ -201,6 +201,7 @@ module _ (t : Network) (s : Mesh) (o : Routes) (u d : NodeId) (f : EachFollows t
       within in
       record { left = h.0; within = h.1; paid = h.2; pays = h.3 })) was
 
+  -- The leg of the LSP of a message sends less than the message weighs, and nothing that stays gets heavier.
   pub leg-rests : (m : Msg) (rest : List Msg) (was : s.mail u.0 d.0 ≡ m ∷ rest) (w : ℕ) → WorkIsWithin o s w →
       LegRests t s o u d m w
   leg-rests (Path l e k r set label role) rest was =

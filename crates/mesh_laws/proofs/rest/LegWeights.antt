@@ -19,7 +19,7 @@ use Rattle.mesh_rules.specs.Machine.{Mesh}
 use Rattle.mesh_laws.specs.HopShapes.{NoLeg, ArmedLeg, FallingLeg, leg_kind, phase_kind}
 use Rattle.mesh_laws.specs.HopLaw.{leg_at}
 use Rattle.mesh_laws.proofs.hops.Plans.{Plan, fibre_at, node_at}
-use Rattle.mesh_laws.proofs.hops.Rest.{Purpose, role_of}
+use Rattle.mesh_laws.proofs.hops.Purposes.{Purpose, role_of}
 use Rattle.mesh_laws.proofs.hops.Chain.{Fits, LegFits}
 use Rattle.mesh_laws.proofs.hops.LegChanges.{previous_is, previous_none}
 use Rattle.mesh_laws.specs.Weights.{Routes, hops_back, weight, path_weight, asked_weight, phase_weight, resv_weight}
@@ -27,17 +27,20 @@ use Rattle.mesh_laws.proofs.rest.Near.{ResvLight}
 
 -- Small facts of weights
 
+-- A Path weighs most where its LSP has no leg.
 pub path-most : (r : PathRole) (g : Option Leg) (k : ℕ) → path_weight r g k ≤ path_weight r None k
 path-most (Work guard) g k = omega arith
 path-most (Back true work primary) g k = omega arith
 path-most (Back false work primary) None k = omega arith
 path-most (Back false work primary) (Some g) k = omega arith
 
+-- A Path weighs less with one hop less before it.
 pub path-less : (r : PathRole) (k : ℕ) → path_weight r None k < path_weight r None (suc k)
 path-less (Work guard) k = omega arith
 path-less (Back true work primary) k = omega arith
 path-less (Back false work primary) k = omega arith
 
+-- A Path weighs the same at any two legs.
 pub path-still : (r : PathRole) (g h : Leg) (k : ℕ) → path_weight r (Some h) k ≤ path_weight r (Some g) k
 path-still (Work guard) g h k = omega arith
 path-still (Back true work primary) g h k = omega arith
@@ -52,6 +55,7 @@ phase-some Live r k = omega arith
 phase-some Closing r k = omega arith
 phase-some Falling r k = omega arith
 
+-- A Resv weighs something.
 pub resv-some : (g : Option Leg) (k : ℕ) → 1 ≤ resv_weight g (suc k)
 resv-some None k = omega arith
 resv-some (Some g) k = phase-some g.phase g.role k
@@ -60,9 +64,11 @@ resv-some (Some g) k = phase-some g.phase g.role k
 abbrev pub IsDeaf : Leg → Type 0
 IsDeaf g = (k : ℕ) → phase_weight g.phase g.role k ≡ 1
 
+-- No Resv gets heavier at a leg at which it weighs one.
 pub deaf-light : (g : Option Leg) (h : Leg) → IsDeaf h → ResvLight g (Some h)
 deaf-light g h deaf k = let one = deaf (suc k) in let some = resv-some g k in omega arith
 
+-- A Resv weighs one at a torn leg.
 pub closed-deaf : (f : Phase) (r : Role) (k : ℕ) → phase_weight (closing_phase f r) r k ≡ 1
 closed-deaf Armed role.Back k = refl
 closed-deaf Live role.Back k = refl
@@ -73,6 +79,7 @@ closed-deaf Held r k = refl
 closed-deaf Closing r k = refl
 closed-deaf Falling r k = refl
 
+-- A Resv weighs one at a leg that is connected or held.
 pub reserved-deaf : (r : Role) (k : ℕ) → phase_weight (reserved r) r k ≡ 1
 reserved-deaf role.Work k = refl
 reserved-deaf role.Back k = refl
@@ -90,6 +97,7 @@ phase-most Live r k = let h = asked-more r (suc k) in omega arith
 phase-most Closing r k = let h = asked-more r (suc k) in omega arith
 phase-most Falling r k = let h = asked-more r (suc k) in omega arith
 
+-- A Resv weighs at most what it weighs at an Asked leg.
 pub resv-most : (t : Network) (q : Purpose) (l : Lsp) (p : Plan) (i : ℕ) (g : Option Leg) (k : ℕ) → Fits t q l p i g →
     resv_weight g (suc k) ≤ asked_weight (role_of q) (suc k)
 resv-most t q l p i None k fits = let h = asked-more (role_of q) (suc k) in omega arith
@@ -114,9 +122,11 @@ resv-marked (Some g) k marked = go g.phase marked
 
 -- what is sent to a node whose leg stays
 
+-- A number up to one below y is below y.
 pub one-less : (x m y : ℕ) → x ≤ m → m < y → x + 0 < y
 one-less x m y most less = omega arith
 
+-- A Resv that is sent weighs at most what a Resv of its LSP weighs at the leg there.
 pub sent-resv : (o : Routes) (s s' : Mesh) (l j : Lsp) (n : NodeId) (most : ℕ) → j ≡ l →
     leg_at s' j n ≡ leg_at s j n → resv_weight (leg_at s l n) (suc (hops_back o l n.0)) ≤ most →
     (d : ℕ) (e : NodeId) (k : LinkId) (x : ℕ) → weight o s' d n.0 (Resv j e k x) ≤ most
@@ -124,6 +134,7 @@ sent-resv o s s' l j n most is stays small d e k x =
     subst (λ (h : Option Leg). resv_weight h (suc (hops_back o j n.0)) ≤ most) (sym stays)
     (subst (λ (m : Lsp). resv_weight (leg_at s m n) (suc (hops_back o m n.0)) ≤ most) (sym is) small)
 
+-- A Path that activates no more weighs one and its steps, where its LSP has a leg.
 pub sent-back : (o : Routes) (s s' : Mesh) (l j : Lsp) (n : NodeId) (h : Leg) → j ≡ l →
     leg_at s' j n ≡ leg_at s j n → leg_at s l n ≡ Some h →
     (d : ℕ) (e : NodeId) (k : LinkId) (route : List Step) (set : List ℕ) (up : Option ℕ) (work : ℕ)
@@ -135,6 +146,7 @@ sent-back o s s' l j n h is stays there d e k route set up work primary =
     (subst (λ (m : Lsp). path_weight (Back false work primary) (leg_at s m n) (suc (length route)) ≤ suc (length route))
     (sym is) (rw there (omega arith)))
 
+-- The phase of a leg is that of some leg.
 pub no-leg_kind : (f : Phase) → phase_kind f ≡ NoLeg → ⊥
 no-leg_kind Asked e = cc e
 no-leg_kind Held e = cc e
@@ -143,6 +155,7 @@ no-leg_kind Live e = cc e
 no-leg_kind Closing e = cc e
 no-leg_kind Falling e = cc e
 
+-- The phase that is_asked means is Asked.
 pub asked-phase : (f : Phase) → is_asked f ≡ true → f ≡ Asked
 asked-phase Asked e = refl
 asked-phase Held e = absurd (cc e)
@@ -151,6 +164,7 @@ asked-phase Live e = absurd (cc e)
 asked-phase Closing e = absurd (cc e)
 asked-phase Falling e = absurd (cc e)
 
+-- An Asked leg weighs less with one hop less behind it.
 pub asked-less : (r : Role) (k : ℕ) → asked_weight r (suc k) < asked_weight r (suc (suc k))
 asked-less role.Work k = omega arith
 asked-less role.Back k = omega arith
@@ -167,6 +181,7 @@ pub data PrevOf (t : Network) (p : Plan) (i : ℕ) (g : Leg) : Type 0 where
   After : (k : ℕ) → suc k ≡ i → previous g ≡ Some (record { node = node_at p k; fibre = fibre_at t p k }) →
       PrevOf t p i g
 
+-- The previous node of a leg that fits its place is the one before it on the route, or none at the ingress.
 pub prev-of : (t : Network) (q : Purpose) (l : Lsp) (p : Plan) (i : ℕ) (g : Leg) → LegFits t q l p i g → PrevOf t p i g
 prev-of t q l p zero g fits = AtIngress (previous_none t q l p g fits)
 prev-of t q l p (suc k) g fits = After k refl (previous_is t q l p k g fits)

@@ -12,7 +12,8 @@ use Rattle.mesh_rules.specs.Legs.{find_leg}
 use Rattle.mesh_rules.specs.Machine.{Mesh, commit}
 use Rattle.mesh_laws.specs.HopLaw.{lsp_of, is_notice, is_message_of, messages_of}
 use Rattle.mesh_nodes.proofs.LegList.{same_lsp-eq, same_lsp-refl}
-use Rattle.mesh_laws.proofs.hops.Own.{IsOf, leg-other}
+use Rattle.mesh_laws.proofs.hops.OtherLsps.{leg-other}
+use Rattle.mesh_laws.proofs.hops.Own.{IsOf}
 use Rattle.mesh_laws.proofs.hops.Views.{leg-there}
 use Rattle.mesh_laws.specs.Weights.{Routes, hops_back, weight, path_weight, resv_weight}
 use Rattle.mesh_laws.proofs.rest.Works.{NoHeavier}
@@ -36,6 +37,7 @@ notice-same o s s' a b (PathTear l e k) is = absurd (cc is)
 notice-same o s s' a b (PathErr l e at gone code) is = absurd (cc is)
 notice-same o s s' a b (Notify l e at k code) is = refl
 
+-- Nothing is heavier where each weighs the same.
 pub no-heavier-all : {X : Type 0} (f g : X → ℕ) (xs : List X) → ((x : X) → g x ≡ f x) → NoHeavier f g xs
 no-heavier-all f g [] same = tt
 no-heavier-all f g (x ∷ xs) same = (let e = same x in omega arith, no-heavier-all f g xs same)
@@ -77,6 +79,7 @@ module _ (o : Routes) (s : Mesh) (d : NodeId) (l : Lsp) (a : Answer) (of : IsOf 
           weight-same o s (commit s d.0 a) x y.0 m
           (leg-other s d y l (lsp_of m) a of (other-lsp l m not_of is))
 
+  -- An answer for one LSP makes nothing heavier where the messages of this LSP to the node don't get so.
   pub stay-own : ((x : ℕ) → NoHeavier (weight o s x d.0) (weight o (commit s d.0 a) x d.0)
       (messages_of l (s.mail x d.0))) →
       StayLight o s o (commit s d.0 a) s

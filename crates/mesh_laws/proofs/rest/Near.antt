@@ -16,7 +16,7 @@ use Rattle.mesh_laws.specs.HopLaw.{lsp_of, is_notice, is_message_of, messages_of
 use Rattle.mesh_nodes.proofs.Cases.{both_right}
 use Rattle.mesh_nodes.proofs.LegList.{same_lsp-eq}
 use Rattle.mesh_laws.proofs.hops.Plans.{Plan, hops, node_at, IsRoute, same, other}
-use Rattle.mesh_laws.proofs.hops.Rest.{Purpose, has_path}
+use Rattle.mesh_laws.proofs.hops.Purposes.{Purpose, has_path}
 use Rattle.mesh_laws.proofs.hops.Chain.{Chain, OnRoute, is_or_not}
 use Rattle.mesh_laws.proofs.hops.Own.{IsOf}
 use Rattle.mesh_laws.proofs.hops.Tables.{leg_after}
@@ -30,28 +30,36 @@ use Rattle.mesh_laws.proofs.rest.RowKinds.{has_resv}
 
 -- A leg and what it becomes, for these messages to it
 
+-- No Path gets heavier by this change of a leg.
 abbrev pub PathLight : Option Leg → Option Leg → Type 0
 PathLight g g' = (r : PathRole) (k : ℕ) → path_weight r g' k ≤ path_weight r g k
 
+-- No Resv gets heavier by this change of a leg.
 abbrev pub ResvLight : Option Leg → Option Leg → Type 0
 ResvLight g g' = (k : ℕ) → resv_weight g' (suc k) ≤ resv_weight g (suc k)
 
+-- None of these messages gets heavier by this change of a leg.
 pub record LightFor (g g' : Option Leg) (ms : List Msg) : Type 0 where
   pub path : has_path ms ≡ true → PathLight g g'
   pub resv : has_resv ms ≡ true → ResvLight g g'
 
+-- Without messages nothing gets heavier.
 pub light-empty : (g g' : Option Leg) → LightFor g g' []
 light-empty g g' = record { path = λ never. absurd (cc never); resv = λ never. absurd (cc never) }
 
+-- No message gets heavier where neither a Path nor a Resv does.
 pub light-both : (g g' : Option Leg) (ms : List Msg) → PathLight g g' → ResvLight g g' → LightFor g g' ms
 light-both g g' ms path resv = record { path = λ _. path; resv = λ _. resv }
 
+-- No message gets heavier where the leg stays.
 pub light-same : (g g' : Option Leg) (ms : List Msg) → g' ≡ g → LightFor g g' ms
 light-same g g' ms is = light-both g g' ms (λ r k. rw is (omega arith)) (λ k. rw is (omega arith))
 
+-- Without a Resv it is enough that no Path gets heavier.
 pub light-no_resv : (g g' : Option Leg) (ms : List Msg) → PathLight g g' → has_resv ms ≡ false → LightFor g g' ms
 light-no_resv g g' ms path none = record { path = λ _. path; resv = λ some. absurd (cc (none, some)) }
 
+-- Without a Path it is enough that no Resv gets heavier.
 pub light-no_path : (g g' : Option Leg) (ms : List Msg) → has_path ms ≡ false → ResvLight g g' → LightFor g g' ms
 light-no_path g g' ms none resv = record { path = λ some. absurd (cc (none, some)); resv = λ _. resv }
 
@@ -98,6 +106,7 @@ module _ (o : Routes) (s : Mesh) (l : Lsp) (u d : NodeId) (m : Msg) (rest : List
           (messages_of l ((without_first s u.0 d.0).mail x d.0))
       pub sends : sent_weight (weight o (taken_mesh s u.0 d.0 a) d.0) a.sent < weight o s u.0 d.0 m
 
+    -- Where the leg's part is paid by the message, the work falls by what the message weighs more than what is sent.
     pub part-lightens : (a : Answer) → IsOf l a → Part a → (w : ℕ) → WorkIsWithin o s w →
         (left : ℕ) × WorkIsWithin o (taken_mesh s u.0 d.0 a) left ×
         (left + weight o s u.0 d.0 m ≡ w + sent_weight (weight o (taken_mesh s u.0 d.0 a) d.0) a.sent)
@@ -121,6 +130,8 @@ module _ (o : Routes) (s : Mesh) (l : Lsp) (u d : NodeId) (m : Msg) (rest : List
 module _ (t : Network) (q : Purpose) (s : Mesh) (l : Lsp) (p : Plan) (i : ℕ) (route : IsRoute t l.ingress p)
     (chain : Chain t q l p (leg_at s l) (mail_between s l)) (below : i < hops p) (m : Msg) (rest : List Msg)
     (was : s.mail (node_at p i).0 (node_at p (suc i)).0 ≡ m ∷ rest) (Q : List Msg → Type 0) where
+  -- What holds of the rest of the way down and of the way up from the next node holds of all ways to the node
+  -- downstream.
   pub near-down : Q [] → Q (messages_of l rest) →
       (suc i < hops p → Q (mail_between s l (node_at p (suc (suc i))) (node_at p (suc i)))) → (x : ℕ) →
       Q (messages_of l ((without_first s (node_at p i).0 (node_at p (suc i)).0).mail x (node_at p (suc i)).0))
@@ -148,6 +159,7 @@ module _ (t : Network) (q : Purpose) (s : Mesh) (l : Lsp) (p : Plan) (i : ℕ) (
 module _ (t : Network) (q : Purpose) (s : Mesh) (l : Lsp) (p : Plan) (i : ℕ) (route : IsRoute t l.ingress p)
     (chain : Chain t q l p (leg_at s l) (mail_between s l)) (below : i < hops p) (m : Msg) (rest : List Msg)
     (was : s.mail (node_at p (suc i)).0 (node_at p i).0 ≡ m ∷ rest) (Q : List Msg → Type 0) where
+  -- The same of all ways to the node upstream.
   pub near-up : Q [] → Q (messages_of l rest) →
       ((k : ℕ) → suc k ≡ i → Q (mail_between s l (node_at p k) (node_at p i))) → (x : ℕ) →
       Q (messages_of l ((without_first s (node_at p (suc i)).0 (node_at p i).0).mail x (node_at p i).0))

@@ -26,10 +26,11 @@ use Rattle.mesh_laws.specs.HopLaw.{leg_at}
 use Rattle.mesh_nodes.proofs.Cases.{if_cases}
 use Rattle.mesh_laws.proofs.hops.Chain.{LegFits}
 use Rattle.mesh_laws.proofs.hops.InParts.{leg_of_notice, leg_part, notice_back, notice_goes}
-use Rattle.mesh_laws.proofs.hops.NoticeRule.{OnlyNotifies, all_notices, notice_only, still_notified}
+use Rattle.mesh_laws.proofs.hops.NoticesTold.{OnlyNotifies, all_notices, still_notified}
+use Rattle.mesh_laws.proofs.hops.NoticeRule.{notice_only}
 use Rattle.mesh_laws.proofs.hops.Planned.{Planned}
 use Rattle.mesh_laws.proofs.hops.Plans.{Plan, hops, node_at}
-use Rattle.mesh_laws.proofs.hops.Rest.{Purpose}
+use Rattle.mesh_laws.proofs.hops.Purposes.{Purpose}
 use Rattle.mesh_laws.specs.Weights.{Routes, hops_back, place_in, steps_before, weight}
 use Rattle.mesh_laws.specs.Work.{WorkIsWithin}
 use Rattle.mesh_laws.proofs.rest.Works.{total-append}
@@ -92,6 +93,7 @@ module _ (t : Network) (s : Mesh) (o : Routes) (q : Purpose) (p : Plan) (i : ℕ
   abbrev taken : Answer
   taken = leg_part (local_node t at) (s.nodes at.0) from message
 
+  -- A Notify that is passed on weighs less one hop further up.
   pub notice-rests : (w : ℕ) → WorkIsWithin o s w →
       (left : ℕ) × WorkIsWithin o (taken_mesh s from.0 at.0 taken) left ×
       (left + weight o s from.0 at.0 message ≡ w + sent_weight (weight o (taken_mesh s from.0 at.0 taken) at.0)
@@ -117,6 +119,7 @@ steps-most (h ∷ route) n = go (nat_eq h.node.0 n) (steps-most route n)
     go true small = omega arith
     go false small = omega arith
 
+-- No node is more than 63 hops from the ingress of an LSP.
 pub back-most : (o : Routes) → AreShort o → (l : Lsp) (n : ℕ) → hops_back o l n ≤ 63
 back-most o short l n = go (o l) refl
   where
@@ -163,12 +166,14 @@ module _ (t : Network) (s : Mesh) (n : NodeId) (o : Routes) (short : AreShort o)
   none-grow : GrowsBy o s n (4096 * 256) nothing
   none-grow = grows-quiet o s n nothing (4096 * 256) (record { legs = refl; sent = refl; numbers = refl })
 
+  -- An alarm sets off at most one Notify for each leg, of at most 256.
   pub alarm-grow : (f : Fibre) → GrowsBy o s n (4096 * 256) (on_alarm place (s.nodes n.0) f)
   alarm-grow f =
       if_cases (GrowsBy o s n (4096 * 256))
       (enters place f (own_link place f.link) && not (has_fibre (s.nodes n.0).down f)) _ _
       (λ h. told-grow f fibre_down_code ((s.nodes n.0).down ++ f ∷ [])) (λ h. none-grow)
 
+  -- A clear sets off at most one Notify for each leg, of at most 256.
   pub clear-grow : (f : Fibre) → GrowsBy o s n (4096 * 256) (on_clear place (s.nodes n.0) f)
   clear-grow f =
       if_cases (GrowsBy o s n (4096 * 256))

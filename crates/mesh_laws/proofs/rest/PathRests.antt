@@ -28,7 +28,7 @@ use Rattle.mesh_laws.specs.HopLaw.{messages_of, leg_at, mail_between}
 use Rattle.mesh_nodes.proofs.LegList.{same_lsp-refl, found-lsp}
 use Rattle.mesh_nodes.proofs.Cases.{if_cases, both_left, not-true}
 use Rattle.mesh_laws.proofs.hops.Plans.{Plan, hops, node_at, IsRoute, distinct}
-use Rattle.mesh_laws.proofs.hops.Rest.{Purpose, Carries, Guards, Tells, role_of}
+use Rattle.mesh_laws.proofs.hops.Purposes.{Purpose, Carries, Guards, Tells, role_of}
 use Rattle.mesh_laws.proofs.hops.Chain.{Chain, LegFits, Hop, IsVacant, below_or_not}
 use Rattle.mesh_laws.proofs.hops.LegChanges.{following_none}
 use Rattle.mesh_laws.proofs.hops.Taken.{down_hop, down_mine}
@@ -90,12 +90,15 @@ module _ (t : Network) (q : Purpose) (s : Mesh) (l : Lsp) (p : Plan) (i : ℕ) (
   abbrev after : Answer → Mesh
   after a = taken_mesh s u.0 d.0 a
 
+  -- A node is as many hops from the ingress as its place on the route says.
   pub back-is : (j : ℕ) → j ≤ hops p → hops_back o l (node_at p j).0 ≡ j
   back-is j small = rw known (place-is t l.ingress p route j small)
 
+  -- The hop over which the Path came, with the Path first.
   pub hop : Hop q p i (leg_at s l u) (leg_at s l d) (message ∷ messages_of l rest) (mail_between s l d u)
   hop = down_hop t q s l p i route chain below message rest was (same_lsp-refl l)
 
+  -- The Path came from another node.
   pub far : u.0 ≢ d.0
   far = distinct t l.ingress p route i (suc i) (omega arith) (omega arith) (omega arith)
 
@@ -171,6 +174,7 @@ module _ (t : Network) (q : Purpose) (s : Mesh) (l : Lsp) (p : Plan) (i : ℕ) (
       judges link (Some code) = refused code
       judges link None = admits link (risks_here place state asks) (offered_labels place state asks link) r refl
 
+    -- The first Path of an LSP at a node weighs more than what the node sends.
     pub first : (link : Option LinkSpec) → IsPart (first_path place state asks link)
     first None = no-part
     first (Some link) =
@@ -182,15 +186,19 @@ module _ (t : Network) (q : Purpose) (s : Mesh) (l : Lsp) (p : Plan) (i : ℕ) (
   -- A Path of an LSP that has a leg here
 
   module _ (g : Leg) (here : leg_at s l (node_at p (suc i)) ≡ Some g) where
+    -- The leg there is of the LSP of the Path.
     pub own : g.lsp ≡ l
     own = found-lsp l state.legs g here
 
+    -- The leg there is of the LSP of the Path.
     pub mine : same_lsp g.lsp l ≡ true
     mine = rw own (same_lsp-refl l)
 
+    -- The leg there fits its place on the route.
     pub fits : LegFits t q l p (suc i) g
     fits = rw here at (chain.fits (suc i) (omega arith))
 
+    -- Where nothing is done the message that is taken pays.
     pub no-change : (a : Answer) → a ≡ nothing → 0 < weight o s u.0 d.0 message → IsPart a
     no-change a is some = rw is (part-nothing o s l u d message rest was some)
 
@@ -202,6 +210,7 @@ module _ (t : Network) (q : Purpose) (s : Mesh) (l : Lsp) (p : Plan) (i : ℕ) (
         go (inl small) = small
         go (inr end) = absurd (let is = following_none t q l p (suc i) g fits end in cc (is, on))
 
+    -- Where there is a next node a step is left.
     pub left-is : (h : Neighbour) → following g ≡ Some h → suc (length (drop 1 r)) ≡ length r
     left-is h on =
         let small = longer h on in

@@ -38,6 +38,7 @@ module _ (o : Routes) (s : Mesh) (n : ℕ) (i : DeskItem) (items : List DeskItem
           rw is (omega arith)
       go false e = omega arith
 
+  -- A desk without its first item weighs less by this item.
   pub item-dropped : (w : ℕ) → WorkIsWithin o s w → (left : ℕ) × WorkIsWithin o (without_item s n) left ×
       (left + item_weight i ≡ w)
   item-dropped w within =
@@ -65,6 +66,7 @@ module _ (o : Routes) (s : Mesh) (n : ℕ) (i : DeskItem) where
       go true z = let h = total-append item_weight (s.desks m) (i ∷ []) in omega arith
       go false z = omega arith
 
+  -- A desk with an item more weighs more by this item.
   pub item-more : (w : ℕ) → WorkIsWithin o s w → WorkIsWithin o (with_item s n i) (w + item_weight i)
   item-more w within ps apart =
       let h = work-moved (amount o s) (amount o (with_item s n i)) (once (Desk n) (item_weight i)) (Desk 0) 0
@@ -106,6 +108,7 @@ split : (f g : ℕ → List DeskItem) (p : Spot) → told (λ n. f n ++ g n) p +
 split f g (Way a b) = omega arith
 split f g (Desk n) = let h = total-append item_weight (f n) (g n) in omega arith
 
+-- Two lists of items one after the other weigh at most what both weigh.
 pub split-most : (f g : ℕ → List DeskItem) (ps : List Spot) →
     total (told (λ n. f n ++ g n)) ps ≤ total (told f) ps + total (told g) ps
 split-most f g ps =
@@ -148,6 +151,7 @@ module _ (o : Routes) (t : Network) (s : Mesh) (after : List Group) where
       let h = total-append item_weight (s.desks m) (all_news t s.failed after m) in
       omega arith
 
+  -- What a failure or a repair tells weighs at most an alarm for each end of each link.
   pub failed-more : (w : ℕ) → WorkIsWithin o s w →
       WorkIsWithin o (with_failed t s after) (w + 2 * length t.links * alarm_weight)
   failed-more w within ps apart =

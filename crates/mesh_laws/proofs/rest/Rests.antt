@@ -107,6 +107,7 @@ module _ (t : Network) (valid : IsTopology t) (s : Mesh) (o : Routes) (rest : Re
       (link-fits n (find_link t k)) m
   all-fit (event.Post c) enabled m = posted-fits c m
 
+  -- The facts on which the weights rest stand after each enabled event.
   pub rest-step : (e : MeshEvent) (w : ℕ) → WorkIsWithin o s w → is_enabled t s e ≡ true →
       RestFacts t (step t s e) (step_routes t s e o)
   rest-step e w within enabled = record {
@@ -147,6 +148,7 @@ rests-from t valid s o (e ∷ es) w run rest within =
     (rest-step t valid s o rest e w within run.0) one.within in
     omega arith
 
+-- Every run is paid for by its posts and its ticks.
 pub every_run_rests : EveryRunRests
 every_run_rests t events valid run =
     let h = rests-from t valid start (λ l. None) events 0 run (start-rests t) start-within in omega arith
@@ -168,6 +170,7 @@ runs-on : (t : Network) (s : Mesh) (events later : List MeshEvent) → IsRun t s
 runs-on t s [] later run more = more
 runs-on t s (e ∷ events) later run more = (run.0, runs-on t (step t s e) events later run.1 more)
 
+-- After a run only so many more Takes and Desks can follow.
 pub every_run_ends : EveryRunEnds
 every_run_ends t events valid run later more none =
     let all = every_run_rests t (events ++ later) valid (runs-on t start events later run more) in
@@ -179,6 +182,7 @@ no-first : {X : Type 0} (xs : List X) → has_first xs ≡ false → xs ≡ []
 no-first [] none = refl
 no-first (x ∷ xs) none = absurd (cc none)
 
+-- A mesh in which no Take and no Desk is enabled is quiet.
 pub every_rest_quiet : EveryRestIsQuiet
 every_rest_quiet t s rest = record {
   desks = λ n. no-first (s.desks n) (rest (event.Desk (record { 0 = n })) refl);

@@ -24,8 +24,8 @@ use Rattle.mesh_nodes.proofs.LegList.{same_lsp-refl, found-lsp}
 use Rattle.mesh_nodes.proofs.Cases.{if_cases, both_left}
 use Rattle.mesh_laws.proofs.nodes.PhaseLegs.{armed-is}
 use Rattle.mesh_laws.proofs.hops.Plans.{Plan, hops, fibre_at, node_at, IsRoute, distinct}
-use Rattle.mesh_laws.proofs.hops.Rows.{armed_answers}
-use Rattle.mesh_laws.proofs.hops.Rest.{Purpose, role_of}
+use Rattle.mesh_laws.proofs.hops.AnswersTaken.{armed_answers}
+use Rattle.mesh_laws.proofs.hops.Purposes.{Purpose, role_of}
 use Rattle.mesh_laws.proofs.hops.Chain.{Chain, LegFits}
 use Rattle.mesh_rules.specs.Resvs.{is_expected, label_back, labels_left, label_passed, passed_back, torn_both_ways}
 use Rattle.mesh_rules.specs.ActivationAnswers.{is_confirmed}
@@ -173,6 +173,7 @@ module _ (t : Network) (q : Purpose) (s : Mesh) (l : Lsp) (p : Plan) (i : ℕ) (
         (λ may. confirms (armed-is g.phase (both_left (is_armed g.phase) _ may)) (prev-of t q l p i g fits))
         (λ none. unchanged))
 
+  -- A Resv weighs more than what its leg sends, and nothing that stays gets heavier.
   pub resv-rests : (h : Option Leg) → leg_at s l (node_at p i) ≡ h →
       IsPart (leg_of_resv (local_node t (node_at p i)) (s.nodes (node_at p i).0)
       (arrival l e (node_at p (suc i)) k) x h)

@@ -24,10 +24,12 @@ use Rattle.mesh_rules.specs.Activations.{taken_on}
 use Rattle.mesh_laws.specs.HopLaw.{messages_of, leg_at, mail_between}
 use Rattle.mesh_nodes.proofs.Cases.{if_cases}
 use Rattle.mesh_laws.proofs.hops.Plans.{Plan, hops, fibre_at, node_at, IsRoute, distinct}
-use Rattle.mesh_laws.proofs.hops.Rows.{plain_taken, live_upstream}
-use Rattle.mesh_laws.proofs.hops.Rest.{Purpose, role_of}
+use Rattle.mesh_laws.proofs.hops.PathTaken.{plain_taken}
+use Rattle.mesh_laws.proofs.hops.Rows.{live_upstream}
+use Rattle.mesh_laws.proofs.hops.Purposes.{Purpose, role_of}
 use Rattle.mesh_laws.proofs.hops.Chain.{Chain, LegFits}
-use Rattle.mesh_laws.proofs.hops.LegChanges.{following_is, live_leg}
+use Rattle.mesh_laws.proofs.hops.LegKinds.{live_leg}
+use Rattle.mesh_laws.proofs.hops.LegChanges.{following_is}
 use Rattle.mesh_laws.proofs.hops.Views.{leg-there}
 use Rattle.mesh_laws.specs.Weights.{Routes, weight}
 use Rattle.mesh_laws.proofs.rest.Committed.{taken_mesh}
@@ -119,6 +121,7 @@ module _ (t : Network) (q : Purpose) (s : Mesh) (l : Lsp) (p : Plan) (i : ℕ) (
                 leg.1 at.0 g.egress (fibre_at t p (suc i)).link (drop 1 r) g.sent None work primary) (omega arith));
           })
 
+  -- A Path that takes an activation back weighs more than what its leg sends, and nothing that stays gets heavier.
   pub taken_back-rests : IsPart (path_with (local_node t at) (s.nodes at.0) asking (Some g))
   taken_back-rests =
       if_cases IsPart (is_active_backup g && is_over (previous g) from k) _ _

@@ -51,6 +51,7 @@ module _ (t : Network) (n : NodeId) (o : Routes) (short : AreShort o) (wait : �
       (all-grow calls (commit s n.0 (ticked wait legs c)) (ticked_stays t n o wait legs s f c fits.0).follows
       (still_fit t n o wait legs s c calls fits.1 apart.0) apart.1)
 
+  -- A tick sets off at most one Path that takes an activation back for each leg, of at most 63.
   pub tick-grows : (s : Mesh) (calls : List CallRec) → EachFollows t s o →
       AllByRecursion (λ c. BackFits s n c.state (leg_of c.back legs)) calls → AreApart legs calls →
       length legs ≤ 4096 → GrowsBy o s n (4096 * 63) (all_ticked wait legs calls)

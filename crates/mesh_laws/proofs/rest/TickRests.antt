@@ -16,6 +16,7 @@ abbrev pub cost_of : Option Leg → ℕ
 cost_of None = 0
 cost_of (Some b) = 63
 
+-- What a call may set off at a tick.
 abbrev pub cost : List Leg → CallRec → ℕ
 cost legs c = cost_of (leg_of c.back legs)
 

@@ -26,12 +26,14 @@ use Rattle.mesh_nodes.proofs.Cases.{if_cases}
 use Rattle.mesh_nodes.proofs.LegList.{same_lsp-refl}
 use Rattle.mesh_laws.proofs.nodes.PhaseLegs.{held-is}
 use Rattle.mesh_laws.proofs.hops.Chain.{LegFits, OnRoute, PhaseFits}
-use Rattle.mesh_laws.proofs.hops.LegChanges.{following_is, live_leg}
+use Rattle.mesh_laws.proofs.hops.LegKinds.{live_leg}
+use Rattle.mesh_laws.proofs.hops.LegChanges.{following_is}
 use Rattle.mesh_laws.proofs.hops.Moved.{BeginsHere}
 use Rattle.mesh_laws.proofs.hops.Own.{IsOf}
 use Rattle.mesh_laws.proofs.hops.Planned.{Planned, Follows, EachFollows}
 use Rattle.mesh_laws.proofs.hops.Plans.{Plan, plan, hops, fibre_at, node_at, distinct, same_node}
-use Rattle.mesh_laws.proofs.hops.Rest.{Purpose, Carries, Guards, Tells, role_of, no_kinds}
+use Rattle.mesh_laws.proofs.hops.Purposes.{Purpose, Carries, Guards, Tells, role_of}
+use Rattle.mesh_laws.proofs.hops.IdleHops.{no_kinds}
 use Rattle.mesh_laws.proofs.hops.Rows.{live_upstream}
 use Rattle.mesh_laws.proofs.hops.Tables.{leg_after}
 use Rattle.mesh_laws.proofs.hops.Turned.{BackFits, IsLiveBackup, own_arms, own_disarms}
@@ -107,6 +109,7 @@ module _ (t : Network) (s : Mesh) (o : Routes) (c : CallRec) (q : Purpose) (p : 
       (subst (λ (b : Option Leg). LightFor (Some g) b (mail_between s g.lsp (record { 0 = x }) (node_at p 0)))
       (sym (leg-here s (node_at p 0) g.lsp a ∙ is)) (light x))))
 
+  -- A backup that is activated at its ingress adds at most 191.
   pub arms-grow : g.phase ≡ Held → GrowsBy o s (node_at p 0) 191 (arms c g)
   arms-grow held =
       grows o o s (node_at p 0).0 (arms c g)
@@ -124,6 +127,7 @@ module _ (t : Network) (s : Mesh) (o : Routes) (c : CallRec) (q : Purpose) (p : 
       at-most : (x m y : ℕ) → x ≤ m → m ≤ y → x + 0 ≤ y
       at-most x m y h k = omega arith
 
+  -- A backup whose activation is taken back at its ingress adds at most 63.
   pub disarms-grow : IsLiveBackup g → GrowsBy o s (node_at p 0) 63 (disarms c g)
   disarms-grow is =
       grows o o s (node_at p 0).0 (disarms c g)
@@ -177,6 +181,7 @@ module _ (t : Network) (s : Mesh) (n : NodeId) (o : Routes) (f : EachFollows t s
           (moves q (plan route e) pl (subst (λ (m : NodeId). leg_at s b.lsp m ≡ Some b) at begins.there)
           (short b.lsp route is))
 
+  -- A turn adds at most 191.
   pub turn-grow : (c : CallRec) (b : Option Leg) → ((g : Leg) → b ≡ Some g → BeginsHere s n g) →
       GrowsBy o s n 191 (turn c b)
   turn-grow c None begins = put c
@@ -186,6 +191,7 @@ module _ (t : Network) (s : Mesh) (n : NodeId) (o : Routes) (f : EachFollows t s
       (λ q p pl here small. arms-grow t s o c q p b pl here small (held-is b.phase held)))
       (λ held. put c)
 
+  -- Going back adds at most 63.
   pub go_back-grow : (c : CallRec) (b : Option Leg) (state : CallState) → state ≡ Turned → BackFits s n state b →
       GrowsBy o s n 63 (go_back c b)
   go_back-grow c None state is fit =

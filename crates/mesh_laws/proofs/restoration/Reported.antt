@@ -25,7 +25,7 @@ use Rattle.mesh_laws.specs.JoinedLaw.{IsLive, LspIsJoined}
 use Rattle.mesh_laws.specs.ReportLaw.{DesksTell, PlaceTells, ReportsTell, RouteTells, StandsTo, is_reported, is_standing, on_the_way, place_at, reports_of, told_over}
 use Rattle.mesh_laws.specs.RestorationLaw.{is_hit, is_route_cut}
 use Rattle.mesh_laws.proofs.hops.Law.{step_at}
-use Rattle.mesh_laws.proofs.reports.FirstSteps.{silent-way}
+use Rattle.mesh_laws.proofs.reports.WaitingLegs.{silent-way}
 use Rattle.mesh_laws.proofs.restoration.Cuts.{cut-at}
 use Rattle.mesh_laws.proofs.restoration.Steps.{goes-on}
 

@@ -17,7 +17,8 @@ use Rattle.mesh_laws.specs.HopLaw.{RouteFits, StepFits, leg_at}
 use Rattle.mesh_laws.specs.HopShapes.{ArmedLeg, LegKind, NoLeg, leg_kind}
 use Rattle.mesh_laws.specs.ReportLaw.{place_at}
 use Rattle.mesh_laws.proofs.hops.Law.{step_at}
-use Rattle.mesh_laws.proofs.hops.Rows.{ArmedStands, BothStand, NoneThere, OnlyTorn, Settled, Stands, settled}
+use Rattle.mesh_laws.proofs.hops.RowStates.{ArmedStands, Stands}
+use Rattle.mesh_laws.proofs.hops.Rows.{BothStand, NoneThere, OnlyTorn, Settled, settled}
 use Rattle.mesh_laws.proofs.restoration.Steps.{begins-at, ends-at, goes-on}
 
 -- beyond a leg that stands is one as it is

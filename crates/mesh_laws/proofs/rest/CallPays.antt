@@ -1,0 +1,228 @@
+-- What the call's part of a Resv and of a PathErr costs at the ingress.
+use Rattle.std.proofs.Common.{◌≡◌, ◌<◌, ℕ, suc, ◌+◌, Bool, true, false, List, [], ◌∷◌, refl, sym, ap, ◌∙◌, subst, arith}
+use Rattle.std.specs.Prelude.{Option, Some, None}
+use Rattle.ason_base.specs.Network.{Network}
+use Rattle.ason_base.specs.declared.ids.LinkId.{LinkId}
+use Rattle.ason_base.specs.declared.ids.Lsp.{Lsp}
+use Rattle.ason_base.specs.declared.ids.NodeId.{NodeId}
+use Rattle.ason_base.specs.declared.calls.Phase.TheVariants.{Armed, Asked, Live, Held}
+use Rattle.ason_base.specs.declared.calls.Role.{Role}
+use Rattle.ason_base.specs.declared.calls.Role.TheVariants as role
+use Rattle.ason_base.specs.declared.messages.Msg.{Msg}
+use Rattle.ason_base.specs.declared.messages.Msg.TheVariants.{Resv, PathErr}
+use Rattle.ason_base.specs.declared.tables.Leg.{Leg}
+use Rattle.mesh_rules.specs.declared.neighbours.Neighbour.{Neighbour}
+use Rattle.mesh_rules.specs.ActivationAnswers.{is_confirmed}
+use Rattle.mesh_rules.specs.Calls.{call_with}
+use Rattle.mesh_rules.specs.CallSteps.{call_answered, call_contended, call_refused, call_turned}
+use Rattle.mesh_rules.specs.Changes.{Answer, nothing, puts}
+use Rattle.mesh_rules.specs.Legs.{connected, following, is_armed, is_asked, is_node, is_work, previous, with_phase}
+use Rattle.mesh_rules.specs.LocalNodes.{LocalNode, local_node}
+use Rattle.mesh_rules.specs.Machine.{Mesh, without_first}
+use Rattle.mesh_rules.specs.Messages.{arrival}
+use Rattle.mesh_rules.specs.PathErrs.{PathFailure}
+use Rattle.mesh_rules.specs.Resvs.{is_expected}
+use Rattle.mesh_rules.specs.State.{NodeState}
+use Rattle.mesh_laws.specs.HopLaw.{is_notice, leg_at}
+use Rattle.mesh_nodes.specs.Routes.{AreRowsOf}
+use Rattle.mesh_nodes.proofs.Cases.{both_left, if_cases}
+use Rattle.mesh_nodes.proofs.LegList.{found-lsp, same_lsp-refl}
+use Rattle.mesh_laws.proofs.nodes.PhaseLegs.{armed-is}
+use Rattle.mesh_laws.proofs.hops.InParts.{at_ingress, call_of_err, call_of_failure, call_of_resv, leg_of_resv, leg_part}
+use Rattle.mesh_laws.proofs.hops.NoticeRule.{notice_only}
+use Rattle.mesh_laws.proofs.hops.Paired.{CallsMayPair, armed_backup, no_previous}
+use Rattle.mesh_laws.proofs.hops.Planned.{EachFollows, next_same}
+use Rattle.mesh_laws.proofs.hops.Own.{own-leg_part}
+use Rattle.mesh_laws.proofs.hops.Tables.{leg_after}
+use Rattle.mesh_laws.proofs.hops.TakenSteps.{CallsBackHere, after_leg}
+use Rattle.mesh_laws.proofs.hops.Traced.{leg_follows}
+use Rattle.mesh_laws.proofs.hops.Views.{leg-here}
+use Rattle.mesh_laws.specs.Weights.{Routes, hops_back, phase_weight, weight}
+use Rattle.mesh_laws.proofs.rest.CallRests.{answered-expand, contended-expand, none-expand, refused-expand, turned-expand}
+use Rattle.mesh_laws.proofs.rest.Committed.{sent_weight}
+use Rattle.mesh_laws.proofs.rest.Expanded.{Expands}
+use Rattle.mesh_laws.proofs.rest.LegWeights.{asked-phase}
+use Rattle.mesh_laws.proofs.rest.TurnRests.{AreShort}
+use Rattle.mesh_laws.proofs.rest.CallLess.{CallLess, less-free, leg_sends}
+
+-- a Resv to an Asked leg outweighs what its call may send
+asked-work : (g : Leg) (k : ℕ) → g.phase ≡ Asked → is_work g.role ≡ true → 4223 < phase_weight g.phase g.role (suc k)
+asked-work g k asked works = rw asked (go g.role works)
+  where
+    go : (r : Role) → is_work r ≡ true → 4223 < phase_weight Asked r (suc k)
+    go role.Work e = omega arith
+    go role.Back e = absurd (cc e)
+
+asked-back : (g : Leg) (k : ℕ) → g.phase ≡ Asked → 191 < phase_weight g.phase g.role (suc k)
+asked-back g k asked = rw asked (go g.role)
+  where
+    go : (r : Role) → 191 < phase_weight Asked r (suc k)
+    go role.Work = omega arith
+    go role.Back = omega arith
+
+module _ (t : Network) (s : Mesh) (o : Routes) (d u : NodeId) (m : Msg) (rest : List Msg)
+    (was : s.mail u.0 d.0 ≡ m ∷ rest) (learnt : AreRowsOf t (s.nodes d.0).learnt) (f : EachFollows t s o)
+    (may : CallsMayPair t s o) (backs : CallsBackHere s) (short : AreShort o)
+    (pays : leg_sends t s o d u m < weight o s u.0 d.0 m) where
+  abbrev place : LocalNode
+  place = local_node t d
+
+  abbrev state : NodeState
+  state = s.nodes d.0
+
+  abbrev later : Mesh
+  later = after_leg t s d u m
+
+  then-follows : EachFollows t (after_leg t s d u m) o
+  then-follows = leg_follows t s o d u m rest was learnt f may backs
+
+  -- the leg's part gives out no number
+  numbers : (leg_part (local_node t d) (s.nodes d.0) u m).numbers ≡ None
+  numbers = go (is_notice m) refl
+    where
+      go : (b : Bool) → is_notice m ≡ b → (leg_part (local_node t d) (s.nodes d.0) u m).numbers ≡ None
+      go true notice = (notice_only (local_node t d) (s.nodes d.0) u m notice).numbers
+      go false plain = (own-leg_part (local_node t d) (s.nodes d.0) u m plain).numbers
+
+  abbrev Less : Answer → Type 0
+  Less = CallLess t s o d u m
+
+  quiet : Less nothing
+  quiet = less-free t s o d u m pays nothing (none-expand t (after_leg t s d u m) d o then-follows short 0)
+
+  -- where the leg's part sends nothing
+  silent : (g : Leg) → leg_part (local_node t d) (s.nodes d.0) u m ≡ puts g [] →
+      leg_sends t s o d u m ≡ 0
+  silent g is = ap (λ (a : Answer). sent_weight (weight o (after_leg t s d u m) d.0) a.sent) is
+
+  placed : (g : Leg) → leg_part (local_node t d) (s.nodes d.0) u m ≡ puts g [] →
+      leg_at (after_leg t s d u m) g.lsp d ≡ Some g
+  placed g is =
+      leg-here (without_first s u.0 d.0) d g.lsp (leg_part (local_node t d) (s.nodes d.0) u m) ∙
+      ap (λ (a : Answer). leg_after g.lsp a.legs (leg_at s g.lsp d)) is ∙ rw (same_lsp-refl g.lsp) refl
+
+  module _ (l : Lsp) (g : Leg) (here : leg_at s l d ≡ Some g) where
+    stands : leg_at s g.lsp d ≡ Some g
+    stands = subst (λ (k : Lsp). leg_at s k d ≡ Some g) (sym (found-lsp l (s.nodes d.0).legs g here)) here
+
+    begins : previous g ≡ None → g.lsp.ingress ≡ d
+    begins first = no_previous t s o g.lsp d g (o g.lsp) (f g.lsp) stands first
+
+    -- an Asked leg has its label
+    answered : (x : ℕ) (h : Option Neighbour) → previous g ≡ h → g.phase ≡ Asked →
+        weight o s u.0 d.0 m ≡ phase_weight g.phase g.role (suc (hops_back o l d.0)) →
+        (previous g ≡ None → leg_part (local_node t d) (s.nodes d.0) u m ≡ puts (connected g None x) []) →
+        Less (at_ingress h (call_answered place state (connected g None x) (call_with g.lsp state.calls)))
+    answered x (Some h) first asked weighs is = quiet
+    answered x None first asked weighs is =
+        let zero = silent (connected g None x) (is first) in
+        let both = answered-expand t (after_leg t s d u m) d o then-follows short state
+        (same-number) (connected g None x) (begins first) (placed (connected g None x) (is first))
+        (call_with g.lsp state.calls) in
+        by_role (is_work g.role) refl zero both
+      where
+        same-number : (s.nodes d.0).lsp ≡ ((after_leg t s d u m).nodes d.0).lsp
+        same-number = sym (next_same (without_first s u.0 d.0) d.0 d.0
+            (leg_part (local_node t d) (s.nodes d.0) u m) numbers)
+
+        by_role : (b : Bool) → is_work g.role ≡ b →
+            leg_sends t s o d u m ≡ 0 →
+            (is_work g.role ≡ true → Expands (after_leg t s d u m) d o 4223
+            (call_answered place state (connected g None x) (call_with g.lsp state.calls))) ×
+            (is_work g.role ≡ false → Expands (after_leg t s d u m) d o 191
+            (call_answered place state (connected g None x) (call_with g.lsp state.calls))) →
+            Less (call_answered place state (connected g None x) (call_with g.lsp state.calls))
+        by_role true e zero both = record {
+          more = 4223;
+          expands = both.0 e;
+          less = (let heavy = asked-work g (hops_back o l d.0) asked e in omega (arith, zero, weighs, heavy));
+        }
+        by_role false e zero both = record {
+          more = 191;
+          expands = both.1 e;
+          less = (let heavy = asked-back g (hops_back o l d.0) asked in omega (arith, zero, weighs, heavy));
+        }
+
+    -- an Armed leg is Live
+    turned : (h : Option Neighbour) → previous g ≡ h → g.phase ≡ Armed →
+        weight o s u.0 d.0 m ≡ phase_weight g.phase g.role (suc (hops_back o l d.0)) →
+        (previous g ≡ None → leg_part (local_node t d) (s.nodes d.0) u m ≡ puts (with_phase Live g) []) →
+        Less (at_ingress h (call_turned (with_phase Live g) (call_with g.lsp state.calls)))
+    turned (Some h) first armed weighs is = quiet
+    turned None first armed weighs is =
+        let zero = silent (with_phase Live g) (is first) in
+        let heavy : phase_weight g.phase g.role (suc (hops_back o l d.0)) ≡ suc (hops_back o l d.0) + 64 =
+        rw armed refl in
+        record {
+          more = 63;
+          expands = turned-expand t (after_leg t s d u m) d o then-follows short (with_phase Live g)
+              (record {
+                begins = record {
+                  there = placed (with_phase Live g) (is first);
+                  ingress = ap (λ (n : NodeId). n.0) (begins first);
+                };
+                turned = λ _. record {
+                  role = armed_backup t s o g.lsp d g (o g.lsp) (f g.lsp) stands armed;
+                  live = refl;
+                };
+              }) (call_with g.lsp state.calls);
+          less = omega (arith, zero, weighs, heavy);
+        }
+
+    failed : (failure : PathFailure) → Less (call_of_failure state g failure)
+    failed failure =
+        if_cases Less failure.removed _ _
+        (λ r. if_cases Less (is_asked g.phase) _ _ (λ e. refuses (previous g)) (λ e. quiet))
+        (λ r. if_cases Less (is_armed g.phase) _ _ (λ e. contends (previous g)) (λ e. quiet))
+      where
+        refuses : (h : Option Neighbour) →
+            Less (at_ingress h (call_refused failure.code g (call_with g.lsp state.calls)))
+        refuses (Some h) = quiet
+        refuses None = less-free t s o d u m pays _
+            (refused-expand t (after_leg t s d u m) d o then-follows short failure.code g
+            (call_with g.lsp state.calls))
+
+        contends : (h : Option Neighbour) →
+            Less (at_ingress h (call_contended (with_phase Held g) (call_with g.lsp state.calls)))
+        contends (Some h) = quiet
+        contends None = less-free t s o d u m pays _ (contended-expand t (after_leg t s d u m) d o then-follows short
+            (with_phase Held g) (call_with g.lsp state.calls))
+
+  -- A Resv: the call is answered where its Asked leg is connected, and goes on where its Armed leg is Live.
+  pub resv_call : (l : Lsp) (e : NodeId) (k : LinkId) (x : ℕ) → m ≡ Resv l e k x → (h : Option Leg) →
+      leg_at s l d ≡ h →
+      Less (call_of_resv place state (arrival l e u k) x h)
+  resv_call l e k x is None here = quiet
+  resv_call l e k x is (Some g) here =
+      if_cases Less (is_expected (arrival l e u k) x g) _ _
+      (λ expected. answered l g here x (previous g) refl
+      (asked-phase g.phase (both_left (is_asked g.phase) _ expected)) weighs
+      (λ first. part expected first))
+      (λ other. if_cases Less (is_confirmed (arrival l e u k) x g) _ _
+      (λ c. turned l g here (previous g) refl (armed-is g.phase (both_left (is_armed g.phase) _ c)) weighs
+      (λ first. confirmed other c first))
+      (λ c. quiet))
+    where
+      weighs : weight o s u.0 d.0 m ≡ phase_weight g.phase g.role (suc (hops_back o l d.0))
+      weighs = ap (weight o s u.0 d.0) is ∙ rw here refl
+
+      part : is_expected (arrival l e u k) x g ≡ true → previous g ≡ None →
+          leg_part (local_node t d) (s.nodes d.0) u m ≡ puts (connected g None x) []
+      part expected first =
+          ap (leg_part (local_node t d) (s.nodes d.0) u) is ∙
+          ap (leg_of_resv (local_node t d) (s.nodes d.0) (arrival l e u k) x) here ∙
+          rw (expected, first) refl
+
+      confirmed : is_expected (arrival l e u k) x g ≡ false → is_confirmed (arrival l e u k) x g ≡ true →
+          previous g ≡ None → leg_part (local_node t d) (s.nodes d.0) u m ≡ puts (with_phase Live g) []
+      confirmed other c first =
+          ap (leg_part (local_node t d) (s.nodes d.0) u) is ∙
+          ap (leg_of_resv (local_node t d) (s.nodes d.0) (arrival l e u k) x) here ∙
+          rw (other, c, first) refl
+
+  -- A PathErr: the call is refused, or its backup is contended.
+  pub err_call : (l : Lsp) (failure : PathFailure) (h : Option Leg) → leg_at s l d ≡ h →
+      Less (call_of_err state u failure h)
+  err_call l failure None here = quiet
+  err_call l failure (Some g) here =
+      if_cases Less (is_node (following g) u) _ _ (λ e. failed l g here failure) (λ e. quiet)
