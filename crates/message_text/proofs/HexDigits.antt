@@ -2,7 +2,8 @@
 use Rattle.std.proofs.Common.{◌≡◌, ◌≢◌, ℕ, ◌+◌, ◌-◌, ◌*◌, ◌≤◌, ◌==◌, length, take, drop, get_or, Option, None, Some, true, false, List, [], ◌∷◌, ◌++◌, refl, ap, sym, ◌∙◌, arith, append_assoc}
 use Rattle.std.proofs.lemmas.List.{append-nil, take_all}
 use Rattle.std.specs.Option.{option_map}
-use Rattle.message_text.specs.Hex.{byte_of, digit_value, hex_bytes}
+use Rattle.wire_buf.specs.Hex.{byte_of, digit_value}
+use Rattle.message_text.specs.Hex.{hex_bytes}
 
 -- these bytes, and those behind them
 abbrev pub behind : List ℕ → Option (List ℕ) → Option (List ℕ)

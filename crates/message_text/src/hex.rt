@@ -2,21 +2,11 @@
 
 ghost use Rattle.std.specs.Prelude.{◌≡◌, IfOk};
 ghost use Rattle.std.specs.Option.{option_map};
-ghost use Rattle.message_text.specs.Hex.{digit_value, hex_bytes};
+ghost use Rattle.message_text.specs.Hex.{hex_bytes};
 
 use ason_base::OutOfMemory;
 use std::alloc::Global;
-
-fn digit(c: u8) -> Option<u8>
-    ensures { result ≡ digit_value c }
-{
-    match c {
-        b'0'..=b'9' => Some(c - b'0'),
-        b'a'..=b'f' => Some(c - b'a' + 10),
-        b'A'..=b'F' => Some(c - b'A' + 10),
-        _ => None,
-    }
-}
+use wire_buf::hex_digit;
 
 /// The bytes of a line. None where the line is of another form.
 pub(crate) fn bytes_of(alloc: Global, line: &[u8]) -> Result<Option<Vec<u8>>, OutOfMemory>
@@ -29,7 +19,7 @@ pub(crate) fn bytes_of(alloc: Global, line: &[u8]) -> Result<Option<Vec<u8>>, Ou
             [] => return Ok(Some(bytes)),
             [b' ', others @ ..] => rest = others,
             [high, low, others @ ..] => {
-                let (Some(high), Some(low)) = (digit(*high), digit(*low)) else {
+                let (Some(high), Some(low)) = (hex_digit(*high), hex_digit(*low)) else {
                     return Ok(None);
                 };
                 bytes.push(16 * high + low)?;
