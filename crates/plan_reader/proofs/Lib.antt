@@ -3,7 +3,6 @@ pub mod Elements
 pub mod Entries
 pub mod KnownNodes
 pub mod NameTexts
-pub mod Numbers
 pub mod Places
 pub mod PostableLines
 pub mod Rising
@@ -11,4 +10,3 @@ pub mod SetupRoutes
 pub mod SoundLinks
 pub mod SoundNodes
 pub mod SrlgLists
-pub mod Texts

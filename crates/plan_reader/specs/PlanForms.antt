@@ -3,7 +3,8 @@ use Rattle.std.specs.Prelude.{ℕ, ◌==◌, ◌&&◌, ◌||◌, Bool, false, tr
 use Rattle.plan_reader.specs.declared.forms.CommandForm.{CommandForm}
 use Rattle.plan_reader.specs.declared.forms.CommandForm.TheVariants as forms
 use Rattle.plan_reader.specs.declared.forms.SetupForm.{SetupForm}
-use Rattle.plan_reader.specs.PlanTexts.{word_at, is_number, are_numbers}
+use Rattle.ason_base.specs.Numerals.{is_numeral}
+use Rattle.plan_reader.specs.PlanTexts.{word_at, are_numbers}
 use Rattle.plan_reader.specs.Names.{same_text}
 
 abbrev pub is_word : List (List ℕ) → ℕ → List ℕ → Bool
@@ -14,7 +15,7 @@ abbrev pub begins : List (List ℕ) → List ℕ → ℕ → Bool
 begins ws text n = length ws == n && is_word ws 0 text
 
 abbrev pub is_number_word : List (List ℕ) → ℕ → Bool
-is_number_word ws k = is_number (word_at ws k)
+is_number_word ws k = is_numeral (word_at ws k)
 
 -- `L,..`
 abbrev pub are_numbers_word : List (List ℕ) → ℕ → Bool

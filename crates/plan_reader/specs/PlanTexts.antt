@@ -1,11 +1,11 @@
 -- Nodes by name, words and numbers in the texts of a plan.
-use Rattle.std.specs.Prelude.{ℕ, ◌==◌, ◌&&◌, ◌||◌, nat_le, Bool, true, false, not, List, [], ◌∷◌, filter, filter_map, map, Option, Some, None, slice_get, unwrap_or, is_some, if◌then◌else◌}
+use Rattle.std.specs.Prelude.{ℕ, ◌==◌, Bool, true, false, not, List, [], ◌∷◌, filter, filter_map, map, Option, Some, None, Result, Ok, Err, slice_get, unwrap_or, is_some, if◌then◌else◌}
 use Rattle.std.specs.List.{list_all, slice_split}
 use Rattle.std.specs.Borrow.{Bor}
-use Rattle.std.specs.Char.{is_ascii_digit}
-use Rattle.std.specs.Str.Parse.{digits_value}
 use Rattle.ason_base.specs.declared.ids.NodeId.{NodeId}
 use Rattle.ason_base.specs.declared.network.NodeSpec.{NodeSpec}
+use Rattle.ason_base.specs.declared.numerals.NumeralFault.{NumeralFault}
+use Rattle.ason_base.specs.Numerals.{is_numeral, number_within}
 use Rattle.plan_reader.specs.declared.limits.TheConstants.{MOST_NUMBER}
 use Rattle.plan_reader.specs.Names.{place_of}
 
@@ -41,21 +41,13 @@ word_at words k = unwrap_or (slice_get words k) []
 
 -- Numbers
 
-abbrev pub are_digits : List ℕ → Bool
-are_digits bs = list_all is_ascii_digit bs
-
--- decimal digits without a leading zero
-abbrev pub is_number : List ℕ → Bool
-is_number [] = false
-is_number (b ∷ bs) = is_ascii_digit b && (are_digits bs && (not (b == 48) || is_empty bs))
-
--- what these digits write, where it is at most this
-abbrev pub value_up_to : ℕ → List ℕ → Option ℕ
-value_up_to most digits = if nat_le (digits_value 10 digits) most then Some (digits_value 10 digits) else None
+abbrev pub if_found : Result ℕ NumeralFault → Option ℕ
+if_found (Ok n) = Some n
+if_found (Err e) = None
 
 -- the number that the word writes, where it is one and is at most this
 abbrev pub number_up_to : ℕ → List ℕ → Option ℕ
-number_up_to most word = if is_number word then value_up_to most word else None
+number_up_to most word = if_found (number_within 0 most word)
 
 -- the parts of a word between its commas
 abbrev pub parts_of : List ℕ → List (List ℕ)
@@ -63,7 +55,7 @@ parts_of word = slice_split (λ b. b == 44) word
 
 -- numbers with commas between them
 abbrev pub are_numbers : List ℕ → Bool
-are_numbers word = list_all is_number (parts_of word)
+are_numbers word = list_all is_numeral (parts_of word)
 
 abbrev pub link_id : List ℕ → Option ℕ
 link_id part = number_up_to MOST_NUMBER part

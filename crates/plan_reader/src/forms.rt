@@ -4,7 +4,8 @@ ghost use Rattle.std.specs.Prelude.{◌≡◌};
 ghost use Rattle.plan_reader.specs.PlanTexts.{texts};
 ghost use Rattle.plan_reader.specs.PlanForms.{are_numbers_word, begins, command_form, form, is_backed_setup, is_fail, is_frame_line, is_group_line, is_number_word, is_protect, is_protected_setup, is_protected_via, is_release, is_repair, is_retry, is_revert, is_settle, is_show, is_unbuilt, is_unprotected_setup, is_unprotected_via, is_wait, is_word, setup_form};
 
-use crate::words::{are_numbers, is_number, word};
+use crate::words::{are_numbers, word};
+use ason_base::is_numeral;
 
 /// Whether the word at this place is this one.
 pub fn is_word(words: &[&[u8]], k: usize, text: &str) -> bool
@@ -23,7 +24,7 @@ fn begins(words: &[&[u8]], text: &str, n: usize) -> bool
 fn is_number_word(words: &[&[u8]], k: usize) -> bool
     ensures { result ≡ is_number_word (texts words.now) k }
 {
-    is_number(word(words, k))
+    is_numeral(word(words, k))
 }
 
 fn are_numbers_word(words: &[&[u8]], k: usize) -> bool

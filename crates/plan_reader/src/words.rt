@@ -1,10 +1,10 @@
 //! Words and numbers in texts.
 
-ghost use Rattle.std.specs.Prelude.{◌≡◌, filter_map, IsTrue, IfOk};
-ghost use Rattle.plan_reader.specs.PlanTexts.{are_digits, are_link_ids, are_numbers, is_number, link_id, link_ids, number_up_to, parts_of, texts, value_up_to, word_at, words_of};
+ghost use Rattle.std.specs.Prelude.{◌≡◌, filter_map, IfOk};
+ghost use Rattle.plan_reader.specs.PlanTexts.{are_link_ids, are_numbers, link_id, link_ids, number_up_to, parts_of, texts, word_at, words_of};
 
 use crate::limits::MOST_NUMBER;
-use ason_base::{Numbers, OutOfMemory};
+use ason_base::{Numbers, OutOfMemory, is_numeral, number_within};
 use std::alloc::{AllocError, Global};
 
 fn collect_words(alloc: Global, line: &[u8]) -> Result<Vec<&[u8]>, AllocError>
@@ -33,47 +33,13 @@ pub fn word<'a>(words: &[&'a [u8]], k: usize) -> &'a [u8]
     }
 }
 
-fn are_digits(text: &[u8]) -> bool
-    ensures { result ≡ are_digits text.now }
-{
-    text.iter().all(|b| b.is_ascii_digit())
-}
-
-/// Whether the word is a number: decimal digits without a leading zero.
-pub fn is_number(word: &[u8]) -> bool
-    ensures { result ≡ is_number word.now }
-{
-    match word {
-        [] => false,
-        [first, others @ ..] => first.is_ascii_digit()
-            && are_digits(others)
-            && (*first != b'0' || others.is_empty()),
-    }
-}
-
-fn digits(word: &[u8]) -> Option<u32>
-    requires { IsTrue (is_number word.now) }
-    ensures { result ≡ value_up_to MOST_NUMBER word.now }
-{
-    match std::str::from_utf8(word) {
-        Ok(text) => match text.parse::<u32>() {
-            Ok(n) => Some(n),
-            Err(_) => None,
-        },
-        Err(_) => None,
-    }
-}
-
 /// The number that the word writes, where it is one and is at most `most`.
 pub fn number(word: &[u8], most: u32) -> Option<u32>
     ensures { result ≡ number_up_to most word.now }
 {
-    if !is_number(word) {
-        return None;
-    }
-    match digits(word) {
-        Some(n) if n <= most => Some(n),
-        _ => None,
+    match number_within(word, 0, u64::from(most)) {
+        Ok(n) => Some(n as u32),
+        Err(_) => None,
     }
 }
 
@@ -87,7 +53,7 @@ fn link_id(part: &[u8]) -> Option<u32>
 pub fn are_numbers(word: &[u8]) -> bool
     ensures { result ≡ are_numbers word.now }
 {
-    word.split(|b| *b == b',').all(is_number)
+    word.split(|b| *b == b',').all(is_numeral)
 }
 
 fn are_link_ids(word: &[u8]) -> bool

@@ -1,12 +1,12 @@
 use Rattle.std.proofs.Common.{◌==◌, rules, tests}
 use Rattle.std.proofs.lemmas.Iterator.Search.{all_from_yields_List}
 use Rattle.std.proofs.lemmas.Iterator.Splits.{YieldsList-from_slice_split}
-use Rattle.plan_reader.specs.PlanTexts.{is_number}
+use Rattle.ason_base.specs.Numerals.{is_numeral}
 use Rattle.plan_reader.proofs.words.are_numbers.Goals as goal
 
 pub returns : goal.returns
 returns c =
-    all_from_yields_List is_number _ _ c.all.result c.all.ensures.ran
+    all_from_yields_List is_numeral _ _ c.all.result c.all.ensures.ran
     (YieldsList-from_slice_split _ (λ b. b == 44) c.args.word.now c.split.ensures.rest c.split.ensures.done
     c.split.ensures.closure (λ x r q k. search (rules, tests)))
     (λ x r q k. search (rules, tests))
