@@ -1,11 +1,12 @@
 -- All laws hold after every run.
-use Rattle.std.proofs.Common.{List, [], ◌∷◌, ◌++◌}
+use Rattle.std.proofs.Common.{List, ◌++◌}
 use Rattle.ason_base.specs.Network.{Network}
 use Rattle.mesh_rules.specs.declared.events.MeshEvent.{MeshEvent}
-use Rattle.mesh_rules.specs.Machine.{Mesh, start}
-use Rattle.mesh_rules.specs.Events.{IsRun, step}
+use Rattle.mesh_rules.specs.Machine.{start}
+use Rattle.mesh_rules.specs.Events.{IsRun}
 use Rattle.mesh_laws.specs.Laws.{EveryRunKeepsTheLaws, LawsHold}
 use Rattle.mesh_laws.proofs.alone.Law.{every_activation_admitted}
+use Rattle.mesh_laws.proofs.alone.Runs.{run-first}
 use Rattle.mesh_laws.proofs.hops.Beside.{every_backup_beside}
 use Rattle.mesh_laws.proofs.hops.Joined.{every_call_joined}
 use Rattle.mesh_laws.proofs.hops.Laws.{every_hop}
@@ -52,11 +53,7 @@ laws_hold t events run =
       ends = λ valid. every_run_ends t events valid run;
     }
 
-run_so_far : (t : Network) (s : Mesh) (events later : List MeshEvent) → IsRun t s (events ++ later) → IsRun t s events
-run_so_far t s [] later run = tt
-run_so_far t s (e ∷ events) later run = (run.0, run_so_far t (step t s e) events later run.1)
-
 -- and after each first part of one
 pub laws_hold_so_far : (t : Network) (events later : List MeshEvent) → IsRun t start (events ++ later) →
     LawsHold t events
-laws_hold_so_far t events later run = laws_hold t events (run_so_far t start events later run)
+laws_hold_so_far t events later run = laws_hold t events (run-first t start events later run)

@@ -1,11 +1,17 @@
+pub mod CallAnswers
 pub mod Calls
 pub mod Facts
 pub mod Failures
 pub mod Fine
+pub mod FirstPaths
+pub mod Groups
 pub mod Items
 pub mod Known
 pub mod Law
 pub mod Legs
 pub mod Messages
+pub mod One
+pub mod Reports
 pub mod Risks
+pub mod RouteRisks
 pub mod Runs

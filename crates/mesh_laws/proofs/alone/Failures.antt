@@ -1,7 +1,7 @@
--- Where one group alone fails and is repaired, nodes are told of fibres of its links alone.
-use Rattle.std.proofs.Common.{◌≡◌, ℕ, Bool, true, false, not, nat_eq, List, [], ◌∷◌, ◌++◌, map, refl, subst, Contains}
+-- Where some groups alone fail and are repaired, nodes are told of fibres of their links alone.
+use Rattle.std.proofs.Common.{◌≡◌, ℕ, Bool, true, false, not, nat_eq, List, [], ◌∷◌, ◌++◌, map, refl, Contains}
 use Rattle.std.specs.Prelude.{◌||◌, Some}
-use Rattle.std.specs.List.{AllByRecursion, flat_map}
+use Rattle.std.specs.List.{AllByRecursion, flat_map, list_any}
 use Rattle.ason_base.specs.Lsps.{same_bool}
 use Rattle.ason_base.specs.Network.{Network, find_link, is_distinct}
 use Rattle.ason_base.specs.declared.commands.Command.{Command}
@@ -10,7 +10,7 @@ use Rattle.ason_base.specs.declared.commands.DeskItem.TheVariants.{Order}
 use Rattle.ason_base.specs.declared.commands.Group.{Group}
 use Rattle.ason_base.specs.declared.ids.Fibre.{Fibre}
 use Rattle.ason_base.specs.declared.network.LinkSpec.{LinkSpec}
-use Rattle.ason_base.proofs.Ordered.{contains-head, contains-tail}
+use Rattle.ason_base.proofs.Ordered.{contains-head, contains-tail, there-any}
 use Rattle.mesh_rules.specs.declared.events.MeshEvent.TheVariants.{Post}
 use Rattle.mesh_rules.specs.Events.{posted}
 use Rattle.mesh_rules.specs.Failures.{all_news, changed_news, has_group, is_cut, is_risk_of, link_news, news, news_at, same_group, with_failed, with_group, without_group}
@@ -18,97 +18,99 @@ use Rattle.mesh_rules.specs.Machine.{Mesh, with_item}
 use Rattle.mesh_nodes.proofs.Cases.{if_cases}
 use Rattle.mesh_nodes.proofs.LegList.{all-filter}
 use Rattle.mesh_nodes.proofs.routes.Nodes.{found-link}
-use Rattle.mesh_laws.specs.AloneLaw.{FailsOnly, FibreConcerns, ItemConcerns, is_on_link}
 use Rattle.mesh_laws.proofs.alone.Facts.{Routes}
 use Rattle.mesh_laws.proofs.alone.Fine.{MeshHolds, all-append}
+use Rattle.mesh_laws.proofs.alone.Groups.{FailsOnly, FibreConcerns, ItemConcerns, is_on_link}
 
-module _ (t : Network) (g : Group) where
-  abbrev pub AreThis : List Group → Type 0
-  AreThis groups = AllByRecursion (λ h. h ≡ g) groups
+module _ (t : Network) (gs : List Group) where
+  abbrev pub AreThese : List Group → Type 0
+  AreThese groups = AllByRecursion (Contains gs) groups
 
-  -- a link is cut by this group alone
-  pub cut-by : (failed : List Group) (l : LinkSpec) → AreThis failed → is_cut failed l ≡ true → is_risk_of l g ≡ true
+  -- a link is cut by these groups alone
+  pub cut-by : (failed : List Group) (l : LinkSpec) → AreThese failed → is_cut failed l ≡ true →
+      list_any (is_risk_of l) gs ≡ true
   cut-by [] l all e = absurd (cc e)
   cut-by (h ∷ failed) l all e = go (is_risk_of l h) refl e (cut-by failed l all.1)
     where
       go : (b : Bool) → is_risk_of l h ≡ b → (b || is_cut failed l) ≡ true →
-          (is_cut failed l ≡ true → is_risk_of l g ≡ true) → is_risk_of l g ≡ true
-      go true test e later = subst (λ k. is_risk_of l k ≡ true) all.0 test
+          (is_cut failed l ≡ true → list_any (is_risk_of l) gs ≡ true) → list_any (is_risk_of l) gs ≡ true
+      go true test e later = there-any (is_risk_of l) gs h all.0 test
       go false test e later = later e
 
-  changed-by : (before later : List Group) (l : LinkSpec) → AreThis before → AreThis later →
-      same_bool (is_cut before l) (is_cut later l) ≡ false → is_risk_of l g ≡ true
+  changed-by : (before later : List Group) (l : LinkSpec) → AreThese before → AreThese later →
+      same_bool (is_cut before l) (is_cut later l) ≡ false → list_any (is_risk_of l) gs ≡ true
   changed-by before later l all all' differ = go (is_cut before l) (is_cut later l) refl refl differ
     where
-      go : (a b : Bool) → is_cut before l ≡ a → is_cut later l ≡ b → same_bool a b ≡ false → is_risk_of l g ≡ true
+      go : (a b : Bool) → is_cut before l ≡ a → is_cut later l ≡ b → same_bool a b ≡ false →
+          list_any (is_risk_of l) gs ≡ true
       go true b p q e = cut-by before l all p
       go false true p q e = cut-by later l all' q
       go false false p q e = absurd (cc e)
 
   -- News
 
-  news-concern : (cut : Bool) (f : Fibre) → FibreConcerns t g f → ItemConcerns t g (news cut f)
+  news-concern : (cut : Bool) (f : Fibre) → FibreConcerns t gs f → ItemConcerns t gs (news cut f)
   news-concern true f of = of
   news-concern false f of = of
 
-  news_at-concern : (n receiver : ℕ) (cut : Bool) (f : Fibre) → FibreConcerns t g f →
-      AllByRecursion (ItemConcerns t g) (news_at n receiver cut f)
+  news_at-concern : (n receiver : ℕ) (cut : Bool) (f : Fibre) → FibreConcerns t gs f →
+      AllByRecursion (ItemConcerns t gs) (news_at n receiver cut f)
   news_at-concern n receiver cut f of =
-      if_cases (AllByRecursion (ItemConcerns t g)) (nat_eq receiver n) (news cut f ∷ []) []
+      if_cases (AllByRecursion (ItemConcerns t gs)) (nat_eq receiver n) (news cut f ∷ []) []
       (λ e. (news-concern cut f of, tt)) (λ e. tt)
 
   module _ (distinct : is_distinct (map (λ l. l.id.0) t.links) ≡ true) where
-    changed-concern : (before later : List Group) (n : ℕ) (l : LinkSpec) → Contains t.links l → AreThis before →
-        AreThis later → AllByRecursion (ItemConcerns t g) (changed_news before later n l)
+    changed-concern : (before later : List Group) (n : ℕ) (l : LinkSpec) → Contains t.links l → AreThese before →
+        AreThese later → AllByRecursion (ItemConcerns t gs) (changed_news before later n l)
     changed-concern before later n l there all all' =
-        if_cases (AllByRecursion (ItemConcerns t g)) (same_bool (is_cut before l) (is_cut later l)) []
+        if_cases (AllByRecursion (ItemConcerns t gs)) (same_bool (is_cut before l) (is_cut later l)) []
         (link_news n (is_cut later l) l) (λ e. tt)
         (λ e.
         let found : find_link t l.id ≡ Some l = found-link t.links l distinct there in
-        let on : is_on_link t g l.id ≡ true = rw found (changed-by before later l all all' e) in
-        all-append (ItemConcerns t g)
+        let on : is_on_link t gs l.id ≡ true = rw found (changed-by before later l all all' e) in
+        all-append (ItemConcerns t gs)
         (news_at n l.high.0 (is_cut later l) (record { link = l.id; forward = true })) _
         (news_at-concern n l.high.0 (is_cut later l) (record { link = l.id; forward = true }) on)
         (news_at-concern n l.low.0 (is_cut later l) (record { link = l.id; forward = false }) on))
 
     all-concern : (before later : List Group) (n : ℕ) (links : List LinkSpec) →
-        ((l : LinkSpec) → Contains links l → Contains t.links l) → AreThis before → AreThis later →
-        AllByRecursion (ItemConcerns t g) (flat_map (changed_news before later n) links)
+        ((l : LinkSpec) → Contains links l → Contains t.links l) → AreThese before → AreThese later →
+        AllByRecursion (ItemConcerns t gs) (flat_map (changed_news before later n) links)
     all-concern before later n [] within all all' = tt
     all-concern before later n (l ∷ links) within all all' =
-        all-append (ItemConcerns t g) (changed_news before later n l) _
+        all-append (ItemConcerns t gs) (changed_news before later n l) _
         (changed-concern before later n l (within l (contains-head l links)) all all')
         (all-concern before later n links (λ m there. within m (contains-tail l m links there)) all all')
 
     -- Posts
 
     module _ (o : Routes) where
-      failed-holds : (s : Mesh) (later : List Group) → AreThis later → MeshHolds t g o s →
-          MeshHolds t g o (with_failed t s later)
+      failed-holds : (s : Mesh) (later : List Group) → AreThese later → MeshHolds t gs o s →
+          MeshHolds t gs o (with_failed t s later)
       failed-holds s later all' old = record {
         nodes = old.nodes;
-        desks = λ n. all-append (ItemConcerns t g) (s.desks n) (all_news t s.failed later n) (old.desks n)
+        desks = λ n. all-append (ItemConcerns t gs) (s.desks n) (all_news t s.failed later n) (old.desks n)
             (all-concern s.failed later n t.links (λ l there. there) old.failed all');
         mail = old.mail;
         failed = all';
       }
 
-      ordered-holds : (s : Mesh) (n : ℕ) (c : Command) → MeshHolds t g o s → MeshHolds t g o (with_item s n (Order c))
+      ordered-holds : (s : Mesh) (n : ℕ) (c : Command) → MeshHolds t gs o s → MeshHolds t gs o (with_item s n (Order c))
       ordered-holds s n c old = record {
         nodes = old.nodes;
-        desks = λ m. if_cases (AllByRecursion (ItemConcerns t g)) (nat_eq m n) (s.desks m ++ Order c ∷ []) (s.desks m)
-            (λ e. all-append (ItemConcerns t g) (s.desks m) (Order c ∷ []) (old.desks m) (tt, tt)) (λ e. old.desks m);
+        desks = λ m. if_cases (AllByRecursion (ItemConcerns t gs)) (nat_eq m n) (s.desks m ++ Order c ∷ []) (s.desks m)
+            (λ e. all-append (ItemConcerns t gs) (s.desks m) (Order c ∷ []) (old.desks m) (tt, tt)) (λ e. old.desks m);
         mail = old.mail;
         failed = old.failed;
       }
 
-      more : (h : Group) (groups : List Group) → h ≡ g → AreThis groups → AreThis (with_group h groups)
+      more : (h : Group) (groups : List Group) → Contains gs h → AreThese groups → AreThese (with_group h groups)
       more h groups is all =
-          if_cases AreThis (has_group groups h) groups (groups ++ h ∷ []) (λ e. all)
-          (λ e. all-append (λ k. k ≡ g) groups (h ∷ []) all (is, tt))
+          if_cases AreThese (has_group groups h) groups (groups ++ h ∷ []) (λ e. all)
+          (λ e. all-append (Contains gs) groups (h ∷ []) all (is, tt))
 
-      pub posted-holds : (s : Mesh) (c : Command) → FailsOnly g (Post c) → MeshHolds t g o s →
-          MeshHolds t g o (posted t s c)
+      pub posted-holds : (s : Mesh) (c : Command) → FailsOnly gs (Post c) → MeshHolds t gs o s →
+          MeshHolds t gs o (posted t s c)
       posted-holds s (Setup n from to protected both via backup) only old =
           let after = ordered-holds s from.0 (Setup n from to protected both via backup) old in
           record { nodes = after.nodes; desks = after.desks; mail = after.mail; failed = after.failed }
@@ -120,4 +122,4 @@ module _ (t : Network) (g : Group) where
           failed-holds s (with_group h s.failed) (more h s.failed only old.failed) old
       posted-holds s (Repair h) only old =
           failed-holds s (without_group h s.failed)
-          (all-filter (λ k. k ≡ g) (λ k. not (same_group h k)) s.failed old.failed) old
+          (all-filter (Contains gs) (λ k. not (same_group h k)) s.failed old.failed) old

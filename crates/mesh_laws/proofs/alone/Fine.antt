@@ -1,5 +1,5 @@
--- What concerns the group that alone has failed, in a state and in a rule's answer; and what an answer leaves.
-use Rattle.std.proofs.Common.{◌≡◌, ℕ, true, false, cond, not, nat_eq, List, [], ◌∷◌, ◌++◌, drop}
+-- What concerns one of the groups that alone have failed, in a state and in a rule's answer; and what an answer leaves.
+use Rattle.std.proofs.Common.{◌≡◌, ℕ, true, false, cond, not, nat_eq, List, [], ◌∷◌, ◌++◌, drop, Contains}
 use Rattle.std.specs.Prelude.{◌&&◌, Option, Some, None, map, filter}
 use Rattle.std.specs.List.{AllByRecursion}
 use Rattle.ason_base.specs.Lsps.{same_lsp}
@@ -24,8 +24,8 @@ use Rattle.mesh_rules.specs.Turns.{has_any}
 use Rattle.mesh_nodes.proofs.CallList.{all-with_call}
 use Rattle.mesh_nodes.proofs.Cases.{if_cases}
 use Rattle.mesh_nodes.proofs.LegList.{all-filter, all-with_leg}
-use Rattle.mesh_laws.specs.AloneLaw.{CallConcerns, FibreConcerns, ItemConcerns, LegConcerns, MsgConcerns, is_on_route}
 use Rattle.mesh_laws.proofs.alone.Facts.{Routes}
+use Rattle.mesh_laws.proofs.alone.Groups.{CallConcerns, FibreConcerns, ItemConcerns, LegConcerns, MsgConcerns, is_on_route}
 
 -- Lists
 
@@ -34,154 +34,154 @@ pub all-append : {X : Type 0} (P : X → Type 0) (xs ys : List X) → AllByRecur
 all-append P [] ys a b = b
 all-append P (x ∷ xs) ys a b = (a.0, all-append P xs ys a.1 b)
 
-all-drop : {X : Type 0} (P : X → Type 0) (xs : List X) → AllByRecursion P xs → AllByRecursion P (drop 1 xs)
+pub all-drop : {X : Type 0} (P : X → Type 0) (xs : List X) → AllByRecursion P xs → AllByRecursion P (drop 1 xs)
 all-drop P [] all = tt
 all-drop P (x ∷ xs) all = all.1
 
 -- A state
 
--- the group is a risk of the LSP's route
-abbrev pub IsExposed : Network → Group → Routes → Option Lsp → Type 0
-IsExposed t g o None = ⊥
-IsExposed t g o (Some l) = (route : List Step) × (o l ≡ Some route) × (is_on_route t g route ≡ true)
+-- one of the groups is a risk of the LSP's route
+abbrev pub IsExposed : Network → List Group → Routes → Option Lsp → Type 0
+IsExposed t gs o None = ⊥
+IsExposed t gs o (Some l) = (route : List Step) × (o l ≡ Some route) × (is_on_route t gs route ≡ true)
 
--- besides, where a fibre of one of its LSPs is reported down, the group is a risk of that one's route
-pub record CallHolds (t : Network) (g : Group) (o : Routes) (c : CallRec) : Type 0 where
-  pub concerns : CallConcerns t g c
-  pub work : has_any c.work_reports ≡ true → IsExposed t g o c.work
-  pub back : has_any c.back_reports ≡ true → IsExposed t g o c.back
+-- besides, where a fibre of one of its LSPs is reported down, one of the groups is a risk of that one's route
+pub record CallHolds (t : Network) (gs : List Group) (o : Routes) (c : CallRec) : Type 0 where
+  pub concerns : CallConcerns t gs c
+  pub work : has_any c.work_reports ≡ true → IsExposed t gs o c.work
+  pub back : has_any c.back_reports ≡ true → IsExposed t gs o c.back
 
-pub record NodeHolds (t : Network) (g : Group) (o : Routes) (s : NodeState) : Type 0 where
-  pub legs : AllByRecursion (LegConcerns g) s.legs
-  pub calls : AllByRecursion (CallHolds t g o) s.calls
-  pub down : AllByRecursion (FibreConcerns t g) s.down
+pub record NodeHolds (t : Network) (gs : List Group) (o : Routes) (s : NodeState) : Type 0 where
+  pub legs : AllByRecursion (LegConcerns gs) s.legs
+  pub calls : AllByRecursion (CallHolds t gs o) s.calls
+  pub down : AllByRecursion (FibreConcerns t gs) s.down
 
-pub record MeshHolds (t : Network) (g : Group) (o : Routes) (s : Mesh) : Type 0 where
-  pub nodes : (n : ℕ) → NodeHolds t g o (s.nodes n)
-  pub desks : (n : ℕ) → AllByRecursion (ItemConcerns t g) (s.desks n)
-  pub mail : (u d : ℕ) → AllByRecursion (MsgConcerns t g) (s.mail u d)
-  pub failed : AllByRecursion (λ h. h ≡ g) s.failed
+pub record MeshHolds (t : Network) (gs : List Group) (o : Routes) (s : Mesh) : Type 0 where
+  pub nodes : (n : ℕ) → NodeHolds t gs o (s.nodes n)
+  pub desks : (n : ℕ) → AllByRecursion (ItemConcerns t gs) (s.desks n)
+  pub mail : (u d : ℕ) → AllByRecursion (MsgConcerns t gs) (s.mail u d)
+  pub failed : AllByRecursion (Contains gs) s.failed
 
 -- An answer
 
-abbrev pub LegFine : Group → LegChange → Type 0
-LegFine g (leg.Goes l) = Unit {0}
-LegFine g (leg.Put b) = LegConcerns g b
+abbrev pub LegFine : List Group → LegChange → Type 0
+LegFine gs (leg.Goes l) = Unit {0}
+LegFine gs (leg.Put b) = LegConcerns gs b
 
-abbrev pub CallFine : Network → Group → Routes → CallChange → Type 0
-CallFine t g o (call.Goes n) = Unit {0}
-CallFine t g o (call.Put c) = CallHolds t g o c
+abbrev pub CallFine : Network → List Group → Routes → CallChange → Type 0
+CallFine t gs o (call.Goes n) = Unit {0}
+CallFine t gs o (call.Put c) = CallHolds t gs o c
 
-abbrev pub OutFine : Network → Group → Out → Type 0
-OutFine t g out = MsgConcerns t g out.msg
+abbrev pub OutFine : Network → List Group → Out → Type 0
+OutFine t gs out = MsgConcerns t gs out.msg
 
-abbrev pub DownFine : Network → Group → Option (List Fibre) → Type 0
-DownFine t g None = Unit {0}
-DownFine t g (Some fibres) = AllByRecursion (FibreConcerns t g) fibres
+abbrev pub DownFine : Network → List Group → Option (List Fibre) → Type 0
+DownFine t gs None = Unit {0}
+DownFine t gs (Some fibres) = AllByRecursion (FibreConcerns t gs) fibres
 
--- all that it puts in place and sends concerns the group
-pub record Fine (t : Network) (g : Group) (o : Routes) (a : Answer) : Type 0 where
-  pub legs : AllByRecursion (LegFine g) a.legs
-  pub calls : AllByRecursion (CallFine t g o) a.calls
-  pub down : DownFine t g a.down
-  pub sent : AllByRecursion (OutFine t g) a.sent
+-- all that it puts in place and sends concerns one of the groups
+pub record Fine (t : Network) (gs : List Group) (o : Routes) (a : Answer) : Type 0 where
+  pub legs : AllByRecursion (LegFine gs) a.legs
+  pub calls : AllByRecursion (CallFine t gs o) a.calls
+  pub down : DownFine t gs a.down
+  pub sent : AllByRecursion (OutFine t gs) a.sent
 
-module _ (t : Network) (g : Group) (o : Routes) where
-  pub fine-nothing : Fine t g o nothing
+module _ (t : Network) (gs : List Group) (o : Routes) where
+  pub fine-nothing : Fine t gs o nothing
   fine-nothing = record { legs = tt; calls = tt; down = tt; sent = tt }
 
-  pub fine-sends : (outs : List Out) → AllByRecursion (OutFine t g) outs → Fine t g o (sends outs)
+  pub fine-sends : (outs : List Out) → AllByRecursion (OutFine t gs) outs → Fine t gs o (sends outs)
   fine-sends outs sent = record { legs = tt; calls = tt; down = tt; sent = sent }
 
-  pub fine-puts : (b : Leg) (outs : List Out) → LegConcerns g b → AllByRecursion (OutFine t g) outs →
-      Fine t g o (puts b outs)
+  pub fine-puts : (b : Leg) (outs : List Out) → LegConcerns gs b → AllByRecursion (OutFine t gs) outs →
+      Fine t gs o (puts b outs)
   fine-puts b outs concerns sent = record { legs = (concerns, tt); calls = tt; down = tt; sent = sent }
 
-  pub fine-removes : (l : Lsp) (outs : List Out) → AllByRecursion (OutFine t g) outs → Fine t g o (removes l outs)
+  pub fine-removes : (l : Lsp) (outs : List Out) → AllByRecursion (OutFine t gs) outs → Fine t gs o (removes l outs)
   fine-removes l outs sent = record { legs = (tt, tt); calls = tt; down = tt; sent = sent }
 
-  pub fine-call : (c : CallRec) → CallHolds t g o c → Fine t g o (changes_calls (call.Put c ∷ []))
+  pub fine-call : (c : CallRec) → CallHolds t gs o c → Fine t gs o (changes_calls (call.Put c ∷ []))
   fine-call c holds = record { legs = tt; calls = (holds, tt); down = tt; sent = tt }
 
-  pub fine-then : (a b : Answer) → Fine t g o a → Fine t g o b → Fine t g o (followed_by a b)
+  pub fine-then : (a b : Answer) → Fine t gs o a → Fine t gs o b → Fine t gs o (followed_by a b)
   fine-then a b first second = record {
-    legs = all-append (LegFine g) a.legs b.legs first.legs second.legs;
-    calls = all-append (CallFine t g o) a.calls b.calls first.calls second.calls;
+    legs = all-append (LegFine gs) a.legs b.legs first.legs second.legs;
+    calls = all-append (CallFine t gs o) a.calls b.calls first.calls second.calls;
     down = down-later a.down b.down first.down second.down;
-    sent = all-append (OutFine t g) a.sent b.sent first.sent second.sent;
+    sent = all-append (OutFine t gs) a.sent b.sent first.sent second.sent;
   }
     where
-      down-later : (x y : Option (List Fibre)) → DownFine t g x → DownFine t g y → DownFine t g (later x y)
+      down-later : (x y : Option (List Fibre)) → DownFine t gs x → DownFine t gs y → DownFine t gs (later x y)
       down-later x None h k = h
       down-later x (Some fibres) h k = k
 
   -- What it leaves
 
-  legs-after : (cs : List LegChange) (legs : List Leg) → AllByRecursion (LegFine g) cs →
-      AllByRecursion (LegConcerns g) legs → AllByRecursion (LegConcerns g) (legs_changed cs legs)
+  legs-after : (cs : List LegChange) (legs : List Leg) → AllByRecursion (LegFine gs) cs →
+      AllByRecursion (LegConcerns gs) legs → AllByRecursion (LegConcerns gs) (legs_changed cs legs)
   legs-after [] legs fine all = all
   legs-after (leg.Goes l ∷ cs) legs fine all =
-      legs-after cs (without_leg l legs) fine.1 (all-filter (LegConcerns g) (λ b. not (same_lsp b.lsp l)) legs all)
+      legs-after cs (without_leg l legs) fine.1 (all-filter (LegConcerns gs) (λ b. not (same_lsp b.lsp l)) legs all)
   legs-after (leg.Put b ∷ cs) legs fine all =
-      legs-after cs (with_leg b legs) fine.1 (all-with_leg (LegConcerns g) b legs fine.0 all)
+      legs-after cs (with_leg b legs) fine.1 (all-with_leg (LegConcerns gs) b legs fine.0 all)
 
-  calls-after : (cs : List CallChange) (calls : List CallRec) → AllByRecursion (CallFine t g o) cs →
-      AllByRecursion (CallHolds t g o) calls → AllByRecursion (CallHolds t g o) (calls_changed cs calls)
+  calls-after : (cs : List CallChange) (calls : List CallRec) → AllByRecursion (CallFine t gs o) cs →
+      AllByRecursion (CallHolds t gs o) calls → AllByRecursion (CallHolds t gs o) (calls_changed cs calls)
   calls-after [] calls fine all = all
   calls-after (call.Goes n ∷ cs) calls fine all =
       calls-after cs (without_call n calls) fine.1
-      (all-filter (CallHolds t g o) (λ c. not (nat_eq c.call.0 n.0)) calls all)
+      (all-filter (CallHolds t gs o) (λ c. not (nat_eq c.call.0 n.0)) calls all)
   calls-after (call.Put c ∷ cs) calls fine all =
-      calls-after cs (with_call c calls) fine.1 (all-with_call (CallHolds t g o) c calls fine.0 all)
+      calls-after cs (with_call c calls) fine.1 (all-with_call (CallHolds t gs o) c calls fine.0 all)
 
-  down-after : (x : Option (List Fibre)) (fibres : List Fibre) → DownFine t g x →
-      AllByRecursion (FibreConcerns t g) fibres → AllByRecursion (FibreConcerns t g) (down_after x fibres)
+  down-after : (x : Option (List Fibre)) (fibres : List Fibre) → DownFine t gs x →
+      AllByRecursion (FibreConcerns t gs) fibres → AllByRecursion (FibreConcerns t gs) (down_after x fibres)
   down-after None fibres fine all = all
   down-after (Some fs) fibres fine all = fine
 
-  node-after : (s : NodeState) (a : Answer) → Fine t g o a → NodeHolds t g o s → NodeHolds t g o (changed s a)
+  node-after : (s : NodeState) (a : Answer) → Fine t gs o a → NodeHolds t gs o s → NodeHolds t gs o (changed s a)
   node-after s a fine old = record {
     legs = legs-after a.legs s.legs fine.legs old.legs;
     calls = calls-after a.calls s.calls fine.calls old.calls;
     down = down-after a.down s.down fine.down old.down;
   }
 
-  sent-after : (d : ℕ) (outs : List Out) → AllByRecursion (OutFine t g) outs →
-      AllByRecursion (MsgConcerns t g) (sent_to d outs)
+  sent-after : (d : ℕ) (outs : List Out) → AllByRecursion (OutFine t gs) outs →
+      AllByRecursion (MsgConcerns t gs) (sent_to d outs)
   sent-after d [] fine = tt
   sent-after d (x ∷ outs) fine =
-      elim (nat_eq x.to.0 d) as (λ b. AllByRecursion (MsgConcerns t g) (map (λ y. y.msg)
+      elim (nat_eq x.to.0 d) as (λ b. AllByRecursion (MsgConcerns t gs) (map (λ y. y.msg)
       (cond b (x ∷ filter (λ y. nat_eq y.to.0 d) outs) (filter (λ y. nat_eq y.to.0 d) outs)))) [
         | true ↦ (fine.0, sent-after d outs fine.1)
         | false ↦ sent-after d outs fine.1
       ]
 
-  pub commit-holds : (s : Mesh) (n : ℕ) (a : Answer) → Fine t g o a → MeshHolds t g o s →
-      MeshHolds t g o (commit s n a)
+  pub commit-holds : (s : Mesh) (n : ℕ) (a : Answer) → Fine t gs o a → MeshHolds t gs o s →
+      MeshHolds t gs o (commit s n a)
   commit-holds s n a fine old = record {
-    nodes = λ m. if_cases (NodeHolds t g o) (nat_eq m n) (changed (s.nodes m) a) (s.nodes m)
+    nodes = λ m. if_cases (NodeHolds t gs o) (nat_eq m n) (changed (s.nodes m) a) (s.nodes m)
         (λ e. node-after (s.nodes m) a fine (old.nodes m)) (λ e. old.nodes m);
     desks = old.desks;
-    mail = λ u d. if_cases (AllByRecursion (MsgConcerns t g)) (nat_eq u n) (s.mail u d ++ sent_to d a.sent) (s.mail u d)
-        (λ e. all-append (MsgConcerns t g) (s.mail u d) _ (old.mail u d) (sent-after d a.sent fine.sent))
+    mail = λ u d. if_cases (AllByRecursion (MsgConcerns t gs)) (nat_eq u n) (s.mail u d ++ sent_to d a.sent)
+        (s.mail u d) (λ e. all-append (MsgConcerns t gs) (s.mail u d) _ (old.mail u d) (sent-after d a.sent fine.sent))
         (λ e. old.mail u d);
     failed = old.failed;
   }
 
-  pub taken-holds : (s : Mesh) (u d : ℕ) → MeshHolds t g o s → MeshHolds t g o (without_first s u d)
+  pub taken-holds : (s : Mesh) (u d : ℕ) → MeshHolds t gs o s → MeshHolds t gs o (without_first s u d)
   taken-holds s u d old = record {
     nodes = old.nodes;
     desks = old.desks;
-    mail = λ a b. if_cases (AllByRecursion (MsgConcerns t g)) (nat_eq a u && nat_eq b d) (drop 1 (s.mail a b))
-        (s.mail a b) (λ e. all-drop (MsgConcerns t g) (s.mail a b) (old.mail a b)) (λ e. old.mail a b);
+    mail = λ a b. if_cases (AllByRecursion (MsgConcerns t gs)) (nat_eq a u && nat_eq b d) (drop 1 (s.mail a b))
+        (s.mail a b) (λ e. all-drop (MsgConcerns t gs) (s.mail a b) (old.mail a b)) (λ e. old.mail a b);
     failed = old.failed;
   }
 
-  pub handled-holds : (s : Mesh) (n : ℕ) → MeshHolds t g o s → MeshHolds t g o (without_item s n)
+  pub handled-holds : (s : Mesh) (n : ℕ) → MeshHolds t gs o s → MeshHolds t gs o (without_item s n)
   handled-holds s n old = record {
     nodes = old.nodes;
-    desks = λ m. if_cases (AllByRecursion (ItemConcerns t g)) (nat_eq m n) (drop 1 (s.desks m)) (s.desks m)
-        (λ e. all-drop (ItemConcerns t g) (s.desks m) (old.desks m)) (λ e. old.desks m);
+    desks = λ m. if_cases (AllByRecursion (ItemConcerns t gs)) (nat_eq m n) (drop 1 (s.desks m)) (s.desks m)
+        (λ e. all-drop (ItemConcerns t gs) (s.desks m) (old.desks m)) (λ e. old.desks m);
     mail = old.mail;
     failed = old.failed;
   }

@@ -1,5 +1,5 @@
--- What a node answers to an order, to a tick, and to an alarm or a clear that concerns the group, concerns the group.
-use Rattle.std.proofs.Common.{◌≡◌, ℕ, ◌+◌, true, nat_eq, nat_le, List, [], ◌∷◌, ◌++◌, drop, refl}
+-- What a node answers to an order, to a tick, and to an alarm or a clear that concerns one of the groups, concerns one.
+use Rattle.std.proofs.Common.{◌≡◌, ℕ, ◌+◌, nat_eq, nat_le, List, [], ◌∷◌, ◌++◌, drop, refl}
 use Rattle.std.specs.Prelude.{◌&&◌, not, Option, Some, None}
 use Rattle.std.specs.List.{AllByRecursion}
 use Rattle.ason_base.specs.Codes.{fibre_down_code, fibre_up_code}
@@ -10,8 +10,7 @@ use Rattle.ason_base.specs.declared.ids.CallNo.{CallNo}
 use Rattle.ason_base.specs.declared.ids.Fibre.{Fibre}
 use Rattle.ason_base.specs.declared.ids.NodeId.{NodeId}
 use Rattle.ason_base.specs.declared.network.LinkSpec.{LinkSpec}
-use Rattle.ason_base.specs.declared.calls.CallState.{CallState}
-use Rattle.ason_base.specs.declared.calls.CallState.TheVariants.{Asking, Bare, Blocked, Guarded, Pairing, Stuck, Turned, Turning}
+use Rattle.ason_base.specs.declared.calls.CallState.TheVariants.{Blocked}
 use Rattle.ason_base.specs.declared.calls.Cause.{Cause}
 use Rattle.ason_base.specs.declared.calls.Cause.TheVariants.{Full, NoRoute, Spent}
 use Rattle.ason_base.specs.declared.commands.Command.{Command}
@@ -42,63 +41,64 @@ use Rattle.mesh_rules.specs.Setups.{SetupRequest, begins, call_record, is_order_
 use Rattle.mesh_rules.specs.State.{NodeState}
 use Rattle.mesh_rules.specs.Turns.{call_put, go_back, has_any, turn}
 use Rattle.mesh_rules.specs.Waits.{all_ticked, on_tick, ticked, waits}
-use Rattle.mesh_nodes.proofs.Cases.{both_left, if_cases}
+use Rattle.mesh_nodes.proofs.Cases.{both_left, both_right, if_cases}
 use Rattle.mesh_nodes.proofs.LegList.{all-filter}
-use Rattle.mesh_laws.specs.AloneLaw.{FibreConcerns, ItemConcerns}
-use Rattle.mesh_laws.proofs.alone.Calls.{found-one, go_back-fine, not_stuck, pair-fine}
-use Rattle.mesh_laws.proofs.alone.Facts.{NodeKnows, Routes}
+use Rattle.mesh_laws.proofs.alone.CallAnswers.{pair-fine}
+use Rattle.mesh_laws.proofs.alone.Calls.{found-one, go_back-fine, in_state, leg-may_turn, turn-fine}
+use Rattle.mesh_laws.proofs.alone.Facts.{CallKnows, NodeKnows, Routes}
 use Rattle.mesh_laws.proofs.alone.Fine.{CallHolds, Fine, NodeHolds, OutFine, all-append, fine-call, fine-nothing, fine-puts, fine-then}
+use Rattle.mesh_laws.proofs.alone.Groups.{FibreConcerns, ItemConcerns}
 use Rattle.mesh_laws.proofs.alone.Legs.{closed-concerns}
 
-module _ (t : Network) (g : Group) (o : Routes) where
+module _ (t : Network) (gs : List Group) (o : Routes) where
   -- Rows
 
-  pub link-fine : (p : LocalNode) (s : NodeState) (found : Option LinkSpec) → Fine t g o (on_link p s found)
-  link-fine p s None = fine-nothing t g o
+  pub link-fine : (p : LocalNode) (s : NodeState) (found : Option LinkSpec) → Fine t gs o (on_link p s found)
+  link-fine p s None = fine-nothing t gs o
   link-fine p s (Some l) =
-      if_cases (Fine t g o) (has_row (known_rows p s) l.id) nothing _ (λ e. fine-nothing t g o)
+      if_cases (Fine t gs o) (has_row (known_rows p s) l.id) nothing _ (λ e. fine-nothing t gs o)
       (λ e. record { legs = tt; calls = tt; down = tt; sent = tt })
 
   -- Ticks
 
   -- a call that waits keeps its state
-  waits-fine : (wait : ℕ) (legs : List Leg) (c : CallRec) → CallHolds t g o c → Fine t g o (waits wait legs c)
+  waits-fine : (wait : ℕ) (legs : List Leg) (c : CallRec) → CallHolds t gs o c → Fine t gs o (waits wait legs c)
   waits-fine wait legs c of =
-      if_cases (Fine t g o) (nat_le wait (c.ticks + 1)) (go_back c (leg_of c.back legs)) (call_put _)
-      (λ e. go_back-fine t g o c (leg_of c.back legs) of)
-      (λ e. fine-call t g o _ (not_stuck t g o c c.state c.cause (c.ticks + 1) of.concerns.free of))
+      if_cases (Fine t gs o) (nat_le wait (c.ticks + 1)) (go_back c (leg_of c.back legs)) (call_put _)
+      (λ e. go_back-fine t gs o c (leg_of c.back legs) of)
+      (λ e. fine-call t gs o _ (in_state t gs o c c.state c.cause (c.ticks + 1) of.concerns.free of))
 
-  ticked-fine : (wait : ℕ) (legs : List Leg) (c : CallRec) → CallHolds t g o c → Fine t g o (ticked wait legs c)
+  ticked-fine : (wait : ℕ) (legs : List Leg) (c : CallRec) → CallHolds t gs o c → Fine t gs o (ticked wait legs c)
   ticked-fine wait legs c of =
-      if_cases (Fine t g o) (not (nat_eq wait 0) && (is_turned c.state && not (has_any c.work_reports)))
-      (waits wait legs c) nothing (λ e. waits-fine wait legs c of) (λ e. fine-nothing t g o)
+      if_cases (Fine t gs o) (not (nat_eq wait 0) && (is_turned c.state && not (has_any c.work_reports)))
+      (waits wait legs c) nothing (λ e. waits-fine wait legs c of) (λ e. fine-nothing t gs o)
 
-  all_ticked-fine : (wait : ℕ) (legs : List Leg) (calls : List CallRec) → AllByRecursion (CallHolds t g o) calls →
-      Fine t g o (all_ticked wait legs calls)
-  all_ticked-fine wait legs [] of = fine-nothing t g o
+  all_ticked-fine : (wait : ℕ) (legs : List Leg) (calls : List CallRec) → AllByRecursion (CallHolds t gs o) calls →
+      Fine t gs o (all_ticked wait legs calls)
+  all_ticked-fine wait legs [] of = fine-nothing t gs o
   all_ticked-fine wait legs (c ∷ calls) of =
-      fine-then t g o (ticked wait legs c) (all_ticked wait legs calls) (ticked-fine wait legs c of.0)
+      fine-then t gs o (ticked wait legs c) (all_ticked wait legs calls) (ticked-fine wait legs c of.0)
       (all_ticked-fine wait legs calls of.1)
 
-  pub tick-fine : (p : LocalNode) (s : NodeState) → NodeHolds t g o s → Fine t g o (on_tick p s)
+  pub tick-fine : (p : LocalNode) (s : NodeState) → NodeHolds t gs o s → Fine t gs o (on_tick p s)
   tick-fine p s holds = all_ticked-fine p.wait s.legs s.calls holds.calls
 
   -- Setups
 
-  refused-fine : (w : SetupRequest) (cause : Cause) → Fine t g o (refused_setup w cause)
-  refused-fine w cause = fine-call t g o (call_record w Blocked None cause) (record {
-    concerns = record { work_reports = tt; back_reports = tt; free = λ e. cc e };
+  refused-fine : (w : SetupRequest) (cause : Cause) → Fine t gs o (refused_setup w cause)
+  refused-fine w cause = fine-call t gs o (call_record w Blocked None cause) (record {
+    concerns = record { work_reports = tt; back_reports = tt; free = λ e. absurd (cc e) };
     work = λ e. absurd (cc e);
     back = λ e. absurd (cc e);
   })
 
-  module _ (p : LocalNode) (s : NodeState) (knows : NodeKnows t o p s) (holds : NodeHolds t g o s) where
-    begins-fine : (w : SetupRequest) (out : LinkSpec) (route : List Step) → Fine t g o (begins p s w out route)
+  module _ (p : LocalNode) (s : NodeState) (knows : NodeKnows t o p s) (holds : NodeHolds t gs o s) where
+    begins-fine : (w : SetupRequest) (out : LinkSpec) (route : List Step) → Fine t gs o (begins p s w out route)
     begins-fine w out route = record {
       legs = ((λ back used. absurd (cc used)), tt);
       calls = (
         record {
-          concerns = record { work_reports = tt; back_reports = tt; free = λ e. cc e };
+          concerns = record { work_reports = tt; back_reports = tt; free = λ e. absurd (cc e) };
           work = λ e. absurd (cc e);
           back = λ e. absurd (cc e);
         },
@@ -109,99 +109,93 @@ module _ (t : Network) (g : Group) (o : Routes) where
     }
 
     over_first-fine : (w : SetupRequest) (route : List Step) (out : Option LinkSpec) →
-        Fine t g o (over_first p s w route out)
-    over_first-fine w route None = fine-nothing t g o
+        Fine t gs o (over_first p s w route out)
+    over_first-fine w route None = fine-nothing t gs o
     over_first-fine w route (Some out) =
-        if_cases (Fine t g o) (is_spent s) (refused_setup w Spent) _ (λ e. refused-fine w Spent)
-        (λ e. if_cases (Fine t g o) (is_full s) (refused_setup w Full) (begins p s w out (drop 1 route))
+        if_cases (Fine t gs o) (is_spent s) (refused_setup w Spent) _ (λ e. refused-fine w Spent)
+        (λ e. if_cases (Fine t gs o) (is_full s) (refused_setup w Full) (begins p s w out (drop 1 route))
         (λ e. refused-fine w Full) (λ e. begins-fine w out (drop 1 route)))
 
-    over_found-fine : (w : SetupRequest) (r : Option Trip) → Fine t g o (over_found p s w r)
+    over_found-fine : (w : SetupRequest) (r : Option Trip) → Fine t gs o (over_found p s w r)
     over_found-fine w None = refused-fine w NoRoute
     over_found-fine w (Some r) = over_first-fine w r.steps (first_link p r.steps)
 
-    new_call-fine : (w : SetupRequest) (via : Option (List Step)) → Fine t g o (new_call p s w via)
+    new_call-fine : (w : SetupRequest) (via : Option (List Step)) → Fine t gs o (new_call p s w via)
     new_call-fine w None = over_found-fine w (least_trip (known_rows p s) p.id w.egress)
     new_call-fine w (Some route) = over_first-fine w route (first_link p route)
 
-    setup-fine : (w : SetupRequest) (c : Option CallRec) → Fine t g o (setup_with p s w c)
-    setup-fine w (Some c) = fine-nothing t g o
+    setup-fine : (w : SetupRequest) (c : Option CallRec) → Fine t gs o (setup_with p s w c)
+    setup-fine w (Some c) = fine-nothing t gs o
     setup-fine w None =
-        if_cases (Fine t g o) (is_order_here p w) (new_call p s w w.via) nothing (λ e. new_call-fine w w.via)
-        (λ e. fine-nothing t g o)
+        if_cases (Fine t gs o) (is_order_here p w) (new_call p s w w.via) nothing (λ e. new_call-fine w w.via)
+        (λ e. fine-nothing t gs o)
 
     -- Releases
 
-    tears-fine : (b : Option Leg) → Fine t g o (tears b)
-    tears-fine None = fine-nothing t g o
-    tears-fine (Some b) = fine-puts t g o (closed b) _ (closed-concerns g b) (told (following b))
+    tears-fine : (b : Option Leg) → Fine t gs o (tears b)
+    tears-fine None = fine-nothing t gs o
+    tears-fine (Some b) = fine-puts t gs o (closed b) _ (closed-concerns gs b) (told (following b))
       where
-        told : (h : Option Neighbour) → AllByRecursion (OutFine t g) (tear_to b h)
+        told : (h : Option Neighbour) → AllByRecursion (OutFine t gs) (tear_to b h)
         told None = tt
         told (Some h) = (tt, tt)
 
-    release-fine : (from : NodeId) (c : Option CallRec) → Fine t g o (release_with p s from c)
-    release-fine from None = fine-nothing t g o
+    release-fine : (from : NodeId) (c : Option CallRec) → Fine t gs o (release_with p s from c)
+    release-fine from None = fine-nothing t gs o
     release-fine from (Some c) =
-        if_cases (Fine t g o) (nat_eq from.0 p.id.0) (releases s c) nothing
-        (λ e. fine-then t g o (tears (leg_of c.work s.legs)) _ (tears-fine (leg_of c.work s.legs))
-        (fine-then t g o (tears (leg_of c.back s.legs)) (changes_calls (call.Goes c.call ∷ []))
+        if_cases (Fine t gs o) (nat_eq from.0 p.id.0) (releases s c) nothing
+        (λ e. fine-then t gs o (tears (leg_of c.work s.legs)) _ (tears-fine (leg_of c.work s.legs))
+        (fine-then t gs o (tears (leg_of c.back s.legs)) (changes_calls (call.Goes c.call ∷ []))
         (tears-fine (leg_of c.back s.legs)) (record { legs = tt; calls = (tt, tt); down = tt; sent = tt })))
-        (λ e. fine-nothing t g o)
+        (λ e. fine-nothing t gs o)
 
     -- Orders for a call that stands
 
-    numbered-holds : (n : CallNo) (c : CallRec) → find_call n s.calls ≡ Some c → CallHolds t g o c
-    numbered-holds n c found = found-one (CallHolds t g o) (λ d. nat_eq d.call.0 n.0) s.calls c found holds.calls
+    numbered-holds : (n : CallNo) (c : CallRec) → find_call n s.calls ≡ Some c → CallHolds t gs o c
+    numbered-holds n c found = found-one (CallHolds t gs o) (λ d. nat_eq d.call.0 n.0) s.calls c found holds.calls
 
-    protects-fine : (c : CallRec) (w : Option Leg) → CallHolds t g o c → Fine t g o (protects p s c w)
-    protects-fine c None of = fine-nothing t g o
-    protects-fine c (Some w) of = pair-fine t g o p s knows holds c w of
+    protects-fine : (c : CallRec) (w : Option Leg) → CallHolds t gs o c → Fine t gs o (protects p s c w)
+    protects-fine c None of = fine-nothing t gs o
+    protects-fine c (Some w) of = pair-fine t gs o p s knows holds c w of
 
     protect-fine : (n : CallNo) (from : NodeId) (c : Option CallRec) → find_call n s.calls ≡ c →
-        Fine t g o (protect_with p s from c)
-    protect-fine n from None found = fine-nothing t g o
+        Fine t gs o (protect_with p s from c)
+    protect-fine n from None found = fine-nothing t gs o
     protect-fine n from (Some c) found =
-        if_cases (Fine t g o) (nat_eq from.0 p.id.0 && is_bare c.state) (protects p s c (leg_of c.work s.legs)) nothing
-        (λ e. protects-fine c (leg_of c.work s.legs) (numbered-holds n c found)) (λ e. fine-nothing t g o)
+        if_cases (Fine t gs o) (nat_eq from.0 p.id.0 && is_bare c.state) (protects p s c (leg_of c.work s.legs)) nothing
+        (λ e. protects-fine c (leg_of c.work s.legs) (numbered-holds n c found)) (λ e. fine-nothing t gs o)
 
-    stuck-is : (state : CallState) → is_stuck state ≡ true → state ≡ Stuck
-    stuck-is Stuck e = refl
-    stuck-is Asking e = absurd (cc e)
-    stuck-is Bare e = absurd (cc e)
-    stuck-is Blocked e = absurd (cc e)
-    stuck-is Guarded e = absurd (cc e)
-    stuck-is Pairing e = absurd (cc e)
-    stuck-is Turned e = absurd (cc e)
-    stuck-is Turning e = absurd (cc e)
-
-    -- no call is stuck, so none is tried again
-    retries-fine : (c : CallRec) → CallHolds t g o c → Fine t g o (retries s c)
-    retries-fine c of =
-        if_cases (Fine t g o) (is_stuck c.state && (has_any c.work_reports && not (has_any c.back_reports)))
+    retries-fine : (c : CallRec) → CallKnows t o s.legs c → CallHolds t gs o c → Fine t gs o (retries s c)
+    retries-fine c call of =
+        if_cases (Fine t gs o) (is_stuck c.state && (has_any c.work_reports && not (has_any c.back_reports)))
         (turn c (leg_of c.back s.legs)) nothing
-        (λ e. absurd (of.concerns.free (stuck-is c.state (both_left (is_stuck c.state) _ e)))) (λ e. fine-nothing t g o)
+        (λ e. turn-fine t gs o c (leg_of c.back s.legs) of (leg-may_turn t gs o p s knows holds c call
+        (of.work (both_left (has_any c.work_reports) _ (both_right (is_stuck c.state) _ e))) c.back refl))
+        (λ e. fine-nothing t gs o)
+
+    numbered-knows : (n : CallNo) (c : CallRec) → find_call n s.calls ≡ Some c → CallKnows t o s.legs c
+    numbered-knows n c found = found-one (CallKnows t o s.legs) (λ d. nat_eq d.call.0 n.0) s.calls c found knows.calls
 
     retry-fine : (n : CallNo) (from : NodeId) (c : Option CallRec) → find_call n s.calls ≡ c →
-        Fine t g o (retry_with p s from c)
-    retry-fine n from None found = fine-nothing t g o
+        Fine t gs o (retry_with p s from c)
+    retry-fine n from None found = fine-nothing t gs o
     retry-fine n from (Some c) found =
-        if_cases (Fine t g o) (nat_eq from.0 p.id.0) (retries s c) nothing
-        (λ e. retries-fine c (numbered-holds n c found)) (λ e. fine-nothing t g o)
+        if_cases (Fine t gs o) (nat_eq from.0 p.id.0) (retries s c) nothing
+        (λ e. retries-fine c (numbered-knows n c found) (numbered-holds n c found)) (λ e. fine-nothing t gs o)
 
-    reverts-fine : (c : CallRec) → CallHolds t g o c → Fine t g o (reverts s c)
+    reverts-fine : (c : CallRec) → CallHolds t gs o c → Fine t gs o (reverts s c)
     reverts-fine c of =
-        if_cases (Fine t g o) (is_turned c.state && not (has_any c.work_reports)) (go_back c (leg_of c.back s.legs))
-        nothing (λ e. go_back-fine t g o c (leg_of c.back s.legs) of) (λ e. fine-nothing t g o)
+        if_cases (Fine t gs o) (is_turned c.state && not (has_any c.work_reports)) (go_back c (leg_of c.back s.legs))
+        nothing (λ e. go_back-fine t gs o c (leg_of c.back s.legs) of) (λ e. fine-nothing t gs o)
 
     revert-fine : (n : CallNo) (from : NodeId) (c : Option CallRec) → find_call n s.calls ≡ c →
-        Fine t g o (revert_with p s from c)
-    revert-fine n from None found = fine-nothing t g o
+        Fine t gs o (revert_with p s from c)
+    revert-fine n from None found = fine-nothing t gs o
     revert-fine n from (Some c) found =
-        if_cases (Fine t g o) (nat_eq from.0 p.id.0) (reverts s c) nothing
-        (λ e. reverts-fine c (numbered-holds n c found)) (λ e. fine-nothing t g o)
+        if_cases (Fine t gs o) (nat_eq from.0 p.id.0) (reverts s c) nothing
+        (λ e. reverts-fine c (numbered-holds n c found)) (λ e. fine-nothing t gs o)
 
-    order-fine : (c : Command) → Fine t g o (on_order p s c)
+    order-fine : (c : Command) → Fine t gs o (on_order p s c)
     order-fine (Setup n from to protected both via backup) =
         setup-fine (record {
           call = n;
@@ -216,38 +210,38 @@ module _ (t : Network) (g : Group) (o : Routes) where
     order-fine (Protect n from) = protect-fine n from (find_call n s.calls) refl
     order-fine (Retry n from) = retry-fine n from (find_call n s.calls) refl
     order-fine (Revert n from) = revert-fine n from (find_call n s.calls) refl
-    order-fine (Fail h) = fine-nothing t g o
-    order-fine (Repair h) = fine-nothing t g o
+    order-fine (Fail h) = fine-nothing t gs o
+    order-fine (Repair h) = fine-nothing t gs o
 
     -- Alarms and clears
 
-    notices-fine : (f : Fibre) (code : ErrCode) (legs : List Leg) → FibreConcerns t g f →
-        AllByRecursion (OutFine t g) (notices p f code legs)
+    notices-fine : (f : Fibre) (code : ErrCode) (legs : List Leg) → FibreConcerns t gs f →
+        AllByRecursion (OutFine t gs) (notices p f code legs)
     notices-fine f code [] of = tt
     notices-fine f code (b ∷ legs) of =
-        all-append (OutFine t g) (notice_of p f code b) _
-        (if_cases (AllByRecursion (OutFine t g)) (is_hit f b) (notify_to p f code b (previous b)) []
+        all-append (OutFine t gs) (notice_of p f code b) _
+        (if_cases (AllByRecursion (OutFine t gs)) (is_hit f b) (notify_to p f code b (previous b)) []
         (λ e. told (previous b)) (λ e. tt))
         (notices-fine f code legs of)
       where
-        told : (h : Option Neighbour) → AllByRecursion (OutFine t g) (notify_to p f code b h)
+        told : (h : Option Neighbour) → AllByRecursion (OutFine t gs) (notify_to p f code b h)
         told None = tt
         told (Some h) = (of, tt)
 
-    knows_down-fine : (f : Fibre) (code : ErrCode) (fibres : List Fibre) → FibreConcerns t g f →
-        AllByRecursion (FibreConcerns t g) fibres → Fine t g o (knows_down p s f code fibres)
+    knows_down-fine : (f : Fibre) (code : ErrCode) (fibres : List Fibre) → FibreConcerns t gs f →
+        AllByRecursion (FibreConcerns t gs) fibres → Fine t gs o (knows_down p s f code fibres)
     knows_down-fine f code fibres of all =
         record { legs = tt; calls = tt; down = all; sent = notices-fine f code s.legs of }
 
-    pub item-fine : (i : DeskItem) → ItemConcerns t g i → Fine t g o (on_item p s i)
+    pub item-fine : (i : DeskItem) → ItemConcerns t gs i → Fine t gs o (on_item p s i)
     item-fine (Order c) of = order-fine c
     item-fine (Alarm f) of =
-        if_cases (Fine t g o) (enters p f (own_link p f.link) && not (has_fibre s.down f)) _ nothing
+        if_cases (Fine t gs o) (enters p f (own_link p f.link) && not (has_fibre s.down f)) _ nothing
         (λ e. knows_down-fine f fibre_down_code (s.down ++ f ∷ []) of
-        (all-append (FibreConcerns t g) s.down (f ∷ []) holds.down (of, tt)))
-        (λ e. fine-nothing t g o)
+        (all-append (FibreConcerns t gs) s.down (f ∷ []) holds.down (of, tt)))
+        (λ e. fine-nothing t gs o)
     item-fine (Clear f) of =
-        if_cases (Fine t g o) (enters p f (own_link p f.link) && has_fibre s.down f) _ nothing
+        if_cases (Fine t gs o) (enters p f (own_link p f.link) && has_fibre s.down f) _ nothing
         (λ e. knows_down-fine f fibre_up_code _ of
-        (all-filter (FibreConcerns t g) (is_other_fibre f) s.down holds.down))
-        (λ e. fine-nothing t g o)
+        (all-filter (FibreConcerns t gs) (is_other_fibre f) s.down holds.down))
+        (λ e. fine-nothing t gs o)

@@ -1,32 +1,55 @@
 -- While one group alone fails after a calm state, no activation is refused.
-use Rattle.std.proofs.Common.{◌≡◌, true, ◌++◌, map, refl, sym, subst}
+use Rattle.std.proofs.Common.{◌≡◌, true, List, [], ◌∷◌, ◌++◌, map, refl, sym, subst}
 use Rattle.ason_base.specs.Network.{IsTopology, Network, is_distinct}
-use Rattle.mesh_rules.specs.Events.{IsRun, after}
+use Rattle.ason_base.specs.declared.commands.Group.{Group}
+use Rattle.mesh_rules.specs.declared.events.MeshEvent.{MeshEvent}
+use Rattle.mesh_rules.specs.Events.{IsRun, after, route_of, step}
 use Rattle.mesh_rules.specs.Machine.{start}
 use Rattle.mesh_rules.proofs.Conjunctions.{and_first}
 use Rattle.mesh_rules.proofs.Topologies.{topology_searchable}
+use Rattle.mesh_nodes.proofs.LegList.{all-then}
 use Rattle.mesh_laws.specs.AloneLaw.{AllConcern, EveryActivationIsAdmitted, EveryRunStartsCalm}
+use Rattle.mesh_laws.specs.AloneLaw.{FailsOnly as OneFails}
+use Rattle.mesh_laws.proofs.alone.Groups.{FailsOnly}
 use Rattle.mesh_laws.proofs.alone.Known.{mesh-knows}
-use Rattle.mesh_laws.proofs.alone.Runs.{EachKnows, all-concern, from-calm}
+use Rattle.mesh_laws.proofs.alone.One.{fails-one, labels-apart, mesh-one}
+use Rattle.mesh_laws.proofs.alone.Runs.{EachKnows, StayApart, after-append, append-one, from-calm, run-first}
 use Rattle.mesh_laws.proofs.hops.Beside.{every_backup_beside}
 use Rattle.mesh_laws.proofs.hops.Laws.{follows}
 use Rattle.mesh_laws.proofs.hops.Recorded.{every_backup_records}
 use Rattle.mesh_laws.proofs.nodes.Runs.{facts-hold}
 
-each-knows : (t : Network) → IsTopology t → EachKnows t
+pub each-knows : (t : Network) → IsTopology t → EachKnows t
 each-knows t valid events run =
     mesh-knows t events (facts-hold t events run) (follows t events run) (every_backup_records t events valid run)
     (every_backup_beside t events run) (topology_searchable t valid)
+
+-- backups that share a label never record one group both
+one-apart : (t : Network) (g : Group) → EachKnows t → (before since : List MeshEvent) →
+    IsRun t start (before ++ since) → StayApart t (g ∷ []) (after t start before) since
+one-apart t g knows before [] run = tt
+one-apart t g knows before (e ∷ es) run =
+    let told = knows before (run-first t start before (e ∷ es) run) in
+    let next : after t start (before ++ e ∷ []) ≡ step t (after t start before) e = after-append t start before (e ∷ [])
+    in (
+      λ n. labels-apart g ((after t start before).nodes n).legs (told.nodes (record { 0 = n })).labels,
+      subst (λ s. StayApart t (g ∷ []) s es) next
+          (one-apart t g knows (before ++ e ∷ []) es (subst (IsRun t start) (sym (append-one before e es)) run)),
+    )
 
 pub every_activation_admitted : EveryActivationIsAdmitted
 every_activation_admitted t events valid run g alone =
     let distinct : is_distinct (map (λ l. l.id.0) t.links) ≡ true = and_first _ _ (topology_searchable t valid) in
     let before = alone.before in
     let since = alone.since in
+    let knows = each-knows t valid in
     let parted : IsRun t start (before ++ since) = subst (IsRun t start) (sym alone.parts) run in
-    let kept = from-calm t g distinct (each-knows t valid) before since parted alone.only alone.calm in (
+    let only = all-then (OneFails g) (FailsOnly (g ∷ [])) since (fails-one g) alone.only in
+    let kept = from-calm t (g ∷ []) distinct knows before since parted only (one-apart t g knows before since parted)
+    alone.calm in (
       kept.none_refused,
-      subst (λ es. AllConcern t g (after t start es)) alone.parts (all-concern t g before since kept),
+      subst (λ es. AllConcern t g (after t start es)) alone.parts
+          (mesh-one t g (route_of t start (before ++ since)) (after t start (before ++ since)) kept.holds),
     )
 
 pub run_starts_calm : EveryRunStartsCalm

@@ -1,34 +1,40 @@
--- Which legs concern the group, and why no label of a backup that concerns it is in use.
+-- Which legs concern one of the groups, and why no label of a backup that does is in use.
 use Rattle.std.proofs.Common.{◌≡◌, ℕ, Bool, true, false, cond, not, nat_eq, List, [], ◌∷◌, refl, sym, ap, ◌∙◌, subst, arith, inl, inr}
 use Rattle.std.specs.Prelude.{◌&&◌, Option, Some, None}
 use Rattle.std.specs.List.{AllByRecursion}
 use Rattle.ason_base.specs.Lsps.{same_bool, same_fibre, same_lsp}
-use Rattle.ason_base.specs.Risks.{has_risk}
 use Rattle.ason_base.specs.declared.ids.Fibre.{Fibre}
+use Rattle.ason_base.specs.declared.ids.Lsp.{Lsp}
 use Rattle.ason_base.specs.declared.calls.Phase.{Phase}
 use Rattle.ason_base.specs.declared.calls.Phase.TheVariants.{Asked, Held, Armed, Live, Closing, Falling}
 use Rattle.ason_base.specs.declared.calls.Role.{Role}
 use Rattle.ason_base.specs.declared.calls.Role.TheVariants.{Work, Back}
 use Rattle.ason_base.specs.declared.commands.Group.{Group}
 use Rattle.ason_base.specs.declared.tables.Leg.{Leg}
-use Rattle.ason_base.proofs.RiskOrder.{has_risk-contains}
 use Rattle.mesh_rules.specs.Activations.{is_contended}
 use Rattle.mesh_rules.specs.Legs.{closed, closing_phase, find_leg, is_armed, is_busy, is_held, is_in_use, is_label, reserved, takes}
 use Rattle.mesh_nodes.specs.Order.{LegsRise}
 use Rattle.mesh_nodes.proofs.LegList.{all-found, found-all, found-lsp, same_lsp-refl}
-use Rattle.mesh_laws.specs.AloneLaw.{LegConcerns, risk_of}
 use Rattle.mesh_laws.proofs.alone.Facts.{LabelsFit}
+use Rattle.mesh_laws.proofs.alone.Groups.{LegConcerns, has_one}
 
--- the leg, where it is a backup's, records the group
-abbrev pub Records : Group → Leg → Type 0
-Records g b = b.role ≡ Back → has_risk b.risks (risk_of g) ≡ true
+-- the leg, where it is a backup's, records one of the groups
+abbrev pub Records : List Group → Leg → Type 0
+Records gs b = b.role ≡ Back → has_one b.risks gs ≡ true
 
-module _ (g : Group) where
-  pub idle-concerns : (b : Leg) → (b.role ≡ Back → is_in_use b.phase ≡ false) → LegConcerns g b
+-- of the backups on one label at most one records one of the groups
+abbrev pub Apart : List Group → List Leg → Type 0
+Apart gs legs =
+    (f : Fibre) (x : ℕ) (l m : Lsp) (a b : Leg) → find_leg l legs ≡ Some a → find_leg m legs ≡ Some b →
+    takes f x a ≡ true → takes f x b ≡ true → a.role ≡ Back → b.role ≡ Back → has_one a.risks gs ≡ true →
+    has_one b.risks gs ≡ true → l ≡ m
+
+module _ (gs : List Group) where
+  pub idle-concerns : (b : Leg) → (b.role ≡ Back → is_in_use b.phase ≡ false) → LegConcerns gs b
   idle-concerns b idle back used = let never = idle back in absurd (cc (never, used))
 
   -- a torn leg isn't in use
-  pub closed-concerns : (b : Leg) → LegConcerns g (closed b)
+  pub closed-concerns : (b : Leg) → LegConcerns gs (closed b)
   closed-concerns b = idle-concerns (closed b) (λ back. go b.phase b.role)
     where
       go : (f : Phase) (r : Role) → is_in_use (closing_phase f r) ≡ false
@@ -42,11 +48,11 @@ module _ (g : Group) where
       go Falling r = refl
 
   -- nor is a backup's leg that gets its label
-  pub reserved-concerns : (b : Leg) → b.phase ≡ reserved b.role → LegConcerns g b
+  pub reserved-concerns : (b : Leg) → b.phase ≡ reserved b.role → LegConcerns gs b
   reserved-concerns b is =
       idle-concerns b (λ back. let held : b.phase ≡ Held = is ∙ ap reserved back in ap is_in_use held)
 
-  pub armed-records : (b : Leg) → is_armed b.phase ≡ true → LegConcerns g b → Records g b
+  pub armed-records : (b : Leg) → is_armed b.phase ≡ true → LegConcerns gs b → Records gs b
   armed-records b armed concerns back = concerns back (go b.phase armed)
     where
       go : (f : Phase) → is_armed f ≡ true → is_in_use f ≡ true
@@ -59,18 +65,20 @@ module _ (g : Group) where
 
   -- Contention
 
-  module _ (all : List Leg) (rise : LegsRise all) (labels : LabelsFit all)
-      (concern : AllByRecursion (LegConcerns g) all) (b : Leg) (here : find_leg b.lsp all ≡ Some b) (records : Records g b) where
-    -- a leg that makes the label busy is a backup's that records the group, as this one does
+  module _ (all : List Leg) (rise : LegsRise all) (labels : LabelsFit all) (apart : Apart gs all)
+      (concern : AllByRecursion (LegConcerns gs) all) (b : Leg) (here : find_leg b.lsp all ≡ Some b)
+      (records : Records gs b) where
+    -- a leg that makes the label busy is a backup's that records one of the groups, as this one does
     one : (f : Fibre) (x : ℕ) (h : Leg) → find_leg h.lsp all ≡ Some h → takes f x b ≡ true → takes f x h ≡ true →
         is_in_use h.phase ≡ true → same_lsp h.lsp b.lsp ≡ false → ⊥
-    one f x h there this that used apart =
+    one f x h there this that used differ =
         elim (labels f x b.lsp h.lsp b h here there this that) [
-          | inl same ↦ (let test : same_lsp h.lsp b.lsp ≡ true = rw same (same_lsp-refl h.lsp) in cc (test, apart))
-          | inr shares ↦ (let its = found-all (LegConcerns g) h.lsp all h there concern in
-              shares.apart (risk_of g)
-              (has_risk-contains b.risks (risk_of g) (records shares.backups.0))
-              (has_risk-contains h.risks (risk_of g) (its shares.backups.1 used)))
+          | inl same ↦ (let test : same_lsp h.lsp b.lsp ≡ true = rw same (same_lsp-refl h.lsp) in cc (test, differ))
+          | inr shares ↦ (let its = found-all (LegConcerns gs) h.lsp all h there concern in
+              let same = apart f x b.lsp h.lsp b h here there this that shares.backups.0 shares.backups.1
+              (records shares.backups.0) (its shares.backups.1 used) in
+              let test : same_lsp h.lsp b.lsp ≡ true = rw same (same_lsp-refl h.lsp) in
+              cc (test, differ))
         ]
 
     not_this : (f : Fibre) (x : ℕ) (h : Leg) → find_leg h.lsp all ≡ Some h → takes f x b ≡ true → (i j k : Bool) →

@@ -1,5 +1,6 @@
--- From a calm state on, while one group alone fails, all concerns it and no activation is refused.
-use Rattle.std.proofs.Common.{◌≡◌, true, false, map, List, [], ◌∷◌, ◌++◌, refl, sym, ap, subst}
+-- From a calm state on, while some groups alone fail and of the backups on one label at most one records one of them,
+-- all concerns these groups and no activation is refused.
+use Rattle.std.proofs.Common.{◌≡◌, ℕ, true, false, map, List, [], ◌∷◌, ◌++◌, refl, sym, ap, subst}
 use Rattle.std.specs.Prelude.{Option, Some, None}
 use Rattle.std.specs.List.{AllByRecursion}
 use Rattle.ason_base.specs.Network.{Network, find_link, is_distinct}
@@ -25,52 +26,57 @@ use Rattle.mesh_rules.specs.LocalNodes.{local_node}
 use Rattle.mesh_rules.specs.Machine.{Mesh, start, without_first, without_item}
 use Rattle.mesh_rules.specs.Turns.{has_any}
 use Rattle.mesh_nodes.proofs.LegList.{all-then}
-use Rattle.mesh_laws.specs.AloneLaw.{AllConcern, CallConcerns, CallIsCalm, Calm, FailsOnly, ItemConcerns, LegConcerns, LegIsCalm, MsgConcerns, NoneRefused, is_calm_item, is_calm_msg, is_idle, is_refusal, sent_in}
+use Rattle.mesh_laws.specs.AloneLaw.{CallIsCalm, Calm, LegIsCalm, NoneRefused, is_calm_item, is_calm_msg, is_idle, is_refusal, sent_in}
+use Rattle.mesh_laws.proofs.alone.Groups.{FailsOnly, ItemConcerns, LegConcerns, MsgConcerns}
 use Rattle.mesh_laws.proofs.alone.Facts.{CallKnows, MeshKnows, Routes}
 use Rattle.mesh_laws.proofs.alone.Failures.{posted-holds}
 use Rattle.mesh_laws.proofs.alone.Fine.{CallHolds, Fine, IsExposed, MeshHolds, OutFine, commit-holds, fine-nothing, handled-holds, taken-holds}
 use Rattle.mesh_laws.proofs.alone.Items.{item-fine, link-fine, tick-fine}
-use Rattle.mesh_laws.proofs.alone.Legs.{idle-concerns}
+use Rattle.mesh_laws.proofs.alone.Legs.{Apart, idle-concerns}
 use Rattle.mesh_laws.proofs.alone.Messages.{message-fine}
+
+-- of the backups on one label, at any node, at most one records one of the groups
+abbrev pub AllApart : List Group → Mesh → Type 0
+AllApart gs s = (n : ℕ) → Apart gs (s.nodes n).legs
 
 -- One step
 
-module _ (t : Network) (g : Group) (distinct : is_distinct (map (λ l. l.id.0) t.links) ≡ true) (o : Routes) (s : Mesh)
-    (knows : MeshKnows t o s) (old : MeshHolds t g o s) where
+module _ (t : Network) (gs : List Group) (distinct : is_distinct (map (λ l. l.id.0) t.links) ≡ true) (o : Routes)
+    (s : Mesh) (knows : MeshKnows t o s) (old : MeshHolds t gs o s) (apart : AllApart gs s) where
   first-fine : (d u : NodeId) (ms : List Msg) → s.mail u.0 d.0 ≡ ms →
-      Fine t g o (on_first (local_node t d) (s.nodes d.0) u ms)
-  first-fine d u [] is = fine-nothing t g o
+      Fine t gs o (on_first (local_node t d) (s.nodes d.0) u ms)
+  first-fine d u [] is = fine-nothing t gs o
   first-fine d u (m ∷ ms) is =
-      let all : AllByRecursion (MsgConcerns t g) (m ∷ ms) =
-      subst (AllByRecursion (MsgConcerns t g)) is (old.mail u.0 d.0) in
-      message-fine t g o (local_node t d) (s.nodes d.0) (knows.nodes d) (old.nodes d.0) u m all.0
+      let all : AllByRecursion (MsgConcerns t gs) (m ∷ ms) =
+      subst (AllByRecursion (MsgConcerns t gs)) is (old.mail u.0 d.0) in
+      message-fine t gs o (local_node t d) (s.nodes d.0) (knows.nodes d) (old.nodes d.0) (apart d.0) u m all.0
       (knows.firsts u d m ms is)
 
   first_item-fine : (n : NodeId) (items : List DeskItem) → s.desks n.0 ≡ items →
-      Fine t g o (on_first_item (local_node t n) (s.nodes n.0) items)
-  first_item-fine n [] is = fine-nothing t g o
+      Fine t gs o (on_first_item (local_node t n) (s.nodes n.0) items)
+  first_item-fine n [] is = fine-nothing t gs o
   first_item-fine n (i ∷ items) is =
-      let all : AllByRecursion (ItemConcerns t g) (i ∷ items) =
-      subst (AllByRecursion (ItemConcerns t g)) is (old.desks n.0) in
-      item-fine t g o (local_node t n) (s.nodes n.0) (knows.nodes n) (old.nodes n.0) i all.0
+      let all : AllByRecursion (ItemConcerns t gs) (i ∷ items) =
+      subst (AllByRecursion (ItemConcerns t gs)) is (old.desks n.0) in
+      item-fine t gs o (local_node t n) (s.nodes n.0) (knows.nodes n) (old.nodes n.0) i all.0
 
-  step-holds : (e : MeshEvent) → FailsOnly g e → MeshHolds t g o (step t s e)
+  step-holds : (e : MeshEvent) → FailsOnly gs e → MeshHolds t gs o (step t s e)
   step-holds (Take d u) only =
-      commit-holds t g o (without_first s u.0 d.0) d.0
+      commit-holds t gs o (without_first s u.0 d.0) d.0
       (on_first (local_node t d) (s.nodes d.0) u (s.mail u.0 d.0)) (first-fine d u (s.mail u.0 d.0) refl)
-      (taken-holds t g o s u.0 d.0 old)
+      (taken-holds t gs o s u.0 d.0 old)
   step-holds (Desk n) only =
-      commit-holds t g o (without_item s n.0) n.0 (on_first_item (local_node t n) (s.nodes n.0) (s.desks n.0))
-      (first_item-fine n (s.desks n.0) refl) (handled-holds t g o s n.0 old)
+      commit-holds t gs o (without_item s n.0) n.0 (on_first_item (local_node t n) (s.nodes n.0) (s.desks n.0))
+      (first_item-fine n (s.desks n.0) refl) (handled-holds t gs o s n.0 old)
   step-holds (Tick n) only =
-      commit-holds t g o s n.0 _ (tick-fine t g o (local_node t n) (s.nodes n.0) (old.nodes n.0)) old
+      commit-holds t gs o s n.0 _ (tick-fine t gs o (local_node t n) (s.nodes n.0) (old.nodes n.0)) old
   step-holds (Learn n k) only =
-      commit-holds t g o s n.0 _ (link-fine t g o (local_node t n) (s.nodes n.0) (find_link t k)) old
-  step-holds (Post c) only = posted-holds t g distinct o s c only old
+      commit-holds t gs o s n.0 _ (link-fine t gs o (local_node t n) (s.nodes n.0) (find_link t k)) old
+  step-holds (Post c) only = posted-holds t gs distinct o s c only old
 
   -- no refusal is sent
 
-  not_refusal : (m : Msg) → MsgConcerns t g m → is_refusal m ≡ false
+  not_refusal : (m : Msg) → MsgConcerns t gs m → is_refusal m ≡ false
   not_refusal (Path l e k route set up r) concerns = refl
   not_refusal (Resv l e k x) concerns = refl
   not_refusal (PathTear l e k) concerns = refl
@@ -78,24 +84,24 @@ module _ (t : Network) (g : Group) (distinct : is_distinct (map (λ l. l.id.0) t
   not_refusal (PathErr l e at false code) concerns = absurd concerns
   not_refusal (Notify l e at k code) concerns = refl
 
-  none_refused : (outs : List Out) → AllByRecursion (OutFine t g) outs →
+  none_refused : (outs : List Out) → AllByRecursion (OutFine t gs) outs →
       AllByRecursion (λ x. is_refusal x.msg ≡ false) outs
-  none_refused outs all = all-then (OutFine t g) (λ x. is_refusal x.msg ≡ false) outs (λ x. not_refusal x.msg) all
+  none_refused outs all = all-then (OutFine t gs) (λ x. is_refusal x.msg ≡ false) outs (λ x. not_refusal x.msg) all
 
   step-admits : (e : MeshEvent) → AllByRecursion (λ x. is_refusal x.msg ≡ false) (sent_in t s e)
   step-admits (Take d u) = none_refused _ (first-fine d u (s.mail u.0 d.0) refl).sent
   step-admits (Desk n) = none_refused _ (first_item-fine n (s.desks n.0) refl).sent
   step-admits (Tick n) =
-      none_refused _ (tick-fine t g o (local_node t n) (s.nodes n.0) (old.nodes n.0)).sent
+      none_refused _ (tick-fine t gs o (local_node t n) (s.nodes n.0) (old.nodes n.0)).sent
   step-admits (Learn n k) =
-      none_refused _ (link-fine t g o (local_node t n) (s.nodes n.0) (find_link t k)).sent
+      none_refused _ (link-fine t gs o (local_node t n) (s.nodes n.0) (find_link t k)).sent
   step-admits (Post c) = tt
 
 -- A calm state
 
-module _ (t : Network) (g : Group) (o : Routes) where
-  calm-leg : (b : Leg) → LegIsCalm b → LegConcerns g b
-  calm-leg b calm = idle-concerns g b (λ back. go b.phase (calm back))
+module _ (t : Network) (gs : List Group) (o : Routes) where
+  calm-leg : (b : Leg) → LegIsCalm b → LegConcerns gs b
+  calm-leg b calm = idle-concerns gs b (λ back. go b.phase (calm back))
     where
       go : (f : Phase) → is_idle f ≡ true → is_in_use f ≡ false
       go Asked e = refl
@@ -105,7 +111,7 @@ module _ (t : Network) (g : Group) (o : Routes) where
       go Closing e = refl
       go Falling e = absurd (cc e)
 
-  calm-call : (legs : List Leg) (c : CallRec) → CallKnows t o legs c → CallIsCalm c → CallHolds t g o c
+  calm-call : (legs : List Leg) (c : CallRec) → CallKnows t o legs c → CallIsCalm c → CallHolds t gs o c
   calm-call legs c knows calm =
       let works : has_any c.work_reports ≡ false = ap has_any calm.0 in
       let backs : has_any c.back_reports ≡ false = ap has_any calm.1 in
@@ -113,19 +119,19 @@ module _ (t : Network) (g : Group) (o : Routes) where
         concerns = record {
           work_reports = rw calm.0 tt;
           back_reports = rw calm.1 tt;
-          free = λ e. (let some = knows.stuck e in cc (some, works));
+          free = λ e. (let some = knows.stuck e in absurd (cc (some, works)));
         };
         work = λ some. absurd (cc (some, works));
         back = λ some. absurd (cc (some, backs));
       }
 
   calm-calls : (legs : List Leg) (calls : List CallRec) → AllByRecursion (CallKnows t o legs) calls →
-      AllByRecursion CallIsCalm calls → AllByRecursion (CallHolds t g o) calls
+      AllByRecursion CallIsCalm calls → AllByRecursion (CallHolds t gs o) calls
   calm-calls legs [] knows calm = tt
   calm-calls legs (c ∷ calls) knows calm =
       (calm-call legs c knows.0 calm.0, calm-calls legs calls knows.1 calm.1)
 
-  calm-msg : (m : Msg) → is_calm_msg m ≡ true → MsgConcerns t g m
+  calm-msg : (m : Msg) → is_calm_msg m ≡ true → MsgConcerns t gs m
   calm-msg (Path l e k route set up (Work guard)) calm = tt
   calm-msg (Path l e k route set up (Back true work primary)) calm = absurd (cc calm)
   calm-msg (Path l e k route set up (Back false work primary)) calm = tt
@@ -135,20 +141,20 @@ module _ (t : Network) (g : Group) (o : Routes) where
   calm-msg (PathErr l e at false code) calm = absurd (cc calm)
   calm-msg (Notify l e at k code) calm = absurd (cc calm)
 
-  calm-item : (i : DeskItem) → is_calm_item i ≡ true → ItemConcerns t g i
+  calm-item : (i : DeskItem) → is_calm_item i ≡ true → ItemConcerns t gs i
   calm-item (Order c) calm = tt
   calm-item (Alarm f) calm = absurd (cc calm)
   calm-item (Clear f) calm = absurd (cc calm)
 
-  calm-holds : (s : Mesh) → MeshKnows t o s → Calm s → MeshHolds t g o s
+  calm-holds : (s : Mesh) → MeshKnows t o s → Calm s → MeshHolds t gs o s
   calm-holds s knows calm = record {
     nodes = λ n. record {
-      legs = all-then LegIsCalm (LegConcerns g) (s.nodes n).legs calm-leg (calm.legs n);
+      legs = all-then LegIsCalm (LegConcerns gs) (s.nodes n).legs calm-leg (calm.legs n);
       calls = calm-calls (s.nodes n).legs (s.nodes n).calls (knows.nodes (record { 0 = n })).calls (calm.reports n);
       down = rw (calm.down n) tt;
     };
-    desks = λ n. all-then (λ i. is_calm_item i ≡ true) (ItemConcerns t g) (s.desks n) calm-item (calm.desks n);
-    mail = λ u d. all-then (λ m. is_calm_msg m ≡ true) (MsgConcerns t g) (s.mail u d) calm-msg (calm.mail u d);
+    desks = λ n. all-then (λ i. is_calm_item i ≡ true) (ItemConcerns t gs) (s.desks n) calm-item (calm.desks n);
+    mail = λ u d. all-then (λ m. is_calm_msg m ≡ true) (MsgConcerns t gs) (s.mail u d) calm-msg (calm.mail u d);
     failed = rw calm.failed tt;
   }
 
@@ -157,23 +163,23 @@ module _ (t : Network) (g : Group) (o : Routes) where
 abbrev Grow : Routes → Routes → Type 0
 Grow o o' = (l : Lsp) (route : List Step) → o l ≡ Some route → o' l ≡ Some route
 
-module _ (t : Network) (g : Group) (o o' : Routes) (grow : Grow o o') where
-  exposed-grown : (l : Option Lsp) → IsExposed t g o l → IsExposed t g o' l
+module _ (t : Network) (gs : List Group) (o o' : Routes) (grow : Grow o o') where
+  exposed-grown : (l : Option Lsp) → IsExposed t gs o l → IsExposed t gs o' l
   exposed-grown None exposed = exposed
   exposed-grown (Some l) (route, sent, on) = (route, grow l route sent, on)
 
-  call-grown : (c : CallRec) → CallHolds t g o c → CallHolds t g o' c
+  call-grown : (c : CallRec) → CallHolds t gs o c → CallHolds t gs o' c
   call-grown c holds = record {
     concerns = holds.concerns;
     work = λ some. exposed-grown c.work (holds.work some);
     back = λ some. exposed-grown c.back (holds.back some);
   }
 
-  mesh-grown : (s : Mesh) → MeshHolds t g o s → MeshHolds t g o' s
+  mesh-grown : (s : Mesh) → MeshHolds t gs o s → MeshHolds t gs o' s
   mesh-grown s old = record {
     nodes = λ n. record {
       legs = (old.nodes n).legs;
-      calls = all-then (CallHolds t g o) (CallHolds t g o') (s.nodes n).calls call-grown (old.nodes n).calls;
+      calls = all-then (CallHolds t gs o) (CallHolds t gs o') (s.nodes n).calls call-grown (old.nodes n).calls;
       down = (old.nodes n).down;
     };
     desks = old.desks;
@@ -202,11 +208,11 @@ routes-grow t s (x ∷ a) b l route e =
     or_route-later (first_route l (sent_at_ingress t s x l)) (route_of t (step t s x) a l)
     (route_of t (step t s x) (a ++ b) l) route (routes-grow t (step t s x) a b l) e
 
-run-first : (t : Network) (s : Mesh) (a b : List MeshEvent) → IsRun t s (a ++ b) → IsRun t s a
+pub run-first : (t : Network) (s : Mesh) (a b : List MeshEvent) → IsRun t s (a ++ b) → IsRun t s a
 run-first t s [] b run = tt
 run-first t s (e ∷ a) b run = (run.0, run-first t (step t s e) a b run.1)
 
-append-one : (a : List MeshEvent) (e : MeshEvent) (b : List MeshEvent) → (a ++ e ∷ []) ++ b ≡ a ++ e ∷ b
+pub append-one : (a : List MeshEvent) (e : MeshEvent) (b : List MeshEvent) → (a ++ e ∷ []) ++ b ≡ a ++ e ∷ b
 append-one [] e b = refl
 append-one (x ∷ a) e b = ap (λ xs. x ∷ xs) (append-one a e b)
 
@@ -219,60 +225,49 @@ abbrev pub EachKnows : Network → Type 0
 EachKnows t = (events : List MeshEvent) → IsRun t start events →
     MeshKnows t (route_of t start events) (after t start events)
 
+-- at each state from here on backups stay apart
+abbrev pub StayApart : Network → List Group → Mesh → List MeshEvent → Type 0
+StayApart t gs s [] = Unit {0}
+StayApart t gs s (e ∷ es) = AllApart gs s × StayApart t gs (step t s e) es
+
 -- from a state of the run on
-pub record KeptSince (t : Network) (g : Group) (before since : List MeshEvent) : Type 0 where
+pub record KeptSince (t : Network) (gs : List Group) (before since : List MeshEvent) : Type 0 where
   pub none_refused : NoneRefused t (after t start before) since
-  pub holds : MeshHolds t g (route_of t start (before ++ since)) (after t start (before ++ since))
+  pub holds : MeshHolds t gs (route_of t start (before ++ since)) (after t start (before ++ since))
 
-module _ (t : Network) (g : Group) (distinct : is_distinct (map (λ l. l.id.0) t.links) ≡ true) (knows : EachKnows t)
-  where
-    goes-on : (before since : List MeshEvent) → IsRun t start (before ++ since) → AllByRecursion (FailsOnly g) since →
-        MeshHolds t g (route_of t start before) (after t start before) → KeptSince t g before since
-    goes-on before [] run only old = record {
-      none_refused = tt;
-      holds = subst (λ es. MeshHolds t g (route_of t start es) (after t start es)) (sym (append-none before)) old;
-    }
-    goes-on before (e ∷ es) run only old =
-        let s : Mesh = after t start before in
-        let told = knows before (run-first t start before (e ∷ es) run) in
-        let next : after t start (before ++ e ∷ []) ≡ step t s e = after-append t start before (e ∷ []) in
-        let same = append-one before e es in
-        let later = goes-on (before ++ e ∷ []) es (subst (IsRun t start) (sym same) run) only.1
-        (mesh-grown t g (route_of t start before) (route_of t start (before ++ e ∷ []))
-        (routes-grow t start before (e ∷ [])) (after t start (before ++ e ∷ []))
-        (subst (MeshHolds t g (route_of t start before)) (sym next)
-        (step-holds t g distinct (route_of t start before) s told old e only.0)))
-        in
-        record {
-          none_refused = (
-            step-admits t g distinct (route_of t start before) s told old e,
-            subst (λ x. NoneRefused t x es) next later.none_refused,
-          );
-          holds = subst (λ xs. MeshHolds t g (route_of t start xs) (after t start xs)) same later.holds;
-        }
+module _ (t : Network) (gs : List Group) (distinct : is_distinct (map (λ l. l.id.0) t.links) ≡ true)
+    (knows : EachKnows t) where
+  goes-on : (before since : List MeshEvent) → IsRun t start (before ++ since) → AllByRecursion (FailsOnly gs) since →
+      StayApart t gs (after t start before) since → MeshHolds t gs (route_of t start before) (after t start before) →
+      KeptSince t gs before since
+  goes-on before [] run only apart old = record {
+    none_refused = tt;
+    holds = subst (λ es. MeshHolds t gs (route_of t start es) (after t start es)) (sym (append-none before)) old;
+  }
+  goes-on before (e ∷ es) run only apart old =
+      let s : Mesh = after t start before in
+      let o : Routes = route_of t start before in
+      let told = knows before (run-first t start before (e ∷ es) run) in
+      let next : after t start (before ++ e ∷ []) ≡ step t s e = after-append t start before (e ∷ []) in
+      let same = append-one before e es in
+      let later = goes-on (before ++ e ∷ []) es (subst (IsRun t start) (sym same) run) only.1
+      (subst (λ x. StayApart t gs x es) (sym next) apart.1)
+      (mesh-grown t gs o (route_of t start (before ++ e ∷ [])) (routes-grow t start before (e ∷ []))
+      (after t start (before ++ e ∷ []))
+      (subst (MeshHolds t gs o) (sym next) (step-holds t gs distinct o s told old apart.0 e only.0)))
+      in
+      record {
+        none_refused = (
+          step-admits t gs distinct o s told old apart.0 e,
+          subst (λ x. NoneRefused t x es) next later.none_refused,
+        );
+        holds = subst (λ xs. MeshHolds t gs (route_of t start xs) (after t start xs)) same later.holds;
+      }
 
-    pub from-calm : (before since : List MeshEvent) → IsRun t start (before ++ since) →
-        AllByRecursion (FailsOnly g) since → Calm (after t start before) → KeptSince t g before since
-    from-calm before since run only calm =
-        goes-on before since run only
-        (calm-holds t g (route_of t start before) (after t start before)
-        (knows before (run-first t start before since run)) calm)
-
--- In the words of the law
-
-mesh-concerns : (t : Network) (g : Group) (o : Routes) (s : Mesh) → MeshHolds t g o s → AllConcern t g s
-mesh-concerns t g o s holds = record {
-  nodes = λ n. record {
-    legs = (holds.nodes n).legs;
-    calls = all-then (CallHolds t g o) (CallConcerns t g) (s.nodes n).calls (λ c h. h.concerns) (holds.nodes n).calls;
-    down = (holds.nodes n).down;
-  };
-  desks = holds.desks;
-  mail = holds.mail;
-  failed = holds.failed;
-}
-
-pub all-concern : (t : Network) (g : Group) (before since : List MeshEvent) → KeptSince t g before since →
-    AllConcern t g (after t start (before ++ since))
-all-concern t g before since kept =
-    mesh-concerns t g (route_of t start (before ++ since)) (after t start (before ++ since)) kept.holds
+  pub from-calm : (before since : List MeshEvent) → IsRun t start (before ++ since) →
+      AllByRecursion (FailsOnly gs) since → StayApart t gs (after t start before) since →
+      Calm (after t start before) → KeptSince t gs before since
+  from-calm before since run only apart calm =
+      goes-on before since run only apart
+      (calm-holds t gs (route_of t start before) (after t start before)
+      (knows before (run-first t start before since run)) calm)

@@ -1,0 +1,146 @@
+-- What a message about its LSPs makes of a call concerns one of the groups.
+use Rattle.std.proofs.Common.{◌≡◌, true, false, nat_lt, List, drop, refl, sym, subst}
+use Rattle.std.specs.Prelude.{Option, Some, None, is_some}
+use Rattle.ason_base.specs.Network.{Network}
+use Rattle.ason_base.specs.Risks.{unknown_link}
+use Rattle.ason_base.specs.declared.codes.ErrCode.{ErrCode}
+use Rattle.ason_base.specs.declared.ids.Lsp.{Lsp}
+use Rattle.ason_base.specs.declared.network.LinkSpec.{LinkSpec}
+use Rattle.ason_base.specs.declared.calls.CallState.TheVariants.{Bare, Guarded, Turned}
+use Rattle.ason_base.specs.declared.calls.Cause.{Cause}
+use Rattle.ason_base.specs.declared.calls.Cause.TheVariants.{Code, Full, NoBackup, Spent}
+use Rattle.ason_base.specs.declared.commands.Group.{Group}
+use Rattle.ason_base.specs.declared.steps.Step.{Step}
+use Rattle.ason_base.specs.declared.tables.CallRec.{CallRec}
+use Rattle.ason_base.specs.declared.tables.Leg.{Leg}
+use Rattle.mesh_rules.specs.declared.limits.TheConstants.{LAST_NUMBER}
+use Rattle.mesh_rules.specs.Calls.{bare, blocked, call_with, guarded, is_asking, is_pairing, is_turning, turned, unbacked}
+use Rattle.mesh_rules.specs.CallSteps.{backup_refused, backup_reserved, call_answered, call_refused, call_turned, work_connected, work_refused}
+use Rattle.mesh_rules.specs.Changes.{nothing}
+use Rattle.mesh_rules.specs.FirstLegs.{first_link, is_full}
+use Rattle.mesh_rules.specs.KnownRows.{known_rows}
+use Rattle.mesh_rules.specs.Legs.{find_leg, is_work}
+use Rattle.mesh_rules.specs.LocalNodes.{LocalNode}
+use Rattle.mesh_rules.specs.Pairs.{backup_route, begins_backup, leaves_bare, over_backup, pair, pair_over, route_from}
+use Rattle.mesh_rules.specs.State.{NodeState}
+use Rattle.mesh_rules.specs.Turns.{activating, call_put, decide, has_any}
+use Rattle.mesh_nodes.proofs.Cases.{if_cases}
+use Rattle.mesh_laws.proofs.alone.Calls.{MayTurn, blocked-holds, called-holds, called-knows, decide-fine, in_state, its-backup, may-turn, turned-fine, unbacked-holds}
+use Rattle.mesh_laws.proofs.alone.Facts.{CallKnows, NodeKnows, Routes}
+use Rattle.mesh_laws.proofs.alone.Fine.{CallHolds, Fine, NodeHolds, fine-call, fine-nothing}
+use Rattle.mesh_laws.proofs.alone.Groups.{RoleConcerns, has_one}
+
+module _ (t : Network) (gs : List Group) (o : Routes) (p : LocalNode) (s : NodeState)
+    (knows : NodeKnows t o p s) (holds : NodeHolds t gs o s) where
+  known : (l : Lsp) (c : CallRec) → call_with l s.calls ≡ Some c → CallKnows t o s.legs c
+  known = called-knows t gs o p s knows holds
+
+  held : (l : Lsp) (c : CallRec) → call_with l s.calls ≡ Some c → CallHolds t gs o c
+  held = called-holds t gs o p s knows holds
+
+  -- Pairs
+
+  bare-fine : (c : CallRec) (cause : Cause) → CallHolds t gs o c → Fine t gs o (leaves_bare c cause)
+  bare-fine c cause of = fine-call t gs o (unbacked c cause) (unbacked-holds t gs o c cause of)
+
+  begins-fine : (c : CallRec) (w : Leg) (out : LinkSpec) (route : List Step) → CallHolds t gs o c →
+      Fine t gs o (begins_backup p s c w out route)
+  begins-fine c w out route of = record {
+    legs = ((λ back used. absurd (cc used)), tt);
+    calls = (
+      record {
+        concerns = record { work_reports = of.concerns.work_reports; back_reports = tt; free = λ e. absurd (cc e) };
+        work = of.work;
+        back = λ e. absurd (cc e);
+      },
+      tt,
+    );
+    down = tt;
+    sent = (tt, tt);
+  }
+
+  over-fine : (c : CallRec) (w : Leg) (route : List Step) (out : Option LinkSpec) → CallHolds t gs o c →
+      Fine t gs o (over_backup p s c w route out)
+  over-fine c w route None of = bare-fine c NoBackup of
+  over-fine c w route (Some out) of =
+      if_cases (Fine t gs o) (nat_lt LAST_NUMBER s.lsp) (leaves_bare c Spent) _ (λ e. bare-fine c Spent of)
+      (λ e. if_cases (Fine t gs o) (is_full s) (leaves_bare c Full) (begins_backup p s c w out (drop 1 route))
+      (λ e. bare-fine c Full of) (λ e. begins-fine c w out (drop 1 route) of))
+
+  pair_over-fine : (c : CallRec) (w : Leg) (route : Option (List Step)) → CallHolds t gs o c →
+      Fine t gs o (pair_over p s c w route)
+  pair_over-fine c w None of = bare-fine c NoBackup of
+  pair_over-fine c w (Some route) of = over-fine c w route (first_link p route) of
+
+  pub pair-fine : (c : CallRec) (w : Leg) → CallHolds t gs o c → Fine t gs o (pair p s c w)
+  pair-fine c w of =
+      if_cases (Fine t gs o) (is_some (unknown_link (known_rows p s) (route_from p w))) (leaves_bare c NoBackup)
+      (pair_over p s c w (backup_route p s c w)) (λ e. bare-fine c NoBackup of)
+      (λ e. pair_over-fine c w (backup_route p s c w) of)
+
+  -- After a Resv. b is the leg, and h what it has become.
+
+  work_connected-fine : (w : Leg) (c : CallRec) → CallHolds t gs o c → Fine t gs o (work_connected p s w c)
+  work_connected-fine w c of =
+      if_cases (Fine t gs o) (is_asking c.state) _ nothing
+      (λ e. if_cases (Fine t gs o) c.protected (pair p s c w) (call_put (bare c)) (λ e. pair-fine c w of)
+      (λ e. fine-call t gs o (bare c) (in_state t gs o c Bare _ _ (λ e. absurd (cc e)) of)))
+      (λ e. fine-nothing t gs o)
+
+  backup_reserved-fine : (b h : Leg) (c : CallRec) → find_leg b.lsp s.legs ≡ Some b → is_work b.role ≡ false →
+      h.risks ≡ b.risks → h.path_role ≡ b.path_role → call_with b.lsp s.calls ≡ Some c →
+      Fine t gs o (backup_reserved h c)
+  backup_reserved-fine b h c here back risks path called =
+      if_cases (Fine t gs o) (is_pairing c.state) (decide (guarded c) (Some h)) nothing
+      (λ e. decide-fine t gs o p s knows holds (guarded c) c (Some h) (known b.lsp c called) refl refl
+      (in_state t gs o c Guarded _ _ (λ e. absurd (cc e)) (held b.lsp c called))
+      (λ exposed.
+      turns (may-turn t gs o p s knows holds c b.lsp b (known b.lsp c called) exposed
+      (its-backup t gs o p s knows holds b c here back called) here)))
+      (λ e. fine-nothing t gs o)
+    where
+      turns : MayTurn t gs b → MayTurn t gs h
+      turns may = record {
+        records = subst (λ x. has_one x gs ≡ true) (sym risks) may.records;
+        role = subst (λ x. RoleConcerns t gs (activating x)) (sym path) may.role;
+      }
+
+  pub call_answered-fine : (b h : Leg) (c : Option CallRec) → find_leg b.lsp s.legs ≡ Some b → h.role ≡ b.role →
+      h.risks ≡ b.risks → h.path_role ≡ b.path_role → call_with b.lsp s.calls ≡ c →
+      Fine t gs o (call_answered p s h c)
+  call_answered-fine b h None here same risks path called = fine-nothing t gs o
+  call_answered-fine b h (Some c) here same risks path called =
+      if_cases (Fine t gs o) (is_work h.role) (work_connected p s h c) (backup_reserved h c)
+      (λ e. work_connected-fine h c (held b.lsp c called))
+      (λ e. backup_reserved-fine b h c here (rw same at e) risks path called)
+
+  -- the backup carries the call, which may go back at once
+  pub call_turned-fine : (b : Leg) (l : Lsp) (c : Option CallRec) → call_with l s.calls ≡ c →
+      Fine t gs o (call_turned b c)
+  call_turned-fine b l None called = fine-nothing t gs o
+  call_turned-fine b l (Some c) called =
+      if_cases (Fine t gs o) (is_turning c.state) (decide (turned c) (Some b)) nothing
+      (λ e. turned-fine t gs o (turned c) (Some b) (has_any c.work_reports) (has_any c.back_reports)
+      (in_state t gs o c Turned _ _ (λ e. absurd (cc e)) (held l c called)))
+      (λ e. fine-nothing t gs o)
+
+  -- After a PathErr
+
+  work_refused-fine : (code : ErrCode) (c : CallRec) → CallHolds t gs o c → Fine t gs o (work_refused code c)
+  work_refused-fine code c of =
+      if_cases (Fine t gs o) (is_asking c.state) (call_put (blocked c (Code code))) nothing
+      (λ e. fine-call t gs o (blocked c (Code code)) (blocked-holds t gs o c (Code code) of))
+      (λ e. fine-nothing t gs o)
+
+  backup_refused-fine : (code : ErrCode) (c : CallRec) → CallHolds t gs o c → Fine t gs o (backup_refused code c)
+  backup_refused-fine code c of =
+      if_cases (Fine t gs o) (is_pairing c.state) (leaves_bare c (Code code)) nothing
+      (λ e. bare-fine c (Code code) of) (λ e. fine-nothing t gs o)
+
+  pub call_refused-fine : (code : ErrCode) (b : Leg) (l : Lsp) (c : Option CallRec) → call_with l s.calls ≡ c →
+      Fine t gs o (call_refused code b c)
+  call_refused-fine code b l None called = fine-nothing t gs o
+  call_refused-fine code b l (Some c) called =
+      if_cases (Fine t gs o) (is_work b.role) (work_refused code c) (backup_refused code c)
+      (λ e. work_refused-fine code c (held l c called))
+      (λ e. backup_refused-fine code c (held l c called))

@@ -1,0 +1,62 @@
+-- What a node answers to the first Path of an LSP concerns any group: the leg that it makes isn't in use.
+use Rattle.std.proofs.Common.{◌≡◌, ℕ, true, false, nat_eq, List, [], ◌∷◌, refl}
+use Rattle.std.specs.Prelude.{◌&&◌, not, Option, Some, None}
+use Rattle.ason_base.specs.Labels.{least}
+use Rattle.ason_base.specs.Network.{Network}
+use Rattle.ason_base.specs.declared.codes.ErrCode.{ErrCode}
+use Rattle.ason_base.specs.declared.network.LinkSpec.{LinkSpec}
+use Rattle.ason_base.specs.declared.commands.Group.{Group}
+use Rattle.ason_base.specs.declared.messages.PathRole.{PathRole}
+use Rattle.ason_base.specs.declared.messages.PathRole.TheVariants.{Work, Back}
+use Rattle.ason_base.specs.declared.risks.Risk.{Risk}
+use Rattle.ason_base.specs.declared.steps.Step.{Step}
+use Rattle.mesh_rules.specs.Changes.{nothing}
+use Rattle.mesh_rules.specs.LocalNodes.{LocalNode, leads, own_link}
+use Rattle.mesh_rules.specs.Paths.{PathRequest, admitted, at_egress, checks, egress_leg, first_failure, first_path, in_transit, is_active, judged, offered_labels, risks_here, transit_leg}
+use Rattle.mesh_rules.specs.State.{NodeState}
+use Rattle.mesh_nodes.proofs.Cases.{both_left, if_cases, not-true}
+use Rattle.mesh_laws.proofs.alone.Facts.{Routes}
+use Rattle.mesh_laws.proofs.alone.Fine.{Fine, fine-nothing, fine-puts, fine-sends}
+use Rattle.mesh_laws.proofs.alone.Groups.{RoleConcerns}
+use Rattle.mesh_laws.proofs.alone.Legs.{idle-concerns, reserved-concerns}
+
+module _ (t : Network) (gs : List Group) (o : Routes) (p : LocalNode) (s : NodeState) where
+  at_egress-fine : (m : PathRequest) (link : LinkSpec) (risks : List Risk) (offered : List ℕ) (x : Option ℕ) →
+      Fine t gs o (at_egress p m link risks offered x)
+  at_egress-fine m link risks offered None = fine-nothing t gs o
+  at_egress-fine m link risks offered (Some x) =
+      fine-puts t gs o (egress_leg p m link risks offered x) _
+      (reserved-concerns gs (egress_leg p m link risks offered x) refl) (tt, tt)
+
+  passive : (r : PathRole) → is_active r ≡ false → RoleConcerns t gs r
+  passive (Work guard) e = tt
+  passive (Back true work primary) e = absurd (cc e)
+  passive (Back false work primary) e = tt
+
+  in_transit-fine : (m : PathRequest) (link : LinkSpec) (risks : List Risk) (route : List Step) (offered : List ℕ)
+      (out : Option LinkSpec) → is_active m.role ≡ false → Fine t gs o (in_transit p m link risks route offered out)
+  in_transit-fine m link risks route offered None plain = fine-nothing t gs o
+  in_transit-fine m link risks route offered (Some out) plain =
+      fine-puts t gs o (transit_leg p m link risks out route offered) _
+      (idle-concerns gs (transit_leg p m link risks out route offered) (λ back. refl)) (passive m.role plain, tt)
+
+  admitted-fine : (m : PathRequest) (link : LinkSpec) (risks : List Risk) (offered : List ℕ) (route : List Step) →
+      is_active m.role ≡ false → Fine t gs o (admitted p m link risks offered route)
+  admitted-fine m link risks offered [] plain = at_egress-fine m link risks offered (least offered)
+  admitted-fine m link risks offered (hop ∷ route) plain =
+      in_transit-fine m link risks route offered (own_link p hop.link) plain
+
+  judged-fine : (m : PathRequest) (link : LinkSpec) (code : Option ErrCode) → is_active m.role ≡ false →
+      Fine t gs o (judged p s m link code)
+  judged-fine m link (Some code) plain = fine-sends t gs o _ (tt, tt)
+  judged-fine m link None plain =
+      admitted-fine m link (risks_here p s m) (offered_labels p s m link) m.route plain
+
+  pub first_path-fine : (m : PathRequest) (link : Option LinkSpec) → Fine t gs o (first_path p s m link)
+  first_path-fine m None = fine-nothing t gs o
+  first_path-fine m (Some link) =
+      if_cases (Fine t gs o) (not (is_active m.role) && (leads (Some link) m.arrival.from p.id &&
+      not (nat_eq m.arrival.lsp.ingress.0 p.id.0))) _ nothing
+      (λ e. judged-fine m link (first_failure (checks p s m link))
+      (not-true _ (both_left (not (is_active m.role)) _ e)))
+      (λ e. fine-nothing t gs o)
