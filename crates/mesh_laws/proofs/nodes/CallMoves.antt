@@ -12,7 +12,7 @@ use Rattle.ason_base.specs.declared.ids.Lsp.{Lsp}
 use Rattle.ason_base.specs.declared.tables.CallRec.{CallRec}
 use Rattle.ason_base.specs.Lsps.{has_fibre, is_lsp}
 use Rattle.mesh_rules.specs.Calls.{bare, blocked, guarded, is_asking, is_bare, is_pairing, is_turned, pairing, stuck, turned, turning, unbacked}
-use Rattle.mesh_rules.specs.Reports.{fibres_after, reported}
+use Rattle.mesh_rules.specs.Reports.{fibres_after}
 use Rattle.mesh_rules.specs.Turns.{has_any}
 use Rattle.mesh_nodes.proofs.Cases.{if_cases}
 use Rattle.mesh_nodes.proofs.Alarms.{all-append}
