@@ -7,6 +7,7 @@ use Rattle.mesh_rules.specs.Events.{IsRun}
 use Rattle.mesh_laws.specs.Laws.{EveryRunKeepsTheLaws, LawsHold}
 use Rattle.mesh_laws.proofs.alone.Law.{every_activation_admitted}
 use Rattle.mesh_laws.proofs.alone.Runs.{run-first}
+use Rattle.mesh_laws.proofs.contends.Law.{no_contend}
 use Rattle.mesh_laws.proofs.hops.Beside.{every_backup_beside}
 use Rattle.mesh_laws.proofs.hops.Joined.{every_call_joined}
 use Rattle.mesh_laws.proofs.hops.Laws.{every_hop}
@@ -49,6 +50,7 @@ laws_hold t events run =
       reports = λ valid. every_report_tells t events valid run;
       admitted = λ valid. every_activation_admitted t events valid run;
       restored = λ valid. every_hit_call t events valid run;
+      uncontended = λ valid. no_contend t events valid run;
       rests = λ valid. every_run_rests t events valid run;
       ends = λ valid. every_run_ends t events valid run;
     }

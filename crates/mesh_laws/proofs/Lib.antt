@@ -1,6 +1,8 @@
 pub mod EveryRun
 pub mod alone
+pub mod contends
 pub mod hops
+pub mod kept
 pub mod nodes
 pub mod reports
 pub mod restoration

@@ -9,6 +9,7 @@ use Rattle.mesh_rules.specs.Events.{IsRun, after, is_enabled, route_of}
 use Rattle.mesh_laws.specs.AloneLaw.{ActivationsAreAdmitted}
 use Rattle.mesh_laws.specs.BesideLaw.{BackupsGoBeside}
 use Rattle.mesh_laws.specs.CallLaw.{CallsAreTidy, CallsFit}
+use Rattle.mesh_laws.specs.ContendLaw.{UncontendedAreAdmitted}
 use Rattle.mesh_laws.specs.HopLaw.{HasOneLegEach, LspFits}
 use Rattle.mesh_laws.specs.JoinedLaw.{CallsAreJoined}
 use Rattle.mesh_laws.specs.KnownLaw.{KnownFibresComeIn}
@@ -69,6 +70,8 @@ pub record LawsHold (t : Network) (events : List MeshEvent) : Type 0 where
   -- so once nothing is under way each guarded call is carried from end to end over fibres that are up, by its backup
   -- where its working LSP is hit
   pub restored : IsTopology t → RestorationHolds t events
+  -- nor is an activation refused while two groups alone fail that don't contend
+  pub uncontended : IsTopology t → UncontendedAreAdmitted t events
   -- and of the events that take a message or handle an item there are at most so many for each post and each tick
   pub rests : IsTopology t → handled events ≤ added t events
   -- so after these only so many can follow while nothing more is posted and no node ticks

@@ -1,6 +1,7 @@
 pub mod AloneLaw
 pub mod BesideLaw
 pub mod CallLaw
+pub mod ContendLaw
 pub mod HopLaw
 pub mod HopShapes
 pub mod JoinedLaw

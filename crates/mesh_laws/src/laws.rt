@@ -3,6 +3,7 @@
 ghost use Rattle.mesh_laws.specs.AloneLaw.{EveryActivationIsAdmitted, EveryRunStartsCalm};
 ghost use Rattle.mesh_laws.specs.BesideLaw.{EveryBackupGoesBeside};
 ghost use Rattle.mesh_laws.specs.CallLaw.{EveryCallFitsItsLegs, EveryCallIsTidy};
+ghost use Rattle.mesh_laws.specs.ContendLaw.{NoContend};
 ghost use Rattle.mesh_laws.specs.HopLaw.{EveryHopHasAShape};
 ghost use Rattle.mesh_laws.specs.JoinedLaw.{EveryCallIsJoined};
 ghost use Rattle.mesh_laws.specs.KnownLaw.{EveryKnownFibreComesIn};
@@ -76,8 +77,8 @@ ghost use Rattle.mesh_laws.specs.WavelengthLaw.{EveryCallKeepsItsWavelengths};
 /// follow while nothing more is posted and no node ticks (`ends`), and where no such event is
 /// enabled no message is under way and each desk is empty (`quiet`).
 ///
-/// What all clauses but `searchable`, `calm` and `quiet` say of one state, the last one says in one
-/// word (`together`).
+/// What all clauses but `searchable`, `calm` and `quiet` say of one state, and `no_contend` with
+/// them, the last one says in one word (`together`).
 pub fn every_run()
     ensures labels { EveryLabelIsShared }
     ensures labelled { EveryLiveLegIsLabelled }
@@ -106,6 +107,15 @@ pub fn every_run()
     ensures ends { EveryRunEnds }
     ensures quiet { EveryRestIsQuiet }
     ensures together { EveryRunKeepsTheLaws }
+{}
+
+/// Of every topology, every run, and each two groups: take a quiet and calm state of the run in
+/// which no two guarded calls would contend for a label, the one hit by the first group and the
+/// other by the second. While since then no other group failed or was repaired and nothing was set
+/// up, released or protected, no activation of a backup is refused, in whatever order the two fail
+/// and are repaired, and with whatever orders to try again or to go back.
+pub fn no_contend()
+    ensures { NoContend }
 {}
 
 /// At each node, whatever messages come to it, of whatever senders, whatever rows it learns,

@@ -3,4 +3,4 @@
 
 pub mod laws;
 
-pub use laws::{every_node, every_run};
+pub use laws::{every_node, every_run, no_contend};

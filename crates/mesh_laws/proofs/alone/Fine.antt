@@ -7,13 +7,14 @@ use Rattle.ason_base.specs.Network.{Network}
 use Rattle.ason_base.specs.declared.ids.Fibre.{Fibre}
 use Rattle.ason_base.specs.declared.ids.Lsp.{Lsp}
 use Rattle.ason_base.specs.declared.commands.Group.{Group}
+use Rattle.ason_base.specs.declared.messages.Msg.{Msg}
 use Rattle.ason_base.specs.declared.steps.Step.{Step}
 use Rattle.ason_base.specs.declared.tables.CallRec.{CallRec}
 use Rattle.ason_base.specs.declared.tables.Leg.{Leg}
 use Rattle.ason_base.specs.declared.tables.Out.{Out}
 use Rattle.mesh_rules.specs.declared.changes.CallChange.{CallChange}
-use Rattle.mesh_rules.specs.declared.changes.CallChange.TheVariants as call
 use Rattle.mesh_rules.specs.declared.changes.LegChange.{LegChange}
+use Rattle.mesh_rules.specs.declared.changes.CallChange.TheVariants as call
 use Rattle.mesh_rules.specs.declared.changes.LegChange.TheVariants as leg
 use Rattle.mesh_rules.specs.Calls.{calls_changed, with_call, without_call}
 use Rattle.mesh_rules.specs.Changes.{Answer, changed, changes_calls, down_after, followed_by, later, nothing, puts, removes, sends}
@@ -37,6 +38,17 @@ all-append P (x ∷ xs) ys a b = (a.0, all-append P xs ys a.1 b)
 pub all-drop : {X : Type 0} (P : X → Type 0) (xs : List X) → AllByRecursion P xs → AllByRecursion P (drop 1 xs)
 all-drop P [] all = tt
 all-drop P (x ∷ xs) all = all.1
+
+-- of all that is sent, what goes to this node
+pub all-sent : (P : Msg → Type 0) (d : ℕ) (outs : List Out) → AllByRecursion (λ x. P x.msg) outs →
+    AllByRecursion P (sent_to d outs)
+all-sent P d [] all = tt
+all-sent P d (x ∷ outs) all =
+    elim (nat_eq x.to.0 d) as (λ b. AllByRecursion P (map (λ y. y.msg)
+    (cond b (x ∷ filter (λ y. nat_eq y.to.0 d) outs) (filter (λ y. nat_eq y.to.0 d) outs)))) [
+      | true ↦ (all.0, all-sent P d outs all.1)
+      | false ↦ all-sent P d outs all.1
+    ]
 
 -- A state
 
@@ -146,16 +158,6 @@ module _ (t : Network) (gs : List Group) (o : Routes) where
     down = down-after a.down s.down fine.down old.down;
   }
 
-  sent-after : (d : ℕ) (outs : List Out) → AllByRecursion (OutFine t gs) outs →
-      AllByRecursion (MsgConcerns t gs) (sent_to d outs)
-  sent-after d [] fine = tt
-  sent-after d (x ∷ outs) fine =
-      elim (nat_eq x.to.0 d) as (λ b. AllByRecursion (MsgConcerns t gs) (map (λ y. y.msg)
-      (cond b (x ∷ filter (λ y. nat_eq y.to.0 d) outs) (filter (λ y. nat_eq y.to.0 d) outs)))) [
-        | true ↦ (fine.0, sent-after d outs fine.1)
-        | false ↦ sent-after d outs fine.1
-      ]
-
   pub commit-holds : (s : Mesh) (n : ℕ) (a : Answer) → Fine t gs o a → MeshHolds t gs o s →
       MeshHolds t gs o (commit s n a)
   commit-holds s n a fine old = record {
@@ -163,8 +165,9 @@ module _ (t : Network) (gs : List Group) (o : Routes) where
         (λ e. node-after (s.nodes m) a fine (old.nodes m)) (λ e. old.nodes m);
     desks = old.desks;
     mail = λ u d. if_cases (AllByRecursion (MsgConcerns t gs)) (nat_eq u n) (s.mail u d ++ sent_to d a.sent)
-        (s.mail u d) (λ e. all-append (MsgConcerns t gs) (s.mail u d) _ (old.mail u d) (sent-after d a.sent fine.sent))
-        (λ e. old.mail u d);
+        (s.mail u d)
+        (λ e. all-append (MsgConcerns t gs) (s.mail u d) _ (old.mail u d)
+        (all-sent (MsgConcerns t gs) d a.sent fine.sent)) (λ e. old.mail u d);
     failed = old.failed;
   }
 

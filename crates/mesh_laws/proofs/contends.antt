@@ -1,0 +1,3 @@
+pub mod Backups
+pub mod Law
+pub mod MayTurn

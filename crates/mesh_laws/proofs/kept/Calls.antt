@@ -1,0 +1,79 @@
+-- What is decided of a call leaves its legs but for their phases, and each is up.
+use Rattle.std.proofs.Common.{Bool, true, false, List, refl}
+use Rattle.std.specs.Prelude.{Option, Some, None}
+use Rattle.std.specs.List.{AllByRecursion}
+use Rattle.ason_base.specs.Codes.{busy_code}
+use Rattle.ason_base.specs.declared.calls.CallState.{CallState}
+use Rattle.ason_base.specs.declared.calls.CallState.TheVariants.{Asking, Bare, Blocked, Guarded, Pairing, Stuck, Turned, Turning}
+use Rattle.ason_base.specs.declared.calls.Cause.TheVariants.{Code}
+use Rattle.ason_base.specs.declared.tables.CallRec.{CallRec}
+use Rattle.ason_base.specs.declared.tables.Leg.{Leg}
+use Rattle.mesh_rules.specs.declared.neighbours.Neighbour.{Neighbour}
+use Rattle.mesh_rules.specs.Calls.{is_turning, stuck, turned}
+use Rattle.mesh_rules.specs.CallSteps.{call_contended, call_turned}
+use Rattle.mesh_rules.specs.Changes.{nothing}
+use Rattle.mesh_rules.specs.Legs.{following, is_held, is_in_use}
+use Rattle.mesh_rules.specs.Turns.{activating_path, arms, call_put, decide, decided, disarms, go_back, has_any, taking_path, turn}
+use Rattle.mesh_nodes.proofs.Cases.{if_cases}
+use Rattle.mesh_laws.proofs.kept.Phases.{IsHere, IsHereToo, Kept, OutKept, kept-nothing}
+
+module _ (legs : List Leg) where
+  pub kept-call : (c : CallRec) → Kept legs (call_put c)
+  kept-call c = record { legs = tt; sent = tt }
+
+  arms-kept : (c : CallRec) (b : Leg) → IsHere legs b → Kept legs (arms c b)
+  arms-kept c b here = record { legs = ((refl, here), tt); sent = path (following b) }
+    where
+      path : (h : Option Neighbour) → AllByRecursion OutKept (activating_path b h)
+      path None = tt
+      path (Some h) = (tt, tt)
+
+  pub turn-kept : (c : CallRec) (b : Option Leg) → IsHereToo legs b → Kept legs (turn c b)
+  turn-kept c None here = kept-call c
+  turn-kept c (Some b) here =
+      if_cases (Kept legs) (is_held b.phase) (arms c b) (call_put c) (λ e. arms-kept c b here) (λ e. kept-call c)
+
+  disarms-kept : (c : CallRec) (b : Leg) → IsHere legs b → Kept legs (disarms c b)
+  disarms-kept c b here = record { legs = ((refl, here), tt); sent = path (following b) }
+    where
+      path : (h : Option Neighbour) → AllByRecursion OutKept (taking_path b h)
+      path None = tt
+      path (Some h) = (tt, tt)
+
+  pub go_back-kept : (c : CallRec) (b : Option Leg) → IsHereToo legs b → Kept legs (go_back c b)
+  go_back-kept c None here = kept-call c
+  go_back-kept c (Some b) here =
+      if_cases (Kept legs) (is_in_use b.phase) (disarms c b) (call_put c) (λ e. disarms-kept c b here)
+      (λ e. kept-call c)
+
+  decided-kept : (c : CallRec) (b : Option Leg) (state : CallState) (works backs : Bool) → IsHereToo legs b →
+      Kept legs (decided c b state works backs)
+  decided-kept c b Guarded true false here = turn-kept c b here
+  decided-kept c b Guarded true true here = kept-call _
+  decided-kept c b Guarded false backs here = kept-call c
+  decided-kept c b Stuck false backs here = kept-call _
+  decided-kept c b Stuck true backs here = kept-call c
+  decided-kept c b Turned false true here = go_back-kept c b here
+  decided-kept c b Turned false false here = kept-call c
+  decided-kept c b Turned true backs here = kept-call c
+  decided-kept c b Asking works backs here = kept-call c
+  decided-kept c b Bare works backs here = kept-call c
+  decided-kept c b Blocked works backs here = kept-call c
+  decided-kept c b Pairing works backs here = kept-call c
+  decided-kept c b Turning works backs here = kept-call c
+
+  -- what becomes of it is told by its state and its reports; the leg of its backup stands
+  pub decide-kept : (c : CallRec) (b : Option Leg) → IsHereToo legs b → Kept legs (decide c b)
+  decide-kept c b here = decided-kept c b c.state (has_any c.work_reports) (has_any c.back_reports) here
+
+  pub call_turned-kept : (b : Leg) (c : Option CallRec) → IsHere legs b → Kept legs (call_turned b c)
+  call_turned-kept b None here = kept-nothing legs
+  call_turned-kept b (Some c) here =
+      if_cases (Kept legs) (is_turning c.state) (decide (turned c) (Some b)) nothing
+      (λ e. decide-kept (turned c) (Some b) here) (λ e. kept-nothing legs)
+
+  pub call_contended-kept : (b : Leg) (c : Option CallRec) → IsHere legs b → Kept legs (call_contended b c)
+  call_contended-kept b None here = kept-nothing legs
+  call_contended-kept b (Some c) here =
+      if_cases (Kept legs) (is_turning c.state) (decide (stuck c (Code busy_code)) (Some b)) nothing
+      (λ e. decide-kept (stuck c (Code busy_code)) (Some b) here) (λ e. kept-nothing legs)
