@@ -7,3 +7,4 @@ pub mod nodes
 pub mod reports
 pub mod restoration
 pub mod rest
+pub mod surveyed

@@ -86,20 +86,21 @@ GoesOnWith gs (Post (Revert n from)) = Unit {0}
 GoesOnWith gs (Post (Fail h)) = Contains gs h
 GoesOnWith gs (Post (Repair h)) = Contains gs h
 
--- In a quiet and calm state of the run no two calls would contend where g and h fail; and so the run went on since.
-pub record IsUncontended (t : Network) (events : List MeshEvent) (g h : Group) : Type 0 where
+-- Since a quiet and calm state of the run these two groups alone failed and were repaired, and nothing was set up,
+-- released or protected.
+pub record TwoAlone (t : Network) (events : List MeshEvent) (g h : Group) : Type 0 where
   pub before : List MeshEvent
   pub since : List MeshEvent
   pub parts : before ++ since ≡ events
   pub quiet : IsQuiet (after t start before)
   pub calm : Calm (after t start before)
-  pub none : NoneContend t (after t start before) g h
   pub only : AllByRecursion (GoesOnWith (g ∷ h ∷ [])) since
 
--- then no activation was refused since that state, and no refusal was passed back
+-- Where no calls would contend in that state, no activation was refused since, and no refusal was passed back.
 abbrev pub UncontendedAreAdmitted : Network → List MeshEvent → Type 0
 UncontendedAreAdmitted t events =
-    (g h : Group) (two : IsUncontended t events g h) → NoneRefused t (after t start two.before) two.since
+    (g h : Group) (two : TwoAlone t events g h) → NoneContend t (after t start two.before) g h →
+    NoneRefused t (after t start two.before) two.since
 
 -- over every topology and every run
 abbrev pub NoContend : Type 0

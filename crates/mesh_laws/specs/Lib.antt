@@ -17,6 +17,8 @@ pub mod RestorationLaw
 pub mod RiskLaw
 pub mod SafeLaw
 pub mod StandLaw
+pub mod Survey
+pub mod SurveyLaw
 pub mod WavelengthLaw
 pub mod Weights
 pub mod Work

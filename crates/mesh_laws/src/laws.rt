@@ -18,6 +18,7 @@ ghost use Rattle.mesh_laws.specs.RestorationLaw.{EveryHitCallIsRestored};
 ghost use Rattle.mesh_laws.specs.RiskLaw.{EveryBackupRecordsItsRisks};
 ghost use Rattle.mesh_laws.specs.SafeLaw.{EveryRunIsSafe};
 ghost use Rattle.mesh_laws.specs.StandLaw.{EveryCallStands, EveryCallStandsUntilReleased};
+ghost use Rattle.mesh_laws.specs.SurveyLaw.{NoSurveyedContend};
 ghost use Rattle.mesh_laws.specs.WavelengthLaw.{EveryCallKeepsItsWavelengths};
 
 /// Of every network, every run, and each state to which a run leads:
@@ -113,9 +114,12 @@ pub fn every_run()
 /// which no two guarded calls would contend for a label, the one hit by the first group and the
 /// other by the second. While since then no other group failed or was repaired and nothing was set
 /// up, released or protected, no activation of a backup is refused, in whatever order the two fail
-/// and are repaired, and with whatever orders to try again or to go back.
+/// and are repaired, and with whatever orders to try again or to go back (`mesh`). So it is where
+/// the survey of that state's rows lists no calls that would contend where these two, different
+/// groups, fail (`rows`).
 pub fn no_contend()
-    ensures { NoContend }
+    ensures mesh { NoContend }
+    ensures rows { NoSurveyedContend }
 {}
 
 /// At each node, whatever messages come to it, of whatever senders, whatever rows it learns,

@@ -2,5 +2,7 @@
 #![tactic(auto)]
 
 pub mod laws;
+pub mod survey;
 
 pub use laws::{every_node, every_run, no_contend};
+pub use survey::{CallNos, Contend, Hit};

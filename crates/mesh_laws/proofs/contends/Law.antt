@@ -135,7 +135,7 @@ module _ (t : Network) (events : List MeshEvent) (g h : Group) (valid : IsTopolo
           absurd (not (λ is. (let yes : same_lsp l m ≡ true = rw is (same_lsp-refl m) in cc (yes, e))))
 
 pub no_contend : NoContend
-no_contend t events valid run g h two =
+no_contend t events valid run g h two none =
     let distinct = and_first _ _ (topology_searchable t valid) in
     let both : List Group = g ∷ h ∷ [] in
     let before = two.before in
@@ -144,5 +144,5 @@ no_contend t events valid run g h two =
     let first = run-first t start before since parted in
     let only = all-then (GoesOnWith both) (FailsOnly both) since (fails-only both) two.only in
     let apart = stay-apart t both before since parted two.only two.quiet
-    (up t before g h valid first two.quiet two.none) (are-apart t before g h valid first two.quiet two.none) in
+    (up t before g h valid first two.quiet none) (are-apart t before g h valid first two.quiet none) in
     (from-calm t both distinct (each-knows t valid) before since parted only apart two.calm).none_refused

@@ -64,15 +64,16 @@ has-backup Blocked None f e beyond = absurd (cc e)
 has-backup state w f e beyond = absurd (cc e)
 
 -- the backup's leg at the ingress
-record BackupThere (o : Option Lsp) (legs : List Leg) : Type 0 where
-  lsp : Lsp
-  leg : Leg
-  named : o ≡ Some lsp
-  here : find_leg lsp legs ≡ Some leg
-  stands : leg_of o legs ≡ Some leg
-  reserved : is_beyond_asked leg.phase ≡ true
+pub record BackupThere (o : Option Lsp) (legs : List Leg) : Type 0 where
+  pub lsp : Lsp
+  pub leg : Leg
+  pub named : o ≡ Some lsp
+  pub here : find_leg lsp legs ≡ Some leg
+  pub stands : leg_of o legs ≡ Some leg
+  pub reserved : is_beyond_asked leg.phase ≡ true
 
-backup-there : (o : Option Lsp) (legs : List Leg) → is_label_reserved (leg_of o legs) ≡ true → BackupThere o legs
+-- a guarded call has one
+pub backup-there : (o : Option Lsp) (legs : List Leg) → is_label_reserved (leg_of o legs) ≡ true → BackupThere o legs
 backup-there None legs e = absurd (cc e)
 backup-there (Some l) legs e = go (find_leg l legs) refl e
   where

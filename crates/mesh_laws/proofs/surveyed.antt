@@ -1,0 +1,4 @@
+pub mod Law
+pub mod Listed
+pub mod Rows
+pub mod Stands

@@ -1,0 +1,112 @@
+-- Where the survey of a state's rows lists no calls that would contend where two groups fail, none would.
+use Rattle.std.proofs.Common.{◌≡◌, Bool, true, false, nat_eq, List, ◌++◌, refl, sym, ap, ◌∙◌, subst, arith, inl, inr, Contains}
+use Rattle.std.specs.Prelude.{◌⊎◌, ◌&&◌}
+use Rattle.ason_base.specs.Network.{IsTopology, Network}
+use Rattle.ason_base.specs.declared.calls.CallRow.{CallRow}
+use Rattle.ason_base.specs.declared.commands.Group.{Group}
+use Rattle.ason_base.specs.declared.ids.Lsp.{Lsp}
+use Rattle.mesh_rules.specs.declared.events.MeshEvent.{MeshEvent}
+use Rattle.mesh_rules.specs.Events.{after, route_of, IsRun}
+use Rattle.mesh_rules.specs.Machine.{Mesh, start}
+use Rattle.mesh_rules.specs.Rows.{all_call_rows, all_leg_rows, call_row}
+use Rattle.mesh_laws.specs.declared.survey.Contend.{Contend as Listed}
+use Rattle.mesh_laws.specs.HopLaw.{LspFits}
+use Rattle.mesh_laws.specs.ContendLaw.{Contend}
+use Rattle.mesh_laws.specs.Survey.{between, end_of, groups_of}
+use Rattle.mesh_laws.specs.SurveyLaw.{ContendsAreListed, NoSurveyedContend, NoneListed}
+use Rattle.mesh_laws.proofs.alone.Facts.{Routes}
+use Rattle.mesh_laws.proofs.hops.Laws.{every_hop}
+use Rattle.mesh_laws.proofs.nodes.Facts.{MeshFacts}
+use Rattle.mesh_laws.proofs.nodes.Runs.{facts-hold}
+use Rattle.mesh_laws.proofs.contends.Law.{no_contend}
+use Rattle.mesh_laws.proofs.surveyed.Listed.{between-has, either-order, group-there}
+use Rattle.mesh_laws.proofs.surveyed.Rows.{label-there, owner-there, shown-turn}
+use Rattle.mesh_laws.proofs.surveyed.Stands.{own-end}
+use Rattle.mesh_laws.proofs.alone.Runs.{run-first}
+
+module _ (t : Network) (valid : IsTopology t) (s : Mesh) (o : Routes) (hops : (l : Lsp) → LspFits t s l (o l))
+    (facts : MeshFacts t s) where
+  -- what the survey lists of two groups, at a place where calls would contend
+  listed : (g h : Group) (m : Contend t s g h) → (c : Listed) ×
+      Contains (between t (all_call_rows t s) (all_leg_rows t s) g h) c × (c.first ≡ g) × (c.second ≡ h)
+  listed g h m =
+      let into = owner-there t valid s o hops facts m.node m.fibre m.label m.one m.one_turns.label in
+      let forward : Bool = nat_eq into.link.high.0 m.node.0 in
+      let end : end_of into.link forward ≡ m.node = own-end into.link m.node into.touches_it in
+      let link : m.fibre.link ≡ into.link.id = ap (λ f. f.link) into.fibre in
+      let one = shown-turn t valid s o hops facts g m.node m.fibre m.label m.one_at m.one m.one_turns in
+      let two = shown-turn t valid s o hops facts h m.node m.fibre m.label m.two_at m.two m.two_turns in
+      let label = label-there t valid s o hops facts m.node m.fibre m.label m.one m.one_turns.label in
+      let a : CallRow = call_row m.one_at (s.nodes m.one_at.0).legs m.one in
+      let b : CallRow = call_row m.two_at (s.nodes m.two_at.0).legs m.two in (
+        _,
+        between-has t (all_call_rows t s) (all_leg_rows t s) g h into.link forward m.label a b into.there
+            (rw (end, ← link) label) one.row_there two.row_there (rw (end, ← link) one.may) (rw (end, ← link) two.may)
+            (differ (nat_eq m.one.call.0 m.two.call.0) (nat_eq m.one_at.0 m.two_at.0) refl refl),
+        refl,
+        refl,
+      )
+    where
+      differ : (x y : Bool) → nat_eq m.one.call.0 m.two.call.0 ≡ x → nat_eq m.one_at.0 m.two_at.0 ≡ y →
+          (x && y) ≡ false
+      differ false y p q = refl
+      differ true false p q = refl
+      differ true true p q =
+          let number : m.one.call.0 ≡ m.two.call.0 = grind arith in
+          let node : m.one_at.0 ≡ m.two_at.0 = grind arith in
+          absurd (m.differ (λ i. record { 0 = node i }) (λ i. record { 0 = number i }))
+
+  swapped : (i j : Group) → Contend t s i j → Contend t s j i
+  swapped i j m = record {
+    node = m.node;
+    fibre = m.fibre;
+    label = m.label;
+    one_at = m.two_at;
+    one = m.two;
+    two_at = m.one_at;
+    two = m.one;
+    one_turns = m.two_turns;
+    two_turns = m.one_turns;
+    differ = λ a b. m.differ (sym a) (sym b);
+  }
+
+  -- these two are g and h, in one order or the other
+  abbrev AreThese : Group → Group → Group → Group → Type 0
+  AreThese g h i j = ((i ≡ g) × (j ≡ h)) ⊎ ((i ≡ h) × (j ≡ g))
+
+  turned : (g h i j : Group) → AreThese g h i j → AreThese g h j i
+  turned g h i j (inl both) = inr (both.1, both.0)
+  turned g h i j (inr both) = inl (both.1, both.0)
+
+  told : (g h i j : Group) (c : Listed) → AreThese g h i j → c.first ≡ i → c.second ≡ j →
+      AreThese g h c.first c.second
+  told g h i j c (inl both) p q = inl (p ∙ both.0, q ∙ both.1)
+  told g h i j c (inr both) p q = inr (p ∙ both.0, q ∙ both.1)
+
+  none-of : (g h : Group) → NoneListed t s g h → (i j : Group) →
+      AreThese g h i j → (i ≡ j → ⊥) → Contend t s i j → ⊥
+  none-of g h none i j which apart m =
+      let at_i = group-there t i m.one_turns.hit.fibre.link m.one_turns.hit.on_link in
+      let at_j = group-there t j m.two_turns.hit.fibre.link m.two_turns.hit.on_link in
+      elim (either-order t (all_call_rows t s) (all_leg_rows t s) (groups_of t) i j at_i at_j apart) [
+        | inl f ↦ (let c = listed i j m in none c.0 (f c.0 c.1) (told g h i j c.0 which c.2 c.3))
+        | inr f ↦ (let c = listed j i (swapped i j m) in
+            none c.0 (f c.0 c.1) (told g h j i c.0 (turned g h i j which) c.2 c.3))
+      ]
+
+pub every_contend_listed : (t : Network) (events : List MeshEvent) → IsTopology t → IsRun t start events →
+    ContendsAreListed t events
+every_contend_listed t events valid run g h differ none =
+    let s : Mesh = after t start events in
+    let o : Routes = route_of t start events in
+    let facts = facts-hold t events run in
+    let hops = (every_hop t events run).1 in (
+      none-of t valid s o hops facts g h none g h (inl (refl, refl)) differ,
+      none-of t valid s o hops facts g h none h g (inr (refl, refl)) (λ e. differ (sym e)),
+    )
+
+pub no_surveyed_contend : NoSurveyedContend
+no_surveyed_contend t events valid run g h differ two none =
+    let parted : IsRun t start (two.before ++ two.since) = subst (IsRun t start) (sym two.parts) run in
+    let first = run-first t start two.before two.since parted in
+    no_contend t events valid run g h two (every_contend_listed t two.before valid first g h differ none)

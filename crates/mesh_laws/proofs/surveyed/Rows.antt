@@ -1,0 +1,175 @@
+-- A table has a row of each leg and of each call that is guarded; and by the rows a call may turn where it may.
+use Rattle.std.proofs.Common.{◌≡◌, ℕ, Bool, true, false, cond, nat_eq, nat_lt, List, [], ◌∷◌, refl, sym, ap, ◌∙◌, subst, arith, Contains}
+use Rattle.std.specs.Prelude.{◌&&◌, Option, Some, None, find, flat_map}
+use Rattle.ason_base.specs.Lsps.{same_fibre}
+use Rattle.ason_base.specs.Network.{IsTopology, Network, is_node_id}
+use Rattle.ason_base.specs.declared.calls.CallRow.{CallRow}
+use Rattle.ason_base.specs.declared.calls.LegRow.{LegRow}
+use Rattle.ason_base.specs.declared.commands.Group.{Group}
+use Rattle.ason_base.specs.declared.ids.Fibre.{Fibre}
+use Rattle.ason_base.specs.declared.ids.LinkId.{LinkId}
+use Rattle.ason_base.specs.declared.ids.Lsp.{Lsp}
+use Rattle.ason_base.specs.declared.ids.NodeId.{NodeId}
+use Rattle.ason_base.specs.declared.network.NodeSpec.{NodeSpec}
+use Rattle.ason_base.specs.declared.tables.CallRec.{CallRec}
+use Rattle.ason_base.specs.declared.tables.Leg.{Leg}
+use Rattle.ason_base.specs.declared.calls.Role.TheVariants as role
+use Rattle.ason_base.proofs.Ordered.{any-there, contains-head, contains-tail, in_order-has, there-any}
+use Rattle.ason_base.proofs.RisingNumbers.{nat_order}
+use Rattle.mesh_rules.specs.Calls.{find_call}
+use Rattle.mesh_rules.specs.Legs.{find_leg, is_beyond_asked, is_label, is_on, takes}
+use Rattle.mesh_rules.specs.Machine.{Mesh}
+use Rattle.mesh_rules.specs.Rows.{all_call_rows, all_leg_rows, call_row, call_rows, leg_row, leg_rows, standing}
+use Rattle.mesh_nodes.proofs.LegList.{found-lsp, same_lsp-refl}
+use Rattle.mesh_nodes.proofs.routes.Lists.{contains-flat, contains-map}
+use Rattle.mesh_laws.specs.HopLaw.{LspFits, leg_at}
+use Rattle.mesh_laws.specs.ContendLaw.{MayTurnTo, TakesLabel}
+use Rattle.mesh_laws.specs.Survey.{hits, is_guarded_row, is_link, label_in, may_turn_to, labels_at, takes_at}
+use Rattle.mesh_laws.proofs.alone.Facts.{Routes}
+use Rattle.mesh_laws.proofs.hops.Plans.{same}
+use Rattle.mesh_laws.proofs.nodes.CallParts.{named-lsp}
+use Rattle.mesh_laws.proofs.nodes.Facts.{MeshFacts}
+use Rattle.mesh_laws.proofs.reports.KnownFibres.{same_fibre-is}
+use Rattle.mesh_laws.proofs.restoration.Calls.{backup-there}
+use Rattle.mesh_laws.proofs.surveyed.Stands.{Into, placed}
+
+find-contains : {X : Type 0} (p : X → Bool) (xs : List X) (x : X) → find p xs ≡ Some x → Contains xs x
+find-contains p [] x e = absurd (cc e)
+find-contains p (y ∷ xs) x e = go (p y) e (find-contains p xs x)
+  where
+    go : (b : Bool) → cond b (Some y) (find p xs) ≡ Some x → (find p xs ≡ Some x → Contains xs x) →
+        Contains (y ∷ xs) x
+    go true e later = (let is : y ≡ x = cc e in subst (Contains (y ∷ xs)) is (contains-head y xs))
+    go false e later = contains-tail y x xs (later e)
+
+-- a label that is taken
+record Taken (f : Fibre) (x : ℕ) (b : Leg) : Type 0 where
+  up : is_beyond_asked b.phase ≡ true
+  fibre : b.in_fibre ≡ Some f
+  label : b.in_label ≡ Some x
+
+taken : (f : Fibre) (x : ℕ) (b : Leg) → takes f x b ≡ true → Taken f x b
+taken f x b e = go (is_beyond_asked b.phase) refl b.in_fibre refl b.in_label refl e
+  where
+    go : (u : Bool) → is_beyond_asked b.phase ≡ u → (g : Option Fibre) → b.in_fibre ≡ g → (y : Option ℕ) →
+        b.in_label ≡ y → is_label (cond (u && is_on g f) y None) x ≡ true → Taken f x b
+    go false up g at_g y at_y e = absurd (cc e)
+    go true up None at_g y at_y e = absurd (cc e)
+    go true up (Some g) at_g y at_y e = on (same_fibre g f) refl y at_y e
+      where
+        on : (z : Bool) → same_fibre g f ≡ z → (y : Option ℕ) → b.in_label ≡ y →
+            is_label (cond z y None) x ≡ true → Taken f x b
+        on false is y at_y e = absurd (cc e)
+        on true is None at_y e = absurd (cc e)
+        on true is (Some y) at_y e = record {
+          up = up;
+          fibre = at_g ∙ ap Some (same_fibre-is g f is);
+          label = at_y ∙ ap Some (let same : y ≡ x = grind arith in same);
+        }
+
+module _ (t : Network) (valid : IsTopology t) (s : Mesh) (o : Routes) (hops : (l : Lsp) → LspFits t s l (o l))
+    (facts : MeshFacts t s) where
+  node-spec : (n : NodeId) → is_node_id t.nodes n ≡ true → (m : NodeSpec) × Contains t.nodes m × (m.id ≡ n)
+  node-spec n e =
+      let one = any-there (λ (m : NodeSpec). nat_eq m.id.0 n.0) t.nodes e in
+      let number : one.0.id.0 ≡ n.0 = (let test = one.2 in grind arith) in
+      (one.0, one.1, λ i. record { 0 = number i })
+
+  -- the table has a row of each leg
+  pub leg-row-there : (l : Lsp) (n : NodeId) (b : Leg) → leg_at s l n ≡ Some b →
+      Contains (all_leg_rows t s) (leg_row n b)
+  leg-row-there l n b here =
+      let m = node-spec n (placed t valid s o hops facts l n b here).node in
+      contains-flat (λ (k : NodeSpec). leg_rows k.id (s.nodes k.id.0)) t.nodes m.0 (leg_row n b) m.1
+      (subst (λ k. Contains (leg_rows k (s.nodes k.0)) (leg_row n b)) (sym m.2)
+      (contains-map (leg_row n) (s.nodes n.0).legs b (find-contains _ (s.nodes n.0).legs b here)))
+
+  -- and of each call whose ingress has a leg
+  pub call-row-there : (at : NodeId) (c : CallRec) (l : Lsp) (b : Leg) →
+      find_call c.call (s.nodes at.0).calls ≡ Some c → leg_at s l at ≡ Some b →
+      Contains (all_call_rows t s) (call_row at (s.nodes at.0).legs c)
+  call-row-there at c l b there here =
+      let m = node-spec at (placed t valid s o hops facts l at b here).node in
+      contains-flat (λ (k : NodeSpec). call_rows k.id (s.nodes k.id.0)) t.nodes m.0 (call_row at (s.nodes at.0).legs c)
+      m.1
+      (subst (λ k. Contains (call_rows k (s.nodes k.0)) (call_row at (s.nodes at.0).legs c)) (sym m.2)
+      (contains-map (call_row at (s.nodes at.0).legs) (s.nodes at.0).calls c
+      (find-contains _ (s.nodes at.0).calls c there)))
+
+  -- an LSP whose leg stands is shown
+  stands : (l : Option Lsp) (legs : List Leg) (k : Lsp) (b : Leg) → l ≡ Some k → find_leg k legs ≡ Some b →
+      standing l legs ≡ Some k
+  stands l legs k b is here = rw (is, here) refl
+
+  -- the row of a call that may turn
+  pub record ShownTurn (g : Group) (n : NodeId) (k : LinkId) (x : ℕ) (at : NodeId) (c : CallRec) : Type 0 where
+    pub row_there : Contains (all_call_rows t s) (call_row at (s.nodes at.0).legs c)
+    pub may : may_turn_to t (all_leg_rows t s) g n k x (call_row at (s.nodes at.0).legs c) ≡ true
+
+  work-stands : (at : NodeId) (c : CallRec) (w : Lsp) → find_call c.call (s.nodes at.0).calls ≡ Some c →
+      c.work ≡ Some w → (b : Leg) × (find_leg w (s.nodes at.0).legs ≡ Some b)
+  work-stands at c w there is =
+      let fit = (facts.node at.0).call c.call c there in
+      let named = named-lsp at.0 (s.nodes at.0).lsp (s.nodes at.0).legs role.Work c.egress c.work w fit.work is in
+      (named.leg.0, named.leg.1)
+
+  -- a call that may turn does so by the rows
+  pub shown-turn : (g : Group) (n : NodeId) (f : Fibre) (x : ℕ) (at : NodeId) (c : CallRec) →
+      MayTurnTo t s g n f x at c → ShownTurn g n f.link x at c
+  shown-turn g n f x at c turn =
+      let legs : List LegRow = all_leg_rows t s in
+      let own : List Leg = (s.nodes at.0).legs in
+      let back : Lsp = turn.label.back in
+      let hit = turn.hit in
+      let held = backup-there c.back own turn.guarded in
+      let one : held.lsp ≡ back = (let x = held.named in let y = turn.label.named in cc (x, y)) in
+      let here : find_leg back own ≡ Some held.leg =
+      subst (λ l. find_leg l own ≡ Some held.leg) one held.here in
+      let worked = work-stands at c hit.work turn.there hit.named in
+      let row : CallRow = call_row at own c in
+      let is_back : standing c.back own ≡ Some back = stands c.back own back held.leg turn.label.named here in
+      let is_work : standing c.work own ≡ Some hit.work = stands c.work own hit.work worked.0 hit.named worked.1 in
+      let took = taken f x turn.label.leg turn.label.label in
+      let at_back : held.leg.lsp ≡ back = found-lsp back own held.leg here in
+      let hit_lsp : hit.leg.lsp ≡ hit.work = found-lsp hit.work (s.nodes hit.node.0).legs hit.leg hit.there in
+      let take_lsp : turn.label.leg.lsp ≡ back =
+      found-lsp back (s.nodes n.0).legs turn.label.leg turn.label.there in
+      let guards : is_guarded_row legs row ≡ true =
+      there-any _ legs (leg_row at held.leg) (leg-row-there back at held.leg here)
+      (rw (is_back, at_back, same_lsp-refl back, same at.0, held.reserved) refl) in
+      let hitting : hits t legs g row ≡ true =
+      there-any _ legs (leg_row hit.node hit.leg) (leg-row-there hit.work hit.node hit.leg hit.there)
+      (rw (is_work, hit_lsp, same_lsp-refl hit.work, hit.role, hit.live, hit.leads, hit.on_link) refl) in
+      let taking : takes_at legs n f.link x row ≡ true =
+      there-any _ legs (leg_row n turn.label.leg) (leg-row-there back n turn.label.leg turn.label.there)
+      (rw (
+        is_back,
+        take_lsp,
+        same_lsp-refl back,
+        same n.0,
+        took.up,
+        took.fibre,
+        took.label,
+        same f.link.0,
+        same x,
+      ) refl) in
+      record {
+        row_there = call-row-there at c back held.leg turn.there here;
+        may = rw (guards, hitting, taking) refl;
+      }
+
+  -- the label is one of those that are taken
+  pub label-there : (n : NodeId) (f : Fibre) (x : ℕ) (c : CallRec) → TakesLabel s c n f x →
+      Contains (labels_at (all_leg_rows t s) n f.link) x
+  label-there n f x c takes =
+      let took = taken f x takes.leg takes.label in
+      (in_order-has nat_lt nat_order (flat_map (λ r. cond (nat_eq r.node.0 n.0 && is_link r.in_link f.link)
+      (label_in r.in_label) []) (all_leg_rows t s)) x).1
+      (contains-flat (λ (r : LegRow). cond (nat_eq r.node.0 n.0 && is_link r.in_link f.link) (label_in r.in_label) [])
+      (all_leg_rows t s) (leg_row n takes.leg) x (leg-row-there takes.back n takes.leg takes.there)
+      (rw (same n.0, took.fibre, same f.link.0, took.label) (contains-head x [])))
+
+  -- and its fibre is one of a link that comes in there
+  pub owner-there : (n : NodeId) (f : Fibre) (x : ℕ) (c : CallRec) → TakesLabel s c n f x → Into t n f
+  owner-there n f x c takes =
+      (placed t valid s o hops facts takes.back n takes.leg takes.there).into f (taken f x takes.leg takes.label).fibre

@@ -1,0 +1,33 @@
+-- A survey of a state's rows lists all calls that would contend: where it lists none of two groups, these two may fail
+-- in any order and no activation is refused.
+use Rattle.std.specs.Prelude.{◌≡◌, ◌≢◌, ◌⊎◌, List, Contains}
+use Rattle.ason_base.specs.Network.{IsTopology, Network}
+use Rattle.ason_base.specs.declared.commands.Group.{Group}
+use Rattle.mesh_rules.specs.declared.events.MeshEvent.{MeshEvent}
+use Rattle.mesh_rules.specs.Events.{IsRun, after}
+use Rattle.mesh_rules.specs.Machine.{Mesh, start}
+use Rattle.mesh_rules.specs.Rows.{all_call_rows, all_leg_rows}
+use Rattle.mesh_laws.specs.AloneLaw.{NoneRefused}
+use Rattle.mesh_laws.specs.ContendLaw.{NoneContend, TwoAlone}
+use Rattle.mesh_laws.specs.Survey.{contends_of}
+use Rattle.mesh_laws.specs.declared.survey.Contend.{Contend}
+
+-- the entry is of these two groups, the one or the other first
+abbrev pub IsOf : Group → Group → Contend → Type 0
+IsOf g h c = ((c.first ≡ g) × (c.second ≡ h)) ⊎ ((c.first ≡ h) × (c.second ≡ g))
+
+-- the survey of the state lists no calls that would contend where these two fail
+abbrev pub NoneListed : Network → Mesh → Group → Group → Type 0
+NoneListed t s g h = (c : Contend) → Contains (contends_of t (all_call_rows t s) (all_leg_rows t s)) c → IsOf g h c → ⊥
+
+-- then none would
+abbrev pub ContendsAreListed : Network → List MeshEvent → Type 0
+ContendsAreListed t events =
+    (g h : Group) → g ≢ h → NoneListed t (after t start events) g h → NoneContend t (after t start events) g h
+
+-- so from a quiet and calm state on whose survey lists none of these two, no activation is refused
+abbrev pub NoSurveyedContend : Type 0
+NoSurveyedContend =
+    (t : Network) (events : List MeshEvent) → IsTopology t → IsRun t start events → (g h : Group) → g ≢ h →
+    (two : TwoAlone t events g h) → NoneListed t (after t start two.before) g h →
+    NoneRefused t (after t start two.before) two.since

@@ -1,0 +1,26 @@
+//! What a survey tells of risk groups.
+
+use ason_base::{CallNo, Fibre, Group, Items, Label};
+
+/// Calls, by number.
+pub type CallNos = Items<CallNo>;
+
+/// The calls that the failure of a group would hit: those with a reserved backup, and the others.
+#[derive(Debug, Drop)]
+pub struct Hit {
+    pub group: Group,
+    pub guarded: CallNos,
+    pub bare: CallNos,
+}
+
+/// Two guarded calls that would contend for a label if both groups failed: the first group hits the
+/// one, the second group the other, and the backups of both take the label.
+#[derive(Clone, Copy, Debug, PartialEq, Eq, Drop)]
+pub struct Contend {
+    pub first: Group,
+    pub second: Group,
+    pub fibre: Fibre,
+    pub label: Label,
+    pub one: CallNo,
+    pub two: CallNo,
+}
