@@ -21,6 +21,7 @@ use Rattle.mesh_laws.proofs.reports.Laws.{every_report_tells}
 use Rattle.mesh_laws.proofs.nodes.CallsStand.{every_call_stands, every_call_stands_until_released}
 use Rattle.mesh_laws.proofs.hops.Ordered.{every_known, every_ordered, every_tidy}
 use Rattle.mesh_laws.proofs.nodes.Laws.{every_call, every_label, every_learnt_row, every_live}
+use Rattle.mesh_laws.proofs.surveyed.Calm.{calm_shown}
 use Rattle.mesh_laws.proofs.surveyed.Law.{every_contend_listed}
 use Rattle.mesh_laws.proofs.rest.Rests.{every_run_ends, every_run_rests}
 use Rattle.mesh_laws.proofs.restoration.Law.{every_hit_call}
@@ -53,6 +54,7 @@ laws_hold t events run =
       restored = λ valid. every_hit_call t events valid run;
       uncontended = λ valid. no_contend t events valid run;
       listed = λ valid. every_contend_listed t events valid run;
+      shown = λ valid. calm_shown t events valid run;
       rests = λ valid. every_run_rests t events valid run;
       ends = λ valid. every_run_ends t events valid run;
     }

@@ -22,7 +22,7 @@ use Rattle.mesh_laws.specs.RestorationLaw.{RestorationHolds}
 use Rattle.mesh_laws.specs.RiskLaw.{BackupsRecordRisks}
 use Rattle.mesh_laws.specs.SafeLaw.{IsSafe}
 use Rattle.mesh_laws.specs.StandLaw.{CallsStand, CallsStandOver}
-use Rattle.mesh_laws.specs.SurveyLaw.{ContendsAreListed}
+use Rattle.mesh_laws.specs.SurveyLaw.{CalmIsShown, ContendsAreListed}
 use Rattle.mesh_laws.specs.WavelengthLaw.{CallsKeepWavelengths}
 
 -- what holds of the state to which these events lead from the start
@@ -75,6 +75,8 @@ pub record LawsHold (t : Network) (events : List MeshEvent) : Type 0 where
   pub uncontended : IsTopology t → UncontendedAreAdmitted t events
   -- and the survey of the state's rows lists all calls that would contend
   pub listed : IsTopology t → ContendsAreListed t events
+  -- and it is calm where nothing is under way, no group has failed and by its rows each backup is Asked or Held
+  pub shown : IsTopology t → CalmIsShown t events
   -- and of the events that take a message or handle an item there are at most so many for each post and each tick
   pub rests : IsTopology t → handled events ≤ added t events
   -- so after these only so many can follow while nothing more is posted and no node ticks

@@ -1,13 +1,17 @@
 -- A survey of a state's rows lists all calls that would contend: where it lists none of two groups, these two may fail
 -- in any order and no activation is refused.
-use Rattle.std.specs.Prelude.{◌≡◌, ◌≢◌, ◌⊎◌, List, Contains}
+use Rattle.std.specs.Prelude.{◌≡◌, ◌≢◌, ◌⊎◌, ◌||◌, Bool, List, [], Contains, IsTrue}
+use Rattle.std.specs.List.{AllByRecursion}
 use Rattle.ason_base.specs.Network.{IsTopology, Network}
+use Rattle.ason_base.specs.declared.calls.LegRow.{LegRow}
 use Rattle.ason_base.specs.declared.commands.Group.{Group}
 use Rattle.mesh_rules.specs.declared.events.MeshEvent.{MeshEvent}
 use Rattle.mesh_rules.specs.Events.{IsRun, after}
+use Rattle.mesh_rules.specs.Legs.{is_asked, is_held, is_work}
 use Rattle.mesh_rules.specs.Machine.{Mesh, start}
+use Rattle.mesh_rules.specs.Quiet.{IsQuiet}
 use Rattle.mesh_rules.specs.Rows.{all_call_rows, all_leg_rows}
-use Rattle.mesh_laws.specs.AloneLaw.{NoneRefused}
+use Rattle.mesh_laws.specs.AloneLaw.{Calm, NoneRefused}
 use Rattle.mesh_laws.specs.ContendLaw.{NoneContend, TwoAlone}
 use Rattle.mesh_laws.specs.Survey.{contends_of}
 use Rattle.mesh_laws.specs.declared.survey.Contend.{Contend}
@@ -31,3 +35,19 @@ NoSurveyedContend =
     (t : Network) (events : List MeshEvent) → IsTopology t → IsRun t start events → (g h : Group) → g ≢ h →
     (two : TwoAlone t events g h) → NoneListed t (after t start two.before) g h →
     NoneRefused t (after t start two.before) two.since
+
+-- What shows that a state is calm
+
+-- of a backup's leg: it is Asked or Held
+abbrev pub is_reserved_row : LegRow → Bool
+is_reserved_row r = is_work r.role || (is_asked r.phase || is_held r.phase)
+
+-- nothing is under way, no group has failed, and by the rows each backup's leg is Asked or Held
+pub record IsShownCalm (t : Network) (s : Mesh) : Type 0 where
+  pub quiet : IsQuiet s
+  pub failed : s.failed ≡ []
+  pub backups : AllByRecursion (λ r. IsTrue (is_reserved_row r)) (all_leg_rows t s)
+
+-- then nothing of an earlier failure is left
+abbrev pub CalmIsShown : Network → List MeshEvent → Type 0
+CalmIsShown t events = IsShownCalm t (after t start events) → Calm (after t start events)

@@ -79,7 +79,9 @@ ghost use Rattle.mesh_laws.specs.WavelengthLaw.{EveryCallKeepsItsWavelengths};
 /// enabled no message is under way and each desk is empty (`quiet`).
 ///
 /// What all clauses but `searchable`, `calm` and `quiet` say of one state, and `no_contend` with
-/// them, the last one says in one word (`together`).
+/// them, the last one says in one word (`together`). It says two things more of what the state's
+/// rows show, over a topology: their survey lists all calls that would contend; and the state is
+/// calm where it is quiet, no group has failed and each backup's leg is Asked or Held.
 pub fn every_run()
     ensures labels { EveryLabelIsShared }
     ensures labelled { EveryLiveLegIsLabelled }

@@ -55,7 +55,8 @@ work-live Bare (Some Live) f e beyond = absurd (cc e)
 work-live Blocked None f e beyond = absurd (cc e)
 work-live state w f e beyond = absurd (cc e)
 
-up-not_closing : (q : Phase) → is_beyond_asked q ≡ true → is_closing q ≡ false
+-- a leg that is up isn't torn
+pub up-not_closing : (q : Phase) → is_beyond_asked q ≡ true → is_closing q ≡ false
 up-not_closing Held e = refl
 up-not_closing Armed e = refl
 up-not_closing Live e = refl

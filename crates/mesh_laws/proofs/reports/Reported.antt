@@ -232,7 +232,8 @@ into_at [] e z = record { link = record { 0 = 0 }; forward = false }
 into_at (hop ∷ route) e zero = record { link = hop.link; forward = nat_lt hop.node.0 (node_at (plan route e) 0).0 }
 into_at (hop ∷ route) e (suc z) = into_at route e z
 
-first-is : (route : List Step) (e : NodeId) → first_node route e ≡ node_at (plan route e) 0
+-- the first node of a route
+pub first-is : (route : List Step) (e : NodeId) → first_node route e ≡ node_at (plan route e) 0
 first-is [] e = refl
 first-is (hop ∷ route) e = refl
 

@@ -3,13 +3,12 @@ use Rattle.std.proofs.Common.{◌≡◌, ℕ, Bool, true, false, List, [], ◌�
 use Rattle.std.specs.Prelude.{Some, IsTrue}
 use Rattle.std.proofs.lemmas.List.Elements.{recursion_from_All}
 use Rattle.std.proofs.lemmas.List.Sums.{length-filter}
-use Rattle.ason_base.specs.declared.calls.Phase.TheVariants.{Live}
 use Rattle.ason_base.specs.declared.ids.Lsp.{Lsp}
 use Rattle.ason_base.specs.declared.tables.CallRec.{CallRec}
 use Rattle.ason_base.specs.declared.tables.Leg.{Leg}
 use Rattle.ason_base.proofs.Ordered.{contains-cases, contains-none}
 use Rattle.mesh_rules.specs.Calls.{call_with, names}
-use Rattle.mesh_rules.specs.Legs.{find_leg}
+use Rattle.mesh_rules.specs.Legs.{find_leg, is_closing}
 use Rattle.mesh_rules.specs.State.{NodeState}
 use Rattle.mesh_nodes.proofs.LegList.{found-all, found-lsp}
 use Rattle.mesh_nodes.proofs.routes.Lists.{contains-kept}
@@ -38,11 +37,13 @@ one-found p (d ∷ calls) c one there passes = go (p d) refl one (λ fewer later
       | inr more ↦ later one more
     ]
 
+-- a leg that isn't torn is of the one call that names its LSP
 pub call-is : (n : ℕ) (s : NodeState) (l : Lsp) (g : Leg) (c : CallRec) → CallsFit n s → Contains s.calls c →
-    names l c ≡ true → l.ingress.0 ≡ n → find_leg l s.legs ≡ Some g → g.phase ≡ Live → call_with l s.calls ≡ Some c
-call-is n s l g c fits there named ingress here live =
+    names l c ≡ true → l.ingress.0 ≡ n → find_leg l s.legs ≡ Some g → is_closing g.phase ≡ false →
+    call_with l s.calls ≡ Some c
+call-is n s l g c fits there named ingress here stands =
     let own : g.lsp ≡ l = found-lsp l s.legs g here in
-    let wants : wants_call n g ≡ true = rw (own, ingress, live) (rw (same n) refl) in
+    let wants : wants_call n g ≡ true = rw (own, ingress, stands) (rw (same n) refl) in
     let one : IsOfOneCall s.calls g =
     found-all (λ h. IsTrue (wants_call n h) → IsOfOneCall s.calls h) l s.legs g here
     (recursion_from_All (λ h. IsTrue (wants_call n h) → IsOfOneCall s.calls h) s.legs fits.legs) wants in

@@ -1,5 +1,5 @@
 -- Once nothing is under way, while one group alone has failed, a guarded call is guarded or turned, and is restored.
-use Rattle.std.proofs.Common.{◌≡◌, ℕ, Bool, true, false, not, List, [], ◌∷◌, map, refl, sym, subst, Contains}
+use Rattle.std.proofs.Common.{◌≡◌, ℕ, Bool, true, false, not, List, [], ◌∷◌, map, refl, sym, ap, subst, Contains}
 use Rattle.std.specs.Prelude.{Option, Some, None}
 use Rattle.std.proofs.lemmas.List.Elements.{recursion_from_All}
 use Rattle.ason_base.specs.Lsps.{is_lsp}
@@ -23,7 +23,7 @@ use Rattle.ason_base.specs.declared.tables.Leg.{Leg}
 use Rattle.mesh_rules.specs.declared.events.MeshEvent.{MeshEvent}
 use Rattle.mesh_rules.specs.Calls.{call_with}
 use Rattle.mesh_rules.specs.Events.{after, route_of}
-use Rattle.mesh_rules.specs.Legs.{find_leg, is_beyond_asked, is_in_use, leg_of}
+use Rattle.mesh_rules.specs.Legs.{find_leg, is_beyond_asked, is_closing, is_in_use, leg_of}
 use Rattle.mesh_rules.specs.Machine.{Mesh, start}
 use Rattle.mesh_rules.specs.Quiet.{IsQuiet}
 use Rattle.mesh_rules.specs.Turns.{has_any}
@@ -103,7 +103,7 @@ pub record LawsOf (t : Network) (events : List MeshEvent) : Type 0 where
   pub reports : ReportsTell t events
 
 -- no fibre is reported
-none-reported : (fibres : List Fibre) → has_any fibres ≡ false → fibres ≡ []
+pub none-reported : (fibres : List Fibre) → has_any fibres ≡ false → fibres ≡ []
 none-reported [] e = refl
 none-reported (f ∷ fibres) e = absurd (cc e)
 
@@ -128,7 +128,8 @@ module _ (t : Network) (events : List MeshEvent) (laws : LawsOf t events) (g : G
         let live : leg.phase ≡ Live =
         (let e : phase_of (Some leg) ≡ Some Live = rw (is, named.leg.1) at phase in cc e) in
         let mine : is_lsp c.work w ≡ true = rw is (same_lsp-refl w) in
-        let call = call-is n (s.nodes n) w leg c (laws.calls n) there (rw mine refl) named.ingress named.leg.1 live in
+        let call = call-is n (s.nodes n) w leg c (laws.calls n) there (rw mine refl) named.ingress named.leg.1
+        (ap is_closing live) in
         unreported-up t events quiet laws.desks laws.reports c.egress w leg here named.leg.3 joined c
         (subst (λ m. call_with w (s.nodes m).calls ≡ Some c) (sym named.ingress) call) (rw mine none)
 

@@ -5,6 +5,7 @@ use Rattle.std.specs.Prelude.{IsTrue, Option, Some, slice_get}
 use Rattle.std.proofs.lemmas.Option.{slice_get_within}
 use Rattle.ason_base.specs.Lsps.{has_fibre}
 use Rattle.ason_base.specs.Network.{Network, find_link, other_end, touches}
+use Rattle.ason_base.specs.Routes.{makes_route}
 use Rattle.ason_base.specs.declared.ids.LinkId.{LinkId}
 use Rattle.ason_base.specs.declared.ids.Lsp.{Lsp}
 use Rattle.ason_base.specs.declared.ids.NodeId.{NodeId}
@@ -14,7 +15,7 @@ use Rattle.ason_base.specs.declared.tables.CallRec.{CallRec}
 use Rattle.ason_base.specs.declared.tables.Leg.{Leg}
 use Rattle.mesh_rules.specs.declared.events.MeshEvent.{MeshEvent}
 use Rattle.mesh_rules.specs.Calls.{call_with}
-use Rattle.mesh_rules.specs.Events.{after}
+use Rattle.mesh_rules.specs.Events.{after, route_of}
 use Rattle.mesh_rules.specs.Failures.{is_cut}
 use Rattle.mesh_rules.specs.LocalNodes.{fibre_in}
 use Rattle.mesh_rules.specs.Machine.{Mesh, start}
@@ -51,6 +52,21 @@ module _ (t : Network) (events : List MeshEvent) (quiet : IsQuiet (after t start
       let told = desks n link (find-there (λ m. nat_eq m.id.0 k.0) t.links link found) at_end in
       rw (quiet.desks n.0) at told
 
+  -- of the fibre of a step of its route: an LSP that stands up to each step has it reported just where it is down
+  pub reported-cut : (e : NodeId) (l : Lsp) (g : Leg) → leg_at s l l.ingress ≡ Some g → g.egress ≡ e →
+      (route : List Step) → route_of t start events l ≡ Some route → makes_route t l.ingress e route ≡ true →
+      ((i : ℕ) → i < length route → StandsTo s l route e (suc i)) → (i : ℕ) (hop : Step) (link : LinkSpec) →
+      slice_get route i ≡ Some hop → find_link t hop.link ≡ Some link →
+      is_reported l (fibre_in link (place_at route e (suc i))) (call_with l (s.nodes l.ingress.0).calls)
+      ≡ is_cut s.failed link
+  reported-cut e l g here ends route sent leads stands i hop link there found =
+      let tells = subst (RouteTells t s l route) ends (reports l route g sent here) in
+      let place : PlaceTells s l route e i link (place_at route e (suc i)) =
+      tells i hop link there found (stands i (slice_get_within route i hop there)) in
+      let on = goes-on t l.ingress e route leads i hop link there found in
+      rw (silent l route e (place_at route e (suc i)) link.id (suc i)) at place
+      ∙ known-cut (place_at route e (suc i)) link hop.link found on.touches_far
+
   module _ (e : NodeId) (l : Lsp) (g : Leg) (here : leg_at s l l.ingress ≡ Some g) (ends : g.egress ≡ e)
       (joined : LspIsJoined t events IsLive e l) where
     -- both ends of a step
@@ -69,19 +85,6 @@ module _ (t : Network) (events : List MeshEvent) (quiet : IsQuiet (after t start
     stands-to i below zero small = (step-stands 0 (omega arith)).0
     stands-to i below (suc j) small = (step-stands j (omega arith)).1
 
-    -- of the fibre of a step
-    reported-cut : (i : ℕ) (hop : Step) (link : LinkSpec) → slice_get joined.route i ≡ Some hop →
-        find_link t hop.link ≡ Some link →
-        is_reported l (fibre_in link (place_at joined.route e (suc i))) (call_with l (s.nodes l.ingress.0).calls)
-        ≡ is_cut s.failed link
-    reported-cut i hop link there found =
-        let tells = subst (RouteTells t s l joined.route) ends (reports l joined.route g joined.sent here) in
-        let place : PlaceTells s l joined.route e i link (place_at joined.route e (suc i)) =
-        tells i hop link there found (stands-to i (slice_get_within joined.route i hop there)) in
-        let on = goes-on t l.ingress e joined.route joined.leads i hop link there found in
-        rw (silent l joined.route e (place_at joined.route e (suc i)) link.id (suc i)) at place
-        ∙ known-cut (place_at joined.route e (suc i)) link hop.link found on.touches_far
-
     -- where none is reported, none is down
     pub unreported-up : (c : CallRec) → call_with l (s.nodes l.ingress.0).calls ≡ Some c → reports_of l c ≡ [] →
         is_hit t events (Some l) ≡ false
@@ -92,7 +95,8 @@ module _ (t : Network) (events : List MeshEvent) (quiet : IsQuiet (after t start
         go true cut =
             let one = cut-at t s.failed joined.route cut in
             let its = one.1 in
-            let told = reported-cut its.place one.0 its.link its.there its.found in
+            let told = reported-cut e l g here ends joined.route joined.sent joined.leads stands-to its.place one.0
+            its.link its.there its.found in
             let down = its.cut in
             let up : is_reported l (fibre_in its.link (place_at joined.route e (suc its.place)))
             (call_with l (s.nodes l.ingress.0).calls) ≡ false = rw (called, none) refl in

@@ -40,7 +40,8 @@ touch-node nodes l n ends e = go (nat_eq l.low.0 n.0) (nat_eq l.high.0 n.0) refl
     go false true p q e = at l.high q ends.high
     go false false p q e = absurd (cc e)
 
-all-here : {X : Type 0} (P : X → Type 0) (xs : List X) (x : X) → Contains xs x → AllByRecursion P xs → P x
+-- what holds of each holds of one of them
+pub all-here : {X : Type 0} (P : X → Type 0) (xs : List X) (x : X) → Contains xs x → AllByRecursion P xs → P x
 all-here P [] x (k, within, is) all = absurd (omega arith)
 all-here P (y ∷ xs) x (zero, within, is) all = subst P is all.0
 all-here P (y ∷ xs) x (suc k, within, is) all = all-here P xs x (k, omega arith, is) all.1

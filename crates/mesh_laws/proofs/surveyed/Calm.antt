@@ -1,0 +1,237 @@
+-- Where nothing is under way, no group has failed and by the rows each backup is Asked or Held, the state is calm.
+use Rattle.std.proofs.Common.{◌≡◌, ℕ, Bool, true, false, nat_eq, List, [], ◌∷◌, refl, sym, ap, ◌∙◌, subst, arith, Contains}
+use Rattle.std.specs.Prelude.{◌||◌, Option, Some, None}
+use Rattle.std.specs.List.{AllByRecursion}
+use Rattle.std.proofs.lemmas.List.Elements.{Contains-get_or, recursion_from_All}
+use Rattle.ason_base.specs.Lsps.{has_fibre, is_lsp}
+use Rattle.ason_base.specs.Network.{IsTopology, Network, touches}
+use Rattle.ason_base.specs.declared.calls.CallState.{CallState}
+use Rattle.ason_base.specs.declared.calls.CallState.TheVariants.{Asking, Bare, Blocked, Guarded, Pairing, Stuck, Turned, Turning}
+use Rattle.ason_base.specs.declared.calls.Phase.{Phase}
+use Rattle.ason_base.specs.declared.calls.Phase.TheVariants.{Asked, Held, Armed, Live, Closing, Falling}
+use Rattle.ason_base.specs.declared.calls.Role.{Role}
+use Rattle.ason_base.specs.declared.calls.Role.TheVariants.{Work, Back}
+use Rattle.ason_base.specs.declared.ids.Fibre.{Fibre}
+use Rattle.ason_base.specs.declared.ids.Lsp.{Lsp}
+use Rattle.ason_base.specs.declared.ids.NodeId.{NodeId}
+use Rattle.ason_base.specs.declared.network.LinkSpec.{LinkSpec}
+use Rattle.ason_base.specs.declared.tables.CallRec.{CallRec}
+use Rattle.ason_base.specs.declared.tables.Leg.{Leg}
+use Rattle.mesh_rules.specs.declared.events.MeshEvent.{MeshEvent}
+use Rattle.mesh_rules.specs.Calls.{call_with, names}
+use Rattle.mesh_rules.specs.Events.{IsRun, after, route_of}
+use Rattle.mesh_rules.specs.Failures.{is_cut}
+use Rattle.mesh_rules.specs.Legs.{find_leg, is_asked, is_held, leg_of}
+use Rattle.mesh_rules.specs.LocalNodes.{fibre_in, local_node, own_link}
+use Rattle.mesh_rules.specs.Alarms.{enters}
+use Rattle.mesh_rules.specs.Machine.{Mesh, start}
+use Rattle.mesh_rules.specs.Rows.{all_leg_rows, leg_row}
+use Rattle.mesh_rules.specs.Turns.{has_any}
+use Rattle.mesh_nodes.proofs.Cases.{not-true}
+use Rattle.mesh_nodes.proofs.LegList.{all-found, found-all, same_lsp-refl}
+use Rattle.mesh_nodes.proofs.routes.Lists.{contains-unkept}
+use Rattle.mesh_nodes.proofs.routes.Nodes.{find-there}
+use Rattle.mesh_laws.specs.AloneLaw.{CallIsCalm, Calm, LegIsCalm, is_idle}
+use Rattle.mesh_laws.specs.CallLaw.{FitsLegs, IsNamed, fits, fits_reports, phase_of}
+use Rattle.mesh_laws.specs.HopLaw.{LspFits, leg_at}
+use Rattle.mesh_laws.specs.KnownLaw.{ComesIn}
+use Rattle.mesh_laws.specs.ReportLaw.{AreOf, IsOfRoute, reports_of}
+use Rattle.mesh_laws.specs.SurveyLaw.{CalmIsShown, IsShownCalm, is_reserved_row}
+use Rattle.mesh_laws.proofs.alone.Calls.{is_lsp-eq}
+use Rattle.mesh_laws.proofs.alone.Facts.{Routes}
+use Rattle.mesh_laws.proofs.alone.Risks.{found-passes, or-last}
+use Rattle.mesh_laws.proofs.hops.Laws.{every_hop}
+use Rattle.mesh_laws.proofs.hops.Ordered.{every_known}
+use Rattle.mesh_laws.proofs.hops.ReportedFibres.{every_report_of_route}
+use Rattle.mesh_laws.proofs.nodes.CallParts.{named-lsp}
+use Rattle.mesh_laws.proofs.nodes.Facts.{MeshFacts}
+use Rattle.mesh_laws.proofs.nodes.Laws.{every_call}
+use Rattle.mesh_laws.proofs.nodes.Runs.{facts-hold}
+use Rattle.mesh_laws.proofs.reports.Desks.{every_desk_tells}
+use Rattle.mesh_laws.proofs.reports.KnownFibres.{same_bool-is, same_fibre-refl}
+use Rattle.mesh_laws.proofs.restoration.Called.{call-is}
+use Rattle.mesh_laws.proofs.restoration.Calls.{none-reported}
+use Rattle.mesh_laws.proofs.kept.Phases.{IsUp, LegsUp}
+use Rattle.mesh_laws.proofs.kept.Places.{legs-are-up}
+use Rattle.mesh_laws.proofs.contends.MayTurn.{up-not_closing}
+use Rattle.mesh_laws.proofs.surveyed.Rows.{leg-row-there}
+use Rattle.mesh_laws.proofs.surveyed.Stands.{all-here}
+use Rattle.mesh_laws.proofs.surveyed.Unreported.{unreported}
+
+reserved-idle : (q : Phase) → (is_asked q || is_held q) ≡ true → is_idle q ≡ true
+reserved-idle Asked e = refl
+reserved-idle Held e = refl
+reserved-idle Armed e = absurd (cc e)
+reserved-idle Live e = absurd (cc e)
+reserved-idle Closing e = absurd (cc e)
+reserved-idle Falling e = absurd (cc e)
+
+row-calm : (n : NodeId) (b : Leg) → is_reserved_row (leg_row n b) ≡ true → LegIsCalm b
+row-calm n b e back = reserved-idle b.phase (rw back at e)
+
+-- Calls without an LSP
+
+no-work : (state : CallState) (b : Option Phase) (works backs : Bool) → fits state None b ≡ true →
+    fits_reports state works backs ≡ true → works ≡ false
+no-work Blocked b false backs e told = refl
+no-work Blocked b true backs e told = absurd (cc told)
+no-work state b works backs e told = absurd (cc e)
+
+no-back : (state : CallState) (w : Option Phase) (works backs : Bool) → fits state w None ≡ true →
+    fits_reports state works backs ≡ true → backs ≡ false
+no-back Asking w works backs e told = not-true backs told
+no-back Bare w works backs e told = not-true backs told
+no-back Blocked w works false e told = refl
+no-back Blocked w works true e told = absurd (let both = or-last works true refl in cc (both, told))
+no-back Pairing (Some Live) works backs e told = absurd (cc e)
+no-back Guarded (Some Live) works backs e told = absurd (cc e)
+no-back Turning (Some Live) works backs e told = absurd (cc e)
+no-back Turned (Some Live) works backs e told = absurd (cc e)
+no-back Stuck (Some Live) works backs e told = absurd (cc e)
+no-back state w works backs e told = absurd (cc e)
+
+module _ (t : Network) (events : List MeshEvent) (valid : IsTopology t) (run : IsRun t start events)
+    (shown : IsShownCalm t (after t start events)) where
+  abbrev s : Mesh
+  s = after t start events
+
+  abbrev o : Routes
+  o = route_of t start events
+
+  facts : MeshFacts t s
+  facts = facts-hold t events run
+
+  hops : (l : Lsp) → LspFits t s l (o l)
+  hops = (every_hop t events run).1
+
+  up : (n : ℕ) → LegsUp (s.nodes n).legs
+  up n = legs-are-up t s shown.quiet o hops n (facts.node n).legs_rise
+
+  -- Known fibres
+
+  -- a fibre that comes in at a node isn't known to be down
+  unknown : (n : NodeId) (f : Fibre) → ComesIn (local_node t n) f → has_fibre (s.nodes n.0).down f ≡ false
+  unknown n f comes = go (own_link (local_node t n) f.link) refl comes
+    where
+      go : (x : Option LinkSpec) → own_link (local_node t n) f.link ≡ x → enters (local_node t n) f x ≡ true →
+          has_fibre (s.nodes n.0).down f ≡ false
+      go None found e = absurd (cc e)
+      go (Some l) found e =
+          let own = find-there (λ k. nat_eq k.id.0 f.link.0) (local_node t n).own l found in
+          let number : nat_eq l.id.0 f.link.0 ≡ true =
+          found-passes (λ k. nat_eq k.id.0 f.link.0) (local_node t n).own l found in
+          let both = contains-unkept (touches n) t.links l own in
+          let same : f.link.0 ≡ l.id.0 = grind arith in
+          let fibre : f ≡ fibre_in l n =
+          (let way = same_bool-is f.forward (nat_eq l.high.0 n.0) e in
+          λ i. record { link = record { 0 = same i }; forward = way i }) in
+          let told = every_desk_tells t events valid run n l both.0 both.1 in
+          let known : has_fibre (s.nodes n.0).down (fibre_in l n) ≡ is_cut s.failed l =
+          rw (shown.quiet.desks n.0) at told in
+          ap (has_fibre (s.nodes n.0).down) fibre ∙ known ∙ ap (λ gs. is_cut gs l) shown.failed
+
+  none-known : (n : NodeId) (fibres : List Fibre) → (s.nodes n.0).down ≡ fibres →
+      AllByRecursion (ComesIn (local_node t n)) fibres → fibres ≡ []
+  none-known n [] is all = refl
+  none-known n (f ∷ fibres) is all =
+      let told = unknown n f all.0 in
+      let has : has_fibre (f ∷ fibres) f ≡ true = rw (same_fibre-refl f) refl in
+      absurd (let none : has_fibre (f ∷ fibres) f ≡ false = rw is at told in cc (has, none))
+
+  -- Calls
+
+  module _ (n : ℕ) (c : CallRec) (there : Contains (s.nodes n).calls c)
+      (fit : FitsLegs n (s.nodes n).lsp (s.nodes n).legs c) where
+    -- of an LSP that the call names no fibre is reported
+    silent : (r : Role) (l : Lsp) → IsNamed n (s.nodes n).lsp (s.nodes n).legs r c.egress l → names l c ≡ true →
+        (fibres : List Fibre) → reports_of l c ≡ fibres → AllByRecursion (IsOfRoute t o l) fibres → fibres ≡ []
+    silent r l named mine [] is all = refl
+    silent r l named mine (f ∷ fibres) is all =
+        let g : Leg = named.leg.0 in
+        let here : leg_at s l l.ingress ≡ Some g =
+        subst (λ m. find_leg l (s.nodes m).legs ≡ Some named.leg.0) (sym named.ingress) named.leg.1 in
+        let g_up : IsUp g = found-all IsUp l (s.nodes n).legs g named.leg.1 (up n) in
+        let called : call_with l (s.nodes n).calls ≡ Some c =
+        call-is n (s.nodes n) l g c (every_call t events run n) there mine named.ingress named.leg.1
+        (up-not_closing g.phase g_up) in
+        let at_ingress : call_with l (s.nodes l.ingress.0).calls ≡ Some c =
+        subst (λ m. call_with l (s.nodes m).calls ≡ Some c) (sym named.ingress) called in
+        let told = unreported t events valid run shown.quiet shown.failed l g here f all.0 in
+        let none : has_fibre (reports_of l c) f ≡ false = rw at_ingress at told in
+        let has : has_fibre (f ∷ fibres) f ≡ true = rw (same_fibre-refl f) refl in
+        absurd (let none' : has_fibre (f ∷ fibres) f ≡ false = rw is at none in cc (has, none'))
+
+    work-silent : AreOf (IsOfRoute t o) c.work c.work_reports → c.work_reports ≡ []
+    work-silent = go c.work refl
+      where
+        go : (w : Option Lsp) → c.work ≡ w → AreOf (IsOfRoute t o) w c.work_reports → c.work_reports ≡ []
+        go None is all =
+            none-reported c.work_reports
+            (no-work c.state (phase_of (leg_of c.back (s.nodes n).legs)) (has_any c.work_reports)
+            (has_any c.back_reports) (let e = fit.state in rw is at e) fit.reports)
+        go (Some l) is all =
+            let named = named-lsp n (s.nodes n).lsp (s.nodes n).legs Work c.egress c.work l fit.work is in
+            let mine : is_lsp c.work l ≡ true = rw is (same_lsp-refl l) in
+            silent Work l named (rw mine refl) c.work_reports (rw mine refl) all
+
+    -- the working LSP isn't the backup
+    not-work : (l : Lsp) → IsNamed n (s.nodes n).lsp (s.nodes n).legs Back c.egress l → is_lsp c.work l ≡ false
+    not-work l named = go (is_lsp c.work l) refl
+      where
+        go : (z : Bool) → is_lsp c.work l ≡ z → z ≡ false
+        go false e = refl
+        go true e =
+            let work = named-lsp n (s.nodes n).lsp (s.nodes n).legs Work c.egress c.work l fit.work
+            (is_lsp-eq c.work l e) in
+            let same : work.leg.0 ≡ named.leg.0 = (let x = work.leg.1 in let y = named.leg.1 in cc (x, y)) in
+            let is : named.leg.0.role ≡ Work = subst (λ (z : Leg). z.role ≡ Work) same work.leg.2 in
+            absurd (let other = named.leg.2 in cc (is, other))
+
+    back-silent : AreOf (IsOfRoute t o) c.back c.back_reports → c.back_reports ≡ []
+    back-silent = go c.back refl
+      where
+        go : (b : Option Lsp) → c.back ≡ b → AreOf (IsOfRoute t o) b c.back_reports → c.back_reports ≡ []
+        go None is all =
+            none-reported c.back_reports
+            (no-back c.state (phase_of (leg_of c.work (s.nodes n).legs)) (has_any c.work_reports)
+            (has_any c.back_reports) (let e = fit.state in rw is at e) fit.reports)
+        go (Some l) is all =
+            let named = named-lsp n (s.nodes n).lsp (s.nodes n).legs Back c.egress c.back l fit.back is in
+            let mine : is_lsp c.back l ≡ true = rw is (same_lsp-refl l) in
+            let other = not-work l named in
+            silent Back l named (or-last (is_lsp c.work l) _ mine) c.back_reports (rw other refl) all
+
+  -- The state
+
+  calls-calm : (n : ℕ) → AllByRecursion CallIsCalm (s.nodes n).calls
+  calls-calm n =
+      recursion_from_All CallIsCalm (s.nodes n).calls
+      (λ i d small.
+      let of = every_report_of_route t events run n i d small in
+      let fit = (every_call t events run n).calls i d small in
+      let there = Contains-get_or (s.nodes n).calls i d small in (
+        work-silent n _ there fit of.work,
+        back-silent n _ there fit of.back,
+      ))
+
+  legs-calm : (n : ℕ) → AllByRecursion LegIsCalm (s.nodes n).legs
+  legs-calm n =
+      all-found LegIsCalm (s.nodes n).legs (facts.node n).legs_rise
+      (λ l g here. row-calm (record { 0 = n }) g
+      (all-here (λ r. is_reserved_row r ≡ true) (all_leg_rows t s) (leg_row (record { 0 = n }) g)
+      (leg-row-there t valid s o hops facts l (record { 0 = n }) g here) shown.backups))
+
+  calm : Calm s
+  calm = record {
+    failed = shown.failed;
+    desks = λ n. rw (shown.quiet.desks n) tt;
+    down = λ n. none-known (record { 0 = n }) (s.nodes n).down refl
+        (recursion_from_All (ComesIn (local_node t (record { 0 = n }))) (s.nodes n).down
+        (every_known t events run (record { 0 = n })));
+    reports = calls-calm;
+    legs = legs-calm;
+    mail = λ u d. rw (shown.quiet.mail u d) tt;
+  }
+
+pub calm_shown : (t : Network) (events : List MeshEvent) → IsTopology t → IsRun t start events → CalmIsShown t events
+calm_shown t events valid run shown = calm t events valid run shown
