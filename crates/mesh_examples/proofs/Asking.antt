@@ -1,5 +1,5 @@
 -- A run after which a backup is asked for.
-use Rattle.std.proofs.Common.{◌≡◌, true, false, List, [], ◌∷◌, ◌++◌, refl}
+use Rattle.std.proofs.Common.{◌≡◌, true, false, List, [], ◌∷◌, refl}
 use Rattle.std.specs.Prelude.{Some, None}
 use Rattle.ason_base.specs.Labels as labels
 use Rattle.ason_base.specs.Network.{Network}
@@ -12,7 +12,7 @@ use Rattle.mesh_rules.specs.Events.{after}
 use Rattle.mesh_rules.specs.Machine.{start}
 use Rattle.mesh_laws.specs.HopLaw.{HasShape}
 use Rattle.mesh_laws.specs.HopShapes as row
-use Rattle.mesh_examples.proofs.Scene.{all_enabled, called, desk, joins, learns, leg, lsp, node, over, Seen, seen, sets_up, spec, takes}
+use Rattle.mesh_examples.proofs.Scene.{all_enabled, called, desk, joins, leg, lsp, node, over, Seen, seen, sets_up, spec, takes}
 
 abbrev network : Network
 network = record {

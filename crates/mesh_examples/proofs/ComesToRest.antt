@@ -1,7 +1,7 @@
 -- A run in which a protected call is set up, its working link is cut and the call turns, and the link is repaired and
 -- the call goes back by an order: what each part adds, how much is handled in it, and that the mesh is quiet at the
 -- end.
-use Rattle.std.proofs.Common.{◌≡◌, ℕ, true, false, List, [], ◌∷◌, ◌++◌, refl}
+use Rattle.std.proofs.Common.{◌≡◌, true, List, [], ◌∷◌, ◌++◌, refl}
 use Rattle.std.specs.Prelude.{length, map, Some, None}
 use Rattle.ason_base.specs.Labels as labels
 use Rattle.ason_base.specs.Network.{Network}
@@ -12,7 +12,7 @@ use Rattle.mesh_rules.specs.declared.events.MeshEvent.{MeshEvent}
 use Rattle.mesh_rules.specs.Events.{after}
 use Rattle.mesh_rules.specs.Machine.{start}
 use Rattle.mesh_laws.specs.RestLaw.{added, handled}
-use Rattle.mesh_examples.proofs.Scene.{all_enabled, called, desk, fails_link, joins, learns, leg, over, repairs_link, reported, reverts, seen, Seen, SeenCall, SeenLeg, sets_up, spec, takes}
+use Rattle.mesh_examples.proofs.Scene.{all_enabled, called, desk, fails_link, joins, learns, leg, over, repairs_link, reported, reverts, seen, Seen, sets_up, spec, takes}
 
 -- the working route goes over link 1, the backup over links 2 and 3
 abbrev network : Network

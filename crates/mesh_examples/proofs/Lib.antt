@@ -27,6 +27,7 @@ mod SharedLabel
 mod Standby
 mod StuckAtOnce
 mod StuckRepaired
+mod Surveyed
 mod TakenLabel
 mod TickWithReports
 mod TornActivating

@@ -30,7 +30,7 @@ use Rattle.mesh_laws.proofs.alone.Facts.{Routes}
 use Rattle.mesh_laws.proofs.hops.Law.{step_at}
 use Rattle.mesh_laws.proofs.hops.Laws.{every_hop}
 use Rattle.mesh_laws.proofs.hops.Plans.{IsRoute, link_at, node_at, plan, route_made}
-use Rattle.mesh_laws.proofs.hops.Rows.{ArmedStands, HeldStands, LiveStands, Stands}
+use Rattle.mesh_laws.proofs.hops.RowStates.{ArmedStands, HeldStands, LiveStands, Stands}
 use Rattle.mesh_laws.proofs.nodes.Facts.{MeshFacts}
 use Rattle.mesh_laws.proofs.nodes.Runs.{facts-hold}
 use Rattle.mesh_laws.proofs.reports.Desks.{every_desk_tells}
