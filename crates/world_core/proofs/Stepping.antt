@@ -26,10 +26,10 @@ use Rattle.mesh_rules.specs.Waits.{on_tick}
 use Rattle.controller.specs.Adjacencies.{again_to, hop_at, packets_on}
 use Rattle.controller.specs.Controllers.{Meaning, acks_to, after_tick, carried, flood_after, floods_to, handled, heard_hops, took_flood, took_frame, with_learnt}
 use Rattle.controller.specs.Frames.{Sending}
-use Rattle.world_core.specs.Worlds.{World, commit, delivered, flooded, floods_ticked, frame_at, handed_up, heard_at, hops_ticked, taken, with_event, with_floods, with_packets}
+use Rattle.world_core.specs.Worlds.{World, commit, delivered, flooded, floods_ticked, handed_up, heard_at, hops_ticked, taken, with_event, with_floods, with_packets}
 use Rattle.world_core.specs.Worlds as world
 use Rattle.world_core.specs.Runs.{without_item}
-use Rattle.world_core.specs.Standing.{DeliveriesAreTaken, IsStepOf, ItemsAreHandled, NoiseMovesNothing, StandsAt, TicksAreTicked, contents_to}
+use Rattle.world_core.specs.Standing.{ContentsAreTaken, DeliveriesAreTaken, IsStepOf, ItemsAreHandled, NoiseMovesNothing, StandsAt, TicksAreTicked, contents_to}
 use Rattle.world_core.proofs.Again.{again-packets, are-apart, contents-append}
 use Rattle.world_core.proofs.Sent.{IsSent, is-sent, turned}
 
@@ -185,18 +185,16 @@ delivers t w d u (Message p) =
     kept (m ∷ ms) = refl
 delivers t w d u (Flood m) = floods t w d u m
 
-pub deliveries-are-taken : DeliveriesAreTaken
-deliveries-are-taken t w d u k x c is there =
-    subst (λ m. IsStepOf w (delivered t before d u (frame_at w u d k)) d.0
+pub contents-are-taken : ContentsAreTaken
+contents-are-taken t w d u x c is =
+    subst (λ m. IsStepOf w (delivered t before d u (Some x)) d.0
     (took_frame (local_node t d) m (w.floods d.0) u x) (flood_after (w.floods d.0) u x))
     (sym (same_meaning w d.0 c is))
-    (subst (λ o. IsStepOf w (delivered t before d u o) d.0
-    (took_frame (local_node t d) (at_node w d.0) (w.floods d.0) u x) (flood_after (w.floods d.0) u x)) (sym there)
     (record {
       stands = record { state = f.stands.state; hops = f.stands.hops };
       flood = f.flood;
       channels = f.channels;
-    }))
+    })
   where
     before : World
     before = with_event w d.0
@@ -205,6 +203,12 @@ deliveries-are-taken t w d u k x c is there =
         (took_frame (local_node t d) (at_node before d.0) (before.floods d.0) u x)
         (flood_after (before.floods d.0) u x)
     f = delivers t before d u x
+
+pub deliveries-are-taken : DeliveriesAreTaken
+deliveries-are-taken t w d u k x c is there =
+    subst (λ o. IsStepOf w (delivered t (with_event w d.0) d u o) d.0
+    (took_frame (local_node t d) c (w.floods d.0) u x) (flood_after (w.floods d.0) u x)) (sym there)
+    (contents-are-taken t w d u x c is)
 
 -- Noise
 

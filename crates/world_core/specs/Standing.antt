@@ -15,7 +15,7 @@ use Rattle.controller.specs.declared.adjacencies.Adjacency.{Adjacency}
 use Rattle.controller.specs.Adjacencies.{hop_at, neighbours, peer_numbers}
 use Rattle.controller.specs.Controllers.{Meaning, Stepped, after_tick, flood_after, handled, took_frame, unmoved}
 use Rattle.controller.specs.Frames.{Sending}
-use Rattle.world_core.specs.Worlds.{World, frame_at}
+use Rattle.world_core.specs.Worlds.{World, delivered, frame_at, with_event}
 use Rattle.world_core.specs.Runs.{is_channel, is_event_of, step}
 
 pub record StandsAt (w : World) (n : ℕ) (c : Meaning) : Type 0 where
@@ -33,7 +33,14 @@ pub record IsStepOf (old new : World) (n : ℕ) (s : Stepped) (f : FloodState) :
   pub flood : f ≡ new.floods n
   pub channels : (d : ℕ) → new.channels n d ≡ old.channels n d ++ contents_to d s.sendings
 
--- a frame is delivered
+-- a frame that bears this is delivered, wherever it comes from
+abbrev pub ContentsAreTaken : Type 0
+ContentsAreTaken =
+    (t : Network) (w : World) (d u : NodeId) (x : Content) (c : Meaning) → StandsAt w d.0 c →
+    IsStepOf w (delivered t (with_event w d.0) d u (Some x)) d.0 (took_frame (local_node t d) c (w.floods d.0) u x)
+    (flood_after (w.floods d.0) u x)
+
+-- a frame of a channel is delivered
 abbrev pub DeliveriesAreTaken : Type 0
 DeliveriesAreTaken =
     (t : Network) (w : World) (d u : NodeId) (k : ℕ) (x : Content) (c : Meaning) → StandsAt w d.0 c →

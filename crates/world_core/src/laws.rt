@@ -3,8 +3,8 @@
 ghost use Rattle.world_core.specs.Laws.{ChannelsHaveTheFrames, EventsAreCounted, EveryImageHasTheLaws, EveryRunIsShown};
 ghost use Rattle.world_core.specs.Laws.{FloodingIsANetworks, JoinedKnowTheLinks, JoinedKnowTheSame, KnownIsFlooded, KnownIsTrue};
 ghost use Rattle.world_core.specs.Laws.{NoiseIsNotShown, OnlyNewRowsAreShown, OnlyTheNextIsShown, QuietIsShown, TopologiesFindEach};
-ghost use Rattle.world_core.specs.Standing.{ChannelsJoinNeighbours, DeliveriesAreTaken, ItemsAreHandled, NoiseMovesNothing};
-ghost use Rattle.world_core.specs.Standing.{OthersAreUntouched, TicksAreTicked};
+ghost use Rattle.world_core.specs.Standing.{ChannelsJoinNeighbours, ContentsAreTaken, DeliveriesAreTaken, ItemsAreHandled};
+ghost use Rattle.world_core.specs.Standing.{NoiseMovesNothing, OthersAreUntouched, TicksAreTicked};
 
 use flood::laws::{every_flooding, every_start};
 use hop_reliable::laws::every_schedule;
@@ -40,11 +40,12 @@ pub fn every_world_run()
     learnt_rows();
 }
 
-/// A controller that stands for a node of a world stands for it again after the node's next event: a frame is what the
-/// controller takes, noise moves nothing, an item of the desk is handled, a tick is a tick. What it sends is what the
-/// channels from its node get, in the same order. Nodes that an event isn't of, and the channels from them, stay. Who sends
-/// on a channel is a neighbour of who takes from it.
+/// A controller that stands for a node of a world stands for it again after the node's next event: it takes what a frame
+/// bears, wherever the frame comes from, noise moves nothing, an item of the desk is handled, a tick is a tick. What it sends
+/// is what the channels from its node get, in the same order. Nodes that an event isn't of, and the channels from them, stay.
+/// Who sends on a channel is a neighbour of who takes from it.
 pub fn controllers_are_the_worlds()
+    ensures contents { ContentsAreTaken }
     ensures deliveries { DeliveriesAreTaken }
     ensures noise { NoiseMovesNothing }
     ensures items { ItemsAreHandled }
