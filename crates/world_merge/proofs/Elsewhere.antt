@@ -1,0 +1,85 @@
+-- What one node does leaves the other nodes' parts of a world.
+use Rattle.std.proofs.Common.{◌≡◌, ℕ, false, cond, nat_eq, List, [], ◌∷◌, drop, refl, ap, ◌∙◌}
+use Rattle.std.specs.Prelude.{◌+◌, Option, Some, None}
+use Rattle.ason_base.specs.declared.ids.NodeId.{NodeId}
+use Rattle.ason_base.specs.declared.commands.Event.{Event}
+use Rattle.ason_base.specs.declared.commands.Event.TheVariants.{Deliver, Noise, Tick, Desk}
+use Rattle.ason_base.specs.declared.messages.Msg.{Msg}
+use Rattle.ason_base.specs.Network.{Network}
+use Rattle.flood.specs.declared.frames.Content.{Content}
+use Rattle.flood.specs.declared.frames.Content.TheVariants.{Message, Flood}
+use Rattle.world_core.specs.Worlds.{World, delivered, frame_at, handed_up, handled, taken, with_event}
+use Rattle.world_core.specs.Runs.{is_event_of, step}
+use Rattle.world_core.specs.Standing.{IsUntouched}
+use Rattle.world_core.proofs.Sent.{turned}
+use Rattle.world_core.proofs.Untouched.{others-are-untouched}
+use Rattle.world_merge.specs.Merges.{Agrees}
+
+-- The parts that `IsUntouched` of `world_core` doesn't speak of stay too.
+pub record IsKept (w v : World) (m : ℕ) : Type 0 where
+  pub desk : v.desks m ≡ w.desks m
+  pub made : v.made m ≡ w.made m
+  pub posted : v.posted ≡ w.posted
+  pub failed : v.failed ≡ w.failed
+
+kept_handled : (t : Network) (w : World) (d u : NodeId) (ms : List Msg) (m : ℕ) → IsKept w (handled t w d u ms) m
+kept_handled t w d u [] m = record { desk = refl; made = refl; posted = refl; failed = refl }
+kept_handled t w d u (x ∷ xs) m = record { desk = refl; made = refl; posted = refl; failed = refl }
+
+-- a frame that is delivered leaves all desks, counts and posts, those of its taker too
+pub kept-delivered : (t : Network) (w : World) (d u : NodeId) (o : Option Content) (m : ℕ) →
+    IsKept w (delivered t w d u o) m
+kept-delivered t w d u None m = record { desk = refl; made = refl; posted = refl; failed = refl }
+kept-delivered t w d u (Some (Message p)) m =
+    let f = kept_handled t (taken w d u p) d u (handed_up w d u p) m in
+    record { desk = f.desk; made = f.made; posted = f.posted; failed = f.failed }
+kept-delivered t w d u (Some (Flood f)) m = record { desk = refl; made = refl; posted = refl; failed = refl }
+
+counted_elsewhere : (w : World) (k m : ℕ) → nat_eq k m ≡ false → (with_event w k).made m ≡ w.made m
+counted_elsewhere w k m e = ap (λ b. cond b (w.made m + 1) (w.made m)) (turned k m false e)
+
+-- the events that are of one node each
+pub data NodeEvent : Type 0 where
+  Delivered : (to from : NodeId) (number : ℕ) → NodeEvent
+  Noised : (to from : NodeId) (bytes : List ℕ) → NodeEvent
+  TickedAt : (node : NodeId) → NodeEvent
+  HandledAt : (node : NodeId) → NodeEvent
+
+abbrev pub event : NodeEvent → Event
+event (Delivered d u k) = Deliver d u k
+event (Noised d u bytes) = Noise d u bytes
+event (TickedAt n) = Tick n
+event (HandledAt n) = Desk n
+
+kept_elsewhere : (t : Network) (w : World) (e : NodeEvent) (m : ℕ) → is_event_of m (event e) ≡ false →
+    IsKept w (step t w (event e)) m
+kept_elsewhere t w (Delivered d u k) m e =
+    let f = kept-delivered t (with_event w d.0) d u (frame_at w u d k) m in
+    record { desk = f.desk; made = f.made ∙ counted_elsewhere w d.0 m e; posted = f.posted; failed = f.failed }
+kept_elsewhere t w (Noised d u bytes) m e =
+    record { desk = refl; made = counted_elsewhere w d.0 m e; posted = refl; failed = refl }
+kept_elsewhere t w (TickedAt n) m e =
+    record { desk = refl; made = counted_elsewhere w n.0 m e; posted = refl; failed = refl }
+kept_elsewhere t w (HandledAt n) m e = record {
+  desk = ap (λ b. cond b (drop 1 (w.desks m)) (w.desks m)) (turned n.0 m false e);
+  made = counted_elsewhere w n.0 m e;
+  posted = refl;
+  failed = refl;
+}
+
+-- an event of another node leaves all of this one
+pub others-agree : (t : Network) (w : World) (e : NodeEvent) (m : ℕ) → is_event_of m (event e) ≡ false →
+    Agrees m (step t w (event e)) w
+others-agree t w e m other =
+    let f : IsUntouched w (step t w (event e)) m = others-are-untouched t w (event e) m other in
+    let g = kept_elsewhere t w e m other in
+    record {
+      node = f.nodes;
+      desk = g.desk;
+      ends = f.ends;
+      flood = f.floods;
+      channels = f.channels;
+      made = g.made;
+      posted = g.posted;
+      failed = g.failed;
+    }

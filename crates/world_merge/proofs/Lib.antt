@@ -1,0 +1,11 @@
+pub mod Agreeing
+pub mod Before
+pub mod Elsewhere
+pub mod Growing
+pub mod Merging
+pub mod NextLine
+pub mod Ordering
+pub mod Picked
+pub mod Picking
+pub mod Sendings
+pub mod Splitting

@@ -1,0 +1,65 @@
+-- A merge of what happened at all nodes is a run.
+use Rattle.std.proofs.Common.{◌≡◌, ℕ, List, [], ◌∷◌, ◌++◌, map, refl, sym, ap, ◌∙◌, subst, append-nil}
+use Rattle.ason_base.specs.declared.ids.NodeId.{NodeId}
+use Rattle.ason_base.specs.declared.commands.Entry.{Entry}
+use Rattle.ason_base.specs.Network.{Network}
+use Rattle.world_core.specs.Worlds.{World, start}
+use Rattle.world_core.specs.Runs.{IsRun, after, step}
+use Rattle.world_merge.specs.Deeds.{Deed, alone}
+use Rattle.world_merge.specs.Histories.{AreHistories, Histories, at}
+use Rattle.world_merge.specs.Logs.{line_of}
+use Rattle.world_merge.specs.Merges.{Agrees, Ascends, EveryMergeIsARun, assembled, concerns, events_of}
+use Rattle.world_merge.proofs.Agreeing.{agrees-self}
+use Rattle.world_merge.proofs.Elsewhere.{event}
+use Rattle.world_merge.proofs.Splitting.{Fits, left, moved, next}
+use Rattle.world_merge.proofs.NextLine.{one-step}
+
+no_lines : (n : NodeId) (ds : List Deed) → [] ≡ map (line_of n) ds → ds ≡ []
+no_lines n [] e = refl
+no_lines n (d ∷ ds) e = absurd (cc (e))
+
+record Runs (t : Network) (hists : Histories) (w : World) (m : List Entry) : Type 0 where
+  run : IsRun t w (events_of m)
+  parts : (n : ℕ) → Agrees n (after t w (events_of m)) (alone t (at n) (hists n))
+
+runs : (t : Network) (hists : Histories) → AreHistories t hists → (m : List Entry) (s : ℕ) → Ascends s m → (w : World)
+    (before todo : ℕ → List Deed) → Fits t hists w before todo m → Runs t hists w m
+runs t hists are [] s up w before todo f = record {
+  run = tt;
+  parts = λ n. subst (λ ds. Agrees n w (alone t (at n) ds)) (sym (all n)) (f.world n);
+}
+  where
+    all : (n : ℕ) → hists n ≡ before n
+    all n = f.whole n ∙ ap (λ ds. before n ++ ds) (no_lines (at n) (todo n) (f.lines n)) ∙ append-nil (before n)
+runs t hists are (e ∷ m) s up w before todo f =
+    let one = one-step t hists are w before todo e m s up f e.node refl in
+    let rest = runs t hists are m e.stamp up.1 (step t w e.event) (λ n. moved (concerns n e) (before n) (todo n))
+    (λ n. left (concerns n e) (todo n)) (next t hists w (step t w e.event) before todo e m f one.agree) in
+    record { run = (one.enabled, rest.run); parts = rest.parts }
+
+-- the nodes' parts make a world
+whole : (t : Network) (hists : Histories) (w : World) → ((n : ℕ) → Agrees n w (alone t (at n) (hists n))) →
+    w ≡ assembled t hists
+whole t hists w parts = λ i. record {
+  nodes = λ n. (parts n).node i;
+  desks = λ n. (parts n).desk i;
+  ends = λ u d. (parts u).ends d i;
+  floods = λ n. (parts n).flood i;
+  channels = λ u d. (parts u).channels d i;
+  posted = (parts 0).posted i;
+  failed = (parts 0).failed i;
+  made = λ n. (parts n).made i;
+}
+
+pub every-merge-is-a-run : EveryMergeIsARun
+every-merge-is-a-run t hists m are is = record {
+  run = r.run;
+  parts = r.parts;
+  leads = whole t hists (after t (start t) (events_of m)) r.parts;
+}
+  where
+    fits : Fits t hists (start t) (λ n. []) hists m
+    fits = record { world = λ n. agrees-self n (start t); lines = is.parts; whole = λ n. refl }
+
+    r : Runs t hists (start t) m
+    r = runs t hists are m 0 is.ascends (start t) (λ n. []) hists fits

@@ -1,0 +1,6 @@
+pub mod Deeds
+pub mod Histories
+pub mod Logs
+pub mod Merges
+pub mod Orders
+pub mod Picking

@@ -1,0 +1,73 @@
+-- Sorted lists in one, by taking the least of their heads again and again.
+use Rattle.std.specs.Prelude.{◌≡◌, ◌+◌, ◌==◌, ◌&&◌, ◌||◌, ◌⊎◌, ℕ, zero, suc, nat_lt, nat_le, Bool, List, [], ◌∷◌}
+use Rattle.std.specs.Prelude.{filter, length, Option, Some, None, if◌then◌else◌}
+use Rattle.std.specs.List.{AllByRecursion, flat_map}
+use Rattle.ason_base.specs.declared.commands.Entry.{Entry}
+use Rattle.world_merge.specs.Orders.{IsSorted, place_of}
+
+-- The function
+
+-- whether e comes before f, or at the same place
+abbrev pub is_before : Entry → Entry → Bool
+is_before e f = nat_lt e.stamp f.stamp || (e.stamp == f.stamp && nat_le (place_of e.node) (place_of f.node))
+
+-- a line, and what is left of the lists without it
+pub record Picked : Type 0 where
+  pub entry : Entry
+  pub left : List (List Entry)
+
+-- a list more, of which nothing was picked
+abbrev pub behind : List Entry → Option Picked → Option Picked
+behind l None = None
+behind l (Some p) = Some (record { entry = p.entry; left = l ∷ p.left })
+
+-- the head e of the first list, or what was picked of the others, whichever comes first; e where both are at one place
+abbrev pub chosen : Entry → List Entry → List (List Entry) → Option Picked → Option Picked
+chosen e es ls None = Some (record { entry = e; left = es ∷ ls })
+chosen e es ls (Some p) =
+    if is_before e p.entry
+    then Some (record { entry = e; left = es ∷ ls })
+    else Some (record { entry = p.entry; left = (e ∷ es) ∷ p.left })
+
+-- the least of the heads; of those at one place, that of the earlier list
+abbrev pub picked : List (List Entry) → Option Picked
+picked [] = None
+picked ([] ∷ ls) = behind [] (picked ls)
+picked ((e ∷ es) ∷ ls) = chosen e es ls (picked ls)
+
+abbrev pub then_picked : (List (List Entry) → List Entry) → Option Picked → List Entry
+then_picked go None = []
+then_picked go (Some p) = p.entry ∷ go p.left
+
+-- so many lines at most
+abbrev pub merged_by : ℕ → List (List Entry) → List Entry
+merged_by zero ls = []
+merged_by (suc k) ls = then_picked (merged_by k) (picked ls)
+
+abbrev pub total : List (List Entry) → ℕ
+total [] = 0
+total (l ∷ ls) = length l + total ls
+
+-- all lines
+abbrev pub merged_of : List (List Entry) → List Entry
+merged_of ls = merged_by (total ls) ls
+
+-- The law
+
+-- no line of these lists passes the test
+abbrev pub HasNone : (Entry → Bool) → List (List Entry) → Type 0
+HasNone f ls = AllByRecursion (λ (l : List Entry). filter f l ≡ []) ls
+
+-- what passes the test stands in one of the lists alone
+abbrev pub IsInOne : (Entry → Bool) → List (List Entry) → Type 0
+IsInOne f [] = Unit {0}
+IsInOne f (l ∷ ls) = ((filter f l ≡ []) × IsInOne f ls) ⊎ HasNone f ls
+
+-- the list is sorted; and of a test that the lines of one list alone pass, as those of one node, it has just these, in
+-- their order
+pub record IsPicked (ls : List (List Entry)) : Type 0 where
+  pub sorted : IsSorted (merged_of ls)
+  pub each : (f : Entry → Bool) → IsInOne f ls → filter f (merged_of ls) ≡ flat_map (filter f) ls
+
+abbrev pub PickingSorts : Type 0
+PickingSorts = (ls : List (List Entry)) → AllByRecursion IsSorted ls → IsPicked ls
