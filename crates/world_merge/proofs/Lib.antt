@@ -7,5 +7,6 @@ pub mod NextLine
 pub mod Ordering
 pub mod Picked
 pub mod Picking
+pub mod Posting
 pub mod Sendings
 pub mod Splitting

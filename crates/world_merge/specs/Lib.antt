@@ -4,3 +4,4 @@ pub mod Logs
 pub mod Merges
 pub mod Orders
 pub mod Picking
+pub mod Posts
