@@ -6,10 +6,9 @@ use Rattle.std.proofs.lemmas.Option.{slice_get_read}
 use Rattle.ason_base.specs.declared.ids.NodeId.{NodeId}
 use Rattle.ason_base.specs.declared.network.NodeSpec.{NodeSpec}
 use Rattle.ason_base.specs.Network.{IsTopology, Network}
-use Rattle.world_core.specs.Runs.{is_channel}
+use Rattle.world_core.specs.Runs.{is_channel, neighbours}
 use Rattle.station.specs.Links.{KeepsRoom, KeepRoom, LinkState, looked, new_link}
 use Rattle.station.specs.Standing.{StationState}
-use Rattle.station.specs.Turns.{neighbours}
 use Rattle.station.proofs.Doing.{self_test}
 use Rattle.station.proofs.Rooms.{IsKept, kept-at, one-still, still-same}
 use Rattle.station.proofs.Linking.{all-get}

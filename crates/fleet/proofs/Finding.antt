@@ -6,11 +6,10 @@ use Rattle.std.proofs.lemmas.Option.{slice_get-get_or, slice_get_read}
 use Rattle.ason_base.specs.declared.ids.NodeId.{NodeId}
 use Rattle.ason_base.specs.declared.network.NodeSpec.{NodeSpec}
 use Rattle.ason_base.specs.Network.{IsTopology, Network, find_node, is_node_id}
-use Rattle.world_core.specs.Runs.{is_channel}
+use Rattle.world_core.specs.Runs.{is_channel, neighbours}
 use Rattle.station.specs.Histories.{new_history}
 use Rattle.station.specs.Links.{LinkState, is_to, new_link}
 use Rattle.station.specs.Standing.{StationState}
-use Rattle.station.specs.Turns.{neighbours}
 use Rattle.station.proofs.Doing.{self_test}
 use Rattle.station.proofs.Linking.{IsPlaced, all-get, placed}
 use Rattle.station.proofs.Sending.{length-map}

@@ -5,13 +5,12 @@ use Rattle.std.specs.List.{AllByRecursion}
 use Rattle.std.proofs.lemmas.List.{length-append, map-append}
 use Rattle.ason_base.specs.declared.ids.NodeId.{NodeId}
 use Rattle.ason_base.specs.Network.{IsTopology, Network}
-use Rattle.world_core.specs.Runs.{is_channel}
+use Rattle.world_core.specs.Runs.{is_channel, neighbours}
 use Rattle.world_core.specs.Worlds.{World}
 use Rattle.station.specs.declared.parcels.Parcel.{Parcel}
 use Rattle.station.specs.Histories.{History, count_of, world_after}
 use Rattle.station.specs.Links.{LinkState, looked}
 use Rattle.station.specs.Standing.{AreParcelsOf, StationState, numbers_of}
-use Rattle.station.specs.Turns.{neighbours}
 use Rattle.station.proofs.Doing.{self_test}
 use Rattle.station.proofs.Sending.{length-map}
 use Rattle.fleet.specs.declared.seats.End.{End}

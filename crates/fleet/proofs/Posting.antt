@@ -16,12 +16,12 @@ use Rattle.mesh_rules.specs.Failures.{all_news, failed_after}
 use Rattle.mesh_rules.proofs.LinkNews.{few-links, few-news}
 use Rattle.world_core.specs.Replays.{ingress_of}
 use Rattle.world_core.specs.Runs.{IsEnabled, posted}
-use Rattle.world_core.specs.Standing.{IsUntouched}
+use Rattle.world_core.specs.Standing.{IsUntouched, NodeStands}
 use Rattle.world_core.specs.Worlds.{World}
 use Rattle.world_core.proofs.Posting.{failed-posted}
 use Rattle.world_core.proofs.Untouched.{others-are-untouched}
 use Rattle.station.specs.Histories.{History, refilled, with_event, world_after}
-use Rattle.station.specs.Standing.{AreParcelsOf, NodeStands, StationState}
+use Rattle.station.specs.Standing.{AreParcelsOf, StationState}
 use Rattle.station.proofs.Doing.{self_test, world-with}
 use Rattle.fleet.specs.Posts.{Changes, ChangesThere, HasChanged, IsOrderedAt, IsToldBy, Orders, with_items}
 use Rattle.fleet.specs.Standing.{AreSeats, AreStations, FleetState, IsStationOf, IsWired, StandsFor, Wires, ids_of}

@@ -16,9 +16,10 @@ use Rattle.controller.specs.declared.adjacencies.Adjacency.{Adjacency}
 use Rattle.controller.specs.Adjacencies.{hop_at, hop_of, is_to, neighbours, peer_numbers}
 use Rattle.controller.specs.Kept.{unacknowledged}
 use Rattle.world_core.specs.Images.{image}
+use Rattle.world_core.specs.Standing.{NodeStands}
 use Rattle.world_core.specs.Worlds.{World}
 use Rattle.station.specs.Histories.{History, world_after}
-use Rattle.station.specs.Standing.{NodeStands, StationState}
+use Rattle.station.specs.Standing.{StationState}
 use Rattle.station.proofs.Doing.{self_test}
 use Rattle.station.proofs.Sending.{length-map}
 use Rattle.flood.specs.State.{pending_count}

@@ -6,14 +6,14 @@ use Rattle.ason_base.specs.declared.ids.NodeId.{NodeId}
 use Rattle.ason_base.specs.declared.commands.DeskItem.{DeskItem}
 use Rattle.ason_base.specs.Network.{Network}
 use Rattle.controller.specs.Controllers.{ControllerState}
-use Rattle.world_core.specs.Runs.{is_channel}
-use Rattle.world_core.specs.Standing.{IsUntouched}
+use Rattle.world_core.specs.Runs.{is_channel, neighbours}
+use Rattle.world_core.specs.Standing.{IsUntouched, NodeStands}
 use Rattle.world_core.specs.Worlds.{World}
 use Rattle.station.specs.declared.parcels.Parcel.{Parcel}
 use Rattle.station.specs.Histories.{History, count_of, made_by, world_after}
 use Rattle.station.specs.Links.{LinkState}
-use Rattle.station.specs.Standing.{AreParcelsOf, LinkStands, NodeStands, Stands, StationState, numbers_of}
-use Rattle.station.specs.Turns.{neighbours, turn}
+use Rattle.station.specs.Standing.{AreParcelsOf, LinkStands, Stands, StationState, numbers_of}
+use Rattle.station.specs.Turns.{turn}
 use Rattle.station.proofs.Doing.{self_test}
 use Rattle.station.proofs.Sending.{length-map}
 use Rattle.fleet.specs.Looks.{IsKnown, IsLookedAt}

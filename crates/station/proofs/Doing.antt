@@ -19,17 +19,16 @@ use Rattle.controller.specs.declared.inputs.CoreInput.TheVariants as input
 use Rattle.controller.specs.Controllers.{AreMade, ControllerState, Stepped, after_tick, flood_after, meaning, parts_of, took_frame}
 use Rattle.controller.specs.Controllers as controllers
 use Rattle.controller.specs.Frames.{Sending, frames_to}
-use Rattle.world_core.specs.Runs.{after, is_event_of, step}
-use Rattle.world_core.specs.Standing.{IsStepOf, IsUntouched}
+use Rattle.world_core.specs.Runs.{after, is_event_of, neighbours, step}
+use Rattle.world_core.specs.Standing.{IsStepOf, IsUntouched, NodeStands}
 use Rattle.world_core.specs.Worlds.{World, delivered, handed_up, handled as carried_out, numbered_at, start, taken, with_event as counted}
 use Rattle.world_core.proofs.Stepping.{deliveries-are-taken, items-are-handled, ticks-are-ticked}
 use Rattle.world_core.proofs.Untouched.{others-are-untouched}
 use Rattle.station.specs.declared.parcels.Parcel.{Parcel}
 use Rattle.station.specs.Histories.{History, popped, refilled, with_event_over, world_after}
 use Rattle.station.specs.Links.{LinkState, after_frames, is_to, with_popped}
-use Rattle.station.specs.Standing.{AreParcelsOf, IsParcelOf, LinkStands, NodeStands, Stands, numbers_of}
+use Rattle.station.specs.Standing.{AreParcelsOf, IsParcelOf, LinkStands, Stands, numbers_of}
 use Rattle.station.specs.Steps.{HasReacted}
-use Rattle.station.specs.Turns.{neighbours}
 use Rattle.station.proofs.Linking.{if_to}
 use Rattle.station.proofs.Reacting.{peers-kept}
 use Rattle.station.proofs.Sending.{IsSending, link-sends}

@@ -9,7 +9,8 @@ use Rattle.controller.specs.declared.inputs.CoreInput.TheVariants as input
 use Rattle.station.specs.declared.parcels.Parcel.{Parcel}
 use Rattle.station.specs.Histories.{History, handled, handled_first, made_by, popped, took, took_first, with_event, with_event_over, world_after}
 use Rattle.station.specs.Links.{LinkState, popped_from}
-use Rattle.station.specs.Standing.{AreParcelsOf, IsParcelOf, LinkStands, NodeStands, Stands, StationState, numbers_of}
+use Rattle.world_core.specs.Standing.{NodeStands}
+use Rattle.station.specs.Standing.{AreParcelsOf, IsParcelOf, LinkStands, Stands, StationState, numbers_of}
 use Rattle.station.specs.Steps.{HasReacted}
 use Rattle.station.proofs.Doing.{AreReady, frame-done, item-done, links-popped}
 use Rattle.station.proofs.Linking.{IsLinkAt, all-get, link-at}

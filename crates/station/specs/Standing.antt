@@ -4,17 +4,15 @@ use Rattle.std.specs.List.{AllByRecursion}
 use Rattle.ason_base.specs.declared.ids.NodeId.{NodeId}
 use Rattle.ason_base.specs.declared.commands.DeskItem.{DeskItem}
 use Rattle.ason_base.specs.Network.{Network}
-use Rattle.mesh_rules.specs.LocalNodes.{local_node}
 use Rattle.flood.specs.declared.frames.Content.{Content}
 use Rattle.flood.specs.Frames.{IsFrame}
-use Rattle.world_core.specs.Standing.{StandsAt}
+use Rattle.world_core.specs.Runs.{neighbours}
+use Rattle.world_core.specs.Standing.{NodeStands}
 use Rattle.world_core.specs.Worlds.{World, numbered_at}
-use Rattle.controller.specs.Adjacencies.{neighbours as hop_neighbours, peer_numbers}
-use Rattle.controller.specs.Controllers.{ControllerState, meaning}
+use Rattle.controller.specs.Controllers.{ControllerState}
 use Rattle.station.specs.declared.parcels.Parcel.{Parcel}
 use Rattle.station.specs.Histories.{History, count_of, world_after}
 use Rattle.station.specs.Links.{LinkState, peers_of}
-use Rattle.station.specs.Turns.{neighbours}
 
 pub record StationState : Type 0 where
   pub controller : ControllerState
@@ -57,17 +55,7 @@ pub record LinkStands (w : World) (rings : ℕ → ℕ → List ℕ) (n : NodeId
   pub comes : numbers_of l.early ≡ rings l.peer.0 n.0
   pub coming : AreParcelsOf (w.channels l.peer.0 n.0) l.early
 
--- The node
-
--- the controller and the desk are what the world has of the node n
-pub record NodeStands (t : Network) (w : World) (n : NodeId) (c : ControllerState)
-    (items : List DeskItem) : Type 0 where
-  pub place : c.node.place ≡ local_node t n
-  pub stands : StandsAt w n.0 (meaning c.node c.adjacencies)
-  pub flood : c.flood ≡ w.floods n.0
-  pub hops : peer_numbers c.adjacencies ≡ hop_neighbours (local_node t n)
-  pub desk : items ≡ w.desks n.0
-  pub made : c.steps ≡ w.made n.0
+-- The station
 
 -- The station stands for node n in a run that isn't stopped. It has a link to each neighbour, in order of number.
 pub record Stands (t : Network) (h : History) (n : NodeId) (there : ℕ → List ℕ) (s : StationState) : Type 0 where

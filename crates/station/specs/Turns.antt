@@ -1,14 +1,10 @@
 -- One node's turn.
-use Rattle.std.specs.Prelude.{ℕ, zero, suc, Bool, List, length, filter, fold, map, if◌then◌else◌}
+use Rattle.std.specs.Prelude.{ℕ, zero, suc, Bool, List, length, fold, if◌then◌else◌}
 use Rattle.ason_base.specs.declared.ids.NodeId.{NodeId}
 use Rattle.ason_base.specs.declared.commands.Event.TheVariants.{Tick}
 use Rattle.ason_base.specs.Network.{Network}
-use Rattle.world_core.specs.Runs.{is_channel}
+use Rattle.world_core.specs.Runs.{neighbours}
 use Rattle.station.specs.Histories.{History, handled, made, took, world_after}
-
--- the nodes from which a channel leads to this one, in order of number
-abbrev pub neighbours : Network → NodeId → List NodeId
-neighbours t n = map (λ m. m.id) (filter (λ m. is_channel t m.id n) t.nodes)
 
 abbrev pub repeated : (History → History) → ℕ → History → History
 repeated f zero h = h

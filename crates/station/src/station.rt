@@ -15,7 +15,8 @@ ghost use Rattle.station.specs.Standing.{IsOrdered, Stands, StationState};
 ghost use Rattle.station.specs.Steps.{HasReacted, LinksFit};
 ghost use Rattle.station.specs.Turning.{HasDone, HasTurned, IsCutBy, IsStopped, IsTurn, answer_of, worked};
 ghost use Rattle.station.specs.declared.turns.Turn.{Turn};
-ghost use Rattle.station.specs.Turns.{desk_done, neighbours, ring_done, rings_done, tick_done, turn};
+ghost use Rattle.world_core.specs.Runs.{neighbours};
+ghost use Rattle.station.specs.Turns.{desk_done, ring_done, rings_done, tick_done, turn};
 
 use crate::desks::Desk;
 use crate::events::react;

@@ -1,5 +1,5 @@
 -- Which events of a world are enabled, what each does, and runs of them.
-use Rattle.std.specs.Prelude.{ℕ, ◌==◌, ◌&&◌, nat_lt, Bool, false, not, List, [], ◌∷◌, ◌++◌, drop, IsTrue, is_some, count_by, if◌then◌else◌}
+use Rattle.std.specs.Prelude.{ℕ, ◌==◌, ◌&&◌, nat_lt, Bool, false, not, List, [], ◌∷◌, ◌++◌, drop, filter, map, IsTrue, is_some, count_by, if◌then◌else◌}
 use Rattle.std.specs.List.{list_any}
 use Rattle.ason_base.specs.declared.ids.NodeId.{NodeId}
 use Rattle.ason_base.specs.declared.ids.CallNo.{CallNo}
@@ -25,6 +25,10 @@ abbrev pub is_channel : Network → NodeId → NodeId → Bool
 is_channel t u d =
     is_node_id t.nodes u && is_node_id t.nodes d && not (u.0 == d.0)
     && list_any (λ l. are_ends l.low l.high u d) t.links
+
+-- the nodes from which a channel leads to this one, in order of number
+abbrev pub neighbours : Network → NodeId → List NodeId
+neighbours t n = map (λ m. m.id) (filter (λ m. is_channel t m.id n) t.nodes)
 
 -- the node is of the topology, and made fewer events than a node makes at most
 abbrev pub may_act : Network → World → NodeId → Bool

@@ -13,7 +13,7 @@ use Rattle.mesh_rules.specs.LocalNodes.{local_node}
 use Rattle.mesh_rules.specs.State.{NodeState}
 use Rattle.controller.specs.declared.adjacencies.Adjacency.{Adjacency}
 use Rattle.controller.specs.Adjacencies.{hop_at, neighbours, peer_numbers}
-use Rattle.controller.specs.Controllers.{Meaning, Stepped, after_tick, flood_after, handled, took_frame, unmoved}
+use Rattle.controller.specs.Controllers.{ControllerState, Meaning, Stepped, after_tick, flood_after, handled, meaning, took_frame, unmoved}
 use Rattle.controller.specs.Frames.{Sending}
 use Rattle.world_core.specs.Worlds.{World, delivered, frame_at, with_event}
 use Rattle.world_core.specs.Runs.{is_channel, is_event_of, step}
@@ -21,6 +21,16 @@ use Rattle.world_core.specs.Runs.{is_channel, is_event_of, step}
 pub record StandsAt (w : World) (n : ℕ) (c : Meaning) : Type 0 where
   pub state : c.state ≡ w.nodes n
   pub hops : (d : ℕ) → c.hops d ≡ (w.ends n d).hop
+
+-- the controller and the desk are what the world has of the node n
+pub record NodeStands (t : Network) (w : World) (n : NodeId) (c : ControllerState)
+    (items : List DeskItem) : Type 0 where
+  pub place : c.node.place ≡ local_node t n
+  pub stands : StandsAt w n.0 (meaning c.node c.adjacencies)
+  pub flood : c.flood ≡ w.floods n.0
+  pub hops : peer_numbers c.adjacencies ≡ neighbours (local_node t n)
+  pub desk : items ≡ w.desks n.0
+  pub made : c.steps ≡ w.made n.0
 
 -- what goes to this node
 abbrev pub contents_to : ℕ → List Sending → List Content
