@@ -1,0 +1,91 @@
+-- One deed more, with a stamp above those before it.
+use Rattle.std.proofs.Common.{◌≡◌, ◌<◌, ◌≤◌, ◌+◌, ℕ, true, false, cond, nat_lt, List, [], ◌∷◌, ◌++◌, length, refl, ap}
+use Rattle.std.proofs.Common.{◌∙◌, arith}
+use Rattle.std.specs.Prelude.{Some}
+use Rattle.std.proofs.lemmas.List.{length-append}
+use Rattle.std.specs.List.{AllByRecursion}
+use Rattle.ason_base.specs.declared.ids.NodeId.{NodeId}
+use Rattle.ason_base.specs.declared.commands.Command.{Command}
+use Rattle.ason_base.specs.declared.commands.Command.TheVariants.{Setup, Release, Protect, Retry, Revert, Fail, Repair}
+use Rattle.ason_base.specs.declared.commands.Event.TheVariants.{Post}
+use Rattle.ason_base.specs.Network.{Network}
+use Rattle.world_core.specs.Runs.{step}
+use Rattle.world_core.specs.Worlds.{World, start, with_event}
+use Rattle.world_core.proofs.Finding.{self_test}
+use Rattle.world_merge.specs.Deeds.{AreDoable, Deed, Handled, Heard, IsDoable, Posted, Ticked, Took, alone_from, done}
+use Rattle.world_merge.specs.Deeds.{stamp_of, upto}
+use Rattle.world_merge.specs.Logs.{RisesAbove, line_of, log_of}
+use Rattle.world_merge.proofs.Elsewhere.{kept-delivered}
+use Rattle.station_sound.specs.Stations.{LogsAreCounted}
+
+pub upto-more : (s : ℕ) (ds : List Deed) (e : Deed) → s < stamp_of e → upto s (ds ++ e ∷ []) ≡ upto s ds
+upto-more s [] e lt =
+    let past : nat_lt s (stamp_of e) ≡ true = grind (arith, lt) in
+    ap (λ b. cond b [] (e ∷ [])) past
+upto-more s (d ∷ ds) e lt = ap (λ xs. cond (nat_lt s (stamp_of d)) [] (d ∷ xs)) (upto-more s ds e lt)
+
+-- up to a stamp below which all was done
+pub upto-all : (s : ℕ) (ds : List Deed) → AllByRecursion (λ (d : Deed). stamp_of d ≤ s) ds → upto s ds ≡ ds
+upto-all s [] all = refl
+upto-all s (d ∷ ds) all =
+    let within : nat_lt s (stamp_of d) ≡ false = grind (arith, all.0) in
+    ap (λ b. cond b [] (d ∷ upto s ds)) within ∙ ap (λ xs. d ∷ xs) (upto-all s ds all.1)
+
+pub rises-more : (s c : ℕ) (ds : List Deed) (e : Deed) → RisesAbove s ds →
+    AllByRecursion (λ (d : Deed). stamp_of d ≤ c) ds → s ≤ c → c < stamp_of e → RisesAbove s (ds ++ e ∷ [])
+rises-more s c [] e up all le lt = (omega (arith, le, lt), tt)
+rises-more s c (d ∷ ds) e up all le lt = (up.0, rises-more (stamp_of d) c ds e up.1 all.1 all.0 lt)
+
+pub doable-more : (t : Network) (n : NodeId) (w : World) (ds : List Deed) (e : Deed) → AreDoable t n w ds →
+    IsDoable t n (alone_from t n w ds) e → AreDoable t n w (ds ++ e ∷ [])
+doable-more t n w [] e all may = (may, tt)
+doable-more t n w (d ∷ ds) e all may = (all.0, doable-more t n (done t n w d) ds e all.1 may)
+
+-- Logs
+
+pub log-more : (n : NodeId) (ds es : List Deed) → log_of n (ds ++ es) ≡ log_of n ds ++ log_of n es
+log-more n [] es = refl
+log-more n (Ticked s ∷ ds) es = ap (λ xs. line_of n (Ticked s) ∷ xs) (log-more n ds es)
+log-more n (Handled s ∷ ds) es = ap (λ xs. line_of n (Handled s) ∷ xs) (log-more n ds es)
+log-more n (Took s u k x ∷ ds) es = ap (λ xs. line_of n (Took s u k x) ∷ xs) (log-more n ds es)
+log-more n (Heard s u bytes ∷ ds) es = ap (λ xs. line_of n (Heard s u bytes) ∷ xs) (log-more n ds es)
+log-more n (Posted s c ∷ ds) es = log-more n ds es
+
+-- each event of the node is counted
+pub made-once : (w : World) (n : NodeId) → (with_event w n.0).made n.0 ≡ w.made n.0 + 1
+made-once w n = ap (λ b. cond b (w.made n.0 + 1) (w.made n.0)) (self_test n.0)
+
+-- a post isn't
+pub made-still : (t : Network) (w : World) (c : Command) (n : ℕ) → (step t w (Post c)).made n ≡ w.made n
+made-still t w (Setup k from to protected both via backup) n = refl
+made-still t w (Release k from) n = refl
+made-still t w (Protect k from) n = refl
+made-still t w (Retry k from) n = refl
+made-still t w (Revert k from) n = refl
+made-still t w (Fail g) n = refl
+made-still t w (Repair g) n = refl
+
+-- as many lines more as the log has of a deed
+made_by : (t : Network) (n : NodeId) (w : World) (d : Deed) →
+    (done t n w d).made n.0 ≡ w.made n.0 + length (log_of n (d ∷ []))
+made_by t n w (Ticked s) = made-once w n
+made_by t n w (Handled s) = made-once w n
+made_by t n w (Took s u k x) = (kept-delivered t (with_event w n.0) n u (Some x) n.0).made ∙ made-once w n
+made_by t n w (Heard s u bytes) = made-once w n
+made_by t n w (Posted s c) = made-still t w c n.0 ∙ omega arith
+
+counted : (t : Network) (n : NodeId) (w : World) (ds : List Deed) →
+    (alone_from t n w ds).made n.0 ≡ w.made n.0 + length (log_of n ds)
+counted t n w [] = omega arith
+counted t n w (d ∷ ds) =
+    counted t n (done t n w d) ds ∙ ap (λ k. k + length (log_of n ds)) (made_by t n w d) ∙ together
+  where
+    lines : length (log_of n (d ∷ ds)) ≡ length (log_of n (d ∷ [])) + length (log_of n ds)
+    lines = ap length (log-more n (d ∷ []) ds) ∙ length-append (log_of n (d ∷ [])) (log_of n ds)
+
+    together : (w.made n.0 + length (log_of n (d ∷ []))) + length (log_of n ds) ≡
+        w.made n.0 + length (log_of n (d ∷ ds))
+    together = omega (arith, lines)
+
+pub logs-are-counted : LogsAreCounted
+logs-are-counted t n ds = counted t n (start t) ds ∙ omega arith

@@ -1,0 +1,40 @@
+-- The stations of a network, joined by their rings.
+use Rattle.std.specs.Prelude.{◌≡◌, ℕ, true, false, List, map}
+use Rattle.std.specs.List.{Contains}
+use mathlib.Core.List.{IsPrefix}
+use Rattle.ason_base.specs.declared.commands.Command.{Command}
+use Rattle.ason_base.specs.Network.{Network, is_node_id}
+use Rattle.world_core.specs.Worlds.{start}
+use Rattle.world_merge.specs.Deeds.{AreDoable, Posted}
+use Rattle.world_merge.specs.Histories.{AreHistories, Histories, at}
+use Rattle.station_sound.specs.Links.{LinkView}
+use Rattle.station_sound.specs.Stations.{IsSound, StationView}
+
+-- the station of each node
+abbrev pub Stations : Type 0
+Stations = ℕ → StationView
+
+-- what came out of the ring to the node n is a beginning of what its other end's station put there
+pub record IsJoined (t : Network) (stations : Stations) (n : ℕ) (l : LinkView) : Type 0 where
+  pub far : LinkView
+  pub known : is_node_id t.nodes l.peer ≡ true
+  pub there : Contains (stations l.peer.0).links far
+  pub back : far.peer ≡ at n
+  pub begins : IsPrefix l.came far.gone
+
+-- at a number that is no node's there are posts alone
+pub record HasPosts (t : Network) (hists : Histories) (n : ℕ) : Type 0 where
+  pub posts : List (ℕ × Command)
+  pub all : hists n ≡ map (λ c. Posted c.0 c.1) posts
+  pub doable : AreDoable t (at n) (start t) (hists n)
+
+-- each node's station is sound by what the node did, and each of its rings is joined
+pub record AreSound (t : Network) (hists : Histories) (stations : Stations) : Type 0 where
+  pub sound : (n : ℕ) → is_node_id t.nodes (at n) ≡ true → IsSound t (at n) (hists n) (stations n)
+  pub joined : (n : ℕ) → is_node_id t.nodes (at n) ≡ true → (l : LinkView) → Contains (stations n).links l →
+      IsJoined t stations n l
+  pub nowhere : (n : ℕ) → is_node_id t.nodes (at n) ≡ false → HasPosts t hists n
+
+abbrev pub JoinedAreHistories : Type 0
+JoinedAreHistories =
+    (t : Network) (hists : Histories) (stations : Stations) → AreSound t hists stations → AreHistories t hists

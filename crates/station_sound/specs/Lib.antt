@@ -1,0 +1,5 @@
+pub mod Joins
+pub mod Links
+pub mod Parcels
+pub mod Stations
+pub mod Steps

@@ -1,0 +1,46 @@
+-- A station is what its node made alone.
+use Rattle.std.specs.Prelude.{◌≡◌, ◌≤◌, ℕ, true, List, length, map}
+use Rattle.std.specs.List.{AllByRecursion}
+use Rattle.ason_base.specs.declared.ids.NodeId.{NodeId}
+use Rattle.ason_base.specs.declared.commands.DeskItem.{DeskItem}
+use Rattle.ason_base.specs.declared.commands.Entry.{Entry}
+use Rattle.ason_base.specs.Network.{Network, is_node_id}
+use Rattle.controller.specs.Controllers.{ControllerState}
+use Rattle.world_core.specs.Runs.{neighbours}
+use Rattle.world_core.specs.Standing.{NodeStands}
+use Rattle.world_core.specs.Worlds.{start}
+use Rattle.world_merge.specs.Deeds.{AreDoable, Deed, alone, sent_by, stamp_of}
+use Rattle.world_merge.specs.Logs.{RisesAbove, log_of}
+use Rattle.station_sound.specs.declared.parcels.Parcel.{Parcel}
+use Rattle.station_sound.specs.Links.{LinkView}
+use Rattle.station_sound.specs.Parcels.{CameIn, IsSentOf}
+
+pub record StationView : Type 0 where
+  pub controller : ControllerState
+  pub desk : List DeskItem
+  -- the stamp of its last line, or of a later post
+  pub clock : ℕ
+  pub log : List Entry
+  pub links : List LinkView
+
+-- all that the node sent over the link has a number, and each parcel is the frame of its number
+pub record LinkIsSound (t : Network) (n : NodeId) (deeds : List Deed) (clock : ℕ) (l : LinkView) : Type 0 where
+  pub numbers : l.sent ≡ length (sent_by t n deeds l.peer.0)
+  pub sent : AllByRecursion (IsSentOf t n deeds l.peer) l.gone
+  pub old : AllByRecursion (λ (p : Parcel). p.stamp ≤ clock) l.gone
+
+-- Controller and desk are those of the node where it was alone and did this, the log is that of the deeds, no stamp is
+-- above the clock, and the links lead to the neighbours.
+pub record IsSound (t : Network) (n : NodeId) (deeds : List Deed) (s : StationView) : Type 0 where
+  pub known : is_node_id t.nodes n ≡ true
+  pub node : NodeStands t (alone t n deeds) n s.controller s.desk
+  pub log : s.log ≡ log_of n deeds
+  pub rises : RisesAbove 0 deeds
+  pub below : AllByRecursion (λ (d : Deed). stamp_of d ≤ s.clock) deeds
+  pub doable : AreDoable t n (start t) deeds
+  pub peers : map (λ (l : LinkView). l.peer) s.links ≡ neighbours t n
+  pub links : AllByRecursion (LinkIsSound t n deeds s.clock) s.links
+  pub took : AllByRecursion (CameIn s.links) deeds
+
+abbrev pub LogsAreCounted : Type 0
+LogsAreCounted = (t : Network) (n : NodeId) (deeds : List Deed) → (alone t n deeds).made n.0 ≡ length (log_of n deeds)
