@@ -1,0 +1,12 @@
+-- The logs and posts of a record are a run.
+use Rattle.std.proofs.Common.{refl}
+use Rattle.world_merge.proofs.Merging.{every-merge-is-a-run}
+use Rattle.world_merge.proofs.Ordering.{sorting-merges}
+use Rattle.round_rules.specs.Laws.{RecordsAreRuns}
+use Rattle.round_rules.specs.Records.{deeds_at, log_at, posts_in}
+
+pub records-are-runs : RecordsAreRuns
+records-are-runs t r m is merged =
+    every-merge-is-a-run t (deeds_at r) m is.histories
+    (sorting-merges (deeds_at r) (log_at r) (posts_in r) m
+    (record { each_log = λ n. refl; all_posts = is.posts; rises = is.rises }) merged)

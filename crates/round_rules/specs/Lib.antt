@@ -1,0 +1,9 @@
+pub mod Doings
+pub mod Functions
+pub mod Held
+pub mod Laws
+pub mod Lines
+pub mod Records
+pub mod Rings
+pub mod Takings
+pub mod Turns

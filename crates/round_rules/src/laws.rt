@@ -1,0 +1,21 @@
+//! Laws of records and of turns.
+
+ghost use Rattle.round_rules.specs.Laws.{FunctionsAreTurns, RecordsAreRuns, TurnsMakeATurn};
+ghost use Rattle.round_rules.specs.Rings.{StandingIsLeft};
+
+/// A record is what each station did. Its logs and its posts, sorted by stamp, are a run of a world, for every
+/// schedule. Where the frames that were taken from a ring are the first that were handed to it, the others stand
+/// there.
+pub fn every_record()
+    ensures runs { RecordsAreRuns }
+    ensures rings { StandingIsLeft }
+{}
+
+/// A turn that is a function of what the node did before, and of the frames that are due and that it pops, is a turn:
+/// its tick, the held frames that are due, its desk items, then what it takes (`IsTurnOf`). A turn, and after it one
+/// without a tick, are one turn together; so all turns of a node in one round are one, however many the round gives
+/// it.
+pub fn every_turn()
+    ensures function { FunctionsAreTurns }
+    ensures together { TurnsMakeATurn }
+{}
