@@ -1,6 +1,7 @@
 pub mod Agreeing
 pub mod Before
 pub mod Elsewhere
+pub mod Example
 pub mod Growing
 pub mod Merging
 pub mod NextLine
