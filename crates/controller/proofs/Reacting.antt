@@ -2,6 +2,7 @@
 use Rattle.std.proofs.Common.{◌≡◌, ℕ, List, map, refl, sym, subst}
 use Rattle.std.specs.Prelude.{Result, Ok, Err, IfOk, OnOk}
 use Rattle.ason_base.specs.declared.ids.NodeId.{NodeId}
+use Rattle.wire_buf.specs.Codecs.{HasOneMeaning}
 use Rattle.flood.specs.declared.frames.Content.{Content}
 use Rattle.flood.specs.declared.frames.Content.TheVariants.{Flood}
 use Rattle.flood.specs.declared.messages.FloodMsg.{FloodMsg}
@@ -13,7 +14,7 @@ use Rattle.controller.specs.declared.frames.Frame.{Frame}
 use Rattle.controller.specs.declared.inputs.CoreInput.{CoreInput}
 use Rattle.controller.specs.declared.inputs.CoreInput.TheVariants as input
 use Rattle.controller.specs.Adjacencies.{rested}
-use Rattle.controller.specs.Controllers.{AreMade, IsReaction, Parts, flood_after, floods_to, frame_step, idle_step, parts, with_learnt}
+use Rattle.controller.specs.Controllers.{AreMade, IsReaction, IsUnambiguous, Parts, flood_after, floods_to, frame_step, idle_step, parts, with_learnt}
 use Rattle.controller.specs.Frames.{AllSpelled, frames_to}
 
 pub frame-reaction : {T E : Type 0} (r : Result T E) (out : T → List Frame) (c d : Parts) (i : CoreInput) (u : NodeId)
@@ -49,3 +50,10 @@ flood-made (Ok y) out n m adjacencies f g u x c same rest place state flood fram
       flood = flood;
     })
 flood-made (Err e) out n m adjacencies f g u x c same rest place state flood frames spelled = tt
+
+-- the bytes of a frame that was taken tell what it bears
+pub frame-unambiguous : {T E : Type 0} (r : Result T E) (i : CoreInput) (u : NodeId) (bytes given : List ℕ) →
+    i ≡ input.Frame u bytes → given ≡ bytes → OnOk r (HasOneMeaning (IsFrame given)) → OnOk r (IsUnambiguous i)
+frame-unambiguous r i u bytes given e same one =
+    subst (λ (j : CoreInput). OnOk r (IsUnambiguous j)) (sym e)
+    (subst (λ bs. OnOk r (HasOneMeaning (IsFrame bs))) same one)

@@ -2,6 +2,7 @@
 use Rattle.std.specs.Prelude.{◌≡◌, ◌+◌, ◌==◌, ℕ, Option, None, Some, List, [], ◌++◌, map, if◌then◌else◌}
 use Rattle.std.specs.Option.{option_to_list}
 use Rattle.std.specs.List.{flat_map}
+use Rattle.wire_buf.specs.Codecs.{HasOneMeaning}
 use Rattle.ason_base.specs.declared.commands.DeskItem.{DeskItem}
 use Rattle.ason_base.specs.declared.ids.NodeId.{NodeId}
 use Rattle.ason_base.specs.declared.messages.Msg.{Msg}
@@ -203,3 +204,9 @@ IsReaction c d (input.Desk i) frames = AreMade c d (item_step c.node c.adjacenci
 pub record IsStep (c d : ControllerState) (i : CoreInput) (frames : List Frame) : Type 0 where
   pub reaction : IsReaction (parts_of c) (parts_of d) i frames
   pub steps : d.steps ≡ c.steps + 1
+
+-- the bytes of a frame have one meaning at most
+abbrev pub IsUnambiguous : CoreInput → Type 0
+IsUnambiguous (input.Frame u bytes) = HasOneMeaning (IsFrame bytes)
+IsUnambiguous input.Tick = Unit {0}
+IsUnambiguous (input.Desk i) = Unit {0}

@@ -1,11 +1,11 @@
 //! The controller of one node.
 
-ghost use Rattle.std.specs.Prelude.{◌≡◌, ◌≤◌, ◌<◌, ◌^◌, IfOk, IsSome, OnErr, length};
+ghost use Rattle.std.specs.Prelude.{◌≡◌, ◌≤◌, ◌<◌, ◌^◌, IfOk, IsSome, OnErr, OnOk, length};
 ghost use Rattle.ason_base.specs.Network.{find_node};
 ghost use Rattle.mesh_nodes.specs.LocalNodes.{is_neighbour};
 ghost use Rattle.mesh_rules.specs.Rows.{call_rows, leg_rows};
 ghost use Rattle.controller.specs.declared.controller.TheConstants.{MOST_STEPS};
-ghost use Rattle.controller.specs.Controllers.{IsStep};
+ghost use Rattle.controller.specs.Controllers.{IsStep, IsUnambiguous};
 ghost use Rattle.controller.specs.Kept.{AllToNeighbours, IsFromNeighbour, new_controller, unacknowledged};
 ghost use Rattle.flood.specs.State.{pending_count};
 
@@ -64,12 +64,13 @@ impl Controller {
         })
     }
 
-    /// Takes one input, and hands back the frames that go out, in the order in which they are sent. Each is for a neighbour. After
-    /// want of memory the controller is unchanged.
+    /// Takes one input, and hands back the frames that go out, in the order in which they are sent. Each is for a neighbour. What a
+    /// frame bears is told by its bytes. After want of memory the controller is unchanged.
     pub fn step(&mut self, input: &CoreInput) -> Result<Frames, OutOfMemory>
         requires few { self.old.steps < MOST_STEPS }
         requires from { IsFromNeighbour self.old.node.place input.now }
         ensures step { IfOk result (IsStep self.old self.new input.now) }
+        ensures one { OnOk result (IsUnambiguous input.now) }
         ensures near { IfOk result (AllToNeighbours self.old.node.place) }
         ensures few { IfOk result (λ fs. length fs ≤ 2 ^ 40) }
         ensures place { self.new.node.place ≡ self.old.node.place }

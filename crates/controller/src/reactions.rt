@@ -3,6 +3,7 @@
 
 ghost use Rattle.std.specs.Prelude.{◌≡◌, ◌≤◌, ◌+◌, ◌^◌, ◌++◌, ℕ, IfOk, IsTrue, OnErr, OnOk, length, map};
 ghost use Rattle.std.specs.Option.{option_to_list};
+ghost use Rattle.wire_buf.specs.Codecs.{HasOneMeaning};
 ghost use Rattle.ason_base.specs.declared.messages.Packet.{Packet};
 ghost use Rattle.mesh_nodes.specs.LocalNodes.{is_neighbour};
 ghost use Rattle.mesh_rules.specs.Changes.{changed};
@@ -13,7 +14,7 @@ ghost use Rattle.flood.specs.declared.frames.Content.{Content};
 ghost use Rattle.flood.specs.Frames.{IsFrame, SpellsNothing};
 ghost use Rattle.flood.specs.Messages.{SpellsFlood};
 ghost use Rattle.flood.specs.State.{ticked};
-ghost use Rattle.controller.specs.Controllers.{AddsAnswer, AnswerIsSpelled, AreMade, Becomes, IsMade, IsReaction, flood_after, frame_step, handed_body, idle_step, item_step, packet_step, parts, tick_step};
+ghost use Rattle.controller.specs.Controllers.{AddsAnswer, AnswerIsSpelled, AreMade, Becomes, IsMade, IsReaction, IsUnambiguous, flood_after, frame_step, handed_body, idle_step, item_step, packet_step, parts, tick_step};
 ghost use Rattle.controller.specs.Frames.{AllSpelled, frames_to};
 ghost use Rattle.controller.specs.Kept.{AllToNeighbours, FloodFits, IsFromNeighbour, IsKept, IsReady};
 
@@ -218,7 +219,7 @@ fn taken(
     Ok(frames)
 }
 
-// A frame of a neighbour. One that spells nothing changes nothing.
+// A frame of a neighbour, of which the bytes tell what it bears. One that spells nothing changes nothing.
 fn take_frame(
     maker: &mut FrameMaker,
     node: &mut Node,
@@ -239,6 +240,7 @@ fn take_frame(
         IfOk result (λ fs. AreMade (parts node.old adjacencies.old flood.old)
         (parts node.new adjacencies.new flood.new)
         (idle_step node.old adjacencies.old) flood.old fs.items) }
+    ensures one { OnOk result (HasOneMeaning (IsFrame bytes.now)) }
     ensures place { node.new.place ≡ node.old.place }
     ensures kept { (k : ℕ) → IsKept node.old.place adjacencies.old k →
         OnOk result (IsKept node.new.place adjacencies.new (k + 1)) }
@@ -334,6 +336,7 @@ pub(crate) fn react(
     ensures reaction { IfOk result
         (λ fs. IsReaction (parts node.old adjacencies.old flood.old)
         (parts node.new adjacencies.new flood.new) input.now fs.items) }
+    ensures one { OnOk result (IsUnambiguous input.now) }
     ensures place { node.new.place ≡ node.old.place }
     ensures kept { (k : ℕ) → IsKept node.old.place adjacencies.old k →
         OnOk result (IsKept node.new.place adjacencies.new (k + 1)) }

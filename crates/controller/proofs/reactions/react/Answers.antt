@@ -3,7 +3,7 @@ use Rattle.controller.specs.declared.frames.Frame.{Frame}
 use Rattle.controller.specs.Controllers.{parts}
 use Rattle.ason_base.proofs.Results.{on_ok}
 use Rattle.controller.proofs.Flooding.{fits-kept}
-use Rattle.controller.proofs.Reacting.{frame-reaction}
+use Rattle.controller.proofs.Reacting.{frame-reaction, frame-unambiguous}
 use Rattle.controller.proofs.reactions.react.Goals as goal
 
 pub returns-in-Frame-clause-reaction : goal.returns-in-Frame-clause-reaction
@@ -13,6 +13,11 @@ returns-in-Frame-clause-reaction c =
     (parts c.take_frame.new.node c.take_frame.new.adjacencies c.take_frame.new.flood)
     c.args.input.now c.in-Frame.from c.in-Frame.bytes c.items.result.now c.in-Frame.is c.items.ensures
     c.take_frame.ensures.content c.take_frame.ensures.noise
+
+pub returns-in-Frame-clause-one : goal.returns-in-Frame-clause-one
+returns-in-Frame-clause-one c =
+    frame-unambiguous c.take_frame.result c.args.input.now c.in-Frame.from c.in-Frame.bytes c.items.result.now
+    c.in-Frame.is c.items.ensures c.take_frame.ensures.one
 
 pub returns-in-Desk-clause-fits : goal.returns-in-Desk-clause-fits
 returns-in-Desk-clause-fits c =
