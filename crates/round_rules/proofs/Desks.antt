@@ -15,13 +15,13 @@ use Rattle.round_rules.specs.Doings.{Did, Doing, Freed, Got, Left, Lost, deeds_i
 use Rattle.round_rules.specs.Takings.{Taking, all_doings}
 use Rattle.round_rules.specs.Turns.{AreHandled, items_after}
 
-deeds_more : (xs ys : List Doing) → deeds_in (xs ++ ys) ≡ deeds_in xs ++ deeds_in ys
-deeds_more [] ys = refl
-deeds_more (Did d ∷ xs) ys = ap (λ ds. d ∷ ds) (deeds_more xs ys)
-deeds_more (Got u k says ∷ xs) ys = deeds_more xs ys
-deeds_more (Freed ∷ xs) ys = deeds_more xs ys
-deeds_more (Lost u k ∷ xs) ys = deeds_more xs ys
-deeds_more (Left i ∷ xs) ys = deeds_more xs ys
+pub deeds-more : (xs ys : List Doing) → deeds_in (xs ++ ys) ≡ deeds_in xs ++ deeds_in ys
+deeds-more [] ys = refl
+deeds-more (Did d ∷ xs) ys = ap (λ ds. d ∷ ds) (deeds-more xs ys)
+deeds-more (Got u k says ∷ xs) ys = deeds-more xs ys
+deeds-more (Freed ∷ xs) ys = deeds-more xs ys
+deeds-more (Lost u k ∷ xs) ys = deeds-more xs ys
+deeds-more (Left i ∷ xs) ys = deeds-more xs ys
 
 less_one : (items : List DeskItem) (k : ℕ) → length items ≡ suc k → length (drop 1 items) ≡ k
 less_one [] k e = absurd (omega (arith, e))
@@ -68,5 +68,5 @@ empty-after t n before items gs all count =
 
     deeds : deeds_in (before ++ (items ++ all_doings gs)) ≡
         deeds_in before ++ (deeds_in items ++ deeds_in (all_doings gs))
-    deeds = deeds_more before (items ++ all_doings gs)
-        ∙ ap (λ ds. deeds_in before ++ ds) (deeds_more items (all_doings gs))
+    deeds = deeds-more before (items ++ all_doings gs)
+        ∙ ap (λ ds. deeds_in before ++ ds) (deeds-more items (all_doings gs))

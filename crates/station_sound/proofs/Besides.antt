@@ -27,18 +27,19 @@ use Rattle.station_sound.proofs.Linking.{all-below, kept-sent}
 
 -- Listening
 
-record IsGot (after : List LinkView) (l : LinkView) : Type 0 where
-  link : LinkView
-  there : Contains after link
-  got : HasGot l link
+-- a link as it was, and what it is after listening
+pub record IsGot (after : List LinkView) (l : LinkView) : Type 0 where
+  pub link : LinkView
+  pub there : Contains after link
+  pub got : HasGot l link
 
-got_of : (before after : List LinkView) (l : LinkView) → AllZip HasGot before after → Contains before l →
+pub got-of : (before after : List LinkView) (l : LinkView) → AllZip HasGot before after → Contains before l →
     IsGot after l
-got_of [] after l all there = absurd (contains-none l there)
-got_of (b ∷ bs) [] l all there = absurd all
-got_of (b ∷ bs) (a ∷ rest) l all there = elim (contains-cases b l bs there) [
+got-of [] after l all there = absurd (contains-none l there)
+got-of (b ∷ bs) [] l all there = absurd all
+got-of (b ∷ bs) (a ∷ rest) l all there = elim (contains-cases b l bs there) [
   | inl is ↦ record { link = a; there = contains-head a rest; got = subst (λ (k : LinkView). HasGot k a) is all.0 }
-  | inr later ↦ (let r = got_of bs rest l all.1 later in
+  | inr later ↦ (let r = got-of bs rest l all.1 later in
       record { link = r.link; there = contains-tail a r.link rest r.there; got = r.got })
 ]
 
@@ -62,7 +63,7 @@ still_came before after all (Took s u k x) is = record {
 }
   where
     g : IsGot after is.link
-    g = got_of before after is.link all is.there
+    g = got-of before after is.link all is.there
 
 got_peers : (before after : List LinkView) → AllZip HasGot before after →
     map (λ (l : LinkView). l.peer) after ≡ map (λ (l : LinkView). l.peer) before

@@ -107,13 +107,14 @@ link-done t n ds e c s f frames l below lt world made spelled is =
 
 -- What stays
 
-record IsSameLink (before after : LinkView) : Type 0 where
-  peer : after.peer ≡ before.peer
-  came : after.came ≡ before.came
+pub record IsSameLink (before after : LinkView) : Type 0 where
+  pub peer : after.peer ≡ before.peer
+  pub came : after.came ≡ before.came
 
-kept_link : (stamp : ℕ) (fs : List Frame) (l : LinkView) → IsSameLink l (after_frames stamp fs l)
-kept_link stamp [] l = record { peer = refl; came = refl }
-kept_link stamp (f ∷ fs) l = go (is_to f.to l) (kept_link stamp fs)
+-- what goes over a link leaves where it leads and what came
+pub kept-link : (stamp : ℕ) (fs : List Frame) (l : LinkView) → IsSameLink l (after_frames stamp fs l)
+kept-link stamp [] l = record { peer = refl; came = refl }
+kept-link stamp (f ∷ fs) l = go (is_to f.to l) (kept-link stamp fs)
   where
     go : (b : Bool) → ((k : LinkView) → IsSameLink k (after_frames stamp fs k)) →
         IsSameLink l (after_frames stamp fs (cond b (with_parcel stamp f.bytes l) l))
@@ -124,14 +125,14 @@ kept_link stamp (f ∷ fs) l = go (is_to f.to l) (kept_link stamp fs)
 pub peers-kept : (stamp : ℕ) (fs : List Frame) (links : List LinkView) →
     map (λ (l : LinkView). l.peer) (map (after_frames stamp fs) links) ≡ map (λ (l : LinkView). l.peer) links
 peers-kept stamp fs [] = refl
-peers-kept stamp fs (l ∷ links) = rw ((kept_link stamp fs l).peer, peers-kept stamp fs links) refl
+peers-kept stamp fs (l ∷ links) = rw ((kept-link stamp fs l).peer, peers-kept stamp fs links) refl
 
 kept_brought : (stamp : ℕ) (fs : List Frame) (s k : ℕ) (u : NodeId) (x : Content) (l : LinkView) →
     IsBroughtBy s u k x l → IsBroughtBy s u k x (after_frames stamp fs l)
 kept_brought stamp fs s k u x l is = record {
-  peer = (kept_link stamp fs l).peer ∙ is.peer;
+  peer = (kept-link stamp fs l).peer ∙ is.peer;
   parcel = is.parcel;
-  came = subst (λ ps. Contains ps is.parcel) (sym (kept_link stamp fs l).came) is.came;
+  came = subst (λ ps. Contains ps is.parcel) (sym (kept-link stamp fs l).came) is.came;
   brought = is.brought;
 }
 
