@@ -49,6 +49,7 @@ TWINS = Plan(
     ],
 )
 """The first two links cost the same, less than the third, and share an SRLG."""
+BROAD = network("ab", "ab", labels=10)
 
 A_TO_B = "setup c1 a b unprotected via 1"
 ONE_CALL = """\
@@ -62,6 +63,17 @@ TABLES = [
     (PAIR, [], "calls 0 legs 0\n"),
     (PAIR, [A_TO_B], ONE_CALL),
     (PAIR, ["show", A_TO_B, "settle 1", "settle 1"], f"calls 0 legs 0\nunsettled desk 0 hop 2 flood 0\n{ONE_CALL}"),
+    # the label of a call that was released is another call's
+    (
+        PAIR,
+        [A_TO_B, "settle 100", "release c1", "settle 100", "setup c2 a b unprotected via 1"],
+        """\
+calls 1 legs 2
+call c2 a b bare a.2.2 - -
+leg a.2.2 a work live - 1/1
+leg a.2.2 b work live 1/1 -
+""",
+    ),
     (
         PAIR,
         ["setup c1 b a unprotected via 1", "setup c2 a b unprotected via 1"],
@@ -159,6 +171,21 @@ class AnswerTest(unittest.TestCase):
             with self.subTest(script=script):
                 self.assertEqual(told("run", given=replace(plan, script=script).text()), (DONE, text))
 
+    # Of each call a Path and a Resv aren't acknowledged.
+    def test_ten_calls_are_unsettled(self) -> None:
+        calls = [f"setup c{number} a b unprotected via 1" for number in range(10)]
+        status, text = told("run", given=replace(BROAD, script=[*calls, "settle 1"]).text())
+        lines = ["unsettled desk 0 hop 20 flood 0", "calls 10 legs 20"]
+        self.assertEqual((status, text.splitlines()[:2]), (DONE, lines))
+
+    def test_a_file_is_read_and_written(self) -> None:
+        with tempfile.TemporaryFile() as given, tempfile.TemporaryFile() as out:
+            given.write(replace(PAIR, script=[A_TO_B]).text().encode())
+            given.seek(0)
+            ended = subprocess.run([program_path(), "run"], stdin=given, stdout=out, check=False)
+            out.seek(0)
+            self.assertEqual((ended.returncode, out.read().decode()), (DONE, ONE_CALL))
+
     def test_faults_are_refused(self) -> None:
         for given, fault in FAULTS:
             with self.subTest(fault=fault):
@@ -224,6 +251,12 @@ class FailureTest(unittest.TestCase):
                 ended = subprocess.run([program_path(), *words], stdin=other, stdout=subprocess.PIPE, check=False)
                 os.close(other)
                 self.assertEqual((ended.returncode, ended.stdout), (READ_FAULT, b""))
+
+    def test_a_folder_is_no_input(self) -> None:
+        folder = os.open(".", os.O_RDONLY)
+        ended = subprocess.run([program_path(), "run"], stdin=folder, stdout=subprocess.PIPE, check=False)
+        os.close(folder)
+        self.assertEqual((ended.returncode, ended.stdout), (READ_FAULT, b""))
 
     def test_an_output_that_fails(self) -> None:
         plan = replace(PAIR, script=[A_TO_B]).text().encode()

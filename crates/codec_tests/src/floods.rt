@@ -7,12 +7,12 @@ use flood::{Flood, FloodMsg, decode_flood, encode_flood};
 use std::alloc::Global;
 use std::test::Fail;
 
-// The frame of row 1 of node 1: link 1 to node 2, metric 1, SRLG 7. The first byte is the frame's.
-const FRAME: [u8; 61] = [
-    0x59, 0x01, 0x00, 0x00, 0x00, 0x00, 0x00, 0x00, 0x01, 0x00, 0x00, 0x00, 0x01, 0x00, 0x02, 0x00,
-    0x2C, 0x00, 0x01, 0x00, 0x01, 0x01, 0x00, 0x00, 0x00, 0x00, 0x02, 0x00, 0x04, 0x00, 0x00, 0x00,
-    0x02, 0x00, 0x05, 0x00, 0x04, 0x00, 0x00, 0x00, 0x01, 0x00, 0x0B, 0x00, 0x08, 0x00, 0x00, 0x00,
-    0x01, 0x00, 0x00, 0x00, 0x01, 0x00, 0x10, 0x00, 0x04, 0x00, 0x00, 0x00, 0x07,
+// Row 1 of node 1: link 1 to node 2, metric 1, SRLG 7.
+const ROW: &[u8] = &[
+    0x01, 0x00, 0x00, 0x00, 0x00, 0x00, 0x00, 0x01, 0x00, 0x00, 0x00, 0x01, 0x00, 0x02, 0x00, 0x2C,
+    0x00, 0x01, 0x00, 0x01, 0x01, 0x00, 0x00, 0x00, 0x00, 0x02, 0x00, 0x04, 0x00, 0x00, 0x00, 0x02,
+    0x00, 0x05, 0x00, 0x04, 0x00, 0x00, 0x00, 0x01, 0x00, 0x0B, 0x00, 0x08, 0x00, 0x00, 0x00, 0x01,
+    0x00, 0x00, 0x00, 0x01, 0x00, 0x10, 0x00, 0x04, 0x00, 0x00, 0x00, 0x07,
 ];
 
 fn row_between(alloc: Global, link: u32, low: u32, high: u32) -> Result<TeRow, OutOfMemory>
@@ -47,65 +47,118 @@ fn is_first_row(m: &FloodMsg) -> bool {
     }
 }
 
-#[test]
-fn frames_both_ways(rt: HostRuntime) -> Result<(), Fail> {
-    let read = decode_flood(rt.alloc(), &FRAME[1..]).ok().ok_or("a row")?;
-    assert!(rt; is_first_row(&read), "{read:?}");
-    let row = row_between(rt.alloc(), 1, 1, 2)?;
+fn is_row_read(alloc: Global) -> bool {
+    match decode_flood(alloc, ROW) {
+        Ok(read) => is_first_row(&read),
+        Err(_) => false,
+    }
+}
+
+fn is_row_written(alloc: Global) -> Result<bool, Fail> {
+    let row = row_between(alloc, 1, 1, 2)?;
     let m = FloodMsg::Row {
         number: 1,
         origin: row.low,
         row,
     };
-    let written = encode_flood(rt.alloc(), &m)?;
-    assert_eq!(rt; written.as_slice(), &FRAME[1..]);
-    let ack = encode_flood(rt.alloc(), &FloodMsg::Ack { number: 5 })?;
-    assert_eq!(rt; ack.as_slice(), [2, 0, 0, 0, 0, 0, 0, 5].as_slice());
+    Ok(encode_flood(alloc, &m)?.as_slice() == ROW)
+}
+
+/// Bytes, and the number of the acknowledgement that they spell, if they spell one. The others are no
+/// byte, an acknowledgement that is cut short, one with a byte more, another type, and a row that is
+/// cut short.
+const ACKNOWLEDGEMENTS: &[(&[u8], Option<u32>)] = &[
+    (&[2, 0, 0, 0, 0, 0, 0, 5], Some(5)),
+    (&[2, 9, 9, 9, 0, 0, 0, 5], Some(5)),
+    (&[], None),
+    (&[2, 0, 0, 0, 0, 0, 0], None),
+    (&[2, 0, 0, 0, 0, 0, 0, 5, 0], None),
+    (&[3, 0, 0, 0, 0, 0, 0, 5], None),
+    (&[1, 0, 0, 0, 0, 0, 0, 5], None),
+];
+
+fn is_read(alloc: Global, bytes: &[u8], acknowledged: Option<u32>) -> bool {
+    match decode_flood(alloc, bytes) {
+        Ok(FloodMsg::Ack { number }) => acknowledged == Some(number),
+        Ok(FloodMsg::Row { .. }) => false,
+        Err(error) => acknowledged.is_none() && error == DecodeError::NotMessage,
+    }
+}
+
+fn is_acknowledgement_written(alloc: Global) -> Result<bool, Fail> {
+    let ack = encode_flood(alloc, &FloodMsg::Ack { number: 5 })?;
+    Ok(ack.as_slice() == [2, 0, 0, 0, 0, 0, 0, 5].as_slice())
+}
+
+#[test]
+fn messages_both_ways(rt: HostRuntime) -> Result<(), Fail> {
+    let alloc = rt.alloc();
+    assert!(rt; is_row_read(alloc) && is_row_written(alloc)?);
+    assert!(rt;
+        ACKNOWLEDGEMENTS
+            .iter()
+            .all(|(bytes, number)| is_read(alloc, bytes, *number))
+    );
+    assert!(rt; is_acknowledgement_written(alloc)?);
     Ok(())
 }
 
-/// No byte, an acknowledgement that is cut short, one with a byte more, another type, and a row that is cut short.
-const NO_MESSAGES: &[&[u8]] = &[
-    &[],
-    &[2, 0, 0, 0, 0, 0, 0],
-    &[2, 0, 0, 0, 0, 0, 0, 5, 0],
-    &[3, 0, 0, 0, 0, 0, 0, 5],
-    &[1, 0, 0, 0, 0, 0, 0, 5],
-];
+// A node with a row of its own, which is due to its two neighbours.
+fn flooding(alloc: Global) -> Result<Flood, Fail> {
+    let row = row_between(alloc, 1, 1, 2)?;
+    let mut flood = Flood::new(alloc, NodeId(1), &[NodeId(3), NodeId(2)])?;
+    flood.declare(alloc, row)?;
+    Ok(flood)
+}
 
-#[test]
-fn reads_acknowledgements(rt: HostRuntime) {
-    let ack = decode_flood(rt.alloc(), &[2, 9, 9, 9, 0, 0, 0, 5]);
-    assert!(rt; matches!(ack, Ok(FloodMsg::Ack { number: 5 })));
-    for bytes in NO_MESSAGES {
-        let read = decode_flood(rt.alloc(), bytes);
-        assert!(rt; matches!(read, Err(DecodeError::NotMessage)), "{bytes:?}");
+// The row goes 1, 3 and 7 ticks after its first sending.
+fn goes_again(alloc: Global, flood: &mut Flood) -> Result<bool, Fail> {
+    for sent in [2, 2, 0, 2, 0, 0, 0, 2] {
+        if flood.tick(alloc)?.items().len() != sent {
+            return Ok(false);
+        }
     }
+    Ok(true)
+}
+
+// Node 2 acknowledges it.
+fn is_acknowledged(alloc: Global, flood: &mut Flood) -> Result<bool, Fail> {
+    let before = flood.pending();
+    let answer = taken(alloc, flood, 2, &FloodMsg::Ack { number: 1 })?;
+    Ok(answer == (0, false) && (before, flood.pending()) == (2, 1))
+}
+
+// How many messages go out for one of this neighbour, and whether a row is learnt by it.
+fn taken(alloc: Global, flood: &mut Flood, from: u32, m: &FloodMsg) -> Result<(usize, bool), Fail> {
+    let out = flood.receive(alloc, NodeId(from), m)?;
+    Ok((out.sends.items().len(), out.learnt.is_some()))
+}
+
+// A row that is new goes on to the other neighbour, and is acknowledged each time.
+fn passes_on(alloc: Global, flood: &mut Flood) -> Result<bool, Fail> {
+    let new = FloodMsg::Row {
+        number: 4,
+        origin: NodeId(3),
+        row: row_between(alloc, 5, 2, 3)?,
+    };
+    let first = taken(alloc, flood, 3, &new)?;
+    let again = taken(alloc, flood, 2, &new)?;
+    let kept = (flood.known(LinkId(5)), flood.rows().len(), flood.pending());
+    Ok((first, again) == ((2, true), (1, false)) && kept == (true, 2, 2))
+}
+
+fn floods(alloc: Global, flood: &mut Flood) -> Result<bool, Fail> {
+    Ok(goes_again(alloc, flood)? && is_acknowledged(alloc, flood)? && passes_on(alloc, flood)?)
+}
+
+fn copy_floods(alloc: Global) -> Result<bool, Fail> {
+    let flood = flooding(alloc)?;
+    let mut same = flood.copy(alloc)?;
+    floods(alloc, &mut same)
 }
 
 #[test]
 fn floods_until_acknowledged(rt: HostRuntime) -> Result<(), Fail> {
-    let row = row_between(rt.alloc(), 1, 1, 2)?;
-    let mut flood = Flood::new(rt.alloc(), NodeId(1), &[NodeId(3), NodeId(2)])?;
-    flood.declare(rt.alloc(), row)?;
-    assert_eq!(rt; flood.pending(), 2);
-    for want in [2, 2, 0, 2, 0, 0, 0, 2] {
-        assert_eq!(rt; flood.tick(rt.alloc())?.items().len(), want);
-    }
-    let _ = flood.receive(rt.alloc(), NodeId(2), &FloodMsg::Ack { number: 1 })?;
-    assert_eq!(rt; flood.pending(), 1);
-    let mut same = flood.copy(rt.alloc())?;
-    let new = FloodMsg::Row {
-        number: 4,
-        origin: NodeId(3),
-        row: row_between(rt.alloc(), 5, 2, 3)?,
-    };
-    for (from, sent) in [(NodeId(3), 2), (NodeId(2), 1)] {
-        let out = same.receive(rt.alloc(), from, &new)?;
-        assert_eq!(rt; out.sends.items().len(), sent);
-        assert_eq!(rt; out.learnt.is_some(), sent == 2);
-    }
-    assert!(rt; same.known(LinkId(5)));
-    assert_eq!(rt; (same.rows().len(), same.pending()), (2, 2));
+    assert!(rt; copy_floods(rt.alloc())?);
     Ok(())
 }

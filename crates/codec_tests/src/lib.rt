@@ -1,6 +1,8 @@
-//! Tests of the crates that read and write what nodes exchange, over their public calls.
+//! Tests of the crates that read and write, over their public calls.
 #![tactic(auto)]
 
+#[cfg(test)]
+mod ends;
 #[cfg(test)]
 mod fields;
 #[cfg(test)]

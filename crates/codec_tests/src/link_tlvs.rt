@@ -4,7 +4,6 @@ ghost use Rattle.std.specs.Prelude.{◌≡◌, ◌<◌, ◌≤◌, length, IfOk}
 
 use ason_base::{DecodeError, LinkId, NodeId, OutOfMemory, Srlgs, TeRow};
 use std::alloc::Global;
-use std::process::Abort;
 use std::test::Fail;
 use te_tlv::{read_row, write_row};
 
@@ -12,6 +11,8 @@ use te_tlv::{read_row, write_row};
 const TYPE: &[u8] = &[0, 1, 0, 1, 1, 0, 0, 0];
 
 const ID: &[u8] = &[0, 2, 0, 4, 0, 0, 0, 2];
+
+const ID_OF_LOW: &[u8] = &[0, 2, 0, 4, 0, 0, 0, 1];
 
 const METRIC: &[u8] = &[0, 5, 0, 4, 0, 0, 0, 1];
 
@@ -21,71 +22,47 @@ const SRLG: &[u8] = &[0, 16, 0, 4, 0, 0, 0, 7];
 
 const NONE: &[u8] = &[];
 
+/// What it shows, sub-TLVs, and the SRLGs of the row that they spell.
+type ReadCase = (&'static str, [&'static [u8]; 6], &'static [u32]);
+
 /// What it shows, and sub-TLVs.
 type Case = (&'static str, [&'static [u8]; 6]);
 
-fn tlv(alloc: Global, parts: &[&[u8]]) -> Result<Vec<u8>, OutOfMemory> {
-    let mut body = Vec::new(alloc);
-    for part in parts {
-        body.extend_from_slice(part)?;
-    }
-    let len = body.len();
-    let mut bytes = Vec::from_slice(alloc, &[0, 2, (len / 256 % 256) as u8, (len % 256) as u8])?;
-    bytes.extend_from_slice(&body)?;
-    Ok(bytes)
-}
+/// SRLGs from 0 on, sixteen and seventeen.
+const SIXTEEN: &[u8] = &[
+    0, 16, 0, 64, 0, 0, 0, 0, 0, 0, 0, 1, 0, 0, 0, 2, 0, 0, 0, 3, 0, 0, 0, 4, 0, 0, 0, 5, 0, 0, 0,
+    6, 0, 0, 0, 7, 0, 0, 0, 8, 0, 0, 0, 9, 0, 0, 0, 10, 0, 0, 0, 11, 0, 0, 0, 12, 0, 0, 0, 13, 0,
+    0, 0, 14, 0, 0, 0, 15,
+];
 
-fn row(alloc: Global) -> Result<TeRow, OutOfMemory>
-    ensures ends { IfOk result (λ row. row.low.0 < row.high.0) }
-    ensures metric { IfOk result (λ row. row.metric ≡ 1) }
-    ensures srlgs { IfOk result (λ row. length row.srlgs ≤ 16) }
-{
-    let mut srlgs = Srlgs::new(alloc);
-    srlgs.push(7)?;
-    Ok(TeRow {
-        link: LinkId(1),
-        low: NodeId(1),
-        high: NodeId(2),
-        metric: 1,
-        srlgs,
-    })
-}
+const SEVENTEEN: &[u8] = &[
+    0, 16, 0, 68, 0, 0, 0, 0, 0, 0, 0, 1, 0, 0, 0, 2, 0, 0, 0, 3, 0, 0, 0, 4, 0, 0, 0, 5, 0, 0, 0,
+    6, 0, 0, 0, 7, 0, 0, 0, 8, 0, 0, 0, 9, 0, 0, 0, 10, 0, 0, 0, 11, 0, 0, 0, 12, 0, 0, 0, 13, 0,
+    0, 0, 14, 0, 0, 0, 15, 0, 0, 0, 16,
+];
 
-fn is_row(read: &TeRow) -> bool {
-    read.link == LinkId(1)
-        && (read.low, read.high) == (NodeId(1), NodeId(2))
-        && read.metric == 1
-        && read.srlgs.items() == [7].as_slice()
-}
-
-// Whether these sub-TLVs from node 1 spell no row.
-fn is_refused(alloc: Global, parts: &[&[u8]]) -> Result<bool, OutOfMemory> {
-    let bytes = tlv(alloc, parts)?;
-    let read = read_row(alloc, NodeId(1), &bytes);
-    Ok(matches!(read, Err(DecodeError::NotMessage)))
-}
-
-fn are_refused(rt: &impl Abort, alloc: Global, cases: &[Case]) -> Result<(), Fail> {
-    for (what, parts) in cases {
-        assert!(rt; is_refused(alloc, parts)?, "{what}");
-    }
-    Ok(())
-}
-
-const READ: &[Case] = &[
-    ("as written", [TYPE, ID, METRIC, LINKS, SRLG, NONE]),
-    ("in another order", [SRLG, LINKS, ID, TYPE, METRIC, NONE]),
+/// Sub-TLVs from node 1 that spell the row of link 1.
+const READ: &[ReadCase] = &[
+    ("as written", [TYPE, ID, METRIC, LINKS, SRLG, NONE], &[7]),
+    (
+        "in another order",
+        [SRLG, LINKS, ID, TYPE, METRIC, NONE],
+        &[7],
+    ),
     (
         "padding that isn't zero",
         [&[0, 1, 0, 1, 1, 9, 9, 9], ID, METRIC, LINKS, SRLG, NONE],
+        &[7],
     ),
     (
         "another type",
         [TYPE, ID, &[0, 9, 0, 1, 5, 0, 0, 0], METRIC, LINKS, SRLG],
+        &[7],
     ),
     (
         "other types twice",
         [TYPE, ID, METRIC, LINKS, SRLG, &[0, 9, 0, 0, 0, 9, 0, 0]],
+        &[7],
     ),
     (
         "an SRLG twice",
@@ -97,20 +74,17 @@ const READ: &[Case] = &[
             &[0, 16, 0, 8, 0, 0, 0, 7, 0, 0, 0, 7],
             NONE,
         ],
+        &[7],
+    ),
+    (
+        "sixteen SRLGs",
+        [TYPE, ID, METRIC, LINKS, SIXTEEN, NONE],
+        &[0, 1, 2, 3, 4, 5, 6, 7, 8, 9, 10, 11, 12, 13, 14, 15],
     ),
 ];
 
-#[test]
-fn reads_in_any_order(rt: HostRuntime) -> Result<(), Fail> {
-    for (what, parts) in READ {
-        let bytes = tlv(rt.alloc(), parts)?;
-        let read = read_row(rt.alloc(), NodeId(1), &bytes).ok().ok_or(*what)?;
-        assert!(rt; is_row(&read), "{what}: {read:?}");
-    }
-    Ok(())
-}
-
-const MISSING_OR_TWICE: &[Case] = &[
+/// Such that spell no row.
+const REFUSED: &[Case] = &[
     ("no link type", [NONE, ID, METRIC, LINKS, SRLG, NONE]),
     ("no link id", [TYPE, NONE, METRIC, LINKS, SRLG, NONE]),
     ("no metric", [TYPE, ID, NONE, LINKS, SRLG, NONE]),
@@ -120,14 +94,6 @@ const MISSING_OR_TWICE: &[Case] = &[
     ("two metrics", [TYPE, ID, METRIC, LINKS, SRLG, METRIC]),
     ("identifiers twice", [TYPE, ID, METRIC, LINKS, SRLG, LINKS]),
     ("SRLGs twice", [TYPE, ID, METRIC, LINKS, SRLG, SRLG]),
-];
-
-#[test]
-fn refuses_what_is_missing_or_twice(rt: HostRuntime) -> Result<(), Fail> {
-    are_refused(&rt, rt.alloc(), MISSING_OR_TWICE)
-}
-
-const WRONG_LENGTHS: &[Case] = &[
     (
         "a link type of two bytes",
         [&[0, 1, 0, 2, 1, 0, 0, 0], ID, METRIC, LINKS, SRLG, NONE],
@@ -156,14 +122,6 @@ const WRONG_LENGTHS: &[Case] = &[
         "a value past the end",
         [TYPE, ID, METRIC, LINKS, SRLG, &[0, 9, 0, 4, 0, 0]],
     ),
-];
-
-#[test]
-fn refuses_wrong_lengths(rt: HostRuntime) -> Result<(), Fail> {
-    are_refused(&rt, rt.alloc(), WRONG_LENGTHS)
-}
-
-const WRONG_VALUES: &[Case] = &[
     (
         "another link type",
         [&[0, 1, 0, 1, 2, 0, 0, 0], ID, METRIC, LINKS, SRLG, NONE],
@@ -191,36 +149,110 @@ const WRONG_VALUES: &[Case] = &[
             NONE,
         ],
     ),
+    (
+        "seventeen SRLGs",
+        [TYPE, ID, METRIC, LINKS, SEVENTEEN, NONE],
+    ),
 ];
 
-#[test]
-fn refuses_wrong_values(rt: HostRuntime) -> Result<(), Fail> {
-    are_refused(&rt, rt.alloc(), WRONG_VALUES)
+fn tlv(alloc: Global, parts: &[&[u8]]) -> Result<Vec<u8>, OutOfMemory> {
+    let mut body = Vec::new(alloc);
+    for part in parts {
+        body.extend_from_slice(part)?;
+    }
+    let len = body.len();
+    let mut bytes = Vec::from_slice(alloc, &[0, 2, (len / 256 % 256) as u8, (len % 256) as u8])?;
+    bytes.extend_from_slice(&body)?;
+    Ok(bytes)
+}
+
+fn row(alloc: Global) -> Result<TeRow, OutOfMemory>
+    ensures ends { IfOk result (λ row. row.low.0 < row.high.0) }
+    ensures metric { IfOk result (λ row. row.metric ≡ 1) }
+    ensures srlgs { IfOk result (λ row. length row.srlgs ≤ 16) }
+{
+    let mut srlgs = Srlgs::new(alloc);
+    srlgs.push(7)?;
+    Ok(TeRow {
+        link: LinkId(1),
+        low: NodeId(1),
+        high: NodeId(2),
+        metric: 1,
+        srlgs,
+    })
+}
+
+fn is_row(read: &TeRow, srlgs: &[u32]) -> bool {
+    read.link == LinkId(1)
+        && (read.low, read.high) == (NodeId(1), NodeId(2))
+        && read.metric == 1
+        && read.srlgs.items() == srlgs
+}
+
+// Whether these sub-TLVs from node 1 spell link 1 with these SRLGs.
+fn spell(alloc: Global, parts: &[&[u8]], srlgs: &[u32]) -> Result<bool, OutOfMemory> {
+    let bytes = tlv(alloc, parts)?;
+    Ok(match read_row(alloc, NodeId(1), &bytes) {
+        Ok(row) => is_row(&row, srlgs),
+        Err(_) => false,
+    })
+}
+
+// Whether they spell no row.
+fn are_refused(alloc: Global, parts: &[&[u8]]) -> Result<bool, OutOfMemory> {
+    let bytes = tlv(alloc, parts)?;
+    let read = read_row(alloc, NodeId(1), &bytes);
+    Ok(matches!(read, Err(DecodeError::NotMessage)))
+}
+
+// What the first case shows that is read otherwise.
+fn first_unread(alloc: Global) -> Result<Option<&'static str>, OutOfMemory> {
+    for (what, parts, srlgs) in READ {
+        if !spell(alloc, parts, srlgs)? {
+            return Ok(Some(*what));
+        }
+    }
+    Ok(None)
+}
+
+fn first_not_refused(alloc: Global) -> Result<Option<&'static str>, OutOfMemory> {
+    for (what, parts) in REFUSED {
+        if !are_refused(alloc, parts)? {
+            return Ok(Some(*what));
+        }
+    }
+    Ok(None)
+}
+
+fn first_wrong(alloc: Global) -> Result<Option<&'static str>, OutOfMemory> {
+    Ok(first_unread(alloc)?.or(first_not_refused(alloc)?))
 }
 
 #[test]
-fn reads_up_to_sixteen_srlgs(rt: HostRuntime) -> Result<(), Fail> {
-    for (count, fits) in [(16u8, true), (17, false)] {
-        let mut srlgs = Vec::from_slice(rt.alloc(), &[0, 16, 0, 4 * count])?;
-        for n in 0..count {
-            srlgs.extend_from_slice(&[0, 0, 0, n])?;
-        }
-        let bytes = tlv(rt.alloc(), &[TYPE, ID, METRIC, LINKS, srlgs.as_slice()])?;
-        let read = read_row(rt.alloc(), NodeId(1), &bytes);
-        assert_eq!(rt; read.is_ok(), fits, "{count} SRLGs");
-    }
+fn rows_are_read(rt: HostRuntime) -> Result<(), Fail> {
+    assert_eq!(rt; first_wrong(rt.alloc())?, None);
     Ok(())
 }
 
+fn is_tlv(alloc: Global, bytes: &[u8], parts: &[&[u8]]) -> Result<bool, OutOfMemory> {
+    let expected = tlv(alloc, parts)?;
+    Ok(bytes == expected.as_slice())
+}
+
+fn is_written_from_low(alloc: Global) -> Result<bool, OutOfMemory> {
+    let row = row(alloc)?;
+    let bytes = write_row(alloc, row.low, &row)?;
+    is_tlv(alloc, &bytes, &[TYPE, ID, METRIC, LINKS, SRLG])
+}
+
+fn is_written_from_high(alloc: Global) -> Result<bool, OutOfMemory> {
+    let row = row(alloc)?;
+    let bytes = write_row(alloc, row.high, &row)?;
+    is_tlv(alloc, &bytes, &[TYPE, ID_OF_LOW, METRIC, LINKS, SRLG])
+}
+
 #[test]
-fn writes_from_both_ends(rt: HostRuntime) -> Result<(), Fail> {
-    let row = row(rt.alloc())?;
-    let from_low = write_row(rt.alloc(), row.low, &row)?;
-    let from_high = write_row(rt.alloc(), row.high, &row)?;
-    let to_low = &[0, 2, 0, 4, 0, 0, 0, 1];
-    for (bytes, id) in [(&from_low, ID), (&from_high, to_low)] {
-        let want = tlv(rt.alloc(), &[TYPE, id, METRIC, LINKS, SRLG])?;
-        assert_eq!(rt; bytes.as_slice(), want.as_slice());
-    }
+fn a_row_is_written_from_both_ends(rt: HostRuntime) -> Result<(), Fail> {
+    assert!(rt; is_written_from_low(rt.alloc())? && is_written_from_high(rt.alloc())?);
     Ok(())
 }
