@@ -1,45 +1,10 @@
 //! Turns of a station alone, with ample memory.
 
-use ason_base::{CallNo, Command, DeskItem, LinkId, LinkSpec, NodeId, NodeSpec, Numbers, Topology};
+use crate::networks::{A, row};
+use ason_base::{CallNo, Command, DeskItem, Topology};
 use station::{Station, Turn};
 use std::alloc::Global;
-use std::process::Abort;
 use std::test::Fail;
-
-const A: NodeId = NodeId(1);
-
-const B: NodeId = NodeId(2);
-
-/// Two nodes and a link between them.
-fn topology(alloc: Global) -> Result<Topology, Fail> {
-    let nodes = [
-        NodeSpec {
-            id: A,
-            convert: true,
-        },
-        NodeSpec {
-            id: B,
-            convert: true,
-        },
-    ];
-    let mut links = Vec::new(alloc);
-    links.push(LinkSpec {
-        id: LinkId(1),
-        low: A,
-        high: B,
-        labels: 1,
-        metric: 1,
-        srlgs: Numbers::new(alloc),
-    })?;
-    Ok(Topology::new(alloc, 0, &nodes, &links)?)
-}
-
-fn station(rt: &impl Abort, alloc: Global, t: &Topology) -> Result<Station, Fail> {
-    if t.node(A).is_none() {
-        panic!(rt; "no node");
-    }
-    Ok(Station::new(alloc, t, A)?)
-}
 
 fn release() -> DeskItem {
     DeskItem::Order(Command::Release {
@@ -48,25 +13,37 @@ fn release() -> DeskItem {
     })
 }
 
-#[test]
-fn a_tick_and_two_items_are_three_events(rt: HostRuntime) -> Result<(), Fail> {
-    let t = topology(rt.alloc())?;
-    let mut station = station(&rt, rt.alloc(), &t)?;
+// The station of a, in a list.
+fn stations(alloc: Global, t: &Topology) -> Result<Vec<Station>, Fail> {
+    let mut stations = Vec::new(alloc);
+    match t.node(A) {
+        None => return Err(Fail::new("no node")),
+        Some(_) => stations.push(Station::new(alloc, t, A)?)?,
+    }
+    Ok(stations)
+}
+
+// A tick and two items are three events, and a turn without a tick may be idle.
+fn makes_turns(station: &mut Station) -> Result<bool, Fail> {
     station.order(release())?;
     station.order(release())?;
-    assert!(rt; station.desk_len() == 2);
-    assert!(rt; station.turn(true) == Turn::Worked(3));
-    assert!(rt; station.desk_len() == 0);
-    assert!(rt; station.made() == 3);
-    assert!(rt; station.controller().pending().hop == 0);
-    Ok(())
+    let waiting = station.desk_len();
+    let turns = (station.turn(true), station.turn(false));
+    let left = (station.desk_len(), station.controller().pending().hop);
+    let made = station.made();
+    Ok(waiting == 2 && turns == (Turn::Worked(3), Turn::Idle) && left == (0, 0) && made == 3)
+}
+
+fn turns(alloc: Global) -> Result<bool, Fail> {
+    let t = row(alloc, 2, 1)?;
+    match stations(alloc, &t)?.first_mut() {
+        None => Ok(false),
+        Some(station) => makes_turns(station),
+    }
 }
 
 #[test]
-fn a_turn_without_a_tick_may_be_idle(rt: HostRuntime) -> Result<(), Fail> {
-    let t = topology(rt.alloc())?;
-    let mut station = station(&rt, rt.alloc(), &t)?;
-    assert!(rt; station.turn(false) == Turn::Idle);
-    assert!(rt; station.made() == 0);
+fn a_turn_ticks_and_handles_the_desk(rt: HostRuntime) -> Result<(), Fail> {
+    assert!(rt; turns(rt.alloc())?);
     Ok(())
 }
