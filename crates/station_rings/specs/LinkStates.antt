@@ -1,0 +1,112 @@
+-- A link with the ends of its two rings, and what sending, taking and looking make of it.
+use Rattle.std.specs.Prelude.{◌≡◌, ◌≤◌, ◌+◌, ℕ, List, [], ◌∷◌, ◌++◌, Option, MatchOption, length}
+use Rattle.std.specs.List.{AllByRecursion}
+use Rattle.std.specs.declared.alloc.Global.{Global}
+use Rattle.rtrb.specs.Ring.{sent, received, known_items, producer_capacity, IsPair, SameConsumer, SameProducer}
+use Rattle.rtrb.specs.declared.producer.Producer.{Producer}
+use Rattle.rtrb.specs.declared.consumer.Consumer.{Consumer}
+use Rattle.ason_base.specs.declared.ids.NodeId.{NodeId}
+use Rattle.flood.specs.declared.frames.Content.{Content}
+use Rattle.flood.specs.Frames.{IsFrame}
+use Rattle.station_sound.specs.declared.parcels.Parcel.{Parcel}
+use Rattle.station_sound.specs.Links.{LinkView}
+use Rattle.station_rings.specs.declared.rules.Rising.{Rising}
+use Rattle.station_rings.specs.Protocols.{AreInOrder}
+
+-- The ends of the rings stand in it, so that a clause can say of two links that they are the two ends of both rings.
+pub record LinkState : Type 0 where
+  pub peer : NodeId
+  -- the number of the last frame that was sent, whether it was dropped or not
+  pub sent : ℕ
+  -- how many frames stand in the ring, by the sender's own count
+  pub standing : ℕ
+  pub out : Producer Parcel Global Rising
+  -- the parcels for which no room was known in the ring
+  pub backlog : List Parcel
+  pub into : Consumer Parcel Global Rising
+  -- the parcels that came out of the ring and weren't taken
+  pub early : List Parcel
+
+-- all that was ever handed to the ring, what waits behind it with it
+abbrev pub gone_of : LinkState → List Parcel
+gone_of l = sent l.out ++ l.backlog
+
+-- the link as the laws of stations see it
+abbrev pub view_of : LinkState → LinkView
+view_of l = record { peer = l.peer; sent = l.sent; standing = l.standing; gone = gone_of l; came = received l.into }
+
+-- What holds of every link: at most 256 parcels stand in the ring, no parcel has a number yet to come, and what waits
+-- may follow what was sent.
+pub record LinkFits (l : LinkState) : Type 0 where
+  pub few : length l.backlog ≤ l.standing
+  pub most : l.standing ≤ 256
+  pub order : AreInOrder (sent l.out) l.backlog
+  pub numbers : AllByRecursion (λ (p : Parcel). p.number ≤ l.sent) (gone_of l)
+
+-- Sending
+
+-- bytes bear something
+abbrev pub BearsSome : List ℕ → Type 0
+BearsSome bytes = (c : Content) × IsFrame bytes c
+
+-- the same ends of the same rings
+pub record SameEnds (a b : LinkState) : Type 0 where
+  pub out : SameProducer a.out b.out
+  pub into : SameConsumer a.into b.into
+
+-- Looking
+
+-- both rings between two links, each for 256 parcels
+pub record AreEnds (a b : LinkState) : Type 0 where
+  pub there : IsPair a.out b.into
+  pub back : IsPair b.out a.into
+  pub wide : producer_capacity a.out ≡ 256
+  pub wide_back : producer_capacity b.out ≡ 256
+
+-- what stands in the ring from a to b by all counts is at most 256: in the ring, early at its end, and in the backlog
+abbrev pub IsFew : LinkState → LinkState → Type 0
+IsFew a b = length b.early + length (gone_of a) ≤ 256 + length (received b.into)
+
+pub record AreFew (a b : LinkState) : Type 0 where
+  pub there : IsFew a b
+  pub back : IsFew b a
+
+-- A look at the ring from a to b makes c of a and d of b: nothing was sent or taken, all that was handed to the ring is
+-- known at its end, early or in the ring, and how many these are is known to the sender.
+pub record IsLooked (a c b d : LinkState) : Type 0 where
+  pub peer : c.peer ≡ a.peer
+  pub sent : c.sent ≡ a.sent
+  pub gone : gone_of c ≡ gone_of a
+  pub backlog : c.backlog ≡ []
+  pub whole : received d.into ++ known_items d.into ≡ gone_of a
+  pub more : List Parcel
+  pub early : d.early ≡ b.early ++ more
+  pub came : received b.into ++ more ≡ received d.into
+  pub standing : c.standing ≡ length d.early + length (known_items d.into)
+
+-- Taking
+
+-- What was taken came first of what came out of the ring and wasn't taken, or out of the ring itself; and where nothing
+-- was taken nothing is known to stand there.
+pub record IsTaken (parcel : Option Parcel) (before after : LinkState) : Type 0 where
+  pub peer : after.peer ≡ before.peer
+  pub sent : after.sent ≡ before.sent
+  pub standing : after.standing ≡ before.standing
+  pub gone : gone_of after ≡ gone_of before
+  pub ends : SameEnds before after
+  pub more : List Parcel
+  pub came : received after.into ≡ received before.into ++ more
+  pub first : MatchOption parcel
+      ((before.early ≡ []) × (after.early ≡ []) × (known_items after.into ≡ []) × (more ≡ []))
+      (λ p. before.early ++ more ≡ p ∷ after.early)
+
+-- Beginning
+
+-- nothing was sent or taken over the link to this neighbour
+pub record IsNew (n : NodeId) (l : LinkState) : Type 0 where
+  pub peer : l.peer ≡ n
+  pub sent : l.sent ≡ 0
+  pub standing : l.standing ≡ 0
+  pub gone : gone_of l ≡ []
+  pub came : received l.into ≡ []
+  pub early : l.early ≡ []

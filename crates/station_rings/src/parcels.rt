@@ -1,0 +1,69 @@
+//! Parcels that wait.
+
+ghost use Rattle.std.specs.Prelude.{◌≡◌, ◌<◌, ◌++◌, ◌∷◌, [], ◌≤◌, ◌==◌, IfOk, MatchOption, length};
+ghost use Rattle.std.specs.VecDeque.{deque_capacity};
+
+use ason_base::OutOfMemory;
+use station_sound::Parcel;
+use std::alloc::Global;
+use std::collections::VecDeque;
+use std::marker::Model;
+
+/// The most frames that stand in a ring.
+pub const MOST_FRAMES: usize = 256;
+
+/// At most 256 parcels, the oldest first. The room for them is there from the start.
+#[derive(Drop)]
+pub struct Parcels {
+    parcels: VecDeque<Parcel>,
+    ghost room: { 256 ≤ deque_capacity parcels },
+}
+
+impl Model for Parcels {
+    ghost use Rattle.std.specs.Prelude.{List};
+    ghost use Rattle.station_sound.specs.declared.parcels.Parcel.{Parcel};
+
+    ghost Value = { List Parcel };
+
+    ghost view = { λ p. p.parcels.items };
+}
+
+impl Parcels {
+    /// No parcel.
+    pub fn new(alloc: Global) -> Result<Parcels, OutOfMemory>
+        ensures { IfOk result (λ p. p ≡ []) }
+    {
+        let parcels = VecDeque::with_capacity(alloc, MOST_FRAMES)?;
+        Ok(Parcels { parcels })
+    }
+
+    /// Puts a parcel at the end. It takes no memory.
+    pub fn push(&mut self, parcel: Parcel)
+        requires { length self.old < 256 }
+        ensures { self.new ≡ self.old ++ parcel ∷ [] }
+    {
+        self.parcels.push_back_reserved(parcel);
+    }
+
+    /// Takes the first parcel.
+    pub fn pop(&mut self) -> Option<Parcel>
+        ensures { MatchOption result ((self.old ≡ []) × (self.new ≡ []))
+            (λ p. self.old ≡ p ∷ self.new) }
+    {
+        self.parcels.pop_front()
+    }
+
+    /// How many parcels wait.
+    pub fn len(&self) -> usize
+        ensures { result ≡ length self.now }
+    {
+        self.parcels.len()
+    }
+
+    /// Whether none waits.
+    pub fn is_empty(&self) -> bool
+        ensures { result ≡ length self.now == 0 }
+    {
+        self.parcels.is_empty()
+    }
+}
