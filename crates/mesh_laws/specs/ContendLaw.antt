@@ -67,6 +67,7 @@ pub record Contend (t : Network) (s : Mesh) (g h : Group) : Type 0 where
   pub two_turns : MayTurnTo t s h node fibre label two_at two
   pub differ : one_at ≡ two_at → one.call ≡ two.call → ⊥
 
+-- no two calls would, whichever of the groups comes first
 abbrev pub NoneContend : Network → Mesh → Group → Group → Type 0
 NoneContend t s g h = (Contend t s g h → ⊥) × (Contend t s h g → ⊥)
 

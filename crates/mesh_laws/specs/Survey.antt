@@ -60,6 +60,7 @@ takes_at legs n k x c =
 abbrev pub numbers_of : List CallRow → List CallNo
 numbers_of calls = map (λ c. c.call) calls
 
+-- where a group hits these calls, and any
 abbrev pub hit_of : List LegRow → Group → List CallRow → List Hit
 hit_of legs g [] = []
 hit_of legs g (c ∷ calls) = record {
@@ -93,6 +94,7 @@ of_two g h k forward x a b = if a.call.0 == b.call.0 && a.ingress.0 == b.ingress
 abbrev pub end_of : LinkSpec → Bool → NodeId
 end_of l forward = if forward then l.high else l.low
 
+-- each two of them, on one label
 abbrev pub on_label : Network → List CallRow → List LegRow → Group → Group → LinkSpec → Bool → ℕ → List Contend
 on_label t calls legs g h l forward x =
     flat_map (λ a. flat_map (of_two g h l.id forward x a)
@@ -108,10 +110,12 @@ abbrev pub labels_at : List LegRow → NodeId → LinkId → List ℕ
 labels_at legs n k =
     in_order nat_lt (flat_map (λ r. if r.node.0 == n.0 && is_link r.in_link k then label_in r.in_label else []) legs)
 
+-- on each label of a fibre, rising
 abbrev pub over_fibre : Network → List CallRow → List LegRow → Group → Group → LinkSpec → Bool → List Contend
 over_fibre t calls legs g h l forward =
     flat_map (on_label t calls legs g h l forward) (labels_at legs (end_of l forward) l.id)
 
+-- over the fibre to the high end, and then over the other
 abbrev pub over_link : Network → List CallRow → List LegRow → Group → Group → LinkSpec → List Contend
 over_link t calls legs g h l = flat_map (over_fibre t calls legs g h l) (true ∷ false ∷ [])
 

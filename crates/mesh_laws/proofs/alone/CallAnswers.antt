@@ -72,6 +72,7 @@ module _ (t : Network) (gs : List Group) (o : Routes) (p : LocalNode) (s : NodeS
   pair_over-fine c w None of = bare-fine c NoBackup of
   pair_over-fine c w (Some route) of = over-fine c w route (first_link p route) of
 
+  -- a call that asks for its backup
   pub pair-fine : (c : CallRec) (w : Leg) → CallHolds t gs o c → Fine t gs o (pair p s c w)
   pair-fine c w of =
       if_cases (Fine t gs o) (is_some (unknown_link (known_rows p s) (route_from p w))) (leaves_bare c NoBackup)
@@ -105,6 +106,7 @@ module _ (t : Network) (gs : List Group) (o : Routes) (p : LocalNode) (s : NodeS
         role = subst (λ x. RoleConcerns t gs (activating x)) (sym path) may.role;
       }
 
+  -- the call of a leg that got its label
   pub call_answered-fine : (b h : Leg) (c : Option CallRec) → find_leg b.lsp s.legs ≡ Some b → h.role ≡ b.role →
       h.risks ≡ b.risks → h.path_role ≡ b.path_role → call_with b.lsp s.calls ≡ c →
       Fine t gs o (call_answered p s h c)
@@ -137,6 +139,7 @@ module _ (t : Network) (gs : List Group) (o : Routes) (p : LocalNode) (s : NodeS
       if_cases (Fine t gs o) (is_pairing c.state) (leaves_bare c (Code code)) nothing
       (λ e. bare-fine c (Code code) of) (λ e. fine-nothing t gs o)
 
+  -- the call of a leg that was refused
   pub call_refused-fine : (code : ErrCode) (b : Leg) (l : Lsp) (c : Option CallRec) → call_with l s.calls ≡ c →
       Fine t gs o (call_refused code b c)
   call_refused-fine code b l None called = fine-nothing t gs o

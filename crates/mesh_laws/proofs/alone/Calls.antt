@@ -35,6 +35,7 @@ use Rattle.mesh_laws.proofs.alone.Facts.{Records as RecordsPrimary}
 
 -- Finding
 
+-- an LSP that is named is the one that is named
 pub is_lsp-eq : (o : Option Lsp) (l : Lsp) → is_lsp o l ≡ true → o ≡ Some l
 is_lsp-eq None l e = absurd (cc e)
 is_lsp-eq (Some k) l e = ap Some (same_lsp-eq k l e)
@@ -56,6 +57,7 @@ pub record MayTurn (t : Network) (gs : List Group) (b : Leg) : Type 0 where
   pub records : has_one b.risks gs ≡ true
   pub role : RoleConcerns t gs (activating b.path_role)
 
+-- where there is one
 abbrev pub LegMayTurn : Network → List Group → Option Leg → Type 0
 LegMayTurn t gs None = Unit {0}
 LegMayTurn t gs (Some b) = MayTurn t gs b
@@ -83,6 +85,7 @@ module _ (t : Network) (gs : List Group) (o : Routes) where
     back = λ e. absurd (cc e);
   }
 
+  -- a call that is blocked
   pub blocked-holds : (c : CallRec) (cause : Cause) → CallHolds t gs o c → CallHolds t gs o (blocked c cause)
   blocked-holds c cause holds = record {
     concerns = record { work_reports = tt; back_reports = holds.concerns.back_reports; free = λ e. absurd (cc e) };
@@ -104,6 +107,7 @@ module _ (t : Network) (gs : List Group) (o : Routes) where
       path None = tt
       path (Some h) = (may.role, tt)
 
+  -- a call turns where its backup's leg records one of the groups
   pub turn-fine : (c : CallRec) (b : Option Leg) → CallHolds t gs o c → LegMayTurn t gs b → Fine t gs o (turn c b)
   turn-fine c None holds may = fine-call t gs o c holds
   turn-fine c (Some b) holds may =
@@ -129,6 +133,7 @@ module _ (t : Network) (gs : List Group) (o : Routes) where
       path None = tt
       path (Some h) = (passive-back b.path_role, tt)
 
+  -- a call goes back whatever fails
   pub go_back-fine : (c : CallRec) (b : Option Leg) → CallHolds t gs o c → Fine t gs o (go_back c b)
   go_back-fine c None holds = fine-call t gs o c holds
   go_back-fine c (Some b) holds =
@@ -219,9 +224,11 @@ module _ (t : Network) (gs : List Group) (o : Routes) where
         (λ works backs. many was call (subst (IsExposed t gs o) same_work (of.work works))
         (subst (IsExposed t gs o) same_back (of.back backs))) of
 
+    -- what is known of the call of an LSP
     pub called-knows : (l : Lsp) (c : CallRec) → call_with l s.calls ≡ Some c → CallKnows t o s.legs c
     called-knows l c called = found-one (CallKnows t o s.legs) (names l) s.calls c called knows.calls
 
+    -- and what holds of it
     pub called-holds : (l : Lsp) (c : CallRec) → call_with l s.calls ≡ Some c → CallHolds t gs o c
     called-holds l c called = found-one (CallHolds t gs o) (names l) s.calls c called holds.calls
 

@@ -23,6 +23,7 @@ use Rattle.mesh_laws.proofs.alone.Fine.{MeshHolds, all-append}
 use Rattle.mesh_laws.proofs.alone.Groups.{FailsOnly, FibreConcerns, ItemConcerns, is_on_link}
 
 module _ (t : Network) (gs : List Group) where
+  -- each of the groups is one of these
   abbrev pub AreThese : List Group → Type 0
   AreThese groups = AllByRecursion (Contains gs) groups
 
@@ -109,6 +110,7 @@ module _ (t : Network) (gs : List Group) where
           if_cases AreThese (has_group groups h) groups (groups ++ h ∷ []) (λ e. all)
           (λ e. all-append (Contains gs) groups (h ∷ []) all (is, tt))
 
+      -- whatever is posted, where no other group fails
       pub posted-holds : (s : Mesh) (c : Command) → FailsOnly gs (Post c) → MeshHolds t gs o s →
           MeshHolds t gs o (posted t s c)
       posted-holds s (Setup n from to protected both via backup) only old =

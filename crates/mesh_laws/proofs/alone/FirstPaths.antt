@@ -52,6 +52,7 @@ module _ (t : Network) (gs : List Group) (o : Routes) (p : LocalNode) (s : NodeS
   judged-fine m link None plain =
       admitted-fine m link (risks_here p s m) (offered_labels p s m link) m.route plain
 
+  -- the answer to a first Path, refused or not
   pub first_path-fine : (m : PathRequest) (link : Option LinkSpec) → Fine t gs o (first_path p s m link)
   first_path-fine m None = fine-nothing t gs o
   first_path-fine m (Some link) =

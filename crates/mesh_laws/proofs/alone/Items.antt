@@ -53,6 +53,7 @@ use Rattle.mesh_laws.proofs.alone.Legs.{closed-concerns}
 module _ (t : Network) (gs : List Group) (o : Routes) where
   -- Rows
 
+  -- a row of a link
   pub link-fine : (p : LocalNode) (s : NodeState) (found : Option LinkSpec) → Fine t gs o (on_link p s found)
   link-fine p s None = fine-nothing t gs o
   link-fine p s (Some l) =
@@ -80,6 +81,7 @@ module _ (t : Network) (gs : List Group) (o : Routes) where
       fine-then t gs o (ticked wait legs c) (all_ticked wait legs calls) (ticked-fine wait legs c of.0)
       (all_ticked-fine wait legs calls of.1)
 
+  -- a tick, at which calls may go back
   pub tick-fine : (p : LocalNode) (s : NodeState) → NodeHolds t gs o s → Fine t gs o (on_tick p s)
   tick-fine p s holds = all_ticked-fine p.wait s.legs s.calls holds.calls
 
@@ -233,6 +235,7 @@ module _ (t : Network) (gs : List Group) (o : Routes) where
     knows_down-fine f code fibres of all =
         record { legs = tt; calls = tt; down = all; sent = notices-fine f code s.legs of }
 
+    -- the answer to each item of a desk concerns one of the groups
     pub item-fine : (i : DeskItem) → ItemConcerns t gs i → Fine t gs o (on_item p s i)
     item-fine (Order c) of = order-fine c
     item-fine (Alarm f) of =

@@ -19,6 +19,7 @@ use Rattle.mesh_laws.proofs.hops.Laws.{follows}
 use Rattle.mesh_laws.proofs.hops.Recorded.{every_backup_records}
 use Rattle.mesh_laws.proofs.nodes.Runs.{facts-hold}
 
+-- what the laws of every run tell of each state
 pub each-knows : (t : Network) → IsTopology t → EachKnows t
 each-knows t valid events run =
     mesh-knows t events (facts-hold t events run) (follows t events run) (every_backup_records t events valid run)
@@ -37,6 +38,7 @@ one-apart t g knows before (e ∷ es) run =
           (one-apart t g knows (before ++ e ∷ []) es (subst (IsRun t start) (sym (append-one before e es)) run)),
     )
 
+-- the clause: one group as a list of groups
 pub every_activation_admitted : EveryActivationIsAdmitted
 every_activation_admitted t events valid run g alone =
     let distinct : is_distinct (map (λ l. l.id.0) t.links) ≡ true = and_first _ _ (topology_searchable t valid) in
@@ -52,6 +54,7 @@ every_activation_admitted t events valid run g alone =
           (mesh-one t g (route_of t start (before ++ since)) (after t start (before ++ since)) kept.holds),
     )
 
+-- nothing is there at the start
 pub run_starts_calm : EveryRunStartsCalm
 run_starts_calm = record {
   failed = refl;

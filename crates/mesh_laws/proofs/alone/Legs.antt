@@ -30,6 +30,7 @@ Apart gs legs =
     has_one b.risks gs ≡ true → l ≡ m
 
 module _ (gs : List Group) where
+  -- a leg that isn't in use concerns any group
   pub idle-concerns : (b : Leg) → (b.role ≡ Back → is_in_use b.phase ≡ false) → LegConcerns gs b
   idle-concerns b idle back used = let never = idle back in absurd (cc (never, used))
 
@@ -52,6 +53,7 @@ module _ (gs : List Group) where
   reserved-concerns b is =
       idle-concerns b (λ back. let held : b.phase ≡ Held = is ∙ ap reserved back in ap is_in_use held)
 
+  -- a leg that is Armed records one of the groups
   pub armed-records : (b : Leg) → is_armed b.phase ≡ true → LegConcerns gs b → Records gs b
   armed-records b armed concerns back = concerns back (go b.phase armed)
     where
@@ -123,6 +125,7 @@ module _ (gs : List Group) where
         go Closing is e = absurd (cc e)
         go Falling is e = absurd (cc e)
 
+    -- so the label of a Held leg that records one isn't in use
     pub not_contended : is_held b.phase ≡ true → is_contended all b b.in_fibre b.in_label ≡ false
     not_contended held = go b.in_fibre b.in_label refl refl
       where

@@ -200,6 +200,7 @@ module _ (t : Network) (gs : List Group) (o : Routes) (p : LocalNode) (s : NodeS
       (λ e. notice_told-fine t gs o p s knows holds b (found-here m.lsp b found) m (reported m.code) concerns on)
       (λ e. fine-nothing t gs o)
 
+  -- the answer to each message concerns one of the groups
   pub message-fine : (u : NodeId) (m : Msg) → MsgConcerns t gs m → MsgKnows t s m → Fine t gs o (on_message p s u m)
   message-fine u (Path l e k route set up r) concerns its =
       path_with-fine (record { arrival = arrival l e u k; route = route; set = set; role = r }) (find_leg l s.legs)

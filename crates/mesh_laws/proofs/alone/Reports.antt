@@ -126,6 +126,7 @@ module _ (t : Network) (gs : List Group) (o : Routes) where
     notice_passed-fine m down None first concerns on = report_here-fine m.at m.link down first on
     notice_passed-fine m down (Some h) first concerns on = fine-sends t gs o _ (concerns, tt)
 
+    -- the answer to a Notify, at its ingress or before it
     pub notice_told-fine : (m : Notice) (down : Option Bool) → MsgConcerns t gs m.msg → is_on_link t gs m.link ≡ true →
         Fine t gs o (notice_told p s m b down)
     notice_told-fine m None concerns on = fine-nothing t gs o

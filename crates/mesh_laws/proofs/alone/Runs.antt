@@ -189,6 +189,7 @@ module _ (t : Network) (gs : List Group) (o o' : Routes) (grow : Grow o o') wher
 
 -- Runs
 
+-- first these events, and then those
 pub after-append : (t : Network) (s : Mesh) (a b : List MeshEvent) → after t s (a ++ b) ≡ after t (after t s a) b
 after-append t s [] b = refl
 after-append t s (e ∷ a) b = after-append t (step t s e) a b
@@ -208,10 +209,12 @@ routes-grow t s (x ∷ a) b l route e =
     or_route-later (first_route l (sent_at_ingress t s x l)) (route_of t (step t s x) a l)
     (route_of t (step t s x) (a ++ b) l) route (routes-grow t (step t s x) a b l) e
 
+-- the first part of a run is one
 pub run-first : (t : Network) (s : Mesh) (a b : List MeshEvent) → IsRun t s (a ++ b) → IsRun t s a
 run-first t s [] b run = tt
 run-first t s (e ∷ a) b run = (run.0, run-first t (step t s e) a b run.1)
 
+-- an event more at the end of the first part
 pub append-one : (a : List MeshEvent) (e : MeshEvent) (b : List MeshEvent) → (a ++ e ∷ []) ++ b ≡ a ++ e ∷ b
 append-one [] e b = refl
 append-one (x ∷ a) e b = ap (λ xs. x ∷ xs) (append-one a e b)
@@ -264,6 +267,7 @@ module _ (t : Network) (gs : List Group) (distinct : is_distinct (map (λ l. l.i
         holds = subst (λ xs. MeshHolds t gs (route_of t start xs) (after t start xs)) same later.holds;
       }
 
+  -- from a calm state on all concerns these groups, and nothing is refused
   pub from-calm : (before since : List MeshEvent) → IsRun t start (before ++ since) →
       AllByRecursion (FailsOnly gs) since → StayApart t gs (after t start before) since →
       Calm (after t start before) → KeptSince t gs before since

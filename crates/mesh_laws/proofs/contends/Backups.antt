@@ -109,6 +109,7 @@ module _ (t : Network) (s : Mesh) (quiet : IsQuiet s) (o : Routes) (hops : (l : 
           let there : leg_at s l l.ingress ≡ Some first.0 = subst (λ m. leg_at s l m ≡ Some first.0) begin first.1 in
           (first.0, there, route_fits.roles l.ingress first.0 there ∙ sym (route_fits.roles n b here))
 
+    -- in the same role
     pub first-leg : (a : Leg) × (leg_at s l l.ingress ≡ Some a) × (a.role ≡ b.role)
     first-leg = go (o l) (hops l)
       where

@@ -134,6 +134,7 @@ module _ (t : Network) (events : List MeshEvent) (g h : Group) (valid : IsTopolo
       one-lsp false e not =
           absurd (not (λ is. (let yes : same_lsp l m ≡ true = rw is (same_lsp-refl m) in cc (yes, e))))
 
+-- the law of a mesh
 pub no_contend : NoContend
 no_contend t events valid run g h two none =
     let distinct = and_first _ _ (topology_searchable t valid) in

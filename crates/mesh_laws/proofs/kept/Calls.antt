@@ -18,6 +18,7 @@ use Rattle.mesh_nodes.proofs.Cases.{if_cases}
 use Rattle.mesh_laws.proofs.kept.Phases.{IsHere, IsHereToo, Kept, OutKept, kept-nothing}
 
 module _ (legs : List Leg) where
+  -- a call alone changes
   pub kept-call : (c : CallRec) → Kept legs (call_put c)
   kept-call c = record { legs = tt; sent = tt }
 
@@ -28,6 +29,7 @@ module _ (legs : List Leg) where
       path None = tt
       path (Some h) = (tt, tt)
 
+  -- a call that turns arms its backup's leg
   pub turn-kept : (c : CallRec) (b : Option Leg) → IsHereToo legs b → Kept legs (turn c b)
   turn-kept c None here = kept-call c
   turn-kept c (Some b) here =
@@ -40,6 +42,7 @@ module _ (legs : List Leg) where
       path None = tt
       path (Some h) = (tt, tt)
 
+  -- a call that goes back makes it Held again
   pub go_back-kept : (c : CallRec) (b : Option Leg) → IsHereToo legs b → Kept legs (go_back c b)
   go_back-kept c None here = kept-call c
   go_back-kept c (Some b) here =
@@ -66,12 +69,14 @@ module _ (legs : List Leg) where
   pub decide-kept : (c : CallRec) (b : Option Leg) → IsHereToo legs b → Kept legs (decide c b)
   decide-kept c b here = decided-kept c b c.state (has_any c.work_reports) (has_any c.back_reports) here
 
+  -- the call of a backup that is confirmed
   pub call_turned-kept : (b : Leg) (c : Option CallRec) → IsHere legs b → Kept legs (call_turned b c)
   call_turned-kept b None here = kept-nothing legs
   call_turned-kept b (Some c) here =
       if_cases (Kept legs) (is_turning c.state) (decide (turned c) (Some b)) nothing
       (λ e. decide-kept (turned c) (Some b) here) (λ e. kept-nothing legs)
 
+  -- the call of a backup that is refused
   pub call_contended-kept : (b : Leg) (c : Option CallRec) → IsHere legs b → Kept legs (call_contended b c)
   call_contended-kept b None here = kept-nothing legs
   call_contended-kept b (Some c) here =

@@ -39,6 +39,7 @@ module _ (p : LocalNode) (s : NodeState) where
 
   -- Rows, ticks
 
+  -- a row of a link changes no leg
   pub link-kept : (found : Option LinkSpec) → Good (on_link p s found)
   link-kept None = kept-nothing s.legs
   link-kept (Some l) =
@@ -61,6 +62,7 @@ module _ (p : LocalNode) (s : NodeState) where
       kept-then s.legs (ticked wait s.legs c) (all_ticked wait s.legs calls) (ticked-kept wait c)
       (all_ticked-kept wait calls)
 
+  -- at a tick calls may go back
   pub tick-kept : Good (on_tick p s)
   tick-kept = all_ticked-kept p.wait s.calls
 
@@ -98,6 +100,7 @@ module _ (p : LocalNode) (s : NodeState) where
   knows_down-kept : (f : Fibre) (code : ErrCode) (fibres : List Fibre) → Good (knows_down p s f code fibres)
   knows_down-kept f code fibres = record { legs = tt; sent = notices-kept f code s.legs }
 
+  -- an item that sets up, releases and protects nothing
   pub item-kept : (i : DeskItem) → ItemKept i → Good (on_item p s i)
   item-kept (Order (Setup n from to protected both via backup)) kept = absurd kept
   item-kept (Order (Release n from)) kept = absurd kept

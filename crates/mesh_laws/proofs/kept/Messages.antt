@@ -169,6 +169,7 @@ module _ (p : LocalNode) (s : NodeState) (up : LegsUp s.legs) where
   ComesToLeg (PathErr l e at gone code) = Unit {0}
   ComesToLeg (Notify l e at k code) = Unit {0}
 
+  -- each message that tears nothing, a Path only where a leg of its LSP stands
   pub message-kept : (u : NodeId) (m : Msg) → MsgKept m → ComesToLeg m → Good (on_message p s u m)
   message-kept u (Path l e k route set up r) kept there =
       path-kept (record { arrival = arrival l e u k; route = route; set = set; role = r }) (find_leg l s.legs) refl

@@ -42,6 +42,7 @@ SameLegs was now = (l : Lsp) → but_phase (find_leg l now) ≡ but_phase (find_
 abbrev pub IsUp : Leg → Type 0
 IsUp b = is_beyond_asked b.phase ≡ true
 
+-- each of the legs is
 abbrev pub LegsUp : List Leg → Type 0
 LegsUp legs = AllByRecursion IsUp legs
 
@@ -49,14 +50,17 @@ LegsUp legs = AllByRecursion IsUp legs
 abbrev pub IsHere : List Leg → Leg → Type 0
 IsHere legs b = but_phase (find_leg b.lsp legs) ≡ Some (with_phase Held b)
 
+-- where there is one
 abbrev pub IsHereToo : List Leg → Option Leg → Type 0
 IsHereToo legs None = Unit {0}
 IsHereToo legs (Some b) = IsHere legs b
 
+-- a leg that is found is one of them
 pub found-here : (l : Lsp) (legs : List Leg) (b : Leg) → find_leg l legs ≡ Some b → IsHere legs b
 found-here l legs b found =
     ap but_phase (subst (λ k. find_leg k legs ≡ Some b) (sym (found-lsp l legs b found)) found)
 
+-- and so is the leg of an LSP that is named
 pub leg_of-here : (o : Option Lsp) (legs : List Leg) → IsHereToo legs (leg_of o legs)
 leg_of-here None legs = tt
 leg_of-here (Some l) legs = go (find_leg l legs) refl
@@ -67,6 +71,7 @@ leg_of-here (Some l) legs = go (find_leg l legs) refl
 
 -- Answers
 
+-- a leg that is put in place is one of these but for its phase, and up
 abbrev pub LegKept : List Leg → LegChange → Type 0
 LegKept legs (leg.Goes l) = ⊥
 LegKept legs (leg.Put b) = IsUp b × IsHere legs b
@@ -80,6 +85,7 @@ MsgKept (PathErr l e at true code) = ⊥
 MsgKept (PathErr l e at false code) = Unit {0}
 MsgKept (Notify l e at k code) = Unit {0}
 
+-- nor does one that is sent
 abbrev pub OutKept : Out → Type 0
 OutKept o = MsgKept o.msg
 
@@ -101,16 +107,20 @@ pub record Kept (stood : List Leg) (a : Answer) : Type 0 where
   pub sent : AllByRecursion OutKept a.sent
 
 module _ (legs : List Leg) where
+  -- an answer that changes nothing
   pub kept-nothing : Kept legs nothing
   kept-nothing = record { legs = tt; sent = tt }
 
+  -- one that sends alone
   pub kept-sends : (outs : List Out) → AllByRecursion OutKept outs → Kept legs (sends outs)
   kept-sends outs sent = record { legs = tt; sent = sent }
 
+  -- one that puts a leg in place
   pub kept-puts : (b : Leg) (outs : List Out) → IsUp b → IsHere legs b → AllByRecursion OutKept outs →
       Kept legs (puts b outs)
   kept-puts b outs up here sent = record { legs = ((up, here), tt); sent = sent }
 
+  -- two answers, one after the other
   pub kept-then : (a b : Answer) → Kept legs a → Kept legs b → Kept legs (followed_by a b)
   kept-then a b first second = record {
     legs = all-append (LegKept legs) a.legs b.legs first.legs second.legs;
@@ -127,12 +137,14 @@ module _ (legs : List Leg) where
       go true e = sym (subst (λ k. but_phase (find_leg k legs) ≡ Some (with_phase Held b)) (same_lsp-eq b.lsp l e) here)
       go false e = same l
 
+  -- the legs that it leaves are the same but for their phases
   pub legs-same : (cs : List LegChange) (now : List Leg) → AllByRecursion (LegKept legs) cs → SameLegs legs now →
       SameLegs legs (legs_changed cs now)
   legs-same [] now kept same = same
   legs-same (leg.Goes l ∷ cs) now kept same = absurd kept.0
   legs-same (leg.Put b ∷ cs) now kept same = legs-same cs (with_leg b now) kept.1 (put-same b now kept.0.1 same)
 
+  -- and each is up
   pub legs-up : (cs : List LegChange) (now : List Leg) → AllByRecursion (LegKept legs) cs → LegsUp now →
       LegsUp (legs_changed cs now)
   legs-up [] now kept up = up
@@ -149,6 +161,7 @@ pub record MeshKept (was s : Mesh) : Type 0 where
   pub desks : (n : ℕ) → AllByRecursion ItemKept (s.desks n)
 
 module _ (was : Mesh) where
+  -- a node's answer
   pub commit-kept : (s : Mesh) (n : ℕ) (a : Answer) → Kept (s.nodes n).legs a → MeshKept was s →
       MeshKept was (commit s n a)
   commit-kept s n a kept old = record {
@@ -174,6 +187,7 @@ module _ (was : Mesh) where
     desks = old.desks;
   }
 
+  -- a message that is taken
   pub taken-kept : (s : Mesh) (u d : ℕ) → MeshKept was s → MeshKept was (without_first s u d)
   taken-kept s u d old = record {
     legs = old.legs;
@@ -183,6 +197,7 @@ module _ (was : Mesh) where
     desks = old.desks;
   }
 
+  -- an item that is handled
   pub handled-kept : (s : Mesh) (n : ℕ) → MeshKept was s → MeshKept was (without_item s n)
   handled-kept s n old = record {
     legs = old.legs;
@@ -218,6 +233,7 @@ module _ (was : Mesh) where
       all-append ItemKept (changed_news before later n l) _ (changed-kept before later n l)
       (all_news-kept before later n links)
 
+  -- groups that fail or are repaired
   pub failed-kept : (t : Network) (s : Mesh) (later : List Group) → MeshKept was s →
       MeshKept was (with_failed t s later)
   failed-kept t s later old = record {
@@ -228,6 +244,7 @@ module _ (was : Mesh) where
         (all_news-kept s.failed later n t.links);
   }
 
+  -- an order on a desk
   pub ordered-kept : (s : Mesh) (n : ℕ) (c : Command) → ItemKept (Order c) → MeshKept was s →
       MeshKept was (with_item s n (Order c))
   ordered-kept s n c kept old = record {

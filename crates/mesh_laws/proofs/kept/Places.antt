@@ -42,6 +42,7 @@ is_up LiveLeg = true
 is_up ClosingLeg = false
 is_up FallingLeg = false
 
+-- a leg that is up, or none, is of such a kind
 pub up-kind : (l : Lsp) (legs : List Leg) → LegsUp legs → is_up (leg_kind (find_leg l legs)) ≡ true
 up-kind l legs up = go (find_leg l legs) refl
   where
@@ -57,6 +58,7 @@ up-kind l legs up = go (find_leg l legs) refl
     go None is = refl
     go (Some b) is = phase b.phase (found-all IsUp l legs b is up)
 
+-- and a leg of such a kind is up
 pub kind-up : (b : Leg) → is_up (leg_kind (Some b)) ≡ true → IsUp b
 kind-up b e = go b.phase e
   where

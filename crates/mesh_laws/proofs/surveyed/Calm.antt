@@ -233,5 +233,6 @@ module _ (t : Network) (events : List MeshEvent) (valid : IsTopology t) (run : I
     mail = λ u d. rw (shown.quiet.mail u d) tt;
   }
 
+-- a state that shows that it is calm is calm
 pub calm_shown : (t : Network) (events : List MeshEvent) → IsTopology t → IsRun t start events → CalmIsShown t events
 calm_shown t events valid run shown = calm t events valid run shown

@@ -94,6 +94,7 @@ module _ (t : Network) (valid : IsTopology t) (s : Mesh) (o : Routes) (hops : (l
             none c.0 (f c.0 c.1) (told g h j i c.0 (turned g h i j which) c.2 c.3))
       ]
 
+-- the survey of a state of a run lists all calls that would contend
 pub every_contend_listed : (t : Network) (events : List MeshEvent) → IsTopology t → IsRun t start events →
     ContendsAreListed t events
 every_contend_listed t events valid run g h differ none =
@@ -105,6 +106,7 @@ every_contend_listed t events valid run g h differ none =
       none-of t valid s o hops facts g h none h g (inr (refl, refl)) (λ e. differ (sym e)),
     )
 
+-- the law of two groups, by the rows
 pub no_surveyed_contend : NoSurveyedContend
 no_surveyed_contend t events valid run g h differ two none =
     let parted : IsRun t start (two.before ++ two.since) = subst (IsRun t start) (sym two.parts) run in

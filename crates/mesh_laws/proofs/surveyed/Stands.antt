@@ -118,6 +118,7 @@ module _ (t : Network) (valid : IsTopology t) (s : Mesh) (o : Routes) (hops : (l
           into = λ f at. absurd (let some : is_some b.in_fibre ≡ true = rw at refl in cc (some, none));
         }
 
+    -- each leg stands so
     pub placed : Place l n b
     placed = go (o l) (hops l)
       where
