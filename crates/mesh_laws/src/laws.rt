@@ -116,9 +116,9 @@ pub fn every_run()
 /// which no two guarded calls would contend for a label, the one hit by the first group and the
 /// other by the second. While since then no other group failed or was repaired and nothing was set
 /// up, released or protected, no activation of a backup is refused, in whatever order the two fail
-/// and are repaired, and with whatever orders to try again or to go back (`mesh`). So it is where
-/// the survey of that state's rows lists no calls that would contend where these two, different
-/// groups, fail (`rows`).
+/// and are repaired, and with whatever orders to try again or to go back (`mesh`). So it is for two
+/// different groups where a survey of rows that show all calls and legs of that state lists none
+/// that would contend where the two fail (`rows`).
 pub fn no_contend()
     ensures mesh { NoContend }
     ensures rows { NoSurveyedContend }

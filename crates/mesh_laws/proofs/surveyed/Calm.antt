@@ -7,6 +7,8 @@ use Rattle.ason_base.specs.Lsps.{has_fibre, is_lsp}
 use Rattle.ason_base.specs.Network.{IsTopology, Network, touches}
 use Rattle.ason_base.specs.declared.calls.CallState.{CallState}
 use Rattle.ason_base.specs.declared.calls.CallState.TheVariants.{Asking, Bare, Blocked, Guarded, Pairing, Stuck, Turned, Turning}
+use Rattle.ason_base.specs.declared.calls.CallRow.{CallRow}
+use Rattle.ason_base.specs.declared.calls.LegRow.{LegRow}
 use Rattle.ason_base.specs.declared.calls.Phase.{Phase}
 use Rattle.ason_base.specs.declared.calls.Phase.TheVariants.{Asked, Held, Armed, Live, Closing, Falling}
 use Rattle.ason_base.specs.declared.calls.Role.{Role}
@@ -25,7 +27,7 @@ use Rattle.mesh_rules.specs.Legs.{find_leg, is_asked, is_held, leg_of}
 use Rattle.mesh_rules.specs.LocalNodes.{fibre_in, local_node, own_link}
 use Rattle.mesh_rules.specs.Alarms.{enters}
 use Rattle.mesh_rules.specs.Machine.{Mesh, start}
-use Rattle.mesh_rules.specs.Rows.{all_leg_rows, leg_row}
+use Rattle.mesh_rules.specs.Rows.{leg_row}
 use Rattle.mesh_rules.specs.Turns.{has_any}
 use Rattle.mesh_nodes.proofs.Cases.{not-true}
 use Rattle.mesh_nodes.proofs.LegList.{all-found, found-all, same_lsp-refl}
@@ -36,7 +38,7 @@ use Rattle.mesh_laws.specs.CallLaw.{FitsLegs, IsNamed, fits, fits_reports, phase
 use Rattle.mesh_laws.specs.HopLaw.{LspFits, leg_at}
 use Rattle.mesh_laws.specs.KnownLaw.{ComesIn}
 use Rattle.mesh_laws.specs.ReportLaw.{AreOf, IsOfRoute, reports_of}
-use Rattle.mesh_laws.specs.SurveyLaw.{CalmIsShown, IsShownCalm, is_reserved_row}
+use Rattle.mesh_laws.specs.SurveyLaw.{CalmIsShown, IsShownCalm, ShowsAll, is_reserved_row}
 use Rattle.mesh_laws.proofs.alone.Calls.{is_lsp-eq}
 use Rattle.mesh_laws.proofs.alone.Facts.{Routes}
 use Rattle.mesh_laws.proofs.alone.Risks.{found-passes, or-last}
@@ -91,7 +93,8 @@ no-back Stuck (Some Live) works backs e told = absurd (cc e)
 no-back state w works backs e told = absurd (cc e)
 
 module _ (t : Network) (events : List MeshEvent) (valid : IsTopology t) (run : IsRun t start events)
-    (shown : IsShownCalm t (after t start events)) where
+    (calls : List CallRow) (legs : List LegRow) (shows : ShowsAll t (after t start events) calls legs)
+    (shown : IsShownCalm (after t start events) legs) where
   abbrev s : Mesh
   s = after t start events
 
@@ -218,8 +221,8 @@ module _ (t : Network) (events : List MeshEvent) (valid : IsTopology t) (run : I
   legs-calm n =
       all-found LegIsCalm (s.nodes n).legs (facts.node n).legs_rise
       (λ l g here. row-calm (record { 0 = n }) g
-      (all-here (λ r. is_reserved_row r ≡ true) (all_leg_rows t s) (leg_row (record { 0 = n }) g)
-      (leg-row-there t valid s o hops facts l (record { 0 = n }) g here) shown.backups))
+      (all-here (λ r. is_reserved_row r ≡ true) legs (leg_row (record { 0 = n }) g)
+      (leg-row-there t valid s o hops facts calls legs shows l (record { 0 = n }) g here) shown.backups))
 
   calm : Calm s
   calm = record {
@@ -235,4 +238,4 @@ module _ (t : Network) (events : List MeshEvent) (valid : IsTopology t) (run : I
 
 -- a state that shows that it is calm is calm
 pub calm_shown : (t : Network) (events : List MeshEvent) → IsTopology t → IsRun t start events → CalmIsShown t events
-calm_shown t events valid run shown = calm t events valid run shown
+calm_shown t events valid run calls legs shows shown = calm t events valid run calls legs shows shown

@@ -3,17 +3,18 @@ use Rattle.std.proofs.Common.{◌≡◌, Bool, true, false, nat_eq, List, ◌++�
 use Rattle.std.specs.Prelude.{◌⊎◌, ◌&&◌}
 use Rattle.ason_base.specs.Network.{IsTopology, Network}
 use Rattle.ason_base.specs.declared.calls.CallRow.{CallRow}
+use Rattle.ason_base.specs.declared.calls.LegRow.{LegRow}
 use Rattle.ason_base.specs.declared.commands.Group.{Group}
 use Rattle.ason_base.specs.declared.ids.Lsp.{Lsp}
 use Rattle.mesh_rules.specs.declared.events.MeshEvent.{MeshEvent}
 use Rattle.mesh_rules.specs.Events.{after, route_of, IsRun}
 use Rattle.mesh_rules.specs.Machine.{Mesh, start}
-use Rattle.mesh_rules.specs.Rows.{all_call_rows, all_leg_rows, call_row}
+use Rattle.mesh_rules.specs.Rows.{call_row}
 use Rattle.mesh_laws.specs.declared.survey.Contend.{Contend as Listed}
 use Rattle.mesh_laws.specs.HopLaw.{LspFits}
 use Rattle.mesh_laws.specs.ContendLaw.{Contend}
 use Rattle.mesh_laws.specs.Survey.{between, end_of, groups_of}
-use Rattle.mesh_laws.specs.SurveyLaw.{ContendsAreListed, NoSurveyedContend, NoneListed}
+use Rattle.mesh_laws.specs.SurveyLaw.{ContendsAreListed, NoSurveyedContend, NoneListed, ShowsAll}
 use Rattle.mesh_laws.proofs.alone.Facts.{Routes}
 use Rattle.mesh_laws.proofs.hops.Laws.{every_hop}
 use Rattle.mesh_laws.proofs.nodes.Facts.{MeshFacts}
@@ -25,22 +26,22 @@ use Rattle.mesh_laws.proofs.surveyed.Stands.{own-end}
 use Rattle.mesh_laws.proofs.alone.Runs.{run-first}
 
 module _ (t : Network) (valid : IsTopology t) (s : Mesh) (o : Routes) (hops : (l : Lsp) → LspFits t s l (o l))
-    (facts : MeshFacts t s) where
+    (facts : MeshFacts t s) (calls : List CallRow) (legs : List LegRow) (shows : ShowsAll t s calls legs) where
   -- what the survey lists of two groups, at a place where calls would contend
   listed : (g h : Group) (m : Contend t s g h) → (c : Listed) ×
-      Contains (between t (all_call_rows t s) (all_leg_rows t s) g h) c × (c.first ≡ g) × (c.second ≡ h)
+      Contains (between t calls legs g h) c × (c.first ≡ g) × (c.second ≡ h)
   listed g h m =
-      let into = owner-there t valid s o hops facts m.node m.fibre m.label m.one m.one_turns.label in
+      let into = owner-there t valid s o hops facts calls legs shows m.node m.fibre m.label m.one m.one_turns.label in
       let forward : Bool = nat_eq into.link.high.0 m.node.0 in
       let end : end_of into.link forward ≡ m.node = own-end into.link m.node into.touches_it in
       let link : m.fibre.link ≡ into.link.id = ap (λ f. f.link) into.fibre in
-      let one = shown-turn t valid s o hops facts g m.node m.fibre m.label m.one_at m.one m.one_turns in
-      let two = shown-turn t valid s o hops facts h m.node m.fibre m.label m.two_at m.two m.two_turns in
-      let label = label-there t valid s o hops facts m.node m.fibre m.label m.one m.one_turns.label in
+      let one = shown-turn t valid s o hops facts calls legs shows g m.node m.fibre m.label m.one_at m.one m.one_turns in
+      let two = shown-turn t valid s o hops facts calls legs shows h m.node m.fibre m.label m.two_at m.two m.two_turns in
+      let label = label-there t valid s o hops facts calls legs shows m.node m.fibre m.label m.one m.one_turns.label in
       let a : CallRow = call_row m.one_at (s.nodes m.one_at.0).legs m.one in
       let b : CallRow = call_row m.two_at (s.nodes m.two_at.0).legs m.two in (
         _,
-        between-has t (all_call_rows t s) (all_leg_rows t s) g h into.link forward m.label a b into.there
+        between-has t calls legs g h into.link forward m.label a b into.there
             (rw (end, ← link) label) one.row_there two.row_there (rw (end, ← link) one.may) (rw (end, ← link) two.may)
             (differ (nat_eq m.one.call.0 m.two.call.0) (nat_eq m.one_at.0 m.two_at.0) refl refl),
         refl,
@@ -83,12 +84,12 @@ module _ (t : Network) (valid : IsTopology t) (s : Mesh) (o : Routes) (hops : (l
   told g h i j c (inl both) p q = inl (p ∙ both.0, q ∙ both.1)
   told g h i j c (inr both) p q = inr (p ∙ both.0, q ∙ both.1)
 
-  none-of : (g h : Group) → NoneListed t s g h → (i j : Group) →
+  none-of : (g h : Group) → NoneListed t calls legs g h → (i j : Group) →
       AreThese g h i j → (i ≡ j → ⊥) → Contend t s i j → ⊥
   none-of g h none i j which apart m =
       let at_i = group-there t i m.one_turns.hit.fibre.link m.one_turns.hit.on_link in
       let at_j = group-there t j m.two_turns.hit.fibre.link m.two_turns.hit.on_link in
-      elim (either-order t (all_call_rows t s) (all_leg_rows t s) (groups_of t) i j at_i at_j apart) [
+      elim (either-order t calls legs (groups_of t) i j at_i at_j apart) [
         | inl f ↦ (let c = listed i j m in none c.0 (f c.0 c.1) (told g h i j c.0 which c.2 c.3))
         | inr f ↦ (let c = listed j i (swapped i j m) in
             none c.0 (f c.0 c.1) (told g h j i c.0 (turned g h i j which) c.2 c.3))
@@ -97,18 +98,18 @@ module _ (t : Network) (valid : IsTopology t) (s : Mesh) (o : Routes) (hops : (l
 -- the survey of a state of a run lists all calls that would contend
 pub every_contend_listed : (t : Network) (events : List MeshEvent) → IsTopology t → IsRun t start events →
     ContendsAreListed t events
-every_contend_listed t events valid run g h differ none =
+every_contend_listed t events valid run calls legs shows g h differ none =
     let s : Mesh = after t start events in
     let o : Routes = route_of t start events in
     let facts = facts-hold t events run in
     let hops = (every_hop t events run).1 in (
-      none-of t valid s o hops facts g h none g h (inl (refl, refl)) differ,
-      none-of t valid s o hops facts g h none h g (inr (refl, refl)) (λ e. differ (sym e)),
+      none-of t valid s o hops facts calls legs shows g h none g h (inl (refl, refl)) differ,
+      none-of t valid s o hops facts calls legs shows g h none h g (inr (refl, refl)) (λ e. differ (sym e)),
     )
 
 -- the law of two groups, by the rows
 pub no_surveyed_contend : NoSurveyedContend
-no_surveyed_contend t events valid run g h differ two none =
+no_surveyed_contend t events valid run g h differ two calls legs shows none =
     let parted : IsRun t start (two.before ++ two.since) = subst (IsRun t start) (sym two.parts) run in
     let first = run-first t start two.before two.since parted in
-    no_contend t events valid run g h two (every_contend_listed t two.before valid first g h differ none)
+    no_contend t events valid run g h two (every_contend_listed t two.before valid first calls legs shows g h differ none)

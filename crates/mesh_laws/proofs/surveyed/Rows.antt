@@ -19,11 +19,12 @@ use Rattle.ason_base.proofs.RisingNumbers.{nat_order}
 use Rattle.mesh_rules.specs.Calls.{find_call}
 use Rattle.mesh_rules.specs.Legs.{find_leg, is_beyond_asked, is_label, is_on, takes}
 use Rattle.mesh_rules.specs.Machine.{Mesh}
-use Rattle.mesh_rules.specs.Rows.{all_call_rows, all_leg_rows, call_row, call_rows, leg_row, leg_rows, standing}
+use Rattle.mesh_rules.specs.Rows.{call_row, call_rows, leg_row, leg_rows, standing}
 use Rattle.mesh_nodes.proofs.LegList.{found-lsp, same_lsp-refl}
 use Rattle.mesh_nodes.proofs.routes.Lists.{contains-flat, contains-map}
 use Rattle.mesh_laws.specs.HopLaw.{LspFits, leg_at}
 use Rattle.mesh_laws.specs.ContendLaw.{MayTurnTo, TakesLabel}
+use Rattle.mesh_laws.specs.SurveyLaw.{ShowsAll}
 use Rattle.mesh_laws.specs.Survey.{hits, is_guarded_row, is_link, label_in, may_turn_to, labels_at, takes_at}
 use Rattle.mesh_laws.proofs.alone.Facts.{Routes}
 use Rattle.mesh_laws.proofs.hops.Plans.{same}
@@ -68,7 +69,7 @@ taken f x b e = go (is_beyond_asked b.phase) refl b.in_fibre refl b.in_label ref
         }
 
 module _ (t : Network) (valid : IsTopology t) (s : Mesh) (o : Routes) (hops : (l : Lsp) → LspFits t s l (o l))
-    (facts : MeshFacts t s) where
+    (facts : MeshFacts t s) (calls : List CallRow) (legs : List LegRow) (shows : ShowsAll t s calls legs) where
   node-spec : (n : NodeId) → is_node_id t.nodes n ≡ true → (m : NodeSpec) × Contains t.nodes m × (m.id ≡ n)
   node-spec n e =
       let one = any-there (λ (m : NodeSpec). nat_eq m.id.0 n.0) t.nodes e in
@@ -77,24 +78,26 @@ module _ (t : Network) (valid : IsTopology t) (s : Mesh) (o : Routes) (hops : (l
 
   -- the table has a row of each leg
   pub leg-row-there : (l : Lsp) (n : NodeId) (b : Leg) → leg_at s l n ≡ Some b →
-      Contains (all_leg_rows t s) (leg_row n b)
+      Contains legs (leg_row n b)
   leg-row-there l n b here =
       let m = node-spec n (placed t valid s o hops facts l n b here).node in
-      contains-flat (λ (k : NodeSpec). leg_rows k.id (s.nodes k.id.0)) t.nodes m.0 (leg_row n b) m.1
+      shows.legs_there (leg_row n b)
+      (contains-flat (λ (k : NodeSpec). leg_rows k.id (s.nodes k.id.0)) t.nodes m.0 (leg_row n b) m.1
       (subst (λ k. Contains (leg_rows k (s.nodes k.0)) (leg_row n b)) (sym m.2)
-      (contains-map (leg_row n) (s.nodes n.0).legs b (find-contains _ (s.nodes n.0).legs b here)))
+      (contains-map (leg_row n) (s.nodes n.0).legs b (find-contains _ (s.nodes n.0).legs b here))))
 
   -- and of each call whose ingress has a leg
   pub call-row-there : (at : NodeId) (c : CallRec) (l : Lsp) (b : Leg) →
       find_call c.call (s.nodes at.0).calls ≡ Some c → leg_at s l at ≡ Some b →
-      Contains (all_call_rows t s) (call_row at (s.nodes at.0).legs c)
+      Contains calls (call_row at (s.nodes at.0).legs c)
   call-row-there at c l b there here =
       let m = node-spec at (placed t valid s o hops facts l at b here).node in
-      contains-flat (λ (k : NodeSpec). call_rows k.id (s.nodes k.id.0)) t.nodes m.0 (call_row at (s.nodes at.0).legs c)
+      shows.calls_there (call_row at (s.nodes at.0).legs c)
+      (contains-flat (λ (k : NodeSpec). call_rows k.id (s.nodes k.id.0)) t.nodes m.0 (call_row at (s.nodes at.0).legs c)
       m.1
       (subst (λ k. Contains (call_rows k (s.nodes k.0)) (call_row at (s.nodes at.0).legs c)) (sym m.2)
       (contains-map (call_row at (s.nodes at.0).legs) (s.nodes at.0).calls c
-      (find-contains _ (s.nodes at.0).calls c there)))
+      (find-contains _ (s.nodes at.0).calls c there))))
 
   -- an LSP whose leg stands is shown
   stands : (l : Option Lsp) (legs : List Leg) (k : Lsp) (b : Leg) → l ≡ Some k → find_leg k legs ≡ Some b →
@@ -103,8 +106,8 @@ module _ (t : Network) (valid : IsTopology t) (s : Mesh) (o : Routes) (hops : (l
 
   -- the row of a call that may turn
   pub record ShownTurn (g : Group) (n : NodeId) (k : LinkId) (x : ℕ) (at : NodeId) (c : CallRec) : Type 0 where
-    pub row_there : Contains (all_call_rows t s) (call_row at (s.nodes at.0).legs c)
-    pub may : may_turn_to t (all_leg_rows t s) g n k x (call_row at (s.nodes at.0).legs c) ≡ true
+    pub row_there : Contains calls (call_row at (s.nodes at.0).legs c)
+    pub may : may_turn_to t legs g n k x (call_row at (s.nodes at.0).legs c) ≡ true
 
   work-stands : (at : NodeId) (c : CallRec) (w : Lsp) → find_call c.call (s.nodes at.0).calls ≡ Some c →
       c.work ≡ Some w → (b : Leg) × (find_leg w (s.nodes at.0).legs ≡ Some b)
@@ -117,7 +120,6 @@ module _ (t : Network) (valid : IsTopology t) (s : Mesh) (o : Routes) (hops : (l
   pub shown-turn : (g : Group) (n : NodeId) (f : Fibre) (x : ℕ) (at : NodeId) (c : CallRec) →
       MayTurnTo t s g n f x at c → ShownTurn g n f.link x at c
   shown-turn g n f x at c turn =
-      let legs : List LegRow = all_leg_rows t s in
       let own : List Leg = (s.nodes at.0).legs in
       let back : Lsp = turn.label.back in
       let hit = turn.hit in
@@ -160,13 +162,13 @@ module _ (t : Network) (valid : IsTopology t) (s : Mesh) (o : Routes) (hops : (l
 
   -- the label is one of those that are taken
   pub label-there : (n : NodeId) (f : Fibre) (x : ℕ) (c : CallRec) → TakesLabel s c n f x →
-      Contains (labels_at (all_leg_rows t s) n f.link) x
+      Contains (labels_at legs n f.link) x
   label-there n f x c takes =
       let took = taken f x takes.leg takes.label in
       (in_order-has nat_lt nat_order (flat_map (λ r. cond (nat_eq r.node.0 n.0 && is_link r.in_link f.link)
-      (label_in r.in_label) []) (all_leg_rows t s)) x).1
+      (label_in r.in_label) []) legs) x).1
       (contains-flat (λ (r : LegRow). cond (nat_eq r.node.0 n.0 && is_link r.in_link f.link) (label_in r.in_label) [])
-      (all_leg_rows t s) (leg_row n takes.leg) x (leg-row-there takes.back n takes.leg takes.there)
+      legs (leg_row n takes.leg) x (leg-row-there takes.back n takes.leg takes.there)
       (rw (same n.0, took.fibre, same f.link.0, took.label) (contains-head x [])))
 
   -- and its fibre is one of a link that comes in there
