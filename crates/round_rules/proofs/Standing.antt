@@ -5,6 +5,7 @@ use Rattle.std.specs.Prelude.{◌||◌}
 use Rattle.std.specs.List.{AllByRecursion, range_with_len}
 use Rattle.std.proofs.lemmas.List.Elements.{filter-append}
 use Rattle.hop_reliable.proofs.Members.{each-more}
+use Rattle.world_core.proofs.Finding.{self_test}
 use Rattle.round_rules.specs.Rings.{StandingIsLeft, count_of, got_from, handed, is_in, without}
 
 -- Rising numbers
@@ -56,13 +57,10 @@ all_stay ks (x ∷ xs) all =
 each_in : (xs : List ℕ) → AllByRecursion (λ (x : ℕ). is_in xs x ≡ true) xs
 each_in [] = tt
 each_in (x ∷ xs) = (
-  ap (λ b. b || is_in xs x) (self x),
+  ap (λ b. b || is_in xs x) (self_test x),
   each-more (λ (y : ℕ). is_in xs y ≡ true) (λ (y : ℕ). is_in (x ∷ xs) y ≡ true) (later x xs) xs (each_in xs),
 )
   where
-    self : (n : ℕ) → nat_eq n n ≡ true
-    self n = grind arith
-
     later : (x : ℕ) (xs : List ℕ) (y : ℕ) → is_in xs y ≡ true → is_in (x ∷ xs) y ≡ true
     later x xs y h = grind (arith, h)
 
