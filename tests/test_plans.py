@@ -186,6 +186,54 @@ link = [
 # Two nodes without a link.
 APART = 'node = [{ name = "a", id = 1 }, { name = "b", id = 2 }]\n'
 
+# Two ways round of the same cost.
+SQUARE = """
+node = [{ name = "a", id = 1 }, { name = "b", id = 2 }, { name = "c", id = 3 }, { name = "d", id = 4 }]
+link = [
+    { id = 1, ends = ["a", "b"], labels = 1 },
+    { id = 2, ends = ["a", "c"], labels = 1 },
+    { id = 3, ends = ["c", "d"], labels = 1 },
+    { id = 4, ends = ["b", "d"], labels = 1 },
+]
+"""
+
+# The way over b costs as much as the link of the greater number.
+DETOUR = """
+node = [{ name = "a", id = 1 }, { name = "b", id = 2 }, { name = "c", id = 3 }]
+link = [
+    { id = 3, ends = ["a", "b"], labels = 1 },
+    { id = 4, ends = ["b", "c"], labels = 1 },
+    { id = 9, ends = ["a", "c"], labels = 1, metric = 2 },
+]
+"""
+
+# Parallel links, two of them with one SRLG.
+PARALLEL = """
+node = [{ name = "a", id = 1 }, { name = "b", id = 2 }]
+link = [
+    { id = 4, ends = ["a", "b"], labels = 1, metric = 7, srlg = [9] },
+    { id = 5, ends = ["a", "b"], labels = 1, metric = 7, srlg = [9] },
+    { id = 6, ends = ["a", "b"], labels = 1, metric = 8 },
+]
+"""
+
+# Routes without a common link, over one inner node.
+WAIST = """
+node = [{ name = "a", id = 1 }, { name = "b", id = 2 }, { name = "c", id = 3 }]
+link = [
+    { id = 1, ends = ["a", "b"], labels = 1 },
+    { id = 2, ends = ["b", "c"], labels = 1 },
+    { id = 3, ends = ["a", "b"], labels = 1 },
+    { id = 4, ends = ["b", "c"], labels = 1 },
+]
+"""
+
+# Two parts that no link joins.
+PARTS = """
+node = [{ name = "a", id = 1 }, { name = "b", id = 2 }, { name = "c", id = 3 }, { name = "d", id = 4 }]
+link = [{ id = 1, ends = ["a", "b"], labels = 1, metric = 5 }, { id = 2, ends = ["c", "d"], labels = 1 }]
+"""
+
 # Two links with one SRLG between two nodes.
 SHARED = """
 node = [{ name = "a", id = 1 }, { name = "b", id = 2 }]
@@ -194,6 +242,13 @@ link = [
     { id = 2, ends = ["a", "b"], labels = 1, srlg = [8, 7] },
 ]
 """
+
+
+
+def costs(**potentials: int | str) -> list[str]:
+    """The lines of these potentials."""
+    return [f"potential {node} {cost}" for node, cost in potentials.items()]
+
 
 # A plan, two names, and the lines that are told.
 ROUTES = [
@@ -206,6 +261,14 @@ ROUTES = [
     ),
     (APART, "a", "b", ["no primary", "potential a 0", "potential b -"]),
     (SHARED, "b", "a", ["primary 1 1", "no backup", "potential a 1", "potential b 0"]),
+    # of two routes that cost as much, that with the lesser first link, whatever follows it, and if it is the longer one
+    (SQUARE, "a", "d", ["primary 2 1,4", "backup 2 2,3", *costs(a=0, b=1, c=1, d=2)]),
+    (SQUARE, "d", "a", ["primary 2 3,2", "backup 2 4,1", *costs(a=2, b=1, c=1, d=0)]),
+    (DETOUR, "a", "c", ["primary 2 3,4", "backup 2 9", *costs(a=0, b=1, c=2)]),
+    (PARALLEL, "a", "b", ["primary 7 4", "backup 8 6", *costs(a=0, b=7)]),
+    (PARALLEL, "b", "a", ["primary 7 4", "backup 8 6", *costs(a=7, b=0)]),
+    (WAIST, "a", "c", ["primary 2 1,2", "no backup", *costs(a=0, b=1, c=2)]),
+    (PARTS, "a", "d", ["no primary", *costs(a=0, b=5, c="-", d="-")]),
     (APART, "b", "b", ["same node"]),
     (APART, "x", "-", ["no node x"]),
     (APART, "a", "-", ["no node -"]),

@@ -1,12 +1,12 @@
-//! A node's tables: the calls that need memory, with memory enough.
+//! A node's tables and calls: what needs memory and no rule does, with memory enough.
 
 ghost use Rattle.std.specs.Prelude.{◌≡◌, [], IfOk};
 
 use ason_base::{
-    Copied, Fibre, Fibres, LabelSet, Leg, LinkId, LinkSpec, Lsp, NodeId, NodeSpec, Numbers,
-    PathRole, Phase, RiskSet, Role, Srlgs, Steps, TeRow, Topology,
+    CallNo, CallRec, CallState, Cause, Fibre, Fibres, LabelSet, Leg, LinkId, LinkSpec, Lsp, NodeId,
+    NodeSpec, Numbers, PathRole, Phase, RiskSet, Role, Srlgs, Steps, TeRow, Topology,
 };
-use leg_table::NodeTables;
+use leg_table::{Calls, NodeTables};
 use std::alloc::Global;
 use std::test::Fail;
 
@@ -72,19 +72,45 @@ fn new_tables(alloc: Global) -> Result<NodeTables, Fail>
     Ok(NodeTables::new(alloc, &t, NodeId(2))?)
 }
 
-#[test]
-fn a_leg_is_put(rt: HostRuntime) -> Result<(), Fail> {
-    let mut tables = new_tables(rt.alloc())?;
-    assert!(rt; tables.put(rt.alloc(), a_leg(rt.alloc())).is_ok());
-    assert!(rt; tables.copy(rt.alloc()).is_ok());
-    Ok(())
+fn tables_take(alloc: Global) -> Result<bool, Fail> {
+    let mut tables = new_tables(alloc)?;
+    Ok(
+        tables.put(alloc, a_leg(alloc)).is_ok()
+            && tables.learn(alloc, a_row(alloc)).is_ok()
+            && tables.set_down(alloc, FIBRE).is_ok()
+            && tables.rows().len() == 2,
+    )
 }
 
+const CALL: CallNo = CallNo(1);
+
+fn a_call(alloc: Global) -> CallRec
+    ensures { result.call ≡ CALL }
+{
+    CallRec {
+        call: CALL,
+        egress: NodeId(2),
+        protected: true,
+        backup: None,
+        state: CallState::Asking,
+        work: None,
+        back: None,
+        work_reports: Fibres::new(alloc),
+        back_reports: Fibres::new(alloc),
+        cause: Cause::Unset,
+        ticks: 0,
+    }
+}
+
+fn calls_take(alloc: Global) -> Result<bool, Fail> {
+    let mut calls = Calls::new(alloc);
+    calls.add(alloc, a_call(alloc))?;
+    Ok(calls.report(alloc, CALL, Role::Work, FIBRE).is_ok())
+}
+
+// A leg is put, a row is learnt, a fibre is down; a call is added, and a fibre is reported of it.
 #[test]
-fn a_row_is_learnt_and_a_fibre_is_down(rt: HostRuntime) -> Result<(), Fail> {
-    let mut tables = new_tables(rt.alloc())?;
-    assert!(rt; tables.learn(rt.alloc(), a_row(rt.alloc())).is_ok());
-    assert!(rt; tables.rows().len() == 2);
-    assert!(rt; tables.set_down(rt.alloc(), FIBRE).is_ok());
+fn tables_change(rt: HostRuntime) -> Result<(), Fail> {
+    assert!(rt; tables_take(rt.alloc())? && calls_take(rt.alloc())?);
     Ok(())
 }

@@ -2,7 +2,7 @@
 #![tactic(auto)]
 
 #[cfg(test)]
-mod call_tables;
+mod handlers;
 #[cfg(test)]
 mod leg_tables;
 #[cfg(test)]
@@ -10,14 +10,6 @@ mod meshes;
 #[cfg(test)]
 mod nodes;
 #[cfg(test)]
-mod owners;
-#[cfg(test)]
-mod paths;
-#[cfg(test)]
-mod resvs;
-#[cfg(test)]
 mod routes;
 #[cfg(test)]
 mod row_checks;
-#[cfg(test)]
-mod shares;

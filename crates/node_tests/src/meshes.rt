@@ -18,6 +18,17 @@ type Leg = (u32, Option<(u32, u8)>, Option<(u32, u8)>);
 /// The number of a call, its state and its cause.
 type Call = (u16, CallState, Cause);
 
+/// A run of the mesh.
+struct Run {
+    nodes: u32,
+    links: &'static [Joins],
+    /// What happens, and whether it is enabled.
+    acts: &'static [(Act, bool)],
+    /// The calls and the legs that are shown once nothing is under way.
+    calls: &'static [Call],
+    legs: &'static [Leg],
+}
+
 const STANDS: Call = (0, CallState::Bare, Cause::Unset);
 
 fn topology(alloc: Global, nodes: u32, joins: &[Joins]) -> Result<Topology, Fail> {
@@ -121,47 +132,48 @@ fn carry_out(alloc: Global, mesh: &mut MeshState, act: Act) -> Result<bool, Fail
     }
 }
 
-fn started(alloc: Global, nodes: u32, joins: &[Joins]) -> Result<MeshState, Fail> {
-    let t = topology(alloc, nodes, joins)?;
-    Ok(MeshState::new(alloc, &t)?)
+// The mesh in a list, since the drop of one that lies in none is proved anew wherever it happens.
+fn started(alloc: Global, run: &Run) -> Result<Vec<MeshState>, Fail> {
+    let t = topology(alloc, run.nodes, run.links)?;
+    let mut meshes = Vec::new(alloc);
+    meshes.push(MeshState::new(alloc, &t)?)?;
+    Ok(meshes)
 }
 
-/// Which of these acts are enabled, one after the other.
-fn enabled(alloc: Global, nodes: u32, joins: &[Joins], acts: &[Act]) -> Result<Vec<bool>, Fail> {
-    let mut mesh = started(alloc, nodes, joins)?;
-    let mut enabled = Vec::new(alloc);
-    for act in acts {
-        enabled.push(carry_out(alloc, &mut mesh, *act)?)?;
+// Whether those of these acts are enabled that must be, one after the other.
+fn are_enabled(alloc: Global, mesh: &mut MeshState, acts: &[(Act, bool)]) -> Result<bool, Fail> {
+    for (act, enabled) in acts {
+        if carry_out(alloc, mesh, *act)? != *enabled {
+            return Ok(false);
+        }
     }
-    Ok(enabled)
+    Ok(true)
 }
 
-/// Each node ticks, handles an item of its desk and takes a message of each other node, where there
-/// is one.
+// The node takes a message of each other node, where there is one.
+fn take_all(alloc: Global, mesh: &mut MeshState, nodes: u32, node: u32) -> Result<(), Fail> {
+    for u in 0..nodes {
+        let _takes = carry_out(alloc, mesh, Act::Take(node, u + 1))?;
+    }
+    Ok(())
+}
+
+// Each node ticks, handles an item of its desk, where there is one, and takes a message of each other.
 fn round(alloc: Global, mesh: &mut MeshState, nodes: u32) -> Result<(), Fail> {
     for n in 0..nodes {
         let node = n + 1;
         let _ticks = carry_out(alloc, mesh, Act::Tick(node))?;
         let _handles = carry_out(alloc, mesh, Act::Desk(node))?;
-        for u in 0..nodes {
-            let _takes = carry_out(alloc, mesh, Act::Take(node, u + 1))?;
-        }
+        take_all(alloc, mesh, nodes, node)?;
     }
     Ok(())
 }
 
-/// The mesh once these acts have happened, each of which must be enabled, and nothing waits.
-fn settled(alloc: Global, nodes: u32, joins: &[Joins], acts: &[Act]) -> Result<MeshState, Fail> {
-    let mut mesh = started(alloc, nodes, joins)?;
-    for act in acts {
-        if !carry_out(alloc, &mut mesh, *act)? {
-            return Err(Fail::new("an act that isn't enabled"));
-        }
-    }
+fn settle(alloc: Global, mesh: &mut MeshState, nodes: u32) -> Result<(), Fail> {
     for _ in 0..20 {
-        round(alloc, &mut mesh, nodes)?;
+        round(alloc, mesh, nodes)?;
     }
-    Ok(mesh)
+    Ok(())
 }
 
 fn is_leg(row: &LegRow, leg: &Leg) -> bool {
@@ -177,122 +189,137 @@ fn are_legs(rows: &[LegRow], legs: &[Leg]) -> bool {
     rows.len() == legs.len() && rows.iter().zip(legs).all(|(row, leg)| is_leg(row, leg))
 }
 
-fn is_call(row: &CallRow, call: &Call) -> bool {
-    row.call == CallNo(call.0) && row.state == call.1 && row.cause == call.2
-}
-
 fn are_calls(rows: &[CallRow], calls: &[Call]) -> bool {
-    rows.len() == calls.len() && rows.iter().zip(calls).all(|(row, call)| is_call(row, call))
+    let told = rows.iter().map(|row| (row.call.0, row.state, row.cause));
+    told.eq(calls.iter().copied())
 }
 
-/// Whether nothing is under way, and these calls and legs are shown.
-fn shows(alloc: Global, mesh: &MeshState, calls: &[Call], legs: &[Leg]) -> Result<bool, Fail> {
+// Whether nothing is under way, and these calls and legs are shown.
+fn shows(alloc: Global, mesh: &MeshState, run: &Run) -> Result<bool, Fail> {
     let rows = mesh.rows(alloc)?;
-    Ok(mesh.is_quiet() && are_calls(rows.calls.items(), calls) && are_legs(rows.legs.items(), legs))
+    let calls = are_calls(rows.calls.items(), run.calls);
+    let legs = are_legs(rows.legs.items(), run.legs);
+    Ok(mesh.is_quiet() && calls && legs)
+}
+
+fn goes_so(alloc: Global, mesh: &mut MeshState, run: &Run) -> Result<bool, Fail> {
+    let enabled = are_enabled(alloc, mesh, run.acts)?;
+    settle(alloc, mesh, run.nodes)?;
+    Ok(enabled && shows(alloc, mesh, run)?)
+}
+
+fn holds(alloc: Global, run: &Run) -> Result<bool, Fail> {
+    match started(alloc, run)?.first_mut() {
+        None => Ok(false),
+        Some(mesh) => goes_so(alloc, mesh, run),
+    }
 }
 
 // The call stands after its setup, the Path and the Resv; then nothing is under way.
-#[test]
-fn a_call_over_one_link(rt: HostRuntime) -> Result<(), Fail> {
-    let acts = [
-        Act::SetUp(0, &[(1, 1)], 2),
-        Act::Desk(1),
-        Act::Take(2, 1),
-        Act::Take(1, 2),
-        Act::Tick(1),
-        Act::Take(1, 2),
-    ];
-    let enabled = enabled(rt.alloc(), 2, &[(1, 1, 2, 1)], &acts)?;
-    assert_eq!(rt;
-        enabled.as_slice(),
-        [true, true, true, true, true, false].as_slice()
-    );
-    Ok(())
-}
+const ONE_LINK: Run = Run {
+    nodes: 2,
+    links: &[(1, 1, 2, 1)],
+    acts: &[
+        (Act::SetUp(0, &[(1, 1)], 2), true),
+        (Act::Desk(1), true),
+        (Act::Take(2, 1), true),
+        (Act::Take(1, 2), true),
+        (Act::Tick(1), true),
+        (Act::Take(1, 2), false),
+    ],
+    calls: &[STANDS],
+    legs: &[(1, None, Some((1, 1))), (2, Some((1, 1)), None)],
+};
 
 // The table of examples/line.toml.
-#[test]
-fn a_call_over_two_links(rt: HostRuntime) -> Result<(), Fail> {
-    let joins = [(3, 1, 2, 40), (5, 2, 3, 80)];
-    let acts = [Act::SetUp(0, &[(1, 3), (2, 5)], 3)];
-    let legs = [
+const TWO_LINKS: Run = Run {
+    nodes: 3,
+    links: &[(3, 1, 2, 40), (5, 2, 3, 80)],
+    acts: &[(Act::SetUp(0, &[(1, 3), (2, 5)], 3), true)],
+    calls: &[STANDS],
+    legs: &[
         (1, None, Some((3, 1))),
         (2, Some((3, 1)), Some((5, 1))),
         (3, Some((5, 1)), None),
-    ];
-    let mesh = settled(rt.alloc(), 3, &joins, &acts)?;
-    assert!(rt; shows(rt.alloc(), &mesh, &[STANDS], &legs)?);
-    Ok(())
-}
+    ],
+};
 
 // The first table of examples/two.toml: the second call finds no wavelength.
-#[test]
-fn a_call_that_is_blocked(rt: HostRuntime) -> Result<(), Fail> {
-    let joins = [(1, 1, 2, 1), (2, 2, 3, 1), (3, 2, 4, 1)];
-    let acts = [
-        Act::SetUp(0, &[(1, 1), (2, 3)], 4),
-        Act::SetUp(1, &[(3, 2), (2, 3)], 4),
-    ];
-    let calls = [STANDS, (1, CallState::Blocked, Cause::Code(codes::SET))];
-    let legs = [
+const BLOCKED: Run = Run {
+    nodes: 4,
+    links: &[(1, 1, 2, 1), (2, 2, 3, 1), (3, 2, 4, 1)],
+    acts: &[
+        (Act::SetUp(0, &[(1, 1), (2, 3)], 4), true),
+        (Act::SetUp(1, &[(3, 2), (2, 3)], 4), true),
+    ],
+    calls: &[STANDS, (1, CallState::Blocked, Cause::Code(codes::SET))],
+    legs: &[
         (1, None, Some((1, 1))),
         (2, Some((1, 1)), Some((3, 1))),
         (4, Some((3, 1)), None),
-    ];
-    let mesh = settled(rt.alloc(), 4, &joins, &acts)?;
-    assert!(rt; shows(rt.alloc(), &mesh, &calls, &legs)?);
-    Ok(())
-}
+    ],
+};
 
 // A link is learnt from a neighbour that knows it, and a call goes over what its ingress learnt. Of
 // the two routes of a square that cost as much, the one with the lesser links is the least, once
 // both are known.
-#[test]
-fn calls_over_learnt_links(rt: HostRuntime) -> Result<(), Fail> {
-    let joins = [(1, 1, 2, 1), (2, 1, 3, 1), (3, 2, 4, 1), (4, 3, 4, 1)];
-    let acts = [
-        Act::Search(0, 1, 4),
-        Act::Search(1, 1, 4),
-        Act::Search(2, 1, 4),
-        Act::Desk(1),
-        Act::Learn(1, 4),
-        Act::Desk(1),
-        Act::Learn(1, 3),
-        Act::Learn(1, 3),
-    ];
-    let calls = [
+const LEARNT: Run = Run {
+    nodes: 4,
+    links: &[(1, 1, 2, 1), (2, 1, 3, 1), (3, 2, 4, 1), (4, 3, 4, 1)],
+    acts: &[
+        (Act::Search(0, 1, 4), true),
+        (Act::Search(1, 1, 4), true),
+        (Act::Search(2, 1, 4), true),
+        (Act::Desk(1), true),
+        (Act::Learn(1, 4), true),
+        (Act::Desk(1), true),
+        (Act::Learn(1, 3), true),
+        (Act::Learn(1, 3), true),
+    ],
+    calls: &[
         (0, CallState::Blocked, Cause::NoRoute),
         (1, CallState::Bare, Cause::Unset),
         (2, CallState::Bare, Cause::Unset),
-    ];
-    let legs = [
+    ],
+    legs: &[
         (1, None, Some((2, 1))),
         (1, None, Some((1, 1))),
         (2, Some((1, 1)), Some((3, 1))),
         (3, Some((2, 1)), Some((4, 1))),
         (4, Some((4, 1)), None),
         (4, Some((3, 1)), None),
-    ];
-    let mesh = settled(rt.alloc(), 4, &joins, &acts)?;
-    assert!(rt; shows(rt.alloc(), &mesh, &calls, &legs)?);
-    Ok(())
-}
+    ],
+};
 
 // A row goes from node to node: the next one learns it once its neighbour did.
+const FROM_NODE_TO_NODE: Run = Run {
+    nodes: 4,
+    links: &[(1, 1, 2, 1), (2, 2, 3, 1), (3, 3, 4, 1)],
+    acts: &[
+        (Act::Learn(1, 3), false),
+        (Act::Learn(1, 9), false),
+        (Act::Learn(9, 1), false),
+        (Act::Learn(2, 3), true),
+        (Act::Learn(1, 3), true),
+    ],
+    calls: &[],
+    legs: &[],
+};
+
+const RUNS: &[Run] = &[ONE_LINK, TWO_LINKS, BLOCKED, LEARNT, FROM_NODE_TO_NODE];
+
+// The place of the first run that goes otherwise.
+fn first_wrong(alloc: Global) -> Result<Option<usize>, Fail> {
+    for (place, run) in RUNS.iter().enumerate() {
+        if !holds(alloc, run)? {
+            return Ok(Some(place));
+        }
+    }
+    Ok(None)
+}
+
 #[test]
-fn a_row_from_node_to_node(rt: HostRuntime) -> Result<(), Fail> {
-    let joins = [(1, 1, 2, 1), (2, 2, 3, 1), (3, 3, 4, 1)];
-    let acts = [
-        Act::Learn(1, 3),
-        Act::Learn(1, 9),
-        Act::Learn(9, 1),
-        Act::Learn(2, 3),
-        Act::Learn(1, 3),
-    ];
-    let enabled = enabled(rt.alloc(), 4, &joins, &acts)?;
-    assert_eq!(rt;
-        enabled.as_slice(),
-        [false, false, false, true, true].as_slice()
-    );
+fn runs_of_the_mesh(rt: HostRuntime) -> Result<(), Fail> {
+    assert_eq!(rt; first_wrong(rt.alloc())?, None);
     Ok(())
 }

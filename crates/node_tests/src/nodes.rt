@@ -1,7 +1,8 @@
 //! A node over inputs that are given to it by hand.
 
 mod cases;
+mod driver;
 mod inputs;
-mod one_call;
+mod labels;
 mod outs;
 mod protected;

@@ -1,41 +1,15 @@
-//! Refusals, torn legs that stand until the next node has let go, and the labels of nodes that
-//! don't convert.
+//! Refusals, torn legs that stand until the next node has let go, and the tests of nodes of a line.
 
-use crate::nodes::inputs::{A, B, C, Said, input};
-use crate::nodes::outs::{Told, tells};
+use crate::nodes::driver::{ASKED_LEG, Case, LIVE_LEG, NOTHING, TORN_LEG, first_wrong};
+use crate::nodes::inputs::{A, B, C, ON, Said};
+use crate::nodes::labels::{TRANSPARENT, TWO_LABELS};
+use crate::nodes::outs::Told;
 use ason_base::codes::{BUSY, DOWN, FULL, LABEL, ROUTE, SET, TORN};
-use ason_base::{
-    CallState, Cause, ErrCode, LinkId, LinkSpec, Msg, NodeId, NodeSpec, Numbers, Outs, Phase,
-    TeRow, Topology,
-};
-use node_core::{Input, Node};
+use ason_base::{CallState, Cause, LinkId, LinkSpec, NodeId, NodeSpec, Numbers, Phase, Topology};
 use std::alloc::Global;
-use std::process::Abort;
 use std::test::Fail;
 
-/// What is given, for each number from the first to the last.
-pub(super) type Given = (u16, u16, &'static [Said]);
-
-/// A message: the node that it goes to, and what it tells.
-pub(super) type Sent = (NodeId, Told);
-
-/// What a table shows of a node: how many legs, the phase of the last one, and the state of the
-/// last call.
-pub(super) type Shown = (usize, Option<Phase>, Option<(CallState, Cause)>);
-
-/// A node, what it is given, what it sends at last, and what is shown of it then.
-pub(super) type Case = (NodeId, &'static [Given], &'static [Sent], Shown);
-
-pub(super) const NOTHING: Shown = (0, None, None);
-
-const ASKED_LEG: Shown = (1, Some(Phase::Asked), None);
-
-const TORN_LEG: Shown = (1, Some(Phase::Closing), None);
-
-/// The way on from b.
-const ON: &[(u32, u32)] = &[(2, 2)];
-
-/// Of nodes that convert.
+/// Of nodes that convert: link 1 has one label, link 2 two.
 const CONVERTING: &[Case] = &[
     // a Path whose route doesn't lead on, or that finds no label
     (
@@ -164,7 +138,27 @@ const CONVERTING: &[Case] = &[
             (2, 2, &[Said::Resv(C, 2, 2), Said::PathErr(C, LABEL)]),
         ],
         &[],
-        (1, Some(Phase::Live), None),
+        LIVE_LEG,
+    ),
+    // a Resv of another node than the next one
+    (
+        B,
+        &[(1, 1, &[Said::Path(C, ON, 1), Said::Resv(A, 2, 1)])],
+        &[],
+        ASKED_LEG,
+    ),
+    // a call that stands, also after a tick
+    (
+        A,
+        &[(1, 1, &[Said::Setup, Said::Resv(B, 1, 1)])],
+        &[],
+        (1, Some(Phase::Live), Some((CallState::Bare, Cause::Unset))),
+    ),
+    (
+        A,
+        &[(1, 1, &[Said::Setup, Said::Resv(B, 1, 1), Said::Tick])],
+        &[],
+        (1, Some(Phase::Live), Some((CallState::Bare, Cause::Unset))),
     ),
     // a refusal is passed back; at the ingress it is the call's cause
     (
@@ -233,7 +227,7 @@ const CONVERTING: &[Case] = &[
                 Said::BackupOn(true),
             ],
         )],
-        &[(C, Told::BackupPath(2, 1))],
+        &[(C, Told::BackupPath(2, 1, [true, true, false]))],
         (1, Some(Phase::Armed), None),
     ),
     (
@@ -248,7 +242,7 @@ const CONVERTING: &[Case] = &[
                 Said::BackupOn(false),
             ],
         )],
-        &[(C, Told::BackupPath(2, 1))],
+        &[(C, Told::BackupPath(2, 1, [true, true, false]))],
         (1, Some(Phase::Held), None),
     ),
     // two backups share the label of link 1, since their primaries go over links 1 and 2; while the
@@ -257,9 +251,9 @@ const CONVERTING: &[Case] = &[
         B,
         &[
             (1, 1, &[Said::BackupOn(false), Said::Resv(C, 2, 1)]),
-            (2, 2, &[Said::BackupPath(&[(2, 2)], false)]),
+            (2, 2, &[Said::BackupPath(&[(2, 2)], 1, false)]),
             (1, 1, &[Said::BackupOn(true)]),
-            (2, 2, &[Said::BackupPath(&[(2, 2)], true)]),
+            (2, 2, &[Said::BackupPath(&[(2, 2)], 1, true)]),
         ],
         &[(A, Told::Error(BUSY))],
         (2, Some(Phase::Held), None),
@@ -287,35 +281,6 @@ const CONVERTING: &[Case] = &[
     ),
 ];
 
-/// Of nodes that don't convert.
-const TRANSPARENT: &[Case] = &[
-    // the labels that were offered go on, and not all of the next link
-    (
-        B,
-        &[(1, 1, &[Said::Path(C, ON, 2)])],
-        &[(C, Told::Path([true, true, false]))],
-        ASKED_LEG,
-    ),
-    // the label that came goes back, and not the least
-    (
-        B,
-        &[(1, 1, &[Said::Path(C, ON, 2), Said::Resv(C, 2, 2)])],
-        &[(A, Told::Resv(2))],
-        (1, Some(Phase::Live), None),
-    ),
-    // it was taken meanwhile, and the other one doesn't serve
-    (
-        B,
-        &[
-            (1, 2, &[Said::Path(C, ON, 2)]),
-            (1, 1, &[Said::Resv(C, 2, 2)]),
-            (2, 2, &[Said::Resv(C, 2, 2)]),
-        ],
-        &[(C, Told::Tear), (A, Told::Error(LABEL))],
-        (2, Some(Phase::Closing), None),
-    ),
-];
-
 // Three nodes in a row: link 1 joins a and b, link 2 with a label more b and c.
 fn line(alloc: Global, convert: bool, labels: u8) -> Result<Topology, Fail> {
     let node = |id: NodeId| NodeSpec { id, convert };
@@ -335,149 +300,31 @@ fn line(alloc: Global, convert: bool, labels: u8) -> Result<Topology, Fail> {
     Ok(Topology::new(alloc, 0, &nodes, &links)?)
 }
 
-fn sent(alloc: Global, outs: &Outs) -> Result<Vec<Sent>, Fail> {
-    let mut sent = Vec::new(alloc);
-    for out in outs.items() {
-        sent.push((out.to, tells(&out.msg)))?;
-    }
-    Ok(sent)
-}
-
-/// What the node sends when it is given this. A row is given by knowing alone.
-pub(super) fn step(alloc: Global, node: &mut Node, input: Input) -> Result<Outs, Fail> {
-    match &input {
-        Input::Message { .. } | Input::Desk(_) | Input::Tick => Ok(node.step(alloc, &input)?),
-        Input::Learn(_) => Err(Fail::new("a row")),
-    }
-}
-
-// One input, and what is sent.
-fn give(alloc: Global, node: &mut Node, number: u16, said: Said) -> Result<Vec<Sent>, Fail> {
-    let outs = step(alloc, node, input(alloc, number, said)?)?;
-    sent(alloc, &outs)
-}
-
-// A node of the network that learnt the row of this link.
-fn knowing(alloc: Global, t: &Topology, id: NodeId, link: LinkId) -> Result<Node, Fail> {
-    let mut node = Node::new(alloc, t, id)?;
-    let _links = t.links();
-    match t.link(link) {
-        None => Err(Fail::new("no such link")),
-        Some(link) => {
-            let row = TeRow::of(alloc, link)?;
-            node.step(alloc, &Input::Learn(row))?;
-            Ok(node)
-        }
-    }
-}
-
-// What is sent at the last of these inputs.
-fn give_number(
+// The place of the first case over such a line that ends otherwise.
+fn first_wrong_over(
     alloc: Global,
-    node: &mut Node,
-    number: u16,
-    said: &[Said],
-) -> Result<Vec<Sent>, Fail> {
-    let mut last = Vec::new(alloc);
-    for said in said {
-        last = give(alloc, node, number, *said)?;
-    }
-    Ok(last)
-}
-
-fn give_numbers(alloc: Global, node: &mut Node, given: &Given) -> Result<Vec<Sent>, Fail> {
-    let (first, end, said) = given;
-    let mut last = Vec::new(alloc);
-    for number in *first..=*end {
-        last = give_number(alloc, node, number, said)?;
-    }
-    Ok(last)
-}
-
-fn give_all(alloc: Global, node: &mut Node, given: &[Given]) -> Result<Vec<Sent>, Fail> {
-    let mut last = Vec::new(alloc);
-    for given in given {
-        last = give_numbers(alloc, node, given)?;
-    }
-    Ok(last)
-}
-
-/// What a table shows of the node.
-pub(super) fn shown(alloc: Global, node: &Node) -> Result<Shown, Fail> {
-    let rows = node.rows(alloc)?;
-    let legs = rows.legs.items();
-    let phase = legs.last().map(|leg| leg.phase);
-    let call = rows.calls.items().last();
-    Ok((legs.len(), phase, call.map(|call| (call.state, call.cause))))
-}
-
-// What the node sends at last, and what is shown of it.
-fn outcome(
-    alloc: Global,
-    t: &Topology,
-    id: NodeId,
-    given: &[Given],
-) -> Result<(Vec<Sent>, Shown), Fail> {
-    let mut node = Node::new(alloc, t, id)?;
-    let sent = give_all(alloc, &mut node, given)?;
-    let shown = shown(alloc, &node)?;
-    Ok((sent, shown))
-}
-
-// Each case over this line ends as it must.
-pub(super) fn go_through(
-    rt: &impl Abort,
-    alloc: Global,
-    t: &Topology,
+    convert: bool,
+    labels: u8,
     cases: &[Case],
-) -> Result<(), Fail> {
-    for (id, given, sent, shown) in cases {
-        let answer = outcome(alloc, t, *id, given)?;
-        assert_eq!(rt; answer.0.as_slice(), *sent);
-        assert_eq!(rt; answer.1, *shown);
-    }
-    Ok(())
+) -> Result<Option<usize>, Fail> {
+    let t = line(alloc, convert, labels)?;
+    first_wrong(alloc, &t, cases)
 }
 
 #[test]
 fn converting_nodes(rt: HostRuntime) -> Result<(), Fail> {
-    let t = line(rt.alloc(), true, 1)?;
-    go_through(&rt, rt.alloc(), &t, CONVERTING)
+    assert_eq!(rt; first_wrong_over(rt.alloc(), true, 1, CONVERTING)?, None);
+    Ok(())
+}
+
+#[test]
+fn labels_of_converting_nodes(rt: HostRuntime) -> Result<(), Fail> {
+    assert_eq!(rt; first_wrong_over(rt.alloc(), true, 2, TWO_LABELS)?, None);
+    Ok(())
 }
 
 #[test]
 fn transparent_nodes(rt: HostRuntime) -> Result<(), Fail> {
-    let t = line(rt.alloc(), false, 2)?;
-    go_through(&rt, rt.alloc(), &t, TRANSPARENT)
-}
-
-// The node knows the links 1 and 2, and no third.
-fn knows_two(node: &Node) -> bool {
-    node.knows(LinkId(1)) && node.knows(LinkId(2)) && !node.knows(LinkId(3))
-}
-
-// What the node a sends for a call to c, and what is shown of it then, once it has learnt the row of
-// link 2.
-fn after_learning(alloc: Global) -> Result<(Vec<Sent>, Shown), Fail> {
-    let t = line(alloc, true, 1)?;
-    let mut nodes = Vec::new(alloc);
-    nodes.push(knowing(alloc, &t, A, LinkId(2))?)?;
-    match nodes.get_mut(0) {
-        Some(node) if knows_two(node) => {
-            let sent = give(alloc, node, 1, Said::SetupTo(C))?;
-            Ok((sent, shown(alloc, node)?))
-        }
-        _ => Err(Fail::new("a node that knows the links 1 and 2")),
-    }
-}
-
-// A call to a node beyond the neighbour goes over the link that was learnt.
-#[test]
-fn a_link_is_learnt(rt: HostRuntime) -> Result<(), Fail> {
-    let (sent, shown) = after_learning(rt.alloc())?;
-    let path: [Sent; 1] = [(B, Told::Path([true, false, false]))];
-    let call = Some((CallState::Asking, Cause::Unset));
-    assert_eq!(rt; sent.as_slice(), path.as_slice());
-    assert_eq!(rt; shown, (1, Some(Phase::Asked), call));
+    assert_eq!(rt; first_wrong_over(rt.alloc(), false, 2, TRANSPARENT)?, None);
     Ok(())
 }

@@ -14,6 +14,9 @@ pub(super) const B: NodeId = NodeId(2);
 
 pub(super) const C: NodeId = NodeId(3);
 
+/// The way on from b to c.
+pub(super) const ON: &[(u32, u32)] = &[(2, 2)];
+
 /// What comes, of the call or the LSP of some number. All LSPs begin at a.
 #[derive(Clone, Copy, Drop)]
 pub(super) enum Said {
@@ -30,9 +33,9 @@ pub(super) enum Said {
     Release,
     /// A Path from a over link 1: its egress, its steps, and how many labels it has.
     Path(NodeId, &'static [(u32, u32)], u8),
-    /// A Path of a backup from a over link 1 to b, with one label: the route of its primary, and
-    /// whether it activates.
-    BackupPath(&'static [(u32, u32)], bool),
+    /// A Path of a backup from a over link 1 to b: the route of its primary, how many labels it has,
+    /// and whether it activates.
+    BackupPath(&'static [(u32, u32)], u8, bool),
     /// A Path of a backup from a over b to c, with one label, whose primary goes over link 1; and
     /// whether it activates.
     BackupOn(bool),
@@ -44,10 +47,13 @@ pub(super) enum Said {
     PathErr(NodeId, ErrCode),
     /// The same for the backup in the tunnel of the first call.
     BackupErr(NodeId, ErrCode),
+    /// A PathErr without Path_State_Removed that this node made.
+    PathErrAlone(NodeId, ErrCode),
     /// A PathTear from a over link 1.
     Tear,
     /// An alarm of the fibre of link 1 from a to b.
     Alarm,
+    Tick,
 }
 
 fn steps(alloc: Global, hops: &[(u32, u32)]) -> Result<Steps, Fail> {
@@ -61,21 +67,16 @@ fn steps(alloc: Global, hops: &[(u32, u32)]) -> Result<Steps, Fail> {
     Ok(route)
 }
 
-fn lsp(number: u16) -> Lsp {
+fn lsp(tunnel: u16, number: u16) -> Lsp {
     Lsp {
         ingress: A,
-        tunnel: number,
+        tunnel,
         lsp: number,
     }
 }
 
-// The backup of this number in the tunnel of the first call.
-fn backup_lsp(number: u16) -> Lsp {
-    Lsp {
-        ingress: A,
-        tunnel: 1,
-        lsp: number,
-    }
+fn order(command: Command) -> Input {
+    Input::Desk(DeskItem::Order(command))
 }
 
 fn setup(
@@ -85,7 +86,7 @@ fn setup(
     via: Option<Steps>,
     backup: Option<Steps>,
 ) -> Input {
-    Input::Desk(DeskItem::Order(Command::Setup {
+    order(Command::Setup {
         call: CallNo(number),
         from: A,
         to,
@@ -93,7 +94,7 @@ fn setup(
         both: false,
         via,
         backup,
-    }))
+    })
 }
 
 fn setup_over_b(alloc: Global, number: u16) -> Result<Input, Fail> {
@@ -107,20 +108,6 @@ fn guarded(alloc: Global, number: u16, via: u32, backup: u32) -> Result<Input, F
     Ok(setup(number, B, true, Some(via), Some(backup)))
 }
 
-fn protect(number: u16) -> Input {
-    Input::Desk(DeskItem::Order(Command::Protect {
-        call: CallNo(number),
-        from: A,
-    }))
-}
-
-fn release(number: u16) -> Input {
-    Input::Desk(DeskItem::Order(Command::Release {
-        call: CallNo(number),
-        from: A,
-    }))
-}
-
 fn labels(count: u8) -> LabelSet {
     if count <= 80 {
         LabelSet::upto(count)
@@ -129,7 +116,20 @@ fn labels(count: u8) -> LabelSet {
     }
 }
 
-fn path(
+fn path(number: u16, egress: NodeId, route: Steps, count: u8, role: PathRole) -> Input {
+    let msg = Msg::Path {
+        lsp: lsp(number, number),
+        egress,
+        link: LinkId(1),
+        route,
+        set: labels(count),
+        upstream: None,
+        role,
+    };
+    Input::Message { from: A, msg }
+}
+
+fn working_path(
     alloc: Global,
     number: u16,
     egress: NodeId,
@@ -137,49 +137,32 @@ fn path(
     count: u8,
 ) -> Result<Input, Fail> {
     let route = steps(alloc, hops)?;
-    let msg = Msg::Path {
-        lsp: lsp(number),
+    Ok(path(
+        number,
         egress,
-        link: LinkId(1),
         route,
-        set: labels(count),
-        upstream: None,
-        role: PathRole::Work { guard: false },
-    };
-    Ok(Input::Message { from: A, msg })
+        count,
+        PathRole::Work { guard: false },
+    ))
 }
 
-fn backup_path(lsp: Lsp, egress: NodeId, route: Steps, active: bool, primary: Steps) -> Input {
-    let msg = Msg::Path {
-        lsp,
-        egress,
-        link: LinkId(1),
-        route,
-        set: labels(1),
-        upstream: None,
-        role: PathRole::Back {
-            active,
-            work: 1,
-            primary,
-        },
-    };
-    Input::Message { from: A, msg }
-}
-
-fn backup_to_b(
+// The path goes on over these hops, and its primary went over those.
+fn backup_path(
     alloc: Global,
     number: u16,
+    hops: &[(u32, u32)],
     primary: &[(u32, u32)],
+    count: u8,
     active: bool,
 ) -> Result<Input, Fail> {
-    let primary = steps(alloc, primary)?;
-    Ok(backup_path(lsp(number), B, Steps::new(alloc), active, primary))
-}
-
-fn backup_on(alloc: Global, number: u16, active: bool) -> Result<Input, Fail> {
-    let route = steps(alloc, &[(2, 2)])?;
-    let primary = steps(alloc, &[(1, 1)])?;
-    Ok(backup_path(lsp(number), C, route, active, primary))
+    let route = steps(alloc, hops)?;
+    let role = PathRole::Back {
+        active,
+        work: 1,
+        primary: steps(alloc, primary)?,
+    };
+    let egress = if hops.is_empty() { B } else { C };
+    Ok(path(number, egress, route, count, role))
 }
 
 fn resv(lsp: Lsp, from: NodeId, link: u32, label: u8) -> Result<Input, Fail> {
@@ -193,12 +176,12 @@ fn resv(lsp: Lsp, from: NodeId, link: u32, label: u8) -> Result<Input, Fail> {
     Ok(Input::Message { from, msg })
 }
 
-fn path_err(lsp: Lsp, from: NodeId, code: ErrCode) -> Input {
+fn path_err(lsp: Lsp, from: NodeId, removed: bool, code: ErrCode) -> Input {
     let msg = Msg::PathErr {
         lsp,
         egress: C,
         at: from,
-        removed: true,
+        removed,
         code,
     };
     Input::Message { from, msg }
@@ -206,37 +189,43 @@ fn path_err(lsp: Lsp, from: NodeId, code: ErrCode) -> Input {
 
 fn tear(number: u16) -> Input {
     let msg = Msg::PathTear {
-        lsp: lsp(number),
+        lsp: lsp(number, number),
         egress: C,
         link: LinkId(1),
     };
     Input::Message { from: A, msg }
 }
 
-fn alarm() -> Input {
-    Input::Desk(DeskItem::Alarm(Fibre {
-        link: LinkId(1),
-        forward: true,
-    }))
-}
-
 /// The input.
 pub(super) fn input(alloc: Global, number: u16, said: Said) -> Result<Input, Fail> {
+    let call = CallNo(number);
+    let own = lsp(number, number);
+    let backup = lsp(1, number);
     match said {
         Said::Setup => setup_over_b(alloc, number),
         Said::SetupTo(to) => Ok(setup(number, to, false, None, None)),
         Said::ProtectedTo(to) => Ok(setup(number, to, true, None, None)),
         Said::Guarded(via, backup) => guarded(alloc, number, via, backup),
-        Said::Protect(call) => Ok(protect(call)),
-        Said::Release => Ok(release(number)),
-        Said::Path(egress, hops, count) => path(alloc, number, egress, hops, count),
-        Said::BackupPath(primary, active) => backup_to_b(alloc, number, primary, active),
-        Said::BackupOn(active) => backup_on(alloc, number, active),
-        Said::Resv(from, link, label) => resv(lsp(number), from, link, label),
-        Said::BackupResv(from, link, label) => resv(backup_lsp(number), from, link, label),
-        Said::PathErr(from, code) => Ok(path_err(lsp(number), from, code)),
-        Said::BackupErr(from, code) => Ok(path_err(backup_lsp(number), from, code)),
+        Said::Protect(call) => Ok(order(Command::Protect {
+            call: CallNo(call),
+            from: A,
+        })),
+        Said::Release => Ok(order(Command::Release { call, from: A })),
+        Said::Path(egress, hops, count) => working_path(alloc, number, egress, hops, count),
+        Said::BackupPath(primary, count, active) => {
+            backup_path(alloc, number, &[], primary, count, active)
+        }
+        Said::BackupOn(active) => backup_path(alloc, number, ON, &[(1, 1)], 1, active),
+        Said::Resv(from, link, label) => resv(own, from, link, label),
+        Said::BackupResv(from, link, label) => resv(backup, from, link, label),
+        Said::PathErr(from, code) => Ok(path_err(own, from, true, code)),
+        Said::BackupErr(from, code) => Ok(path_err(backup, from, true, code)),
+        Said::PathErrAlone(from, code) => Ok(path_err(own, from, false, code)),
         Said::Tear => Ok(tear(number)),
-        Said::Alarm => Ok(alarm()),
+        Said::Alarm => Ok(Input::Desk(DeskItem::Alarm(Fibre {
+            link: LinkId(1),
+            forward: true,
+        }))),
+        Said::Tick => Ok(Input::Tick),
     }
 }

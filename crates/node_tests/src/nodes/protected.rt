@@ -1,6 +1,6 @@
 //! Protected calls at their ingress, and a backup at the next node.
 
-use crate::nodes::cases::{Case, NOTHING, go_through};
+use crate::nodes::driver::{Case, HELD_LEG, NOTHING, first_wrong};
 use crate::nodes::inputs::{A, B, Said};
 use crate::nodes::outs::Told;
 use ason_base::codes::{PRIMARY, SET, TORN};
@@ -14,13 +14,13 @@ const CASES: &[Case] = &[
     // doesn't know
     (
         B,
-        &[(1, 1, &[Said::BackupPath(&[(1, 2)], false)])],
+        &[(1, 1, &[Said::BackupPath(&[(1, 2)], 1, false)])],
         &[(A, Told::Resv(1))],
-        (1, Some(Phase::Held), None),
+        HELD_LEG,
     ),
     (
         B,
-        &[(1, 1, &[Said::BackupPath(&[(1, 9)], false)])],
+        &[(1, 1, &[Said::BackupPath(&[(1, 9)], 1, false)])],
         &[(A, Told::Error(PRIMARY))],
         NOTHING,
     ),
@@ -29,7 +29,7 @@ const CASES: &[Case] = &[
     (
         A,
         &[(1, 1, &[Said::ProtectedTo(B), Said::Resv(B, 1, 1)])],
-        &[(B, Told::BackupPath(2, 1))],
+        &[(B, Told::BackupPath(2, 1, [true, false, false]))],
         (
             2,
             Some(Phase::Asked),
@@ -53,7 +53,7 @@ const CASES: &[Case] = &[
     (
         A,
         &[(1, 1, &[Said::Guarded(2, 1), Said::Resv(B, 2, 1)])],
-        &[(B, Told::BackupPath(1, 1))],
+        &[(B, Told::BackupPath(1, 1, [true, false, false]))],
         (
             2,
             Some(Phase::Asked),
@@ -108,7 +108,7 @@ const CASES: &[Case] = &[
             (1, 1, &[Said::ProtectedTo(B), Said::Resv(B, 1, 1)]),
             (2, 2, &[Said::BackupErr(B, SET), Said::Protect(1)]),
         ],
-        &[(B, Told::BackupPath(2, 1))],
+        &[(B, Told::BackupPath(2, 1, [true, false, false]))],
         (
             2,
             Some(Phase::Asked),
@@ -193,14 +193,20 @@ fn joined(alloc: Global, links: &[u32]) -> Result<Topology, Fail> {
     Ok(Topology::new(alloc, 0, &[node(A), node(B)], &specs)?)
 }
 
+// The place of the first case over these links that ends otherwise.
+fn first_wrong_over(alloc: Global, links: &[u32], cases: &[Case]) -> Result<Option<usize>, Fail> {
+    let t = joined(alloc, links)?;
+    first_wrong(alloc, &t, cases)
+}
+
 #[test]
 fn protected_calls(rt: HostRuntime) -> Result<(), Fail> {
-    let t = joined(rt.alloc(), &[1, 2])?;
-    go_through(&rt, rt.alloc(), &t, CASES)
+    assert_eq!(rt; first_wrong_over(rt.alloc(), &[1, 2], CASES)?, None);
+    Ok(())
 }
 
 #[test]
 fn calls_without_another_route(rt: HostRuntime) -> Result<(), Fail> {
-    let t = joined(rt.alloc(), &[1])?;
-    go_through(&rt, rt.alloc(), &t, ALONE)
+    assert_eq!(rt; first_wrong_over(rt.alloc(), &[1], ALONE)?, None);
+    Ok(())
 }
