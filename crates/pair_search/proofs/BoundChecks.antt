@@ -50,13 +50,15 @@ zero-is (Some n) e = ap Some (let none : n ≡ 0 = grind arith in none)
 
 module _ (rows : List TeRow) (may : TeRow → Bool) (May : TeRow → Type 0)
     (to-may : (row : TeRow) → Contains rows row → may row ≡ true → May row)
-    (from-may : (row : TeRow) → Contains rows row → May row → may row ≡ true) (to : NodeId) (bounds : List (NodeId × ℕ)) where
+    (from-may : (row : TeRow) → Contains rows row → May row → may row ≡ true) (to : NodeId)
+    (bounds : List (NodeId × ℕ)) where
   abbrev checked : Bool
   checked = is_zero (bound_at bounds to) && list_all (λ row. not (may row) || is_row_within bounds row) rows
 
   row-checked : checked ≡ true → (row : TeRow) → Contains rows row → May row → is_row_within bounds row ≡ true
   row-checked e row there m =
-      let one = all-at (λ r. not (may r) || is_row_within bounds r) rows (both-second (is_zero (bound_at bounds to)) _ e)
+      let one = all-at (λ r. not (may r) || is_row_within bounds r) rows
+      (both-second (is_zero (bound_at bounds to)) _ e)
       row there in
       go (may row) (from-may row there m) one
     where

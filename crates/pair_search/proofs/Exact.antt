@@ -107,7 +107,11 @@ module _ (rows : List TeRow) (one : (a b : TeRow) → Contains rows a → Contai
                 (next-from rows one done at row next leads) in
                 let holds : stands rows from to total goal tree (done ++ record { node = at; link = link } ∷ []) next
                 (cost + row.metric) ≡ true = (let told = own in rw over at told) in
-                inl (is, stands-is tree (done ++ record { node = at; link = link } ∷ []) next (cost + row.metric) holds))
+                inl (
+                  is,
+                  stands-is tree (done ++ record { node = at; link = link } ∷ []) next
+                      (cost + row.metric) holds,
+                ))
             | inr apart ↦ inr (children-is rest done at cost others row next leads
                 (rest-has (nat_eq link.0 row.link.0) (has_child rest row.link) apart has))
           ]
@@ -118,7 +122,8 @@ module _ (rows : List TeRow) (one : (a b : TeRow) → Contains rows a → Contai
       children-are End done at cost e = record { once = tt; leads = λ k there. absurd (contains-none k there) }
       children-are (More' link tree p rest) done at cost e =
           let later = both-second (not (has_child rest link)) _ e in
-          let none : has_child rest link ≡ false = not-true (has_child rest link) (both-first (not (has_child rest link)) _ e) in
+          let none : has_child rest link ≡ false =
+          not-true (has_child rest link) (both-first (not (has_child rest link)) _ e) in
           let own = both-first (if_leads (next_over rows done at link) (λ n m. stands rows from to total goal tree
           (done ++ record { node = at; link = link } ∷ []) n (cost + m))) _ later in
           let others = both-second (if_leads (next_over rows done at link) (λ n m. stands rows from to total goal tree

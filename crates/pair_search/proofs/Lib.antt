@@ -5,9 +5,9 @@ mod EndLists
 mod Exact
 mod Explored
 mod Leaves
-mod OnwardChecks
-mod Orders
-mod Partner
+pub mod OnwardChecks
+pub mod Orders
+pub mod Partner
 mod PartnerWalks
 mod Passes
 mod Right

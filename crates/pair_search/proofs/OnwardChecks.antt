@@ -14,7 +14,8 @@ use Rattle.pair_search.specs.Checks.{far_end, is_visited, next_over, onward, ove
 
 -- A row that leads on
 
-visited-not : (done : List Step) (at n : NodeId) → is_visited done at n ≡ false → (n ≢ at) × ((y : Step) → Contains done y → y.node ≢ n)
+visited-not : (done : List Step) (at n : NodeId) → is_visited done at n ≡ false →
+    (n ≢ at) × ((y : Step) → Contains done y → y.node ≢ n)
 visited-not done at n e = (
   (λ is. (let same = node-same n at is in let yes : is_visited done at n ≡ true = rw same refl in cc (yes, e))),
   (λ y there is. (let one = there-any (λ (s : Step). nat_eq s.node.0 n.0) done y there (node-same y.node n is) in
@@ -102,10 +103,12 @@ module _ (rows : List TeRow) (one : (a b : TeRow) → Contains rows a → Contai
           (x ≡ row) ⊎ Contains xs row →
           (Contains xs row → find (λ r. nat_eq r.link.0 k.0) xs ≡ None → ⊥) → ⊥
       go true p e cases rest = cc e
-      go false p e (inl same) rest = (let yes = link-same x.link k (ap (λ (r : TeRow). r.link) same ∙ is) in cc (yes, p))
+      go false p e (inl same) rest =
+          (let yes = link-same x.link k (ap (λ (r : TeRow). r.link) same ∙ is) in cc (yes, p))
       go false p e (inr later) rest = rest later e
 
-  find-row : (row : TeRow) → Contains rows row → find (λ r. nat_eq r.link.0 row.link.0) rows ≡ Some row
+  -- a row is found by its link
+  pub find-row : (row : TeRow) → Contains rows row → find (λ r. nat_eq r.link.0 row.link.0) rows ≡ Some row
   find-row row there = go (find (λ r. nat_eq r.link.0 row.link.0) rows) refl
     where
       go : (f : Option TeRow) → find (λ r. nat_eq r.link.0 row.link.0) rows ≡ f → f ≡ Some row

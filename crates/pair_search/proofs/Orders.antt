@@ -25,7 +25,8 @@ most-trans (x ∷ a) (y ∷ b) (z ∷ c) (inl l) (inr m) = inl (subst (λ (k : L
 most-trans (x ∷ a) (y ∷ b) (z ∷ c) (inr l) (inl m) = inl (subst (λ (k : LinkId). k.0 < z.0) (sym l.0) m)
 most-trans (x ∷ a) (y ∷ b) (z ∷ c) (inr l) (inr m) = inr (l.0 ∙ m.0, most-trans a b c l.1 m.1)
 
-most-once : (a b : List LinkId) → IsAtMost a b → IsAtMost b a → a ≡ b
+-- lists that are each at most the other are one
+pub most-once : (a b : List LinkId) → IsAtMost a b → IsAtMost b a → a ≡ b
 most-once [] [] p q = refl
 most-once [] (y ∷ b) p q = absurd q
 most-once (x ∷ a) [] p q = absurd p

@@ -86,7 +86,8 @@ is-share a b r at_a at_b = elim (risk-cases a.srlgs a.link r at_a) [
   ]
 ]
 
-inner-is : (from to : NodeId) (steps : List Step) (n : NodeId) → is_inner from to steps n ≡ true → IsInner from to steps n
+inner-is : (from to : NodeId) (steps : List Step) (n : NodeId) → is_inner from to steps n ≡ true →
+    IsInner from to steps n
 inner-is from to steps n e =
     let s = any-there (λ (s : Step). nat_eq s.node.0 n.0) steps
     (both-first (list_any (λ (s : Step). nat_eq s.node.0 n.0) steps) _ e) in
@@ -101,7 +102,8 @@ inner-is from to steps n e =
     other : (m : NodeId) → not (nat_eq n.0 m.0) ≡ true → n ≢ m
     other m e is = (let yes = node-same n m is in let no' : not true ≡ true = subst (λ z. not z ≡ true) yes e in cc no')
 
-is-inner : (from to : NodeId) (steps : List Step) (n : NodeId) → IsInner from to steps n → is_inner from to steps n ≡ true
+is-inner : (from to : NodeId) (steps : List Step) (n : NodeId) → IsInner from to steps n →
+    is_inner from to steps n ≡ true
 is-inner from to steps n (s, there, at, apart, other) =
     both (list_any (λ (s : Step). nat_eq s.node.0 n.0) steps) _
     (there-any (λ (s : Step). nat_eq s.node.0 n.0) steps s there (node-same s.node n at))
@@ -145,8 +147,10 @@ module _ (rows : List TeRow) (one : (a b : TeRow) → Contains rows a → Contai
   pub partner-is : may_partner rows done from to row ≡ true → MayPartner rows done from to row
   partner-is e =
       let rest = both-second (not (list_any meets rows)) _ e in record {
-        risks = λ shared. not-both (list_any meets rows) (both-first (not (list_any meets rows)) _ e) (is-shares shared);
-        low = λ inner. not-both (is_inner from to done row.low) (both-first (not (is_inner from to done row.low)) _ rest)
+        risks = λ shared. not-both (list_any meets rows) (both-first (not (list_any meets rows)) _ e)
+            (is-shares shared);
+        low = λ inner. not-both (is_inner from to done row.low)
+            (both-first (not (is_inner from to done row.low)) _ rest)
             (is-inner from to done row.low inner);
         high = λ inner. not-both (is_inner from to done row.high)
             (both-second (not (is_inner from to done row.low)) _ rest) (is-inner from to done row.high inner);

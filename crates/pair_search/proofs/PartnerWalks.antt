@@ -78,7 +78,8 @@ module _ (search : Search) (distinct : HaveDistinctLinks search.rows) (done : Li
         let inside : (x : Step) → Contains steps x → Contains backup x =
         λ x there. within x (contains-tail s x steps there) in
         let may = partner-may rows search.from search.to done backup cost is s walk.0 a walk.1
-        (within s (contains-head s steps)) walk.3 (comes-to rows search.to backup walk.1 steps walk.2 inside walk.4) in (
+        (within s (contains-head s steps)) walk.3
+        (comes-to rows search.to backup walk.1 steps walk.2 inside walk.4) in (
           walk.0,
           walk.1,
           walk.2,

@@ -39,7 +39,8 @@ module _ (rows : List TeRow) (May : TeRow → Type 0) (to : NodeId) (bounds : Li
   walk-bounded [] a cost within (is, none) =
       (0, subst (λ n. bound_at bounds n ≡ Some 0) (sym is) are.zero, omega arith)
   walk-bounded (s ∷ steps) a cost within (row, next, left, hop, walk, sum) =
-      let inside : (x : Step) → Contains steps x → Contains all x = λ x there. within x (contains-tail s x steps there) in
+      let inside : (x : Step) → Contains steps x → Contains all x =
+      λ x there. within x (contains-tail s x steps there) in
       let later = walk-bounded steps next left inside walk in
       let here = are.rises a next row later.0 hop.known
       (may s row a next (within s (contains-head s steps)) hop (comes-to rows to all next steps left inside walk))
@@ -127,10 +128,12 @@ module _ (rows : List TeRow) (from to : NodeId) (total : Option ℕ) (goal : Lis
       IsNotBetter total (cost + left) more
   along rest Far done at cost left backup more stands walk simple partner less =
       far-enough (bound_at goal at) cost left more stands
-      (walk-bounded rows AnyRow to goal are rest (λ s row a b there hop comes. tt) rest at left (λ x there. there) walk) less
+      (walk-bounded rows AnyRow to goal are rest (λ s row a b there hop comes. tt) rest at left
+      (λ x there. there) walk) less
   along [] (Whole bounds) done at cost left backup more (is, bound, enough) (end, none) simple partner less =
       let whole : done ++ [] ≡ done = append-none done in
-      let its : IsBackup rows done from to backup more = subst (λ r. IsBackup rows r from to backup more) whole partner in
+      let its : IsBackup rows done from to backup more =
+      subst (λ r. IsBackup rows r from to backup more) whole partner in
       let found = walk-bounded rows (MayPartner rows done from to) to bounds bound backup
       (partner-may rows from to done backup more its) backup from more (λ x there. there) its.walk in
       let same : cost + left ≡ cost = omega (arith, none) in

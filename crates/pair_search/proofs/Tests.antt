@@ -39,4 +39,5 @@ all-at p (y ∷ ys) e x there = elim (contains-cases y x ys there) [
 pub at-all : {X : Type 0} (p : X → Bool) (xs : List X) → ((x : X) → Contains xs x → p x ≡ true) → list_all p xs ≡ true
 at-all p [] each = refl
 at-all p (y ∷ ys) each =
-    both (p y) (list_all p ys) (each y (contains-head y ys)) (at-all p ys (λ x there. each x (contains-tail y x ys there)))
+    both (p y) (list_all p ys) (each y (contains-head y ys))
+    (at-all p ys (λ x there. each x (contains-tail y x ys there)))

@@ -60,6 +60,10 @@ module _ (rows : List TeRow) (from to : NodeId) (goal : List (NodeId × ℕ)) (t
         ChildStands rows from to less goal all done at cost row next
     child-weaker End done at cost row next says = says
     child-weaker (More' link tree p rest) done at cost row next (inl here) =
-        inl (here.0, stands-weaker tree (done ++ record { node = at; link = link } ∷ []) next (cost + row.metric) here.1)
+        inl (
+          here.0,
+          stands-weaker tree (done ++ record { node = at; link = link } ∷ []) next
+              (cost + row.metric) here.1,
+        )
     child-weaker (More' link tree p rest) done at cost row next (inr later) =
         inr (child-weaker rest done at cost row next later)

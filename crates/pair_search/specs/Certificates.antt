@@ -22,7 +22,8 @@ bound_at bounds n = cost_of (find (λ b. b.0.0 == n.0) bounds)
 
 -- 0 at the end; across each row that may be used it rises by at most the metric; and it is none only where no such row
 -- leads to a bound
-pub record AreBounds (rows : List TeRow) (May : TeRow → Type 0) (to : NodeId) (bounds : List (NodeId × ℕ)) : Type 0 where
+pub record AreBounds (rows : List TeRow) (May : TeRow → Type 0) (to : NodeId)
+    (bounds : List (NodeId × ℕ)) : Type 0 where
   pub zero : bound_at bounds to ≡ Some 0
   pub rises : (a b : NodeId) (row : TeRow) (q : ℕ) → Contains rows row → May row → Joins row a b →
       bound_at bounds b ≡ Some q → (p : ℕ) × (bound_at bounds a ≡ Some p) × (p ≤ q + row.metric)

@@ -57,7 +57,8 @@ may_partner rows done from to row =
 
 abbrev pub are_partner_bounds : List TeRow → List Step → NodeId → NodeId → List (NodeId × ℕ) → Bool
 are_partner_bounds rows done from to bounds =
-    is_zero (bound_at bounds to) && list_all (λ row. not (may_partner rows done from to row) || is_row_within bounds row) rows
+    is_zero (bound_at bounds to)
+    && list_all (λ row. not (may_partner rows done from to row) || is_row_within bounds row) rows
 
 -- The tree
 
@@ -114,7 +115,8 @@ abbrev mutual
       not (at.0 == to.0)
       && (are_told rows done at children && children_stand rows from to total goal children done at cost)
 
-  pub children_stand : List TeRow → NodeId → NodeId → Option ℕ → List (NodeId × ℕ) → Children → List Step → NodeId → ℕ → Bool
+  pub children_stand : List TeRow → NodeId → NodeId → Option ℕ → List (NodeId × ℕ) → Children → List Step →
+      NodeId → ℕ → Bool
   children_stand rows from to total goal End done at cost = true
   children_stand rows from to total goal (More' link tree p rest) done at cost =
       not (has_child rest link) && (if_leads (next_over rows done at link)

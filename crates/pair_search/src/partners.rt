@@ -5,7 +5,8 @@ ghost use Rattle.std.specs.List.{list_any};
 ghost use Rattle.ason_base.specs.declared.network.TeRow.{TeRow};
 ghost use Rattle.route_least.specs.Network.{IsNetworkOf, IsPrepared};
 ghost use Rattle.pair_search.specs.Checks.{has_link, is_inner, may_partner, share};
-ghost use Rattle.pair_search.specs.Searches.{closed_rows, pair_of, AreEndBounds, HasOffered, HasWhole, IsPartner, IsPrefix, IsSearch, IsSound};
+ghost use Rattle.pair_search.specs.Searches.{closed_rows, pair_of, AreEndBounds, HasOffered, HasWhole};
+ghost use Rattle.pair_search.specs.Searches.{IsPartner, IsPrefix, IsSearch, IsSound};
 
 use crate::pairs::{RoutePair, keep_better};
 use crate::prefixes::{Prefix, Search};

@@ -8,7 +8,8 @@ ghost use Rattle.pair_search.specs.Answers.{IsSmall};
 ghost use Rattle.pair_search.specs.declared.answers.BestFault.{BestFault};
 ghost use Rattle.pair_search.specs.Certificates.{LeadsOn, bound_at};
 ghost use Rattle.pair_search.specs.Checks.{far_end, is_far, onward};
-ghost use Rattle.pair_search.specs.Searches.{over, total_of, AreRows, HasChildren, HasTree, IsFoundBest, IsPrefix, IsSearch, IsSearched, IsSound};
+ghost use Rattle.pair_search.specs.Searches.{over, total_of, AreRows, HasChildren, HasTree, IsFoundBest};
+ghost use Rattle.pair_search.specs.Searches.{IsPrefix, IsSearch, IsSearched, IsSound};
 
 use crate::answers::{Best, BestFault};
 use crate::cert::{Cert, Children, Tree};
