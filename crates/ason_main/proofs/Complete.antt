@@ -5,10 +5,11 @@ use Rattle.std.specs.Io.KnownBytes.{Appends, Consumes}
 use Rattle.ason_io.specs.Faults.{Rose}
 use Rattle.ason_io.specs.Reading.{WasReadToEnd}
 use Rattle.plan_reader.specs.declared.plan.Plan.{Plan}
+use Rattle.ason_main.specs.declared.answers.Question.{Question}
 use Rattle.ason_main.specs.declared.answers.Status.{Status}
-use Rattle.ason_main.specs.Answers.{Decode, Request, Route, Run}
+use Rattle.ason_main.specs.Answers.{Ask, Decode, Request, Run}
 use Rattle.ason_main.specs.Answers.{Done, EventLimit, PlanRefused, ReadFault, Reply, TooLong, Unfinished, Usage}
-use Rattle.ason_main.specs.Answers.{EndsTooLong, EndsWell, HasReadFew, IsComplete, IsDecodeReply, IsDoneOrOutOfMemory, IsEnd, IsJudged, IsReadAndJudged, IsReply, IsReplyFor, IsReplyTo, IsRouteReply, IsRunReply, WasGiven, request_of, status_of}
+use Rattle.ason_main.specs.Answers.{EndsTooLong, EndsWell, HasReadFew, IsAskReply, IsComplete, IsDecodeReply, IsDoneOrOutOfMemory, IsEnd, IsJudged, IsReadAndJudged, IsReply, IsReplyFor, IsReplyTo, IsRunReply, WasGiven, request_of, status_of}
 use Rattle.ason_main.specs.Outputs.{run_of}
 use Rattle.plan_reader.specs.Plans.{PlanOf}
 use Rattle.plan_reader.proofs.Agree.{no_plan, one_plan}
@@ -46,17 +47,17 @@ judged_for : {S : Type 0} (left : S → Option (List ℕ)) (handed : S → List 
 judged_for left handed ended faults old new bs k (Done text) read few is = (bs, read, few, is)
 judged_for left handed ended faults old new bs Run Usage read few is = absurd is
 judged_for left handed ended faults old new bs Decode Usage read few is = absurd is
-judged_for left handed ended faults old new bs (Route from to) Usage read few is = absurd is
+judged_for left handed ended faults old new bs (Ask question from to) Usage read few is = absurd is
 judged_for left handed ended faults old new bs k (PlanRefused text) read few is = (bs, read, few, is)
 judged_for left handed ended faults old new bs Run ReadFault read few is = absurd is
 judged_for left handed ended faults old new bs Decode ReadFault read few is = absurd is
-judged_for left handed ended faults old new bs (Route from to) ReadFault read few is = absurd is
+judged_for left handed ended faults old new bs (Ask question from to) ReadFault read few is = absurd is
 judged_for left handed ended faults old new bs k (EventLimit text) read few is = (bs, read, few, is)
 judged_for left handed ended faults old new bs k (Unfinished text) read few is =
     (read_few left handed ended old new bs read few, inr (bs, read, few, is))
 judged_for left handed ended faults old new bs Run TooLong read few is = absurd is
 judged_for left handed ended faults old new bs Decode TooLong read few is = absurd is
-judged_for left handed ended faults old new bs (Route from to) TooLong read few is = absurd is
+judged_for left handed ended faults old new bs (Ask question from to) TooLong read few is = absurd is
 
 pub judged_reply : {S : Type 0} (left : S → Option (List ℕ)) (handed : S → List ℕ → S → Type 0) (ended : S → Type 0)
     (faults : S → ℕ) (words : List (List ℕ)) (old new : S) (bs : List ℕ) (k : Request) (r : Reply) →
@@ -98,26 +99,26 @@ decoded_end bs Usage s holds is = absurd holds
 decoded_end bs ReadFault s holds is = absurd holds
 decoded_end bs TooLong s holds is = absurd holds
 
--- a reply to `route`
-routed_end : (from to bs : List ℕ) (p : Plan) (r : Reply) (s : Status) → PlanOf bs (Ok p) →
-    IsRouteReply from to bs r → s ≡ status_of r → IsDoneOrOutOfMemory s
-routed_end from to bs p (Done text) s plan holds is = inl is
-routed_end from to bs p (PlanRefused text) s plan holds is = absurd (no_plan bs holds.0 p holds.1 plan)
-routed_end from to bs p (EventLimit text) s plan holds is = absurd holds
-routed_end from to bs p (Unfinished text) s plan holds is = inr is
-routed_end from to bs p Usage s plan holds is = absurd holds
-routed_end from to bs p ReadFault s plan holds is = absurd holds
-routed_end from to bs p TooLong s plan holds is = absurd holds
+-- a reply to a question about two nodes
+asked_end : (question : Question) (from to bs : List ℕ) (p : Plan) (r : Reply) (s : Status) → PlanOf bs (Ok p) →
+    IsAskReply question from to bs r → s ≡ status_of r → IsDoneOrOutOfMemory s
+asked_end question from to bs p (Done text) s plan holds is = inl is
+asked_end question from to bs p (PlanRefused text) s plan holds is = absurd (no_plan bs holds.0 p holds.1 plan)
+asked_end question from to bs p (EventLimit text) s plan holds is = absurd holds
+asked_end question from to bs p (Unfinished text) s plan holds is = inr is
+asked_end question from to bs p Usage s plan holds is = absurd holds
+asked_end question from to bs p ReadFault s plan holds is = absurd holds
+asked_end question from to bs p TooLong s plan holds is = absurd holds
 
 well_ended : (k : Request) (bs : List ℕ) (r : Reply) (s : Status) → IsJudged k bs r → s ≡ status_of r → EndsWell k bs s
 well_ended Run bs r s holds is = λ p plan. judged_end bs p r s plan holds is
 well_ended Decode bs r s holds is = decoded_end bs r s holds is
-well_ended (Route from to) bs r s holds is = λ p plan. routed_end from to bs p r s plan holds is
+well_ended (Ask question from to) bs r s holds is = λ p plan. asked_end question from to bs p r s plan holds is
 
 out_of_memory : (k : Request) (bs : List ℕ) (s : Status) → s ≡ Status.OutOfMemory → EndsWell k bs s
 out_of_memory Run bs s is = λ p plan. inr (inr is)
 out_of_memory Decode bs s is = inr is
-out_of_memory (Route from to) bs s is = λ p plan. inr is
+out_of_memory (Ask question from to) bs s is = λ p plan. inr is
 
 too_many : (n m : ℕ) → n ≡ 4194304 + 1 → m ≤ 4194304 → n ≤ m → ⊥
 too_many n m a b c = grind arith

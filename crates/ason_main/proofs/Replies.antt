@@ -9,7 +9,7 @@ use Rattle.plan_reader.specs.declared.plan.Plan.{Plan}
 use Rattle.plan_reader.specs.Plans.{PlanOf}
 use Rattle.table_text.specs.TableText.{stopped_text}
 use Rattle.ason_main.specs.declared.answers.Status.{Status}
-use Rattle.ason_main.specs.Answers.{Decode, Done, EventLimit, Reply, Request, Route, Run, Unfinished, Usage}
+use Rattle.ason_main.specs.Answers.{Ask, Decode, Done, EventLimit, Reply, Request, Run, Unfinished, Usage}
 use Rattle.ason_main.specs.Answers.{IsAnswered, IsReply, IsReplyFor, IsReplyTo, WasToldOrNothing, request_of}
 use Rattle.ason_main.specs.Outputs.{IsBegun, IsTheOutput}
 use Rattle.ason_main.specs.Running.{HasWritten, HasWrittenPart, IsCutShort}
@@ -70,7 +70,7 @@ pub no_memory : {K : Type 0} (written : K → Option (List ℕ)) (faults : K →
     IsAnswered written faults k bs out out Status.OutOfMemory
 no_memory written faults Run bs out = (Unfinished [], inl refl, inl (refl, Appends-nil (written out)))
 no_memory written faults Decode bs out = (Unfinished [], refl, inl (refl, Appends-nil (written out)))
-no_memory written faults (Route from to) bs out = (Unfinished [], refl, inl (refl, Appends-nil (written out)))
+no_memory written faults (Ask question from to) bs out = (Unfinished [], refl, inl (refl, Appends-nil (written out)))
 
 -- Reading
 

@@ -4,12 +4,14 @@ use Rattle.std.specs.Io.KnownBytes.{Appends}
 use Rattle.ason_io.specs.Faults.{Rose}
 use Rattle.ason_io.specs.Reading.{HasRead, WasReadToEnd}
 use Rattle.plan_reader.specs.declared.plan.Plan.{Plan}
+use Rattle.ason_main.specs.declared.answers.Question.{Question}
 use Rattle.ason_main.specs.declared.answers.Status.{Status}
 use Rattle.ason_main.specs.declared.answers.Task.{Task}
 use Rattle.ason_base.specs.declared.ids.NodeId.{NodeId}
 use Rattle.plan_reader.specs.declared.faults.PlanFault.{PlanFault}
 use Rattle.message_text.specs.DecodeText.{IsDecodeText}
 use Rattle.message_text.specs.OneText.{IsOne}
+use Rattle.table_text.specs.BestText.{IsBestText}
 use Rattle.table_text.specs.FaultText.{refused_text}
 use Rattle.table_text.specs.RouteText.{route_text}
 use Rattle.ason_main.specs.Outputs.{IsBegun, IsTheOutput, IsTheStoppedOutput, run_of}
@@ -22,34 +24,35 @@ is_word [] word = false
 is_word (w ∷ []) word = bytes_eq w word
 is_word (w ∷ v ∷ ws) word = false
 
--- they are the word `route` and two more
-abbrev pub is_route : List (List ℕ) → Bool
-is_route [] = false
-is_route (w ∷ []) = false
-is_route (w ∷ from ∷ []) = false
-is_route (w ∷ from ∷ to ∷ []) = bytes_eq w (codes "route")
-is_route (w ∷ from ∷ to ∷ v ∷ ws) = false
+-- they are this word and two more
+abbrev pub names_two : List (List ℕ) → List ℕ → Bool
+names_two [] word = false
+names_two (w ∷ []) word = false
+names_two (w ∷ from ∷ []) word = false
+names_two (w ∷ from ∷ to ∷ []) word = bytes_eq w word
+names_two (w ∷ from ∷ to ∷ v ∷ ws) word = false
 
--- the task that the words name: the one word `run`, the one word `decode`, or `route` with two names; all else has no
--- meaning
+-- the task that the words name: the one word `run`, the one word `decode`, or `route` or `best` with two names; all else
+-- has no meaning
 abbrev pub task_of : List (List ℕ) → Option Task
 task_of words =
     if is_word words (codes "run") then Some Task.Run
     else if is_word words (codes "decode") then Some Task.Decode
-    else if is_route words then Some Task.Route
+    else if names_two words (codes "route") then Some (Task.Ask Question.Route)
+    else if names_two words (codes "best") then Some (Task.Ask Question.Best)
     else None
 
 -- what is asked for
 pub data Request : Type 0 where
   Run : Request  -- to run a plan
   Decode : Request  -- to tell what messages say
-  Route : (from to : List ℕ) → Request  -- to tell the routes between the nodes of these names
+  Ask : (question : Question) (from to : List ℕ) → Request  -- to tell this of the nodes of these names
 
 -- a task with its words
 abbrev pub request_for : List (List ℕ) → Task → Request
 request_for words Task.Run = Run
 request_for words Task.Decode = Decode
-request_for words Task.Route = Route (word_at words 1) (word_at words 2)
+request_for words (Task.Ask question) = Ask question (word_at words 1) (word_at words 2)
 
 abbrev pub request_of : List (List ℕ) → Option Request
 request_of words = option_map (request_for words) (task_of words)
@@ -92,7 +95,7 @@ abbrev pub text_of_reply : Reply → List ℕ
 text_of_reply (Done text) = text
 text_of_reply Usage =
     codes "usage: ason run [--workers N] [--stride T] [--trace] | check | decode | route FROM TO "
-    ++ codes "| load SEED NODES CALLS\n"
+    ++ codes "| load SEED NODES CALLS | best FROM TO\n"
 text_of_reply (PlanRefused text) = text
 text_of_reply ReadFault = []
 text_of_reply (EventLimit text) = text
@@ -125,20 +128,25 @@ IsDecodeReply bs Usage = ⊥
 IsDecodeReply bs ReadFault = ⊥
 IsDecodeReply bs TooLong = ⊥
 
--- what the reply to `route` with these names says of them
-abbrev pub IsRouteReply : List ℕ → List ℕ → List ℕ → Reply → Type 0
-IsRouteReply from to bs (Done text) = (p : Plan) × PlanOf bs (Ok p) × (text ≡ route_text p from to)
-IsRouteReply from to bs (PlanRefused text) = (f : PlanFault) × PlanOf bs (Err f) × (text ≡ refused_text f)
-IsRouteReply from to bs (EventLimit text) = ⊥
-IsRouteReply from to bs (Unfinished text) = text ≡ []
-IsRouteReply from to bs Usage = ⊥
-IsRouteReply from to bs ReadFault = ⊥
-IsRouteReply from to bs TooLong = ⊥
+-- what is told of the nodes of these names: the routes, or the best pair, of which there is one text
+abbrev pub IsTold : Question → Plan → List ℕ → List ℕ → List ℕ → Type 0
+IsTold Question.Route p from to text = text ≡ route_text p from to
+IsTold Question.Best p from to text = IsOne (IsBestText p from to) text
+
+-- what the reply to a question about these names says of them
+abbrev pub IsAskReply : Question → List ℕ → List ℕ → List ℕ → Reply → Type 0
+IsAskReply question from to bs (Done text) = (p : Plan) × PlanOf bs (Ok p) × IsTold question p from to text
+IsAskReply question from to bs (PlanRefused text) = (f : PlanFault) × PlanOf bs (Err f) × (text ≡ refused_text f)
+IsAskReply question from to bs (EventLimit text) = ⊥
+IsAskReply question from to bs (Unfinished text) = text ≡ []
+IsAskReply question from to bs Usage = ⊥
+IsAskReply question from to bs ReadFault = ⊥
+IsAskReply question from to bs TooLong = ⊥
 
 abbrev pub IsJudged : Request → List ℕ → Reply → Type 0
 IsJudged Run bs r = IsRunReply bs r
 IsJudged Decode bs r = IsDecodeReply bs r
-IsJudged (Route from to) bs r = IsRouteReply from to bs r
+IsJudged (Ask question from to) bs r = IsAskReply question from to bs r
 
 -- Reading
 
@@ -219,11 +227,11 @@ IsEnd p s =
 abbrev pub IsDoneOrOutOfMemory : Status → Type 0
 IsDoneOrOutOfMemory s = (s ≡ Status.Done) ⊎ (s ≡ Status.OutOfMemory)
 
--- how what is asked for ends on these bytes: `run` and `route` for a plan without fault, `decode` always
+-- how what is asked for ends on these bytes: `run`, `route` and `best` for a plan without fault, `decode` always
 abbrev pub EndsWell : Request → List ℕ → Status → Type 0
 EndsWell Run bs s = (p : Plan) → PlanOf bs (Ok p) → IsEnd p s
 EndsWell Decode bs s = IsDoneOrOutOfMemory s
-EndsWell (Route from to) bs s = (p : Plan) → PlanOf bs (Ok p) → IsDoneOrOutOfMemory s
+EndsWell (Ask question from to) bs s = (p : Plan) → PlanOf bs (Ok p) → IsDoneOrOutOfMemory s
 
 -- and where there are more than 4,194,304
 abbrev pub EndsTooLong : Status → Type 0

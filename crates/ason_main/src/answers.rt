@@ -1,9 +1,11 @@
-//! The top call: reads an input, and writes what a plan's network came to, its routes, or what messages say.
+//! The top call: reads an input, and writes what a plan's network came to, its routes, its best pair of them, or what
+//! messages say.
 
-ghost use Rattle.std.specs.Prelude.{◌≡◌, ℕ, List, [], Ok, Err, map, string_bytes};
+ghost use Rattle.std.specs.Prelude.{◌≡◌, ℕ, List, [], Ok, Err, IfOk, map, string_bytes};
 ghost use Rattle.ason_base.specs.Network.{IsTopology};
-ghost use Rattle.ason_main.specs.Answers.{Decode, IsAnswered, IsComplete, IsReply, Reply, Route, Run, WasGiven, WasTold};
-ghost use Rattle.ason_main.specs.Answers.{WasToldOrNothing, exit_status, is_route, is_word, request_for, task_of};
+ghost use Rattle.ason_main.specs.Answers.{Ask, Decode, IsAnswered, IsComplete, IsReply, IsTold, Reply, Run, WasGiven};
+ghost use Rattle.ason_main.specs.Answers.{WasTold, WasToldOrNothing, exit_status, is_word, names_two, request_for};
+ghost use Rattle.ason_main.specs.Answers.{task_of};
 ghost use Rattle.plan_reader.specs.PlanTexts.{word_at};
 ghost use Rattle.plan_reader.specs.Plans.{ArePostable, PlanOf};
 ghost use Rattle.table_text.specs.TableText.{stopped_text};
@@ -14,19 +16,20 @@ use ason_io::{ReadAllFault, Sink, Source, read_all, write_all};
 use message_text::decode_text;
 use plan_reader::{Plan, PlanError, PlanFault, read_plan};
 use std::alloc::Global;
-use table_text::{refused_text, route_text, write_stopped};
+use table_text::{best_text, refused_text, route_text, write_stopped};
 
 /// The most bytes of an input.
 const LIMIT: usize = 4_194_304;
 
 /// What is told of words that have no meaning.
 const USAGE: &[u8] =
-    b"usage: ason run [--workers N] [--stride T] [--trace] | check | decode | route FROM TO | load SEED NODES CALLS\n";
+    b"usage: ason run [--workers N] [--stride T] [--trace] | check | decode | route FROM TO \
+    | load SEED NODES CALLS | best FROM TO\n";
 
 /// How a command ended, with the process's exit status as its number.
 #[derive(Clone, Copy, Debug, PartialEq, Eq, Drop)]
 pub enum Status {
-    /// The plan was run and its tables written, or its routes or what the messages say: 0.
+    /// The plan was run and its tables written, or its routes, its best pair or what the messages say: 0.
     Done,
     /// The words have no meaning; nothing was read: 2.
     Usage,
@@ -69,8 +72,17 @@ enum Task {
     Run,
     // To tell what messages say.
     Decode,
-    // To tell the routes between two nodes of a plan.
+    // To tell something of two nodes of a plan.
+    Ask(Question),
+}
+
+// What is asked of two nodes of a plan.
+#[derive(Clone, Copy, Debug, PartialEq, Eq, Drop)]
+enum Question {
+    // The least route, its backup, and each node's potential.
     Route,
+    // The best pair of routes.
+    Best,
 }
 
 // Whether the words are this one word.
@@ -83,12 +95,12 @@ fn is_word(words: &[String], word: &str) -> bool
     }
 }
 
-// Whether they are the word `route` and two more.
-fn is_route(words: &[String]) -> bool
-    ensures { result ≡ is_route (map string_bytes words.now) }
+// Whether they are this word and two more.
+fn names_two(words: &[String], word: &str) -> bool
+    ensures { result ≡ names_two (map string_bytes words.now) word.now }
 {
     match words {
-        [command, _, _] => command.as_str() == "route",
+        [command, _, _] => command.as_str() == word,
         _ => false,
     }
 }
@@ -100,8 +112,10 @@ fn task_of(words: &[String]) -> Option<Task>
         Some(Task::Run)
     } else if is_word(words, "decode") {
         Some(Task::Decode)
-    } else if is_route(words) {
-        Some(Task::Route)
+    } else if names_two(words, "route") {
+        Some(Task::Ask(Question::Route))
+    } else if names_two(words, "best") {
+        Some(Task::Ask(Question::Best))
     } else {
         None
     }
@@ -157,8 +171,8 @@ fn run<K: Sink>(alloc: Global, plan: &Plan, out: &mut K) -> Status
 fn refuse<K: Sink>(alloc: Global, fault: PlanFault, out: &mut K) -> Status
     ensures run { (bs : List ℕ) → PlanOf bs (Err fault)
         → IsAnswered K.written K.faults Run bs out.old out.new result }
-    ensures route { (bs from to : List ℕ) → PlanOf bs (Err fault)
-        → IsAnswered K.written K.faults (Route from to) bs out.old out.new result }
+    ensures ask { (question : Question) (bs from to : List ℕ) → PlanOf bs (Err fault)
+        → IsAnswered K.written K.faults (Ask question from to) bs out.old out.new result }
 {
     match refused_text(alloc, fault) {
         Ok(text) => tell(out, &text, Status::PlanRefused),
@@ -187,25 +201,56 @@ fn decode_input<K: Sink>(alloc: Global, bytes: &[u8], out: &mut K) -> Status
     }
 }
 
-// Tells the routes between the nodes of these names.
-fn tell_routes<K: Sink>(alloc: Global, plan: &Plan, from: &str, to: &str, out: &mut K) -> Status
+// What is told of the nodes of these names.
+fn told(
+    alloc: Global,
+    plan: &Plan,
+    question: Question,
+    from: &str,
+    to: &str,
+) -> Result<Vec<u8>, OutOfMemory>
+    requires { IsTopology plan.now.topology }
+    ensures { IfOk result (λ text. IsTold question plan.now from.now to.now text.items) }
+{
+    match question {
+        Question::Route => route_text(alloc, plan, from, to),
+        Question::Best => best_text(alloc, plan, from, to),
+    }
+}
+
+// Writes it.
+fn tell_ends<K: Sink>(
+    alloc: Global,
+    plan: &Plan,
+    question: Question,
+    from: &str,
+    to: &str,
+    out: &mut K,
+) -> Status
     requires { IsTopology plan.now.topology }
     ensures { (bs : List ℕ) → PlanOf bs (Ok plan.now)
-        → IsAnswered K.written K.faults (Route from.now to.now) bs out.old out.new result }
+        → IsAnswered K.written K.faults (Ask question from.now to.now) bs out.old out.new result }
 {
-    match route_text(alloc, plan, from, to) {
+    match told(alloc, plan, question, from, to) {
         Ok(text) => tell(out, &text, Status::Done),
         Err(OutOfMemory) => Status::OutOfMemory,
     }
 }
 
-// What `route` with these names answers of the input.
-fn route_input<K: Sink>(alloc: Global, from: &str, to: &str, bytes: &[u8], out: &mut K) -> Status
-    ensures { IsAnswered K.written K.faults (Route from.now to.now) bytes.now
+// What `route` or `best` with these names answers of the input.
+fn ask_input<K: Sink>(
+    alloc: Global,
+    question: Question,
+    from: &str,
+    to: &str,
+    bytes: &[u8],
+    out: &mut K,
+) -> Status
+    ensures { IsAnswered K.written K.faults (Ask question from.now to.now) bytes.now
         out.old out.new result }
 {
     match read_plan(alloc, bytes) {
-        Ok(plan) => tell_routes(alloc, &plan, from, to, out),
+        Ok(plan) => tell_ends(alloc, &plan, question, from, to, out),
         Err(PlanError::Fault(fault)) => refuse(alloc, fault, out),
         Err(PlanError::OutOfMemory) => Status::OutOfMemory,
     }
@@ -219,7 +264,10 @@ fn judge<K: Sink>(alloc: Global, words: &[String], task: Task, bytes: &[u8], out
     match task {
         Task::Run => run_input(alloc, bytes, out),
         Task::Decode => decode_input(alloc, bytes, out),
-        Task::Route => route_input(alloc, word_at(words, 1), word_at(words, 2), bytes, out),
+        Task::Ask(question) => {
+            let from = word_at(words, 1);
+            ask_input(alloc, question, from, word_at(words, 2), bytes, out)
+        }
     }
 }
 
@@ -242,9 +290,10 @@ fn answer<S: Source, K: Sink>(alloc: Global, words: &[String], src: &mut S, out:
 
 /// Answers the words, those after the program's name. `run` reads a plan, runs its script and writes what each line
 /// prints as it is done, or tells the plan's first fault. `route` and two names read a plan and write the least route
-/// between these nodes, its backup and the potentials, or the first fault. `decode` reads lines of RSVP messages in
-/// hexadecimal and writes what each says. If the sink fails the status is `WriteFault`; after that and after `OutOfMemory` a first part
-/// is written.
+/// between these nodes, its backup and the potentials, or the first fault. `best` and two names read one and write the
+/// pair of disjoint routes with the least total, or that there is none, and that its certificate was accepted, or the
+/// first fault. `decode` reads lines of RSVP messages in hexadecimal and writes what each says. If the sink fails the
+/// status is `WriteFault`; after that and after `OutOfMemory` a first part is written.
 pub fn ason<S: Source, K: Sink>(alloc: Global, words: &[String], src: &mut S, out: &mut K) -> Status
     ensures answer { (r : Reply)
         × IsReply S.left S.handed S.ended S.faults (map string_bytes words.now) src.old src.new r

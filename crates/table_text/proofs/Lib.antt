@@ -1,3 +1,4 @@
+pub mod BestPairs
 pub mod FoundRoutes
 pub mod PlanRows
 pub mod TextParts

@@ -1,5 +1,5 @@
 -- Routes can be asked of the rows of a topology's links.
-use Rattle.std.proofs.Common.{◌≡◌, ◌≢◌, ◌<◌, ◌≤◌, ℕ, suc, true, nat_eq, List, [], ◌∷◌, length, map, refl, ap, subst, arith, Contains}
+use Rattle.std.proofs.Common.{◌≡◌, ◌≢◌, ◌∙◌, ◌<◌, ◌≤◌, ℕ, suc, true, nat_eq, List, [], ◌∷◌, length, map, refl, sym, ap, subst, arith, Contains}
 use Rattle.std.specs.Prelude.{◌&&◌, nat_le}
 use Rattle.std.specs.List.{AllByRecursion}
 use Rattle.std.proofs.lemmas.List.Elements.{All-from_recursion}
@@ -93,3 +93,9 @@ rows-searchable t valid = record {
       (each-row _ t.nodes (λ l e. metric-is l (link-metric t.nodes l e)) t.links (each-link t valid));
   links = distinct 0 t.links (links-rise t valid);
 }
+
+-- the rows that are searched are those of the plan
+pub searchable : (t : Network) (links : List LinkSpec) (rows : List TeRow) → IsTopology t → links ≡ t.links →
+    rows ≡ map row_of links → AreSearchable rows
+searchable t links rows valid own are =
+    subst AreSearchable (sym (are ∙ ap (map row_of) own)) (rows-searchable t valid)

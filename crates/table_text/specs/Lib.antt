@@ -1,3 +1,5 @@
+pub mod BestText
+pub mod EndsText
 pub mod FaultText
 pub mod RouteText
 pub mod TableText

@@ -1,5 +1,5 @@
 -- The text of the least route between two nodes of a plan, of its backup, and of each node's potential.
-use Rattle.std.specs.Prelude.{ℕ, ◌==◌, List, [], ◌∷◌, ◌++◌, codes, find, map, Option, Some, None, option_map, if◌then◌else◌}
+use Rattle.std.specs.Prelude.{ℕ, ◌==◌, List, [], ◌∷◌, ◌++◌, codes, find, map, Option, Some, None, option_map, Result, Ok, Err}
 use Rattle.std.specs.List.{flat_map}
 use Rattle.std.specs.Fmt.{decimal}
 use Rattle.ason_base.specs.declared.ids.NodeId.{NodeId}
@@ -9,8 +9,9 @@ use Rattle.ason_base.specs.declared.steps.Step.{Step}
 use Rattle.ason_base.specs.Network.{row_of}
 use Rattle.mesh_rules.specs.LeastRoutes.{Trip, least_backup, least_trip}
 use Rattle.plan_reader.specs.declared.plan.Plan.{Plan}
-use Rattle.plan_reader.specs.PlanTexts.{node_named}
+use Rattle.table_text.specs.EndsText.{ends_fault_text, ends_of}
 use Rattle.table_text.specs.TableText.{node_name}
+use Rattle.table_text.specs.declared.ends.EndsFault.{EndsFault}
 
 -- the rows of the plan's own links
 abbrev pub plan_rows : Plan → List TeRow
@@ -76,25 +77,13 @@ routes_text p from to =
 
 -- Names
 
-abbrev pub no_node_text : List ℕ → List ℕ
-no_node_text name = codes "no node " ++ name ++ codes "\n"
+abbrev pub told_between : Plan → List ℕ → List ℕ → Result (NodeId × NodeId) EndsFault → List ℕ
+told_between p from to (Err fault) = ends_fault_text from to fault
+told_between p from to (Ok ends) = routes_text p ends.0 ends.1
 
-abbrev pub between_text : Plan → NodeId → NodeId → List ℕ
-between_text p from to = if from.0 == to.0 then codes "same node\n" else routes_text p from to
-
--- the first name that the plan doesn't have
-abbrev pub named_text : Plan → List ℕ → List ℕ → Option NodeId → Option NodeId → List ℕ
-named_text p from to None end = no_node_text from
-named_text p from to (Some start) None = no_node_text to
-named_text p from to (Some start) (Some end) = between_text p start end
-
--- the node of this name
-abbrev pub plan_node : Plan → List ℕ → Option NodeId
-plan_node p name = node_named p.node_names p.topology.nodes name
-
--- what is told of the routes between the nodes of these names
+-- what is told of the routes between the nodes of these names, or that they aren't two nodes of the plan
 abbrev pub route_text : Plan → List ℕ → List ℕ → List ℕ
-route_text p from to = named_text p from to (plan_node p from) (plan_node p to)
+route_text p from to = told_between p from to (ends_of p from to)
 
 -- What is written of routes that were found
 

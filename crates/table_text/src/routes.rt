@@ -3,12 +3,15 @@
 ghost use Rattle.std.specs.Prelude.{◌≡◌, ◌++◌, ◌∷◌, [], codes, IfOk, OnOk, map, string_bytes};
 ghost use Rattle.std.specs.List.{flat_map};
 ghost use Rattle.ason_base.specs.Network.{IsTopology, row_of};
-ghost use Rattle.table_text.specs.RouteText.{backup_line, found_text, links_text, more_link, no_node_text, node_line, plan_node, potential_in, potential_text, potentials_text, primary_line, route_line, route_text, routes_text};
+ghost use Rattle.table_text.specs.RouteText.{found_text, links_text, more_link, node_line, potential_in};
+ghost use Rattle.table_text.specs.RouteText.{potential_text, potentials_text, primary_line, route_line};
+ghost use Rattle.table_text.specs.RouteText.{route_text, routes_text};
 ghost use Rattle.ason_base.specs.Texts.{Appends};
 
+use crate::ends::{ends_fault_text, ends_of};
 use crate::table::node_name;
 use ason_base::{LinkSpec, NodeId, NodeSpec, OutOfMemory, Step, TeRow};
-use plan_reader::{Plan, node_named};
+use plan_reader::Plan;
 use route_least::{Found, RouteNetwork};
 use route_pair::{Pair, PairFault, pair_in};
 use std::alloc::Global;
@@ -29,30 +32,10 @@ fn told(alloc: Global, plan: &Plan, from: &str, to: &str) -> Result<String, OutO
     requires { IsTopology plan.now.topology }
     ensures { IfOk result (λ text. string_bytes text ≡ route_text plan.now from.now to.now) }
 {
-    let Some(start) = named(plan, from) else {
-        return no_node(alloc, from);
-    };
-    let Some(end) = named(plan, to) else {
-        return no_node(alloc, to);
-    };
-    if start == end {
-        let text = String::from_str(alloc, "same node\n")?;
-        return Ok(text);
+    match ends_of(plan, from, to) {
+        Ok((start, end)) => between(alloc, plan, start, end),
+        Err(fault) => ends_fault_text(alloc, from, to, fault),
     }
-    between(alloc, plan, start, end)
-}
-
-fn named(plan: &Plan, name: &str) -> Option<NodeId>
-    ensures { result ≡ plan_node plan.now name.now }
-{
-    node_named(&plan.node_names, plan.topology.nodes(), name.as_bytes())
-}
-
-fn no_node(alloc: Global, name: &str) -> Result<String, OutOfMemory>
-    ensures { IfOk result (λ text. string_bytes text ≡ no_node_text name.now) }
-{
-    let text = format!(in alloc; "no node {name}\n")?;
-    Ok(text)
 }
 
 // The pair of routes, searched in one network that is prepared from the rows.
@@ -70,7 +53,8 @@ fn between(alloc: Global, plan: &Plan, from: NodeId, to: NodeId) -> Result<Strin
     }
 }
 
-fn rows_of(alloc: Global, links: &[LinkSpec]) -> Result<Vec<TeRow>, OutOfMemory>
+/// The rows of these links.
+pub(crate) fn rows_of(alloc: Global, links: &[LinkSpec]) -> Result<Vec<TeRow>, OutOfMemory>
     ensures { IfOk result (λ rows. rows.items ≡ map row_of links.now) }
 {
     let mut rows = Vec::with_capacity(alloc, links.len())?;
@@ -90,8 +74,18 @@ fn both_told(alloc: Global, plan: &Plan, pair: &Pair) -> Result<String, OutOfMem
         pair.now.primary.potential) }
 {
     let mut text = String::new(alloc);
-    push_route(&mut text, "primary", &pair.primary)?;
-    push_route(&mut text, "backup", &pair.backup)?;
+    push_route(
+        &mut text,
+        "primary",
+        pair.primary.route.items(),
+        pair.primary.cost,
+    )?;
+    push_route(
+        &mut text,
+        "backup",
+        pair.backup.route.items(),
+        pair.backup.cost,
+    )?;
     push_potentials(&mut text, plan, pair.primary.potential.items())?;
     Ok(text)
 }
@@ -102,7 +96,7 @@ fn primary_told(alloc: Global, plan: &Plan, primary: &Found) -> Result<String, O
         primary.now.potential) }
 {
     let mut text = String::new(alloc);
-    push_route(&mut text, "primary", primary)?;
+    push_route(&mut text, "primary", primary.route.items(), primary.cost)?;
     text.push_str("no backup\n")?;
     push_potentials(&mut text, plan, primary.potential.items())?;
     Ok(text)
@@ -121,13 +115,17 @@ fn none_told(
     Ok(text)
 }
 
-fn push_route(text: &mut String, word: &str, found: &Found) -> Result<(), OutOfMemory>
-    ensures { OnOk result
-        (Appends text.old text.new (route_line word.now found.now.route found.now.cost)) }
+/// The line of a route of this cost.
+pub(crate) fn push_route(
+    text: &mut String,
+    word: &str,
+    steps: &[Step],
+    cost: u32,
+) -> Result<(), OutOfMemory>
+    ensures { OnOk result (Appends text.old text.new (route_line word.now steps.now cost)) }
 {
-    let cost = found.cost;
     write!(text, "{word} {cost} ")?;
-    push_links(text, found.route.items())?;
+    push_links(text, steps)?;
     text.push_str("\n")?;
     Ok(())
 }

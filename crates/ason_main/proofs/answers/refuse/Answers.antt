@@ -1,6 +1,6 @@
 use Rattle.std.proofs.Common.{subst}
 use Rattle.ason_main.specs.declared.answers.Status.{Status}
-use Rattle.ason_main.specs.Answers.{PlanRefused, Route, Run, WasTold}
+use Rattle.ason_main.specs.Answers.{Ask, PlanRefused, Run, WasTold}
 use Rattle.ason_main.proofs.Replies.{no_memory}
 use Rattle.ason_main.proofs.answers.refuse.Goals as goal
 
@@ -14,8 +14,8 @@ returns-in-Ok-clause-run g c bs plan = (
       c.deref.ensures.value c.tell.ensures,
 )
 
-pub returns-in-Ok-clause-route : goal.returns-in-Ok-clause-route
-returns-in-Ok-clause-route g c bs from to plan = (
+pub returns-in-Ok-clause-ask : goal.returns-in-Ok-clause-ask
+returns-in-Ok-clause-ask g c question bs from to plan = (
   PlanRefused c.in-Ok.text.items,
   (c.args.fault, plan, c.in-Ok.ensures),
   subst
@@ -27,6 +27,6 @@ returns-in-Ok-clause-route g c bs from to plan = (
 pub returns-in-Err-clause-run : goal.returns-in-Err-clause-run
 returns-in-Err-clause-run g c bs plan = no_memory g.K.Sink.written g.K.Sink.faults Run bs c.args.out.now
 
-pub returns-in-Err-clause-route : goal.returns-in-Err-clause-route
-returns-in-Err-clause-route g c bs from to plan =
-    no_memory g.K.Sink.written g.K.Sink.faults (Route from to) bs c.args.out.now
+pub returns-in-Err-clause-ask : goal.returns-in-Err-clause-ask
+returns-in-Err-clause-ask g c question bs from to plan =
+    no_memory g.K.Sink.written g.K.Sink.faults (Ask question from to) bs c.args.out.now

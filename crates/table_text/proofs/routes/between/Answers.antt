@@ -1,8 +1,7 @@
-use Rattle.std.proofs.Common.{◌≡◌, ◌∙◌, ◌++◌, ℕ, List, ap, codes, map, string_bytes, subst, sym}
+use Rattle.std.proofs.Common.{◌≡◌, ◌∙◌, ◌++◌, ℕ, List, ap, codes, map, string_bytes, subst}
 use Rattle.ason_base.specs.declared.ids.NodeId.{NodeId}
-use Rattle.ason_base.specs.declared.network.LinkSpec.{LinkSpec}
 use Rattle.ason_base.specs.declared.network.TeRow.{TeRow}
-use Rattle.ason_base.specs.Network.{IsTopology, Network, row_of}
+use Rattle.ason_base.specs.Network.{IsTopology, row_of}
 use Rattle.ason_base.specs.Walks.{NoLink, NoNode}
 use Rattle.ason_base.proofs.Results.{if_ok}
 use Rattle.route_least.specs.Answers.{JoinsNone}
@@ -12,14 +11,8 @@ use Rattle.mesh_nodes.specs.Routes.{AreSearchable}
 use Rattle.plan_reader.specs.declared.plan.Plan.{Plan}
 use Rattle.table_text.specs.RouteText.{found_text, plan_rows, primary_line, route_line, routes_text}
 use Rattle.table_text.proofs.FoundRoutes.{both_told, none_told, primary_told}
-use Rattle.table_text.proofs.PlanRows.{rows-searchable}
+use Rattle.table_text.proofs.PlanRows.{rows-searchable, searchable}
 use Rattle.table_text.proofs.routes.between.Goals as goal
-
--- the rows that are searched are those of the plan
-searchable : (t : Network) (links : List LinkSpec) (rows : List TeRow) → IsTopology t → links ≡ t.links →
-    rows ≡ map row_of links → AreSearchable rows
-searchable t links rows valid own are =
-    subst AreSearchable (sym (are ∙ ap (map row_of) own)) (rows-searchable t valid)
 
 pub new-requires-clause-ends : goal.new-requires-clause-ends
 new-requires-clause-ends c =

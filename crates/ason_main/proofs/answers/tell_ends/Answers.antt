@@ -1,8 +1,8 @@
 use Rattle.std.proofs.Common.{subst}
 use Rattle.ason_main.specs.declared.answers.Status.{Status}
-use Rattle.ason_main.specs.Answers.{Done, Route, WasTold}
+use Rattle.ason_main.specs.Answers.{Ask, Done, WasTold}
 use Rattle.ason_main.proofs.Replies.{no_memory}
-use Rattle.ason_main.proofs.answers.tell_routes.Goals as goal
+use Rattle.ason_main.proofs.answers.tell_ends.Goals as goal
 
 pub returns-in-Ok : goal.returns-in-Ok
 returns-in-Ok g c bs plan = (
@@ -15,4 +15,5 @@ returns-in-Ok g c bs plan = (
 
 pub returns-in-Err : goal.returns-in-Err
 returns-in-Err g c bs plan =
-    no_memory g.K.Sink.written g.K.Sink.faults (Route c.args.from.now c.args.to.now) bs c.args.out.now
+    no_memory g.K.Sink.written g.K.Sink.faults (Ask c.args.question c.args.from.now c.args.to.now) bs
+    c.args.out.now

@@ -1,0 +1,34 @@
+use Rattle.std.proofs.Common.{◌∙◌, ap, inl, inr, map, string_bytes, subst}
+use Rattle.ason_base.specs.Network.{row_of}
+use Rattle.ason_base.proofs.Results.{if_ok}
+use Rattle.table_text.specs.BestText.{TellsNoPair}
+use Rattle.table_text.proofs.PlanRows.{searchable}
+use Rattle.table_text.proofs.best.between.Goals as goal
+
+pub best-requires-clause-metrics : goal.best-requires-clause-metrics
+best-requires-clause-metrics c =
+    (searchable c.args.plan.now.topology _ _ c.requires c.links.ensures.list
+    (c.deref.ensures.value ∙ c.in_ok-rows.ensures)).metrics
+
+pub best-requires-clause-links : goal.best-requires-clause-links
+best-requires-clause-links c =
+    (searchable c.args.plan.now.topology _ _ c.requires c.links.ensures.list
+    (c.deref.ensures.value ∙ c.in_ok-rows.ensures)).links
+
+pub pair_told-requires-clause-links : goal.pair_told-requires-clause-links
+pair_told-requires-clause-links c =
+    (searchable c.args.plan.now.topology _ _ c.requires c.links.ensures.list
+    (c.deref-in-Ok.ensures.value ∙ c.in_ok-rows.ensures)).links
+
+pub none_told-requires-clause-links : goal.none_told-requires-clause-links
+none_told-requires-clause-links c =
+    (searchable c.args.plan.now.topology _ _ c.requires c.links.ensures.list
+    (c.deref-in-Err-NoPair.ensures.value ∙ c.in_ok-rows.ensures)).links
+
+pub returns-in-Err-NoPair : goal.returns-in-Err-NoPair
+returns-in-Err-NoPair c =
+    let same = c.deref-in-Err-NoPair.ensures.value
+    ∙ (c.in_ok-rows.ensures ∙ ap (map row_of) c.links.ensures.list) in
+    if_ok c.none_told.result _ _
+    (λ text told. inr (inl (subst
+    (λ rows. TellsNoPair rows c.args.from c.args.to (string_bytes text)) same told))) c.none_told.ensures

@@ -1,0 +1,76 @@
+-- The text of the best pair of routes between two nodes of a plan.
+use Rattle.std.specs.Prelude.{◌≡◌, ◌⊎◌, ℕ, ◌==◌, Bool, List, ◌++◌, codes, find, sum_by, Some, None, option_map, unwrap_or, Result, Ok, Err, if◌then◌else◌}
+use Rattle.std.specs.Fmt.{decimal}
+use Rattle.ason_base.specs.declared.ids.LinkId.{LinkId}
+use Rattle.ason_base.specs.declared.ids.NodeId.{NodeId}
+use Rattle.ason_base.specs.declared.network.TeRow.{TeRow}
+use Rattle.ason_base.specs.declared.steps.Step.{Step}
+use Rattle.pair_search.specs.Answers.{IsSmall}
+use Rattle.pair_search.specs.Certificates.{Certifies}
+use Rattle.pair_search.specs.Pairs.{HasNoPair, IsBestPair, Weighed}
+use Rattle.pair_search.specs.declared.cert.Cert.{Cert}
+use Rattle.plan_reader.specs.declared.plan.Plan.{Plan}
+use Rattle.table_text.specs.EndsText.{ends_fault_text, ends_of}
+use Rattle.table_text.specs.RouteText.{plan_rows, primary_line, route_line}
+use Rattle.table_text.specs.declared.ends.EndsFault.{EndsFault}
+
+-- Lines
+
+-- whether the certificate was accepted
+abbrev pub certificate_line : Bool → List ℕ
+certificate_line accepted = if accepted then codes "certificate yes\n" else codes "certificate no\n"
+
+abbrev pub total_line : ℕ → List ℕ
+total_line total = codes "total " ++ decimal total ++ codes "\n"
+
+-- the pair with the costs of its two routes
+abbrev pub pair_lines : Weighed → ℕ → ℕ → List ℕ
+pair_lines best cost more =
+    total_line best.total ++ primary_line best.primary cost ++ route_line (codes "backup") best.backup more
+
+-- Answers
+
+-- the best pair, of which a certificate shows that none has a lesser total
+pub record TellsBest (rows : List TeRow) (from to : NodeId) (text : List ℕ) : Type 0 where
+  pub small : IsSmall rows
+  pub best : Weighed
+  pub pair : IsBestPair rows from to best
+  pub cert : Cert
+  pub certified : Certifies rows from to (Some best.total) cert
+  pub told : text ≡ pair_lines best pair.cost pair.more ++ codes "certificate yes\n"
+
+-- that there is no pair, and a certificate that shows it
+pub record TellsNoPair (rows : List TeRow) (from to : NodeId) (text : List ℕ) : Type 0 where
+  pub small : IsSmall rows
+  pub none : HasNoPair rows from to
+  pub cert : Cert
+  pub certified : Certifies rows from to None cert
+  pub told : text ≡ codes "no pair\n" ++ codes "certificate yes\n"
+
+-- that there are more than 24 rows, or more than 16 nodes are their ends
+pub record TellsTooLarge (rows : List TeRow) (text : List ℕ) : Type 0 where
+  pub large : ¬ IsSmall rows
+  pub told : text ≡ codes "too large\n"
+
+-- what is told of the best pair between these nodes
+abbrev pub IsBestBetween : List TeRow → NodeId → NodeId → List ℕ → Type 0
+IsBestBetween rows from to text =
+    TellsBest rows from to text ⊎ (TellsNoPair rows from to text ⊎ TellsTooLarge rows text)
+
+abbrev pub IsBestOf : Plan → List ℕ → List ℕ → Result (NodeId × NodeId) EndsFault → List ℕ → Type 0
+IsBestOf p from to (Err fault) text = text ≡ ends_fault_text from to fault
+IsBestOf p from to (Ok ends) text = IsBestBetween (plan_rows p) ends.0 ends.1 text
+
+-- what is told of the best pair between the nodes of these names, or that they aren't two nodes of the plan
+abbrev pub IsBestText : Plan → List ℕ → List ℕ → List ℕ → Type 0
+IsBestText p from to text = IsBestOf p from to (ends_of p from to) text
+
+-- What is written of a pair that was found
+
+-- the metric of a link's row, 0 where it has none
+abbrev pub metric_of : List TeRow → LinkId → ℕ
+metric_of rows link = unwrap_or (option_map (λ row. row.metric) (find (λ row. row.link.0 == link.0) rows)) 0
+
+-- the cost of a walk: the sum of the metrics of its links
+abbrev pub cost_of : List TeRow → List Step → ℕ
+cost_of rows steps = sum_by (λ s. metric_of rows s.link) steps
