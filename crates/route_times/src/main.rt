@@ -1,25 +1,31 @@
 //! Searches the route pairs of all two nodes of a network, for who takes the time. The network is read, a line
 //! `LINK LOW HIGH METRIC SRLG` for each link in order of number; nodes are 1 to 64. The first word is how often all pairs are
 //! searched before the last time; with `each` as the second word a network is prepared for each pair, else one for all. Printed
-//! are the number of pairs and the sum of the costs of their primary routes.
+//! are the number of pairs and the sum of the costs of their primary routes. With the one word `trees` the best pairs are
+//! searched, and a line `FROM TO TOTAL PLACES` is printed for each two nodes: the total, or `-` without a pair, and how many
+//! places the tree of the certificate has.
 #![tactic(auto)]
 
 ghost use Rattle.ason_base.specs.Walks.{HaveDistinctLinks, HaveFewEnds, HaveMetrics};
 ghost use Rattle.route_least.specs.Network.{IsNetworkOf};
 
 mod graph;
+mod trees;
 
 use ason_base::{NodeId, OutOfMemory, TeRow};
+use pair_search::BestFault;
 use route_least::RouteNetwork;
 use route_pair::{PairFault, pair_in};
 use std::alloc::Global;
 use std::{env, io};
+use trees::Searched;
 
 /// What the words ask for.
 #[derive(Clone, Copy, Debug, Drop)]
 struct Request {
     times: u32,
     each: bool,
+    trees: bool,
 }
 
 fn request_of(words: &[String]) -> Request {
@@ -29,6 +35,7 @@ fn request_of(words: &[String]) -> Request {
             .and_then(|word| word.parse::<u32>().ok())
             .unwrap_or(0),
         each: words.get(1).is_some_and(|word| word.as_str() == "each"),
+        trees: words.first().is_some_and(|word| word.as_str() == "trees"),
     }
 }
 
@@ -132,6 +139,46 @@ fn search_often(
     search_all(alloc, rows, pairs, request.each)
 }
 
+fn tell_trees(
+    rt: &HostRuntime,
+    alloc: Global,
+    rows: &[TeRow],
+    pairs: &[(NodeId, NodeId)],
+) -> io::Result<()>
+    requires metrics { HaveMetrics rows.now }
+    requires links { HaveDistinctLinks rows.now }
+{
+    for pair in pairs {
+        tell_tree(rt, *pair, &trees::search(alloc, rows, *pair))?;
+    }
+    Ok(())
+}
+
+fn tell_tree(
+    rt: &HostRuntime,
+    pair: (NodeId, NodeId),
+    searched: &Result<Searched, BestFault>,
+) -> io::Result<()> {
+    let from = pair.0.0;
+    let to = pair.1.0;
+    match searched {
+        Ok(
+            Searched {
+                total: Some(total),
+                places,
+            },
+        ) => println!(rt; "{from} {to} {total} {places}"),
+        Ok(
+            Searched {
+                total: None,
+                places,
+            },
+        ) => println!(rt; "{from} {to} - {places}"),
+        Err(BestFault::TooLarge) => println!(rt; "too large"),
+        Err(_) => println!(rt; "out of memory"),
+    }
+}
+
 fn search_network(
     rt: &HostRuntime,
     alloc: Global,
@@ -145,6 +192,9 @@ fn search_network(
     let Ok(pairs) = pairs_to(alloc, last) else {
         return println!(rt; "out of memory");
     };
+    if request.trees {
+        return tell_trees(rt, alloc, rows, &pairs);
+    }
     let count = pairs.len();
     match search_often(alloc, rows, &pairs, request) {
         Ok(sum) => println!(rt; "pairs {count} cost {sum}"),
