@@ -34,9 +34,10 @@ abbrev pub Tells : List (List Entry) → Option Picked → Type 0
 Tells ls None = total ls ≡ 0
 Tells ls (Some p) = IsLeast ls p
 
-none_of : (f : Entry → Bool) (ls : List (List Entry)) → HasNone f ls → flat_map (filter f) ls ≡ []
-none_of f [] all = refl
-none_of f (l ∷ ls) all = ap (λ xs. xs ++ flat_map (filter f) ls) all.0 ∙ none_of f ls all.1
+-- lists without a line that passes
+pub none-of : (f : Entry → Bool) (ls : List (List Entry)) → HasNone f ls → flat_map (filter f) ls ≡ []
+none-of f [] all = refl
+none-of f (l ∷ ls) all = ap (λ xs. xs ++ flat_map (filter f) ls) all.0 ∙ none-of f ls all.1
 
 all_before : (e f : Entry) (ls : List (List Entry)) → IsBefore e f → AllIn f ls → AllIn e ls
 all_before e f [] b all = tt
@@ -105,9 +106,9 @@ passes l ls p here all is = record {
     here_alone : (f : Entry → Bool) → HasNone f ls → IsKept f (l ∷ ls) q
     here_alone f h = let r = is.none f h in record {
       whole =
-          ap (λ xs. filter f l ++ xs) (none_of f ls h)
+          ap (λ xs. filter f l ++ xs) (none-of f ls h)
           ∙ sym (ap (λ xs. xs ++ (filter f l ++ flat_map (filter f) p.left)) (no_head f p.entry r.entry)
-          ∙ ap (λ xs. filter f l ++ xs) (none_of f p.left r.left));
+          ∙ ap (λ xs. filter f l ++ xs) (none-of f p.left r.left));
       still = inr r.left;
     }
 

@@ -1,0 +1,4 @@
+pub mod Counts
+pub mod Heads
+pub mod Lines
+pub mod Logs
