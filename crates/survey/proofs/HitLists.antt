@@ -1,0 +1,180 @@
+-- What a group hits of the calls as a survey keeps them is what it hits by the rows.
+use Rattle.std.proofs.Common.{◌≡◌, ℕ, Bool, true, false, cond, nat_eq, map, List, [], ◌∷◌, refl, sym, ap, ◌∙◌, subst, arith, Contains}
+use Rattle.std.specs.Prelude.{◌&&◌, ◌||◌, not, filter, flat_map, Option, Some, None}
+use Rattle.std.specs.List.{list_any}
+use Rattle.std.proofs.lemmas.List.Elements.{filter_agree}
+use Rattle.ason_base.specs.Lsps.{is_lsp, same_bool}
+use Rattle.ason_base.specs.Network.{Network, find_link, is_distinct}
+use Rattle.ason_base.specs.declared.calls.CallRow.{CallRow}
+use Rattle.ason_base.specs.declared.calls.LegRow.{LegRow}
+use Rattle.ason_base.specs.declared.commands.Group.{Group}
+use Rattle.ason_base.specs.declared.ids.CallNo.{CallNo}
+use Rattle.ason_base.specs.declared.ids.LinkId.{LinkId}
+use Rattle.ason_base.specs.declared.ids.NodeId.{NodeId}
+use Rattle.ason_base.specs.declared.network.LinkSpec.{LinkSpec}
+use Rattle.ason_base.proofs.Ordered.{any-there, same_test, there-any}
+use Rattle.mesh_rules.specs.Failures.{is_cut, is_risk_of}
+use Rattle.mesh_rules.specs.Legs.{is_beyond_asked, is_label, is_work}
+use Rattle.mesh_nodes.proofs.routes.Lists.{contains-kept, contains-map, contains-unkept, contains-unmap}
+use Rattle.mesh_nodes.proofs.routes.Nodes.{find-there, found-link}
+use Rattle.mesh_laws.specs.AloneLaw.{is_on_link}
+use Rattle.mesh_laws.specs.Survey.{hit_of, hits, hits_of, groups_of, is_guarded_row, is_link, is_live, leads_over, numbers_of, takes_at}
+use Rattle.mesh_laws.proofs.alone.Risks.{found-passes, link-found}
+use Rattle.survey.specs.declared.views.CallView.{CallView}
+use Rattle.survey.specs.Groups.{hit_in, hit_numbers, hit_with, is_hit, is_hit_so, is_over, links_of, with_links}
+use Rattle.survey.specs.Views.{is_guarded, is_live_leg, is_reserved_leg, takes, view_of}
+use Rattle.survey.proofs.Joins.{any-agree, any-filter, filter-both, filter-map, flat-agree, flat-map}
+
+-- Tests
+
+and-live : (a b c d : Bool) → ((a && (b && c)) && d) ≡ (a && (b && (c && d)))
+and-live true true c d = refl
+and-live true false c d = refl
+and-live false b c d = refl
+
+and-swap : (a b c : Bool) → ((a && b) && c) ≡ (a && (c && b))
+and-swap true true true = refl
+and-swap true true false = refl
+and-swap true false true = refl
+and-swap true false false = refl
+and-swap false b c = refl
+
+and-taken : (a b c d e : Bool) → ((a && b) && ((c && d) && e)) ≡ (a && (c && (b && (d && e))))
+and-taken false b c d e = refl
+and-taken true true true d e = refl
+and-taken true true false d e = refl
+and-taken true false true d e = refl
+and-taken true false false d e = refl
+
+and-none : (a b : Bool) → (a || b) ≡ true → b ≡ false → a ≡ true
+and-none true b e f = refl
+and-none false b e f = sym f ∙ e
+
+-- Links
+
+-- the links of the group are those of which it is a risk
+pub over-is : (t : Network) (g : Group) → is_distinct (map (λ (l : LinkSpec). l.id.0) t.links) ≡ true →
+    (k : Option LinkId) → is_over (links_of g t.links) k ≡ leads_over t g k
+over-is t g once None = refl
+over-is t g once (Some k) = same_test _ _ to from
+  where
+    to : list_any (λ (l : LinkId). nat_eq l.0 k.0) (links_of g t.links) ≡ true → is_on_link t g k ≡ true
+    to e =
+        let m = any-there (λ (l : LinkId). nat_eq l.0 k.0) (links_of g t.links) e in
+        let l = contains-unmap (λ (x : LinkSpec). x.id) (filter (λ x. is_cut (g ∷ []) x) t.links) m.0 m.1 in
+        let kept = contains-unkept (λ x. is_cut (g ∷ []) x) t.links l.0 l.1 in
+        let risk : is_risk_of l.0 g ≡ true = and-none (is_risk_of l.0 g) false kept.1 refl in
+        let test = m.2 in
+        let is : l.0.id.0 ≡ m.0.0 = ap (λ (x : LinkId). x.0) l.2 in
+        let number : l.0.id.0 ≡ k.0 = grind arith in
+        let same : l.0.id ≡ k = (λ i. record { 0 = number i }) in
+        let found : find_link t k ≡ Some l.0 =
+        subst (λ x. find_link t x ≡ Some l.0) same (found-link t.links l.0 once kept.0) in
+        rw found risk
+
+    from : is_on_link t g k ≡ true → list_any (λ (l : LinkId). nat_eq l.0 k.0) (links_of g t.links) ≡ true
+    from e =
+        let l = link-found t g k e in
+        let there : Contains t.links l.0 = find-there (λ m. nat_eq m.id.0 k.0) t.links l.0 l.1 in
+        let number : nat_eq l.0.id.0 k.0 ≡ true = found-passes (λ m. nat_eq m.id.0 k.0) t.links l.0 l.1 in
+        let cut : is_cut (g ∷ []) l.0 ≡ true = rw l.2 refl in
+        there-any (λ (x : LinkId). nat_eq x.0 k.0) (links_of g t.links) l.0.id
+        (contains-map (λ (x : LinkSpec). x.id) (filter (λ x. is_cut (g ∷ []) x) t.links) l.0
+        (contains-kept (λ x. is_cut (g ∷ []) x) t.links l.0 there cut))
+        number
+
+-- One call
+
+pub hit-is : (t : Network) (legs : List LegRow) (g : Group) →
+    is_distinct (map (λ (l : LinkSpec). l.id.0) t.links) ≡ true → (c : CallRow) →
+    is_hit (with_links t.links g) (view_of legs c) ≡ hits t legs g c
+hit-is t legs g once c =
+    any-filter (is_live_leg c.work) (λ r. is_over (links_of g t.links) r.out_link) legs
+    ∙ any-agree _ _ (λ r. ap (λ b. is_live_leg c.work r && b) (over-is t g once r.out_link)
+    ∙ and-live (is_lsp c.work r.lsp) (is_work r.role) (is_live r.phase) (leads_over t g r.out_link)) legs
+
+pub guarded-is : (legs : List LegRow) (c : CallRow) → is_guarded (view_of legs c) ≡ is_guarded_row legs c
+guarded-is legs c =
+    any-filter (is_reserved_leg c.back) (λ r. nat_eq r.node.0 c.ingress.0) legs
+    ∙ any-agree _ _ (λ r. and-swap (is_lsp c.back r.lsp) (is_beyond_asked r.phase) (nat_eq r.node.0 c.ingress.0)) legs
+
+pub takes-is : (legs : List LegRow) (n : NodeId) (k : LinkId) (x : ℕ) (c : CallRow) →
+    takes n k x (view_of legs c) ≡ takes_at legs n k x c
+takes-is legs n k x c =
+    any-filter (is_reserved_leg c.back) _ legs
+    ∙ any-agree _ _ (λ r. and-taken (is_lsp c.back r.lsp) (is_beyond_asked r.phase) (nat_eq r.node.0 n.0)
+    (is_link r.in_link k) (is_label r.in_label x)) legs
+
+-- All calls
+
+same-true : (a : Bool) → same_bool a true ≡ a
+same-true true = refl
+same-true false = refl
+
+same-false : (a : Bool) → same_bool a false ≡ not a
+same-false true = refl
+same-false false = refl
+
+swap : (a b : Bool) → (a && b) ≡ (b && a)
+swap true true = refl
+swap true false = refl
+swap false true = refl
+swap false false = refl
+
+map-map : (legs : List LegRow) (calls : List CallRow) →
+    map (λ (v : CallView). v.call.call) (map (view_of legs) calls) ≡ numbers_of calls
+map-map legs [] = refl
+map-map legs (c ∷ calls) = ap (λ t. c.call ∷ t) (map-map legs calls)
+
+-- the numbers of those that are hit and pass a test
+numbers-are : (t : Network) (legs : List LegRow) (g : Group) (guarded : Bool) (p : CallRow → Bool) →
+    is_distinct (map (λ (l : LinkSpec). l.id.0) t.links) ≡ true →
+    ((c : CallRow) → same_bool (is_guarded (view_of legs c)) guarded ≡ p c) → (calls : List CallRow) →
+    hit_numbers (with_links t.links g) guarded (map (view_of legs) calls)
+    ≡ numbers_of (filter p (filter (hits t legs g) calls))
+numbers-are t legs g guarded p once test calls =
+    ap (map (λ (v : CallView). v.call.call))
+    (filter-map (view_of legs) (is_hit_so (with_links t.links g) guarded) calls)
+    ∙ map-map legs (filter (λ c. is_hit_so (with_links t.links g) guarded (view_of legs c)) calls)
+    ∙ ap numbers_of (filter_agree _ (λ c. hits t legs g c && p c) (λ c.
+    ap (λ b. b && is_hit (with_links t.links g) (view_of legs c)) (test c)
+    ∙ ap (λ b. p c && b) (hit-is t legs g once c) ∙ swap (p c) (hits t legs g c)) calls)
+    ∙ ap numbers_of (sym (filter-both (hits t legs g) p calls))
+
+with-bare : (g : Group) (guarded : List CallNo) (n : CallNo) (bare : List CallNo) →
+    hit_with g guarded (n ∷ bare) ≡ record { group = g; guarded = guarded; bare = n ∷ bare } ∷ []
+with-bare g [] n bare = refl
+with-bare g (m ∷ guarded) n bare = refl
+
+parted : (legs : List LegRow) (g : Group) (calls : List CallRow) →
+    hit_with g (numbers_of (filter (is_guarded_row legs) calls))
+    (numbers_of (filter (λ d. not (is_guarded_row legs d)) calls))
+    ≡ hit_of legs g calls
+parted legs g [] = refl
+parted legs g (c ∷ calls) =
+    go (is_guarded_row legs c) (filter (is_guarded_row legs) calls) (filter (λ d. not (is_guarded_row legs d)) calls)
+  where
+    go : (b : Bool) (guarded bare : List CallRow) →
+        hit_with g (numbers_of (cond b (c ∷ guarded) guarded)) (numbers_of (cond (not b) (c ∷ bare) bare))
+        ≡ record {
+          group = g;
+          guarded = numbers_of (cond b (c ∷ guarded) guarded);
+          bare = numbers_of (cond (not b) (c ∷ bare) bare);
+        } ∷ []
+    go true guarded bare = refl
+    go false guarded bare = with-bare g (numbers_of guarded) c.call (numbers_of bare)
+
+-- what each group hits, as the rows tell it
+pub hits-are : (t : Network) (calls : List CallRow) (legs : List LegRow) →
+    is_distinct (map (λ (l : LinkSpec). l.id.0) t.links) ≡ true →
+    flat_map (hit_in (map (view_of legs) calls)) (map (with_links t.links) (groups_of t)) ≡ hits_of t calls legs
+hits-are t calls legs once =
+    flat-map (with_links t.links) (hit_in (map (view_of legs) calls)) (groups_of t)
+    ∙ flat-agree _ _ (λ g.
+    ap (λ x. hit_with g x (hit_numbers (with_links t.links g) false (map (view_of legs) calls)))
+    (numbers-are t legs g true (is_guarded_row legs) once
+    (λ c. same-true (is_guarded (view_of legs c)) ∙ guarded-is legs c) calls)
+    ∙ ap (hit_with g (numbers_of (filter (is_guarded_row legs) (filter (hits t legs g) calls))))
+    (numbers-are t legs g false (λ c. not (is_guarded_row legs c)) once
+    (λ c. same-false (is_guarded (view_of legs c)) ∙ ap not (guarded-is legs c)) calls)
+    ∙ parted legs g (filter (hits t legs g) calls)) (groups_of t)

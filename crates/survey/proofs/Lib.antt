@@ -1,0 +1,4 @@
+pub mod GroupLists
+pub mod Joins
+pub mod HitLists
+pub mod ContendLists

@@ -1,0 +1,4 @@
+pub mod Groups
+pub mod Meetings
+pub mod Slots
+pub mod Views

@@ -1,0 +1,48 @@
+-- Which two calls would contend for a shared label if two groups failed.
+use Rattle.std.specs.Prelude.{◌==◌, ◌&&◌, ◌++◌, Bool, List, [], ◌∷◌, filter, flat_map, if◌then◌else◌}
+use Rattle.std.specs.List.{list_any}
+use Rattle.ason_base.specs.declared.calls.CallRow.{CallRow}
+use Rattle.ason_base.specs.declared.commands.Group.{Group}
+use Rattle.mesh_laws.specs.Survey.{of_two}
+use Rattle.mesh_laws.specs.declared.survey.Contend.{Contend}
+use Rattle.survey.specs.declared.groups.GroupLinks.{GroupLinks}
+use Rattle.survey.specs.declared.slots.Slot.{Slot}
+use Rattle.survey.specs.declared.views.CallView.{CallView}
+use Rattle.survey.specs.Groups.{is_hit}
+
+-- the group hits a call of the label
+abbrev pub is_met : GroupLinks → Slot → Bool
+is_met g s = list_any (is_hit g) s.takers
+
+-- the group hits a call of one of the labels
+abbrev pub is_met_at_all : List Slot → GroupLinks → Bool
+is_met_at_all slots g = list_any (is_met g) slots
+
+abbrev pub is_same_call : CallRow → CallRow → Bool
+is_same_call a b = a.call.0 == b.call.0 && a.ingress.0 == b.ingress.0
+
+-- these two calls of the label
+abbrev pub two_meet : (Group × Group) → Slot → CallRow → CallRow → List Contend
+two_meet groups s a b = of_two groups.0 groups.1 s.fibre.link s.fibre.forward s.label a b
+
+-- and if the second group hits the other one
+abbrev pub other_meets : Group → GroupLinks → Slot → CallView → CallView → List Contend
+other_meets g h s a b = if is_hit h b then two_meet (g, h.group) s a.call b.call else []
+
+-- this call with each that the second group hits
+abbrev pub others_meet : Group → GroupLinks → Slot → CallView → List Contend
+others_meet g h s a = flat_map (other_meets g h s a) s.takers
+
+-- each that the first group hits with each that the second group hits
+abbrev pub slot_meet : GroupLinks → GroupLinks → Slot → List Contend
+slot_meet g h s = flat_map (others_meet g.group h s) (filter (is_hit g) s.takers)
+
+-- on each of these labels
+abbrev pub groups_meet : List Slot → GroupLinks → GroupLinks → List Contend
+groups_meet slots g h = flat_map (slot_meet g h) slots
+
+-- of each two groups, over the labels of which the first one hits a call
+abbrev pub all_meet : List Slot → List GroupLinks → List Contend
+all_meet slots [] = []
+all_meet slots (g ∷ groups) =
+    flat_map (groups_meet (filter (is_met g) slots) g) groups ++ all_meet slots groups

@@ -1,0 +1,43 @@
+-- Labels that the backups of two guarded calls or more share.
+use Rattle.std.specs.Prelude.{◌&&◌, ◌++◌, ◌≤◌, if◌then◌else◌, ℕ, Bool, true, false, List, [], ◌∷◌, filter, flat_map}
+use Rattle.ason_base.specs.declared.calls.LegRow.{LegRow}
+use Rattle.ason_base.specs.declared.ids.Fibre.{Fibre}
+use Rattle.ason_base.specs.declared.ids.LinkId.{LinkId}
+use Rattle.ason_base.specs.declared.ids.NodeId.{NodeId}
+use Rattle.ason_base.specs.declared.network.LinkSpec.{LinkSpec}
+use Rattle.mesh_laws.specs.Survey.{end_of, label_in, labels_at}
+use Rattle.survey.specs.declared.slots.Slot.{Slot}
+use Rattle.survey.specs.declared.views.CallView.{CallView}
+use Rattle.survey.specs.Views.{is_guarded, is_on_fibre, takes, uses}
+
+abbrev pub IsLabel : ℕ → Type 0
+IsLabel x = (1 ≤ x) × (x ≤ 80)
+
+-- the row's label, if the row is of the fibre that comes in over this link at this node
+abbrev pub fibre_label : NodeId → LinkId → LegRow → List ℕ
+fibre_label n k r = if is_on_fibre n k r then label_in r.in_label else []
+
+-- a guarded call whose backup has a label of the fibre that comes in over this link at this node
+abbrev pub is_user : NodeId → LinkId → CallView → Bool
+is_user n k v = is_guarded v && uses n k v
+
+abbrev pub users_of : List CallView → NodeId → LinkId → List CallView
+users_of views n k = filter (is_user n k) views
+
+-- the label of the fibre with these calls, where they are two or more
+abbrev pub shared : Fibre → ℕ → List CallView → List Slot
+shared f x [] = []
+shared f x (v ∷ []) = []
+shared f x (v ∷ w ∷ views) = record { fibre = f; label = x; takers = v ∷ w ∷ views } ∷ []
+
+abbrev pub slot_at : LinkSpec → Bool → List CallView → ℕ → List Slot
+slot_at l forward users x =
+    shared (record { link = l.id; forward = forward }) x (filter (takes (end_of l forward) l.id x) users)
+
+abbrev pub fibre_slots : List LegRow → List CallView → LinkSpec → Bool → List Slot
+fibre_slots legs views l forward =
+    flat_map (slot_at l forward (users_of views (end_of l forward) l.id)) (labels_at legs (end_of l forward) l.id)
+
+-- of the fibre to the high end, and then of the other
+abbrev pub link_slots : List LegRow → List CallView → LinkSpec → List Slot
+link_slots legs views l = fibre_slots legs views l true ++ fibre_slots legs views l false
