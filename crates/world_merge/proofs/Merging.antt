@@ -23,18 +23,18 @@ record Runs (t : Network) (hists : Histories) (w : World) (m : List Entry) : Typ
   parts : (n : ℕ) → Agrees n (after t w (events_of m)) (alone t (at n) (hists n))
 
 runs : (t : Network) (hists : Histories) → AreHistories t hists → (m : List Entry) (s : ℕ) → Ascends s m → (w : World)
-    (before todo : ℕ → List Deed) → Fits t hists w before todo m → Runs t hists w m
-runs t hists are [] s up w before todo f = record {
+    (before ahead : ℕ → List Deed) → Fits t hists w before ahead m → Runs t hists w m
+runs t hists are [] s up w before ahead f = record {
   run = tt;
   parts = λ n. subst (λ ds. Agrees n w (alone t (at n) ds)) (sym (all n)) (f.world n);
 }
   where
     all : (n : ℕ) → hists n ≡ before n
-    all n = f.whole n ∙ ap (λ ds. before n ++ ds) (no_lines (at n) (todo n) (f.lines n)) ∙ append-nil (before n)
-runs t hists are (e ∷ m) s up w before todo f =
-    let one = one-step t hists are w before todo e m s up f e.node refl in
-    let rest = runs t hists are m e.stamp up.1 (step t w e.event) (λ n. moved (concerns n e) (before n) (todo n))
-    (λ n. left (concerns n e) (todo n)) (next t hists w (step t w e.event) before todo e m f one.agree) in
+    all n = f.whole n ∙ ap (λ ds. before n ++ ds) (no_lines (at n) (ahead n) (f.lines n)) ∙ append-nil (before n)
+runs t hists are (e ∷ m) s up w before ahead f =
+    let one = one-step t hists are w before ahead e m s up f e.node refl in
+    let rest = runs t hists are m e.stamp up.1 (step t w e.event) (λ n. moved (concerns n e) (before n) (ahead n))
+    (λ n. left (concerns n e) (ahead n)) (next t hists w (step t w e.event) before ahead e m f one.agree) in
     record { run = (one.enabled, rest.run); parts = rest.parts }
 
 -- the nodes' parts make a world

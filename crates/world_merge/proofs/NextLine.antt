@@ -94,16 +94,16 @@ same_number : (a b : ℕ) → nat_eq a b ≡ true → b ≡ a
 same_number a b e = grind arith
 
 -- The line's event is enabled, and after it each node has what it made alone, of this node the next deed with it.
-pub record IsStep (t : Network) (w : World) (before todo : ℕ → List Deed) (e : Entry) : Type 0 where
+pub record IsStep (t : Network) (w : World) (before ahead : ℕ → List Deed) (e : Entry) : Type 0 where
   pub enabled : IsEnabled t w e.event
   pub agree : (n : ℕ) (b : Bool) → concerns n e ≡ b →
-      Agrees n (step t w e.event) (alone t (at n) (moved b (before n) (todo n)))
+      Agrees n (step t w e.event) (alone t (at n) (moved b (before n) (ahead n)))
 
 -- a node's deed
-node_step : (t : Network) (hists : Histories) → AreHistories t hists → (w : World) (before todo : ℕ → List Deed)
-    (e : Entry) (m : List Entry) (s : ℕ) → Ascends s (e ∷ m) → Fits t hists w before todo (e ∷ m) → (k : NodeId) →
-    e.node ≡ Some k → (d : Deed) (ds : List Deed) → todo k.0 ≡ d ∷ ds → IsStep t w before todo e
-node_step t hists are w before todo e m s up f k node d ds front = record {
+node_step : (t : Network) (hists : Histories) → AreHistories t hists → (w : World) (before ahead : ℕ → List Deed)
+    (e : Entry) (m : List Entry) (s : ℕ) → Ascends s (e ∷ m) → Fits t hists w before ahead (e ∷ m) → (k : NodeId) →
+    e.node ≡ Some k → (d : Deed) (ds : List Deed) → ahead k.0 ≡ d ∷ ds → IsStep t w before ahead e
+node_step t hists are w before ahead e m s up f k node d ds front = record {
   enabled = subst (IsEnabled t w) (sym it) is.1.enabled;
   agree = agree;
 }
@@ -112,7 +112,7 @@ node_step t hists are w before todo e m s up f k node d ds front = record {
     here = ap (is_at k.0) node ∙ self_test k.0
 
     lines : e ∷ part k.0 m ≡ line_of k d ∷ map (line_of k) ds
-    lines = own-lines t hists w before todo e m k.0 (d ∷ ds) f here front
+    lines = own-lines t hists w before ahead e m k.0 (d ∷ ds) f here front
 
     line : e ≡ line_of k d
     line = cc (lines)
@@ -136,7 +136,7 @@ node_step t hists are w before todo e m s up f k node d ds front = record {
     there (Ticked r) g same = tt
     there (Handled r) g same = tt
     there (Took r u i x) g same =
-        sent-before t hists w before todo (e ∷ m) k.0 u.0 r i x f (omega (arith, same), up.1) g
+        sent-before t hists w before ahead (e ∷ m) k.0 u.0 r i x f (omega (arith, same), up.1) g
     there (Heard r u bytes) g same = tt
     there (Posted r c) g same = tt
 
@@ -151,9 +151,9 @@ node_step t hists are w before todo e m s up f k node d ds front = record {
     does : step t w e.event ≡ done t k w d
     does = ap (step t w) it ∙ is.1.does
 
-    own : Agrees k.0 (step t w e.event) (alone t k (before k.0 ++ first (todo k.0)))
+    own : Agrees k.0 (step t w e.event) (alone t k (before k.0 ++ first (ahead k.0)))
     own =
-        subst (λ x. Agrees k.0 x (alone t k (before k.0 ++ first (todo k.0)))) (sym does)
+        subst (λ x. Agrees k.0 x (alone t k (before k.0 ++ first (ahead k.0)))) (sym does)
         (subst (λ xs. Agrees k.0 (done t k w d) (alone t k (before k.0 ++ first xs))) (sym front)
         (subst (Agrees k.0 (done t k w d)) (sym (alone-more t k (start t) (before k.0) (d ∷ [])))
         (same-done t k d w v (f.world k.0))))
@@ -162,9 +162,9 @@ node_step t hists are w before todo e m s up f k node d ds front = record {
     at_k n = ap (is_at n) node
 
     agree : (n : ℕ) (b : Bool) → concerns n e ≡ b →
-        Agrees n (step t w e.event) (alone t (at n) (moved b (before n) (todo n)))
+        Agrees n (step t w e.event) (alone t (at n) (moved b (before n) (ahead n)))
     agree n true c =
-        subst (λ j. Agrees j (step t w e.event) (alone t (at j) (before j ++ first (todo j))))
+        subst (λ j. Agrees j (step t w e.event) (alone t (at j) (before j ++ first (ahead j))))
         (sym (same_number k.0 n (sym (at_k n) ∙ c))) own
     agree n false c =
         then-agrees n (step t w e.event) w (alone t (at n) (before n))
@@ -180,22 +180,22 @@ posted_is n e (Took s u k x) is none = absurd (cc (ap (λ (y : Entry). y.node) i
 posted_is n e (Heard s u bytes) is none = absurd (cc (ap (λ (x : Entry). x.node) is, none))
 posted_is n e (Posted s c) is none = (s, c, refl, ap (λ (x : Entry). x.event) is)
 
-record IsPosted (t : Network) (w : World) (before todo : ℕ → List Deed) (e : Entry) (n : ℕ)
+record IsPosted (t : Network) (w : World) (before ahead : ℕ → List Deed) (e : Entry) (n : ℕ)
     (c : Command) : Type 0 where
   enabled : IsEnabled t w (Post c)
-  agree : Agrees n (step t w (Post c)) (alone t (at n) (before n ++ first (todo n)))
+  agree : Agrees n (step t w (Post c)) (alone t (at n) (before n ++ first (ahead n)))
 
-post_at : (t : Network) (hists : Histories) → AreHistories t hists → (w : World) (before todo : ℕ → List Deed)
-    (e : Entry) (m : List Entry) → Fits t hists w before todo (e ∷ m) → e.node ≡ None → (n : ℕ) (xs : List Deed) →
-    todo n ≡ xs → (c : Command) × (e.event ≡ Post c) × IsPosted t w before todo e n c
-post_at t hists are w before todo e m f none n [] front =
-    let lines : e ∷ part n m ≡ [] = own-lines t hists w before todo e m n [] f (ap (is_at n) none) front in
+post_at : (t : Network) (hists : Histories) → AreHistories t hists → (w : World) (before ahead : ℕ → List Deed)
+    (e : Entry) (m : List Entry) → Fits t hists w before ahead (e ∷ m) → e.node ≡ None → (n : ℕ) (xs : List Deed) →
+    ahead n ≡ xs → (c : Command) × (e.event ≡ Post c) × IsPosted t w before ahead e n c
+post_at t hists are w before ahead e m f none n [] front =
+    let lines : e ∷ part n m ≡ [] = own-lines t hists w before ahead e m n [] f (ap (is_at n) none) front in
     absurd (cc (lines))
-post_at t hists are w before todo e m f none n (d ∷ ds) front =
+post_at t hists are w before ahead e m f none n (d ∷ ds) front =
     (is.1, is.3, record { enabled = enabled; agree = agree })
   where
     lines : e ∷ part n m ≡ line_of (at n) d ∷ map (line_of (at n)) ds
-    lines = own-lines t hists w before todo e m n (d ∷ ds) f (ap (is_at n) none) front
+    lines = own-lines t hists w before ahead e m n (d ∷ ds) f (ap (is_at n) none) front
 
     line : e ≡ line_of (at n) d
     line = cc (lines)
@@ -217,7 +217,7 @@ post_at t hists are w before todo e m f none n (d ∷ ds) front =
     enabled : IsEnabled t w (Post is.1)
     enabled = subst (λ ps. IsTrue (is_valid t is.1 && not (is_again ps is.1))) (sym (f.world n).posted) may
 
-    agree : Agrees n (step t w (Post is.1)) (alone t (at n) (before n ++ first (todo n)))
+    agree : Agrees n (step t w (Post is.1)) (alone t (at n) (before n ++ first (ahead n)))
     agree =
         subst (λ xs. Agrees n (step t w (Post is.1)) (alone t (at n) (before n ++ first xs))) (sym front)
         (subst (λ x. Agrees n (step t w (Post is.1)) (alone t (at n) (before n ++ x ∷ []))) (sym is.2)
@@ -225,33 +225,33 @@ post_at t hists are w before todo e m f none n (d ∷ ds) front =
         (sym (alone-more t (at n) (start t) (before n) (Posted is.0 is.1 ∷ [])))
         (same-posted t n is.1 w v (f.world n))))
 
-post_step : (t : Network) (hists : Histories) → AreHistories t hists → (w : World) (before todo : ℕ → List Deed)
-    (e : Entry) (m : List Entry) → Fits t hists w before todo (e ∷ m) → e.node ≡ None → IsStep t w before todo e
-post_step t hists are w before todo e m f none = record {
-  enabled = let p = post_at t hists are w before todo e m f none 0 (todo 0) refl in
+post_step : (t : Network) (hists : Histories) → AreHistories t hists → (w : World) (before ahead : ℕ → List Deed)
+    (e : Entry) (m : List Entry) → Fits t hists w before ahead (e ∷ m) → e.node ≡ None → IsStep t w before ahead e
+post_step t hists are w before ahead e m f none = record {
+  enabled = let p = post_at t hists are w before ahead e m f none 0 (ahead 0) refl in
       subst (IsEnabled t w) (sym p.1) p.2.enabled;
   agree = agree;
 }
   where
     agree : (n : ℕ) (b : Bool) → concerns n e ≡ b →
-        Agrees n (step t w e.event) (alone t (at n) (moved b (before n) (todo n)))
+        Agrees n (step t w e.event) (alone t (at n) (moved b (before n) (ahead n)))
     agree n true c =
-        let p = post_at t hists are w before todo e m f none n (todo n) refl in
-        subst (λ x. Agrees n (step t w x) (alone t (at n) (before n ++ first (todo n)))) (sym p.1) p.2.agree
+        let p = post_at t hists are w before ahead e m f none n (ahead n) refl in
+        subst (λ x. Agrees n (step t w x) (alone t (at n) (before n ++ first (ahead n)))) (sym p.1) p.2.agree
     agree n false c = absurd (cc (c, ap (is_at n) none))
 
 -- the first line of those that are left
-pub one-step : (t : Network) (hists : Histories) → AreHistories t hists → (w : World) (before todo : ℕ → List Deed)
-    (e : Entry) (m : List Entry) (s : ℕ) → Ascends s (e ∷ m) → Fits t hists w before todo (e ∷ m) →
-    (o : Option NodeId) → e.node ≡ o → IsStep t w before todo e
-one-step t hists are w before todo e m s up f None node = post_step t hists are w before todo e m f node
-one-step t hists are w before todo e m s up f (Some k) node = go (todo k.0) refl
+pub one-step : (t : Network) (hists : Histories) → AreHistories t hists → (w : World) (before ahead : ℕ → List Deed)
+    (e : Entry) (m : List Entry) (s : ℕ) → Ascends s (e ∷ m) → Fits t hists w before ahead (e ∷ m) →
+    (o : Option NodeId) → e.node ≡ o → IsStep t w before ahead e
+one-step t hists are w before ahead e m s up f None node = post_step t hists are w before ahead e m f node
+one-step t hists are w before ahead e m s up f (Some k) node = go (ahead k.0) refl
   where
     here : concerns k.0 e ≡ true
     here = ap (is_at k.0) node ∙ self_test k.0
 
-    go : (xs : List Deed) → todo k.0 ≡ xs → IsStep t w before todo e
+    go : (xs : List Deed) → ahead k.0 ≡ xs → IsStep t w before ahead e
     go [] front =
-        let lines : e ∷ part k.0 m ≡ [] = own-lines t hists w before todo e m k.0 [] f here front in
+        let lines : e ∷ part k.0 m ≡ [] = own-lines t hists w before ahead e m k.0 [] f here front in
         absurd (cc (lines))
-    go (d ∷ ds) front = node_step t hists are w before todo e m s up f k node d ds front
+    go (d ∷ ds) front = node_step t hists are w before ahead e m s up f k node d ds front

@@ -18,18 +18,19 @@ numbered_more cs more zero x is = absurd (cc (is))
 numbered_more cs more (suc k) x is = get-append_left cs more k x is
 
 -- Where the next lines have at least this stamp, a frame that was sent with a lower one is there.
-pub sent-before : (t : Network) (hists : Histories) (w : World) (before todo : ℕ → List Deed) (m : List Entry) (n u : ℕ)
-    (s k : ℕ) (x : Content) → Fits t hists w before todo m → Ascends s m →
+pub sent-before : (t : Network) (hists : Histories) (w : World) (before ahead : ℕ → List Deed) (m : List Entry)
+    (n u : ℕ)
+    (s k : ℕ) (x : Content) → Fits t hists w before ahead m → Ascends s m →
     IsGenuine t hists n (Took s (at u) k x) → numbered_at (w.channels u n) k ≡ Some x
-sent-before t hists w before todo m n u s k x f up real =
+sent-before t hists w before ahead m n u s k x f up real =
     ap (λ cs. numbered_at cs k) ((f.world u).channels n ∙ grown)
     ∙ numbered_more (sent_by t (at u) (upto real.0 (hists u)) n) more.more k x real.2
   where
-    late : Later real.0 (todo u)
-    late = later real.0 s (at u) (todo u) real.1 (subst (Above s) (f.lines u) (part-above s u m up))
+    late : Later real.0 (ahead u)
+    late = later real.0 s (at u) (ahead u) real.1 (subst (Above s) (f.lines u) (part-above s u m up))
 
-    inside : IsWithin real.0 (before u) (todo u)
-    inside = within real.0 (before u) (todo u) late
+    inside : IsWithin real.0 (before u) (ahead u)
+    inside = within real.0 (before u) (ahead u) late
 
     whole : before u ≡ upto real.0 (hists u) ++ inside.rest
     whole = inside.whole ∙ ap (λ ds. upto real.0 ds ++ inside.rest) (sym (f.whole u))

@@ -90,17 +90,18 @@ within s (d ∷ ds) es all =
 -- What is done, and what is to be done
 
 -- The world is where the merge has come to: of each node a first part is done there, and the rest stands in the list.
-pub record Fits (t : Network) (hists : Histories) (w : World) (before todo : ℕ → List Deed)
+pub record Fits (t : Network) (hists : Histories) (w : World) (before ahead : ℕ → List Deed)
     (m : List Entry) : Type 0 where
   pub world : (n : ℕ) → Agrees n w (alone t (at n) (before n))
-  pub lines : (n : ℕ) → part n m ≡ map (line_of (at n)) (todo n)
-  pub whole : (n : ℕ) → hists n ≡ before n ++ todo n
+  pub lines : (n : ℕ) → part n m ≡ map (line_of (at n)) (ahead n)
+  pub whole : (n : ℕ) → hists n ≡ before n ++ ahead n
 
 -- where the first line is of this node, it is that of the node's next deed
-pub own-lines : (t : Network) (hists : Histories) (w : World) (before todo : ℕ → List Deed) (e : Entry) (m : List Entry)
-    (n : ℕ) (ds : List Deed) → Fits t hists w before todo (e ∷ m) → concerns n e ≡ true → todo n ≡ ds →
+pub own-lines : (t : Network) (hists : Histories) (w : World) (before ahead : ℕ → List Deed) (e : Entry)
+    (m : List Entry)
+    (n : ℕ) (ds : List Deed) → Fits t hists w before ahead (e ∷ m) → concerns n e ≡ true → ahead n ≡ ds →
     e ∷ part n m ≡ map (line_of (at n)) ds
-own-lines t hists w before todo e m n ds f here front =
+own-lines t hists w before ahead e m n ds f here front =
     sym (ap (λ b. cond b (e ∷ part n m) (part n m)) here) ∙ f.lines n ∙ ap (map (line_of (at n))) front
 
 abbrev pub first : List Deed → List Deed
@@ -128,21 +129,21 @@ tail_lines n e p [] is = absurd (cc (is))
 tail_lines n e p (d ∷ ds) is = cc (is)
 
 -- once the first line is done, the world fits the other lines
-pub next : (t : Network) (hists : Histories) (w v : World) (before todo : ℕ → List Deed) (e : Entry) (m : List Entry) →
-    Fits t hists w before todo (e ∷ m) →
-    ((n : ℕ) (b : Bool) → concerns n e ≡ b → Agrees n v (alone t (at n) (moved b (before n) (todo n)))) →
-    Fits t hists v (λ n. moved (concerns n e) (before n) (todo n)) (λ n. left (concerns n e) (todo n)) m
-next t hists w v before todo e m f agree = record {
+pub next : (t : Network) (hists : Histories) (w v : World) (before ahead : ℕ → List Deed) (e : Entry) (m : List Entry) →
+    Fits t hists w before ahead (e ∷ m) →
+    ((n : ℕ) (b : Bool) → concerns n e ≡ b → Agrees n v (alone t (at n) (moved b (before n) (ahead n)))) →
+    Fits t hists v (λ n. moved (concerns n e) (before n) (ahead n)) (λ n. left (concerns n e) (ahead n)) m
+next t hists w v before ahead e m f agree = record {
   world = λ n. agree n (concerns n e) refl;
   lines = λ n. lines n (concerns n e) (f.lines n);
   whole = λ n. f.whole n ∙ whole n (concerns n e);
 }
   where
-    lines : (n : ℕ) (b : Bool) → cond b (e ∷ part n m) (part n m) ≡ map (line_of (at n)) (todo n) →
-        part n m ≡ map (line_of (at n)) (left b (todo n))
-    lines n true is = tail_lines (at n) e (part n m) (todo n) is
+    lines : (n : ℕ) (b : Bool) → cond b (e ∷ part n m) (part n m) ≡ map (line_of (at n)) (ahead n) →
+        part n m ≡ map (line_of (at n)) (left b (ahead n))
+    lines n true is = tail_lines (at n) e (part n m) (ahead n) is
     lines n false is = is
 
-    whole : (n : ℕ) (b : Bool) → before n ++ todo n ≡ moved b (before n) (todo n) ++ left b (todo n)
-    whole n true = seam (before n) (todo n)
+    whole : (n : ℕ) (b : Bool) → before n ++ ahead n ≡ moved b (before n) (ahead n) ++ left b (ahead n)
+    whole n true = seam (before n) (ahead n)
     whole n false = refl
