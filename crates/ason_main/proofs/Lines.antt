@@ -8,9 +8,9 @@ use Rattle.ason_base.specs.declared.commands.Event.TheVariants as event
 use Rattle.ason_base.specs.declared.ids.NodeId.{NodeId}
 use Rattle.ason_base.specs.Network.{Network}
 use Rattle.mesh_rules.specs.Rows.{all_call_rows, all_leg_rows}
-use Rattle.world_core.specs.Images.{IsQuiet, image}
-use Rattle.world_core.specs.Runs.{IsEnabled}
-use Rattle.world_core.specs.Worlds.{World}
+use Rattle.world_rules.specs.Images.{IsQuiet, image}
+use Rattle.world_rules.specs.Runs.{IsEnabled}
+use Rattle.world_rules.specs.Worlds.{World}
 use Rattle.station.specs.Histories.{History, with_event, world_after}
 use Rattle.fleet.specs.Laws.{QuietIsTheWorlds}
 use Rattle.fleet.specs.Rounds.{is_quiet, items_waiting, rows_waiting, settled, unacked_waiting, waited}

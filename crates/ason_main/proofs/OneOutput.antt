@@ -8,9 +8,9 @@ use Rattle.ason_base.specs.Network.{Network}
 use Rattle.mesh_rules.specs.Machine.{Mesh}
 use Rattle.mesh_laws.specs.CallLaw.{CallsFit}
 use Rattle.mesh_laws.specs.HopLaw.{HasOneLegEach}
-use Rattle.world_core.specs.Images.{image}
-use Rattle.world_core.specs.Runs.{after}
-use Rattle.world_core.specs.Worlds.{World, start}
+use Rattle.world_rules.specs.Images.{image}
+use Rattle.world_rules.specs.Runs.{after}
+use Rattle.world_rules.specs.Worlds.{World, start}
 use Rattle.station.specs.Histories.{History, new_history, world_after}
 use Rattle.plan_reader.specs.declared.lines.Line.{Line}
 use Rattle.plan_reader.specs.declared.lines.Line.TheVariants.{Post, Settle, Show, Wait}

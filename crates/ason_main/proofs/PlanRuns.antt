@@ -10,9 +10,9 @@ use Rattle.mesh_rules.specs.Events as mesh_runs
 use Rattle.mesh_rules.specs.Machine as mesh
 use Rattle.mesh_rules.specs.Quiet as mesh_quiet
 use Rattle.mesh_laws.specs.Laws.{LawsHold}
-use Rattle.world_core.specs.Images.{IsQuiet, image, mesh_events}
-use Rattle.world_core.specs.Runs.{IsRun, after, events_of}
-use Rattle.world_core.specs.Worlds.{start}
+use Rattle.world_rules.specs.Images.{IsQuiet, image, mesh_events}
+use Rattle.world_rules.specs.Runs.{IsRun, after, events_of}
+use Rattle.world_rules.specs.Worlds.{start}
 use Rattle.station.specs.Histories.{new_history}
 use Rattle.fleet.specs.Running.{IsRunning}
 use Rattle.fleet.specs.Standing.{FleetState, StandsFor}

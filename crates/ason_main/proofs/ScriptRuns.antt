@@ -12,8 +12,8 @@ use Rattle.ason_base.specs.Network.{Network}
 use Rattle.mesh_rules.specs.Commands.{is_again, is_valid}
 use Rattle.flood.specs.declared.frames.Content.{Content}
 use Rattle.flood.specs.declared.frames.Content.TheVariants.{Message, Flood}
-use Rattle.world_core.specs.Worlds.{World, delivered, frame_at, handed_up, handled, taken, with_event as counted}
-use Rattle.world_core.specs.Runs.{IsRun, posted, step}
+use Rattle.world_rules.specs.Worlds.{World, delivered, frame_at, handed_up, handled, taken, with_event as counted}
+use Rattle.world_rules.specs.Runs.{IsRun, posted, step}
 use Rattle.station.specs.Histories.{History, if_able, made_by, popped, stopped_at, with_event, with_event_over, world_after}
 use Rattle.station.proofs.Doing.{world-with}
 use Rattle.fleet.specs.Rounds.{settled, waited}

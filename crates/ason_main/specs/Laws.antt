@@ -1,5 +1,5 @@
 -- The laws on which a run rests.
-use Rattle.world_core.specs.Laws.{EventsAreCounted, EveryImageHasTheLaws, EveryRunIsShown, JoinedKnowTheLinks, JoinedKnowTheSame, QuietIsShown, TopologiesFindEach}
+use Rattle.world_rules.specs.Laws.{EventsAreCounted, EveryImageHasTheLaws, EveryRunIsShown, JoinedKnowTheLinks, JoinedKnowTheSame, QuietIsShown, TopologiesFindEach}
 use Rattle.fleet.specs.Laws.{PostsAreRunning, SettlingGoesOn, SettlingIsRunning, TheStartIsRunning, WaitingGoesOn, WaitingIsRunning}
 
 -- the laws of worlds, and of posts and rounds

@@ -18,10 +18,10 @@ use Rattle.mesh_rules.specs.Rows.{all_call_rows, all_leg_rows}
 use Rattle.mesh_laws.specs.AloneLaw.{Alone}
 use Rattle.mesh_laws.specs.Laws.{LawsHold}
 use Rattle.mesh_laws.specs.RestorationLaw.{IsRestored, is_guarded}
-use Rattle.world_core.specs.Worlds.{World, start}
-use Rattle.world_core.specs.Runs.{IsRun, after, events_of}
-use Rattle.world_core.specs.Images.{IsQuiet, image, mesh_events}
-use Rattle.world_core.specs.Laws.{IsShown, KnowTheLinks, KnowTheSame}
+use Rattle.world_rules.specs.Worlds.{World, start}
+use Rattle.world_rules.specs.Runs.{IsRun, after, events_of}
+use Rattle.world_rules.specs.Images.{IsQuiet, image, mesh_events}
+use Rattle.world_rules.specs.Laws.{IsShown, KnowTheLinks, KnowTheSame}
 use Rattle.station.specs.Histories.{History, new_history, with_event, world_after}
 use Rattle.fleet.specs.Rounds.{is_quiet, items_waiting, rows_waiting, settled, unacked_waiting, waited}
 use Rattle.plan_reader.specs.declared.lines.Line.{Line}

@@ -8,14 +8,14 @@ use Rattle.flood.specs.declared.frames.Content.TheVariants.{Flood}
 use Rattle.flood.specs.declared.messages.FloodMsg.{FloodMsg}
 use Rattle.flood.specs.Frames.{IsFrame, SpellsNothing}
 use Rattle.flood.specs.State.{FloodState, learnt_of, received, sends_after}
-use Rattle.node_core.specs.Nodes.{NodeView}
-use Rattle.controller.specs.declared.adjacencies.Adjacency.{Adjacency}
-use Rattle.controller.specs.declared.frames.Frame.{Frame}
-use Rattle.controller.specs.declared.inputs.CoreInput.{CoreInput}
-use Rattle.controller.specs.declared.inputs.CoreInput.TheVariants as input
-use Rattle.controller.specs.Adjacencies.{rested}
-use Rattle.controller.specs.Controllers.{AreMade, IsReaction, IsUnambiguous, Parts, flood_after, floods_to, frame_step, idle_step, parts, with_learnt}
-use Rattle.controller.specs.Frames.{AllSpelled, frames_to}
+use Rattle.node_rules.specs.Nodes.{NodeView}
+use Rattle.control_channels.specs.declared.adjacencies.Adjacency.{Adjacency}
+use Rattle.control_channels.specs.declared.frames.Frame.{Frame}
+use Rattle.control_channels.specs.declared.inputs.CoreInput.{CoreInput}
+use Rattle.control_channels.specs.declared.inputs.CoreInput.TheVariants as input
+use Rattle.control_channels.specs.Adjacencies.{rested}
+use Rattle.control_channels.specs.Controllers.{AreMade, IsReaction, IsUnambiguous, Parts, flood_after, floods_to, frame_step, idle_step, parts, with_learnt}
+use Rattle.control_channels.specs.Frames.{AllSpelled, frames_to}
 
 pub frame-reaction : {T E : Type 0} (r : Result T E) (out : T → List Frame) (c d : Parts) (i : CoreInput) (u : NodeId)
     (bytes given : List ℕ) → i ≡ input.Frame u bytes → given ≡ bytes →

@@ -16,18 +16,18 @@ use Rattle.mesh_rules.specs.Changes.{changed}
 use Rattle.mesh_rules.specs.Events.{on_first}
 use Rattle.mesh_rules.specs.Orders.{on_item}
 use Rattle.mesh_rules.specs.Waits.{on_tick}
-use Rattle.node_core.specs.declared.inputs.Input.TheVariants as input
-use Rattle.node_core.specs.Nodes.{NodeView, stepped}
-use Rattle.controller.specs.declared.adjacencies.Adjacency.{Adjacency}
-use Rattle.controller.specs.declared.frames.Frame.{Frame}
-use Rattle.controller.specs.Adjacencies.{ArePrepared, again_to, aged, committed, hop_at, next_at, packets_on, peer_numbers, prepared_at, rested, sent_on, taken_by}
-use Rattle.controller.specs.Answers.{body_answer}
-use Rattle.controller.specs.Controllers.{Becomes, IsMade, acks_to, after_tick, floods_to, handed_body, handled, heard_hops, meaning, took}
-use Rattle.controller.specs.Frames.{AllSpelled, Sending, frames_to, sent_frame}
-use Rattle.controller.proofs.Keeping.{heard-sent}
-use Rattle.controller.proofs.Later.{packets-later, sent-later}
-use Rattle.controller.proofs.Spelled.{both-spelled}
-use Rattle.controller.proofs.Resting.{committed-rests, hop-committed, next-aged, peers-aged, peers-committed, same-hop, same-peers}
+use Rattle.node_rules.specs.declared.inputs.Input.TheVariants as input
+use Rattle.node_rules.specs.Nodes.{NodeView, stepped}
+use Rattle.control_channels.specs.declared.adjacencies.Adjacency.{Adjacency}
+use Rattle.control_channels.specs.declared.frames.Frame.{Frame}
+use Rattle.control_channels.specs.Adjacencies.{ArePrepared, again_to, aged, committed, hop_at, next_at, packets_on, peer_numbers, prepared_at, rested, sent_on, taken_by}
+use Rattle.control_channels.specs.Answers.{body_answer}
+use Rattle.control_channels.specs.Controllers.{Becomes, IsMade, acks_to, after_tick, floods_to, handed_body, handled, heard_hops, meaning, took}
+use Rattle.control_channels.specs.Frames.{AllSpelled, Sending, frames_to, sent_frame}
+use Rattle.control_channels.proofs.Keeping.{heard-sent}
+use Rattle.control_channels.proofs.Later.{packets-later, sent-later}
+use Rattle.control_channels.proofs.Spelled.{both-spelled}
+use Rattle.control_channels.proofs.Resting.{committed-rests, hop-committed, next-aged, peers-aged, peers-committed, same-hop, same-peers}
 
 pub frames-append : (me : NodeId) (xs ys : List Sending) → frames_to me (xs ++ ys) ≡ frames_to me xs ++ frames_to me ys
 frames-append me [] ys = refl

@@ -5,17 +5,15 @@ ghost use Rattle.ason_base.specs.Network.{find_node};
 ghost use Rattle.mesh_nodes.specs.LocalNodes.{is_neighbour};
 ghost use Rattle.mesh_rules.specs.Rows.{call_rows, leg_rows};
 ghost use Rattle.controller.specs.declared.controller.TheConstants.{MOST_STEPS};
-ghost use Rattle.controller.specs.Controllers.{IsStep, IsUnambiguous};
-ghost use Rattle.controller.specs.Kept.{AllToNeighbours, IsFromNeighbour, new_controller, unacknowledged};
+ghost use Rattle.control_channels.specs.Controllers.{IsStep, IsUnambiguous};
+ghost use Rattle.control_channels.specs.Kept.{AllToNeighbours, IsFromNeighbour, new_controller, unacknowledged};
 ghost use Rattle.flood.specs.State.{pending_count};
 
-use crate::adjacencies::{Adjacency, pending, reaches};
-use crate::floods::begun;
-use crate::frames::{FrameMaker, Frames};
-use crate::inputs::{CoreInput, Pending};
-use crate::peers::adjacencies;
 use crate::reactions::react;
 use ason_base::{NodeId, OutOfMemory, TableRows, Topology};
+use control_channels::adjacencies::{pending, reaches};
+use control_channels::peers::adjacencies;
+use control_channels::{Adjacency, CoreInput, FrameMaker, Frames, Pending, begun};
 use flood::Flood;
 use node_core::Node;
 use std::alloc::Global;
@@ -35,8 +33,8 @@ pub struct Controller {
 }
 
 impl Model for Controller {
-    ghost use Rattle.controller.specs.Controllers.{ControllerState};
-    ghost use Rattle.controller.specs.Kept.{FloodFits, IsKept};
+    ghost use Rattle.control_channels.specs.Controllers.{ControllerState};
+    ghost use Rattle.control_channels.specs.Kept.{FloodFits, IsKept};
 
     ghost Value = { ControllerState };
 

@@ -1,97 +1,19 @@
 //! What a controller floods: the rows of its own links, and those that it learns.
 
-ghost use Rattle.std.specs.Prelude.{◌≡◌, ◌≤◌, ◌^◌, ◌++◌, ℕ, IfOk, IsTrue, List, OnErr, OnOk, Some, length, map};
-ghost use Rattle.std.specs.List.{AllByRecursion};
-ghost use Rattle.ason_base.specs.Network.{row_of};
-ghost use Rattle.flood.specs.Messages.{CanBeWritten, SpellsFlood};
-ghost use Rattle.flood.specs.NetworkLaws.{AreRowsOfLinks};
-ghost use Rattle.flood.specs.Networks.{begun_node, new_flood, nodes_beside};
-ghost use Rattle.flood.specs.State.{learnt_of, received, sends_after, sent_at_tick};
+ghost use Rattle.std.specs.Prelude.{◌≡◌, ◌≤◌, ◌^◌, ℕ, IfOk, IsTrue, List, OnErr, OnOk, Some, length};
+ghost use Rattle.flood.specs.Messages.{SpellsFlood};
+ghost use Rattle.flood.specs.State.{learnt_of, received, sends_after};
 ghost use Rattle.mesh_nodes.specs.Learnt.{MayLearn};
 ghost use Rattle.mesh_nodes.specs.LocalNodes.{is_neighbour};
 ghost use Rattle.mesh_rules.specs.KnownRows.{known_rows};
-ghost use Rattle.mesh_rules.specs.LocalNodes.{local_node};
-ghost use Rattle.mesh_rules.specs.State.{new_node};
-ghost use Rattle.controller.specs.Controllers.{floods_to, with_learnt};
-ghost use Rattle.controller.specs.Frames.{AllSpelled, frames_to};
-ghost use Rattle.controller.specs.Kept.{AllToNeighbours, CanGo, FloodFits};
+ghost use Rattle.control_channels.specs.Controllers.{floods_to, with_learnt};
+ghost use Rattle.control_channels.specs.Frames.{AllSpelled, frames_to};
+ghost use Rattle.control_channels.specs.Kept.{AllToNeighbours, FloodFits};
 
-use crate::frames::{Frame, FrameMaker};
-use crate::peers::{other_ends, touches};
-use ason_base::{LinkSpec, NodeId, OutOfMemory, TeRow, Topology};
-use flood::laws::every_start;
-use flood::{Content, Flood, FloodMsg, FloodOut, FloodSends};
+use ason_base::{NodeId, OutOfMemory, TeRow};
+use control_channels::{Frame, FrameMaker, frame_floods};
+use flood::{Flood, FloodMsg, FloodOut};
 use node_core::{Input, Node};
-use std::alloc::Global;
-
-// Declares the rows of those of these links that the node is an end of, in order of link.
-fn declare_own(
-    alloc: Global,
-    links: &[LinkSpec],
-    n: NodeId,
-    flood: &mut Flood,
-) -> Result<(), OutOfMemory>
-    requires links { AreRowsOfLinks (map row_of links.now) }
-    requires new { flood.old ≡ new_flood n (nodes_beside (map row_of links.now) n) }
-    ensures { OnOk result (flood.new ≡ begun_node (map row_of links.now) n) }
-{
-    every_start();
-    for link in links {
-        if touches(n, link) {
-            let row = TeRow::of(alloc, link)?;
-            flood.declare(alloc, row)?;
-        }
-    }
-    Ok(())
-}
-
-/// What node `n` floods at the start: the rows of its own links are due to each neighbour.
-pub(crate) fn begun(alloc: Global, t: &Topology, n: NodeId) -> Result<Flood, OutOfMemory>
-    ensures flood { IfOk result (λ f. f ≡ begun_node (map row_of t.now.links) n) }
-    ensures fits { IfOk result (FloodFits (local_node t.now n) new_node) }
-{
-    every_start();
-    let links = t.links();
-    let neighbours = other_ends(alloc, links, n)?;
-    let mut flood = Flood::new(alloc, n, &neighbours)?;
-    declare_own(alloc, links, n, &mut flood)?;
-    Ok(flood)
-}
-
-/// The frames of these flood messages go to the end of the list.
-fn frame_floods(
-    maker: &mut FrameMaker,
-    me: NodeId,
-    sends: FloodSends,
-    frames: &mut Vec<Frame>,
-) -> Result<(), OutOfMemory>
-    requires { AllByRecursion (λ s. CanBeWritten s.1) sends }
-    ensures frames { OnOk result
-        (frames.new.items ≡ frames.old.items ++ frames_to me (floods_to sends)) }
-    ensures spelled { OnOk result (AllSpelled me (floods_to sends)) }
-{
-    for (to, m) in sends.into_vec() {
-        let frame = maker.frame(me, to, &Content::Flood(m))?;
-        frames.push(frame)?;
-    }
-    Ok(())
-}
-
-/// The frames of the rows that the next tick sends go to the end of the list, by neighbour and then by number.
-pub(crate) fn frame_floods_due(
-    maker: &mut FrameMaker,
-    me: NodeId,
-    flood: &Flood,
-    frames: &mut Vec<Frame>,
-) -> Result<(), OutOfMemory>
-    requires { AllByRecursion (λ n. AllByRecursion CanGo n.due) flood.now.neighbours }
-    ensures frames { OnOk result
-        (frames.new.items ≡ frames.old.items ++ frames_to me (floods_to (sent_at_tick flood.now))) }
-    ensures spelled { OnOk result (AllSpelled me (floods_to (sent_at_tick flood.now))) }
-{
-    let sends = flood.due(maker.alloc)?;
-    frame_floods(maker, me, sends, frames)
-}
 
 // The node learns the row, and the flood takes the message that brought it. After want of memory neither has.
 fn learn(

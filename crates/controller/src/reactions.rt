@@ -7,25 +7,23 @@ ghost use Rattle.wire_buf.specs.Codecs.{HasOneMeaning};
 ghost use Rattle.ason_base.specs.declared.messages.Packet.{Packet};
 ghost use Rattle.mesh_nodes.specs.LocalNodes.{is_neighbour};
 ghost use Rattle.mesh_rules.specs.Changes.{changed};
-ghost use Rattle.node_core.specs.Nodes.{IsWritableInput, MayTake, answer_to, stepped};
-ghost use Rattle.controller.specs.Adjacencies.{ArePrepared, reaches, rested};
-ghost use Rattle.controller.specs.Answers.{BodyCanBePassedOn, body_answer};
+ghost use Rattle.node_rules.specs.Nodes.{IsWritableInput, MayTake, answer_to, stepped};
+ghost use Rattle.control_channels.specs.Adjacencies.{ArePrepared, reaches, rested};
+ghost use Rattle.control_channels.specs.Answers.{BodyCanBePassedOn, body_answer};
 ghost use Rattle.flood.specs.declared.frames.Content.{Content};
 ghost use Rattle.flood.specs.Frames.{IsFrame, SpellsNothing};
 ghost use Rattle.flood.specs.Messages.{SpellsFlood};
 ghost use Rattle.flood.specs.State.{ticked};
-ghost use Rattle.controller.specs.Controllers.{AddsAnswer, AnswerIsSpelled, AreMade, Becomes, IsMade, IsReaction, IsUnambiguous, flood_after, frame_step, handed_body, idle_step, item_step, packet_step, parts, tick_step};
-ghost use Rattle.controller.specs.Frames.{AllSpelled, frames_to};
-ghost use Rattle.controller.specs.Kept.{AllToNeighbours, FloodFits, IsFromNeighbour, IsKept, IsReady};
+ghost use Rattle.control_channels.specs.Controllers.{AddsAnswer, AnswerIsSpelled, AreMade, Becomes, IsMade, IsReaction, IsUnambiguous, flood_after, frame_step, handed_body, idle_step, item_step, packet_step, parts, tick_step};
+ghost use Rattle.control_channels.specs.Frames.{AllSpelled, frames_to};
+ghost use Rattle.control_channels.specs.Kept.{AllToNeighbours, FloodFits, IsFromNeighbour, IsKept, IsReady};
 
-use crate::acks::acknowledge;
-use crate::adjacencies::{
-    Adjacency, age_all, commit_all, discard_all, frame_due, hears, prepare_all, take,
-};
-use crate::floods::{frame_floods_due, take_flood};
-use crate::frames::{Frame, FrameMaker};
-use crate::inputs::CoreInput;
+use crate::floods::take_flood;
 use ason_base::{Copied, DecodeError, DeskItem, Msg, NodeId, OutOfMemory, Packet, copy_all};
+use control_channels::adjacencies::{
+    age_all, commit_all, discard_all, frame_due, hears, prepare_all, take,
+};
+use control_channels::{Adjacency, CoreInput, Frame, FrameMaker, acknowledge, frame_floods_due};
 use flood::{Content, Flood, read_frame};
 use hop_reliable::Heard;
 use node_core::{Change, Input, Node};

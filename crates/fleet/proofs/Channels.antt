@@ -5,7 +5,7 @@ use Rattle.std.specs.List.{list_any}
 use Rattle.ason_base.specs.declared.ids.NodeId.{NodeId}
 use Rattle.ason_base.specs.declared.network.LinkSpec.{LinkSpec}
 use Rattle.ason_base.specs.Network.{Network, are_ends, is_node_id}
-use Rattle.world_core.specs.Runs.{is_channel, neighbours}
+use Rattle.world_rules.specs.Runs.{is_channel, neighbours}
 use Rattle.station.proofs.Doing.{turned}
 use Rattle.station.proofs.Linking.{all-get}
 use Rattle.station.proofs.NewStations.{channels}

@@ -6,7 +6,7 @@ use Rattle.std.proofs.lemmas.Option.{slice_get_read}
 use Rattle.ason_base.specs.declared.ids.NodeId.{NodeId}
 use Rattle.ason_base.specs.declared.network.NodeSpec.{NodeSpec}
 use Rattle.ason_base.specs.Network.{IsTopology, Network}
-use Rattle.world_core.specs.Runs.{is_channel, neighbours}
+use Rattle.world_rules.specs.Runs.{is_channel, neighbours}
 use Rattle.station.specs.Links.{KeepsRoom, KeepRoom, LinkState, looked, new_link}
 use Rattle.station.specs.Standing.{StationState}
 use Rattle.station.proofs.Doing.{self_test}

@@ -7,10 +7,10 @@ use Rattle.ason_base.specs.declared.commands.DeskItem.{DeskItem}
 use Rattle.ason_base.specs.declared.commands.Event.{Event}
 use Rattle.ason_base.specs.declared.commands.Event.TheVariants.{Deliver, Desk, Tick}
 use Rattle.ason_base.specs.Network.{Network, is_node_id}
-use Rattle.world_core.specs.Runs.{step}
-use Rattle.world_core.specs.Standing.{IsUntouched}
-use Rattle.world_core.specs.Worlds.{World, frame_at, with_event as counted}
-use Rattle.world_core.proofs.Untouched.{others-are-untouched}
+use Rattle.world_rules.specs.Runs.{step}
+use Rattle.world_rules.specs.Standing.{IsUntouched}
+use Rattle.world_rules.specs.Worlds.{World, frame_at, with_event as counted}
+use Rattle.world_rules.proofs.Untouched.{others-are-untouched}
 use Rattle.station.specs.declared.parcels.Parcel.{Parcel}
 use Rattle.station.specs.Histories.{History, all_pushed, count_of, if_able, made_by, numbers_after, popped, refilled, with_event_over, world_after}
 use Rattle.station.specs.Standing.{AreParcelsOf}

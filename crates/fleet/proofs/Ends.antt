@@ -2,7 +2,7 @@
 use Rattle.std.proofs.Common.{◌≡◌, ◌<◌, ◌≤◌, ℕ, nat_eq, false, List, ◌++◌, get_or, take, drop, ap, ◌∙◌, arith}
 use Rattle.std.specs.Prelude.{Some, slice_get, slice_set}
 use Rattle.std.proofs.lemmas.Option.{get_or_from_slice_get}
-use Rattle.controller.specs.Controllers.{ControllerState}
+use Rattle.control_channels.specs.Controllers.{ControllerState}
 use Rattle.ason_base.specs.declared.commands.DeskItem.{DeskItem}
 use Rattle.station.specs.Links.{LinkState, looked}
 use Rattle.station.specs.Standing.{StationState}

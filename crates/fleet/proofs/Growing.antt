@@ -22,8 +22,8 @@ use Rattle.mesh_rules.specs.LocalNodes.{local_node}
 use Rattle.mesh_rules.specs.Machine.{sent_to}
 use Rattle.mesh_rules.specs.Messages.{on_message}
 use Rattle.mesh_rules.specs.Waits.{on_tick}
-use Rattle.world_core.specs.Worlds.{World, commit, delivered, floods_ticked, frame_at, handed_up, handled, hops_ticked, numbered_after, taken, with_event, with_floods, with_packets}
-use Rattle.world_core.specs.Runs.{posted, step, without_item}
+use Rattle.world_rules.specs.Worlds.{World, commit, delivered, floods_ticked, frame_at, handed_up, handled, hops_ticked, numbered_after, taken, with_event, with_floods, with_packets}
+use Rattle.world_rules.specs.Runs.{posted, step, without_item}
 use Rattle.station.specs.Histories.{count_of}
 
 -- the channel has this more at its end

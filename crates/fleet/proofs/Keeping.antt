@@ -7,7 +7,7 @@ use Rattle.ason_base.specs.declared.network.NodeSpec.{NodeSpec}
 use Rattle.ason_base.specs.declared.commands.DeskItem.{DeskItem}
 use Rattle.ason_base.specs.declared.commands.Event.TheVariants.{Deliver, Desk, Tick}
 use Rattle.ason_base.specs.Network.{Network, is_node_id}
-use Rattle.world_core.specs.Runs.{is_channel, neighbours}
+use Rattle.world_rules.specs.Runs.{is_channel, neighbours}
 use Rattle.station.specs.Histories.{History, handled, handled_first, if_able, made, popped, took, took_first, with_event_over, world_after}
 use Rattle.station.specs.Turns.{desk_done, repeated, ring_done, turn}
 use Rattle.station.proofs.NewStations.{all-near}

@@ -6,7 +6,7 @@ use Rattle.ason_base.specs.declared.ids.NodeId.{NodeId}
 use Rattle.ason_base.specs.Network.{Network}
 use Rattle.station.specs.Histories.{History}
 use Rattle.station.specs.Links.{LinkState, looked}
-use Rattle.world_core.specs.Runs.{neighbours}
+use Rattle.world_rules.specs.Runs.{neighbours}
 use Rattle.station.proofs.Linking.{all-get}
 use Rattle.fleet.specs.declared.seats.End.{End}
 use Rattle.fleet.specs.declared.seats.Seat.{Seat}

@@ -5,8 +5,8 @@ use Rattle.std.specs.List.{AllByRecursion}
 use Rattle.std.proofs.lemmas.List.{length-append, map-append}
 use Rattle.ason_base.specs.declared.ids.NodeId.{NodeId}
 use Rattle.ason_base.specs.Network.{IsTopology, Network}
-use Rattle.world_core.specs.Runs.{is_channel, neighbours}
-use Rattle.world_core.specs.Worlds.{World}
+use Rattle.world_rules.specs.Runs.{is_channel, neighbours}
+use Rattle.world_rules.specs.Worlds.{World}
 use Rattle.station.specs.declared.parcels.Parcel.{Parcel}
 use Rattle.station.specs.Histories.{History, count_of, world_after}
 use Rattle.station.specs.Links.{LinkState, looked}

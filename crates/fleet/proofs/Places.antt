@@ -5,7 +5,7 @@ use Rattle.std.specs.List.{AllByRecursion}
 use Rattle.ason_base.specs.declared.ids.NodeId.{NodeId}
 use Rattle.ason_base.specs.declared.network.NodeSpec.{NodeSpec}
 use Rattle.ason_base.specs.Network.{IsTopology, Network, is_node_id}
-use Rattle.world_core.specs.Runs.{is_channel, neighbours}
+use Rattle.world_rules.specs.Runs.{is_channel, neighbours}
 use Rattle.station.proofs.Linking.{all-get}
 use Rattle.station.proofs.NewStations.{AreAbove, Rises, above-if, rises}
 use Rattle.fleet.specs.Standing.{ids_of}

@@ -10,16 +10,16 @@ use Rattle.ason_base.specs.declared.commands.Group.{Group}
 use Rattle.ason_base.specs.declared.commands.DeskItem.TheVariants.{Order}
 use Rattle.ason_base.specs.declared.commands.Event.TheVariants.{Post}
 use Rattle.ason_base.specs.Network.{Network, is_node_id}
-use Rattle.controller.specs.Controllers.{ControllerState}
+use Rattle.control_channels.specs.Controllers.{ControllerState}
 use Rattle.mesh_rules.specs.Commands.{has_backup_way, has_way, is_again, is_searchable, is_valid}
 use Rattle.mesh_rules.specs.Failures.{all_news, failed_after}
 use Rattle.mesh_rules.proofs.LinkNews.{few-links, few-news}
 use Rattle.world_core.specs.Replays.{ingress_of}
-use Rattle.world_core.specs.Runs.{IsEnabled, posted}
-use Rattle.world_core.specs.Standing.{IsUntouched, NodeStands}
-use Rattle.world_core.specs.Worlds.{World}
+use Rattle.world_rules.specs.Runs.{IsEnabled, posted}
+use Rattle.world_rules.specs.Standing.{IsUntouched, NodeStands}
+use Rattle.world_rules.specs.Worlds.{World}
 use Rattle.world_core.proofs.Posting.{failed-posted}
-use Rattle.world_core.proofs.Untouched.{others-are-untouched}
+use Rattle.world_rules.proofs.Untouched.{others-are-untouched}
 use Rattle.station.specs.Histories.{History, refilled, with_event, world_after}
 use Rattle.station.specs.Standing.{AreParcelsOf, StationState}
 use Rattle.station.proofs.Doing.{self_test, world-with}

@@ -8,10 +8,10 @@ use Rattle.ason_base.specs.declared.network.NodeSpec.{NodeSpec}
 use Rattle.ason_base.specs.Network.{Network, is_node_id}
 use Rattle.mesh_nodes.proofs.Cases.{both_left, both_right}
 use Rattle.mesh_rules.specs.LocalNodes.{local_node}
-use Rattle.controller.specs.Adjacencies.{neighbours}
-use Rattle.world_core.specs.Images.{IsQuiet}
+use Rattle.control_channels.specs.Adjacencies.{neighbours}
+use Rattle.world_rules.specs.Images.{IsQuiet}
 use Rattle.world_core.specs.Replays.{IsNowhere}
-use Rattle.world_core.specs.Worlds.{World}
+use Rattle.world_rules.specs.Worlds.{World}
 use Rattle.world_core.proofs.Nowhere.{nowhere-run}
 use Rattle.world_core.proofs.Tabled.{IsStill, nothing-waits}
 use Rattle.station.specs.Histories.{History, world_after}

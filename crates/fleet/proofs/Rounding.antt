@@ -9,7 +9,7 @@ use Rattle.station.specs.declared.turns.Turn.{Turn}
 use Rattle.station.specs.declared.turns.Turn.TheVariants.{AtLimit, Idle, Starved, Worked}
 use Rattle.station.specs.Histories.{History}
 use Rattle.station.specs.Turning.{HasTurned, IsStopped}
-use Rattle.world_core.specs.Runs.{neighbours}
+use Rattle.world_rules.specs.Runs.{neighbours}
 use Rattle.station.specs.Turns.{turn}
 use Rattle.station.proofs.Stopping.{fold-cut-at, fold-next, turn-stays}
 use Rattle.fleet.specs.declared.seats.Seat.{Seat}

@@ -12,8 +12,8 @@ use Rattle.ason_base.specs.declared.commands.Event.TheVariants.{Deliver, Tick, D
 use Rattle.ason_base.specs.Network.{Network, is_node_id}
 use Rattle.mesh_rules.specs.Events.{has_first}
 use Rattle.flood.specs.declared.frames.Content.{Content}
-use Rattle.world_core.specs.Worlds.{World, frame_at, numbered_at, start, with_event as counted}
-use Rattle.world_core.specs.Runs.{IsEnabled, IsRun, after, posted, step}
+use Rattle.world_rules.specs.Worlds.{World, frame_at, numbered_at, start, with_event as counted}
+use Rattle.world_rules.specs.Runs.{IsEnabled, IsRun, after, posted, step}
 use Rattle.station.specs.Histories.{History, all_pushed, count_of, if_able, made_by, numbers_after, popped, pushed, refilled, sent_between, stopped_at, with_event_over, world_after}
 use Rattle.station.proofs.Doing.{made_kept, world-with}
 use Rattle.fleet.specs.Laws.{PostsAreRunning, SettlingGoesOn, SettlingIsRunning, TheStartIsRunning, WaitingGoesOn, WaitingIsRunning}

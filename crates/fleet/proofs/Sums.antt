@@ -12,12 +12,12 @@ use Rattle.ason_base.proofs.Ordered.{Rises, in_order-rises}
 use Rattle.ason_base.proofs.RisingNumbers.{nat_order}
 use Rattle.mesh_rules.specs.LocalNodes.{LocalNode, local_node}
 use Rattle.mesh_rules.specs.Rows.{all_call_rows, all_leg_rows, call_rows, leg_rows}
-use Rattle.controller.specs.declared.adjacencies.Adjacency.{Adjacency}
-use Rattle.controller.specs.Adjacencies.{hop_at, hop_of, is_to, neighbours, peer_numbers}
-use Rattle.controller.specs.Kept.{unacknowledged}
-use Rattle.world_core.specs.Images.{image}
-use Rattle.world_core.specs.Standing.{NodeStands}
-use Rattle.world_core.specs.Worlds.{World}
+use Rattle.control_channels.specs.declared.adjacencies.Adjacency.{Adjacency}
+use Rattle.control_channels.specs.Adjacencies.{hop_at, hop_of, is_to, neighbours, peer_numbers}
+use Rattle.control_channels.specs.Kept.{unacknowledged}
+use Rattle.world_rules.specs.Images.{image}
+use Rattle.world_rules.specs.Standing.{NodeStands}
+use Rattle.world_rules.specs.Worlds.{World}
 use Rattle.station.specs.Histories.{History, world_after}
 use Rattle.station.specs.Standing.{StationState}
 use Rattle.station.proofs.Doing.{self_test}

@@ -5,10 +5,10 @@ use Rattle.std.specs.List.{AllByRecursion}
 use Rattle.ason_base.specs.declared.ids.NodeId.{NodeId}
 use Rattle.ason_base.specs.declared.commands.DeskItem.{DeskItem}
 use Rattle.ason_base.specs.Network.{Network}
-use Rattle.controller.specs.Controllers.{ControllerState}
-use Rattle.world_core.specs.Runs.{is_channel, neighbours}
-use Rattle.world_core.specs.Standing.{IsUntouched, NodeStands}
-use Rattle.world_core.specs.Worlds.{World}
+use Rattle.control_channels.specs.Controllers.{ControllerState}
+use Rattle.world_rules.specs.Runs.{is_channel, neighbours}
+use Rattle.world_rules.specs.Standing.{IsUntouched, NodeStands}
+use Rattle.world_rules.specs.Worlds.{World}
 use Rattle.station.specs.declared.parcels.Parcel.{Parcel}
 use Rattle.station.specs.Histories.{History, count_of, made_by, world_after}
 use Rattle.station.specs.Links.{LinkState}

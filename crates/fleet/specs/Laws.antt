@@ -7,10 +7,10 @@ use Rattle.ason_base.specs.Network.{Network}
 use Rattle.mesh_rules.specs.Machine as mesh
 use Rattle.mesh_rules.specs.Events as mesh_runs
 use Rattle.mesh_laws.specs.Laws.{LawsHold}
-use Rattle.world_core.specs.Worlds.{start}
-use Rattle.world_core.specs.Runs.{IsEnabled}
-use Rattle.world_core.specs.Images.{IsQuiet, mesh_events}
-use Rattle.world_core.specs.Laws.{EachIsFound}
+use Rattle.world_rules.specs.Worlds.{start}
+use Rattle.world_rules.specs.Runs.{IsEnabled}
+use Rattle.world_rules.specs.Images.{IsQuiet, mesh_events}
+use Rattle.world_rules.specs.Laws.{EachIsFound}
 use Rattle.station.specs.Histories.{History, new_history, state_after, with_event, world_after}
 use Rattle.fleet.specs.Rounds.{is_quiet, settled, waited}
 use Rattle.fleet.specs.Running.{IsRunning}

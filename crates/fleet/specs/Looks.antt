@@ -6,7 +6,7 @@ use Rattle.station.specs.Histories.{History}
 use Rattle.station.specs.Links.{AreFew, LinkState, looked}
 use Rattle.station.specs.Standing.{StationState}
 use Rattle.station.specs.Turning.{IsTurn}
-use Rattle.world_core.specs.Runs.{neighbours}
+use Rattle.world_rules.specs.Runs.{neighbours}
 use Rattle.station.specs.Turns.{turn}
 use Rattle.station.specs.declared.turns.Turn.{Turn}
 use Rattle.station.specs.declared.turns.Turn.TheVariants.{AtLimit, Idle, Starved, Worked}

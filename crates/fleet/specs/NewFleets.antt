@@ -6,7 +6,7 @@ use Rattle.ason_base.specs.Network.{Network}
 use Rattle.station.specs.Histories.{new_history}
 use Rattle.station.specs.Links.{new_link}
 use Rattle.station.specs.Standing.{Stands, StationState}
-use Rattle.world_core.specs.Runs.{neighbours}
+use Rattle.world_rules.specs.Runs.{neighbours}
 use Rattle.fleet.specs.Standing.{ids_of}
 
 abbrev pub is_node : NodeId → NodeSpec → Bool

@@ -8,7 +8,7 @@ use Rattle.ason_base.specs.declared.commands.Event.TheVariants.{Post}
 use Rattle.ason_base.specs.declared.commands.Group.{Group}
 use Rattle.ason_base.specs.Network.{Network, is_node_id}
 use Rattle.mesh_rules.specs.Failures.{all_news, failed_after}
-use Rattle.world_core.specs.Runs.{IsEnabled}
+use Rattle.world_rules.specs.Runs.{IsEnabled}
 use Rattle.station.specs.Histories.{History, with_event, world_after}
 use Rattle.station.specs.Standing.{StationState}
 use Rattle.fleet.specs.declared.seats.Seat.{Seat}

@@ -5,8 +5,8 @@ use Rattle.ason_base.specs.declared.ids.NodeId.{NodeId}
 use Rattle.ason_base.specs.Network.{Network}
 use Rattle.flood.specs.State.{pending_count}
 use Rattle.mesh_rules.specs.LocalNodes.{local_node}
-use Rattle.controller.specs.Adjacencies.{neighbours}
-use Rattle.world_core.specs.Worlds.{World}
+use Rattle.control_channels.specs.Adjacencies.{neighbours}
+use Rattle.world_rules.specs.Worlds.{World}
 use Rattle.station.specs.Histories.{History, world_after}
 use Rattle.station.specs.Turns.{turn}
 

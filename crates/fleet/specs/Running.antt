@@ -3,8 +3,8 @@ use Rattle.std.specs.Prelude.{◌≡◌, ◌≤◌, ℕ, List, length, Some}
 use Rattle.std.specs.List.{AllByRecursion}
 use Rattle.ason_base.specs.declared.ids.NodeId.{NodeId}
 use Rattle.ason_base.specs.Network.{Network}
-use Rattle.world_core.specs.Worlds.{World, start}
-use Rattle.world_core.specs.Runs.{IsRun}
+use Rattle.world_rules.specs.Worlds.{World, start}
+use Rattle.world_rules.specs.Runs.{IsRun}
 use Rattle.station.specs.Histories.{History, count_of, made_by, world_after}
 
 -- a frame of this number was sent on the channel

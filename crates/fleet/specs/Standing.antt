@@ -4,9 +4,9 @@ use Rattle.std.specs.List.{AllByRecursion}
 use Rattle.ason_base.specs.declared.ids.NodeId.{NodeId}
 use Rattle.ason_base.specs.declared.commands.Group.{Group}
 use Rattle.ason_base.specs.Network.{IsTopology, Network}
-use Rattle.world_core.specs.Runs.{is_channel, neighbours}
-use Rattle.world_core.specs.Standing.{NodeStands}
-use Rattle.world_core.specs.Worlds.{World}
+use Rattle.world_rules.specs.Runs.{is_channel, neighbours}
+use Rattle.world_rules.specs.Standing.{NodeStands}
+use Rattle.world_rules.specs.Worlds.{World}
 use Rattle.station.specs.Histories.{History, count_of, world_after}
 use Rattle.station.specs.Links.{LinkState}
 use Rattle.station.specs.Standing.{AreParcelsOf, StationState, numbers_of}

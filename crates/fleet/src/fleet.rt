@@ -4,7 +4,7 @@ ghost use Rattle.std.specs.Prelude.{◌≡◌, ◌+◌, ◌-◌, ◌<◌, ◌≤
 ghost use Rattle.ason_base.specs.declared.ids.NodeId.{NodeId};
 ghost use Rattle.ason_base.specs.Network.{Network};
 ghost use Rattle.mesh_rules.specs.Rows.{all_call_rows, all_leg_rows};
-ghost use Rattle.world_core.specs.Images.{image};
+ghost use Rattle.world_rules.specs.Images.{image};
 ghost use Rattle.station.specs.Histories.{History, new_history, world_after};
 ghost use Rattle.fleet.specs.declared.seats.Seat.{Seat};
 ghost use Rattle.fleet.specs.declared.fleet.RoundFault.{RoundFault};

@@ -2,7 +2,7 @@
 
 ghost use Rattle.fleet.specs.Laws.{EveryRunIsShown, PostsAreRunning, QuietIsTheWorlds, SettlingGoesOn, SettlingIsRunning, TheStartIsRunning, WaitingGoesOn, WaitingIsRunning};
 
-use world_core::laws::every_world_run;
+use world_rules::laws::every_world_run;
 
 /// Whatever commands are posted and however many rounds are made, in any order: the events are a run of a world. In each ring
 /// wait at most 256 frames, and each of them was sent. No node makes more than 50,000 events. Where numbers tell links apart,

@@ -1,7 +1,7 @@
 //! Where each node's station stands, and where the links from it lead.
 
 ghost use Rattle.std.specs.Prelude.{◌≡◌, ℕ, IfOk, Some, position, slice_get};
-ghost use Rattle.world_core.specs.Runs.{neighbours};
+ghost use Rattle.world_rules.specs.Runs.{neighbours};
 ghost use Rattle.fleet.specs.NewFleets.{AreNew, IsNew, is_node};
 ghost use Rattle.fleet.specs.Standing.{AreSeats, IsEnd, IsSeat};
 

@@ -11,9 +11,9 @@ use Rattle.mesh_rules.specs.LocalNodes.{local_node}
 use Rattle.mesh_nodes.specs.Routes.{AreRowsOf}
 use Rattle.mesh_nodes.proofs.LearnsNothing.{item-learns_nothing, message-learns_nothing, tick-learns_nothing}
 use Rattle.mesh_nodes.proofs.routes.Learnt.{learnt-stay_true, network-rows-may, same-rows_true}
-use Rattle.node_core.specs.declared.inputs.Input.{Input}
-use Rattle.node_core.specs.declared.inputs.Input.TheVariants.{Message, Desk, Tick, Learn}
-use Rattle.node_core.specs.Nodes.{MayTake, NodeView, answer_to}
+use Rattle.node_rules.specs.declared.inputs.Input.{Input}
+use Rattle.node_rules.specs.declared.inputs.Input.TheVariants.{Message, Desk, Tick, Learn}
+use Rattle.node_rules.specs.Nodes.{MayTake, NodeView, answer_to}
 use Rattle.mesh_rules.specs.Changes.{Answer, changed}
 use Rattle.mesh_rules.specs.State.{NodeState, new_node}
 use Rattle.mesh.specs.Kept.{AreOfNetwork, IsOfNetwork, MayCome, Seats, is_node, node_at, put_state, state_at, state_of}

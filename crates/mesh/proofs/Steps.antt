@@ -19,9 +19,9 @@ use Rattle.ason_base.specs.declared.network.LinkSpec.{LinkSpec}
 use Rattle.ason_base.specs.declared.network.TeRow.{TeRow}
 use Rattle.ason_base.specs.Network.{Network, find_link, row_of}
 use Rattle.mesh_rules.specs.declared.events.MeshEvent.TheVariants.{Take, Desk, Tick, Learn, Post}
-use Rattle.node_core.specs.declared.inputs.Input.{Input}
-use Rattle.node_core.specs.declared.inputs.Input.TheVariants as inputs
-use Rattle.node_core.specs.Nodes.{NodeView, answer_to}
+use Rattle.node_rules.specs.declared.inputs.Input.{Input}
+use Rattle.node_rules.specs.declared.inputs.Input.TheVariants as inputs
+use Rattle.node_rules.specs.Nodes.{NodeView, answer_to}
 use Rattle.mesh.specs.declared.queues.Waiting.{Waiting}
 use Rattle.mesh.specs.declared.queues.Sent.{Sent}
 use Rattle.mesh_rules.specs.Changes.{Answer, changed, nothing}

@@ -22,9 +22,9 @@ use Rattle.mesh_rules.specs.Machine.{Mesh}
 use Rattle.mesh_rules.specs.Events.{step}
 use Rattle.mesh_rules.specs.Changes.{changed}
 use Rattle.mesh_nodes.specs.Routes.{AreRowsOf, IsRowOf}
-use Rattle.node_core.specs.declared.inputs.Input.{Input}
-use Rattle.node_core.specs.declared.inputs.Input.TheVariants.{Message, Desk, Tick, Learn}
-use Rattle.node_core.specs.Nodes.{NodeView, answer_to}
+use Rattle.node_rules.specs.declared.inputs.Input.{Input}
+use Rattle.node_rules.specs.declared.inputs.Input.TheVariants.{Message, Desk, Tick, Learn}
+use Rattle.node_rules.specs.Nodes.{NodeView, answer_to}
 use Rattle.mesh.specs.declared.queues.Waiting.{Waiting}
 use Rattle.mesh.specs.declared.queues.Sent.{Sent}
 

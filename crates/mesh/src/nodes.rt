@@ -7,7 +7,7 @@ ghost use Rattle.mesh_rules.specs.Changes.{changed};
 ghost use Rattle.mesh_rules.specs.KnownRows.{has_row, known_rows};
 ghost use Rattle.mesh_rules.specs.LocalNodes.{local_node};
 ghost use Rattle.mesh_rules.specs.Rows.{call_rows, leg_rows};
-ghost use Rattle.node_core.specs.Nodes.{IsAnswerOf, answer_to};
+ghost use Rattle.node_rules.specs.Nodes.{IsAnswerOf, answer_to};
 ghost use Rattle.mesh_nodes.specs.Routes.{AreRowsOf, IsRowOf};
 ghost use Rattle.mesh.specs.Kept.{MayCome, is_node, node_at, row_in, state_at, with_state};
 

@@ -27,9 +27,10 @@ use Rattle.mesh_nodes.proofs.routes.Topologies.{new-rows}
 use Rattle.mesh_nodes.proofs.Items.{items-fit}
 use Rattle.mesh_nodes.proofs.Messages.{messages-fit}
 use Rattle.mesh_nodes.proofs.Ticks.{tick-kept, ticks-fit}
-use Rattle.node_core.specs.declared.inputs.Input.{Input}
-use Rattle.node_core.specs.declared.inputs.Input.TheVariants.{Message, Desk, Tick, Learn}
-use Rattle.node_core.specs.Nodes.{IsAnswerOf, IsNode, IsWritableInput, MayTake, NodeView, answer_to, node_of}
+use Rattle.node_rules.specs.declared.inputs.Input.{Input}
+use Rattle.node_rules.specs.declared.inputs.Input.TheVariants.{Message, Desk, Tick, Learn}
+use Rattle.node_rules.specs.Nodes.{IsAnswerOf, IsNode, IsWritableInput, MayTake, NodeView, answer_to}
+use Rattle.node_core.specs.Nodes.{node_of}
 
 pub answer-fits : (n : NodeView) (i : Input) → IsNode n → length n.state.calls ≤ 65536 →
     AnswerFits n.place n.state (IsWritableInput i) (answer_to n i)

@@ -4,7 +4,8 @@ use Rattle.ason_base.specs.declared.network.TeRow.{TeRow}
 use Rattle.ason_base.specs.Network.{row_of}
 use Rattle.leg_table.specs.States.{learnt_rows}
 use Rattle.leg_table.specs.Tables.{CallTable, LegTable}
-use Rattle.node_core.specs.Nodes.{node_of, without_last}
+use Rattle.node_rules.specs.Nodes.{without_last}
+use Rattle.node_core.specs.Nodes.{node_of}
 
 gone : (k : ℕ) (xs : List TeRow) → length xs ≡ 0 → 1 ≤ length (drop k xs) → ⊥
 gone zero xs e h = absurd (omega arith)

@@ -2,13 +2,12 @@
 //! and calls (ITU-T G.8080).
 #![tactic(auto)]
 
-pub mod inputs;
 mod messages;
 pub mod node;
 mod routes;
 mod rows;
 mod rules;
 
-pub use inputs::Input;
 pub use leg_table::Change;
 pub use node::Node;
+pub use node_rules::Input;

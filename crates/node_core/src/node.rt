@@ -11,15 +11,15 @@ ghost use Rattle.mesh_nodes.specs.LocalNodes.{LocalNodeFits};
 ghost use Rattle.mesh_nodes.specs.Order.{CallRowsRise, LegRowsRise};
 ghost use Rattle.mesh_nodes.specs.Routes.{RowsFit};
 ghost use Rattle.mesh_nodes.specs.Sent.{AllToNeighbours, AllWritable};
-ghost use Rattle.node_core.specs.Nodes.{IsAnswerOf, IsNode, IsWritableInput, MayTake, answer_to, stepped, without_last};
+ghost use Rattle.node_rules.specs.Nodes.{IsAnswerOf, IsNode, IsWritableInput, MayTake, answer_to, stepped, without_last};
 
-use crate::inputs::Input;
 use crate::rows::{call_rows, leg_rows};
 use crate::rules::{NodeParts, on_input};
 use ason_base::{Copied, LinkId, NodeId, OutOfMemory, Outs, TableRows, Topology};
 use leg_table::carrying::carry_out;
 use leg_table::{Calls, Change, NodeTables};
 use link_owner::Owner;
+use node_rules::Input;
 use share_check::Shares;
 use std::alloc::Global;
 use std::marker::Model;
@@ -36,7 +36,8 @@ pub struct Node {
 
 impl Model for Node {
     ghost use Rattle.leg_table.specs.LegClaims.{AreOfOneNode};
-    ghost use Rattle.node_core.specs.Nodes.{IsNode, NodeView, node_of};
+    ghost use Rattle.node_rules.specs.Nodes.{IsNode, NodeView};
+    ghost use Rattle.node_core.specs.Nodes.{node_of};
 
     ghost Value = { NodeView };
 

@@ -6,8 +6,8 @@ use Rattle.ason_base.specs.declared.ids.NodeId.{NodeId}
 use Rattle.ason_base.specs.declared.commands.DeskItem.{DeskItem}
 use Rattle.ason_base.specs.Network.{Network}
 use Rattle.flood.specs.declared.frames.Content.{Content}
-use Rattle.world_core.specs.Worlds.{World, start, with_event}
-use Rattle.world_core.proofs.Finding.{self_test}
+use Rattle.world_rules.specs.Worlds.{World, start, with_event}
+use Rattle.world_rules.proofs.Stepping.{self_test}
 use Rattle.world_merge.specs.Deeds.{Handled, Took, alone, alone_from, done}
 use Rattle.world_merge.proofs.Elsewhere.{kept-delivered}
 use Rattle.world_merge.proofs.Splitting.{alone-more}

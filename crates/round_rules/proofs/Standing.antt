@@ -5,7 +5,7 @@ use Rattle.std.specs.Prelude.{◌||◌}
 use Rattle.std.specs.List.{AllByRecursion, range_with_len}
 use Rattle.std.proofs.lemmas.List.Elements.{filter-append}
 use Rattle.hop_reliable.proofs.Members.{each-more}
-use Rattle.world_core.proofs.Finding.{self_test}
+use Rattle.world_rules.proofs.Stepping.{self_test}
 use Rattle.round_rules.specs.Rings.{StandingIsLeft, count_of, got_from, handed, is_in, without}
 
 -- Rising numbers

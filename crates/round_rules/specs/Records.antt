@@ -2,7 +2,7 @@
 use Rattle.std.specs.Prelude.{◌≡◌, ℕ, List}
 use Rattle.ason_base.specs.declared.commands.Entry.{Entry}
 use Rattle.ason_base.specs.Network.{Network}
-use Rattle.world_core.specs.Worlds.{World}
+use Rattle.world_rules.specs.Worlds.{World}
 use Rattle.world_merge.specs.Deeds.{Deed}
 use Rattle.world_merge.specs.Histories.{AreHistories, at}
 use Rattle.world_merge.specs.Logs.{RisesAbove, log_of, posts_of}

@@ -14,16 +14,16 @@ use Rattle.flood.specs.Frames.{IsFrame as spells, frame_bytes}
 use Rattle.flood.specs.State as flood
 use Rattle.flood.specs.State.{FloodState}
 use Rattle.mesh_rules.specs.LocalNodes.{LocalNode, local_node}
-use Rattle.controller.specs.declared.frames.Frame.{Frame}
-use Rattle.controller.specs.declared.inputs.CoreInput.TheVariants as input
-use Rattle.controller.specs.Controllers.{AreMade, ControllerState, Stepped, after_tick, flood_after, meaning, parts_of, took_frame}
-use Rattle.controller.specs.Controllers as controllers
-use Rattle.controller.specs.Frames.{Sending, frames_to}
-use Rattle.world_core.specs.Runs.{after, is_event_of, neighbours, step}
-use Rattle.world_core.specs.Standing.{IsStepOf, IsUntouched, NodeStands}
-use Rattle.world_core.specs.Worlds.{World, delivered, handed_up, handled as carried_out, numbered_at, start, taken, with_event as counted}
-use Rattle.world_core.proofs.Stepping.{deliveries-are-taken, items-are-handled, ticks-are-ticked}
-use Rattle.world_core.proofs.Untouched.{others-are-untouched}
+use Rattle.control_channels.specs.declared.frames.Frame.{Frame}
+use Rattle.control_channels.specs.declared.inputs.CoreInput.TheVariants as input
+use Rattle.control_channels.specs.Controllers.{AreMade, ControllerState, Stepped, after_tick, flood_after, meaning, parts_of, took_frame}
+use Rattle.control_channels.specs.Controllers as controllers
+use Rattle.control_channels.specs.Frames.{Sending, frames_to}
+use Rattle.world_rules.specs.Runs.{after, is_event_of, neighbours, step}
+use Rattle.world_rules.specs.Standing.{IsStepOf, IsUntouched, NodeStands}
+use Rattle.world_rules.specs.Worlds.{World, delivered, handed_up, handled as carried_out, numbered_at, start, taken, with_event as counted}
+use Rattle.world_rules.proofs.Stepping.{deliveries-are-taken, items-are-handled, ticks-are-ticked}
+use Rattle.world_rules.proofs.Untouched.{others-are-untouched}
 use Rattle.station.specs.declared.parcels.Parcel.{Parcel}
 use Rattle.station.specs.Histories.{History, popped, refilled, with_event_over, world_after}
 use Rattle.station.specs.Links.{LinkState, after_frames, is_to, with_popped}

@@ -3,7 +3,7 @@ use Rattle.std.proofs.Common.{◌≡◌, ◌≤◌, ◌<◌, ◌+◌, ◌^◌, �
 use Rattle.std.specs.Prelude.{position, slice_get, Some, None}
 use Rattle.std.specs.List.{AllByRecursion, position_or_len}
 use Rattle.ason_base.specs.declared.ids.NodeId.{NodeId}
-use Rattle.controller.specs.declared.frames.Frame.{Frame}
+use Rattle.control_channels.specs.declared.frames.Frame.{Frame}
 use Rattle.station.specs.Links.{ArePeersApart, HasNumbers, IsChangedAt, LinkState, after_frame, after_frames, is_to, popped_from, with_parcel, with_popped}
 
 -- The first that passes is changed

@@ -8,11 +8,11 @@ use Rattle.ason_base.specs.Network.{IsTopology, Network, are_ends, is_node_id, n
 use Rattle.hop_reliable.specs.Hop.{fresh}
 use Rattle.mesh_nodes.specs.LocalNodes.{is_neighbour}
 use Rattle.mesh_rules.specs.LocalNodes.{local_node}
-use Rattle.controller.specs.Adjacencies.{hop_at, hop_of, is_to as is_hop_to, neighbours as hop_neighbours, new_adjacency, peer_numbers}
-use Rattle.controller.specs.Kept.{new_controller}
-use Rattle.world_core.specs.Runs.{is_channel, neighbours}
-use Rattle.world_core.specs.Worlds.{start}
-use Rattle.world_core.proofs.Untouched.{channels-join-neighbours}
+use Rattle.control_channels.specs.Adjacencies.{hop_at, hop_of, is_to as is_hop_to, neighbours as hop_neighbours, new_adjacency, peer_numbers}
+use Rattle.control_channels.specs.Kept.{new_controller}
+use Rattle.world_rules.specs.Runs.{is_channel, neighbours}
+use Rattle.world_rules.specs.Worlds.{start}
+use Rattle.world_rules.proofs.Untouched.{channels-join-neighbours}
 use Rattle.station.specs.Histories.{new_history}
 use Rattle.station.specs.Links.{ArePeersApart, LinkState, is_to, new_link}
 use Rattle.station.specs.Standing.{LinkStands, Stands}

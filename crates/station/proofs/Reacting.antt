@@ -5,7 +5,7 @@ use Rattle.std.specs.List.{AllByRecursion}
 use Rattle.mesh_nodes.specs.LocalNodes.{is_neighbour}
 use Rattle.mesh_rules.specs.LocalNodes.{LocalNode}
 use Rattle.ason_base.specs.declared.ids.NodeId.{NodeId}
-use Rattle.controller.specs.declared.frames.Frame.{Frame}
+use Rattle.control_channels.specs.declared.frames.Frame.{Frame}
 use Rattle.station.specs.Links.{ArePeersApart, HasNumbers, LinkState, after_frame, after_frames, is_to, with_popped}
 use Rattle.station.specs.Steps.{LinksFit}
 use Rattle.station.proofs.Linking.{after_frame-sent, after_frames-peer, if_to, peers-apart-map}

@@ -3,7 +3,7 @@ use Rattle.std.proofs.Common.{◌≡◌, ◌≤◌, ◌+◌, ◌-◌, ℕ, Bool,
 use Rattle.std.specs.Prelude.{Err, Ok, Result, Some, slice_get}
 use Rattle.std.proofs.lemmas.List.{length-append}
 use Rattle.ason_base.specs.declared.ids.NodeId.{NodeId}
-use Rattle.controller.specs.declared.frames.Frame.{Frame}
+use Rattle.control_channels.specs.declared.frames.Frame.{Frame}
 use Rattle.station.specs.declared.halts.Halt.{Halt}
 use Rattle.station.specs.declared.halts.Halt.TheVariants as halt
 use Rattle.station.specs.declared.parcels.Parcel.{Parcel}

@@ -6,9 +6,9 @@ use Rattle.std.proofs.lemmas.List.{length-append, map-append}
 use Rattle.ason_base.specs.declared.ids.NodeId.{NodeId}
 use Rattle.flood.specs.declared.frames.Content.{Content}
 use Rattle.flood.specs.Frames.{IsFrame as spells, frame_bytes}
-use Rattle.controller.specs.Frames.{Sending, frames_to}
-use Rattle.world_core.specs.Standing.{contents_to}
-use Rattle.world_core.specs.Worlds.{World, numbered_at}
+use Rattle.control_channels.specs.Frames.{Sending, frames_to}
+use Rattle.world_rules.specs.Standing.{contents_to}
+use Rattle.world_rules.specs.Worlds.{World, numbered_at}
 use Rattle.station.specs.declared.parcels.Parcel.{Parcel}
 use Rattle.station.specs.Histories.{all_pushed, count_of, numbers_after, pushed, refilled}
 use Rattle.station.specs.Links.{LinkState, after_frames, is_to, with_parcel}

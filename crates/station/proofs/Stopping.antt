@@ -9,7 +9,7 @@ use Rattle.ason_base.specs.declared.commands.DeskItem.{DeskItem}
 use Rattle.ason_base.specs.declared.commands.Event.TheVariants.{Deliver, Desk, Tick}
 use Rattle.ason_base.specs.Network.{Network}
 use Rattle.station.specs.Histories.{History, handled, handled_first, if_able, made, made_by, popped, stopped_at, took, took_first, with_event, with_event_over, world_after}
-use Rattle.world_core.specs.Runs.{neighbours}
+use Rattle.world_rules.specs.Runs.{neighbours}
 use Rattle.station.specs.Turns.{desk_done, repeated, ring_done, rings_done, tick_done, turn}
 
 -- the run is stopped at this node

@@ -5,11 +5,11 @@ use Rattle.ason_base.specs.declared.ids.NodeId.{NodeId}
 use Rattle.ason_base.specs.declared.commands.DeskItem.{DeskItem}
 use Rattle.ason_base.specs.declared.commands.Event.TheVariants.{Deliver, Desk}
 use Rattle.ason_base.specs.Network.{Network}
-use Rattle.controller.specs.declared.inputs.CoreInput.TheVariants as input
+use Rattle.control_channels.specs.declared.inputs.CoreInput.TheVariants as input
 use Rattle.station.specs.declared.parcels.Parcel.{Parcel}
 use Rattle.station.specs.Histories.{History, handled, handled_first, made_by, popped, took, took_first, with_event, with_event_over, world_after}
 use Rattle.station.specs.Links.{LinkState, popped_from}
-use Rattle.world_core.specs.Standing.{NodeStands}
+use Rattle.world_rules.specs.Standing.{NodeStands}
 use Rattle.station.specs.Standing.{AreParcelsOf, IsParcelOf, LinkStands, Stands, StationState, numbers_of}
 use Rattle.station.specs.Steps.{HasReacted}
 use Rattle.station.proofs.Doing.{AreReady, frame-done, item-done, links-popped}

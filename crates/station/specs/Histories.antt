@@ -7,9 +7,9 @@ use Rattle.ason_base.specs.declared.commands.Event.{Event}
 use Rattle.ason_base.specs.declared.commands.Event.TheVariants.{Deliver, Desk}
 use Rattle.ason_base.specs.Network.{Network}
 use Rattle.mesh_rules.specs.Machine.{Mesh}
-use Rattle.world_core.specs.Worlds.{World, start}
-use Rattle.world_core.specs.Runs.{after, step}
-use Rattle.world_core.specs.Images.{image}
+use Rattle.world_rules.specs.Worlds.{World, start}
+use Rattle.world_rules.specs.Runs.{after, step}
+use Rattle.world_rules.specs.Images.{image}
 
 pub record History : Type 0 where
   pub events : List Event

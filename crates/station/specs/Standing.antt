@@ -6,10 +6,10 @@ use Rattle.ason_base.specs.declared.commands.DeskItem.{DeskItem}
 use Rattle.ason_base.specs.Network.{Network}
 use Rattle.flood.specs.declared.frames.Content.{Content}
 use Rattle.flood.specs.Frames.{IsFrame}
-use Rattle.world_core.specs.Runs.{neighbours}
-use Rattle.world_core.specs.Standing.{NodeStands}
-use Rattle.world_core.specs.Worlds.{World, numbered_at}
-use Rattle.controller.specs.Controllers.{ControllerState}
+use Rattle.world_rules.specs.Runs.{neighbours}
+use Rattle.world_rules.specs.Standing.{NodeStands}
+use Rattle.world_rules.specs.Worlds.{World, numbered_at}
+use Rattle.control_channels.specs.Controllers.{ControllerState}
 use Rattle.station.specs.declared.parcels.Parcel.{Parcel}
 use Rattle.station.specs.Histories.{History, count_of, world_after}
 use Rattle.station.specs.Links.{LinkState, peers_of}

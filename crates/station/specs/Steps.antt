@@ -3,9 +3,9 @@ use Rattle.std.specs.Prelude.{◌≡◌, ◌≤◌, ℕ, ◌*◌, ◌^◌, List,
 use Rattle.std.specs.List.{AllByRecursion}
 use Rattle.mesh_nodes.specs.LocalNodes.{is_neighbour}
 use Rattle.mesh_rules.specs.LocalNodes.{LocalNode}
-use Rattle.controller.specs.declared.frames.Frame.{Frame}
-use Rattle.controller.specs.declared.inputs.CoreInput.{CoreInput}
-use Rattle.controller.specs.Controllers.{ControllerState, IsStep}
+use Rattle.control_channels.specs.declared.frames.Frame.{Frame}
+use Rattle.control_channels.specs.declared.inputs.CoreInput.{CoreInput}
+use Rattle.control_channels.specs.Controllers.{ControllerState, IsStep}
 use Rattle.station.specs.Links.{ArePeersApart, LinkState, after_frames}
 
 -- Each link leads to a neighbour of its own. After so many steps its frames have numbers left. No node makes more than

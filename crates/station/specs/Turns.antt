@@ -3,7 +3,7 @@ use Rattle.std.specs.Prelude.{ℕ, zero, suc, Bool, List, length, fold, if◌the
 use Rattle.ason_base.specs.declared.ids.NodeId.{NodeId}
 use Rattle.ason_base.specs.declared.commands.Event.TheVariants.{Tick}
 use Rattle.ason_base.specs.Network.{Network}
-use Rattle.world_core.specs.Runs.{neighbours}
+use Rattle.world_rules.specs.Runs.{neighbours}
 use Rattle.station.specs.Histories.{History, handled, made, took, world_after}
 
 abbrev pub repeated : (History → History) → ℕ → History → History

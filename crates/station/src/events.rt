@@ -1,7 +1,7 @@
 //! One event of a station.
 
 ghost use Rattle.std.specs.Prelude.{◌≡◌, ◌<◌, ◌≤◌, OnErr, OnOk};
-ghost use Rattle.controller.specs.Kept.{IsFromNeighbour};
+ghost use Rattle.control_channels.specs.Kept.{IsFromNeighbour};
 ghost use Rattle.station.specs.Links.{KeepRoom, peers_of};
 ghost use Rattle.station.specs.Steps.{HasReacted, LinksFit};
 

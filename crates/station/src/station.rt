@@ -3,10 +3,10 @@
 ghost use Rattle.std.specs.Prelude.{◌≡◌, ◌+◌, ◌<◌, ◌≤◌, ◌++◌, ◌∷◌, ℕ, List, [], MatchOption, IfErr, IfOk, IsSome, IsTrue, OnErr, OnOk, Some, length, map, nat_lt, not, position, slice_get, slice_set};
 ghost use Rattle.ason_base.specs.declared.ids.NodeId.{NodeId};
 ghost use Rattle.ason_base.specs.Network.{Network, find_node};
-ghost use Rattle.controller.specs.Kept.{IsFromNeighbour};
-ghost use Rattle.controller.specs.Controllers.{ControllerState};
+ghost use Rattle.control_channels.specs.Kept.{IsFromNeighbour};
+ghost use Rattle.control_channels.specs.Controllers.{ControllerState};
 ghost use Rattle.ason_base.specs.declared.commands.Event.TheVariants.{Desk as DeskEvent, Tick};
-ghost use Rattle.controller.specs.declared.inputs.CoreInput.{CoreInput};
+ghost use Rattle.control_channels.specs.declared.inputs.CoreInput.{CoreInput};
 ghost use Rattle.mesh_nodes.specs.LocalNodes.{is_neighbour};
 ghost use Rattle.station.specs.declared.halts.Halt.{Halt};
 ghost use Rattle.station.specs.Histories.{History, handled, made, new_history, took};
@@ -15,7 +15,7 @@ ghost use Rattle.station.specs.Standing.{IsOrdered, Stands, StationState};
 ghost use Rattle.station.specs.Steps.{HasReacted, LinksFit};
 ghost use Rattle.station.specs.Turning.{HasDone, HasTurned, IsCutBy, IsStopped, IsTurn, answer_of, worked};
 ghost use Rattle.station.specs.declared.turns.Turn.{Turn};
-ghost use Rattle.world_core.specs.Runs.{neighbours};
+ghost use Rattle.world_rules.specs.Runs.{neighbours};
 ghost use Rattle.station.specs.Turns.{desk_done, ring_done, rings_done, tick_done, turn};
 
 use crate::desks::Desk;

@@ -1,7 +1,7 @@
 //! The links of a new station.
 
 ghost use Rattle.std.specs.Prelude.{◌≡◌, IfOk, map};
-ghost use Rattle.world_core.specs.Runs.{is_channel, neighbours};
+ghost use Rattle.world_rules.specs.Runs.{is_channel, neighbours};
 ghost use Rattle.station.specs.Links.{new_link};
 ghost use Rattle.ason_base.specs.Network.{are_ends, is_node_id};
 ghost use Rattle.std.specs.List.{list_any};

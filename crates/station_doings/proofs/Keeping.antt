@@ -9,7 +9,7 @@ use Rattle.ason_base.specs.declared.commands.DisturbKind.{DisturbKind}
 use Rattle.ason_base.specs.declared.commands.DisturbKind.TheVariants.{Lose, Repeat, Hold}
 use Rattle.flood.proofs.Members.{there_map}
 use Rattle.hop_reliable.proofs.Members.{each-append, each-more}
-use Rattle.controller.specs.declared.frames.Frame.{Frame}
+use Rattle.control_channels.specs.declared.frames.Frame.{Frame}
 use Rattle.world_merge.specs.Deeds.{Deed, stamp_of}
 use Rattle.station_sound.specs.declared.parcels.Parcel.{Parcel}
 use Rattle.station_sound.specs.Links.{HasGot, LinkView, after_frames}

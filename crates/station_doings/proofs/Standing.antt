@@ -8,7 +8,7 @@ use Rattle.ason_base.specs.declared.commands.DisturbKind.TheVariants.{Hold}
 use Rattle.ason_base.specs.declared.commands.Event.TheVariants.{Deliver}
 use Rattle.ason_base.specs.Network.{Network}
 use Rattle.flood.specs.Frames.{IsFrame}
-use Rattle.controller.specs.declared.inputs.CoreInput.TheVariants as input
+use Rattle.control_channels.specs.declared.inputs.CoreInput.TheVariants as input
 use Rattle.world_merge.specs.Deeds.{Handled, Ticked, Took}
 use Rattle.station_sound.specs.Links.{LinkView}
 use Rattle.station_sound.specs.Stations.{IsSound, StationView}

@@ -9,7 +9,7 @@ use Rattle.ason_base.specs.Network.{Network}
 use Rattle.wire_buf.specs.Codecs.{HasOneMeaning}
 use Rattle.flood.specs.declared.frames.Content.{Content}
 use Rattle.flood.specs.Frames.{IsFrame}
-use Rattle.controller.specs.declared.inputs.CoreInput.TheVariants as input
+use Rattle.control_channels.specs.declared.inputs.CoreInput.TheVariants as input
 use Rattle.station_sound.specs.declared.parcels.Parcel.{Parcel}
 use Rattle.station_sound.specs.Steps.{HasListened, HasReacted}
 use Rattle.round_rules.specs.Doings.{Doing, Freed, Left, Lost, Waiting}

@@ -9,11 +9,11 @@ use Rattle.ason_base.specs.declared.commands.Event.TheVariants.{Post}
 use Rattle.ason_base.specs.Network.{Network}
 use Rattle.ason_base.proofs.Ordered.{contains-cases, contains-head, contains-none, contains-tail}
 use Rattle.hop_reliable.proofs.Members.{each-append, each-more}
-use Rattle.controller.specs.Controllers.{ControllerState}
-use Rattle.world_core.specs.Runs.{step}
-use Rattle.world_core.specs.Standing.{IsUntouched, NodeStands}
-use Rattle.world_core.specs.Worlds.{World, start}
-use Rattle.world_core.proofs.Untouched.{others-are-untouched}
+use Rattle.control_channels.specs.Controllers.{ControllerState}
+use Rattle.world_rules.specs.Runs.{step}
+use Rattle.world_rules.specs.Standing.{IsUntouched, NodeStands}
+use Rattle.world_rules.specs.Worlds.{World, start}
+use Rattle.world_rules.proofs.Untouched.{others-are-untouched}
 use Rattle.world_merge.specs.Deeds.{Deed, Handled, Heard, Posted, Ticked, Took, alone, sent_by, stamp_of}
 use Rattle.world_merge.specs.Logs.{log_of}
 use Rattle.world_merge.proofs.Splitting.{alone-more}

@@ -9,9 +9,9 @@ use Rattle.ason_base.specs.declared.commands.Command.{Command}
 use Rattle.ason_base.specs.declared.commands.Command.TheVariants.{Setup, Release, Protect, Retry, Revert, Fail, Repair}
 use Rattle.ason_base.specs.declared.commands.Event.TheVariants.{Post}
 use Rattle.ason_base.specs.Network.{Network}
-use Rattle.world_core.specs.Runs.{step}
-use Rattle.world_core.specs.Worlds.{World, start, with_event}
-use Rattle.world_core.proofs.Finding.{self_test}
+use Rattle.world_rules.specs.Runs.{step}
+use Rattle.world_rules.specs.Worlds.{World, start, with_event}
+use Rattle.world_rules.proofs.Stepping.{self_test}
 use Rattle.world_merge.specs.Deeds.{AreDoable, Deed, Handled, Heard, IsDoable, Posted, Ticked, Took, alone_from, done}
 use Rattle.world_merge.specs.Deeds.{stamp_of, upto}
 use Rattle.world_merge.specs.Logs.{RisesAbove, line_of, log_of}

@@ -9,12 +9,12 @@ use Rattle.flood.specs.Frames.{IsFrame, frame_bytes}
 use Rattle.flood.specs.State.{FloodState}
 use Rattle.hop_reliable.proofs.Members.{each-append, each-more}
 use Rattle.mesh_rules.specs.LocalNodes.{LocalNode}
-use Rattle.controller.specs.declared.frames.Frame.{Frame}
-use Rattle.controller.specs.Controllers.{AreMade, ControllerState, Stepped, parts_of}
-use Rattle.controller.specs.Frames.{Sending, frames_to}
-use Rattle.world_core.specs.Runs.{may_act}
-use Rattle.world_core.specs.Standing.{IsStepOf, NodeStands}
-use Rattle.world_core.specs.Worlds.{World, start}
+use Rattle.control_channels.specs.declared.frames.Frame.{Frame}
+use Rattle.control_channels.specs.Controllers.{AreMade, ControllerState, Stepped, parts_of}
+use Rattle.control_channels.specs.Frames.{Sending, frames_to}
+use Rattle.world_rules.specs.Runs.{may_act}
+use Rattle.world_rules.specs.Standing.{IsStepOf, NodeStands}
+use Rattle.world_rules.specs.Worlds.{World, start}
 use Rattle.world_merge.specs.Deeds.{Deed, IsDoable, alone, done, stamp_of}
 use Rattle.world_merge.specs.Logs.{log_of}
 use Rattle.world_merge.proofs.Splitting.{alone-more}

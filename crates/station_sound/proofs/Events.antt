@@ -11,14 +11,14 @@ use Rattle.flood.specs.State.{FloodState}
 use Rattle.flood.proofs.Members.{there_from_filter, there_from_map, there_map}
 use Rattle.mesh_rules.specs.Events.{has_first}
 use Rattle.mesh_rules.specs.LocalNodes.{LocalNode, local_node}
-use Rattle.controller.specs.declared.inputs.CoreInput.TheVariants as input
-use Rattle.controller.specs.Controllers.{ControllerState, after_tick, flood_after, meaning, took_frame, unmoved}
-use Rattle.controller.specs.Controllers as controllers
-use Rattle.world_core.specs.Runs.{is_channel, may_act, neighbours, step}
-use Rattle.world_core.specs.Standing.{IsStepOf}
-use Rattle.world_core.specs.Worlds.{World, delivered, with_event}
-use Rattle.world_core.proofs.Finding.{self_test}
-use Rattle.world_core.proofs.Stepping.{contents-are-taken, items-are-handled, noise-moves-nothing, ticks-are-ticked}
+use Rattle.control_channels.specs.declared.inputs.CoreInput.TheVariants as input
+use Rattle.control_channels.specs.Controllers.{ControllerState, after_tick, flood_after, meaning, took_frame, unmoved}
+use Rattle.control_channels.specs.Controllers as controllers
+use Rattle.world_rules.specs.Runs.{is_channel, may_act, neighbours, step}
+use Rattle.world_rules.specs.Standing.{IsStepOf}
+use Rattle.world_rules.specs.Worlds.{World, delivered, with_event}
+use Rattle.world_rules.proofs.Stepping.{self_test}
+use Rattle.world_rules.proofs.Stepping.{contents-are-taken, items-are-handled, noise-moves-nothing, ticks-are-ticked}
 use Rattle.world_merge.specs.Deeds.{Handled, Heard, Ticked, Took, alone}
 use Rattle.world_merge.proofs.Elsewhere.{IsKept, kept-delivered}
 use Rattle.station_sound.specs.Links.{LinkView}

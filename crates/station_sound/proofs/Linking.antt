@@ -11,11 +11,11 @@ use Rattle.flood.specs.Frames.{IsFrame, frame_bytes}
 use Rattle.flood.specs.State.{FloodState}
 use Rattle.flood.proofs.Members.{there_map}
 use Rattle.hop_reliable.proofs.Members.{each-append, each-more}
-use Rattle.controller.specs.declared.frames.Frame.{Frame}
-use Rattle.controller.specs.Controllers.{Stepped}
-use Rattle.controller.specs.Frames.{Sending, frames_to}
-use Rattle.world_core.specs.Standing.{IsStepOf, contents_to}
-use Rattle.world_core.specs.Worlds.{World, numbered_at, start}
+use Rattle.control_channels.specs.declared.frames.Frame.{Frame}
+use Rattle.control_channels.specs.Controllers.{Stepped}
+use Rattle.control_channels.specs.Frames.{Sending, frames_to}
+use Rattle.world_rules.specs.Standing.{IsStepOf, contents_to}
+use Rattle.world_rules.specs.Worlds.{World, numbered_at, start}
 use Rattle.world_merge.specs.Deeds.{Deed, Handled, Heard, Posted, Ticked, Took, alone, done, sent_by, stamp_of, upto}
 use Rattle.world_merge.proofs.Splitting.{alone-more}
 use Rattle.station_sound.specs.declared.parcels.Parcel.{Parcel}

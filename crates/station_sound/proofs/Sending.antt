@@ -8,10 +8,10 @@ use Rattle.ason_base.specs.declared.ids.NodeId.{NodeId}
 use Rattle.flood.specs.declared.frames.Content.{Content}
 use Rattle.flood.specs.Frames.{IsFrame, frame_bytes}
 use Rattle.hop_reliable.proofs.Members.{each-append}
-use Rattle.controller.specs.Frames.{Sending, frames_to}
-use Rattle.world_core.specs.Standing.{contents_to}
-use Rattle.world_core.specs.Worlds.{numbered_at}
-use Rattle.world_core.proofs.Sent.{turned}
+use Rattle.control_channels.specs.Frames.{Sending, frames_to}
+use Rattle.world_rules.specs.Standing.{contents_to}
+use Rattle.world_rules.specs.Worlds.{numbered_at}
+use Rattle.world_rules.proofs.Sent.{turned}
 use Rattle.station_sound.specs.declared.parcels.Parcel.{Parcel}
 use Rattle.station_sound.specs.Links.{LinkView, after_frames, is_to, with_parcel}
 

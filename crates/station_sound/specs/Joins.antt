@@ -4,7 +4,7 @@ use Rattle.std.specs.List.{Contains}
 use mathlib.Core.List.{IsPrefix}
 use Rattle.ason_base.specs.declared.commands.Command.{Command}
 use Rattle.ason_base.specs.Network.{Network, is_node_id}
-use Rattle.world_core.specs.Worlds.{start}
+use Rattle.world_rules.specs.Worlds.{start}
 use Rattle.world_merge.specs.Deeds.{AreDoable, Posted}
 use Rattle.world_merge.specs.Histories.{AreHistories, Histories, at}
 use Rattle.station_sound.specs.Links.{LinkView}

@@ -1,7 +1,7 @@
 -- The link of a station to a neighbour: all that ever went into its ring, and all that ever came out of the ring back.
 use Rattle.std.specs.Prelude.{◌≡◌, ◌+◌, ◌==◌, ℕ, Bool, nat_lt, List, [], ◌∷◌, ◌++◌, if◌then◌else◌}
 use Rattle.ason_base.specs.declared.ids.NodeId.{NodeId}
-use Rattle.controller.specs.declared.frames.Frame.{Frame}
+use Rattle.control_channels.specs.declared.frames.Frame.{Frame}
 use Rattle.station_sound.specs.declared.parcels.Parcel.{Parcel}
 
 pub record LinkView : Type 0 where

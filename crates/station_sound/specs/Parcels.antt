@@ -6,7 +6,7 @@ use Rattle.ason_base.specs.Network.{Network}
 use Rattle.wire_buf.specs.Codecs.{HasOneMeaning}
 use Rattle.flood.specs.declared.frames.Content.{Content}
 use Rattle.flood.specs.Frames.{IsFrame}
-use Rattle.world_core.specs.Worlds.{numbered_at}
+use Rattle.world_rules.specs.Worlds.{numbered_at}
 use Rattle.world_merge.specs.Deeds.{Deed, Handled, Heard, Posted, Ticked, Took, sent_by, upto}
 use Rattle.station_sound.specs.declared.parcels.Parcel.{Parcel}
 use Rattle.station_sound.specs.Links.{LinkView}

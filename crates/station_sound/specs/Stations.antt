@@ -5,10 +5,10 @@ use Rattle.ason_base.specs.declared.ids.NodeId.{NodeId}
 use Rattle.ason_base.specs.declared.commands.DeskItem.{DeskItem}
 use Rattle.ason_base.specs.declared.commands.Entry.{Entry}
 use Rattle.ason_base.specs.Network.{Network, is_node_id}
-use Rattle.controller.specs.Controllers.{ControllerState}
-use Rattle.world_core.specs.Runs.{neighbours}
-use Rattle.world_core.specs.Standing.{NodeStands}
-use Rattle.world_core.specs.Worlds.{start}
+use Rattle.control_channels.specs.Controllers.{ControllerState}
+use Rattle.world_rules.specs.Runs.{neighbours}
+use Rattle.world_rules.specs.Standing.{NodeStands}
+use Rattle.world_rules.specs.Worlds.{start}
 use Rattle.world_merge.specs.Deeds.{AreDoable, Deed, alone, sent_by, stamp_of}
 use Rattle.world_merge.specs.Logs.{RisesAbove, log_of}
 use Rattle.station_sound.specs.declared.parcels.Parcel.{Parcel}

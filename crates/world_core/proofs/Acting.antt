@@ -19,16 +19,17 @@ use Rattle.world_core.specs.declared.acts.Act.{Act}
 use Rattle.world_core.specs.declared.acts.Act.TheVariants as act
 use Rattle.world_core.specs.Channels.{ChannelState, channel_to, frame_on}
 use Rattle.world_core.specs.Replays.{HasActed, HasStepped, IsDisabled, IsNowhere, IsUnable, StandsFor, WorldState}
-use Rattle.world_core.specs.Runs.{is_channel, is_event_of, may_act, step}
+use Rattle.world_rules.specs.Runs.{is_channel, is_event_of, may_act, step}
 use Rattle.world_core.specs.Seats.{HasDoneAt, SeatStands, SeatState, can_do, channel_of, frame_there, is_able, is_at, is_channel_there}
-use Rattle.world_core.specs.Standing.{IsUntouched}
-use Rattle.world_core.specs.Worlds.{World, delivered, frame_at, handed_up, numbered_at, taken, with_event}
-use Rattle.world_core.specs.Worlds as worlds
-use Rattle.world_core.proofs.Finding.{IsFirst, all-get, also-found, found-has, is-first, item-found, not-found, same_number, self_test}
+use Rattle.world_rules.specs.Standing.{IsUntouched}
+use Rattle.world_rules.specs.Worlds.{World, delivered, frame_at, handed_up, numbered_at, taken, with_event}
+use Rattle.world_rules.specs.Worlds as worlds
+use Rattle.world_core.proofs.Finding.{IsFirst, all-get, also-found, found-has, is-first, item-found, not-found, same_number}
+use Rattle.world_rules.proofs.Stepping.{self_test}
 use Rattle.world_core.proofs.Places.{all-set, nodes-set, numbers-set, seat-there}
 use Rattle.world_core.proofs.Seating.{desk_kept, frame-stands, handle-stands, made_kept, noise-stands, still-stands, tick-stands}
 use Rattle.world_core.proofs.Sending.{IsNumbered, is-numbered, not-numbered}
-use Rattle.world_core.proofs.Untouched.{channels-join-neighbours, others-are-untouched}
+use Rattle.world_rules.proofs.Untouched.{channels-join-neighbours, others-are-untouched}
 
 turned : (a b : ℕ) (c : Bool) → nat_eq a b ≡ c → nat_eq b a ≡ c
 turned a b true e = grind arith

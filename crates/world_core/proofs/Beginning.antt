@@ -11,11 +11,12 @@ use Rattle.ason_base.specs.Network.{IsTopology, Network, end_beside, find_node, 
 use Rattle.flood.specs.Networks.{declared_rows, new_flood, own_rows}
 use Rattle.flood.specs.State.{pending_count}
 use Rattle.mesh_rules.proofs.Topologies.{each-link}
-use Rattle.controller.proofs.Beginning.{link-ends, own-are}
+use Rattle.control_channels.proofs.Beginning.{link-ends, own-are}
 use Rattle.world_core.specs.Replays.{StandsFor}
 use Rattle.world_core.specs.Seats.{SeatStands, SeatState, new_seat}
-use Rattle.world_core.specs.Worlds.{start}
-use Rattle.world_core.proofs.Finding.{item-found, self_test}
+use Rattle.world_rules.specs.Worlds.{start}
+use Rattle.world_core.proofs.Finding.{item-found}
+use Rattle.world_rules.proofs.Stepping.{self_test}
 use Rattle.world_core.proofs.Seating.{new-stands}
 
 -- The nodes of a topology rise

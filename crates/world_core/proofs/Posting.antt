@@ -17,14 +17,15 @@ use Rattle.mesh_rules.specs.Failures.{all_news, failed_after}
 use Rattle.mesh_rules.proofs.LinkNews.{no-news}
 use Rattle.mesh_nodes.proofs.Cases.{both_left}
 use Rattle.world_core.specs.Replays.{HasStepped, IsDisabled, IsForNobody, HaveHeard, IsGiven, IsNowhere, IsPut, StandsFor, WorldState, ingress_of, numbers_of}
-use Rattle.world_core.specs.Runs.{posted}
+use Rattle.world_rules.specs.Runs.{posted}
 use Rattle.world_core.specs.Seats.{SeatStands, SeatState, is_at, told, with_item}
-use Rattle.world_core.specs.Worlds.{World}
-use Rattle.world_core.proofs.Counted.{made_posted}
-use Rattle.world_core.proofs.Finding.{IsFirst, all-get, is-first, not-found, same_number, self_test}
+use Rattle.world_rules.specs.Worlds.{World}
+use Rattle.world_rules.proofs.Counted.{made_posted}
+use Rattle.world_core.proofs.Finding.{IsFirst, all-get, is-first, not-found, same_number}
+use Rattle.world_rules.proofs.Stepping.{self_test}
 use Rattle.world_core.proofs.Places.{all-set, nodes-set, numbers-set, seat-there}
 use Rattle.world_core.proofs.Seating.{put-stands, still-stands}
-use Rattle.world_core.proofs.Untouched.{posted_elsewhere}
+use Rattle.world_rules.proofs.Untouched.{posted_elsewhere}
 
 -- What a post makes of the world
 

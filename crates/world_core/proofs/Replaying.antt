@@ -4,8 +4,8 @@ use Rattle.std.proofs.lemmas.List.{length-take-le, take_more}
 use Rattle.ason_base.specs.declared.commands.Event.{Event}
 use Rattle.ason_base.specs.Network.{Network}
 use Rattle.world_core.specs.Replays.{HasStepped, IsDisabled, IsFirstDisabled, StandsFor, WorldState}
-use Rattle.world_core.specs.Runs.{IsEnabled, IsRun, after, step}
-use Rattle.world_core.specs.Worlds.{World, start}
+use Rattle.world_rules.specs.Runs.{IsEnabled, IsRun, after, step}
+use Rattle.world_rules.specs.Worlds.{World, start}
 
 after-more : (t : Network) (es : List Event) (e : Event) (w : World) →
     after t w (es ++ e ∷ []) ≡ step t (after t w es) e

@@ -14,22 +14,23 @@ use Rattle.flood.specs.State as flood
 use Rattle.flood.specs.State.{FloodState}
 use Rattle.hop_reliable.specs.Schedules.{HopEnd}
 use Rattle.mesh_rules.specs.LocalNodes.{LocalNode, local_node}
-use Rattle.controller.specs.declared.frames.Frame.{Frame}
-use Rattle.controller.specs.declared.inputs.CoreInput.{CoreInput}
-use Rattle.controller.specs.Adjacencies.{neighbours}
-use Rattle.controller.specs.Controllers.{AreMade, ControllerState, IsStep, Stepped, after_tick, flood_after, handled, meaning, parts_of, took_frame, unmoved}
-use Rattle.controller.specs.Frames.{AllSpelled, frames_to}
-use Rattle.controller.proofs.Reaching.{hop-new, peers-new}
+use Rattle.control_channels.specs.declared.frames.Frame.{Frame}
+use Rattle.control_channels.specs.declared.inputs.CoreInput.{CoreInput}
+use Rattle.control_channels.specs.Adjacencies.{neighbours}
+use Rattle.control_channels.specs.Controllers.{AreMade, ControllerState, IsStep, Stepped, after_tick, flood_after, handled, meaning, parts_of, took_frame, unmoved}
+use Rattle.control_channels.specs.Frames.{AllSpelled, frames_to}
+use Rattle.control_channels.proofs.Reaching.{hop-new, peers-new}
 use Rattle.world_core.specs.declared.acts.Act.TheVariants as act
 use Rattle.world_core.specs.Channels.{AreSent, ChannelState, HasFrames, after_frames, channel_to, receivers}
-use Rattle.world_core.specs.Runs.{step}
+use Rattle.world_rules.specs.Runs.{step}
 use Rattle.world_core.specs.Seats.{HasDone, HasReacted, SeatStands, SeatState, new_seat}
-use Rattle.world_core.specs.Standing.{IsStepOf, IsUntouched, contents_to}
-use Rattle.world_core.specs.Worlds.{World, delivered, frame_at, handed_up, start, taken, with_event}
-use Rattle.world_core.specs.Worlds as worlds
-use Rattle.world_core.proofs.Finding.{found-passes, same_number, self_test}
+use Rattle.world_rules.specs.Standing.{IsStepOf, IsUntouched, contents_to}
+use Rattle.world_rules.specs.Worlds.{World, delivered, frame_at, handed_up, start, taken, with_event}
+use Rattle.world_rules.specs.Worlds as worlds
+use Rattle.world_core.proofs.Finding.{found-passes, same_number}
+use Rattle.world_rules.proofs.Stepping.{self_test}
 use Rattle.world_core.proofs.Sending.{has-sent, new-frames, new-there, still-there}
-use Rattle.world_core.proofs.Stepping.{deliveries-are-taken, items-are-handled, noise-moves-nothing, ticks-are-ticked}
+use Rattle.world_rules.proofs.Stepping.{deliveries-are-taken, items-are-handled, noise-moves-nothing, ticks-are-ticked}
 
 -- what an event of its node makes of a seat and of the world
 record IsStepped (w new : World) (s after : SeatState) (x : Stepped) (f : FloodState)

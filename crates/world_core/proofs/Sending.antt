@@ -11,12 +11,12 @@ use Rattle.ason_base.specs.declared.network.NodeSpec.{NodeSpec}
 use Rattle.ason_base.specs.Network.{Network, are_ends, is_node_id}
 use Rattle.flood.specs.declared.frames.Content.{Content}
 use Rattle.flood.specs.Frames.{IsFrame, frame_bytes}
-use Rattle.controller.specs.declared.frames.Frame.{Frame}
-use Rattle.controller.specs.Frames.{AllSpelled, Sending, frames_to}
+use Rattle.control_channels.specs.declared.frames.Frame.{Frame}
+use Rattle.control_channels.specs.Frames.{AllSpelled, Sending, frames_to}
 use Rattle.world_core.specs.Channels.{AreSent, ChannelState, HasFrames, IsChangedAt, after_frame, after_frames, channel_to, frame_numbered, leads_to, new_channel, receivers, with_frame}
-use Rattle.world_core.specs.Runs.{is_channel}
-use Rattle.world_core.specs.Standing.{contents_to}
-use Rattle.world_core.specs.Worlds.{numbered_at}
+use Rattle.world_rules.specs.Runs.{is_channel}
+use Rattle.world_rules.specs.Standing.{contents_to}
+use Rattle.world_rules.specs.Worlds.{numbered_at}
 use Rattle.world_core.proofs.Finding.{IsFirst, also-found, found-passes, is-first, not-found, same_number}
 
 turned : (a b : ℕ) (c : Bool) → nat_eq a b ≡ c → nat_eq b a ≡ c

@@ -11,14 +11,14 @@ use Rattle.hop_reliable.specs.Hop.{HopState}
 use Rattle.mesh_nodes.proofs.Cases.{both_left, both_right}
 use Rattle.mesh_rules.specs.LocalNodes.{LocalNode, local_node}
 use Rattle.mesh_rules.specs.State.{NodeState}
-use Rattle.controller.specs.declared.adjacencies.Adjacency.{Adjacency}
-use Rattle.controller.specs.Adjacencies.{hop_at, hop_of, is_to}
-use Rattle.controller.specs.Kept.{unacknowledged}
-use Rattle.controller.proofs.Reaching.{each-to_neighbour}
-use Rattle.world_core.specs.Images.{IsQuiet}
+use Rattle.control_channels.specs.declared.adjacencies.Adjacency.{Adjacency}
+use Rattle.control_channels.specs.Adjacencies.{hop_at, hop_of, is_to}
+use Rattle.control_channels.specs.Kept.{unacknowledged}
+use Rattle.control_channels.proofs.Reaching.{each-to_neighbour}
+use Rattle.world_rules.specs.Images.{IsQuiet}
 use Rattle.world_core.specs.Replays.{StandsFor, WorldState}
 use Rattle.world_core.specs.Seats.{SeatStands, SeatState, is_at, is_quiet}
-use Rattle.world_core.specs.Worlds.{World}
+use Rattle.world_rules.specs.Worlds.{World}
 use Rattle.world_core.proofs.Finding.{found-has, same_number}
 use Rattle.world_core.proofs.Places.{nodes_of, seat-there}
 

@@ -1,9 +1,3 @@
 pub mod Channels
-pub mod Frames
-pub mod Images
-pub mod Laws
 pub mod Replays
-pub mod Runs
 pub mod Seats
-pub mod Standing
-pub mod Worlds

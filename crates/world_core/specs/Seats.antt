@@ -10,18 +10,18 @@ use Rattle.mesh_nodes.specs.LocalNodes.{is_neighbour}
 use Rattle.mesh_rules.specs.Events.{has_first}
 use Rattle.mesh_rules.specs.Failures.{all_news, changed_news}
 use Rattle.mesh_rules.specs.LocalNodes.{local_node}
-use Rattle.controller.specs.declared.frames.Frame.{Frame}
-use Rattle.controller.specs.declared.inputs.CoreInput.{CoreInput}
-use Rattle.controller.specs.declared.inputs.CoreInput.TheVariants as input
-use Rattle.controller.specs.Adjacencies.{neighbours, peer_numbers}
-use Rattle.controller.specs.Controllers.{ControllerState, IsStep, meaning}
-use Rattle.controller.specs.Kept.{new_controller, unacknowledged}
+use Rattle.control_channels.specs.declared.frames.Frame.{Frame}
+use Rattle.control_channels.specs.declared.inputs.CoreInput.{CoreInput}
+use Rattle.control_channels.specs.declared.inputs.CoreInput.TheVariants as input
+use Rattle.control_channels.specs.Adjacencies.{neighbours, peer_numbers}
+use Rattle.control_channels.specs.Controllers.{ControllerState, IsStep, meaning}
+use Rattle.control_channels.specs.Kept.{new_controller, unacknowledged}
 use Rattle.world_core.specs.declared.acts.Act.{Act}
 use Rattle.world_core.specs.declared.acts.Act.TheVariants.{Take, Tick, Handle}
 use Rattle.world_core.specs.Channels.{AreSent, ChannelState, HasFrames, channel_to, frame_on, new_channel, receivers}
-use Rattle.world_core.specs.Runs.{is_channel}
-use Rattle.world_core.specs.Standing.{StandsAt}
-use Rattle.world_core.specs.Worlds.{World}
+use Rattle.world_rules.specs.Runs.{is_channel}
+use Rattle.world_rules.specs.Standing.{StandsAt}
+use Rattle.world_rules.specs.Worlds.{World}
 
 pub record SeatState : Type 0 where
   pub node : NodeId

@@ -3,8 +3,8 @@
 ghost use Rattle.std.specs.Prelude.{◌≡◌, ℕ, IfErr, IfOk};
 ghost use Rattle.world_core.specs.declared.replays.ReplayError.{ReplayError};
 ghost use Rattle.world_core.specs.Replays.{IsFirstDisabled, StandsFor};
-ghost use Rattle.world_core.specs.Runs.{IsRun, after};
-ghost use Rattle.world_core.specs.Worlds.{start};
+ghost use Rattle.world_rules.specs.Runs.{IsRun, after};
+ghost use Rattle.world_rules.specs.Worlds.{start};
 
 use crate::faults::Fault;
 use crate::world::World;

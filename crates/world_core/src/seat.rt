@@ -4,7 +4,7 @@ ghost use Rattle.std.specs.Prelude.{◌≡◌, ◌==◌, ◌<◌, [], ◌∷◌,
 ghost use Rattle.std.specs.Option.{option_copied};
 ghost use Rattle.ason_base.specs.Network.{find_node};
 ghost use Rattle.mesh_rules.specs.Rows.{call_rows, leg_rows};
-ghost use Rattle.controller.specs.Kept.{IsFromNeighbour};
+ghost use Rattle.control_channels.specs.Kept.{IsFromNeighbour};
 ghost use Rattle.world_core.specs.declared.acts.Act.{Act};
 ghost use Rattle.world_core.specs.declared.faults.Fault.{Fault};
 ghost use Rattle.world_core.specs.Channels.{channel_to, frame_on};

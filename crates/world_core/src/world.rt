@@ -9,7 +9,7 @@ ghost use Rattle.world_core.specs.declared.faults.Fault.{Fault};
 ghost use Rattle.world_core.specs.Replays.{HasActed, HasStepped, IsDisabled, IsForNobody, IsGiven, IsPut, HaveHeard, IsRefused, IsUnable, ShowsCalls, ShowsLegs, StandsFor, TellsQuiet, ingress_of, numbers_of};
 ghost use Rattle.world_core.specs.Seats.{frame_there, is_at, told};
 ghost use Rattle.mesh_rules.specs.Failures.{failed_after};
-ghost use Rattle.world_core.specs.Worlds.{start};
+ghost use Rattle.world_rules.specs.Worlds.{start};
 
 use crate::acts::Act;
 use crate::faults::Fault;

@@ -5,7 +5,7 @@ use Rattle.ason_base.specs.declared.commands.Entry.{Entry}
 use Rattle.ason_base.specs.Network.{Network}
 use Rattle.flood.specs.declared.frames.Content.{Content}
 use Rattle.hop_reliable.proofs.Members.{get-append_left}
-use Rattle.world_core.specs.Worlds.{World, numbered_at, start}
+use Rattle.world_rules.specs.Worlds.{World, numbered_at, start}
 use Rattle.world_merge.specs.Deeds.{Deed, Took, alone, alone_from, sent_by, upto}
 use Rattle.world_merge.specs.Histories.{Histories, IsGenuine, at}
 use Rattle.world_merge.specs.Merges.{Ascends}

@@ -2,7 +2,7 @@
 use Rattle.std.specs.Prelude.{◌≡◌, ◌<◌, ℕ, List, [], ◌∷◌, Some}
 use Rattle.ason_base.specs.declared.ids.NodeId.{NodeId}
 use Rattle.ason_base.specs.Network.{Network}
-use Rattle.world_core.specs.Worlds.{numbered_at, start}
+use Rattle.world_rules.specs.Worlds.{numbered_at, start}
 use Rattle.world_merge.specs.Deeds.{AreDoable, Deed, Heard, Handled, Posted, Ticked, Took, sent_by, upto}
 
 -- what happened at each number; at one that is no node's, the posts alone

@@ -2,7 +2,7 @@
 use Rattle.std.specs.Prelude.{◌≡◌, List, filter}
 use Rattle.ason_base.specs.declared.ids.NodeId.{NodeId}
 use Rattle.ason_base.specs.Network.{Network}
-use Rattle.world_core.specs.Worlds.{World}
+use Rattle.world_rules.specs.Worlds.{World}
 use Rattle.world_merge.specs.Deeds.{Deed, alone}
 use Rattle.world_merge.specs.Logs.{is_posted}
 

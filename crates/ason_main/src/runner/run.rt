@@ -13,7 +13,7 @@ use ason_io::{Sink, write_all};
 use fleet::{Fleet, every_script};
 use plan_reader::{Line, Plan};
 use std::alloc::Global;
-use world_core::every_world_run;
+use world_rules::every_world_run;
 
 /// The most rounds before the script and after it.
 const ROUNDS: u32 = 1000;

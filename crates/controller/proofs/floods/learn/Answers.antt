@@ -1,6 +1,6 @@
 use Rattle.std.proofs.Common.{sym, subst}
-use Rattle.node_core.specs.Nodes.{IsNode}
-use Rattle.controller.proofs.Flooding.{learnt-unknown, one-learnt, unlearnt}
+use Rattle.node_rules.specs.Nodes.{IsNode}
+use Rattle.control_channels.proofs.RowsLearnt.{learnt-unknown, one-learnt, unlearnt}
 use Rattle.controller.proofs.floods.learn.Goals as goal
 
 pub forget-requires-clause-learnt : goal.forget-requires-clause-learnt

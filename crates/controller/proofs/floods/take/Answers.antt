@@ -1,4 +1,4 @@
-use Rattle.controller.proofs.Flooding.{learnt-may}
+use Rattle.control_channels.proofs.RowsLearnt.{learnt-may}
 use Rattle.std.proofs.Common.{◌∙◌, sym}
 use Rattle.controller.proofs.floods.take.Goals as goal
 

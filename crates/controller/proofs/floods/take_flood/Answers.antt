@@ -4,11 +4,12 @@ use Rattle.ason_base.specs.declared.ids.NodeId.{NodeId}
 use Rattle.flood.specs.declared.messages.FloodMsg.{FloodMsg}
 use Rattle.flood.specs.Messages.{CanBeWritten}
 use Rattle.flood.specs.State.{sends_after}
-use Rattle.controller.specs.Controllers.{floods_to, with_learnt}
-use Rattle.controller.specs.Frames.{AllSpelled}
-use Rattle.controller.specs.Kept.{AllToNeighbours}
-use Rattle.controller.proofs.Flooding.{answer-few, answer-frames, answer-written, answers-near, fits-after}
-use Rattle.controller.proofs.Keeping.{frames-near}
+use Rattle.control_channels.specs.Controllers.{floods_to, with_learnt}
+use Rattle.control_channels.specs.Frames.{AllSpelled}
+use Rattle.control_channels.specs.Kept.{AllToNeighbours}
+use Rattle.controller.proofs.FloodCounts.{answer-few, answer-frames, answer-written, answers-near}
+use Rattle.controller.proofs.FloodKept.{fits-after}
+use Rattle.control_channels.proofs.NearFrames.{frames-near}
 use Rattle.controller.proofs.floods.take_flood.Goals as goal
 
 pub frame_floods-requires : goal.frame_floods-requires

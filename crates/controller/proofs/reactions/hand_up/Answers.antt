@@ -1,6 +1,6 @@
-use Rattle.controller.proofs.Preparing.{nothing-prepared}
-use Rattle.controller.proofs.Spelled.{nothing-spelled}
-use Rattle.controller.specs.Adjacencies.{hop_at}
+use Rattle.control_channels.proofs.Preparing.{nothing-prepared}
+use Rattle.control_channels.proofs.Spelled.{nothing-spelled}
+use Rattle.control_channels.specs.Adjacencies.{hop_at}
 use Rattle.controller.proofs.reactions.hand_up.Goals as goal
 
 pub returns-in-None-clause-hops : goal.returns-in-None-clause-hops

@@ -1,11 +1,12 @@
 use Rattle.std.proofs.Common.{[], ap, refl, arith}
 use Rattle.mesh_rules.specs.Orders.{on_item}
-use Rattle.controller.specs.Adjacencies.{hop_at}
-use Rattle.controller.proofs.Counting.{frames-few}
+use Rattle.control_channels.specs.Adjacencies.{hop_at}
+use Rattle.control_channels.proofs.Counting.{frames-few}
 use Rattle.mesh_nodes.proofs.LearnsNothing.{nothing-else}
-use Rattle.node_core.specs.Nodes.{NodeView}
-use Rattle.controller.proofs.Flooding.{same-learnt}
-use Rattle.controller.proofs.Keeping.{item-sent, made-kept, made-to_neighbours}
+use Rattle.node_rules.specs.Nodes.{NodeView}
+use Rattle.control_channels.proofs.RowsLearnt.{same-learnt}
+use Rattle.control_channels.proofs.Keeping.{item-sent, made-kept}
+use Rattle.control_channels.proofs.NearFrames.{made-to_neighbours}
 use Rattle.controller.proofs.Taking.{handled-made}
 use Rattle.controller.proofs.reactions.handle.Goals as goal
 

@@ -1,8 +1,8 @@
 use Rattle.std.proofs.Common.{Vec, Global}
-use Rattle.controller.specs.declared.frames.Frame.{Frame}
-use Rattle.controller.specs.Controllers.{parts}
+use Rattle.control_channels.specs.declared.frames.Frame.{Frame}
+use Rattle.control_channels.specs.Controllers.{parts}
 use Rattle.ason_base.proofs.Results.{on_ok}
-use Rattle.controller.proofs.Flooding.{fits-kept}
+use Rattle.controller.proofs.FloodKept.{fits-kept}
 use Rattle.controller.proofs.Reacting.{frame-reaction, frame-unambiguous}
 use Rattle.controller.proofs.reactions.react.Goals as goal
 

@@ -3,13 +3,13 @@ use Rattle.flood.specs.declared.frames.Content.{Content}
 use Rattle.flood.specs.Frames.{IsFrame}
 use Rattle.ason_base.proofs.Results.{if_ok, on_ok, on_ok_always}
 use Rattle.flood.specs.declared.frames.Content.TheVariants.{Message, Flood}
-use Rattle.controller.specs.declared.frames.Frame.{Frame}
-use Rattle.controller.specs.Kept.{IsKept}
-use Rattle.controller.specs.Controllers.{AreMade, flood_after, frame_step, parts}
-use Rattle.controller.proofs.Flooding.{fits-kept}
+use Rattle.control_channels.specs.declared.frames.Frame.{Frame}
+use Rattle.control_channels.specs.Kept.{IsKept}
+use Rattle.control_channels.specs.Controllers.{AreMade, flood_after, frame_step, parts}
+use Rattle.controller.proofs.FloodKept.{fits-kept}
 use Rattle.controller.proofs.Reacting.{flood-made}
-use Rattle.controller.proofs.Keeping.{kept-still}
-use Rattle.controller.proofs.Writing.{passed-on}
+use Rattle.control_channels.proofs.Keeping.{kept-still}
+use Rattle.control_channels.proofs.Writing.{passed-on}
 use Rattle.controller.proofs.reactions.take_frame.Goals as goal
 
 pub taken-requires-clause-body : goal.taken-requires-clause-body

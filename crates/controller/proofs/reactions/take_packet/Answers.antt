@@ -1,10 +1,10 @@
 use Rattle.std.proofs.Common.{◌+◌, ◌<◌, ◌^◌, ◌++◌, cond, nat_eq, sym, ap, ◌∙◌, subst}
 use Rattle.ason_base.specs.declared.ids.NodeId.{NodeId}
 use Rattle.hop_reliable.specs.Hop.{HopState}
-use Rattle.controller.specs.Adjacencies.{prepared_at, taken_by}
-use Rattle.controller.specs.Controllers.{acks_to}
-use Rattle.controller.specs.Frames.{AllSpelled, frames_to}
-use Rattle.controller.proofs.Resting.{same-hop, same-reach}
+use Rattle.control_channels.specs.Adjacencies.{prepared_at, taken_by}
+use Rattle.control_channels.specs.Controllers.{acks_to}
+use Rattle.control_channels.specs.Frames.{AllSpelled, frames_to}
+use Rattle.control_channels.proofs.Resting.{same-hop, same-reach}
 use Rattle.controller.proofs.Taking.{took-becomes, took-frames, took-spelled}
 use Rattle.controller.proofs.reactions.take_packet.Goals as goal
 

@@ -1,12 +1,13 @@
 use Rattle.std.proofs.Common.{◌+◌, sym, subst}
 use Rattle.hop_reliable.specs.Hop.{handed_up_of, heard_as}
 use Rattle.mesh_rules.specs.Events.{on_first}
-use Rattle.controller.specs.Adjacencies.{hop_at}
-use Rattle.controller.specs.Controllers.{acks_to, heard_hops}
-use Rattle.controller.specs.Kept.{IsKept}
-use Rattle.controller.proofs.Counting.{acks-few, frames-few, heard-waits}
-use Rattle.controller.proofs.Flooding.{first-learns_nothing, same-learnt}
-use Rattle.controller.proofs.Keeping.{acks-near, heard-again, heard-answered, heard-sent, kept-next, made-near}
+use Rattle.control_channels.specs.Adjacencies.{hop_at}
+use Rattle.control_channels.specs.Controllers.{acks_to, heard_hops}
+use Rattle.control_channels.specs.Kept.{IsKept}
+use Rattle.control_channels.proofs.Counting.{acks-few, frames-few, heard-waits}
+use Rattle.control_channels.proofs.RowsLearnt.{first-learns_nothing, same-learnt}
+use Rattle.control_channels.proofs.NearFrames.{acks-near, made-near}
+use Rattle.control_channels.proofs.Keeping.{heard-again, heard-answered, heard-sent, kept-next}
 use Rattle.controller.proofs.reactions.taken.Goals as goal
 
 pub take_packet-requires-clause-reached : goal.take_packet-requires-clause-reached

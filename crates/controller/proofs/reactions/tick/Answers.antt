@@ -5,12 +5,14 @@ use Rattle.hop_reliable.proofs.Members.{each-append}
 use Rattle.hop_reliable.specs.Hop.{ticked}
 use Rattle.mesh_nodes.specs.LocalNodes.{is_neighbour}
 use Rattle.mesh_rules.specs.Waits.{on_tick}
-use Rattle.controller.specs.Adjacencies.{again_to, hop_at}
-use Rattle.controller.specs.Controllers.{floods_to}
-use Rattle.controller.specs.Frames.{Sending}
-use Rattle.controller.proofs.Counting.{made-few, older-waits}
-use Rattle.controller.proofs.Flooding.{first-few, fits-ticked, floods-near}
-use Rattle.controller.proofs.Keeping.{again-near, made-kept, made-to_neighbours, older-again, tick-sent}
+use Rattle.control_channels.specs.Adjacencies.{again_to, hop_at}
+use Rattle.control_channels.specs.Controllers.{floods_to}
+use Rattle.control_channels.specs.Frames.{Sending}
+use Rattle.control_channels.proofs.Counting.{made-few, older-waits}
+use Rattle.controller.proofs.FloodCounts.{first-few, floods-near}
+use Rattle.controller.proofs.FloodKept.{fits-ticked}
+use Rattle.control_channels.proofs.NearFrames.{again-near, made-to_neighbours}
+use Rattle.control_channels.proofs.Keeping.{made-kept, older-again, tick-sent}
 use Rattle.controller.proofs.Taking.{ticked-made}
 use Rattle.controller.proofs.reactions.tick.Goals as goal
 

@@ -1,6 +1,6 @@
 use Rattle.std.proofs.Common.{◌≡◌, true, sym, ap, ◌∙◌}
 use Rattle.std.specs.Prelude.{Some, position, slice_get}
-use Rattle.world_core.specs.Runs.{is_channel}
+use Rattle.world_rules.specs.Runs.{is_channel}
 use Rattle.fleet.specs.NewFleets.{IsNew, is_node}
 use Rattle.fleet.specs.Standing.{ids_of}
 use Rattle.fleet.proofs.Channels.{back, from-near, parts}

@@ -1,7 +1,7 @@
 use Rattle.std.proofs.Common.{◌≡◌, ◌≤◌, ℕ, length}
 use Rattle.std.specs.Prelude.{Some, slice_get}
 use Rattle.ason_base.specs.declared.ids.NodeId.{NodeId}
-use Rattle.world_core.specs.Runs.{neighbours}
+use Rattle.world_rules.specs.Runs.{neighbours}
 use Rattle.fleet.specs.declared.seats.End.{End}
 use Rattle.fleet.specs.Standing.{IsEnd}
 use Rattle.fleet.proofs.seats.new_seat.Given as goal

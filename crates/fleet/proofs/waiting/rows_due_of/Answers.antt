@@ -1,5 +1,5 @@
 use Rattle.std.proofs.Common.{◌≡◌, ◌≤◌, ◌^◌, ap, ◌∙◌, subst, arith}
-use Rattle.controller.specs.Controllers.{ControllerState}
+use Rattle.control_channels.specs.Controllers.{ControllerState}
 use Rattle.flood.specs.State.{pending_count}
 use Rattle.fleet.specs.Waiting.{rows_due_of}
 use Rattle.fleet.proofs.Sums.{few-all, few-more, sum-more}

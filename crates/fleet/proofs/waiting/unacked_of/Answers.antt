@@ -1,6 +1,6 @@
 use Rattle.std.proofs.Common.{◌≡◌, ◌≤◌, ◌^◌, ap, ◌∙◌, subst, arith}
-use Rattle.controller.specs.Controllers.{ControllerState}
-use Rattle.controller.specs.Kept.{unacknowledged}
+use Rattle.control_channels.specs.Controllers.{ControllerState}
+use Rattle.control_channels.specs.Kept.{unacknowledged}
 use Rattle.fleet.specs.Waiting.{unacked_of}
 use Rattle.fleet.proofs.Sums.{few-all, few-more, sum-more}
 use Rattle.fleet.proofs.waiting.unacked_of.Goals as goal

@@ -1,7 +1,7 @@
 use Rattle.std.proofs.Common.{◌≡◌, map, take}
 use Rattle.std.specs.Prelude.{filter}
 use Rattle.ason_base.specs.declared.network.NodeSpec.{NodeSpec}
-use Rattle.world_core.specs.Runs.{is_channel}
+use Rattle.world_rules.specs.Runs.{is_channel}
 use Rattle.station.specs.Links.{new_link}
 use Rattle.station.proofs.wiring.new_links.Given as goal
 

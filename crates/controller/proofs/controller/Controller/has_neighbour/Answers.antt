@@ -1,8 +1,8 @@
 use Rattle.std.proofs.Common.{◌∙◌, ap}
 use Rattle.mesh_nodes.specs.LocalNodes.{is_neighbour}
-use Rattle.controller.specs.Adjacencies.{reaches}
-use Rattle.controller.specs.Controllers.{ControllerState}
-use Rattle.controller.proofs.Reaching.{reach-is}
+use Rattle.control_channels.specs.Adjacencies.{reaches}
+use Rattle.control_channels.specs.Controllers.{ControllerState}
+use Rattle.control_channels.proofs.Reaching.{reach-is}
 use Rattle.controller.proofs.controller.Controller.has_neighbour.Goals as goal
 
 pub returns : goal.returns

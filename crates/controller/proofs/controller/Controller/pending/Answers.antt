@@ -1,5 +1,5 @@
 use Rattle.std.proofs.Common.{◌≤◌, ◌^◌, sym, subst}
-use Rattle.controller.proofs.Flooding.{rows-few}
+use Rattle.controller.proofs.FloodCounts.{rows-few}
 use Rattle.controller.proofs.controller.Controller.pending.Goals as goal
 
 pub returns-clause-few_flood : goal.returns-clause-few_flood

@@ -1,9 +1,9 @@
 use Rattle.std.proofs.Common.{◌∙◌, ◌<◌, ◌+◌, sym, ap, subst}
 use Rattle.controller.specs.declared.controller.TheConstants.{MOST_STEPS}
-use Rattle.controller.specs.Controllers.{ControllerState}
-use Rattle.controller.specs.Kept.{IsKept, IsReady}
-use Rattle.controller.proofs.Keeping.{is-ready}
-use Rattle.controller.proofs.Loops.{whole}
+use Rattle.control_channels.specs.Controllers.{ControllerState}
+use Rattle.control_channels.specs.Kept.{IsKept, IsReady}
+use Rattle.control_channels.proofs.Keeping.{is-ready}
+use Rattle.control_channels.proofs.Loops.{whole}
 use Rattle.controller.proofs.controller.Controller.step.Goals as goal
 
 pub react-requires-clause-ready : goal.react-requires-clause-ready

@@ -1,5 +1,5 @@
 use Rattle.std.proofs.Common.{◌≡◌, ◌<◌, length, ◌∙◌, subst, arith}
-use Rattle.world_core.specs.Runs.{neighbours}
+use Rattle.world_rules.specs.Runs.{neighbours}
 use Rattle.fleet.specs.Looks.{IsLookedAt}
 use Rattle.fleet.proofs.Looking.{ends-count, looked-more, near-there, seat-there}
 use Rattle.fleet.proofs.Places.{IsThere}

@@ -1,6 +1,6 @@
 use Rattle.std.proofs.Common.{◌≡◌, sym, ◌∙◌, ap, subst}
 use Rattle.std.specs.Prelude.{IfOk, None, Some, position}
-use Rattle.node_core.specs.Nodes.{answer_to}
+use Rattle.node_rules.specs.Nodes.{answer_to}
 use Rattle.mesh.specs.Kept.{is_node, node_at}
 use Rattle.mesh.proofs.NodePlaces.{node_at-nowhere, node_at-place}
 use Rattle.mesh.proofs.nodes.Nodes.answer_at.Goals as goal

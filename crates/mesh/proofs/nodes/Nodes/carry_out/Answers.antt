@@ -2,7 +2,7 @@ use Rattle.std.proofs.Common.{◌≡◌, sym, ◌∙◌, ap, subst}
 use Rattle.std.specs.Prelude.{None, Some, position}
 use Rattle.std.specs.List.{AllByRecursion}
 use Rattle.mesh_rules.specs.Changes.{changed}
-use Rattle.node_core.specs.Nodes.{IsAnswerOf}
+use Rattle.node_rules.specs.Nodes.{IsAnswerOf}
 use Rattle.mesh_nodes.specs.Routes.{AreRowsOf}
 use Rattle.mesh.specs.Kept.{IsOfNetwork, is_node, node_at, state_at, with_state}
 use Rattle.mesh.proofs.NodePlaces.{all-carried, all-put, carried-nowhere, carried-place, node_at-nowhere, node_at-place, on_ok}

@@ -1,5 +1,6 @@
 use Rattle.std.proofs.Common.{subst, sym}
-use Rattle.node_core.specs.Nodes.{IsAnswerOf, node_of}
+use Rattle.node_rules.specs.Nodes.{IsAnswerOf}
+use Rattle.node_core.specs.Nodes.{node_of}
 use Rattle.node_core.proofs.Answers.{answered-fits, answered-may, carried-fits}
 use Rattle.node_core.proofs.node.Node.carry_out.Goals as goal
 

@@ -1,7 +1,8 @@
 use Rattle.std.proofs.Common.{◌≤◌, ◌∙◌, length, sym, ap, subst}
 use Rattle.leg_table.specs.LegClaims.{AreOfOneNode}
 use Rattle.leg_table.specs.Tables.{LegTable}
-use Rattle.node_core.specs.Nodes.{IsNode, NodeView, node_of, without_last}
+use Rattle.node_rules.specs.Nodes.{IsNode, NodeView, without_last}
+use Rattle.node_core.specs.Nodes.{node_of}
 use Rattle.node_core.proofs.Forgetting.{node-forgets, own-rows-stay}
 use Rattle.node_core.proofs.node.Node.forget.Goals as goal
 

@@ -1,6 +1,6 @@
 use Rattle.std.proofs.Common.{◌≡◌, nat_lt, true, sym, ap, ◌∙◌, subst, ◌∷◌}
-use Rattle.controller.specs.Controllers.{ControllerState}
-use Rattle.controller.specs.declared.inputs.CoreInput.TheVariants as input
+use Rattle.control_channels.specs.Controllers.{ControllerState}
+use Rattle.control_channels.specs.declared.inputs.CoreInput.TheVariants as input
 use Rattle.station.specs.Histories.{made_by}
 use Rattle.station.specs.Steps.{HasReacted}
 use Rattle.station.proofs.Making.{is-true}

@@ -1,7 +1,7 @@
 use Rattle.std.proofs.Common.{[], sym, subst}
 use Rattle.mesh_rules.specs.LocalNodes.{local_node}
-use Rattle.controller.specs.Controllers.{ControllerState}
-use Rattle.controller.specs.Kept.{new_controller}
+use Rattle.control_channels.specs.Controllers.{ControllerState}
+use Rattle.control_channels.specs.Kept.{new_controller}
 use Rattle.station.specs.Histories.{new_history}
 use Rattle.station.specs.Standing.{Stands}
 use Rattle.station.specs.Steps.{LinksFit}

@@ -1,7 +1,7 @@
 use Rattle.std.proofs.Common.{◌≡◌, ◌<◌, nat_lt, true, false, length, map, sym, ap, ◌∙◌, subst, arith}
 use Rattle.std.specs.Prelude.{IsTrue}
-use Rattle.controller.specs.Controllers.{ControllerState}
-use Rattle.controller.specs.declared.inputs.CoreInput.TheVariants as input
+use Rattle.control_channels.specs.Controllers.{ControllerState}
+use Rattle.control_channels.specs.declared.inputs.CoreInput.TheVariants as input
 use Rattle.mesh_nodes.specs.LocalNodes.{is_neighbour}
 use Rattle.station.specs.Histories.{made_by, took}
 use Rattle.station.specs.Links.{LinkState}

@@ -2,7 +2,7 @@ use Rattle.std.proofs.Common.{map, sym, subst, []}
 use Rattle.ason_base.specs.declared.network.NodeSpec.{NodeSpec}
 use Rattle.world_core.specs.Replays.{StandsFor, WorldState}
 use Rattle.world_core.specs.Seats.{new_seat}
-use Rattle.world_core.specs.Worlds.{start}
+use Rattle.world_rules.specs.Worlds.{start}
 use Rattle.world_core.proofs.Beginning.{new-world}
 use Rattle.world_core.proofs.world.World.new.Goals as goal
 

@@ -1,0 +1,17 @@
+pub mod Beginning
+pub mod Changing
+pub mod Counting
+pub mod DueRows
+pub mod Framing
+pub mod Keeping
+pub mod Later
+pub mod Loops
+pub mod NearFrames
+pub mod NewHops
+pub mod Preparing
+pub mod Reaching
+pub mod Resting
+pub mod RowsLearnt
+pub mod Sending
+pub mod Spelled
+pub mod Writing

@@ -1,0 +1,50 @@
+-- A node's answer is prepared.
+use Rattle.std.proofs.Common.{◌≡◌, ◌≤◌, ◌++◌, ℕ, List, length, map, sym, ap, ◌∙◌, subst}
+use Rattle.std.specs.Prelude.{Option, None}
+use Rattle.ason_base.specs.declared.messages.Msg.{Msg}
+use Rattle.node_rules.specs.Nodes.{NodeView}
+use Rattle.control_channels.specs.Answers.{body_answer}
+use Rattle.ason_base.specs.declared.ids.NodeId.{NodeId}
+use Rattle.ason_base.specs.declared.tables.Out.{Out}
+use Rattle.mesh_nodes.specs.Sent.{AllToNeighbours, AllWritable}
+use Rattle.mesh_rules.specs.LocalNodes.{LocalNode}
+use Rattle.control_channels.specs.declared.adjacencies.Adjacency.{Adjacency}
+use Rattle.control_channels.specs.declared.frames.Frame.{Frame}
+use Rattle.control_channels.specs.Adjacencies.{AllCanGo, ArePrepared, hop_at, next_at, packets_on, reaches, rested, sent_on}
+use Rattle.control_channels.specs.Frames.{frames_to}
+use Rattle.control_channels.specs.Kept.{IsReady}
+use Rattle.control_channels.proofs.Later.{all-go}
+use Rattle.control_channels.proofs.Resting.{next-is}
+
+pub next-hops : (xs : List Adjacency) → map rested xs ≡ xs → next_at xs ≡ hop_at xs
+next-hops xs rest = λ i d. next-is xs rest d i
+
+pub answer-can_go : (p : LocalNode) (xs : List Adjacency) (sent outs : List Out) → IsReady p xs →
+    AllToNeighbours p sent → AllWritable sent →
+    length sent ≤ 65536 → outs ≡ sent → AllCanGo (reaches xs) (next_at xs) outs
+answer-can_go p xs sent outs ready near can few e =
+    subst (AllCanGo (reaches xs) (next_at xs)) (sym e)
+    (subst (λ hops. AllCanGo (reaches xs) hops sent) (sym (next-hops xs ready.rest))
+    (all-go p (reaches xs) ready.reached sent (hop_at xs) 65536 few ready.left near can))
+
+pub answer-prepared : (before after : List Adjacency) (sent outs : List Out) → map rested before ≡ before →
+    outs ≡ sent →
+    ((d : ℕ) → next_at after d ≡ sent_on (next_at before) outs d) → ArePrepared before sent after
+answer-prepared before after sent outs rest e are d =
+    are d ∙ ap (λ hops. sent_on hops outs d) (next-hops before rest) ∙ ap (λ os. sent_on (hop_at before) os d) e
+
+pub answer-framed : (me id : NodeId) (before : List Adjacency) (sent outs : List Out) (first last : List Frame) →
+    map rested before ≡ before → outs ≡ sent → me ≡ id →
+    last ≡ first ++ frames_to me (packets_on (next_at before) outs) → last ≡ first ++
+    frames_to id (packets_on (hop_at before) sent)
+answer-framed me id before sent outs first last rest e same are =
+    are ∙ ap (λ hops. first ++ frames_to me (packets_on hops outs)) (next-hops before rest)
+    ∙ ap (λ os. first ++ frames_to me (packets_on (hop_at before) os)) e
+    ∙ ap (λ n. first ++ frames_to n (packets_on (hop_at before) sent)) same
+
+-- nothing is handed up
+pub nothing-prepared : (n : NodeView) (u : NodeId) (body : Option Msg) (xs : List Adjacency) → body ≡ None →
+    map rested xs ≡ xs →
+    ArePrepared xs (body_answer n u body).sent xs
+nothing-prepared n u body xs none rest = subst (λ b. ArePrepared xs (body_answer n u b).sent xs) (sym none)
+    (λ d. next-is xs rest d)

@@ -1,0 +1,86 @@
+-- What has a written form.
+use Rattle.std.proofs.Common.{◌≡◌, ◌≤◌, ◌+◌, ℕ, Bool, true, false, cond, List, [], ◌∷◌, ◌++◌, length, map, filter, sym, ap, ◌∙◌, subst, arith, append_assoc}
+use Rattle.std.specs.Prelude.{Option, Some, None}
+use Rattle.std.specs.List.{AllByRecursion}
+use Rattle.ason_base.specs.declared.ids.NodeId.{NodeId}
+use Rattle.ason_base.specs.declared.messages.Msg.{Msg}
+use Rattle.ason_base.specs.declared.messages.Msg.TheVariants.{Path, Resv, PathTear, PathErr, Notify}
+use Rattle.ason_base.specs.declared.messages.Packet.{Packet}
+use Rattle.ason_base.specs.declared.messages.PathRole.{PathRole}
+use Rattle.ason_base.specs.declared.messages.PathRole.TheVariants.{Work, Back}
+use Rattle.ason_base.specs.declared.steps.Step.{Step}
+use Rattle.ason_base.specs.Writable.{IsWritableMsg, IsWritableRole}
+use Rattle.flood.specs.declared.frames.Content.TheVariants.{Message}
+use Rattle.flood.specs.Frames.{CanBeWritten, IsFrame}
+use Rattle.hop_reliable.specs.declared.unacked.Unacked.{Unacked}
+use Rattle.hop_reliable.specs.Ages.{is_due, older_age}
+use Rattle.hop_reliable.specs.Hop.{HopState, again, numbered, older, resent}
+use Rattle.mesh_nodes.specs.Sent.{CanBePassedOn}
+use Rattle.rsvp_messages.specs.Messages.{HasRole, HasRoute, SpellsMsg}
+use Rattle.rsvp_messages.specs.Objects.{Object}
+use Rattle.rsvp_messages.specs.Packets.{SpellsBody}
+use Rattle.rsvp_messages.specs.Writable.{IsWritable}
+use Rattle.control_channels.specs.Adjacencies.{CanGoAgain, sendings_to}
+use Rattle.control_channels.specs.Answers.{BodyCanBePassedOn}
+use Rattle.control_channels.specs.Frames.{frames_to, sent_frame}
+use Rattle.control_channels.specs.declared.frames.Frame.{Frame}
+
+-- Numbered messages
+
+numbered-writable : (n : ℕ) (m : Msg) → IsWritableMsg m → IsWritable (numbered n m)
+numbered-writable n m w = record { id = omega arith; acks = λ k d h. absurd (omega arith); few = omega arith; body = w }
+
+pub next-writable : (n : ℕ) (m : Msg) (p : Packet) → IsWritableMsg m → p ≡ numbered (n + 1) m →
+    CanBeWritten (Message p)
+next-writable n m p w e = subst IsWritable (sym e) (numbered-writable (n + 1) m w)
+
+again-writable : (ws : List Unacked) → AllByRecursion (λ (w : Unacked). IsWritableMsg w.msg) ws →
+    AllByRecursion IsWritable (again (map older ws))
+again-writable [] f = tt
+again-writable (w ∷ ws) f = go (is_due (older_age w.age)) (again-writable ws f.1)
+  where
+    rest : List Unacked
+    rest = filter (λ (v : Unacked). is_due v.age) (map older ws)
+
+    go : (b : Bool) → AllByRecursion IsWritable (again (map older ws)) →
+        AllByRecursion IsWritable (map (λ (v : Unacked). numbered v.number v.msg) (cond b (older w ∷ rest) rest))
+    go true later = (numbered-writable w.number w.msg f.0, later)
+    go false later = later
+
+pub resent-writable : (h : HopState) (ps : List Packet) → CanGoAgain h → ps ≡ resent h → AllByRecursion IsWritable ps
+resent-writable h ps f e = subst (AllByRecursion IsWritable) (sym e) (again-writable h.unacked f)
+
+-- What is read can be passed on
+
+passed-role : (os : List Object) (role : PathRole) → HasRole os role → IsWritableRole role
+passed-role os (Work guard) has = tt
+passed-role os (Back active work primary) has = (has.2.means.0, has.2.means.1)
+
+passed-route : (os : List Object) (route : List Step) → HasRoute os route → length route ≤ 64
+passed-route os [] has = omega arith
+passed-route os (step ∷ steps) has = has.means.1
+
+passed-msg : (os : List Object) (m : Msg) → SpellsMsg os m → CanBePassedOn m
+passed-msg os (Path l e k route set u role) s = (passed-route os route s.has_route, passed-role os role s.has_role)
+passed-msg os (Resv l e k x) s = tt
+passed-msg os (PathTear l e k) s = tt
+passed-msg os (PathErr l e at gone code) s = tt
+passed-msg os (Notify l e at k code) s = tt
+
+pub passed-on : (bytes : List ℕ) (p : Packet) → IsFrame bytes (Message p) → BodyCanBePassedOn p.body
+passed-on bytes p (body, is, spelled) = go p.body spelled.1.packet.body
+  where
+    go : (b : Option Msg) → SpellsBody spelled.0 p.id p.acks b → BodyCanBePassedOn b
+    go None s = tt
+    go (Some m) s = passed-msg spelled.0 m s.1
+
+-- Frames at the end of a list
+
+pub framed-on : (me to : NodeId) (fs new first : List Frame) (f : Frame) (p : Packet) (rest all : List Packet) →
+    f ≡ sent_frame me to (Message p) → new ≡ fs ++ f ∷ [] →
+    fs ++ frames_to me (sendings_to to (p ∷ rest)) ≡ first ++ frames_to me (sendings_to to all) →
+    new ++ frames_to me (sendings_to to rest) ≡ first ++ frames_to me (sendings_to to all)
+framed-on me to fs new first f p rest all is pushed h =
+    ap (λ n. n ++ frames_to me (sendings_to to rest)) pushed ∙
+    append_assoc fs (f ∷ []) (frames_to me (sendings_to to rest))
+    ∙ ap (λ g. fs ++ g ∷ frames_to me (sendings_to to rest)) is ∙ h

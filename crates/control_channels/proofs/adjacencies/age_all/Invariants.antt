@@ -1,0 +1,7 @@
+use Rattle.std.proofs.Common.{◌≡◌, ◌++◌, map, take, drop}
+use Rattle.control_channels.specs.Adjacencies.{aged}
+use Rattle.control_channels.proofs.adjacencies.age_all.Given as goal
+
+abbrev pub invariant-loop-adjacency : goal.invariant-loop-adjacency
+invariant-loop-adjacency l =
+    l.adjacencies ≡ map aged (take l.adjacency-index l.fn.adjacencies) ++ drop l.adjacency-index l.fn.adjacencies

@@ -1,0 +1,285 @@
+//! The hops of a node, one a neighbour, in order of neighbour.
+
+ghost use Rattle.std.specs.Prelude.{◌≡◌, ◌+◌, ◌-◌, ◌<◌, ◌≤◌, ◌==◌, ◌^◌, ◌++◌, ◌∷◌, [], ℕ, All, IfOk, IsTrue, OnErr, OnOk, length, map, position, slice_get, Some, if◌then◌else◌};
+ghost use Rattle.std.specs.Option.{option_copied};
+ghost use Rattle.std.specs.List.{AllByRecursion, flat_map};
+ghost use Rattle.ason_base.specs.Writable.{IsWritableMsg};
+ghost use Rattle.flood.specs.declared.frames.Content.{Content};
+ghost use Rattle.flood.specs.Frames.{IsFrame, frame_bytes};
+ghost use Rattle.hop_reliable.specs.Hop.{heard_as, last_number, numbered, with_next};
+ghost use Rattle.rsvp_messages.specs.Writable.{IsWritable};
+ghost use Rattle.control_channels.specs.declared.adjacencies.Adjacency.{Adjacency};
+ghost use Rattle.control_channels.specs.Adjacencies.{AllCanGo, CanGoAgain, IsChangedAt, adjacency_at, aged, again_to, committed, hop_at, is_to, next_at, packets_on, peer_numbers, prepared_at, reaches, rested, sendings_to, sent_on, sent_one, taken_at, taken_by};
+ghost use Rattle.control_channels.specs.Frames.{AllSpelled, frames_to, sent_frame};
+ghost use Rattle.control_channels.specs.Kept.{unacknowledged};
+
+use crate::frames::{Frame, FrameMaker};
+use ason_base::{Msg, MsgId, NodeId, Out, OutOfMemory, Packet};
+use flood::Content;
+use hop_reliable::{Heard, Hop};
+use std::alloc::Global;
+
+/// The hop to one neighbour.
+#[derive(Debug, Drop)]
+pub struct Adjacency {
+    pub peer: NodeId,
+    pub hop: Hop,
+}
+
+fn place_of(adjacencies: &[Adjacency], n: NodeId) -> Option<usize>
+    ensures { result ≡ position (is_to n.0) adjacencies.now }
+{
+    adjacencies.iter().position(|adjacency| adjacency.peer == n)
+}
+
+fn adjacency_at(adjacencies: &[Adjacency], n: NodeId) -> Option<&Adjacency>
+    ensures { option_copied result ≡ adjacency_at adjacencies.now n.0 }
+{
+    adjacencies.iter().find(|adjacency| adjacency.peer == n)
+}
+
+/// Whether there is a hop to this node.
+pub fn reaches(adjacencies: &[Adjacency], n: NodeId) -> bool
+    ensures { result ≡ reaches adjacencies.now n.0 }
+{
+    adjacency_at(adjacencies, n).is_some()
+}
+
+// Receiving
+
+/// What a packet is to the hop from this neighbour. It changes nothing.
+pub fn hears(adjacencies: &[Adjacency], from: NodeId, p: &Packet) -> Heard
+    requires { IsTrue (reaches adjacencies.now from.0) }
+    ensures heard { result ≡ heard_as (hop_at adjacencies.now from.0) p.now }
+    ensures next { result ≡ Heard.Next → (hop_at adjacencies.now from.0).handed_up + 1 < 2 ^ 32 }
+{
+    match adjacency_at(adjacencies, from) {
+        None => Heard::Acked,
+        Some(adjacency) => adjacency.hop.hears(p),
+    }
+}
+
+fn take_at(adjacencies: &mut [Adjacency], place: usize, heard: Heard, acks: &[MsgId])
+    requires within { place < length adjacencies.old }
+    requires next { (a : Adjacency) → slice_get adjacencies.old place ≡ Some a →
+        heard ≡ Heard.Next → a.hop.state.handed_up + 1 < 2 ^ 32 }
+    ensures { IsChangedAt adjacencies.old place (taken_by heard acks.now) adjacencies.new }
+{
+    let adjacency = &mut adjacencies[place];
+    adjacency.hop.take(heard, acks);
+}
+
+/// The hop from this neighbour takes a packet that is this, with these acknowledgements.
+pub fn take(adjacencies: &mut [Adjacency], from: NodeId, heard: Heard, acks: &[MsgId])
+    requires reached { IsTrue (reaches adjacencies.old from.0) }
+    requires next { heard ≡ Heard.Next → (hop_at adjacencies.old from.0).handed_up + 1 < 2 ^ 32 }
+    ensures hops { (d : ℕ) → prepared_at adjacencies.new d ≡
+        taken_at adjacencies.old from heard acks.now d }
+    ensures peers { peer_numbers adjacencies.new ≡ peer_numbers adjacencies.old }
+{
+    match place_of(adjacencies, from) {
+        None => {}
+        Some(place) => take_at(adjacencies, place, heard, acks),
+    }
+}
+
+// Sending
+
+fn prepare_at(
+    alloc: Global,
+    adjacencies: &mut [Adjacency],
+    place: usize,
+    msg: Msg,
+) -> Result<Packet, OutOfMemory>
+    requires within { place < length adjacencies.old }
+    requires below { (a : Adjacency) → slice_get adjacencies.old place ≡ Some a →
+        last_number a.hop < 2 ^ 32 - 1 }
+    ensures ok { OnOk result
+        (IsChangedAt adjacencies.old place (λ h. with_next h msg) adjacencies.new) }
+    ensures err { OnErr result (IsChangedAt adjacencies.old place (λ h. h) adjacencies.new) }
+    ensures packet { IfOk result (λ p. (a : Adjacency) → slice_get adjacencies.old place ≡ Some a →
+        p ≡ numbered (last_number a.hop + 1) msg) }
+{
+    let adjacency = &mut adjacencies[place];
+    adjacency.hop.prepare(alloc, msg)
+}
+
+/// Prepares one message, and hands back its packet.
+fn prepare(alloc: Global, adjacencies: &mut [Adjacency], out: Out) -> Result<Packet, OutOfMemory>
+    requires reached { IsTrue (reaches adjacencies.old out.to.0) }
+    requires below { (next_at adjacencies.old out.to.0).sent < 2 ^ 32 - 1 }
+    ensures hops { OnOk result
+        ((d : ℕ) → next_at adjacencies.new d ≡ sent_one (next_at adjacencies.old) out d) }
+    ensures rest { map rested adjacencies.new ≡ map rested adjacencies.old }
+    ensures packet { IfOk result
+        (λ p. p ≡ numbered ((next_at adjacencies.old out.to.0).sent + 1) out.msg) }
+{
+    let Out { to, msg } = out;
+    match place_of(adjacencies, to) {
+        None => Err(OutOfMemory),
+        Some(place) => prepare_at(alloc, adjacencies, place, msg),
+    }
+}
+
+fn prepare_framed(
+    maker: &mut FrameMaker,
+    me: NodeId,
+    adjacencies: &mut [Adjacency],
+    out: Out,
+) -> Result<Frame, OutOfMemory>
+    requires reached { IsTrue (reaches adjacencies.old out.to.0) }
+    requires below { (next_at adjacencies.old out.to.0).sent < 2 ^ 32 - 1 }
+    requires writable { IsWritableMsg out.msg }
+    ensures hops { OnOk result
+        ((d : ℕ) → next_at adjacencies.new d ≡ sent_one (next_at adjacencies.old) out d) }
+    ensures rest { map rested adjacencies.new ≡ map rested adjacencies.old }
+    ensures frame { IfOk result
+        (λ f. f ≡ sent_frame me out.to
+        (Content.Message (numbered ((next_at adjacencies.old out.to.0).sent + 1) out.msg))) }
+    ensures spelled { IfOk result
+        (λ f. IsFrame f.bytes
+        (Content.Message (numbered ((next_at adjacencies.old out.to.0).sent + 1) out.msg))) }
+{
+    let to = out.to;
+    let packet = prepare(maker.alloc, adjacencies, out)?;
+    maker.frame(me, to, &Content::Message(packet))
+}
+
+/// Prepares these messages, in order. Their frames go to the end of the list.
+pub fn prepare_all(
+    maker: &mut FrameMaker,
+    me: NodeId,
+    adjacencies: &mut [Adjacency],
+    frames: &mut Vec<Frame>,
+    outs: Vec<Out>,
+) -> Result<(), OutOfMemory>
+    requires { AllCanGo (reaches adjacencies.old) (next_at adjacencies.old) outs.items }
+    ensures hops { OnOk result
+        ((d : ℕ) → next_at adjacencies.new d ≡ sent_on (next_at adjacencies.old) outs.items d) }
+    ensures rest { map rested adjacencies.new ≡ map rested adjacencies.old }
+    ensures frames { OnOk result
+        (frames.new.items ≡ frames.old.items ++
+        frames_to me (packets_on (next_at adjacencies.old) outs.items)) }
+    ensures spelled { OnOk result
+        (AllSpelled me (packets_on (next_at adjacencies.old) outs.items)) }
+{
+    for out in outs {
+        let frame = prepare_framed(maker, me, adjacencies, out)?;
+        frames.push(frame)?;
+    }
+    Ok(())
+}
+
+/// Sends all that is prepared.
+pub fn commit_all(adjacencies: &mut [Adjacency])
+    ensures { adjacencies.new ≡ map committed adjacencies.old }
+{
+    for adjacency in adjacencies.iter_mut() {
+        adjacency.hop.commit();
+    }
+}
+
+/// Forgets all that is prepared.
+pub fn discard_all(adjacencies: &mut [Adjacency])
+    ensures { adjacencies.new ≡ map rested adjacencies.old }
+{
+    for adjacency in adjacencies.iter_mut() {
+        adjacency.hop.discard();
+    }
+}
+
+// Ticks
+
+/// Makes each unacknowledged message a tick older.
+pub fn age_all(adjacencies: &mut [Adjacency])
+    ensures { adjacencies.new ≡ map aged adjacencies.old }
+{
+    for adjacency in adjacencies.iter_mut() {
+        adjacency.hop.age();
+    }
+}
+
+// The frame of this packet goes to the end of the list.
+fn frame_one(
+    maker: &mut FrameMaker,
+    me: NodeId,
+    to: NodeId,
+    p: Packet,
+    frames: &mut Vec<Frame>,
+) -> Result<(), OutOfMemory>
+    requires { IsWritable p }
+    ensures frames { OnOk result
+        (frames.new.items ≡ frames.old.items ++ sent_frame me to (Content.Message p) ∷ []) }
+    ensures spelled { OnOk result
+        (IsFrame (frame_bytes me (Content.Message p)) (Content.Message p)) }
+{
+    let frame = maker.frame(me, to, &Content::Message(p))?;
+    frames.push(frame)?;
+    Ok(())
+}
+
+// The frames of these packets go to the end of the list.
+fn frame_all(
+    maker: &mut FrameMaker,
+    me: NodeId,
+    to: NodeId,
+    packets: Vec<Packet>,
+    frames: &mut Vec<Frame>,
+) -> Result<(), OutOfMemory>
+    requires { AllByRecursion IsWritable packets.items }
+    ensures frames { OnOk result
+        (frames.new.items ≡ frames.old.items ++ frames_to me (sendings_to to packets.items)) }
+    ensures spelled { OnOk result (AllSpelled me (sendings_to to packets.items)) }
+{
+    for p in packets {
+        frame_one(maker, me, to, p, frames)?;
+    }
+    Ok(())
+}
+
+// What the next tick sends again to a neighbour goes to the end of the list.
+fn frame_again(
+    maker: &mut FrameMaker,
+    me: NodeId,
+    adjacency: &Adjacency,
+    frames: &mut Vec<Frame>,
+) -> Result<(), OutOfMemory>
+    requires { CanGoAgain adjacency.now.hop.state }
+    ensures frames { OnOk result
+        (frames.new.items ≡ frames.old.items ++ frames_to me (again_to adjacency.now)) }
+    ensures spelled { OnOk result (AllSpelled me (again_to adjacency.now)) }
+{
+    let due = adjacency.hop.due(maker.alloc)?;
+    frame_all(maker, me, adjacency.peer, due, frames)
+}
+
+/// What the next tick sends again goes to the end of the list, by neighbour and then by number.
+pub fn frame_due(
+    maker: &mut FrameMaker,
+    me: NodeId,
+    adjacencies: &[Adjacency],
+    frames: &mut Vec<Frame>,
+) -> Result<(), OutOfMemory>
+    requires { All (λ a. CanGoAgain a.hop.state) adjacencies.now }
+    ensures frames { OnOk result
+        (frames.new.items ≡ frames.old.items ++ frames_to me (flat_map again_to adjacencies.now)) }
+    ensures spelled { OnOk result (AllSpelled me (flat_map again_to adjacencies.now)) }
+{
+    for adjacency in adjacencies {
+        frame_again(maker, me, adjacency, frames)?;
+    }
+    Ok(())
+}
+
+/// How many messages aren't acknowledged.
+pub fn pending(adjacencies: &[Adjacency]) -> usize
+    requires { length adjacencies.now ≤ 256 }
+    ensures count { result ≡ unacknowledged adjacencies.now }
+    ensures few { result ≤ 2 ^ 40 }
+{
+    let mut total = 0;
+    for adjacency in adjacencies {
+        total += adjacency.hop.pending();
+    }
+    total
+}

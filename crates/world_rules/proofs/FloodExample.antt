@@ -1,0 +1,77 @@
+-- A run in which a node learns of a link, worked out: b floods the rows of its two links, of which a knows one.
+use Rattle.std.proofs.Common.{◌≡◌, ℕ, true, List, [], ◌∷◌, refl, map}
+use Rattle.ason_base.specs.declared.ids.NodeId.{NodeId}
+use Rattle.ason_base.specs.declared.network.LinkSpec.{LinkSpec}
+use Rattle.ason_base.specs.declared.commands.Event.{Event}
+use Rattle.ason_base.specs.declared.commands.Event.TheVariants as world
+use Rattle.ason_base.specs.Network.{Network, row_of}
+use Rattle.flood.specs.declared.frames.Content.TheVariants.{Flood}
+use Rattle.flood.specs.declared.messages.FloodMsg.TheVariants.{Row, Ack}
+use Rattle.flood.specs.State.{pending_count}
+use Rattle.mesh_rules.specs.declared.events.MeshEvent.TheVariants.{Learn, Tick}
+use Rattle.world_rules.specs.Laws.{known_at}
+use Rattle.world_rules.specs.Worlds.{World, start}
+use Rattle.world_rules.specs.Runs.{IsRun, after}
+use Rattle.world_rules.specs.Images.{mesh_events}
+
+a : NodeId
+a = record { 0 = 1 }
+
+b : NodeId
+b = record { 0 = 2 }
+
+c : NodeId
+c = record { 0 = 3 }
+
+link : ℕ → NodeId → NodeId → LinkSpec
+link k low high = record { id = record { 0 = k }; low = low; high = high; labels = 1; metric = 1; srlgs = [] }
+
+first : LinkSpec
+first = link 1 a b
+
+second : LinkSpec
+second = link 2 b c
+
+network : Network
+network = record {
+  wait = 0;
+  nodes = record { id = a; convert = true } ∷ record { id = b; convert = true } ∷ record { id = c; convert = true }
+      ∷ [];
+  links = first ∷ second ∷ [];
+}
+
+events : List Event
+events =
+    world.Tick b
+    ∷ world.Deliver a b 2  -- the row of the second link, before that of the first
+    ∷ world.Deliver a b 1
+    ∷ []
+
+last : World
+last = after network (start network) events
+
+is_run : IsRun network (start network) events
+unfolding network events first second link a b c
+is_run = (refl, (refl, (refl, tt)))
+
+is_shown : mesh_events network (start network) events ≡ Tick b ∷ Learn a (record { 0 = 2 }) ∷ []
+unfolding network events first second link a b c
+is_shown = refl
+
+is_known : known_at network last a ≡ row_of first ∷ row_of second ∷ []
+unfolding network events first second link a b c last
+is_known = refl
+
+-- Each row is acknowledged, the one that was known too. To b goes nothing that came from there.
+answered : last.channels 1 2 ≡ Flood (Ack 2) ∷ Flood (Ack 1) ∷ []
+unfolding network events first second link a b c last
+answered = refl
+
+sent : last.channels 2 1 ≡ Flood (Row 1 b (row_of first)) ∷ Flood (Row 2 b (row_of second)) ∷ []
+unfolding network events first second link a b c last
+sent = refl
+
+-- Own rows are due from the start: each of b's to two neighbours. Those of a and c to b.
+due : map (λ n. pending_count ((start network).floods n)) (1 ∷ 2 ∷ 3 ∷ 4 ∷ []) ≡ 1 ∷ 4 ∷ 1 ∷ 0 ∷ []
+unfolding network first second link a b c
+due = refl

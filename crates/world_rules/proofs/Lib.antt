@@ -1,0 +1,17 @@
+pub mod Again
+pub mod Channels
+pub mod Counted
+pub mod Ends
+pub mod EveryRun
+pub mod Example
+pub mod FloodExample
+pub mod Flooded
+pub mod Learnt
+pub mod Reached
+pub mod Sent
+pub mod Shown
+pub mod Stepping
+pub mod Told
+pub mod Twice
+pub mod Untouched
+pub mod Ways
