@@ -8,7 +8,7 @@ use Rattle.ason_base.specs.declared.ids.NodeId.{NodeId}
 use Rattle.ason_base.specs.Network.{Network}
 use Rattle.world_rules.specs.Runs.{is_event_of}
 use Rattle.world_rules.specs.Worlds.{World}
-use Rattle.world_core.proofs.Acting.{failed-left}
+use Rattle.world_core.proofs.Left.{failed-left}
 use Rattle.station.specs.Histories.{History, if_able, made_by, popped, stopped_at, with_event, with_event_over, world_after}
 use Rattle.station.proofs.Doing.{world-with}
 use Rattle.fleet.proofs.Keeping.{IsKept, self_test}

@@ -1,4 +1,5 @@
 pub mod Firsts
+pub mod MeshParts
 pub mod NodePlaces
 pub mod Steps
 pub mod Telling

@@ -1,126 +1,30 @@
 -- What a replay keeps stands for the world after an event of a node.
-use Rattle.std.proofs.Common.{◌≡◌, ◌<◌, ◌+◌, ℕ, Bool, true, false, cond, nat_eq, nat_lt, List, [], ◌∷◌, drop, length, map, set, refl, sym, ap, ◌∙◌, subst, arith}
-use Rattle.std.specs.Prelude.{◌&&◌, Option, Some, None, find, is_some, not, position, slice_get}
-use Rattle.std.specs.List.{AllByRecursion, list_any}
+use Rattle.std.proofs.Common.{◌≡◌, ◌<◌, ℕ, Bool, true, false, nat_eq, nat_lt, List, length, map, set, refl, sym, ap, ◌∙◌, subst, arith}
+use Rattle.std.specs.Prelude.{◌&&◌, Option, Some, None, find, is_some, position, slice_get}
+use Rattle.std.specs.List.{AllByRecursion}
 use Rattle.ason_base.specs.declared.ids.NodeId.{NodeId}
 use Rattle.ason_base.specs.declared.commands.Event.{Event}
 use Rattle.ason_base.specs.declared.commands.Event.TheVariants as world
-use Rattle.ason_base.specs.declared.messages.Msg.{Msg}
-use Rattle.ason_base.specs.Network.{Network, are_ends, is_distinct, is_node_id}
-use Rattle.flood.specs.declared.frames.Content.{Content}
-use Rattle.flood.specs.declared.frames.Content.TheVariants.{Message, Flood}
-use Rattle.hop_reliable.specs.Schedules.{HopEnd}
+use Rattle.ason_base.specs.Network.{Network, is_distinct, is_node_id}
 use Rattle.mesh_nodes.specs.LocalNodes.{is_neighbour}
 use Rattle.mesh_rules.specs.Events.{has_first}
 use Rattle.mesh_rules.specs.LocalNodes.{LocalNode, local_node}
 use Rattle.flood.specs.Frames.{SpellsNothing}
-use Rattle.flood.specs.State.{pending_count}
 use Rattle.world_core.specs.declared.acts.Act.{Act}
 use Rattle.world_core.specs.declared.acts.Act.TheVariants as act
-use Rattle.world_core.specs.Channels.{ChannelState, channel_to, frame_on}
-use Rattle.world_core.specs.Replays.{HasActed, HasStepped, IsDisabled, IsNowhere, IsUnable, StandsFor, WorldState}
+use Rattle.world_core.specs.Replays.{HasActed, HasStepped, IsDisabled, IsUnable, StandsFor, WorldState}
 use Rattle.world_rules.specs.Runs.{is_channel, is_event_of, may_act, step}
-use Rattle.world_core.specs.Seats.{HasDoneAt, SeatStands, SeatState, can_do, channel_of, frame_there, is_able, is_at, is_channel_there}
-use Rattle.world_rules.specs.Standing.{IsUntouched}
-use Rattle.world_rules.specs.Worlds.{World, delivered, frame_at, handed_up, numbered_at, taken, with_event}
-use Rattle.world_rules.specs.Worlds as worlds
+use Rattle.world_core.specs.Seats.{HasDoneAt, SeatStands, SeatState, can_do, frame_there, is_able, is_at, is_channel_there}
+use Rattle.world_rules.specs.Worlds.{World, frame_at}
 use Rattle.world_core.proofs.Finding.{IsFirst, all-get, also-found, found-has, is-first, item-found, not-found, same_number}
 use Rattle.world_rules.proofs.Stepping.{self_test}
 use Rattle.world_core.proofs.Places.{all-set, nodes-set, numbers-set, seat-there}
-use Rattle.world_core.proofs.Seating.{desk_kept, frame-stands, handle-stands, made_kept, noise-stands, still-stands, tick-stands}
-use Rattle.world_core.proofs.Sending.{IsNumbered, is-numbered, not-numbered}
+use Rattle.world_core.proofs.Seating.{frame-stands, handle-stands, noise-stands, still-stands, tick-stands}
 use Rattle.world_rules.proofs.Untouched.{channels-join-neighbours, others-are-untouched}
-
-turned : (a b : ℕ) (c : Bool) → nat_eq a b ≡ c → nat_eq b a ≡ c
-turned a b true e = grind arith
-turned a b false e = grind arith
+use Rattle.world_core.proofs.Left.{IsLeft, differs, others-left, posted-left, failed-left, not_of, still-nowhere}
+use Rattle.world_core.proofs.FramesThere.{IsSent, channel-there, was-sent, never-sent}
 
 -- Desks and numbers of events that an event leaves
-
-record IsLeft (w new : World) (m : ℕ) : Type 0 where
-  desk : new.desks m ≡ w.desks m
-  made : new.made m ≡ w.made m
-
-uncounted : (w : World) (n m : ℕ) → nat_eq m n ≡ false → (with_event w n).made m ≡ w.made m
-uncounted w n m other = ap (λ b. cond b (w.made m + 1) (w.made m)) other
-
-differs : (a b m : ℕ) → nat_eq a b ≡ true → nat_eq m b ≡ false → nat_eq m a ≡ false
-differs a b m h k = grind arith
-
-others-left : (t : Network) (w : World) (e : Event) (n m : ℕ) → is_event_of n e ≡ true → nat_eq m n ≡ false →
-    IsLeft w (step t w e) m
-others-left t w (world.Deliver d u k) n m of other = record {
-  desk = desk_kept t (with_event w d.0) d u (frame_at w u d k) m;
-  made = made_kept t (with_event w d.0) d u (frame_at w u d k) m ∙ uncounted w d.0 m (differs d.0 n m of other);
-}
-others-left t w (world.Noise d u bytes) n m of other =
-    record { desk = refl; made = uncounted w d.0 m (differs d.0 n m of other) }
-others-left t w (world.Tick d) n m of other =
-    record { desk = refl; made = uncounted w d.0 m (differs d.0 n m of other) }
-others-left t w (world.Desk d) n m of other = record {
-  desk = ap (λ b. cond b (drop 1 (w.desks m)) (w.desks m)) (differs d.0 n m of other);
-  made = uncounted w d.0 m (differs d.0 n m of other);
-}
-others-left t w (world.Post c) n m of other = absurd (cc (of))
-
-posted_kept : (t : Network) (w : World) (d u : NodeId) (o : Option Content) → (delivered t w d u o).posted ≡ w.posted
-posted_kept t w d u None = refl
-posted_kept t w d u (Some (Message p)) = go (handed_up w d u p)
-  where
-    go : (ms : List Msg) → (worlds.handled t (taken w d u p) d u ms).posted ≡ w.posted
-    go [] = refl
-    go (m ∷ ms) = refl
-posted_kept t w d u (Some (Flood m)) = refl
-
-posted-left : (t : Network) (w : World) (e : Event) (n : ℕ) → is_event_of n e ≡ true → (step t w e).posted ≡ w.posted
-posted-left t w (world.Deliver d u k) n of = posted_kept t (with_event w d.0) d u (frame_at w u d k)
-posted-left t w (world.Noise d u bytes) n of = refl
-posted-left t w (world.Tick d) n of = refl
-posted-left t w (world.Desk d) n of = refl
-posted-left t w (world.Post c) n of = absurd (cc (of))
-
-failed_kept : (t : Network) (w : World) (d u : NodeId) (o : Option Content) → (delivered t w d u o).failed ≡ w.failed
-failed_kept t w d u None = refl
-failed_kept t w d u (Some (Message p)) = go (handed_up w d u p)
-  where
-    go : (ms : List Msg) → (worlds.handled t (taken w d u p) d u ms).failed ≡ w.failed
-    go [] = refl
-    go (m ∷ ms) = refl
-failed_kept t w d u (Some (Flood m)) = refl
-
-pub failed-left : (t : Network) (w : World) (e : Event) (n : ℕ) → is_event_of n e ≡ true →
-    (step t w e).failed ≡ w.failed
-failed-left t w (world.Deliver d u k) n of = failed_kept t (with_event w d.0) d u (frame_at w u d k)
-failed-left t w (world.Noise d u bytes) n of = refl
-failed-left t w (world.Tick d) n of = refl
-failed-left t w (world.Desk d) n of = refl
-failed-left t w (world.Post c) n of = absurd (cc (of))
-
-not_of : (e : Event) (n m : ℕ) → is_event_of n e ≡ true → nat_eq m n ≡ false → is_event_of m e ≡ false
-not_of (world.Deliver d u k) n m of other = turned m d.0 false (differs d.0 n m of other)
-not_of (world.Noise d u bytes) n m of other = turned m d.0 false (differs d.0 n m of other)
-not_of (world.Tick d) n m of other = turned m d.0 false (differs d.0 n m of other)
-not_of (world.Desk d) n m of other = turned m d.0 false (differs d.0 n m of other)
-not_of (world.Post c) n m of other = absurd (cc (of))
-
--- where nothing waited at a number that is no node's, nothing does
-pub still-nowhere : (t : Network) (w : World) (e : Event) (n m : NodeId) → is_event_of n.0 e ≡ true →
-    is_node_id t.nodes n ≡ true → is_node_id t.nodes m ≡ false → IsNowhere w m.0 → IsNowhere (step t w e) m.0
-still-nowhere t w e n m of there none is =
-    let other : nat_eq m.0 n.0 ≡ false = not_same (nat_eq m.0 n.0) refl in
-    let left : IsLeft w (step t w e) m.0 = others-left t w e n.0 m.0 of other in
-    let same : IsUntouched w (step t w e) m.0 = others-are-untouched t w e m.0 (not_of e n.0 m.0 of other) in
-    record {
-      desk = left.desk ∙ is.desk;
-      hops = λ d. ap (λ (x : HopEnd). x.hop.unacked) (same.ends d) ∙ is.hops d;
-      flood = ap pending_count same.floods ∙ is.flood;
-    }
-  where
-    not_same : (b : Bool) → nat_eq m.0 n.0 ≡ b → b ≡ false
-    not_same true h =
-        let is : m.0 ≡ n.0 = same_number m.0 n.0 h in
-        absurd (cc (none, subst (λ k. is_node_id t.nodes (record { 0 = k }) ≡ true) (sym is) there))
-    not_same false h = refl
 
 -- The node that acts
 
@@ -210,89 +114,6 @@ acted-stands t k after w e n i s new stands of is at node seat seats posted fail
         left.desk left.made sits
 
 -- A frame that was sent
-
-pub record IsSent (t : Network) (w : World) (u d : NodeId) (k : ℕ) (bytes : List ℕ) : Type 0 where
-  pub channel : is_channel t u d ≡ true
-  pub frame : IsNumbered (w.channels u.0 d.0) k bytes
-
-channel_false : (t : Network) (u d : NodeId) → is_node_id t.nodes u ≡ false → is_channel t u d ≡ false
-channel_false t u d h =
-    go (is_node_id t.nodes u) (is_node_id t.nodes d) (not (nat_eq u.0 d.0))
-    (list_any (λ l. are_ends l.low l.high u d) t.links) h
-  where
-    go : (a b c f : Bool) → a ≡ false → (a && b && c && f) ≡ false
-    go true b c f h = absurd (cc (h))
-    go false b c f h = refl
-
--- what is known of the seat of a node
-seat_of : (t : Network) (k : WorldState) (w : World) (u : NodeId) (s : SeatState) → StandsFor t k w →
-    find (is_at u.0) k.seats ≡ Some s → (s.node ≡ u) × SeatStands t w s
-seat_of t k w u s stands e =
-    let is = found-has (is_at u.0) (SeatStands t w) k.seats s stands.seats e in
-    (ap (λ x. record { 0 = x }) (same_number s.node.0 u.0 is.0), is.1)
-
-no_seat : (t : Network) (k : WorldState) (w : World) (u : NodeId) → StandsFor t k w → find (is_at u.0) k.seats ≡ None →
-    is_node_id t.nodes u ≡ false
-no_seat t k w u stands e = sym (seat-there k.seats t.nodes u stands.nodes) ∙ ap is_some e
-
-pub channel-there : (t : Network) (k : WorldState) (w : World) (u d : NodeId) → StandsFor t k w →
-    is_channel_there k.seats u d ≡ is_channel t u d
-channel-there t k w u d stands = go (find (is_at u.0) k.seats) refl
-  where
-    go : (o : Option SeatState) → find (is_at u.0) k.seats ≡ o → is_some (channel_of o d.0) ≡ is_channel t u d
-    go None e = sym (channel_false t u d (no_seat t k w u stands e))
-    go (Some s) e =
-        let is = seat_of t k w u s stands e in
-        is.1.channels d ∙ ap (λ (n : NodeId). is_channel t n d) is.0
-
-pub was-sent : (t : Network) (k : WorldState) (w : World) (u d : NodeId) (number : ℕ) (bytes : List ℕ) →
-    StandsFor t k w →
-    frame_there k.seats u d number ≡ Some bytes → IsSent t w u d number bytes
-was-sent t k w u d number bytes stands e = go (find (is_at u.0) k.seats) refl e
-  where
-    on_channel : (s : SeatState) → (s.node ≡ u) × SeatStands t w s → (o : Option ChannelState) →
-        channel_to s.channels d.0 ≡ o →
-        frame_on o number ≡ Some bytes → IsSent t w u d number bytes
-    on_channel s is None e h = absurd (cc (h))
-    on_channel s is (Some c) e h = record {
-      channel = ap (λ (n : NodeId). is_channel t n d) (sym is.0) ∙ sym (is.1.channels d) ∙ ap is_some e;
-      frame = subst (λ (n : NodeId). IsNumbered (w.channels n.0 d.0) number bytes) is.0
-          (is-numbered s.node (w.channels s.node.0 d.0) c.frames number bytes (is.1.frames d c e) h);
-    }
-
-    go : (o : Option SeatState) → find (is_at u.0) k.seats ≡ o → frame_on (channel_of o d.0) number ≡ Some bytes →
-        IsSent t w u d number bytes
-    go None e h = absurd (cc (h))
-    go (Some s) e h = on_channel s (seat_of t k w u s stands e) (channel_to s.channels d.0) refl h
-
-pub never-sent : (t : Network) (k : WorldState) (w : World) (u d : NodeId) (number : ℕ) → StandsFor t k w →
-    frame_there k.seats u d number ≡ None → (is_channel t u d && is_some (frame_at w u d number)) ≡ false
-never-sent t k w u d number stands e = go (find (is_at u.0) k.seats) refl e
-  where
-    left : (a b : Bool) → a ≡ false → (a && b) ≡ false
-    left true b h = absurd (cc (h))
-    left false b h = refl
-
-    right : (a b : Bool) → b ≡ false → (a && b) ≡ false
-    right true b h = h
-    right false b h = refl
-
-    on_channel : (s : SeatState) → (s.node ≡ u) × SeatStands t w s → (o : Option ChannelState) →
-        channel_to s.channels d.0 ≡ o →
-        frame_on o number ≡ None → (is_channel t u d && is_some (frame_at w u d number)) ≡ false
-    on_channel s is None e h =
-        left (is_channel t u d) (is_some (frame_at w u d number))
-        (ap (λ (n : NodeId). is_channel t n d) (sym is.0) ∙ sym (is.1.channels d) ∙ ap is_some e)
-    on_channel s is (Some c) e h =
-        right (is_channel t u d) (is_some (frame_at w u d number))
-        (subst (λ (n : NodeId). is_some (numbered_at (w.channels n.0 d.0) number) ≡ false) is.0
-        (not-numbered s.node (w.channels s.node.0 d.0) c.frames number (is.1.frames d c e) h))
-
-    go : (o : Option SeatState) → find (is_at u.0) k.seats ≡ o → frame_on (channel_of o d.0) number ≡ None →
-        (is_channel t u d && is_some (frame_at w u d number)) ≡ false
-    go None e h =
-        left (is_channel t u d) (is_some (frame_at w u d number)) (channel_false t u d (no_seat t k w u stands e))
-    go (Some s) e h = on_channel s (seat_of t k w u s stands e) (channel_to s.channels d.0) refl h
 
 -- What is refused
 

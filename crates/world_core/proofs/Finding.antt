@@ -98,4 +98,3 @@ all-get P (y ∷ ys) (suc i) x all e = all-get P ys i x all.1 e
 
 pub same_number : (a b : ℕ) → nat_eq a b ≡ true → a ≡ b
 same_number a b h = grind arith
-

@@ -1,6 +1,8 @@
 pub mod Acting
 pub mod Beginning
 pub mod Finding
+pub mod FramesThere
+pub mod Left
 pub mod Nowhere
 pub mod Places
 pub mod Posting

@@ -11,7 +11,7 @@ use Rattle.mesh_rules.specs.Events.{has_first}
 use Rattle.world_core.specs.Replays.{IsNowhere}
 use Rattle.world_rules.specs.Runs.{IsEnabled, IsRun, after, is_channel, may_act, step}
 use Rattle.world_rules.specs.Worlds.{World, frame_at, start}
-use Rattle.world_core.proofs.Acting.{still-nowhere}
+use Rattle.world_core.proofs.Left.{still-nowhere}
 use Rattle.world_core.proofs.Beginning.{nothing-due}
 use Rattle.world_rules.proofs.Stepping.{self_test}
 use Rattle.world_core.proofs.Posting.{nowhere-posted}

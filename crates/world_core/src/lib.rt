@@ -10,7 +10,7 @@ pub mod seat;
 mod seats;
 pub mod world;
 
-pub use world_rules::laws;
-pub use world_rules::laws::every_world_run;
 pub use replays::{ReplayError, replay};
 pub use world::World;
+pub use world_rules::laws;
+pub use world_rules::laws::every_world_run;

@@ -19,7 +19,8 @@ use Rattle.world_rules.specs.Laws.{ChannelsHaveTheFrames, EachIsFound, EveryImag
 use Rattle.world_rules.proofs.Flooded.{AreFlooded, flooded-run, flooded-start, flooded-step}
 use Rattle.world_rules.proofs.Learnt.{is-true}
 use Rattle.world_rules.proofs.Reached.{AreReached, are-reached-run, are-reached-start, are-reached-step}
-use Rattle.world_rules.proofs.Shown.{Shows, shows-step}
+use Rattle.world_rules.proofs.PacketsShown.{Shows}
+use Rattle.world_rules.proofs.Shown.{shows-step}
 use Rattle.world_rules.proofs.Ways.{way-is}
 
 -- one run of the mesh after another

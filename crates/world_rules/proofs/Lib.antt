@@ -7,6 +7,7 @@ pub mod Example
 pub mod FloodExample
 pub mod Flooded
 pub mod Learnt
+pub mod PacketsShown
 pub mod Reached
 pub mod Sent
 pub mod Shown
