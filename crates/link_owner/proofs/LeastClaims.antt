@@ -1,14 +1,12 @@
 -- The least LSP of some claims, claim by claim.
-use Rattle.std.proofs.Common.{◌≡◌, Bool, true, false, not, List, [], ◌∷◌, ◌++◌, refl, sym, subst, ◌∙◌, ap}
-use Rattle.std.specs.Prelude.{◌&&◌, ◌||◌, Option, Some, None, Result, Ok, Err, IfErr}
+use Rattle.std.proofs.Common.{◌≡◌, Bool, true, false, not, List, [], ◌∷◌, ◌++◌, refl, sym, ◌∙◌, ap}
+use Rattle.std.specs.Prelude.{◌&&◌, ◌||◌, Option, Some, None}
 use Rattle.std.specs.List.{list_any}
 use Rattle.std.proofs.lemmas.List.Folds.{list_any-append}
 use Rattle.ason_base.specs.declared.ids.Lsp.{Lsp}
 use Rattle.ason_base.specs.Lsps.{lsp_before, same_lsp}
 use Rattle.link_owner.specs.declared.claims.Claim.{Claim}
-use Rattle.link_owner.specs.declared.claims.ClaimFault.{ClaimFault}
-use Rattle.link_owner.specs.declared.claims.ClaimFault.TheVariants.{OutOfMemory}
-use Rattle.link_owner.specs.Claims.{IsLeast, NoClaim, RefusedFor, is_lesser}
+use Rattle.link_owner.specs.Claims.{IsLeast, NoClaim, is_lesser}
 use Rattle.link_owner.proofs.LspOrder.{before-before, before-self, same_lsp-refl}
 
 -- what was found among some claims
@@ -43,7 +41,7 @@ any-nowhere : (q : Claim → Bool) (xs : List Claim) (c : Claim) → list_any q 
 any-nowhere q xs c e f = any-more q xs c ∙ rw (e, f) refl
 
 -- where each that passes q passes r, and none passes r, none passes q
-any-none : (q r : Claim → Bool) (xs : List Claim) → ((c : Claim) → q c ≡ true → r c ≡ true) → list_any r xs ≡ false →
+pub any-none : (q r : Claim → Bool) (xs : List Claim) → ((c : Claim) → q c ≡ true → r c ≡ true) → list_any r xs ≡ false →
     list_any q xs ≡ false
 any-none q r [] f h = refl
 any-none q r (c ∷ xs) f h = go (q c) refl (r c) refl h (any-none q r xs f)
@@ -97,9 +95,3 @@ least-kept p xs c (Some k) found h = record {
   least = rw (any-nowhere (λ d. p d && lsp_before d.lsp k) xs c
       (not_true (list_any (λ d. p d && lsp_before d.lsp k) xs) found.least) h) refl;
 }
-
--- where no claim passes, want of memory is the one refusal
-pub refused-memory : {T : Type 0} (p : Claim → Bool) (claims : List Claim) (r : Result T ClaimFault) →
-    NoClaim p claims → IfErr r (λ e. e ≡ OutOfMemory) → IfErr r (RefusedFor p claims)
-refused-memory p claims (Ok x) none is = tt
-refused-memory p claims (Err e) none is = subst (RefusedFor p claims) (sym is) none

@@ -1,4 +1,6 @@
 mod FibrePlaces
+mod FreeLabelReads
+mod FreedLabels
 pub mod FibresInto
 pub mod LabelTests
 mod LeastClaims

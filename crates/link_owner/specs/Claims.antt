@@ -1,9 +1,9 @@
 -- The claims of the labels of one fibre.
-use Rattle.std.specs.Prelude.{ℕ, ◌==◌, ◌&&◌, Bool, true, false, not, List, filter, Option, Some, None, IsTrue, if◌then◌else◌}
+use Rattle.std.specs.Prelude.{ℕ, ◌≡◌, ◌==◌, ◌&&◌, Bool, true, false, not, List, filter, Option, Some, None, IsTrue, if◌then◌else◌}
 use Rattle.std.specs.List.{list_any}
 use Rattle.ason_base.specs.declared.ids.Fibre.{Fibre}
 use Rattle.ason_base.specs.declared.ids.Lsp.{Lsp}
-use Rattle.ason_base.specs.Labels.{up_to}
+use Rattle.ason_base.specs.Labels.{up_to, with_label, without}
 use Rattle.ason_base.specs.Lsps.{lsp_before, same_lsp}
 use Rattle.link_owner.specs.declared.claims.Claim.{Claim}
 use Rattle.link_owner.specs.declared.claims.ClaimFault.{ClaimFault}
@@ -12,6 +12,7 @@ use Rattle.link_owner.specs.declared.claims.ClaimKind.{ClaimKind}
 use Rattle.link_owner.specs.declared.claims.ClaimKind.TheVariants.{Working, Backup, Armed}
 use Rattle.link_owner.specs.declared.claims.Sought.{Sought}
 use Rattle.link_owner.specs.declared.claims.Sought.TheVariants.{Any, AnyWorking, AnyInUseBeside}
+use Rattle.link_owner.specs.declared.free_labels.FreeLabels.{FreeLabels}
 
 -- a fibre, its number of labels, and who has them
 pub record FibreClaims : Type 0 where
@@ -31,6 +32,18 @@ abbrev pub is_in_use : ClaimKind → Bool
 is_in_use Working = true
 is_in_use Backup = false
 is_in_use Armed = true
+
+-- as a backup leg
+abbrev pub is_backup : ClaimKind → Bool
+is_backup Working = false
+is_backup Backup = true
+is_backup Armed = true
+
+-- as a backup leg that is Armed or Live
+abbrev pub is_armed : ClaimKind → Bool
+is_armed Working = false
+is_armed Backup = false
+is_armed Armed = true
 
 abbrev pub armed_kind : ClaimKind → ClaimKind
 armed_kind Working = Working
@@ -57,6 +70,10 @@ has x c = c.label == x
 -- a working leg has it
 abbrev pub works_on : ℕ → Claim → Bool
 works_on x c = c.label == x && is_working c.kind
+
+-- a leg has it in this way
+abbrev pub has_so : (ClaimKind → Bool) → ℕ → Claim → Bool
+has_so so x c = c.label == x && so c.kind
 
 -- a leg of this LSP has it
 abbrev pub is_of_lsp : ℕ → Lsp → Claim → Bool
@@ -90,6 +107,21 @@ unclaimed n claims = filter (λ x. not (list_any (has x) claims)) (up_to n)
 -- the labels from 1 to n that no working leg has
 abbrev pub shareable : ℕ → List Claim → List ℕ
 shareable n claims = filter (λ x. not (list_any (works_on x) claims)) (up_to n)
+
+-- the labels from 1 to 80 that no leg has in this way
+abbrev pub free_of : (ClaimKind → Bool) → List Claim → List ℕ
+free_of so claims = filter (λ x. not (list_any (has_so so x) claims)) (up_to 80)
+
+-- the labels that no working leg has, that no backup has, and that no backup has which is Armed or Live
+pub record AreFree (claims : List Claim) (free : FreeLabels) : Type 0 where
+  pub of_working : free.of_working ≡ free_of is_working claims
+  pub of_backups : free.of_backups ≡ free_of is_backup claims
+  pub of_armed : free.of_armed ≡ free_of is_armed claims
+
+-- the labels with this one where it is free, and without it where it isn't
+abbrev pub with_free : List ℕ → ℕ → Bool → List ℕ
+with_free labels x true = with_label labels x
+with_free labels x false = without labels x
 
 -- below all that were met so far
 abbrev pub is_lesser : Lsp → Option Lsp → Bool

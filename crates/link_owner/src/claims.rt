@@ -1,9 +1,10 @@
 //! Claims: which leg has a label, and how.
 
-ghost use Rattle.std.specs.Prelude.{◌≡◌, ◌≤◌, ◌&&◌, IfNone, IfSome};
-ghost use Rattle.link_owner.specs.Claims.{IsLeast, NoClaim, armed, armed_kind, disarmed, disarmed_kind, is_in_use, is_lesser, is_of_lsp, is_sought, is_working, shareable, unclaimed};
+ghost use Rattle.std.specs.Prelude.{◌≡◌, ◌&&◌, IfNone, IfSome};
+ghost use Rattle.std.specs.List.{list_any};
+ghost use Rattle.link_owner.specs.Claims.{IsLeast, NoClaim, armed, armed_kind, disarmed, disarmed_kind, has_so, is_armed, is_backup, is_in_use, is_lesser, is_of_lsp, is_sought, is_working};
 
-use ason_base::{Label, LabelSet, Lsp};
+use ason_base::{Label, Lsp};
 
 /// How a leg has its label.
 #[derive(Clone, Copy, Debug, PartialEq, Eq, Drop)]
@@ -60,6 +61,24 @@ fn is_in_use(kind: ClaimKind) -> bool
     match kind {
         ClaimKind::Working | ClaimKind::Armed => true,
         ClaimKind::Backup => false,
+    }
+}
+
+fn is_backup(kind: ClaimKind) -> bool
+    ensures { result ≡ is_backup kind }
+{
+    match kind {
+        ClaimKind::Working => false,
+        ClaimKind::Backup | ClaimKind::Armed => true,
+    }
+}
+
+fn is_armed(kind: ClaimKind) -> bool
+    ensures { result ≡ is_armed kind }
+{
+    match kind {
+        ClaimKind::Working | ClaimKind::Backup => false,
+        ClaimKind::Armed => true,
     }
 }
 
@@ -126,6 +145,27 @@ fn is_sought(claim: &Claim, label: Label, sought: Sought) -> bool
         }
 }
 
+/// Whether a working leg has the label.
+pub(crate) fn has_working(claims: &[Claim], label: Label) -> bool
+    ensures { result ≡ list_any (has_so is_working label) claims.now }
+{
+    claims.iter().any(|claim| claim.label.number() == label.number() && is_working(claim.kind))
+}
+
+/// Whether a backup leg has the label.
+pub(crate) fn has_backup(claims: &[Claim], label: Label) -> bool
+    ensures { result ≡ list_any (has_so is_backup label) claims.now }
+{
+    claims.iter().any(|claim| claim.label.number() == label.number() && is_backup(claim.kind))
+}
+
+/// Whether a backup leg that is Armed or Live has the label.
+pub(crate) fn has_armed(claims: &[Claim], label: Label) -> bool
+    ensures { result ≡ list_any (has_so is_armed label) claims.now }
+{
+    claims.iter().any(|claim| claim.label.number() == label.number() && is_armed(claim.kind))
+}
+
 fn is_lesser(lsp: Lsp, least: Option<Lsp>) -> bool
     ensures { result ≡ is_lesser lsp least }
 {
@@ -154,30 +194,4 @@ pub(crate) fn least_lsp(claims: &[Claim], label: Label, sought: Sought) -> Optio
         }
     }
     least
-}
-
-/// The labels from 1 to n that no leg has.
-pub(crate) fn unclaimed(claims: &[Claim], n: u8) -> LabelSet
-    requires { n ≤ 80 }
-    ensures { result ≡ unclaimed n claims.now }
-{
-    let mut labels = LabelSet::upto(n);
-    for claim in claims {
-        labels = labels.without(claim.label);
-    }
-    labels
-}
-
-/// The labels from 1 to n that no working leg has.
-pub(crate) fn shareable(claims: &[Claim], n: u8) -> LabelSet
-    requires { n ≤ 80 }
-    ensures { result ≡ shareable n claims.now }
-{
-    let mut labels = LabelSet::upto(n);
-    for claim in claims {
-        if is_working(claim.kind) {
-            labels = labels.without(claim.label);
-        }
-    }
-    labels
 }

@@ -1,10 +1,12 @@
 //! The claims of the labels of one fibre.
 
-ghost use Rattle.std.specs.Prelude.{◌≡◌, ◌≤◌, ◌++◌, ◌∷◌, [], IfErr, IfOk, OnErr, OnOk, map};
-ghost use Rattle.link_owner.specs.Claims.{IsLeast, NoClaim, RefusedFor, armed, backup_claim, disarmed, freed, has, is_busy, shareable, unclaimed, working_claim, works_on};
+ghost use Rattle.std.specs.Prelude.{◌≡◌, ◌≤◌, ◌++◌, ◌∷◌, [], IfErr, IfNone, IfOk, IfSome, OnErr, OnOk, map};
+ghost use Rattle.link_owner.specs.Claims.{IsLeast, NoClaim, RefusedFor, armed, backup_claim, disarmed, freed, has, is_busy, is_sought, shareable, unclaimed, working_claim, works_on};
 
-use crate::claims;
-use crate::claims::{Busy, Claim, ClaimFault, ClaimKind, Sought, is_of_lsp, least_lsp};
+use crate::claims::{
+    Busy, Claim, ClaimFault, ClaimKind, Sought, armed, disarmed, is_of_lsp, least_lsp,
+};
+use crate::free_labels::FreeLabels;
 use ason_base::{Copied, Fibre, Label, LabelSet, Lsp, OutOfMemory};
 use std::alloc::Global;
 use std::marker::Model;
@@ -15,17 +17,18 @@ pub struct FibreOwner {
     fibre: Fibre,
     labels: u8,
     claims: Vec<Claim>,
+    free: FreeLabels,
 }
 
 impl Model for FibreOwner {
     ghost use Rattle.std.specs.Prelude.{◌≤◌};
-    ghost use Rattle.link_owner.specs.Claims.{FibreClaims};
+    ghost use Rattle.link_owner.specs.Claims.{AreFree, FibreClaims};
 
     ghost Value = { FibreClaims };
 
     ghost view = { λ r. record { fibre = r.fibre; labels = r.labels; claims = r.claims.items } };
 
-    ghost invariant = { λ r. r.labels ≤ 80 };
+    ghost invariant = { λ r. (r.labels ≤ 80) × AreFree r.claims.items r.free };
 }
 
 impl FibreOwner {
@@ -38,6 +41,7 @@ impl FibreOwner {
             fibre,
             labels,
             claims: Vec::new(alloc),
+            free: FreeLabels::all(),
         }
     }
 
@@ -47,16 +51,16 @@ impl FibreOwner {
         self.fibre
     }
 
-    fn add(&mut self, claim: Claim) -> Result<(), ClaimFault>
-        ensures ok { OnOk result
-            (self.new ≡ record self.old { claims = self.old.claims ++ claim ∷ [] }) }
-        ensures err { OnErr result (self.new ≡ self.old) }
-        ensures fault { IfErr result (λ e. e ≡ ClaimFault.OutOfMemory) }
+    // The least LSP of the label's claims that are looked for. The claims are looked through only where the masks tell
+    // that there may be one.
+    fn least_of(&self, label: Label, sought: Sought) -> Option<Lsp>
+        ensures none { IfNone result (NoClaim (is_sought sought label) self.now.claims) }
+        ensures least { IfSome result (IsLeast (is_sought sought label) self.now.claims) }
     {
-        match self.claims.push(claim) {
-            Ok(()) => Ok(()),
-            Err(_) => Err(ClaimFault::OutOfMemory),
+        if self.free.has(label, sought) {
+            return None;
         }
+        least_lsp(&self.claims, label, sought)
     }
 
     /// Gives the label to a working leg, where no leg has it.
@@ -70,14 +74,19 @@ impl FibreOwner {
         ensures fitting { IfOk result (λ _. NoClaim (has label) self.old.claims) }
         ensures fault { IfErr result (RefusedFor (has label) self.old.claims) }
     {
-        if let Some(holder) = least_lsp(&self.claims, label, Sought::Any) {
+        if let Some(holder) = self.least_of(label, Sought::Any) {
             return Err(ClaimFault::Held(holder));
         }
-        self.add(Claim {
-            label,
-            lsp,
-            kind: ClaimKind::Working,
-        })
+        add(
+            &mut self.claims,
+            Claim {
+                label,
+                lsp,
+                kind: ClaimKind::Working,
+            },
+        )?;
+        self.free.claim(label);
+        Ok(())
     }
 
     /// Gives the label to a backup leg, where no working leg has it.
@@ -91,14 +100,19 @@ impl FibreOwner {
         ensures fitting { IfOk result (λ _. NoClaim (works_on label) self.old.claims) }
         ensures fault { IfErr result (RefusedFor (works_on label) self.old.claims) }
     {
-        if let Some(holder) = least_lsp(&self.claims, label, Sought::AnyWorking) {
+        if let Some(holder) = self.least_of(label, Sought::AnyWorking) {
             return Err(ClaimFault::Held(holder));
         }
-        self.add(Claim {
-            label,
-            lsp,
-            kind: ClaimKind::Backup,
-        })
+        add(
+            &mut self.claims,
+            Claim {
+                label,
+                lsp,
+                kind: ClaimKind::Backup,
+            },
+        )?;
+        self.free.hold(label);
+        Ok(())
     }
 
     /// Arms the LSP's claim, where no other is in use.
@@ -109,12 +123,11 @@ impl FibreOwner {
         ensures fitting { IfOk result (λ _. NoClaim (is_busy label lsp) self.old.claims) }
         ensures busy { IfErr result (λ b. IsLeast (is_busy label lsp) self.old.claims b.0) }
     {
-        if let Some(other) = least_lsp(&self.claims, label, Sought::AnyInUseBeside(lsp)) {
+        if let Some(other) = self.least_of(label, Sought::AnyInUseBeside(lsp)) {
             return Err(Busy(other));
         }
-        for claim in self.claims.iter_mut() {
-            *claim = claims::armed(*claim, label, lsp);
-        }
+        arm_all(&mut self.claims, label, lsp);
+        self.free.arm(label, &self.claims);
         Ok(())
     }
 
@@ -122,16 +135,16 @@ impl FibreOwner {
     pub(crate) fn disarm(&mut self, label: Label, lsp: Lsp)
         ensures { self.new ≡ record self.old { claims = map (disarmed label lsp) self.old.claims } }
     {
-        for claim in self.claims.iter_mut() {
-            *claim = claims::disarmed(*claim, label, lsp);
-        }
+        disarm_all(&mut self.claims, label, lsp);
+        self.free.disarm(label, &self.claims);
     }
 
     /// Takes the LSP's claim off.
     pub(crate) fn free(&mut self, label: Label, lsp: Lsp)
         ensures { self.new ≡ record self.old { claims = freed label lsp self.old.claims } }
     {
-        self.claims.retain(|claim| !is_of_lsp(claim, label, lsp));
+        take_off(&mut self.claims, label, lsp);
+        self.free.free(label, &self.claims);
     }
 
     /// The claims, in the order in which they were made.
@@ -145,14 +158,14 @@ impl FibreOwner {
     pub(crate) fn unclaimed(&self) -> LabelSet
         ensures { result ≡ unclaimed self.now.labels self.now.claims }
     {
-        claims::unclaimed(&self.claims, self.labels)
+        self.free.unclaimed(self.labels)
     }
 
     /// The labels that no working leg has.
     pub(crate) fn shareable(&self) -> LabelSet
         ensures { result ≡ shareable self.now.labels self.now.claims }
     {
-        claims::shareable(&self.claims, self.labels)
+        self.free.shareable(self.labels)
     }
 }
 
@@ -165,6 +178,40 @@ impl Copied for FibreOwner {
             fibre: self.fibre,
             labels: self.labels,
             claims,
+            free: self.free.copy(),
         })
     }
+}
+
+fn add(claims: &mut Vec<Claim>, claim: Claim) -> Result<(), ClaimFault>
+    ensures ok { OnOk result (claims.new.items ≡ claims.old.items ++ claim ∷ []) }
+    ensures err { OnErr result (claims.new.items ≡ claims.old.items) }
+    ensures fault { IfErr result (λ e. e ≡ ClaimFault.OutOfMemory) }
+{
+    match claims.push(claim) {
+        Ok(()) => Ok(()),
+        Err(_) => Err(ClaimFault::OutOfMemory),
+    }
+}
+
+fn arm_all(claims: &mut Vec<Claim>, label: Label, lsp: Lsp)
+    ensures { claims.new.items ≡ map (armed label lsp) claims.old.items }
+{
+    for claim in claims.iter_mut() {
+        *claim = armed(*claim, label, lsp);
+    }
+}
+
+fn disarm_all(claims: &mut Vec<Claim>, label: Label, lsp: Lsp)
+    ensures { claims.new.items ≡ map (disarmed label lsp) claims.old.items }
+{
+    for claim in claims.iter_mut() {
+        *claim = disarmed(*claim, label, lsp);
+    }
+}
+
+fn take_off(claims: &mut Vec<Claim>, label: Label, lsp: Lsp)
+    ensures { claims.new.items ≡ freed label lsp claims.old.items }
+{
+    claims.retain(|claim| !is_of_lsp(claim, label, lsp));
 }

@@ -3,6 +3,7 @@
 
 mod claims;
 mod fibres;
+mod free_labels;
 mod owner;
 
 pub use claims::{Busy, Claim, ClaimFault, ClaimKind};

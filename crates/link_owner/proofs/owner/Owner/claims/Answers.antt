@@ -1,4 +1,3 @@
-use Rattle.std.proofs.Common.{◌∙◌}
 use Rattle.link_owner.proofs.FibrePlaces.{IsRead, read-claims}
 use Rattle.link_owner.proofs.owner.Owner.claims.Goals as goal
 

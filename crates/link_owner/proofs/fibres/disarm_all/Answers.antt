@@ -1,7 +1,7 @@
 use Rattle.std.proofs.Common.{sym, ap, ◌∙◌, set}
 use Rattle.std.proofs.lemmas.List.Edits.{map_over_more}
 use Rattle.link_owner.specs.Claims.{disarmed}
-use Rattle.link_owner.proofs.fibres.FibreOwner.disarm.Goals as goal
+use Rattle.link_owner.proofs.fibres.disarm_all.Goals as goal
 
 pub loop-claim-preserved : goal.loop-claim-preserved
 loop-claim-preserved c =

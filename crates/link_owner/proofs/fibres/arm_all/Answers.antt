@@ -1,7 +1,7 @@
 use Rattle.std.proofs.Common.{sym, ap, ◌∙◌, set}
 use Rattle.std.proofs.lemmas.List.Edits.{map_over_more}
 use Rattle.link_owner.specs.Claims.{armed}
-use Rattle.link_owner.proofs.fibres.FibreOwner.arm.Goals as goal
+use Rattle.link_owner.proofs.fibres.arm_all.Goals as goal
 
 pub loop-claim-preserved : goal.loop-claim-preserved
 loop-claim-preserved c =

@@ -1,6 +1,6 @@
 use Rattle.std.proofs.Common.{◌≡◌, ◌++◌, map, take, drop}
 use Rattle.link_owner.specs.Claims.{disarmed}
-use Rattle.link_owner.proofs.fibres.FibreOwner.disarm.Given as goal
+use Rattle.link_owner.proofs.fibres.disarm_all.Given as goal
 
 abbrev pub invariant-loop-claim : goal.invariant-loop-claim
 invariant-loop-claim l =

@@ -1,6 +1,6 @@
 use Rattle.std.proofs.Common.{◌≡◌, ◌++◌, map, take, drop}
 use Rattle.link_owner.specs.Claims.{armed}
-use Rattle.link_owner.proofs.fibres.FibreOwner.arm.Given as goal
+use Rattle.link_owner.proofs.fibres.arm_all.Given as goal
 
 abbrev pub invariant-loop-claim : goal.invariant-loop-claim
 invariant-loop-claim l =

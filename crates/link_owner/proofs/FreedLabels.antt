@@ -1,0 +1,243 @@
+-- The labels that no leg has in some way, when claims come, change and go.
+use Rattle.std.proofs.Common.{◌≡◌, ℕ, Bool, true, false, cond, not, nat_eq, List, [], ◌∷◌, ◌++◌, inl, inr, refl, sym, ap, subst, ◌∙◌, arith}
+use Rattle.std.specs.Prelude.{◌⊎◌, ◌&&◌, ◌||◌, filter, map}
+use Rattle.std.specs.List.{list_any}
+use Rattle.std.proofs.lemmas.Map.Views.{any-filter_same}
+use Rattle.ason_base.specs.declared.ids.Lsp.{Lsp}
+use Rattle.ason_base.specs.Labels.{has as is_in, up_to, without}
+use Rattle.ason_base.specs.Lsps.{same_lsp}
+use Rattle.ason_base.proofs.MaskMembers.{filter-agree, filter-filter, has-filter}
+use Rattle.link_owner.specs.declared.claims.Claim.{Claim}
+use Rattle.link_owner.specs.declared.claims.ClaimKind.{ClaimKind}
+use Rattle.link_owner.specs.declared.claims.ClaimKind.TheVariants.{Working, Backup, Armed}
+use Rattle.link_owner.specs.declared.free_labels.FreeLabels.{FreeLabels}
+use Rattle.link_owner.specs.Claims.{AreFree, armed_kind, disarmed_kind, free_of, freed, has, has_so, is_armed, is_backup, is_of_lsp, is_working, with_free}
+use Rattle.link_owner.proofs.LabelTests.{left-kept, left-none, left-taken}
+
+same_number : (a b : ℕ) → nat_eq a b ≡ true → a ≡ b
+same_number a b e = grind arith
+
+both : (a b : Bool) → (a && b) ≡ true → (a ≡ true) × (b ≡ true)
+both true b h = (refl, h)
+both false b h = absurd (cc h)
+
+-- Tests over claims
+
+-- claims that change, and pass a test as they are changed
+pub any-changed : (p q : Claim → Bool) (change : Claim → Claim) (claims : List Claim) →
+    ((c : Claim) → p (change c) ≡ q c) → list_any p (map change claims) ≡ list_any q claims
+any-changed p q change [] same = refl
+any-changed p q change (c ∷ claims) same = rw (same c, any-changed p q change claims same) refl
+
+-- where no claim passes, none that is left does
+pub none-left : (p q : Claim → Bool) (claims : List Claim) → list_any p claims ≡ false →
+    list_any p (filter q claims) ≡ false
+none-left p q [] none = refl
+none-left p q (c ∷ claims) none = go (p c) refl (q c) (none-left p q claims) none
+  where
+    go : (a : Bool) → p c ≡ a → (b : Bool) → (list_any p claims ≡ false → list_any p (filter q claims) ≡ false) →
+        (a || list_any p claims) ≡ false → list_any p (cond b (c ∷ filter q claims) (filter q claims)) ≡ false
+    go true e b later h = absurd (cc h)
+    go false e true later h = rw (e, later h) refl
+    go false e false later h = later h
+
+-- One label
+
+-- a label that no leg has in this way
+pub none-has : (so : ClaimKind → Bool) (claims : List Claim) (x : ℕ) → is_in (free_of so claims) x ≡ true →
+    list_any (has_so so x) claims ≡ false
+none-has so claims x h =
+    is_false (list_any (has_so so x) claims)
+    (both (is_in (up_to 80) x) _ (sym (has-filter (λ y. not (list_any (has_so so y) claims)) (up_to 80) x) ∙ h)).1
+  where
+    is_false : (b : Bool) → not b ≡ true → b ≡ false
+    is_false true e = cc e
+    is_false false e = refl
+
+-- only claims of this label have changed
+abbrev pub StayElsewhere : (ClaimKind → Bool) → ℕ → List Claim → List Claim → Type 0
+StayElsewhere so x before after =
+    (y : ℕ) → nat_eq y x ≡ false → list_any (has_so so y) after ≡ list_any (has_so so y) before
+
+-- then the others stay free, and this one is told
+pub follows : (so : ClaimKind → Bool) (before after : List Claim) (x : ℕ) (free : Bool) →
+    StayElsewhere so x before after → free ≡ not (list_any (has_so so x) after) →
+    with_free (free_of so before) x free ≡ free_of so after
+follows so before after x true others told =
+    filter-agree (λ y. nat_eq y x || is_in (free_of so before) y) (λ y. not (list_any (has_so so y) after)) (up_to 80)
+    (λ y h. go y h (nat_eq y x) refl)
+  where
+    go : (y : ℕ) → is_in (up_to 80) y ≡ true → (b : Bool) → nat_eq y x ≡ b →
+        (b || is_in (free_of so before) y) ≡ not (list_any (has_so so y) after)
+    go y h true e = subst (λ z. true ≡ not (list_any (has_so so z) after)) (sym (same_number y x e)) told
+    go y h false e =
+        has-filter (λ z. not (list_any (has_so so z) before)) (up_to 80) y
+        ∙ ap (λ b. b && not (list_any (has_so so y) before)) h
+        ∙ ap not (sym (others y e))
+follows so before after x false others told =
+    filter-filter (λ y. not (list_any (has_so so y) before)) (λ y. not (nat_eq y x)) (up_to 80)
+    ∙ filter-agree (λ y. not (list_any (has_so so y) before) && not (nat_eq y x))
+    (λ y. not (list_any (has_so so y) after)) (up_to 80) (λ y h. go y (nat_eq y x) refl)
+  where
+    and_not : (a b : Bool) → b ≡ false → (a && not b) ≡ a
+    and_not true b e = ap not e
+    and_not false b e = refl
+
+    never : (a b c : Bool) → b ≡ true → c ≡ false → (a && not b) ≡ c
+    never true b c e f = ap not e ∙ sym f
+    never false b c e f = sym f
+
+    go : (y : ℕ) → (b : Bool) → nat_eq y x ≡ b →
+        (not (list_any (has_so so y) before) && not (nat_eq y x)) ≡ not (list_any (has_so so y) after)
+    go y true e =
+        never (not (list_any (has_so so y) before)) (nat_eq y x) (not (list_any (has_so so y) after)) e
+        (subst (λ z. not (list_any (has_so so z) after) ≡ false) (sym (same_number y x e)) (sym told))
+    go y false e =
+        and_not (not (list_any (has_so so y) before)) (nat_eq y x) e ∙ ap not (sym (others y e))
+
+-- Claims taken off
+
+of-label : (x : ℕ) (l : Lsp) (c : Claim) → is_of_lsp x l c ≡ true → nat_eq c.label x ≡ true
+of-label x l c h = (both (nat_eq c.label x) (same_lsp c.lsp l) h).0
+
+apart : (a x y : ℕ) → nat_eq a x ≡ true → nat_eq y x ≡ false → nat_eq a y ≡ false
+apart a x y e f = grind arith
+
+-- an LSP's claim of a label is taken off
+pub freed-elsewhere : (so : ClaimKind → Bool) (x : ℕ) (l : Lsp) (claims : List Claim) →
+    StayElsewhere so x claims (freed x l claims)
+freed-elsewhere so x l claims y e =
+    any-filter_same (has_so so y) (λ c. not (is_of_lsp x l c)) true
+    (λ c h. ap not (go c h (is_of_lsp x l c) refl)) claims
+  where
+    go : (c : Claim) → has_so so y c ≡ true → (b : Bool) → is_of_lsp x l c ≡ b → b ≡ false
+    go c h true f =
+        cc (sym (apart c.label x y (of-label x l c f) e) ∙ (both (nat_eq c.label y) (so c.kind) h).0)
+    go c h false f = refl
+
+-- Claims armed and disarmed
+
+-- the claim, changed in how its leg has the label where it is this LSP's of it
+abbrev pub changed : (ClaimKind → ClaimKind) → ℕ → Lsp → Claim → Claim
+changed change x l c = cond (is_of_lsp x l c) (record c { kind = change c.kind }) c
+
+-- a change that keeps the way
+pub kept-so : (so : ClaimKind → Bool) (change : ClaimKind → ClaimKind) → ((k : ClaimKind) → so (change k) ≡ so k) →
+    (x y : ℕ) (l : Lsp) (c : Claim) → has_so so y (changed change x l c) ≡ has_so so y c
+kept-so so change keeps x y l c =
+    elim (is_of_lsp x l c) as (λ b. has_so so y (cond b (record c { kind = change c.kind }) c) ≡ has_so so y c) [
+      | true ↦ ap (λ b. nat_eq c.label y && b) (keeps c.kind)
+      | false ↦ refl
+    ]
+
+-- a change of another label's claim
+changed-elsewhere : (so : ClaimKind → Bool) (change : ClaimKind → ClaimKind) (x y : ℕ) (l : Lsp) (c : Claim) →
+    nat_eq y x ≡ false → has_so so y (changed change x l c) ≡ has_so so y c
+changed-elsewhere so change x y l c e = go (is_of_lsp x l c) refl
+  where
+    go : (b : Bool) → is_of_lsp x l c ≡ b →
+        has_so so y (cond b (record c { kind = change c.kind }) c) ≡ has_so so y c
+    go true f =
+        let other : nat_eq c.label y ≡ false = apart c.label x y (of-label x l c f) e in
+        ap (λ b. b && so (change c.kind)) other ∙ sym (ap (λ b. b && so c.kind) other)
+    go false f = refl
+
+-- claims of one label that are changed leave those of others
+pub all-elsewhere : (so : ClaimKind → Bool) (change : ClaimKind → ClaimKind) (x : ℕ) (l : Lsp) (claims : List Claim) →
+    StayElsewhere so x claims (map (changed change x l) claims)
+all-elsewhere so change x l claims y e =
+    any-changed (has_so so y) (has_so so y) (changed change x l) claims (λ c. changed-elsewhere so change x y l c e)
+
+-- where each change keeps the way, all labels are as free as before
+pub all-kept : (so : ClaimKind → Bool) (change : ClaimKind → ClaimKind) → ((k : ClaimKind) → so (change k) ≡ so k) →
+    (x : ℕ) (l : Lsp) (claims : List Claim) → free_of so (map (changed change x l) claims) ≡ free_of so claims
+all-kept so change keeps x l claims =
+    filter-agree (λ y. not (list_any (has_so so y) (map (changed change x l) claims)))
+    (λ y. not (list_any (has_so so y) claims)) (up_to 80)
+    (λ y h. ap not (any-changed (has_so so y) (has_so so y) (changed change x l) claims
+    (λ c. kept-so so change keeps x y l c)))
+
+-- an armed claim is as much a working one as before
+pub arming-works : (k : ClaimKind) → is_working (armed_kind k) ≡ is_working k
+arming-works Working = refl
+arming-works Backup = refl
+arming-works Armed = refl
+
+-- and as much a backup's
+pub arming-holds : (k : ClaimKind) → is_backup (armed_kind k) ≡ is_backup k
+arming-holds Working = refl
+arming-holds Backup = refl
+arming-holds Armed = refl
+
+-- a disarmed claim is as much a working one as before
+pub disarming-works : (k : ClaimKind) → is_working (disarmed_kind k) ≡ is_working k
+disarming-works Working = refl
+disarming-works Backup = refl
+disarming-works Armed = refl
+
+-- and as much a backup's
+pub disarming-holds : (k : ClaimKind) → is_backup (disarmed_kind k) ≡ is_backup k
+disarming-holds Working = refl
+disarming-holds Backup = refl
+disarming-holds Armed = refl
+
+-- The labels that no leg has, after a change
+
+-- no claim, and all labels are free
+pub none-claimed : (so : ClaimKind → Bool) → up_to 80 ≡ free_of so []
+none-claimed so = sym (left-none (up_to 80))
+
+and_true : (b : Bool) → (b && true) ≡ b
+and_true true = refl
+and_true false = refl
+
+and_false : (b : Bool) → (b && false) ≡ false
+and_false true = refl
+and_false false = refl
+
+-- one claim more, of a leg that has its label so
+pub more-so : (so : ClaimKind → Bool) (claims : List Claim) (c : Claim) → so c.kind ≡ true →
+    without (free_of so claims) c.label ≡ free_of so (claims ++ c ∷ [])
+more-so so claims c has =
+    sym (left-taken (has_so so) claims c c.label (up_to 80)
+    (λ y. ap (λ b. nat_eq c.label y && b) has ∙ and_true (nat_eq c.label y)))
+
+-- one claim more, of another kind
+pub more-other : (so : ClaimKind → Bool) (claims : List Claim) (c : Claim) → so c.kind ≡ false →
+    free_of so claims ≡ free_of so (claims ++ c ∷ [])
+more-other so claims c other =
+    sym (left-kept (has_so so) claims c (up_to 80)
+    (λ y. ap (λ b. nat_eq c.label y && b) other ∙ and_false (nat_eq c.label y)))
+
+-- an LSP's claim was changed in how its leg has the label, and is as much a working one and as much a backup's as
+-- it was
+pub changed-free : (change : ClaimKind → ClaimKind) → ((k : ClaimKind) → is_working (change k) ≡ is_working k) →
+    ((k : ClaimKind) → is_backup (change k) ≡ is_backup k) → (before : List Claim) (x : ℕ) (l : Lsp)
+    (labels : FreeLabels) (free : Bool) → AreFree before labels →
+    free ≡ not (list_any (has_so is_armed x) (map (changed change x l) before)) →
+    AreFree (map (changed change x l) before) (record labels { of_armed = with_free labels.of_armed x free })
+changed-free change works holds before x l labels free are told = record {
+  of_working = are.of_working ∙ sym (all-kept is_working change works x l before);
+  of_backups = are.of_backups ∙ sym (all-kept is_backup change holds x l before);
+  of_armed =
+      ap (λ ls. with_free ls x free) are.of_armed
+      ∙ follows is_armed before (map (changed change x l) before) x free (all-elsewhere is_armed change x l before)
+      told;
+}
+
+-- an LSP's claim was taken off, and the label is looked for only where it wasn't free before
+pub freed-free : (so : ClaimKind → Bool) (before after : List Claim) (x : ℕ) (l : Lsp) (labels : List ℕ) (free : Bool) →
+    labels ≡ free_of so before → after ≡ freed x l before →
+    ((is_in labels x ≡ true) × (free ≡ true)) ⊎ (free ≡ not (list_any (has_so so x) after)) →
+    with_free labels x free ≡ free_of so after
+freed-free so before after x l labels free are is told =
+    ap (λ ls. with_free ls x free) are
+    ∙ follows so before (freed x l before) x free (freed-elsewhere so x l before) (now told)
+    ∙ ap (free_of so) (sym is)
+  where
+    now : ((is_in labels x ≡ true) × (free ≡ true)) ⊎ (free ≡ not (list_any (has_so so x) after)) →
+        free ≡ not (list_any (has_so so x) (freed x l before))
+    now (inl (was, is_free)) =
+        is_free ∙ ap not (sym (none-left (has_so so x) (λ c. not (is_of_lsp x l c)) before
+        (none-has so before x (ap (λ ls. is_in ls x) (sym are) ∙ was))))
+    now (inr looked) = looked ∙ ap (λ cs. not (list_any (has_so so x) cs)) is
