@@ -24,7 +24,7 @@ use Rattle.mesh_rules.specs.Resvs.{answered, is_expected, on_resv, resv_with}
 use Rattle.mesh_rules.specs.State.{new_node}
 use Rattle.mesh_nodes.specs.LocalNodes.{LocalNodeFits}
 use Rattle.mesh_nodes.proofs.Cases.{both_left, if_cases}
-use Rattle.leg_table.proofs.OwnLegs.{legs-after, next_state}
+use Rattle.leg_labels.proofs.OwnLegs.{legs-after, next_state}
 use Rattle.leg_table.specs.Fits.{OwnLegsFit, legs_after}
 use Rattle.leg_table.specs.States.{legs_state, local_of}
 use Rattle.leg_table.specs.Tables.{LegTable}

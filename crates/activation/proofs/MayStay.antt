@@ -26,8 +26,8 @@ use Rattle.mesh_nodes.proofs.Kept.{armed-beyond, held-beyond, in_use-beyond}
 use Rattle.leg_table.specs.LegClaims.{MayAllStay, WorksAreLive}
 use Rattle.leg_table.specs.States.{local_of}
 use Rattle.leg_table.specs.Tables.{LegTable}
-use Rattle.leg_table.proofs.Activated.{armed-used, armed-waits, held-waits, phase-stays}
-use Rattle.leg_table.proofs.RuleChanges.{found-itself}
+use Rattle.leg_labels.proofs.Activated.{armed-used, armed-waits, held-waits, phase-stays}
+use Rattle.leg_labels.proofs.MessageChanges.{found-itself}
 use Rattle.activation.specs.Answers.{activate_answer, activated_here, busy_answer, connect_answer, connected_here, contended_here, path_here, path_taken, take_back_answer}
 
 -- Each answer

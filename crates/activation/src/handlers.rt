@@ -10,8 +10,8 @@ use crate::paths::activate_change;
 use crate::resvs::connect_change;
 use crate::taken_back::take_back_change;
 use ason_base::{Msg, NodeId, OutOfMemory, Outs};
+use leg_labels::handle_kept;
 use leg_table::NodeTables;
-use leg_table::handling::handle_kept;
 use link_owner::Owner;
 use std::alloc::Global;
 

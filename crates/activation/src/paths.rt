@@ -11,7 +11,7 @@ ghost use Rattle.activation.specs.Answers.{activate_answer, activated_here, acti
 use crate::resvs::go_live;
 use ason_base::codes::BUSY;
 use ason_base::{Copied, Leg, LinkId, Msg, NodeId, OutOfMemory, PathRole, Phase, Steps};
-use leg_table::labels::is_contended;
+use leg_labels::is_contended;
 use leg_table::one_leg::{following, is_held, is_over, previous, with_phase};
 use leg_table::{Change, NodeTables};
 use link_owner::Owner;

@@ -13,9 +13,7 @@ use Rattle.mesh_rules.specs.declared.changes.LegChange.TheVariants.{Goes, Put}
 use Rattle.mesh_nodes.proofs.LegList.{find-with_leg, find-without_leg}
 use Rattle.leg_table.specs.LegClaims.{ChangesNoLabel, LabelsFit, StaysOfOneNode, taken_of}
 use Rattle.leg_table.specs.Tables.{LegTable}
-use Rattle.leg_table.proofs.Carried.{left-with, left-without}
-use Rattle.leg_table.proofs.ClaimChanges.{Left, all-to, kind-none, left-fit}
-use Rattle.leg_table.proofs.GuardChanges.{left-guards, none-guarded, nothing-guarded}
+use Rattle.leg_table.proofs.LeftLabels.{left-with, left-without, Left, all-to, kind-none, left-fit, left-guards, none-guarded, nothing-guarded}
 
 -- an LSP that took no label before takes none after
 left-labels : (l : Lsp) (legs after : List Leg) (o : List FibreClaims) (s : List Guard) → LabelsFit legs o s →

@@ -91,7 +91,7 @@ fn lesser(a: Option<CallNo>, b: Option<CallNo>) -> Option<CallNo>
 /// The calls, their working LSPs and their backup LSPs.
 #[derive(Drop)]
 pub struct CallList {
-    pub(crate) calls: Vec<CallRec>,
+    pub calls: Vec<CallRec>,
     works: Vec<LspOfCall>,
     backs: Vec<LspOfCall>,
 }
@@ -125,7 +125,7 @@ impl CallList {
     }
 
     /// Makes room for so many calls more.
-    pub(crate) fn reserve(&mut self, more: usize) -> Result<(), OutOfMemory>
+    pub fn reserve(&mut self, more: usize) -> Result<(), OutOfMemory>
         requires { AreCalls self.old }
         ensures calls { self.new.calls.items ≡ self.old.calls.items }
         ensures fit { AreCalls self.new }
@@ -192,7 +192,7 @@ impl CallList {
     }
 
     /// Makes the changes, one after the other. There is room for them.
-    pub(crate) fn change(&mut self, changes: Vec<CallChange>)
+    pub fn change(&mut self, changes: Vec<CallChange>)
         requires fit { AreCalls self.old }
         requires room { HasRoom (vec_len changes) self.old }
         ensures calls { self.new.calls.items ≡ calls_changed changes.items self.old.calls.items }

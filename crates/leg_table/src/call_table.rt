@@ -16,8 +16,8 @@ use std::marker::Model;
 /// The calls of an ingress, and the tunnel and LSP numbers that it gives out next.
 #[derive(Drop)]
 pub struct Calls {
-    pub(crate) alloc: Global,
-    pub(crate) list: CallList,
+    pub alloc: Global,
+    pub list: CallList,
     pub(crate) tunnel: u32,
     pub(crate) lsp: u32,
 }
@@ -171,7 +171,7 @@ impl Calls {
     }
 
     /// The same, where some numbers were given out.
-    pub(crate) fn give_out(&mut self, numbers: Option<NextNumbers>)
+    pub fn give_out(&mut self, numbers: Option<NextNumbers>)
         ensures { self.new ≡ record self.old {
           tunnel = tunnel_after numbers self.old.tunnel;
           lsp = lsp_after numbers self.old.lsp;

@@ -15,12 +15,12 @@ use std::marker::Model;
 #[derive(Drop)]
 pub struct Change {
     alloc: Global,
-    pub(crate) legs: Vec<LegEdit>,
-    pub(crate) calls: Vec<CallChange>,
-    pub(crate) numbers: Option<NextNumbers>,
-    pub(crate) down: Option<Fibres>,
-    pub(crate) row: Option<TeRow>,
-    pub(crate) sent: Outs,
+    pub legs: Vec<LegEdit>,
+    pub calls: Vec<CallChange>,
+    pub numbers: Option<NextNumbers>,
+    pub down: Option<Fibres>,
+    pub row: Option<TeRow>,
+    pub sent: Outs,
 }
 
 impl Model for Change {

@@ -1,75 +1,20 @@
-//! Carrying out what a rule does to the legs of a node alone, and what it does to those of an ingress and to its calls.
+//! Carrying out what a rule does to the fibres that a node knows to be down, and to the legs and calls of an ingress.
 
-ghost use Rattle.std.specs.Prelude.{◌≡◌, ◌≤◌, [], IfOk, None, OnErr, OnOk, length};
+ghost use Rattle.std.specs.Prelude.{◌≡◌, ◌≤◌, ◌+◌, [], IfOk, None, OnErr, OnOk, length, vec_capacity, vec_len};
 ghost use Rattle.std.specs.List.{AllByRecursion};
 ghost use Rattle.mesh_rules.specs.Changes.{changed, down_after};
 ghost use Rattle.mesh_rules.specs.Legs.{legs_changed};
-ghost use Rattle.leg_table.specs.Fits.{OwnLegsFit, TablesFit, TablesFitOwner, legs_after};
-ghost use Rattle.leg_table.specs.LegClaims.{ChangesNoLabel, MayAllStay, MayBeMade, SharesStay, StaysOfOneNode};
+ghost use Rattle.leg_table.specs.LegClaims.{ChangesNoLabel, StaysOfOneNode};
 ghost use Rattle.leg_table.specs.States.{local_of, state_of};
+ghost use Rattle.leg_table.specs.Tables.{LegsRise};
 
+use crate::boxes::{BoxedChange, BoxedLeg, LegEdit};
 use crate::call_table::Calls;
-use crate::carrying::{carry_out_kept, carry_out_tables, change_legs_alone};
 use crate::changes::Change;
+use crate::legs::{set_leg, take_leg};
 use crate::tables::NodeTables;
 use ason_base::{OutOfMemory, Outs};
-use link_owner::Owner;
-use share_check::Shares;
 use std::alloc::Global;
-
-/// Carries out what a change does to the legs, and hands back what is to be sent, in order. The owner's claims and
-/// the guards of the shares follow the legs. After want of memory nothing has changed.
-pub fn handle(
-    alloc: Global,
-    tables: &mut NodeTables,
-    owner: &mut Owner,
-    shares: &mut Shares,
-    change: Change,
-) -> Result<Outs, OutOfMemory>
-    requires fits { TablesFit tables.old owner.old shares.old }
-    requires may { MayBeMade (local_of tables.old) tables.old.legs change.legs }
-    requires legs { OwnLegsFit (legs_after tables.old change) }
-    ensures ok { OnOk result (tables.new ≡ legs_after tables.old change) }
-    ensures sent { IfOk result (λ outs. outs ≡ change.sent) }
-    ensures none { change.legs ≡ [] → owner.new ≡ owner.old }
-    ensures none_shares { change.legs ≡ [] → shares.new ≡ shares.old }
-    ensures fits { TablesFit tables.new owner.new shares.new }
-    ensures err { OnErr result (tables.new ≡ tables.old) }
-    ensures err_owner { OnErr result (owner.new ≡ owner.old) }
-    ensures err_shares { OnErr result (shares.new ≡ shares.old) }
-{
-    let Change { legs, sent, .. } = change;
-    if !legs.is_empty() {
-        carry_out_tables(alloc, tables, owner, shares, legs, None)?;
-    }
-    Ok(sent)
-}
-
-/// Carries out what a change does to legs that stand and keep their labels, and hands back what is to be sent, in
-/// order. The owner's claims are armed and disarmed with the legs. After want of memory nothing has changed.
-pub fn handle_kept(
-    _: Global,
-    tables: &mut NodeTables,
-    owner: &mut Owner,
-    change: Change,
-) -> Result<Outs, OutOfMemory>
-    requires fits { TablesFitOwner tables.old owner.old }
-    requires may { MayAllStay tables.old.legs change.legs }
-    requires legs { OwnLegsFit (legs_after tables.old change) }
-    ensures ok { OnOk result (tables.new ≡ legs_after tables.old change) }
-    ensures sent { IfOk result (λ outs. outs ≡ change.sent) }
-    ensures none { change.legs ≡ [] → owner.new ≡ owner.old }
-    ensures fits { TablesFitOwner tables.new owner.new }
-    ensures shares { SharesStay tables.old owner.old tables.new owner.new }
-    ensures err { OnErr result (tables.new ≡ tables.old) }
-    ensures err_owner { OnErr result (owner.new ≡ owner.old) }
-{
-    let Change { legs, sent, .. } = change;
-    if !legs.is_empty() {
-        carry_out_kept(tables, owner, legs)?;
-    }
-    Ok(sent)
-}
 
 /// Carries out what a change does to the fibres that are known to be down, and hands back what is to be sent, in order.
 pub fn handle_fibres(tables: &mut NodeTables, change: Change) -> Outs
@@ -118,4 +63,21 @@ pub fn handle_calls(
     calls.list.change(changes);
     calls.give_out(numbers);
     Ok(sent)
+}
+
+// Makes the changes, one after the other. No label is claimed or freed, and there is room for them.
+fn change_legs_alone(legs: &mut Vec<BoxedLeg>, changes: Vec<LegEdit>)
+    requires rising { LegsRise legs.old.items }
+    requires room { vec_len legs.old + vec_len changes ≤ vec_capacity legs.old }
+    ensures items { legs.new.items ≡ legs_changed changes.items legs.old.items }
+    ensures rising { LegsRise legs.new.items }
+{
+    for change in changes {
+        match change.into_change() {
+            BoxedChange::Goes(lsp) => {
+                let _leg = take_leg(legs, lsp);
+            }
+            BoxedChange::Put(leg) => set_leg(legs, leg),
+        }
+    }
 }

@@ -61,7 +61,7 @@ pub(crate) fn leg_at(legs: &[BoxedLeg], place: usize) -> Option<&Leg>
 }
 
 /// The leg of this LSP.
-pub(crate) fn find_leg(legs: &[BoxedLeg], lsp: Lsp) -> Option<&Leg>
+pub fn find_leg(legs: &[BoxedLeg], lsp: Lsp) -> Option<&Leg>
     requires { LegsRise legs.now }
     ensures { option_copied result ≡ find_leg lsp legs.now }
 {
@@ -100,7 +100,7 @@ pub(crate) fn put_leg(legs: &mut Vec<BoxedLeg>, alloc: Global, leg: Leg) -> Resu
 }
 
 /// Puts the leg in the place of the one of its LSP, or before the later ones. There is room for it.
-pub(crate) fn set_leg(legs: &mut Vec<BoxedLeg>, leg: BoxedLeg)
+pub fn set_leg(legs: &mut Vec<BoxedLeg>, leg: BoxedLeg)
     requires rising { LegsRise legs.old.items }
     requires room { vec_len legs.old < vec_capacity legs.old }
     ensures items { legs.new.items ≡ with_leg leg legs.old.items }
@@ -118,7 +118,7 @@ pub(crate) fn set_leg(legs: &mut Vec<BoxedLeg>, leg: BoxedLeg)
 }
 
 /// Takes the leg of this LSP off.
-pub(crate) fn take_leg(legs: &mut Vec<BoxedLeg>, lsp: Lsp) -> Option<Leg>
+pub fn take_leg(legs: &mut Vec<BoxedLeg>, lsp: Lsp) -> Option<Leg>
     requires { LegsRise legs.old.items }
     ensures leg { result ≡ find_leg lsp legs.old.items }
     ensures left { legs.new.items ≡ without_leg lsp legs.old.items }

@@ -37,9 +37,9 @@ pub struct NodeTables {
     node: NodeSpec,
     wait: u32,
     own: Vec<LinkSpec>,
-    pub(crate) rows: Vec<TeRow>,
+    pub rows: Vec<TeRow>,
     down: Fibres,
-    pub(crate) legs: Vec<BoxedLeg>,
+    pub legs: Vec<BoxedLeg>,
 }
 
 impl Model for NodeTables {
@@ -244,7 +244,7 @@ impl NodeTables {
     }
 
     /// Takes just these fibres to be down, if there are any to take.
-    pub(crate) fn know_down(&mut self, down: Option<Fibres>)
+    pub fn know_down(&mut self, down: Option<Fibres>)
         ensures { self.new ≡ record self.old { down = down_after down self.old.down } }
     {
         if let Some(down) = down {

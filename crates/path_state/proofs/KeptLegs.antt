@@ -10,7 +10,7 @@ use Rattle.mesh_rules.specs.LocalNodes.{own_link}
 use Rattle.mesh_rules.specs.Messages.{arrival}
 use Rattle.mesh_rules.specs.Paths.{PathRequest, path_with}
 use Rattle.mesh_nodes.specs.LocalNodes.{LocalNodeFits}
-use Rattle.leg_table.proofs.OwnLegs.{legs-after, next_state}
+use Rattle.leg_labels.proofs.OwnLegs.{legs-after, next_state}
 use Rattle.leg_table.specs.Fits.{OwnLegsFit, legs_after}
 use Rattle.leg_table.specs.States.{legs_state, local_of}
 use Rattle.leg_table.specs.Tables.{LegTable}

@@ -11,7 +11,7 @@ use Rattle.mesh_rules.specs.Paths.{PathRequest}
 use Rattle.leg_table.specs.LegClaims.{MayBeMade}
 use Rattle.leg_table.specs.States.{legs_state, local_of}
 use Rattle.leg_table.specs.Tables.{LegTable}
-use Rattle.leg_table.proofs.RuleChanges as rule
+use Rattle.leg_labels.proofs.MessageChanges as rule
 use Rattle.path_state.specs.Answers.{path_answer, path_unless, tear_answer}
 
 pub path-may : (t : LegTable) (u : NodeId) (m : Msg) → MayBeMade (local_of t) t.legs (path_answer t u m).legs

@@ -7,8 +7,8 @@ ghost use Rattle.path_state.specs.Answers.{after_path, after_tear, path_answer, 
 use crate::paths::path_change;
 use crate::tears::tear_change;
 use ason_base::{Msg, NodeId, OutOfMemory, Outs};
+use leg_labels::handle;
 use leg_table::NodeTables;
-use leg_table::handling::handle;
 use link_owner::Owner;
 use share_check::Shares;
 use std::alloc::Global;

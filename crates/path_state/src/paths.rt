@@ -13,7 +13,7 @@ use ason_base::{
     Copied, ErrCode, LabelSet, Leg, LinkSpec, Lsp, Msg, NodeId, OutOfMemory, PathRole, Phase,
     RiskFault, RiskSet, Role, Step, Steps,
 };
-use leg_table::labels::usable;
+use leg_labels::usable;
 use leg_table::one_leg::reserved;
 use leg_table::{Change, NodeTables};
 use link_owner::Owner;

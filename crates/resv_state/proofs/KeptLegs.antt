@@ -13,7 +13,7 @@ use Rattle.mesh_rules.specs.PathErrs.{PathFailure}
 use Rattle.mesh_rules.specs.Resvs.{is_expected}
 use Rattle.mesh_nodes.specs.LocalNodes.{LocalNodeFits}
 use Rattle.mesh_nodes.proofs.Cases.{if_cases}
-use Rattle.leg_table.proofs.OwnLegs.{legs-after}
+use Rattle.leg_labels.proofs.OwnLegs.{legs-after}
 use Rattle.leg_table.specs.Fits.{OwnLegsFit, legs_after}
 use Rattle.leg_table.specs.States.{local_of}
 use Rattle.leg_table.specs.Tables.{LegTable}

@@ -18,7 +18,7 @@ use Rattle.leg_table.specs.Fits.{OwnLegsFit}
 use Rattle.leg_table.specs.LegClaims.{MayBeMade, WorksAreLive}
 use Rattle.leg_table.specs.States.{legs_state, local_of}
 use Rattle.leg_table.specs.Tables.{LegTable}
-use Rattle.leg_table.proofs.RuleChanges as rule
+use Rattle.leg_labels.proofs.MessageChanges as rule
 use Rattle.resv_state.specs.Answers.{answered_here, err_taken, path_err_answer, removed_here, resv_answer, resv_taken}
 
 abbrev Fine : LegTable → Answer → Type 0

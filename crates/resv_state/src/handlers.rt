@@ -7,8 +7,8 @@ ghost use Rattle.resv_state.specs.Answers.{after_path_err, after_resv, path_err_
 use crate::path_errs::path_err_change;
 use crate::resvs::resv_change;
 use ason_base::{Msg, NodeId, OutOfMemory, Outs};
+use leg_labels::handle;
 use leg_table::NodeTables;
-use leg_table::handling::handle;
 use link_owner::Owner;
 use share_check::Shares;
 use std::alloc::Global;

@@ -11,7 +11,7 @@ ghost use Rattle.resv_state.specs.Answers.{answered_here, begins_here, connects,
 
 use ason_base::codes::LABEL;
 use ason_base::{Label, LabelSet, Leg, LinkId, Lsp, Msg, NodeId, OutOfMemory};
-use leg_table::labels::usable;
+use leg_labels::usable;
 use leg_table::one_leg::{closed, connected, following, is_asked, is_over, previous};
 use leg_table::{Change, NodeTables};
 use link_owner::Owner;

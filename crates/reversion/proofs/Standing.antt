@@ -24,8 +24,7 @@ use Rattle.mesh_nodes.proofs.CallList.{all-with_call}
 use Rattle.mesh_nodes.proofs.Cases.{if_cases}
 use Rattle.mesh_nodes.proofs.LegList.{all-with_leg, find-with_leg, same_lsp-eq}
 use Rattle.leg_table.specs.LegClaims.{ChangesNoLabel, ClaimsStay}
-use Rattle.leg_table.proofs.Carried.{left-with}
-use Rattle.leg_table.proofs.ClaimChanges.{kind-none, left-fit}
+use Rattle.leg_table.proofs.LeftLabels.{left-with, kind-none, left-fit}
 use Rattle.call_control.specs.Ingress.{AllNameByRole, IsArmedAsBackup, NamesByRole, role_at}
 use Rattle.call_control.proofs.Decisions.{HasLspsOf, decide-has, go_back-has, phase_put}
 use Rattle.call_control.proofs.Named.{Begins, leg_of-begins, names-like}

@@ -1,5 +1,5 @@
 use Rattle.std.proofs.Common.{sym}
-use Rattle.leg_table.proofs.RuleChanges.{found-itself}
+use Rattle.leg_labels.proofs.MessageChanges.{found-itself}
 use Rattle.activation.proofs.paths.on_path.Goals as goal
 
 pub activate_leg-requires-clause-there : goal.activate_leg-requires-clause-there

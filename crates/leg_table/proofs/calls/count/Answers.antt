@@ -1,4 +1,4 @@
-use Rattle.std.proofs.Common.{◌≡◌, ◌<◌, ◌-◌, ℕ, suc, length, sym, subst, arith}
+use Rattle.std.proofs.Common.{◌≡◌, ◌<◌, ◌-◌, ℕ, suc, length, sym, arith}
 use Rattle.leg_table.proofs.LegOrder.{few-calls}
 use Rattle.leg_table.proofs.calls.count.Goals as goal
 

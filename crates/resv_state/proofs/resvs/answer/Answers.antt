@@ -1,5 +1,5 @@
 use Rattle.std.proofs.Common.{sym}
-use Rattle.leg_table.proofs.InFibres.{previous-fibre_in}
+use Rattle.leg_labels.proofs.InFibres.{previous-fibre_in}
 use Rattle.resv_state.proofs.resvs.answer.Goals as goal
 
 pub labels_left-labels-requires-clause-comes_in : goal.labels_left-labels-requires-clause-comes_in

@@ -1,0 +1,22 @@
+use Rattle.std.proofs.Common.{◌∙◌, ap}
+use Rattle.link_owner.specs.Owners.{label_freed}
+use Rattle.leg_labels.proofs.Restored.{claimed-comes, claimed-freed, claimed-has}
+use Rattle.leg_labels.proofs.reserving.reserve.Goals as goal
+
+pub free-requires-clause-comes_in : goal.free-requires-clause-comes_in
+free-requires-clause-comes_in c =
+    let t = c.args.label.now in
+    rw c.in_ok-claim.ensures.ok (claimed-comes c.args.leg.now t c.args.owner.now c.requires.comes_in)
+
+pub free-requires-clause-there : goal.free-requires-clause-there
+free-requires-clause-there c =
+    let t = c.args.label.now in
+    rw c.in_ok-claim.ensures.ok (claimed-has c.args.leg.now t c.args.owner.now c.requires.comes_in)
+
+pub returns-in-Err-clause-err : goal.returns-in-Err-clause-err
+returns-in-Err-clause-err c =
+    let g = c.args.leg.now in
+    let t = c.args.label.now in
+    c.free.ensures
+    ∙ ap (label_freed t.fibre t.label g.lsp) c.in_ok-claim.ensures.ok
+    ∙ claimed-freed g t c.args.owner.now c.requires.comes_in c.requires.new
