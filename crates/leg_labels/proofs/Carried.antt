@@ -9,7 +9,7 @@ use Rattle.ason_base.specs.Lsps.{same_lsp}
 use Rattle.link_owner.specs.Claims.{FibreClaims, IsLeast, NoClaim, freed, has, is_of_lsp}
 use Rattle.link_owner.specs.Owners.{claim_added, claims_of, comes_in, has_label}
 use Rattle.link_owner.specs.declared.claims.Claim.{Claim}
-use Rattle.share_check.specs.declared.guards.Guard.{Guard}
+use Rattle.share_check.specs.Guards.{Guard}
 use Rattle.mesh_rules.specs.Legs.{find_leg, with_leg}
 use Rattle.mesh_rules.specs.LocalNodes.{LocalNode}
 use Rattle.mesh_rules.specs.declared.changes.LegChange.{LegChange}

@@ -11,6 +11,7 @@ use Rattle.leg_table.specs.LegClaims.{claim_kind, kind_here}
 
 -- Lists of claims
 
+-- what is true of all is true of those that are left
 pub all-left : {X : Type 0} (P Q : X → Type 0) (q : X → Bool) (xs : List X) → ((x : X) → P x → q x ≡ true → Q x) →
     AllByRecursion P xs →
     AllByRecursion Q (filter q xs)
@@ -22,15 +23,18 @@ all-left {X} P Q q (x ∷ xs) f all = go (q x) refl (all-left P Q q xs f all.1)
     go true e rest = (f x all.0 e, rest)
     go false e rest = rest
 
+-- and of one more that it is true of
 pub all-one_more : {X : Type 0} (P : X → Type 0) (xs : List X) (x : X) → AllByRecursion P xs → P x →
     AllByRecursion P (xs ++ x ∷ [])
 all-one_more P [] x all here = (here, tt)
 all-one_more P (y ∷ xs) x all here = (all.0, all-one_more P xs x all.1 here)
 
+-- a test or one that passes
 pub or_true : (b : Bool) → (b || true) ≡ true
 or_true true = refl
 or_true false = refl
 
+-- one that passes is left where those that pass are kept
 pub any-left_in : {X : Type 0} (t q : X → Bool) (xs : List X) → ((x : X) → t x ≡ true → q x ≡ true) → list_any t xs ≡ true →
     list_any t (filter q xs) ≡ true
 any-left_in t q [] f h = h
@@ -44,24 +48,30 @@ any-left_in {X} t q (x ∷ xs) f h = go (q x) refl (t x) refl h (any-left_in t q
     go false e true k h later = absurd (cc (e, f x k))
     go false e false k h later = later h
 
+-- one of the first list passes
 pub any-first : {X : Type 0} (t : X → Bool) (xs ys : List X) → list_any t xs ≡ true → list_any t (xs ++ ys) ≡ true
 any-first t xs ys h = list_any-append t xs ys ∙ rw h refl
 
+-- the last one passes
 pub any-last : {X : Type 0} (t : X → Bool) (xs : List X) (x : X) → t x ≡ true → list_any t (xs ++ x ∷ []) ≡ true
 any-last t xs x h = list_any-append t xs (x ∷ []) ∙ rw h (or_true (list_any t xs))
 
+-- numbers that are the same are one
 pub number : (a b : ℕ) → nat_eq a b ≡ true → a ≡ b
 number a b e = grind arith
 
+-- a number is the same as itself
 pub same_number : (n : ℕ) → nat_eq n n ≡ true
 same_number n = grind arith
 
+-- a test whose opposite passes fails
 pub not-of : (b : Bool) → not b ≡ true → b ≡ false
 not-of true e = absurd (cc e)
 not-of false e = refl
 
 -- Kinds
 
+-- a leg with a kind of claim on a label takes it
 pub kind-of : (f : Fibre) (x : ℕ) (g : Leg) (k : ClaimKind) → kind_here f x (Some g) ≡ Some k → takes f x g ≡ true
 kind-of f x g k e = go (takes f x g) refl e
   where

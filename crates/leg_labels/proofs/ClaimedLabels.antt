@@ -21,10 +21,12 @@ use Rattle.mesh_nodes.proofs.Links.{any-found, any-left}
 use Rattle.leg_table.specs.LegClaims.{ClaimsFit, IsClaimOfLeg, OwnerFits, kind_here}
 use Rattle.leg_labels.proofs.ClaimLists.{kind-of}
 
+-- a test or one that passes
 pub or_last : (a b : Bool) → b ≡ true → (a || b) ≡ true
 or_last true b e = refl
 or_last false b e = e
 
+-- tests that follow from each other are one
 pub iff : (a b : Bool) → (a ≡ true → b ≡ true) → (b ≡ true → a ≡ true) → a ≡ b
 iff true true f g = refl
 iff true false f g = sym (f refl)
@@ -78,6 +80,7 @@ pub claimed-taken : (legs : List Leg) (o : List FibreClaims) (f : Fibre) (x : �
 claimed-taken legs o f x rise fit =
     iff _ _ (claims_take legs f x (claims_of f o) (fit.each f)) (legs_claim legs o f x rise fit)
 
+-- the labels that no leg claims are those that a working leg may take
 pub unclaimed-usable : (p : LocalNode) (legs : List Leg) (risks : List Risk) (o : List FibreClaims) (f : Fibre) →
     LegsRise legs → ClaimsFit legs o → OwnerFits p o → comes_in o f ≡ true →
     unclaimed (labels_of f o) (claims_of f o) ≡ usable p legs Work risks f

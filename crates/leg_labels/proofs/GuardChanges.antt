@@ -8,8 +8,7 @@ use Rattle.ason_base.specs.declared.risks.Risk.{Risk}
 use Rattle.ason_base.specs.declared.tables.Leg.{Leg}
 use Rattle.ason_base.specs.Lsps.{same_fibre, same_lsp}
 use Rattle.ason_base.specs.Risks.{has_risk}
-use Rattle.share_check.specs.declared.guards.Guard.{Guard}
-use Rattle.share_check.specs.Guards.{GuardsJust, GuardsNone, is_guarded}
+use Rattle.share_check.specs.Guards.{Guard, GuardsJust, GuardsNone, is_guarded}
 use Rattle.share_check.proofs.Places.{guards-same}
 use Rattle.mesh_rules.specs.Legs.{find_leg, is_work, takes}
 use Rattle.mesh_nodes.proofs.Cases.{both_left, both_right}

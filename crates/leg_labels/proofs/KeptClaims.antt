@@ -13,7 +13,7 @@ use Rattle.link_owner.specs.Claims.{FibreClaims, armed_kind, disarmed_kind, is_o
 use Rattle.link_owner.specs.Owners.{claims_of, comes_in, has_label, labels_of}
 use Rattle.link_owner.specs.declared.claims.Claim.{Claim}
 use Rattle.link_owner.specs.declared.claims.ClaimKind.{ClaimKind}
-use Rattle.share_check.specs.declared.guards.Guard.{Guard}
+use Rattle.share_check.specs.Guards.{Guard}
 use Rattle.mesh_rules.specs.Legs.{find_leg, is_in_use, is_work, takes, with_leg, without_leg}
 use Rattle.mesh_nodes.specs.Order as order
 use Rattle.mesh_nodes.proofs.Cases.{both_right}

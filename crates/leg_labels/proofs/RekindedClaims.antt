@@ -37,6 +37,7 @@ back-kind phase.Live = refl
 back-kind phase.Closing = refl
 back-kind phase.Falling = refl
 
+-- a claim that is armed has the kind of a leg in use
 pub armed-kind : (r : Role) (p q : Phase) → is_in_use q ≡ true → armed_kind (claim_kind r p) ≡ claim_kind r q
 armed-kind Work p q e = refl
 armed-kind Back p q e =
@@ -46,6 +47,7 @@ armed-kind Back p q e =
     either true = refl
     either false = refl
 
+-- a claim that is disarmed has the kind of a leg out of use
 pub disarmed-kind : (r : Role) (p q : Phase) → is_in_use q ≡ false → disarmed_kind (claim_kind r p) ≡ claim_kind r q
 disarmed-kind Work p q e = refl
 disarmed-kind Back p q e =
@@ -55,17 +57,20 @@ disarmed-kind Back p q e =
     either true = refl
     either false = refl
 
+-- legs that are as much in use have claims of one kind
 pub same-kind : (r : Role) (p q : Phase) → is_in_use p ≡ is_in_use q → claim_kind r p ≡ claim_kind r q
 same-kind Work p q e = refl
 same-kind Back p q e = back-kind p ∙ ap (λ b. cond b Armed Backup) e ∙ sym (back-kind q)
 
 -- Lists
 
+-- what is true of all as they are changed
 pub all-mapped : {X : Type 0} (P Q : X → Type 0) (m : X → X) (xs : List X) → ((x : X) → P x → Q (m x)) →
     AllByRecursion P xs → AllByRecursion Q (map m xs)
 all-mapped P Q m [] f all = tt
 all-mapped P Q m (x ∷ xs) f all = (f x all.0, all-mapped P Q m xs f all.1)
 
+-- a test that doesn't see the change
 pub any-mapped : {X : Type 0} (p : X → Bool) (m : X → X) (xs : List X) → ((x : X) → p (m x) ≡ p x) →
     list_any p (map m xs) ≡ list_any p xs
 any-mapped p m [] same = refl
@@ -82,6 +87,7 @@ rekinded-same x l c = go (is_of_lsp x l c)
     go true = refl
     go false = refl
 
+-- a change that keeps each kind
 pub rekinded_all-same : (l : Lsp) (t : TakenLabel) (o : List FibreClaims) → rekinded_all (λ k. k) l t o ≡ o
 rekinded_all-same l t o =
     ap (λ cs. with_claims t.fibre cs o)
@@ -106,6 +112,7 @@ rekinded-fibres k l t o = record {
   labels = λ f. labels-kept t.fibre f (map (rekinded k t.label l) (claims_of t.fibre o)) o;
 }
 
+-- the fibres stay
 pub kept-fibres : (l : Lsp) (t : TakenLabel) (was is : Bool) (o : List FibreClaims) →
     SameFibres o (kept_claim l t was is o)
 kept-fibres l t false false o = same-fibres o

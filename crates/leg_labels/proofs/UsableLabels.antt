@@ -19,8 +19,7 @@ use Rattle.ason_base.proofs.MaskMembers.{filter-agree, filter-filter, has-bound,
 use Rattle.link_owner.specs.Claims.{FibreClaims, has, is_of_lsp, is_working, shareable, works_on}
 use Rattle.link_owner.specs.Owners.{claims_of, comes_in, labels_of}
 use Rattle.link_owner.specs.declared.claims.Claim.{Claim}
-use Rattle.share_check.specs.declared.guards.Guard.{Guard}
-use Rattle.share_check.specs.Guards.{fits, fitting, is_guarded}
+use Rattle.share_check.specs.Guards.{fits, fitting, is_guarded, Guard}
 use Rattle.share_check.proofs.Fitting.{fits-none, none-fits}
 use Rattle.mesh_rules.specs.Legs.{find_leg, is_apart, is_usable, is_work, takes, usable}
 use Rattle.mesh_rules.specs.LocalNodes.{LocalNode, own_link}

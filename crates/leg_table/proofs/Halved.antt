@@ -1,11 +1,11 @@
 -- What halving finds in a list in order, and what a change at that place makes of the list.
-use Rattle.std.proofs.Common.{◌≡◌, ◌≤◌, ◌<◌, ◌+◌, ◌-◌, ℕ, suc, Bool, true, false, cond, not, nat_lt, List, [], ◌∷◌, length, get_or, set, refl, sym, ap, subst, ◌∙◌, arith, inl, inr}
-use Rattle.std.specs.Prelude.{◌⊎◌, Some, None, find, filter, insert, position, slice_get}
+use Rattle.std.proofs.Common.{◌≡◌, ◌≤◌, ◌<◌, ◌+◌, ℕ, suc, Bool, true, false, cond, not, nat_lt, List, [], ◌∷◌, length, get_or, set, refl, sym, ap, subst, ◌∙◌, arith, inl, inr}
+use Rattle.std.specs.Prelude.{◌⊎◌, Some, None, find, filter, position, slice_get}
+use Rattle.share_check.proofs.Inserted.{same_or_before}
 use Rattle.leg_table.specs.Tables.{first_changed}
-use Rattle.std.specs.List.{AllPairs, position_or_len, remove}
+use Rattle.std.specs.List.{position_or_len, remove}
 use Rattle.std.specs.List.Sorted.{IsPartitionPoint, IsPartitionedBy}
 use Rattle.std.proofs.lemmas.Bool.{cases_lt}
-use Rattle.std.proofs.lemmas.List.Edits.{get_or-insert_above, get_or-insert_at, get_or-insert_below, length-insert}
 use Rattle.std.proofs.lemmas.List.Folds.{find_at}
 use Rattle.std.proofs.lemmas.List.Quantifiers.{position-Some}
 use Rattle.std.proofs.lemmas.List.Sums.{fails_before_first, passes_at_first, position_or_len_is}
@@ -36,9 +36,6 @@ pub record InOrder {X : Type 0} (same from : X → Bool) (xs : List X) : Type 0 
 from_fails : (same from : Bool) → (same ≡ true → from ≡ true) → from ≡ false → same ≡ false
 from_fails true from reaches e = absurd (apart from (reaches refl) e)
 from_fails false from reaches e = refl
-
-same_or_before : (i j : ℕ) → i ≤ j → (i < j) ⊎ (i ≡ j)
-same_or_before i j le = elim (cases_lt i j) [ inl below ↦ inl below | inr above ↦ inr (omega arith) ]
 
 pub parted : {X : Type 0} (same from : X → Bool) (xs : List X) → InOrder same from xs →
     IsPartitionedBy (λ x. not (from x)) xs
@@ -209,46 +206,6 @@ changed-nowhere {X} same change xs e = all xs
     all (y ∷ ys) none =
         let here : same y ≡ false = none 0 y (omega arith) in
         rw here (ap (λ zs. y ∷ zs) (all ys (λ k d below. none (suc k) d (omega arith))))
-
--- A new one
-
-pub rises-insert : {X : Type 0} (R : X → X → Type 0) (xs : List X) (n : ℕ) (y : X) → n ≤ length xs → AllPairs R xs →
-    ((k : ℕ) (d : X) → k < n → R (get_or xs k d) y) → ((k : ℕ) (d : X) → n ≤ k → k < length xs → R y (get_or xs k d)) →
-    AllPairs R (insert xs n y)
-rises-insert {X} R xs n y le pairs before after i j d less within = go (cases_lt i n) (cases_lt j n)
-  where
-    longer : length (insert xs n y) ≡ length xs + 1
-    longer = length-insert xs n y le
-
-    low : (k : ℕ) → k < n → get_or (insert xs n y) k d ≡ get_or xs k d
-    low k below = get_or-insert_below xs n y d k below le
-
-    here : (k : ℕ) → k ≡ n → get_or (insert xs n y) k d ≡ y
-    here k is = subst (λ m. get_or (insert xs n y) m d ≡ y) (sym is) (get_or-insert_at xs n y d le)
-
-    high : (k : ℕ) → n < k → get_or (insert xs n y) k d ≡ get_or xs (k - 1) d
-    high k above = subst (λ m. get_or (insert xs n y) m d ≡ get_or xs (k - 1) d) {x = k - 1 + 1} (omega arith)
-        (get_or-insert_above xs n y d (k - 1) (omega arith) le)
-
-    pair : (x z : X) → get_or (insert xs n y) i d ≡ x → get_or (insert xs n y) j d ≡ z → R x z →
-        R (get_or (insert xs n y) i d) (get_or (insert xs n y) j d)
-    pair x z e f r = subst (λ w. R w (get_or (insert xs n y) j d)) (sym e) (subst (λ w. R x w) (sym f) r)
-
-    go : (i < n) ⊎ (n ≤ i) → (j < n) ⊎ (n ≤ j) → R (get_or (insert xs n y) i d) (get_or (insert xs n y) j d)
-    go (inl a) (inl b) = pair (get_or xs i d) (get_or xs j d) (low i a) (low j b) (pairs i j d less (omega arith))
-    go (inl a) (inr b) = elim (same_or_before n j b) [
-      | inl above ↦ pair (get_or xs i d) (get_or xs (j - 1) d) (low i a) (high j above)
-          (pairs i (j - 1) d (omega (arith, a, above)) (omega (arith, within, longer, above)))
-      | inr is ↦ pair (get_or xs i d) y (low i a) (here j (sym is)) (before i d a)
-    ]
-    go (inr a) (inl b) = absurd (omega arith)
-    go (inr a) (inr b) = elim (same_or_before n i a) [
-      | inl above ↦ pair (get_or xs (i - 1) d) (get_or xs (j - 1) d) (high i above)
-          (high j (omega (arith, above, less))) (pairs (i - 1) (j - 1) d (omega (arith, above, less))
-          (omega (arith, within, longer, above, less)))
-      | inr is ↦ pair y (get_or xs (j - 1) d) (here i (sym is)) (high j (omega (arith, is, less)))
-          (after (j - 1) d (omega (arith, is, less)) (omega (arith, within, longer, is, less)))
-    ]
 
 pub passes-first : {X : Type 0} (from : X → Bool) (xs : List X) (n : ℕ) (d : X) → n ≡ position_or_len from xs →
     n < length xs → from (get_or xs n d) ≡ true

@@ -6,7 +6,7 @@ use Rattle.ason_base.specs.declared.ids.Lsp.{Lsp}
 use Rattle.ason_base.specs.declared.tables.Leg.{Leg}
 use Rattle.ason_base.specs.Lsps.{same_lsp}
 use Rattle.link_owner.specs.Claims.{FibreClaims}
-use Rattle.share_check.specs.declared.guards.Guard.{Guard}
+use Rattle.share_check.specs.Guards.{Guard}
 use Rattle.mesh_rules.specs.Legs.{find_leg, leg_changed, legs_changed}
 use Rattle.mesh_rules.specs.declared.changes.LegChange.{LegChange}
 use Rattle.mesh_rules.specs.declared.changes.LegChange.TheVariants.{Goes, Put}

@@ -14,19 +14,21 @@ use Rattle.mesh_nodes.proofs.LegList.{same_lsp-eq, same_lsp-refl, find-with_leg,
 use Rattle.leg_table.specs.declared.labels.TakenLabel.{TakenLabel}
 use Rattle.leg_table.specs.LegClaims.{ClaimsFit, IsClaimOfLeg, WorksAreLive, claim_kind, kind_here, taken, taken_of, GuardsFit, GuardsNothing, guarded_risks, guards_here}
 use Rattle.leg_table.proofs.TakenLabels.{none-takes, taken-some, taken-takes, takes-taken}
-use Rattle.share_check.specs.declared.guards.Guard.{Guard}
-use Rattle.share_check.specs.Guards.{GuardsNone, is_guarded}
+use Rattle.share_check.specs.Guards.{Guard, GuardsNone, is_guarded}
 use Rattle.ason_base.specs.declared.risks.Risk.{Risk}
 use Rattle.ason_base.specs.Risks.{has_risk}
 
+-- what follows for each follows for all
 pub all-to : {X : Type 0} (P Q : X → Type 0) (xs : List X) → ((x : X) → P x → Q x) → AllByRecursion P xs →
     AllByRecursion Q xs
 all-to P Q [] f all = tt
 all-to P Q (x ∷ xs) f all = (f x all.0, all-to P Q xs f all.1)
 
+-- a leg that takes no label has no claim there
 pub none-kind : (f : Fibre) (x : ℕ) (g : Leg) → taken g ≡ None → kind_here f x (Some g) ≡ None
 none-kind f x g e = rw (none-takes g f x e) refl
 
+-- nor has an LSP without a leg
 pub kind-none : (f : Fibre) (x : ℕ) (o : Option Leg) → taken_of o ≡ None → kind_here f x o ≡ None
 kind-none f x None e = refl
 kind-none f x (Some g) e = none-kind f x g e
@@ -37,11 +39,13 @@ pub record Left (l : Lsp) (legs after : List Leg) : Type 0 where
   pub others : (m : Lsp) → same_lsp l m ≡ false → find_leg m after ≡ find_leg m legs
   pub none : (f : Fibre) (x : ℕ) → kind_here f x (find_leg l after) ≡ None
 
+-- a leg that goes leaves those of other LSPs
 pub left-without : (l : Lsp) (legs : List Leg) → Left l legs (without_leg l legs)
 left-without l legs =
     let here : find_leg l (without_leg l legs) ≡ None = find-without_leg l legs l ∙ rw (same_lsp-refl l) refl in
     record { others = λ m apart. find-without_leg l legs m ∙ rw apart refl; none = λ f x. ap (kind_here f x) here }
 
+-- a leg without a label leaves those of other LSPs
 pub left-with : (g : Leg) (legs : List Leg) → taken g ≡ None → Left g.lsp legs (with_leg g legs)
 left-with g legs e =
     let here : find_leg g.lsp (with_leg g legs) ≡ Some g = find-with_leg g legs g.lsp ∙ rw (same_lsp-refl g.lsp) refl in
@@ -65,11 +69,13 @@ left-old l legs after left m g t found has = go (same_lsp l m) refl
         absurd (cc (none, some))
     go false s = sym (left.others m s) ∙ found
 
+-- labels that are left are labels of their fibres
 pub left-within : (l : Lsp) (legs after : List Leg) (o : List FibreClaims) → ClaimsFit legs o → Left l legs after →
     (f : Fibre) (x : ℕ) (m : Lsp) (g : Leg) → find_leg m after ≡ Some g → takes f x g ≡ true → x ≤ labels_of f o
 left-within l legs after o fit left f x m g found t =
     fit.within f x m g (left-old l legs after left m g _ found (takes-taken f x g t)) t
 
+-- working legs that are left are Live
 pub left-live : (l : Lsp) (legs after : List Leg) → WorksAreLive legs → Left l legs after → WorksAreLive after
 left-live l legs after live left m g found some work =
     let has = taken-some g some in
@@ -99,6 +105,7 @@ left-fit l legs after o fit left bare = record {
 
 -- Guards
 
+-- where none has a claim none guards
 pub none-guards : (f : Fibre) (x : ℕ) (q : Risk) (o : Option Leg) → kind_here f x o ≡ None → guards_here f x q o ≡ false
 none-guards f x q None e = refl
 none-guards f x q (Some g) e = go (takes f x g) e
@@ -122,6 +129,7 @@ nothing-guarded l s none f x m q = go (same_lsp l m) refl
     go true e = subst (λ k. is_guarded s f x k q ≡ false) (same_lsp-eq l m e) (none f x q)
     go false e = refl
 
+-- the guards that are left are those of the legs that are left
 pub left-guards : (l : Lsp) (legs after : List Leg) (s unguarded : List Guard) → GuardsFit legs s →
     Left l legs after → GuardsNothing l s unguarded → GuardsFit after unguarded
 left-guards l legs after s unguarded fit left nothing =

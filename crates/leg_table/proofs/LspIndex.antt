@@ -1,34 +1,21 @@
 -- Entries of an index that come and go, and the first call with an LSP.
-use Rattle.std.proofs.Common.{◌≡◌, ◌≤◌, ◌+◌, ℕ, suc, Bool, true, false, cond, not, nat_eq, nat_lt, List, [], ◌∷◌, take, drop, length, get_or, refl, sym, ap, subst, ◌∙◌, arith}
+use Rattle.std.proofs.Common.{◌≡◌, ◌≤◌, ◌+◌, ℕ, suc, Bool, true, false, cond, not, nat_eq, nat_lt, List, [], ◌∷◌, length, get_or, refl, sym, ap, subst, ◌∙◌, arith}
 use Rattle.std.specs.Prelude.{◌||◌, ◌&&◌, Option, Some, None, IsTrue, insert, slice_get}
 use Rattle.std.specs.List.{list_any, position_or_len}
-use Rattle.std.proofs.lemmas.List.{take-append-drop}
-use Rattle.std.proofs.lemmas.List.Folds.{list_any-append, list_any_at}
+use Rattle.std.proofs.lemmas.List.Folds.{list_any_at}
 use Rattle.std.proofs.lemmas.List.Sums.{fails_before_first}
 use Rattle.std.proofs.lemmas.Map.Views.{any-filter_same}
 use Rattle.ason_base.specs.declared.ids.CallNo.{CallNo}
 use Rattle.ason_base.specs.declared.ids.Lsp.{Lsp}
 use Rattle.leg_table.specs.declared.lsp_index.LspOfCall.{LspOfCall}
 use Rattle.leg_table.specs.LspIndexes.{IndexRises, IsFirstCall, call_there, has_entry, is_before, is_earlier, is_entry, is_from, is_same, without_entry}
-use Rattle.leg_table.proofs.Halved.{rises-insert}
+use Rattle.share_check.proofs.Inserted.{rises-insert}
 use Rattle.leg_table.proofs.LegOrder.{head, tail}
 use Rattle.leg_table.proofs.LspOrder.{before-or, earlier-earlier, earlier-total, entry-eq, from-not, in_order, never-earlier, same-eq, same-sym}
 use Rattle.leg_table.proofs.NewPlaces.{from_place}
 use Rattle.mesh_nodes.proofs.LegList.{all-then}
 
 -- An entry more
-
-third-first : (a b c : Bool) → (a || (b || c)) ≡ (b || (a || c))
-third-first true true c = refl
-third-first true false c = refl
-third-first false b c = refl
-
-pub any-insert : {X : Type 0} (p : X → Bool) (xs : List X) (n : ℕ) (y : X) →
-    list_any p (insert xs n y) ≡ (p y || list_any p xs)
-any-insert p xs n y =
-    list_any-append p (take n xs) (y ∷ drop n xs)
-    ∙ third-first (list_any p (take n xs)) (p y) (list_any p (drop n xs))
-    ∙ ap (λ b. p y || b) (sym (list_any-append p (take n xs) (drop n xs)) ∙ ap (list_any p) (take-append-drop n xs))
 
 negated : (b : Bool) → not b ≡ false → b ≡ true
 negated true h = refl

@@ -9,7 +9,8 @@ use Rattle.ason_base.specs.declared.ids.Lsp.{Lsp}
 use Rattle.ason_base.specs.Lsps.{lsp_before, same_lsp}
 use Rattle.mesh_rules.specs.Legs.{find_leg, has_lsp, is_at_or_after, with_leg}
 use Rattle.leg_table.specs.Tables.{LegsRise, is_of_lsp}
-use Rattle.leg_table.proofs.Halved.{InOrder, passes-first, rises-insert}
+use Rattle.leg_table.proofs.Halved.{InOrder, passes-first}
+use Rattle.share_check.proofs.Inserted.{rises-insert}
 use Rattle.mesh_nodes.proofs.LegList.{before-total}
 use Rattle.leg_table.proofs.Orders.{legs_in_order}
 use Rattle.leg_table.proofs.Places.{with_leg-place}

@@ -2,7 +2,7 @@
 use Rattle.std.specs.Prelude.{ℕ, ◌≡◌, ◌≤◌, ◌++◌, List, map}
 use Rattle.ason_base.specs.Network.{row_of}
 use Rattle.link_owner.specs.Claims.{FibreClaims}
-use Rattle.share_check.specs.declared.guards.Guard.{Guard}
+use Rattle.share_check.specs.Guards.{Guard}
 use Rattle.mesh_rules.specs.Changes.{Answer}
 use Rattle.mesh_rules.specs.Legs.{legs_changed}
 use Rattle.mesh_nodes.specs.Kept.{LegsFit}

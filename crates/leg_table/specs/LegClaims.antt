@@ -25,8 +25,7 @@ use Rattle.mesh_rules.specs.LocalNodes.{LocalNode, fibre_in, own_link}
 use Rattle.mesh_rules.specs.LocalNodes as local
 use Rattle.mesh_rules.specs.declared.changes.LegChange.{LegChange}
 use Rattle.mesh_rules.specs.declared.changes.LegChange.TheVariants.{Goes, Put}
-use Rattle.share_check.specs.declared.guards.Guard.{Guard}
-use Rattle.share_check.specs.Guards.{GuardsJust, is_guarded}
+use Rattle.share_check.specs.Guards.{GuardsJust, is_guarded, Guard}
 use Rattle.leg_table.specs.States.{learnt_rows, local_of}
 use Rattle.leg_table.specs.Tables.{LegTable}
 use Rattle.leg_table.specs.declared.labels.TakenLabel.{TakenLabel}

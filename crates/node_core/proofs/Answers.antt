@@ -5,7 +5,7 @@ use Rattle.ason_base.specs.Network.{IsTopology, Network}
 use Rattle.ason_base.specs.declared.ids.NodeId.{NodeId}
 use Rattle.link_owner.specs.Claims.{FibreClaims}
 use Rattle.link_owner.specs.Owners.{none_claimed}
-use Rattle.share_check.specs.declared.guards.Guard.{Guard}
+use Rattle.share_check.specs.Guards.{Guard}
 use Rattle.mesh_rules.specs.LocalNodes.{local_node}
 use Rattle.mesh_nodes.proofs.NewNodes.{new-fits}
 use Rattle.leg_table.specs.Fits.{TablesFit}

@@ -1,24 +1,26 @@
--- The labels that fit, guard by guard and risk by risk.
-use Rattle.std.proofs.Common.{◌≡◌, ◌<◌, ◌≤◌, ◌+◌, ℕ, Bool, true, false, not, nat_eq, List, [], ◌∷◌, ◌++◌, length, get_or, take, refl, sym, ap, subst, ◌∙◌, arith, Contains}
-use Rattle.std.specs.Prelude.{◌&&◌, ◌||◌, filter}
+-- The labels that fit, label by label and risk by risk.
+use Rattle.std.proofs.Common.{◌≡◌, ◌<◌, ◌+◌, ℕ, Bool, true, false, not, nat_eq, List, [], ◌∷◌, ◌++◌, length, get_or, take, refl, sym, ap, subst, ◌∙◌, arith, append-nil, Contains}
+use Rattle.std.specs.Prelude.{◌&&◌, ◌||◌, filter, map}
 use Rattle.std.specs.List.{list_any}
 use Rattle.std.proofs.lemmas.List.{take_more}
+use Rattle.std.proofs.lemmas.List.Folds.{list_any-append}
 use Rattle.ason_base.specs.declared.ids.Fibre.{Fibre}
 use Rattle.ason_base.specs.declared.ids.Lsp.{Lsp}
 use Rattle.ason_base.specs.declared.risks.Risk.{Risk}
 use Rattle.ason_base.specs.Labels.{up_to, without}
 use Rattle.ason_base.specs.Lsps.{same_fibre, same_lsp}
-use Rattle.ason_base.specs.Risks.{has_risk, have_common}
+use Rattle.ason_base.specs.Risks.{has_risk, same_risk}
 use Rattle.ason_base.proofs.MaskMembers.{filter-agree, filter-filter}
 use Rattle.ason_base.proofs.Ordered.{any-there, there-any}
-use Rattle.ason_base.proofs.RiskOrder.{common-there, contains-has_risk, has_risk-contains, there-common}
-use Rattle.share_check.specs.declared.guards.Guard.{Guard}
-use Rattle.share_check.specs.Guards.{fits, fitting, has_on, is_guarded, is_met, is_on}
-use Rattle.share_check.proofs.LeastLsps.{FirstFree}
+use Rattle.ason_base.proofs.RiskOrder.{contains-has_risk, has_risk-contains}
+use Rattle.share_check.specs.declared.guarded.GuardedRisk.{GuardedRisk}
+use Rattle.share_check.specs.declared.guarded.Meets.{Meets}
+use Rattle.share_check.specs.Guards.{Guard, IsFirstMet, LabelTally, NoneMet, fits, fitting, guard_on, guards_of, guards_on, has_on, is_guard, is_guarded, is_met, is_on, meets}
+use Rattle.share_check.proofs.GuardOrder.{same_risk-eq, same_risk-refl}
 use Rattle.share_check.proofs.LspOrder.{same_lsp-refl}
-use Rattle.share_check.proofs.Places.{any-more, both_left, both_right, or_none}
+use Rattle.share_check.proofs.Places.{both_left, both_right, or_none}
 
--- Guard by guard
+-- Label by label
 
 -- one item more of a list
 pub take_item : {X : Type 0} (xs : List X) (i : ℕ) (x : X) → i < length xs → x ≡ get_or xs i x →
@@ -33,12 +35,46 @@ all-left (x ∷ xs) = ap (λ ys. x ∷ ys) (all-left xs)
 pub fitting-none : (f : Fibre) (r : List Risk) → fitting [] f r ≡ up_to 80
 fitting-none f r = all-left (up_to 80)
 
-module _ (f : Fibre) (r : List Risk) (s : List Guard) (c : Guard) where
-  -- a guard is met, and its label fits no more
-  pub fitting-fewer : is_met f r c ≡ true → fitting (s ++ c ∷ []) f r ≡ without (fitting s f r) c.label
+module _ (f : Fibre) (r : List Risk) (s : List Guard) (t : LabelTally) where
+  -- a test of the guards of one label
+  on-label : (y : ℕ) → list_any (λ g. is_met f r g && nat_eq g.label y) (guards_on t) ≡
+      ((same_fibre t.fibre f && meets r t.guarded) && nat_eq t.label y)
+  on-label y = all t.guarded
+    where
+      none : (a b : Bool) → false ≡ ((a && false) && b)
+      none true b = refl
+      none false b = refl
+
+      parted : (a b p rest : Bool) → (((a && p) && b) || ((a && rest) && b)) ≡ ((a && (p || rest)) && b)
+      parted true true true rest = refl
+      parted true true false rest = refl
+      parted true false true true = refl
+      parted true false true false = refl
+      parted true false false rest = refl
+      parted false b p rest = refl
+
+      all : (guarded : List GuardedRisk) →
+          list_any (λ g. is_met f r g && nat_eq g.label y) (map (guard_on t.fibre t.label) guarded) ≡
+          ((same_fibre t.fibre f && meets r guarded) && nat_eq t.label y)
+      all [] = none (same_fibre t.fibre f) (nat_eq t.label y)
+      all (p ∷ guarded) =
+          rw (all guarded)
+          (parted (same_fibre t.fibre f) (nat_eq t.label y) (has_risk r p.risk) (meets r guarded))
+
+  after : (y : ℕ) → list_any (λ g. is_met f r g && nat_eq g.label y) (s ++ guards_on t) ≡
+      (list_any (λ g. is_met f r g && nat_eq g.label y) s ||
+      ((same_fibre t.fibre f && meets r t.guarded) && nat_eq t.label y))
+  after y =
+      list_any-append (λ g. is_met f r g && nat_eq g.label y) s (guards_on t)
+      ∙ ap (λ b. list_any (λ g. is_met f r g && nat_eq g.label y) s || b) (on-label y)
+
+  -- one of the risks is guarded on the label, and the label fits no more
+  pub fitting-fewer : (same_fibre t.fibre f && meets r t.guarded) ≡ true →
+      fitting (s ++ guards_on t) f r ≡ without (fitting s f r) t.label
   fitting-fewer met =
-      filter-agree (fits (s ++ c ∷ []) f r) (λ y. fits s f r y && not (nat_eq y c.label)) (up_to 80) (λ y h. here y)
-      ∙ sym (filter-filter (fits s f r) (λ y. not (nat_eq y c.label)) (up_to 80))
+      filter-agree (fits (s ++ guards_on t) f r) (λ y. fits s f r y && not (nat_eq y t.label)) (up_to 80)
+      (λ y h. here y)
+      ∙ sym (filter-filter (fits s f r) (λ y. not (nat_eq y t.label)) (up_to 80))
     where
       neither : (a b : Bool) → not (a || b) ≡ (not a && not b)
       neither true b = refl
@@ -47,19 +83,55 @@ module _ (f : Fibre) (r : List Risk) (s : List Guard) (c : Guard) where
       swapped : (a b : ℕ) → nat_eq a b ≡ nat_eq b a
       swapped a b = grind arith
 
-      here : (y : ℕ) → fits (s ++ c ∷ []) f r y ≡ (fits s f r y && not (nat_eq y c.label))
+      here : (y : ℕ) → fits (s ++ guards_on t) f r y ≡ (fits s f r y && not (nat_eq y t.label))
       here y =
-          ap not (any-more (λ g. is_met f r g && nat_eq g.label y) s c)
-          ∙ neither (list_any (λ g. is_met f r g && nat_eq g.label y) s) (is_met f r c && nat_eq c.label y)
-          ∙ ap (λ b. fits s f r y && not b) (rw met (swapped c.label y))
+          ap not (after y)
+          ∙ neither (list_any (λ g. is_met f r g && nat_eq g.label y) s)
+          ((same_fibre t.fibre f && meets r t.guarded) && nat_eq t.label y)
+          ∙ ap (λ b. fits s f r y && not b) (rw met (swapped t.label y))
 
-  -- it isn't, and the labels stay
-  pub fitting-same : is_met f r c ≡ false → fitting (s ++ c ∷ []) f r ≡ fitting s f r
+  -- none is, and the labels stay
+  pub fitting-same : (same_fibre t.fibre f && meets r t.guarded) ≡ false →
+      fitting (s ++ guards_on t) f r ≡ fitting s f r
   fitting-same met =
-      filter-agree (fits (s ++ c ∷ []) f r) (fits s f r) (up_to 80)
-      (λ y h. ap not (any-more (λ g. is_met f r g && nat_eq g.label y) s c
-      ∙ ap (λ b. list_any (λ g. is_met f r g && nat_eq g.label y) s || (b && nat_eq c.label y)) met
+      filter-agree (fits (s ++ guards_on t) f r) (fits s f r) (up_to 80)
+      (λ y h. ap not (after y
+      ∙ ap (λ b. list_any (λ g. is_met f r g && nat_eq g.label y) s || (b && nat_eq t.label y)) met
       ∙ or_none (list_any (λ g. is_met f r g && nat_eq g.label y) s)))
+
+-- the guards of one label more
+pub guards-more : (ts : List LabelTally) (t : LabelTally) → guards_of (ts ++ t ∷ []) ≡ guards_of ts ++ guards_on t
+guards-more [] t = append-nil (guards_on t)
+guards-more (u ∷ ts) t =
+    ap (λ gs. guards_on u ++ gs) (guards-more ts t) ∙ append-joined (guards_on u) (guards_of ts) (guards_on t)
+  where
+    append-joined : (a b c : List Guard) → a ++ (b ++ c) ≡ (a ++ b) ++ c
+    append-joined [] b c = refl
+    append-joined (x ∷ a) b c = ap (λ gs. x ∷ gs) (append-joined a b c)
+
+-- whether one of the risks is guarded
+pub not-met : (guarded : List GuardedRisk) (r : List Risk) → NoneMet guarded r → meets r guarded ≡ false
+not-met guarded r none = go (meets r guarded) refl
+  where
+    go : (b : Bool) → meets r guarded ≡ b → b ≡ false
+    go true e =
+        let there = any-there (λ p. has_risk r p.risk) guarded e in
+        let p = there.0 in
+        cc (
+          none p.lsp p.risk (has_risk-contains r p.risk there.2),
+          there-any (is_guard p.lsp p.risk) guarded p there.1 (rw (same_risk-refl p.risk, same_lsp-refl p.lsp) refl),
+        )
+    go false e = refl
+
+-- one of the risks is guarded where a first one is
+pub is-met : (guarded : List GuardedRisk) (r : List Risk) (m : Meets) → IsFirstMet guarded r m → meets r guarded ≡ true
+is-met guarded r m first =
+    let there = any-there (is_guard m.lsp m.risk) guarded first.guards in
+    let p = there.0 in
+    let risk : m.risk ≡ p.risk =
+    same_risk-eq m.risk p.risk (both_left (same_risk m.risk p.risk) (same_lsp p.lsp m.lsp) there.2) in
+    there-any (λ p. has_risk r p.risk) guarded p there.1
+    (subst (λ q. has_risk r q ≡ true) risk (contains-has_risk r m.risk first.asked))
 
 -- Risk by risk
 
@@ -67,30 +139,27 @@ module _ (f : Fibre) (r : List Risk) (s : List Guard) (c : Guard) where
 abbrev pub NoneGuards : List Guard → Fibre → List Risk → ℕ → Type 0
 NoneGuards s f r x = (l : Lsp) (q : Risk) → Contains r q → is_guarded s f x l q ≡ false
 
--- a guard's LSP guards each of its risks
-guards-own : (g : Guard) (f : Fibre) (x : ℕ) (q : Risk) → same_fibre g.fibre f ≡ true → nat_eq g.label x ≡ true →
-    has_risk g.risks q ≡ true → (has_on f x q g && same_lsp g.lsp g.lsp) ≡ true
-guards-own g f x q fibre label risk = rw (fibre, label, risk) (same_lsp-refl g.lsp)
-
 met-guards : (g : Guard) (f : Fibre) (r : List Risk) (x : ℕ) → (is_met f r g && nat_eq g.label x) ≡ true →
-    (q : Risk) × Contains r q × ((has_on f x q g && same_lsp g.lsp g.lsp) ≡ true)
+    Contains r g.risk × ((has_on f x g.risk g && same_lsp g.lsp g.lsp) ≡ true)
 met-guards g f r x h =
     let met : is_met f r g ≡ true = both_left (is_met f r g) (nat_eq g.label x) h in
     let label : nat_eq g.label x ≡ true = both_right (is_met f r g) (nat_eq g.label x) h in
-    let fibre : same_fibre g.fibre f ≡ true = both_left (same_fibre g.fibre f) (have_common r g.risks) met in
-    let common = common-there r g.risks (both_right (same_fibre g.fibre f) (have_common r g.risks) met) in
-    (common.0, common.1, guards-own g f x common.0 fibre label (contains-has_risk g.risks common.0 common.2))
+    let fibre : same_fibre g.fibre f ≡ true = both_left (same_fibre g.fibre f) (has_risk r g.risk) met in
+    let asked = has_risk-contains r g.risk (both_right (same_fibre g.fibre f) (has_risk r g.risk) met) in
+    (asked, rw (fibre, label, same_risk-refl g.risk) (same_lsp-refl g.lsp))
 
 guards-met : (g : Guard) (f : Fibre) (r : List Risk) (x : ℕ) (l : Lsp) (q : Risk) → Contains r q →
     (has_on f x q g && same_lsp g.lsp l) ≡ true → (is_met f r g && nat_eq g.label x) ≡ true
 guards-met g f r x l q asked h =
     let has : has_on f x q g ≡ true = both_left (has_on f x q g) (same_lsp g.lsp l) h in
-    let on : is_on f x g ≡ true = both_left (is_on f x g) (has_risk g.risks q) has in
-    let risk = has_risk-contains g.risks q (both_right (is_on f x g) (has_risk g.risks q) has) in
+    let on : is_on f x g ≡ true = both_left (is_on f x g) (same_risk q g.risk) has in
+    let risk : q ≡ g.risk = same_risk-eq q g.risk (both_right (is_on f x g) (same_risk q g.risk) has) in
     let fibre : same_fibre g.fibre f ≡ true = both_left (same_fibre g.fibre f) (nat_eq g.label x) on in
     let label : nat_eq g.label x ≡ true = both_right (same_fibre g.fibre f) (nat_eq g.label x) on in
-    rw (fibre, there-common r g.risks q asked risk) label
+    let has_it : has_risk r g.risk ≡ true = subst (λ p. has_risk r p ≡ true) risk (contains-has_risk r q asked) in
+    rw (fibre, has_it) label
 
+-- where no LSP guards one of the risks, the label fits
 pub none-fits : (s : List Guard) (f : Fibre) (r : List Risk) (x : ℕ) → NoneGuards s f r x → fits s f r x ≡ true
 none-fits s f r x none = go (list_any (λ g. is_met f r g && nat_eq g.label x) s) refl
   where
@@ -99,14 +168,15 @@ none-fits s f r x none = go (list_any (λ g. is_met f r g && nat_eq g.label x) s
         let there = any-there (λ g. is_met f r g && nat_eq g.label x) s e in
         let met = met-guards there.0 f r x there.2 in
         cc (
-          none there.0.lsp met.0 met.1,
-          there-any (λ c. has_on f x met.0 c && same_lsp c.lsp there.0.lsp) s there.0 there.1 met.2,
+          none there.0.lsp there.0.risk met.0,
+          there-any (λ c. has_on f x there.0.risk c && same_lsp c.lsp there.0.lsp) s there.0 there.1 met.1,
         )
 
     go : (b : Bool) → list_any (λ g. is_met f r g && nat_eq g.label x) s ≡ b → not b ≡ true
     go true e = absurd (never e)
     go false e = refl
 
+-- on a label that fits no LSP guards one of the risks
 pub fits-none : (s : List Guard) (f : Fibre) (r : List Risk) (x : ℕ) → fits s f r x ≡ true → NoneGuards s f r x
 fits-none s f r x h l q asked = go (is_guarded s f x l q) refl
   where
@@ -118,10 +188,3 @@ fits-none s f r x h l q asked = go (is_guarded s f x l q) refl
     go : (b : Bool) → is_guarded s f x l q ≡ b → b ≡ false
     go true e = absurd (cc (h, met e))
     go false e = refl
-
--- none of the risks is guarded
-pub first-fits : (s : List Guard) (f : Fibre) (r : List Risk) (x : ℕ) (i : ℕ) → length r ≤ i → FirstFree s f x r i →
-    fits s f r x ≡ true
-first-fits s f r x i all free =
-    none-fits s f r x (λ l q there.
-    subst (λ p. is_guarded s f x l p ≡ false) there.2 (free l there.0 q (let h = there.1 in omega arith)))

@@ -1,4 +1,8 @@
 pub mod Fitting
-mod LeastLsps
+mod GuardOrder
+pub mod Inserted
 mod LspOrder
 pub mod Places
+mod Tallies
+mod TallyChanges
+mod Walked

@@ -1,14 +1,21 @@
 -- Which LSPs guard which risks on the labels of fibres (RFC 4872, section 9).
-use Rattle.std.specs.Prelude.{ℕ, ◌≡◌, ◌==◌, ◌&&◌, Bool, true, false, not, List, filter, Option, Some, None, IsTrue, if◌then◌else◌}
-use Rattle.std.specs.List.{Contains, list_any}
+use Rattle.std.specs.Prelude.{ℕ, ◌≡◌, ◌==◌, ◌&&◌, ◌||◌, Bool, false, not, List, [], ◌∷◌, filter, map, IsTrue, if◌then◌else◌}
+use Rattle.std.specs.List.{AllByRecursion, AllPairs, Contains, flat_map, list_any}
 use Rattle.ason_base.specs.declared.ids.Fibre.{Fibre}
 use Rattle.ason_base.specs.declared.ids.Lsp.{Lsp}
 use Rattle.ason_base.specs.declared.risks.Risk.{Risk}
 use Rattle.ason_base.specs.Labels.{up_to}
 use Rattle.ason_base.specs.Lsps.{lsp_before, same_fibre, same_lsp}
-use Rattle.ason_base.specs.Risks.{has_risk, have_common, is_below}
-use Rattle.share_check.specs.declared.guards.Guard.{Guard}
-use Rattle.share_check.specs.declared.guards.Meets.{Meets}
+use Rattle.ason_base.specs.Risks.{has_risk, is_below, same_risk}
+use Rattle.share_check.specs.declared.guarded.GuardedRisk.{GuardedRisk}
+use Rattle.share_check.specs.declared.guarded.Meets.{Meets}
+
+-- an LSP guards a risk on a label of a fibre
+pub record Guard : Type 0 where
+  pub fibre : Fibre
+  pub label : ℕ
+  pub lsp : Lsp
+  pub risk : Risk
 
 -- One guard
 
@@ -16,17 +23,13 @@ use Rattle.share_check.specs.declared.guards.Meets.{Meets}
 abbrev pub is_on : Fibre → ℕ → Guard → Bool
 is_on f x g = same_fibre g.fibre f && g.label == x
 
--- and of this LSP
-abbrev pub is_of : Fibre → ℕ → Lsp → Guard → Bool
-is_of f x l g = is_on f x g && same_lsp g.lsp l
-
--- it is of this label, and has the risk
+-- it is of this label, and of the risk
 abbrev pub has_on : Fibre → ℕ → Risk → Guard → Bool
-has_on f x q g = is_on f x g && has_risk g.risks q
+has_on f x q g = is_on f x g && same_risk q g.risk
 
--- it is of this fibre, and has one of the risks
+-- it is of this fibre, and of one of the risks
 abbrev pub is_met : Fibre → List Risk → Guard → Bool
-is_met f r g = same_fibre g.fibre f && have_common r g.risks
+is_met f r g = same_fibre g.fibre f && has_risk r g.risk
 
 -- All guards
 
@@ -68,9 +71,72 @@ abbrev pub GuardsJust : Fibre → ℕ → Lsp → List Risk → List Guard → L
 GuardsJust f x l r before after = (g : Fibre) (y : ℕ) (m : Lsp) (q : Risk) →
     is_guarded after g y m q ≡ (if is_there f x l g y m then has_risk r q else is_guarded before g y m q)
 
--- Guard by guard
+-- What is kept of a label: its risks in order, each with an LSP that guards it
 
--- below the least that was met so far
-abbrev pub is_lesser : Lsp → Option Lsp → Bool
-is_lesser l None = true
-is_lesser l (Some k) = lsp_before l k
+pub record LabelTally : Type 0 where
+  pub fibre : Fibre
+  pub label : ℕ
+  pub guarded : List GuardedRisk
+
+-- by risk, and those of one risk by LSP
+abbrev pub is_before : GuardedRisk → GuardedRisk → Bool
+is_before a b = is_below a.risk b.risk || (same_risk a.risk b.risk && lsp_before a.lsp b.lsp)
+
+abbrev pub AreInOrder : List GuardedRisk → Type 0
+AreInOrder risks = AllPairs (λ a b. is_before b a ≡ false) risks
+
+abbrev pub is_guard : Lsp → Risk → GuardedRisk → Bool
+is_guard l q p = same_risk q p.risk && same_lsp p.lsp l
+
+-- the LSP guards the risk
+abbrev pub has_guard : Lsp → Risk → List GuardedRisk → Bool
+has_guard l q risks = list_any (is_guard l q) risks
+
+-- one of the risks is guarded
+abbrev pub meets : List Risk → List GuardedRisk → Bool
+meets r risks = list_any (λ p. has_risk r p.risk) risks
+
+-- those that this LSP doesn't guard
+abbrev pub unguarded : Lsp → List GuardedRisk → List GuardedRisk
+unguarded l risks = filter (λ p. not (same_lsp p.lsp l)) risks
+
+-- no LSP guards one of the risks
+abbrev pub NoneMet : List GuardedRisk → List Risk → Type 0
+NoneMet guarded r = (l : Lsp) (q : Risk) → Contains r q → has_guard l q guarded ≡ false
+
+-- the least of the risks that an LSP guards, and the least LSP that guards it
+pub record IsFirstMet (guarded : List GuardedRisk) (r : List Risk) (m : Meets) : Type 0 where
+  pub asked : Contains r m.risk
+  pub guards : IsTrue (has_guard m.lsp m.risk guarded)
+  pub least_risk : (q : Risk) (l : Lsp) → Contains r q → IsTrue (is_below q m.risk) → has_guard l q guarded ≡ false
+  pub least_lsp : (l : Lsp) → IsTrue (lsp_before l m.lsp) → has_guard l m.risk guarded ≡ false
+
+-- What is kept of all labels
+
+abbrev pub is_at : Fibre → ℕ → LabelTally → Bool
+is_at f x t = same_fibre t.fibre f && t.label == x
+
+-- each label stands once
+abbrev pub AreApart : List LabelTally → Type 0
+AreApart [] = Unit {0}
+AreApart (t ∷ ts) = AllByRecursion (λ u. is_at t.fibre t.label u ≡ false) ts × AreApart ts
+
+abbrev pub guard_on : Fibre → ℕ → GuardedRisk → Guard
+guard_on f x p = record { fibre = f; label = x; lsp = p.lsp; risk = p.risk }
+
+abbrev pub guards_on : LabelTally → List Guard
+guards_on t = map (guard_on t.fibre t.label) t.guarded
+
+abbrev pub guards_of : List LabelTally → List Guard
+guards_of ts = flat_map guards_on ts
+
+-- the risks of the label
+abbrev pub guarded_at : Fibre → ℕ → List LabelTally → List GuardedRisk
+guarded_at f x [] = []
+guarded_at f x (t ∷ ts) = if is_at f x t then t.guarded else guarded_at f x ts
+
+-- the label with these risks, all others as they were
+abbrev pub with_guarded : Fibre → ℕ → List GuardedRisk → List LabelTally → List LabelTally
+with_guarded f x risks [] = []
+with_guarded f x risks (t ∷ ts) =
+    if is_at f x t then record t { guarded = risks } ∷ ts else t ∷ with_guarded f x risks ts

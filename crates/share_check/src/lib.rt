@@ -2,8 +2,9 @@
 //! restoration).
 #![tactic(auto)]
 
-mod guards;
+mod guarded;
+mod labels;
 mod shares;
 
-pub use guards::Meets;
+pub use guarded::Meets;
 pub use shares::Shares;

@@ -1,10 +1,11 @@
 //! Which labels backups may share.
 
-ghost use Rattle.std.specs.Prelude.{◌≡◌, [], IfErr, IfOk, IsTrue, OnErr, OnOk};
-ghost use Rattle.share_check.specs.Guards.{GuardsJust, GuardsNone, IsLeastMet, fits, fitting};
+ghost use Rattle.std.specs.Prelude.{◌≡◌, ◌<◌, [], IfErr, IfNone, IfOk, IfSome, IsTrue, OnErr, OnOk, length, position};
+ghost use Rattle.std.specs.List.{position_or_len};
+ghost use Rattle.share_check.specs.Guards.{AreApart, GuardsJust, GuardsNone, IsFirstMet, IsLeastMet, NoneMet, fits, fitting, guarded_at, guards_of, is_at};
 
-use crate::guards;
-use crate::guards::{Guard, Meets, is_of, least_lsp};
+use crate::guarded::Meets;
+use crate::labels::LabelGuards;
 use ason_base::{Copied, Fibre, Label, LabelSet, Lsp, OutOfMemory, RiskSet, copy_all};
 use std::alloc::Global;
 use std::marker::Model;
@@ -13,16 +14,18 @@ use std::marker::Model;
 /// that no failure of one risk needs the label for both.
 #[derive(Drop)]
 pub struct Shares {
-    guards: Vec<Guard>,
+    labels: Vec<LabelGuards>,
 }
 
 impl Model for Shares {
     ghost use Rattle.std.specs.Prelude.{List};
-    ghost use Rattle.share_check.specs.declared.guards.Guard.{Guard};
+    ghost use Rattle.share_check.specs.Guards.{AreApart, Guard, guards_of};
 
     ghost Value = { List Guard };
 
-    ghost view = { λ s. s.guards.items };
+    ghost view = { λ s. guards_of s.labels.items };
+
+    ghost invariant = { λ s. AreApart s.labels.items };
 }
 
 impl Shares {
@@ -31,7 +34,7 @@ impl Shares {
         ensures { result ≡ [] }
     {
         Shares {
-            guards: Vec::new(alloc),
+            labels: Vec::new(alloc),
         }
     }
 
@@ -48,35 +51,29 @@ impl Shares {
         ensures ok { OnOk result (GuardsJust f l lsp r.now self.old self.new) }
         ensures err { OnErr result (self.new ≡ self.old) }
     {
-        let risks = r.copy(alloc)?;
-        self.guards.push(Guard {
-            fibre: f,
-            label: l,
-            lsp,
-            risks,
-        })?;
-        Ok(())
+        let place = place_or_new(&mut self.labels, alloc, f, l)?;
+        self.labels[place].guard(lsp, r)
     }
 
     /// The LSP guards no risk on the label any more.
     pub fn unguard(&mut self, f: Fibre, l: Label, lsp: Lsp)
         ensures { GuardsJust f l lsp [] self.old self.new }
     {
-        self.guards.retain(|guard| !is_of(guard, f, l, lsp));
+        if let Some(place) = place_of(&self.labels, f, l) {
+            self.labels[place].unguard(lsp);
+        }
     }
 
-    /// Whether a backup whose primary has these risks may have the label. If not, it meets the least of them that an LSP
-    /// guards there, and the least such LSP is told.
+    /// Whether a backup whose primary has these risks may have the label. If not, it meets the least of them that an
+    /// LSP guards there, and the least such LSP is told.
     pub fn fits(&self, f: Fibre, l: Label, r: &RiskSet) -> Result<(), Meets>
         ensures fits { OnOk result (IsTrue (fits self.now f r.now l)) }
         ensures meets { IfErr result (IsLeastMet self.now f l r.now) }
     {
-        for risk in r.items() {
-            if let Some(lsp) = least_lsp(&self.guards, f, l, *risk) {
-                return Err(Meets { risk: *risk, lsp });
-            }
+        match first_met(&self.labels, f, l, r) {
+            None => Ok(()),
+            Some(meets) => Err(meets),
         }
-        Ok(())
     }
 
     /// The labels that a backup whose primary has these risks may have: those from 1 to 80 on which no LSP guards one
@@ -84,7 +81,13 @@ impl Shares {
     pub fn fitting(&self, f: Fibre, r: &RiskSet) -> LabelSet
         ensures { result ≡ fitting self.now f r.now }
     {
-        guards::fitting(&self.guards, f, r)
+        let mut labels = LabelSet::upto(80);
+        for guards in &self.labels {
+            if guards.bars(f, r) {
+                labels = labels.without(guards.label());
+            }
+        }
+        labels
     }
 }
 
@@ -92,7 +95,45 @@ impl Copied for Shares {
     fn copy(&self, alloc: Global) -> Result<Shares, OutOfMemory>
         ensures { IfOk result (λ s. s ≡ self.now) }
     {
-        let guards = copy_all(alloc, &self.guards)?;
-        Ok(Shares { guards })
+        let labels = copy_all(alloc, &self.labels)?;
+        Ok(Shares { labels })
+    }
+}
+
+// The place of the label, if a risk was ever guarded there.
+fn place_of(labels: &[LabelGuards], f: Fibre, l: Label) -> Option<usize>
+    ensures { result ≡ position (is_at f l) labels.now }
+{
+    labels.iter().position(|guards| guards.is_at(f, l))
+}
+
+// The place of the label, which is added where no risk was guarded there before.
+fn place_or_new(
+    labels: &mut Vec<LabelGuards>,
+    alloc: Global,
+    f: Fibre,
+    l: Label,
+) -> Result<usize, OutOfMemory>
+    requires { AreApart labels.old.items }
+    ensures apart { AreApart labels.new.items }
+    ensures same { guards_of labels.new.items ≡ guards_of labels.old.items }
+    ensures place { IfOk result (λ n. position_or_len (is_at f l) labels.new.items ≡ n) }
+    ensures within { IfOk result (λ n. n < length labels.new.items) }
+{
+    if let Some(place) = place_of(labels, f, l) {
+        return Ok(place);
+    }
+    let place = labels.len();
+    labels.push(LabelGuards::new(alloc, f, l))?;
+    Ok(place)
+}
+
+fn first_met(labels: &[LabelGuards], f: Fibre, l: Label, r: &RiskSet) -> Option<Meets>
+    ensures none { IfNone result (NoneMet (guarded_at f l labels.now) r.now) }
+    ensures first { IfSome result (IsFirstMet (guarded_at f l labels.now) r.now) }
+{
+    match place_of(labels, f, l) {
+        None => None,
+        Some(place) => labels[place].first_met(r),
     }
 }

@@ -1,7 +1,8 @@
 use Rattle.std.proofs.Common.{◌≤◌, length, sym, subst, ◌∙◌, ap}
 use Rattle.std.specs.List.{position_or_len}
 use Rattle.leg_table.specs.LspIndexes.{IndexRises, has_entry, is_entry, is_from}
-use Rattle.leg_table.proofs.LspIndex.{any-insert, entry-rises}
+use Rattle.share_check.proofs.Inserted.{any-insert}
+use Rattle.leg_table.proofs.LspIndex.{entry-rises}
 use Rattle.leg_table.proofs.lsp_index.insert.Goals as goal
 
 pub returns-clause-rising : goal.returns-clause-rising

@@ -1,44 +1,27 @@
-use Rattle.std.proofs.Common.{◌≡◌, ◌<◌, ◌≤◌, ◌∙◌, false, ap, get_or, length, subst, sym}
-use Rattle.ason_base.specs.declared.ids.Lsp.{Lsp}
-use Rattle.ason_base.specs.declared.risks.Risk.TheVariants.{Srlg}
-use Rattle.share_check.specs.Guards.{IsLeastLsp, IsLeastMet, is_guarded}
-use Rattle.share_check.proofs.Fitting.{first-fits}
-use Rattle.share_check.proofs.LeastLsps.{first-more, least-met}
+use Rattle.std.proofs.Common.{◌≡◌, subst, true}
+use Rattle.share_check.specs.Guards.{IsFirstMet, IsLeastMet, NoneMet, fits, guarded_at, guards_of}
+use Rattle.share_check.proofs.Fitting.{none-fits}
+use Rattle.share_check.proofs.TallyChanges.{first-least, none-guards}
 use Rattle.share_check.proofs.shares.Shares.fits.Goals as goal
 
-pub loop-risk-preserved : goal.loop-risk-preserved
-loop-risk-preserved c =
-    let s = c.args.self.now in
+pub returns-in-None-clause-fits : goal.returns-in-None-clause-fits
+returns-in-None-clause-fits c =
+    let ts = c.self.inside.labels.items in
     let f = c.args.f in
     let x = c.args.l in
-    let i = c.loop-risk.risk-index in
-    let same = c.items-risk-items.ensures.same in
-    let here = c.deref.ensures.value ∙ c.self.view_is in
-    let within = subst (λ r. i < length r) same c.loop-risk-test.true in
-    let none = λ (l : Lsp).
-    subst (λ r. is_guarded s f x l (get_or r i (Srlg 0)) ≡ false) same
-    (subst (λ s. is_guarded s f x l (get_or c.items-risk-items.result.now i (Srlg 0)) ≡ false) here
-    (c.in_default.ensures.none l)) in
-    first-more s f x c.args.r.now i (Srlg 0) within c.loop-risk.invariant none
+    let r = c.args.r.now in
+    let none : NoneMet (guarded_at f x ts) r =
+    subst (λ us. NoneMet (guarded_at f x us) r) c.deref.ensures.value c.in-None.ensures.none in
+    subst (λ s. fits s f r x ≡ true) c.self.view_is
+    (none-fits (guards_of ts) f r x (none-guards f x r ts c.self.invariant none))
 
 pub returns-in-Some-clause-meets : goal.returns-in-Some-clause-meets
 returns-in-Some-clause-meets c =
-    let s = c.args.self.now in
+    let ts = c.self.inside.labels.items in
     let f = c.args.f in
     let x = c.args.l in
-    let l = c.in-Some.lsp in
-    let i = c.loop-risk.risk-index in
-    let same = c.items-risk-items.ensures.same in
-    let here = c.deref.ensures.value ∙ c.self.view_is in
-    let within = subst (λ r. i < length r) same c.loop-risk-test.true in
-    let least =
-    subst (λ r. IsLeastLsp s f x (get_or r i (Srlg 0)) l) same
-    (subst (λ s. IsLeastLsp s f x (get_or c.items-risk-items.result.now i (Srlg 0)) l) here c.in-Some.ensures.least) in
-    subst (λ r. IsLeastMet s f x c.args.r.now (record { risk = get_or r i (Srlg 0); lsp = l })) (sym same)
-    (least-met s f x c.args.r.now i (Srlg 0) l c.items-risk-items.ensures.rising within c.loop-risk.invariant least)
-
-pub returns-clause-fits : goal.returns-clause-fits
-returns-clause-fits c =
-    let i = c.loop-risk.risk-index in
-    let all = subst (λ r. length r ≤ i) c.items-risk-items.ensures.same c.loop-risk-test.false in
-    first-fits c.args.self.now c.args.f c.args.r.now c.args.l i all c.loop-risk.invariant
+    let r = c.args.r.now in
+    let first : IsFirstMet (guarded_at f x ts) r c.in-Some.meets =
+    subst (λ us. IsFirstMet (guarded_at f x us) r c.in-Some.meets) c.deref.ensures.value c.in-Some.ensures.first in
+    subst (λ s. IsLeastMet s f x r c.in-Some.meets) c.self.view_is
+    (first-least f x r ts c.in-Some.meets c.self.invariant first)
