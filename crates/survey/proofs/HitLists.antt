@@ -2,6 +2,7 @@
 use Rattle.std.proofs.Common.{◌≡◌, ℕ, Bool, true, false, cond, nat_eq, map, List, [], ◌∷◌, refl, sym, ap, ◌∙◌, subst, arith, Contains}
 use Rattle.std.specs.Prelude.{◌&&◌, ◌||◌, not, filter, flat_map, Option, Some, None}
 use Rattle.std.specs.List.{list_any}
+use Rattle.std.proofs.Math.Bool.{and_assoc, and_comm}
 use Rattle.std.proofs.lemmas.List.Elements.{filter_agree}
 use Rattle.ason_base.specs.Lsps.{is_lsp, same_bool}
 use Rattle.ason_base.specs.Network.{Network, find_link, is_distinct}
@@ -10,6 +11,7 @@ use Rattle.ason_base.specs.declared.calls.LegRow.{LegRow}
 use Rattle.ason_base.specs.declared.commands.Group.{Group}
 use Rattle.ason_base.specs.declared.ids.CallNo.{CallNo}
 use Rattle.ason_base.specs.declared.ids.LinkId.{LinkId}
+use Rattle.ason_base.specs.declared.ids.Lsp.{Lsp}
 use Rattle.ason_base.specs.declared.ids.NodeId.{NodeId}
 use Rattle.ason_base.specs.declared.network.LinkSpec.{LinkSpec}
 use Rattle.ason_base.proofs.Ordered.{any-there, same_test, there-any}
@@ -22,29 +24,15 @@ use Rattle.mesh_laws.specs.Survey.{hit_of, hits, hits_of, groups_of, is_guarded_
 use Rattle.mesh_laws.proofs.alone.Risks.{found-passes, link-found}
 use Rattle.survey.specs.declared.views.CallView.{CallView}
 use Rattle.survey.specs.Groups.{hit_in, hit_numbers, hit_with, is_hit, is_hit_so, is_over, links_of, with_links}
-use Rattle.survey.specs.Views.{is_guarded, is_live_leg, is_reserved_leg, takes, view_of}
+use Rattle.survey.specs.Views.{is_guarded, is_live_leg, is_reserved_leg, live_legs, reserved_legs, rows_of, takes, view_of}
 use Rattle.survey.proofs.Joins.{any-agree, any-filter, filter-both, filter-map, flat-agree, flat-map}
 
 -- Tests
 
-and-live : (a b c d : Bool) → ((a && (b && c)) && d) ≡ (a && (b && (c && d)))
-and-live true true c d = refl
-and-live true false c d = refl
-and-live false b c d = refl
-
-and-swap : (a b c : Bool) → ((a && b) && c) ≡ (a && (c && b))
-and-swap true true true = refl
-and-swap true true false = refl
-and-swap true false true = refl
-and-swap true false false = refl
-and-swap false b c = refl
-
-and-taken : (a b c d e : Bool) → ((a && b) && ((c && d) && e)) ≡ (a && (c && (b && (d && e))))
-and-taken false b c d e = refl
-and-taken true true true d e = refl
-and-taken true true false d e = refl
-and-taken true false true d e = refl
-and-taken true false false d e = refl
+and-taken : (a b c d : Bool) → (a && ((b && c) && d)) ≡ (b && (a && (c && d)))
+and-taken a true c d = refl
+and-taken true false c d = refl
+and-taken false false c d = refl
 
 and-none : (a b : Bool) → (a || b) ≡ true → b ≡ false → a ≡ true
 and-none true b e f = refl
@@ -85,25 +73,43 @@ over-is t g once (Some k) = same_test _ _ to from
 
 -- One call
 
+-- a test of the Live legs of an LSP is one of all rows
+any-live : (q : LegRow → Bool) (work : Option Lsp) (legs : List LegRow) →
+    list_any q (live_legs legs work)
+    ≡ list_any (λ r. is_lsp work r.lsp && (is_live_leg r && q r)) legs
+any-live q work legs =
+    any-filter is_live_leg q (rows_of legs work)
+    ∙ any-filter (λ r. is_lsp work r.lsp) (λ r. is_live_leg r && q r) legs
+
+-- the same of those that are Held, Armed or Live
+any-reserved : (q : LegRow → Bool) (back : Option Lsp) (legs : List LegRow) →
+    list_any q (reserved_legs legs back)
+    ≡ list_any (λ r. is_lsp back r.lsp && (is_reserved_leg r && q r)) legs
+any-reserved q back legs =
+    any-filter is_reserved_leg q (rows_of legs back)
+    ∙ any-filter (λ r. is_lsp back r.lsp) (λ r. is_reserved_leg r && q r) legs
+
 pub hit-is : (t : Network) (legs : List LegRow) (g : Group) →
     is_distinct (map (λ (l : LinkSpec). l.id.0) t.links) ≡ true → (c : CallRow) →
     is_hit (with_links t.links g) (view_of legs c) ≡ hits t legs g c
 hit-is t legs g once c =
-    any-filter (is_live_leg c.work) (λ r. is_over (links_of g t.links) r.out_link) legs
-    ∙ any-agree _ _ (λ r. ap (λ b. is_live_leg c.work r && b) (over-is t g once r.out_link)
-    ∙ and-live (is_lsp c.work r.lsp) (is_work r.role) (is_live r.phase) (leads_over t g r.out_link)) legs
+    any-live (λ r. is_over (links_of g t.links) r.out_link) c.work legs
+    ∙ any-agree _ _ (λ r. ap (λ b. is_lsp c.work r.lsp && (is_live_leg r && b)) (over-is t g once r.out_link)
+    ∙ ap (λ b. is_lsp c.work r.lsp && b)
+    (and_assoc (is_work r.role) (is_live r.phase) (leads_over t g r.out_link))) legs
 
 pub guarded-is : (legs : List LegRow) (c : CallRow) → is_guarded (view_of legs c) ≡ is_guarded_row legs c
 guarded-is legs c =
-    any-filter (is_reserved_leg c.back) (λ r. nat_eq r.node.0 c.ingress.0) legs
-    ∙ any-agree _ _ (λ r. and-swap (is_lsp c.back r.lsp) (is_beyond_asked r.phase) (nat_eq r.node.0 c.ingress.0)) legs
+    any-reserved (λ r. nat_eq r.node.0 c.ingress.0) c.back legs
+    ∙ any-agree _ _ (λ r. ap (λ b. is_lsp c.back r.lsp && b)
+    (and_comm (is_beyond_asked r.phase) (nat_eq r.node.0 c.ingress.0))) legs
 
 pub takes-is : (legs : List LegRow) (n : NodeId) (k : LinkId) (x : ℕ) (c : CallRow) →
     takes n k x (view_of legs c) ≡ takes_at legs n k x c
 takes-is legs n k x c =
-    any-filter (is_reserved_leg c.back) _ legs
-    ∙ any-agree _ _ (λ r. and-taken (is_lsp c.back r.lsp) (is_beyond_asked r.phase) (nat_eq r.node.0 n.0)
-    (is_link r.in_link k) (is_label r.in_label x)) legs
+    any-reserved _ c.back legs
+    ∙ any-agree _ _ (λ r. ap (λ b. is_lsp c.back r.lsp && b) (and-taken (is_beyond_asked r.phase) (nat_eq r.node.0 n.0)
+    (is_link r.in_link k) (is_label r.in_label x))) legs
 
 -- All calls
 
@@ -114,12 +120,6 @@ same-true false = refl
 same-false : (a : Bool) → same_bool a false ≡ not a
 same-false true = refl
 same-false false = refl
-
-swap : (a b : Bool) → (a && b) ≡ (b && a)
-swap true true = refl
-swap true false = refl
-swap false true = refl
-swap false false = refl
 
 map-map : (legs : List LegRow) (calls : List CallRow) →
     map (λ (v : CallView). v.call.call) (map (view_of legs) calls) ≡ numbers_of calls
@@ -138,7 +138,7 @@ numbers-are t legs g guarded p once test calls =
     ∙ map-map legs (filter (λ c. is_hit_so (with_links t.links g) guarded (view_of legs c)) calls)
     ∙ ap numbers_of (filter_agree _ (λ c. hits t legs g c && p c) (λ c.
     ap (λ b. b && is_hit (with_links t.links g) (view_of legs c)) (test c)
-    ∙ ap (λ b. p c && b) (hit-is t legs g once c) ∙ swap (p c) (hits t legs g c)) calls)
+    ∙ ap (λ b. p c && b) (hit-is t legs g once c) ∙ and_comm (p c) (hits t legs g c)) calls)
     ∙ ap numbers_of (sym (filter-both (hits t legs g) p calls))
 
 with-bare : (g : Group) (guarded : List CallNo) (n : CallNo) (bare : List CallNo) →

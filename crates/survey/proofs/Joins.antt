@@ -16,6 +16,11 @@ filter-both {X} p q (x ∷ xs) = go (p x) (filter-both p q xs)
     go true later = ap (λ t. cond (q x) (x ∷ t) t) later
     go false later = later
 
+-- a test that nothing passes keeps nothing
+pub filter-none : {X : Type 0} (xs : List X) → filter (λ x. false) xs ≡ []
+filter-none [] = refl
+filter-none (x ∷ xs) = filter-none xs
+
 -- a test of what a filter keeps is one by both tests
 pub any-filter : {X : Type 0} (p q : X → Bool) (xs : List X) → list_any q (filter p xs) ≡ list_any (λ x. p x && q x) xs
 any-filter p q [] = refl

@@ -1,4 +1,5 @@
 pub mod Groups
+pub mod Index
 pub mod Meetings
 pub mod Slots
 pub mod Views

@@ -11,19 +11,23 @@ use Rattle.mesh_rules.specs.Legs.{is_beyond_asked, is_label, is_work}
 use Rattle.mesh_laws.specs.Survey.{is_link, is_live}
 use Rattle.survey.specs.declared.views.CallView.{CallView}
 
--- a Live leg of the working LSP
-abbrev pub is_live_leg : Option Lsp → LegRow → Bool
-is_live_leg work r = is_lsp work r.lsp && (is_work r.role && is_live r.phase)
+-- a Live leg of a working LSP
+abbrev pub is_live_leg : LegRow → Bool
+is_live_leg r = is_work r.role && is_live r.phase
 
--- a leg of the backup, Held, Armed or Live
-abbrev pub is_reserved_leg : Option Lsp → LegRow → Bool
-is_reserved_leg back r = is_lsp back r.lsp && is_beyond_asked r.phase
+-- Held, Armed or Live
+abbrev pub is_reserved_leg : LegRow → Bool
+is_reserved_leg r = is_beyond_asked r.phase
+
+-- the rows of the LSP
+abbrev pub rows_of : List LegRow → Option Lsp → List LegRow
+rows_of legs wanted = filter (λ r. is_lsp wanted r.lsp) legs
 
 abbrev pub live_legs : List LegRow → Option Lsp → List LegRow
-live_legs legs work = filter (is_live_leg work) legs
+live_legs legs work = filter is_live_leg (rows_of legs work)
 
 abbrev pub reserved_legs : List LegRow → Option Lsp → List LegRow
-reserved_legs legs back = filter (is_reserved_leg back) legs
+reserved_legs legs back = filter is_reserved_leg (rows_of legs back)
 
 abbrev pub view_of : List LegRow → CallRow → CallView
 view_of legs c = record { call = c; live = live_legs legs c.work; reserved = reserved_legs legs c.back }

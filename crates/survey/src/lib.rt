@@ -8,6 +8,7 @@ ghost use Rattle.mesh_laws.specs.Survey.{contends_of, hits_of};
 mod contends;
 mod groups;
 mod hits;
+mod index;
 pub mod report;
 mod slots;
 mod views;

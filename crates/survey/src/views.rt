@@ -1,14 +1,17 @@
 //! Calls with those of their legs that a survey asks about.
 
-ghost use Rattle.std.specs.Prelude.{◌≡◌, ◌==◌, ◌&&◌, IfOk, filter, map};
+ghost use Rattle.std.specs.Prelude.{◌≡◌, ◌==◌, ◌&&◌, List, IfOk, filter, map};
 ghost use Rattle.std.specs.List.{list_any};
-ghost use Rattle.ason_base.specs.Lsps.{is_lsp};
+ghost use Rattle.ason_base.specs.declared.calls.LegRow.{LegRow};
 ghost use Rattle.mesh_rules.specs.Legs.{is_beyond_asked, is_label, is_work};
 ghost use Rattle.mesh_laws.specs.Survey.{is_link, is_live};
-ghost use Rattle.survey.specs.Views.{is_guarded, is_on_label, is_on_fibre, is_live_leg, is_reserved_leg, live_legs, reserved_legs, takes, uses, view_of};
+ghost use Rattle.survey.specs.Index.{IsIndexOf};
+ghost use Rattle.survey.specs.Views.{is_guarded, is_live_leg, is_on_fibre, is_on_label, is_reserved_leg};
+ghost use Rattle.survey.specs.Views.{takes, uses, view_of};
 
+use crate::index::{LegIndex, index_of, rows_of};
 use ason_base::{
-    CallRow, Copied, Items, Label, LegRow, LegRows, LinkId, Lsp, NodeId, OutOfMemory, Phase, Role,
+    CallRow, Copied, Items, Label, LegRow, LegRows, LinkId, NodeId, OutOfMemory, Phase, Role,
     TableRows,
 };
 use std::alloc::Global;
@@ -35,62 +38,56 @@ impl Copied for CallView {
     }
 }
 
-fn is_lsp(wanted: Option<Lsp>, lsp: Lsp) -> bool
-    ensures { result ≡ is_lsp wanted lsp }
-{
-    match wanted {
-        None => false,
-        Some(wanted) => wanted == lsp,
-    }
-}
-
 fn is_beyond_asked(phase: Phase) -> bool
     ensures { result ≡ is_beyond_asked phase }
 {
     matches!(phase, Phase::Held | Phase::Armed | Phase::Live)
 }
 
-fn is_live_leg(work: Option<Lsp>, row: &LegRow) -> bool
-    ensures { result ≡ is_live_leg work row.now }
+fn is_live_leg(row: &LegRow) -> bool
+    ensures { result ≡ is_live_leg row.now }
 {
-    is_lsp(work, row.lsp) && row.role == Role::Work && row.phase == Phase::Live
+    row.role == Role::Work && row.phase == Phase::Live
 }
 
-fn is_reserved_leg(back: Option<Lsp>, row: &LegRow) -> bool
-    ensures { result ≡ is_reserved_leg back row.now }
+fn is_reserved_leg(row: &LegRow) -> bool
+    ensures { result ≡ is_reserved_leg row.now }
 {
-    is_lsp(back, row.lsp) && is_beyond_asked(row.phase)
+    is_beyond_asked(row.phase)
 }
 
-fn live_legs(alloc: Global, work: Option<Lsp>, legs: &[LegRow]) -> Result<LegRows, OutOfMemory>
-    ensures { IfOk result (λ rows. rows ≡ live_legs legs.now work) }
+// Those of the rows that are Live legs of working LSPs.
+fn live_legs(alloc: Global, legs: &[LegRow]) -> Result<LegRows, OutOfMemory>
+    ensures { IfOk result (λ rows. rows ≡ filter is_live_leg legs.now) }
 {
     let mut rows = Vec::new(alloc);
     for row in legs {
-        if is_live_leg(work, row) {
+        if is_live_leg(row) {
             rows.push(*row)?;
         }
     }
     Ok(Items::from_vec(rows))
 }
 
-fn reserved_legs(alloc: Global, back: Option<Lsp>, legs: &[LegRow]) -> Result<LegRows, OutOfMemory>
-    ensures { IfOk result (λ rows. rows ≡ reserved_legs legs.now back) }
+// Those of the rows that are Held, Armed or Live legs.
+fn reserved_legs(alloc: Global, legs: &[LegRow]) -> Result<LegRows, OutOfMemory>
+    ensures { IfOk result (λ rows. rows ≡ filter is_reserved_leg legs.now) }
 {
     let mut rows = Vec::new(alloc);
     for row in legs {
-        if is_reserved_leg(back, row) {
+        if is_reserved_leg(row) {
             rows.push(*row)?;
         }
     }
     Ok(Items::from_vec(rows))
 }
 
-fn view_of(alloc: Global, legs: &[LegRow], call: &CallRow) -> Result<CallView, OutOfMemory>
-    ensures { IfOk result (λ view. view ≡ view_of legs.now call.now) }
+fn view_of(alloc: Global, index: &LegIndex, call: &CallRow) -> Result<CallView, OutOfMemory>
+    ensures { (legs : List LegRow) → IsIndexOf legs index.now
+        → IfOk result (λ view. view ≡ view_of legs call.now) }
 {
-    let live = live_legs(alloc, call.work, legs)?;
-    let reserved = reserved_legs(alloc, call.back, legs)?;
+    let live = live_legs(alloc, rows_of(index, call.work))?;
+    let reserved = reserved_legs(alloc, rows_of(index, call.back))?;
     Ok(CallView {
         call: *call,
         live,
@@ -98,16 +95,28 @@ fn view_of(alloc: Global, legs: &[LegRow], call: &CallRow) -> Result<CallView, O
     })
 }
 
+fn views_in(
+    alloc: Global,
+    index: &LegIndex,
+    calls: &[CallRow],
+) -> Result<Vec<CallView>, OutOfMemory>
+    ensures { (legs : List LegRow) → IsIndexOf legs index.now
+        → IfOk result (λ views. views.items ≡ map (view_of legs) calls.now) }
+{
+    let mut views = Vec::new(alloc);
+    for call in calls {
+        views.push(view_of(alloc, index, call)?)?;
+    }
+    Ok(views)
+}
+
 /// The calls of a table.
 pub(crate) fn views_of(alloc: Global, rows: &TableRows) -> Result<Vec<CallView>, OutOfMemory>
     ensures { IfOk result
         (λ views. views.items ≡ map (view_of rows.now.legs) rows.now.calls) }
 {
-    let mut views = Vec::new(alloc);
-    for call in rows.calls.items() {
-        views.push(view_of(alloc, rows.legs.items(), call)?)?;
-    }
-    Ok(views)
+    let index = index_of(alloc, rows.legs.items())?;
+    views_in(alloc, &index, rows.calls.items())
 }
 
 /// Whether the ingress has its backup's leg.

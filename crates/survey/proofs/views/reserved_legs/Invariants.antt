@@ -4,4 +4,4 @@ use Rattle.survey.specs.Views.{is_reserved_leg}
 use Rattle.survey.proofs.views.reserved_legs.Given as goal
 
 abbrev pub invariant-loop-row : goal.invariant-loop-row
-invariant-loop-row l = l.rows.items ≡ filter (is_reserved_leg l.back) (take l.row-index l.legs)
+invariant-loop-row l = l.rows.items ≡ filter is_reserved_leg (take l.row-index l.legs)
