@@ -1,15 +1,17 @@
-//! What is printed of a plan: the table of calls and legs by the plan's names, routes and the best pair of routes over
-//! its links, and its first fault.
+//! What is printed of a plan: the table of calls and legs by the plan's names, what a survey tells of its risk groups,
+//! routes and the best pair of routes over its links, and its first fault.
 #![tactic(auto)]
 
 pub mod best;
 mod ends;
 pub mod fault_text;
 pub mod routes;
+pub mod survey;
 pub mod table;
 pub mod words;
 
 pub use best::best_text;
 pub use fault_text::refused_text;
 pub use routes::route_text;
+pub use survey::survey_text;
 pub use table::{write_stopped, write_table, write_unsettled};

@@ -266,7 +266,7 @@ fn push_code(text: &mut String, code: ErrCode) -> Result<(), OutOfMemory>
     Ok(())
 }
 
-// The node's name; empty where the plan has no such node.
+/// The node's name; empty where the plan has no such node.
 pub(crate) fn node_name(plan: &Plan, node: NodeId) -> &str
     ensures { result.now ≡ node_name plan.now node }
 {
@@ -282,8 +282,8 @@ fn node_place(plan: &Plan, node: NodeId) -> Option<usize>
     plan.topology.nodes().iter().position(|n| n.id == node)
 }
 
-// The call's name; empty where the plan has no such call.
-fn call_name(plan: &Plan, call: CallNo) -> &str
+/// The call's name; empty where the plan has no such call.
+pub(crate) fn call_name(plan: &Plan, call: CallNo) -> &str
     ensures { result.now ≡ call_name plan.now call }
 {
     name_at(plan.call_names.items(), usize::from(call.0))
