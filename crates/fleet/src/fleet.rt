@@ -1,6 +1,6 @@
 //! The stations of a network, one after the other.
 
-ghost use Rattle.std.specs.Prelude.{◌≡◌, ◌+◌, ◌-◌, ◌<◌, ◌≤◌, ◌^◌, IfErr, IfOk, OnErr, OnOk, Some, length, position, slice_get};
+ghost use Rattle.std.specs.Prelude.{◌≡◌, ◌+◌, ◌-◌, ◌<◌, ◌≤◌, ◌^◌, ◌↔◌, [], IfErr, IfOk, IsTrue, OnErr, OnOk, Some, length, position, slice_get};
 ghost use Rattle.ason_base.specs.declared.ids.NodeId.{NodeId};
 ghost use Rattle.ason_base.specs.Network.{Network};
 ghost use Rattle.mesh_rules.specs.Rows.{all_call_rows, all_leg_rows};
@@ -334,6 +334,13 @@ impl Fleet {
             result ≡ is_quiet t (world_after t h) }
     {
         are_quiet(&self.stations)
+    }
+
+    /// Whether no group is failed now.
+    pub fn unfailed(&self) -> bool
+        ensures { IsTrue result ↔ (self.now.failed ≡ []) }
+    {
+        self.failed.is_empty()
     }
 
     /// What waits at all nodes.
