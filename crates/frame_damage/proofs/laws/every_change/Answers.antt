@@ -1,0 +1,8 @@
+use Rattle.frame_damage.proofs.ChangedBytes.{bit-refused, byte-refused}
+use Rattle.frame_damage.proofs.laws.every_change.Goals as goal
+
+pub returns-clause-byte : goal.returns-clause-byte
+returns-clause-byte c = byte-refused
+
+pub returns-clause-bit : goal.returns-clause-bit
+returns-clause-bit c = bit-refused
