@@ -24,7 +24,7 @@ from ason_tools.program import (
 
 USAGE_LINE = (
     "usage: ason run [--workers N] [--stride T] [--trace] | check | decode | route FROM TO "
-    "| load SEED NODES CALLS | best FROM TO\n"
+    "| load SEED NODES CALLS | best FROM TO | survey\n"
 )
 LONGEST = 4_194_304
 """The most bytes of an input."""
@@ -242,7 +242,7 @@ class FailureTest(unittest.TestCase):
 
     def test_an_input_that_fails(self) -> None:
         """What was written to a terminal is read at its other side, and then an error, once the terminal is closed."""
-        for words in (["run"], ["route", "a", "b"], ["best", "a", "b"]):
+        for words in (["run"], ["survey"], ["route", "a", "b"], ["best", "a", "b"]):
             with self.subTest(words=words):
                 other, terminal = pty.openpty()
                 tty.setraw(terminal)

@@ -1,15 +1,15 @@
 -- Words with a meaning, a plan without fault and no end that fails.
-use Rattle.std.proofs.Common.{◌≡◌, ◌∙◌, ◌≤◌, ◌<◌, ◌+◌, ◌++◌, ℕ, List, append-nil, inl, inr, length, sym, ap, subst, arith, length-append, take, refl, []}
+use Rattle.std.proofs.Common.{◌≡◌, ◌∙◌, ◌≤◌, ◌<◌, ◌+◌, ◌++◌, ℕ, List, append-nil, inl, inr, length, sym, ap, subst, arith, length-append, []}
 use Rattle.std.specs.Prelude.{Option, Some, None, IfSome, Ok}
-use Rattle.std.specs.Io.KnownBytes.{Appends, Consumes}
+use Rattle.std.specs.Io.KnownBytes.{Consumes}
 use Rattle.ason_io.specs.Faults.{Rose}
 use Rattle.ason_io.specs.Reading.{WasReadToEnd}
 use Rattle.plan_reader.specs.declared.plan.Plan.{Plan}
 use Rattle.ason_main.specs.declared.answers.Question.{Question}
 use Rattle.ason_main.specs.declared.answers.Status.{Status}
-use Rattle.ason_main.specs.Answers.{Ask, Decode, Request, Run}
+use Rattle.ason_main.specs.Answers.{Ask, Decode, Request, Run, Survey}
 use Rattle.ason_main.specs.Answers.{Done, EventLimit, PlanRefused, ReadFault, Reply, TooLong, Unfinished, Usage}
-use Rattle.ason_main.specs.Answers.{EndsTooLong, EndsWell, HasReadFew, IsAskReply, IsComplete, IsDecodeReply, IsDoneOrOutOfMemory, IsEnd, IsJudged, IsReadAndJudged, IsReply, IsReplyFor, IsReplyTo, IsRunReply, WasGiven, request_of, status_of}
+use Rattle.ason_main.specs.Answers.{EndsTooLong, EndsWell, HasReadFew, IsAskReply, IsComplete, IsDecodeReply, IsDoneOrOutOfMemory, IsEnd, IsJudged, IsReadAndJudged, IsReply, IsReplyFor, IsReplyTo, IsRunReply, IsSurveyReply, WasGiven, request_of, status_of}
 use Rattle.ason_main.specs.Outputs.{run_of}
 use Rattle.plan_reader.specs.Plans.{PlanOf}
 use Rattle.plan_reader.proofs.Agree.{no_plan, one_plan}
@@ -47,16 +47,19 @@ judged_for : {S : Type 0} (left : S → Option (List ℕ)) (handed : S → List 
 judged_for left handed ended faults old new bs k (Done text) read few is = (bs, read, few, is)
 judged_for left handed ended faults old new bs Run Usage read few is = absurd is
 judged_for left handed ended faults old new bs Decode Usage read few is = absurd is
+judged_for left handed ended faults old new bs Survey Usage read few is = absurd is
 judged_for left handed ended faults old new bs (Ask question from to) Usage read few is = absurd is
 judged_for left handed ended faults old new bs k (PlanRefused text) read few is = (bs, read, few, is)
 judged_for left handed ended faults old new bs Run ReadFault read few is = absurd is
 judged_for left handed ended faults old new bs Decode ReadFault read few is = absurd is
+judged_for left handed ended faults old new bs Survey ReadFault read few is = absurd is
 judged_for left handed ended faults old new bs (Ask question from to) ReadFault read few is = absurd is
 judged_for left handed ended faults old new bs k (EventLimit text) read few is = (bs, read, few, is)
 judged_for left handed ended faults old new bs k (Unfinished text) read few is =
     (read_few left handed ended old new bs read few, inr (bs, read, few, is))
 judged_for left handed ended faults old new bs Run TooLong read few is = absurd is
 judged_for left handed ended faults old new bs Decode TooLong read few is = absurd is
+judged_for left handed ended faults old new bs Survey TooLong read few is = absurd is
 judged_for left handed ended faults old new bs (Ask question from to) TooLong read few is = absurd is
 
 pub judged_reply : {S : Type 0} (left : S → Option (List ℕ)) (handed : S → List ℕ → S → Type 0) (ended : S → Type 0)
@@ -89,6 +92,28 @@ judged_end bs p Usage s plan holds is = absurd holds
 judged_end bs p ReadFault s plan holds is = absurd holds
 judged_end bs p TooLong s plan holds is = absurd holds
 
+-- a survey's reply
+surveyed_end : (bs : List ℕ) (p : Plan) (r : Reply) (s : Status) → PlanOf bs (Ok p) → IsSurveyReply bs r →
+    s ≡ status_of r → IsEnd p s
+surveyed_end bs p (Done text) s plan holds is = inl (
+  is,
+  subst (λ (q : Plan). (run_of q).stopped ≡ None)
+      (one_plan bs holds.0 p holds.1 plan) holds.2.is.ended,
+)
+surveyed_end bs p (PlanRefused text) s plan holds is = absurd (no_plan bs holds.0 p holds.1 plan)
+surveyed_end bs p (EventLimit text) s plan holds is = inr (inl (
+  is,
+  (
+    holds.2.0,
+    subst (λ (q : Plan).
+        (run_of q).stopped ≡ Some holds.2.0) (one_plan bs holds.0 p holds.1 plan) holds.2.1.stopped,
+  ),
+))
+surveyed_end bs p (Unfinished text) s plan holds is = inr (inr is)
+surveyed_end bs p Usage s plan holds is = absurd holds
+surveyed_end bs p ReadFault s plan holds is = absurd holds
+surveyed_end bs p TooLong s plan holds is = absurd holds
+
 -- a reply to `decode`
 decoded_end : (bs : List ℕ) (r : Reply) (s : Status) → IsDecodeReply bs r → s ≡ status_of r → EndsWell Decode bs s
 decoded_end bs (Done text) s holds is = inl is
@@ -113,11 +138,13 @@ asked_end question from to bs p TooLong s plan holds is = absurd holds
 well_ended : (k : Request) (bs : List ℕ) (r : Reply) (s : Status) → IsJudged k bs r → s ≡ status_of r → EndsWell k bs s
 well_ended Run bs r s holds is = λ p plan. judged_end bs p r s plan holds is
 well_ended Decode bs r s holds is = decoded_end bs r s holds is
+well_ended Survey bs r s holds is = λ p plan. surveyed_end bs p r s plan holds is
 well_ended (Ask question from to) bs r s holds is = λ p plan. asked_end question from to bs p r s plan holds is
 
 out_of_memory : (k : Request) (bs : List ℕ) (s : Status) → s ≡ Status.OutOfMemory → EndsWell k bs s
 out_of_memory Run bs s is = λ p plan. inr (inr is)
 out_of_memory Decode bs s is = inr is
+out_of_memory Survey bs s is = λ p plan. inr (inr is)
 out_of_memory (Ask question from to) bs s is = λ p plan. inr is
 
 too_many : (n m : ℕ) → n ≡ 4194304 + 1 → m ≤ 4194304 → n ≤ m → ⊥

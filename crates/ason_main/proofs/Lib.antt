@@ -1,4 +1,5 @@
 pub mod Complete
+pub mod Leading
 pub mod LegOrder
 pub mod Lines
 pub mod OneOrder
@@ -11,4 +12,5 @@ pub mod ScriptRuns
 pub mod Scripts
 pub mod Settling
 pub mod Stopping
+pub mod SurveyRuns
 pub mod Waiting

@@ -13,14 +13,14 @@ use Rattle.world_rules.specs.Runs.{IsEnabled}
 use Rattle.world_rules.specs.Worlds.{World}
 use Rattle.station.specs.Histories.{History, with_event, world_after}
 use Rattle.fleet.specs.Laws.{QuietIsTheWorlds}
-use Rattle.fleet.specs.Rounds.{is_quiet, items_waiting, rows_waiting, settled, unacked_waiting, waited}
+use Rattle.fleet.specs.Rounds.{is_quiet, items_waiting, rows_waiting, unacked_waiting}
 use Rattle.fleet.specs.Standing.{FleetState, StandsFor}
 use Rattle.plan_reader.specs.declared.lines.Line.{Line}
 use Rattle.plan_reader.specs.declared.lines.Line.TheVariants.{Post, Settle, Show, Wait}
 use Rattle.plan_reader.specs.declared.plan.Plan.{Plan}
 use Rattle.table_text.specs.TableText.{table_text, unsettled_text}
 use Rattle.ason_main.specs.Outputs.{IsTable, IsUnsettledLine, LinePrints, Shows, UnlessStopped, call_before, leg_before, line_done, unsettled_line}
-use Rattle.ason_main.specs.Running.{Does, Settles, TellsUnsettled, Waits}
+use Rattle.ason_main.specs.Running.{Does, Leads, Settles, Tells, TellsUnsettled, Waits}
 use Rattle.ason_main.proofs.ScriptRuns.{both_tests, post_goes}
 use Rattle.mesh_rules.specs.Commands.{is_again, is_valid}
 
@@ -35,21 +35,48 @@ pub nothing_printed : (p : Plan) (line : Line) (h : History) (k : NodeId) → h.
 nothing_printed p line h k stopped =
     subst (λ o. UnlessStopped o (Shows p line (world_after p.topology h) []) []) (sym stopped) refl
 
--- Posts
+-- the line is done, and then its text is told
+pub does_told : (p : Plan) (line : Line) (old new : FleetState) (text : List ℕ) → Leads p line old new →
+    Tells p line new text → Does p line old new text
+does_told p line old new text leads tells = record {
+  done = λ h stands postable.
+      let after = line_done p.topology h line in
+      let now : StandsFor p.topology new after = leads.led h stands postable in
+      record { stands = now; printed = printed p line after text now.going (tells.tells after now) };
+}
 
-pub post_does : (p : Plan) (c : Command) (old new : FleetState) (text : List ℕ) → text ≡ [] →
+-- What lines do
+
+pub post_leads : (p : Plan) (c : Command) (old new : FleetState) →
     ((t : Network) (h : History) → StandsFor t old h → IsEnabled t (world_after t h) (event.Post c) →
     StandsFor t new (with_event t h (event.Post c))) →
-    Does p (Post c) old new text
-post_does p c old new text none posts = record {
-  done = λ h stands postable.
+    Leads p (Post c) old new
+post_leads p c old new posts = record {
+  led = λ h stands postable.
       let t = p.topology in
       let enabled : IsEnabled t (world_after t h) (event.Post c) =
       both_tests (is_valid t c) (is_again (world_after t h).posted c) postable.0 postable.1 in
-      let now : StandsFor t new (line_done t h (Post c)) =
-      subst (StandsFor t new) (sym (post_goes t c h stands.going)) (posts t h stands enabled) in
-      record { stands = now; printed = printed p (Post c) (line_done t h (Post c)) text now.going none };
+      subst (StandsFor t new) (sym (post_goes t c h stands.going)) (posts t h stands enabled);
 }
+
+pub settle_leads : (p : Plan) (rounds : ℕ) (old new : FleetState) → Settles rounds old new →
+    Leads p (Settle rounds) old new
+settle_leads p rounds old new settles =
+    record { led = λ h stands postable. settles.settled p.topology h stands }
+
+pub wait_leads : (p : Plan) (rounds : ℕ) (old new : FleetState) → Waits rounds old new → Leads p (Wait rounds) old new
+wait_leads p rounds old new waits = record { led = λ h stands postable. waits.waited p.topology h stands }
+
+pub show_leads : (p : Plan) (f : FleetState) → Leads p Show f f
+show_leads p f = record { led = λ h stands postable. stands }
+
+-- What lines print
+
+pub tells_post : (p : Plan) (c : Command) (f : FleetState) (text : List ℕ) → text ≡ [] → Tells p (Post c) f text
+tells_post p c f text none = record { tells = λ h stands. none }
+
+pub tells_wait : (p : Plan) (rounds : ℕ) (f : FleetState) (text : List ℕ) → text ≡ [] → Tells p (Wait rounds) f text
+tells_wait p rounds f text none = record { tells = λ h stands. none }
 
 -- Settling
 
@@ -104,29 +131,9 @@ tells_counts f text desk hop flood is law busy items unacked rows = record {
       ∙ sym (ap (λ b. cond b [] (waiting_text t (world_after t h))) (busy t h stands)))) (law t f h stands);
 }
 
-pub settle_does : (p : Plan) (rounds : ℕ) (old new : FleetState) (text : List ℕ) → Settles rounds old new →
-    TellsUnsettled new text → Does p (Settle rounds) old new text
-settle_does p rounds old new text settles tells = record {
-  done = λ h stands postable.
-      let t = p.topology in
-      let now : StandsFor t new (settled t rounds h) = settles.settled t h stands in
-      record {
-        stands = now;
-        printed = printed p (Settle rounds) (settled t rounds h) text now.going
-            (tells.tells t (settled t rounds h) now);
-      };
-}
-
--- Waiting
-
-pub wait_does : (p : Plan) (rounds : ℕ) (old new : FleetState) (text : List ℕ) → text ≡ [] → Waits rounds old new →
-    Does p (Wait rounds) old new text
-wait_does p rounds old new text none waits = record {
-  done = λ h stands postable.
-      let t = p.topology in
-      let now : StandsFor t new (waited t rounds h) = waits.waited t h stands in
-      record { stands = now; printed = printed p (Wait rounds) (waited t rounds h) text now.going none };
-}
+pub tells_settle : (p : Plan) (rounds : ℕ) (f : FleetState) (text : List ℕ) → TellsUnsettled f text →
+    Tells p (Settle rounds) f text
+tells_settle p rounds f text tells = record { tells = λ h stands. tells.tells p.topology h stands }
 
 -- Tables
 
@@ -142,16 +149,18 @@ pub record AreInOrder (rows sorted : TableRows) : Type 0 where
   pub same_legs : IsPermutation rows.legs sorted.legs
   pub legs : IsSortedBy leg_before sorted.legs
 
-pub show_does : (p : Plan) (f : FleetState) (rows sorted : TableRows) (text : List ℕ) → AreRows f rows →
-    AreInOrder rows sorted → text ≡ table_text p sorted → Does p Show f f text
-show_does p f rows sorted text are order is = record {
-  done = λ h stands postable.
-      let t = p.topology in
-      let table : IsTable t (image (world_after t h)) sorted = record {
-        same_calls = subst (λ xs. IsPermutation xs sorted.calls) (are.calls t h stands) order.same_calls;
-        calls = order.calls;
-        same_legs = subst (λ xs. IsPermutation xs sorted.legs) (are.legs t h stands) order.same_legs;
-        legs = order.legs;
-      } in
-      record { stands = stands; printed = printed p Show h text stands.going (sorted, table, is) };
+-- the sorted rows are the table
+pub sorted_table : (t : Network) (f : FleetState) (rows sorted : TableRows) → AreRows f rows →
+    AreInOrder rows sorted → (h : History) → StandsFor t f h → IsTable t (image (world_after t h)) sorted
+sorted_table t f rows sorted are order h stands = record {
+  same_calls = subst (λ xs. IsPermutation xs sorted.calls) (are.calls t h stands) order.same_calls;
+  calls = order.calls;
+  same_legs = subst (λ xs. IsPermutation xs sorted.legs) (are.legs t h stands) order.same_legs;
+  legs = order.legs;
+}
+
+pub tells_table : (p : Plan) (f : FleetState) (rows sorted : TableRows) (text : List ℕ) → AreRows f rows →
+    AreInOrder rows sorted → text ≡ table_text p sorted → Tells p Show f text
+tells_table p f rows sorted text are order is = record {
+  tells = λ h stands. (sorted, sorted_table p.topology f rows sorted are order h stands, is);
 }

@@ -24,11 +24,12 @@ abbrev AreLawful : Network → List Event → Type 0
 AreLawful t es = (first left : List Event) → first ++ left ≡ es → IsLawful t first
 
 -- what makes the table of a mesh one
-record HasOneTable (s : Mesh) : Type 0 where
-  legs : HasOneLegEach s
-  calls : (n : ℕ) → CallsFit n (s.nodes n)
+pub record HasOneTable (s : Mesh) : Type 0 where
+  pub legs : HasOneLegEach s
+  pub calls : (n : ℕ) → CallsFit n (s.nodes n)
 
-lawful_table : (t : Network) (es : List Event) → IsLawful t es → HasOneTable (image (after t (start t) es))
+-- the laws of a run make it one
+pub lawful_table : (t : Network) (es : List Event) → IsLawful t es → HasOneTable (image (after t (start t) es))
 lawful_table t es is =
     subst HasOneTable is.shown.leads (record { legs = is.laws.one_leg; calls = is.laws.calls })
 

@@ -15,7 +15,7 @@ use Rattle.world_rules.specs.Runs.{IsRun, after, events_of}
 use Rattle.world_rules.specs.Worlds.{start}
 use Rattle.station.specs.Histories.{new_history}
 use Rattle.fleet.specs.Running.{IsRunning}
-use Rattle.fleet.specs.Standing.{FleetState, StandsFor}
+use Rattle.fleet.specs.Standing.{StandsFor}
 use Rattle.plan_reader.specs.declared.lines.Line.{Line}
 use Rattle.plan_reader.specs.declared.lines.Line.TheVariants.{Settle, Show}
 use Rattle.plan_reader.specs.declared.plan.Plan.{Plan}
@@ -35,7 +35,8 @@ postable_append t q [] ys first second = second q
 postable_append t q (x ∷ xs) ys first second =
     (first.0, postable_append t (calls_after_line q x) xs ys first.1 second)
 
-postable_script : (rounds : ℕ) (p : Plan) → ArePostable p.topology [] p.lines →
+-- the whole script can be posted where the plan's lines can
+pub postable_script : (rounds : ℕ) (p : Plan) → ArePostable p.topology [] p.lines →
     ArePostable p.topology [] (settling_script rounds p)
 postable_script rounds p are =
     (tt, postable_append p.topology [] p.lines (Settle rounds ∷ Show ∷ []) are (λ r. (tt, (tt, tt))))
@@ -76,7 +77,8 @@ lawful laws t valid events run =
       quiet = quiet_laws laws t valid events run;
     }
 
-one_run : WorldLaws → (p : Plan) → IsTopology p.topology → ArePostable p.topology [] p.lines → IsOneRun p
+-- the run of a plan, whose first parts are lawful
+pub one_run : WorldLaws → (p : Plan) → IsTopology p.topology → ArePostable p.topology [] p.lines → IsOneRun p
 one_run laws p valid postable = record {
   topology = valid;
   run = (the_run laws p postable).run;
@@ -86,7 +88,8 @@ one_run laws p valid postable = record {
   leads = lead_through laws p.topology (script_of p) new_history;
 }
 
-full_where_stopped : WorldLaws → (p : Plan) (n : NodeId) → ArePostable p.topology [] p.lines →
+-- where it is stopped the node has made all events that it may
+pub full_where_stopped : WorldLaws → (p : Plan) (n : NodeId) → ArePostable p.topology [] p.lines →
     (run_of p).stopped ≡ Some n → events_of n.0 (run_of p).events ≡ 50000
 full_where_stopped laws p n postable stopped =
     let running = the_run laws p postable in
@@ -107,7 +110,7 @@ run_ended laws p a b postable stands does =
       the_output p are.printed.0
           (record {
             one_run = one_run laws p stands.valid postable;
-            ended = are.stands.going;
+            ended = are.led.stands.going;
             printed = are.printed.1;
           }),
       are.printed.2,

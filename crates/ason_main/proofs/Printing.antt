@@ -1,18 +1,14 @@
 -- What the lines of a script print, one after the other.
-use Rattle.std.proofs.Common.{◌≡◌, ◌<◌, ◌≤◌, ◌+◌, ℕ, List, [], ◌∷◌, ◌++◌, length, take, refl, sym, ap, ◌∙◌, subst, append-nil, append_assoc, arith}
+use Rattle.std.proofs.Common.{◌≡◌, ◌<◌, ◌+◌, ℕ, List, [], ◌∷◌, ◌++◌, length, take, refl, sym, ap, ◌∙◌, subst, append-nil, append_assoc, arith}
 use Rattle.std.specs.Prelude.{Option, Some}
 use Rattle.std.specs.Io.KnownBytes.{Appends}
 use Rattle.std.proofs.KnownBytes.{Appends-trans}
 use Rattle.std.proofs.Math.Seq.{take-append-add}
 use Rattle.std.proofs.lemmas.List.{length-append}
-use Rattle.std.proofs.lemmas.List.Sums.{fold-append}
-use Rattle.ason_base.specs.declared.ids.CallNo.{CallNo}
 use Rattle.ason_base.specs.declared.ids.NodeId.{NodeId}
-use Rattle.ason_base.specs.Network.{Network}
-use Rattle.station.specs.Histories.{History, world_after}
+use Rattle.station.specs.Histories.{History}
 use Rattle.plan_reader.specs.declared.lines.Line.{Line}
 use Rattle.plan_reader.specs.declared.plan.Plan.{Plan}
-use Rattle.plan_reader.specs.Plans.{ArePostable, calls_after_line, calls_after_lines}
 use Rattle.ason_main.specs.Outputs.{LinePrints, Prints, PrintsFirst, line_done, lines_done}
 use Rattle.ason_main.specs.Running.{HasWritten, HasWrittenPart}
 use Rattle.ason_main.proofs.Lines.{nothing_printed}
@@ -49,10 +45,6 @@ prints_nothing p (line ∷ lines) h k is = (
     still : IsStoppedAt k (line_done p.topology h line)
     still = subst (IsStoppedAt k) (sym (line_stays p.topology line h k is)) is
 
-pub both_done : (p : Plan) (xs ys : List Line) (h : History) →
-    lines_done p.topology (xs ++ ys) h ≡ lines_done p.topology ys (lines_done p.topology xs h)
-both_done p xs ys h = fold-append (line_done p.topology) h xs ys
-
 -- some first lines of the later ones, after all of the earlier ones
 prints_first_later : (p : Plan) (xs ys : List Line) (h : History) (a b : List ℕ) → Prints p xs h a →
     PrintsFirst p ys (lines_done p.topology xs h) b → PrintsFirst p (xs ++ ys) h (a ++ b)
@@ -68,22 +60,6 @@ prints_first_early : (p : Plan) (xs ys : List Line) (h : History) (a : List ℕ)
     PrintsFirst p (xs ++ ys) h a
 prints_first_early p xs ys h a first =
     (first.0, first.1 ++ ys, sym (append_assoc first.0 first.1 ys) ∙ ap (λ zs. zs ++ ys) first.2, first.3)
-
--- Calls that were posted
-
-pub calls_append : (q : List CallNo) (xs ys : List Line) →
-    calls_after_lines q (xs ++ ys) ≡ calls_after_lines (calls_after_lines q xs) ys
-calls_append q xs ys = fold-append calls_after_line q xs ys
-
-pub postable_first : (t : Network) (q : List CallNo) (xs ys : List Line) → ArePostable t q (xs ++ ys) →
-    ArePostable t q xs
-postable_first t q [] ys are = tt
-postable_first t q (x ∷ xs) ys are = (are.0, postable_first t (calls_after_line q x) xs ys are.1)
-
-pub postable_rest : (t : Network) (q : List CallNo) (xs ys : List Line) → ArePostable t q (xs ++ ys) →
-    ArePostable t (calls_after_lines q xs) ys
-postable_rest t q [] ys are = are
-postable_rest t q (x ∷ xs) ys are = postable_rest t (calls_after_line q x) xs ys are.1
 
 -- What was written
 

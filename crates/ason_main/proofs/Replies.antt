@@ -9,9 +9,10 @@ use Rattle.plan_reader.specs.declared.plan.Plan.{Plan}
 use Rattle.plan_reader.specs.Plans.{PlanOf}
 use Rattle.table_text.specs.TableText.{stopped_text}
 use Rattle.ason_main.specs.declared.answers.Status.{Status}
-use Rattle.ason_main.specs.Answers.{Ask, Decode, Done, EventLimit, Reply, Request, Run, Unfinished, Usage}
+use Rattle.ason_main.specs.Answers.{Ask, Decode, Done, EventLimit, Reply, Request, Run, Survey, Unfinished, Usage}
 use Rattle.ason_main.specs.Answers.{IsAnswered, IsReply, IsReplyFor, IsReplyTo, WasToldOrNothing, request_of}
 use Rattle.ason_main.specs.Outputs.{IsBegun, IsTheOutput}
+use Rattle.ason_main.specs.Surveys.{IsStoppedSurvey}
 use Rattle.ason_main.specs.Running.{HasWritten, HasWrittenPart, IsCutShort}
 use Rattle.ason_main.proofs.Printing.{part_after}
 use Rattle.ason_main.proofs.Scripts.{rose_later}
@@ -64,12 +65,24 @@ stopped written faults bs p n old now new s plan rises is (inr none) = (
   ),
 )
 
+-- Surveys
+
+-- the line of the stop is all that is told
+pub stopped_survey : {K : Type 0} (written : K → Option (List ℕ)) (faults : K → ℕ) (bs : List ℕ) (p : Plan)
+    (n : NodeId) (old new : K) (s : Status) → PlanOf bs (Ok p) → IsStoppedSurvey p n (stopped_text p n) →
+    WasToldOrNothing written faults old new (stopped_text p n) Status.EventLimit s →
+    IsAnswered written faults Survey bs old new s
+stopped_survey written faults bs p n old new s plan is (inl told) =
+    (EventLimit (stopped_text p n), (p, plan, (n, is)), told)
+stopped_survey written faults bs p n old new s plan is (inr none) = (Unfinished [], refl, inl none)
+
 -- Want of memory before anything is told
 
 pub no_memory : {K : Type 0} (written : K → Option (List ℕ)) (faults : K → ℕ) (k : Request) (bs : List ℕ) (out : K) →
     IsAnswered written faults k bs out out Status.OutOfMemory
 no_memory written faults Run bs out = (Unfinished [], inl refl, inl (refl, Appends-nil (written out)))
 no_memory written faults Decode bs out = (Unfinished [], refl, inl (refl, Appends-nil (written out)))
+no_memory written faults Survey bs out = (Unfinished [], refl, inl (refl, Appends-nil (written out)))
 no_memory written faults (Ask question from to) bs out = (Unfinished [], refl, inl (refl, Appends-nil (written out)))
 
 -- Reading

@@ -16,7 +16,6 @@ use Rattle.world_rules.specs.Worlds.{World, delivered, frame_at, handed_up, hand
 use Rattle.world_rules.specs.Runs.{IsRun, posted, step}
 use Rattle.station.specs.Histories.{History, if_able, made_by, popped, stopped_at, with_event, with_event_over, world_after}
 use Rattle.station.proofs.Doing.{world-with}
-use Rattle.fleet.specs.Rounds.{settled, waited}
 use Rattle.fleet.specs.Running.{IsRunning}
 use Rattle.fleet.proofs.Keeping.{IsKept, settled_keeps, waited_keeps}
 use Rattle.plan_reader.specs.declared.lines.Line.{Line}

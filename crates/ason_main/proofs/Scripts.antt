@@ -1,26 +1,21 @@
 -- The lines of a script that are done, and where they stop.
-use Rattle.std.proofs.Common.{◌≡◌, ◌<◌, ◌≤◌, ◌+◌, ◌⊎◌, ℕ, List, [], ◌∷◌, ◌++◌, length, get_or, take, drop, inl, inr, refl, sym, ap, ◌∙◌, subst, append_assoc, arith}
-use Rattle.std.specs.Prelude.{Option, Some}
+use Rattle.std.proofs.Common.{◌<◌, ◌≤◌, ◌+◌, ℕ, List, [], ◌∷◌, ◌++◌, length, get_or, take, drop, inl, inr, refl, sym, subst, arith}
+use Rattle.std.specs.Prelude.{Option}
 use Rattle.std.specs.Io.KnownBytes.{Appends}
 use Rattle.std.proofs.KnownBytes.{Appends-nil}
-use Rattle.std.proofs.lemmas.List.{take-append-drop, take_all, take_more}
+use Rattle.std.proofs.lemmas.List.{take_more}
 use Rattle.ason_io.specs.Faults.{Rose}
-use Rattle.ason_base.specs.declared.ids.CallNo.{CallNo}
-use Rattle.ason_base.specs.declared.ids.NodeId.{NodeId}
-use Rattle.ason_base.specs.Network.{Network}
-use Rattle.station.specs.Histories.{History, world_after}
-use Rattle.fleet.specs.Standing.{FleetState, StandsFor}
+use Rattle.station.specs.Histories.{world_after}
+use Rattle.fleet.specs.Standing.{FleetState}
 use Rattle.plan_reader.specs.declared.lines.Line.{Line}
-use Rattle.plan_reader.specs.declared.lines.Line.TheVariants.{Settle, Show}
 use Rattle.plan_reader.specs.declared.plan.Plan.{Plan}
-use Rattle.plan_reader.specs.Plans.{ArePostable, calls_after_lines}
 use Rattle.ason_main.specs.declared.runner.stops.Stop.{Stop}
 use Rattle.ason_main.specs.Outputs.{line_done, lines_done, settling_script}
-use Rattle.ason_main.specs.Running.{AreCut, AreDone, CanPost, CutsAll, Does, DoesAll, EndsIn, FailsIn, RunState, Stops, StopsAll, at}
+use Rattle.ason_main.specs.Running.{Does, DoesAll, FailsIn, RunState, Stops, StopsAll, at}
+use Rattle.ason_main.proofs.Leading.{can_later, first_lines, last_lines, led_both, parts, postable_first, stopped_early, stopped_later}
 use Rattle.ason_main.proofs.Lines.{nothing_printed}
-use Rattle.ason_main.proofs.Printing.{both_done, calls_append, postable_first, postable_rest, prints_one, written_both, written_early, written_later, written_part_early, written_part_later, written_stopped}
+use Rattle.ason_main.proofs.Printing.{prints_one, written_both, written_early, written_later, written_part_early, written_part_later, written_stopped}
 use Rattle.ason_main.proofs.ScriptRuns.{line_posted}
-use Rattle.ason_main.proofs.Stopping.{lines_stay}
 
 -- Counts of faults
 
@@ -42,8 +37,7 @@ does_line p line f g a b n m text does written rises = record {
   done = λ h stands can.
       let is = does.done h stands can.0 in
       record {
-        stands = is.stands;
-        posted = line_posted p.topology line h stands.going;
+        led = record { stands = is.stands; posted = line_posted p.topology line h stands.going };
         printed = (text, prints_one p line h text is.printed, written);
       };
   rises = rises;
@@ -83,16 +77,12 @@ stops_line p line f g a n Stop.OutOfMemory stops = record {
 
 pub does_none : (p : Plan) (f : FleetState) (a : Option (List ℕ)) (n : ℕ) → DoesAll p [] (at f a n) (at f a n)
 does_none p f a n = record {
-  done = λ h stands can. record { stands = stands; posted = refl; printed = ([], refl, Appends-nil a) };
+  done = λ h stands can. record {
+    led = record { stands = stands; posted = refl };
+    printed = ([], refl, Appends-nil a);
+  };
   rises = no_fall n;
 }
-
--- after the first lines the later ones can be posted
-can_later : (p : Plan) (xs ys : List Line) (old new : RunState) (h : History) → AreDone p xs old new h →
-    CanPost p.topology h (xs ++ ys) → CanPost p.topology (lines_done p.topology xs h) ys
-can_later p xs ys old new h are can =
-    subst (λ q. ArePostable p.topology q ys) (sym are.posted)
-    (postable_rest p.topology (world_after p.topology h).posted xs ys can)
 
 pub does_both : (p : Plan) (xs ys : List Line) (a b c : RunState) → DoesAll p xs a b → DoesAll p ys b c →
     DoesAll p (xs ++ ys) a c
@@ -100,12 +90,9 @@ does_both p xs ys a b c first second = record {
   done = λ h stands can.
       let t = p.topology in
       let here = first.done h stands (postable_first t (world_after t h).posted xs ys can) in
-      let there = second.done (lines_done t xs h) here.stands (can_later p xs ys a b h here can) in
+      let there = second.done (lines_done t xs h) here.led.stands (can_later p xs ys b.fleet h here.led can) in
       record {
-        stands = subst (StandsFor t c.fleet) (sym (both_done p xs ys h)) there.stands;
-        posted = ap (λ g. (world_after t g).posted) (both_done p xs ys h)
-            ∙ (there.posted ∙ (ap (λ q. calls_after_lines q ys) here.posted
-            ∙ sym (calls_append (world_after t h).posted xs ys)));
+        led = led_both p xs ys b.fleet c.fleet h here.led there.led;
         printed = written_both p xs ys h a.written b.written c.written here.printed there.printed;
       };
   rises = two_rises a.faults b.faults c.faults first.rises second.rises;
@@ -118,8 +105,7 @@ stops_early p xs ys a b (Stop.AtLimit k) stops = record {
       let t = p.topology in
       let here = stops.cut h stands (postable_first t (world_after t h).posted xs ys can) in
       record {
-        stopped = ap (λ (g : History). g.stopped) (both_done p xs ys h
-            ∙ lines_stay t ys (lines_done t xs h) k (record { stopped = here.stopped })) ∙ here.stopped;
+        stopped = stopped_early p xs ys h k here.stopped;
         printed = written_stopped p xs ys h a.written b.written k here.stopped here.printed;
       };
   rises = stops.rises;
@@ -142,9 +128,9 @@ stops_later p xs ys a b c (Stop.AtLimit k) first stops = record {
   cut = λ h stands can.
       let t = p.topology in
       let here = first.done h stands (postable_first t (world_after t h).posted xs ys can) in
-      let there = stops.cut (lines_done t xs h) here.stands (can_later p xs ys a b h here can) in
+      let there = stops.cut (lines_done t xs h) here.led.stands (can_later p xs ys b.fleet h here.led can) in
       record {
-        stopped = ap (λ (g : History). g.stopped) (both_done p xs ys h) ∙ there.stopped;
+        stopped = stopped_later p xs ys h k there.stopped;
         printed = written_both p xs ys h a.written b.written c.written here.printed there.printed;
       };
   rises = two_rises a.faults b.faults c.faults first.rises stops.rises;
@@ -155,23 +141,17 @@ stops_later p xs ys a b c Stop.Failed first stops = record {
       let t = p.topology in
       let here = first.done h stands (postable_first t (world_after t h).posted xs ys can) in
       written_part_later p xs ys h a.written b.written c.written here.printed
-      (stops.part (lines_done t xs h) here.stands (can_later p xs ys a b h here can));
+      (stops.part (lines_done t xs h) here.led.stands (can_later p xs ys b.fleet h here.led can));
 }
 stops_later p xs ys a b c Stop.OutOfMemory first stops = record {
   part = λ h stands can.
       let t = p.topology in
       let here = first.done h stands (postable_first t (world_after t h).posted xs ys can) in
       written_later p xs ys h a.written b.written c.written here.printed
-      (stops.part (lines_done t xs h) here.stands (can_later p xs ys a b h here can));
+      (stops.part (lines_done t xs h) here.led.stands (can_later p xs ys b.fleet h here.led can));
 }
 
 -- Lines by number
-
-parts : (lines : List Line) (i : ℕ) (d : Line) → i < length lines →
-    take i lines ++ (get_or lines i d ∷ drop (i + 1) lines) ≡ lines
-parts lines i d below =
-    sym (append_assoc (take i lines) (get_or lines i d ∷ []) (drop (i + 1) lines))
-    ∙ (ap (λ xs. xs ++ drop (i + 1) lines) (sym (take_more lines i d below)) ∙ take-append-drop (i + 1) lines)
 
 pub does_more : (p : Plan) (lines : List Line) (i : ℕ) (d : Line) (a b c : RunState) → i < length lines →
     DoesAll p (take i lines) a b → DoesAll p (get_or lines i d ∷ []) b c → DoesAll p (take (i + 1) lines) a c
@@ -187,12 +167,6 @@ stops_at p lines i d a b c s below first stops =
     (stops_early p (get_or lines i d ∷ []) (drop (i + 1) lines) b c s stops))
 
 -- The whole script
-
-abbrev pub first_lines : ℕ → List Line
-first_lines rounds = Settle rounds ∷ []
-
-abbrev pub last_lines : ℕ → List Line
-last_lines rounds = Settle rounds ∷ Show ∷ []
 
 pub does_script : (p : Plan) (rounds : ℕ) (a b c d : RunState) → DoesAll p (first_lines rounds) a b →
     DoesAll p p.lines b c → DoesAll p (last_lines rounds) c d → DoesAll p (settling_script rounds p) a d

@@ -1,14 +1,14 @@
 -- A run that is stopped stays as it is.
-use Rattle.std.proofs.Common.{◌≡◌, ℕ, cond, nat_lt, List, [], ◌∷◌, refl, sym, ap, ◌∙◌}
-use Rattle.std.specs.Prelude.{Option, Some, fold, is_some}
+use Rattle.std.proofs.Common.{◌≡◌, ℕ, cond, nat_lt, List, [], ◌∷◌, refl, ap, ◌∙◌}
+use Rattle.std.specs.Prelude.{Option, Some, is_some}
 use Rattle.ason_base.specs.declared.ids.NodeId.{NodeId}
 use Rattle.ason_base.specs.declared.commands.Event.TheVariants.{Deliver, Desk, Tick}
 use Rattle.ason_base.specs.Network.{Network}
 use Rattle.plan_reader.specs.declared.lines.Line.{Line}
 use Rattle.plan_reader.specs.declared.lines.Line.TheVariants.{Post, Settle, Show, Wait}
 use Rattle.station.specs.Histories.{History, if_able, made_by, popped, stopped_at, with_event, with_event_over}
-use Rattle.fleet.specs.Rounds.{round, settled, waited}
-use Rattle.fleet.proofs.Keeping.{IsKept, round_keeps, settled_keeps, waited_keeps}
+use Rattle.fleet.specs.Rounds.{settled, waited}
+use Rattle.fleet.proofs.Keeping.{IsKept, settled_keeps, waited_keeps}
 use Rattle.ason_main.specs.Outputs.{line_done, lines_done}
 
 -- the run is stopped at this node

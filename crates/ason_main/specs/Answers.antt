@@ -15,6 +15,7 @@ use Rattle.table_text.specs.BestText.{IsBestText}
 use Rattle.table_text.specs.FaultText.{refused_text}
 use Rattle.table_text.specs.RouteText.{route_text}
 use Rattle.ason_main.specs.Outputs.{IsBegun, IsTheOutput, IsTheStoppedOutput, run_of}
+use Rattle.ason_main.specs.Surveys.{IsStoppedSurvey, IsSurveyed}
 use Rattle.plan_reader.specs.PlanTexts.{word_at}
 use Rattle.plan_reader.specs.Plans.{PlanOf}
 
@@ -32,12 +33,13 @@ names_two (w ∷ from ∷ []) word = false
 names_two (w ∷ from ∷ to ∷ []) word = bytes_eq w word
 names_two (w ∷ from ∷ to ∷ v ∷ ws) word = false
 
--- the task that the words name: the one word `run`, the one word `decode`, or `route` or `best` with two names; all else
--- has no meaning
+-- the task that the words name: one of the words `run`, `decode` and `survey` alone, or `route` or `best` with two
+-- names; all else has no meaning
 abbrev pub task_of : List (List ℕ) → Option Task
 task_of words =
     if is_word words (codes "run") then Some Task.Run
     else if is_word words (codes "decode") then Some Task.Decode
+    else if is_word words (codes "survey") then Some Task.Survey
     else if names_two words (codes "route") then Some (Task.Ask Question.Route)
     else if names_two words (codes "best") then Some (Task.Ask Question.Best)
     else None
@@ -46,12 +48,14 @@ task_of words =
 pub data Request : Type 0 where
   Run : Request  -- to run a plan
   Decode : Request  -- to tell what messages say
+  Survey : Request  -- to tell the survey of a plan's last table
   Ask : (question : Question) (from to : List ℕ) → Request  -- to tell this of the nodes of these names
 
 -- a task with its words
 abbrev pub request_for : List (List ℕ) → Task → Request
 request_for words Task.Run = Run
 request_for words Task.Decode = Decode
+request_for words Task.Survey = Survey
 request_for words (Task.Ask question) = Ask question (word_at words 1) (word_at words 2)
 
 abbrev pub request_of : List (List ℕ) → Option Request
@@ -95,7 +99,7 @@ abbrev pub text_of_reply : Reply → List ℕ
 text_of_reply (Done text) = text
 text_of_reply Usage =
     codes "usage: ason run [--workers N] [--stride T] [--trace] | check | decode | route FROM TO "
-    ++ codes "| load SEED NODES CALLS | best FROM TO\n"
+    ++ codes "| load SEED NODES CALLS | best FROM TO | survey\n"
 text_of_reply (PlanRefused text) = text
 text_of_reply ReadFault = []
 text_of_reply (EventLimit text) = text
@@ -117,6 +121,16 @@ IsRunReply bs (Unfinished text) = IsFirstPart bs text
 IsRunReply bs Usage = ⊥
 IsRunReply bs ReadFault = ⊥
 IsRunReply bs TooLong = ⊥
+
+-- what the reply to `survey` says of them
+abbrev pub IsSurveyReply : List ℕ → Reply → Type 0
+IsSurveyReply bs (Done text) = (p : Plan) × PlanOf bs (Ok p) × IsOne (IsSurveyed p) text
+IsSurveyReply bs (PlanRefused text) = (f : PlanFault) × PlanOf bs (Err f) × (text ≡ refused_text f)
+IsSurveyReply bs (EventLimit text) = (p : Plan) × PlanOf bs (Ok p) × ((n : NodeId) × IsStoppedSurvey p n text)
+IsSurveyReply bs (Unfinished text) = text ≡ []
+IsSurveyReply bs Usage = ⊥
+IsSurveyReply bs ReadFault = ⊥
+IsSurveyReply bs TooLong = ⊥
 
 -- what the reply to `decode` says of them
 abbrev pub IsDecodeReply : List ℕ → Reply → Type 0
@@ -146,6 +160,7 @@ IsAskReply question from to bs TooLong = ⊥
 abbrev pub IsJudged : Request → List ℕ → Reply → Type 0
 IsJudged Run bs r = IsRunReply bs r
 IsJudged Decode bs r = IsDecodeReply bs r
+IsJudged Survey bs r = IsSurveyReply bs r
 IsJudged (Ask question from to) bs r = IsAskReply question from to bs r
 
 -- Reading
@@ -227,10 +242,11 @@ IsEnd p s =
 abbrev pub IsDoneOrOutOfMemory : Status → Type 0
 IsDoneOrOutOfMemory s = (s ≡ Status.Done) ⊎ (s ≡ Status.OutOfMemory)
 
--- how what is asked for ends on these bytes: `run`, `route` and `best` for a plan without fault, `decode` always
+-- how what is asked for ends on these bytes: `decode` always, the others for a plan without fault
 abbrev pub EndsWell : Request → List ℕ → Status → Type 0
 EndsWell Run bs s = (p : Plan) → PlanOf bs (Ok p) → IsEnd p s
 EndsWell Decode bs s = IsDoneOrOutOfMemory s
+EndsWell Survey bs s = (p : Plan) → PlanOf bs (Ok p) → IsEnd p s
 EndsWell (Ask question from to) bs s = (p : Plan) → PlanOf bs (Ok p) → IsDoneOrOutOfMemory s
 
 -- and where there are more than 4,194,304

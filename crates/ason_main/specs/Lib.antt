@@ -2,3 +2,4 @@ pub mod Answers
 pub mod Laws
 pub mod Outputs
 pub mod Running
+pub mod Surveys

@@ -1,12 +1,10 @@
 -- What the runner does for the lines of a script.
-use Rattle.std.specs.Prelude.{◌≡◌, ◌<◌, ◌≤◌, ℕ, List, [], ◌∷◌, ◌++◌, Option, Some, length, take}
+use Rattle.std.specs.Prelude.{◌≡◌, ◌<◌, ◌≤◌, ℕ, List, ◌++◌, Option, Some, length, take}
 use Rattle.std.specs.Io.KnownBytes.{Appends}
 use Rattle.ason_io.specs.Faults.{Rose}
-use Rattle.ason_base.specs.declared.commands.Command.{Command}
-use Rattle.ason_base.specs.declared.commands.Event.TheVariants as event
 use Rattle.ason_base.specs.declared.ids.NodeId.{NodeId}
 use Rattle.ason_base.specs.Network.{Network}
-use Rattle.station.specs.Histories.{History, with_event, world_after}
+use Rattle.station.specs.Histories.{History, world_after}
 use Rattle.fleet.specs.declared.fleet.RoundFault.{RoundFault}
 use Rattle.fleet.specs.declared.fleet.RoundFault.TheVariants as round
 use Rattle.fleet.specs.Rounds.{settled, waited}
@@ -16,7 +14,7 @@ use Rattle.plan_reader.specs.declared.plan.Plan.{Plan}
 use Rattle.plan_reader.specs.Plans.{ArePostable, IsPostable, calls_after_lines}
 use Rattle.ason_main.specs.declared.runner.run.Ran.{Ran}
 use Rattle.ason_main.specs.declared.runner.stops.Stop.{Stop}
-use Rattle.ason_main.specs.Outputs.{IsBegun, IsTheOutput, IsTheStoppedOutput, IsUnsettledLine, LinePrints, Prints, PrintsFirst, line_done, lines_done}
+use Rattle.ason_main.specs.Outputs.{IsBegun, IsTheOutput, IsTheStoppedOutput, IsUnsettledLine, LinePrints, Prints, PrintsFirst, Shows, line_done, lines_done}
 use Rattle.table_text.specs.TableText.{stopped_text}
 
 -- Rounds
@@ -50,6 +48,17 @@ pub record TellsUnsettled (f : FleetState) (text : List ℕ) : Type 0 where
 
 -- One line
 
+-- In whatever run the stations stand, they stand after the line, where it can be posted.
+pub record Leads (p : Plan) (line : Line) (old new : FleetState) : Type 0 where
+  pub led :
+      (h : History) → StandsFor p.topology old h →
+      IsPostable p.topology (world_after p.topology h).posted line →
+      StandsFor p.topology new (line_done p.topology h line)
+
+-- this is what a line prints that leads to the run for which the stations stand
+pub record Tells (p : Plan) (line : Line) (f : FleetState) (text : List ℕ) : Type 0 where
+  pub tells : (h : History) → StandsFor p.topology f h → Shows p line (world_after p.topology h) text
+
 -- the line is done, and this is what it prints
 pub record IsDone (p : Plan) (line : Line) (new : FleetState) (text : List ℕ) (h : History) : Type 0 where
   pub stands : StandsFor p.topology new (line_done p.topology h line)
@@ -71,6 +80,36 @@ Stops p line old (Stop.AtLimit n) = Cuts p line old n
 Stops p line old Stop.Failed = ⊥
 Stops p line old Stop.OutOfMemory = Unit {0}
 
+-- Lines, of which nothing is printed
+
+-- the lines can be posted in this run
+abbrev pub CanPost : Network → History → List Line → Type 0
+CanPost t h lines = ArePostable t (world_after t h).posted lines
+
+-- the stations stand after the lines, which posted their calls
+pub record AreLed (p : Plan) (lines : List Line) (new : FleetState) (h : History) : Type 0 where
+  pub stands : StandsFor p.topology new (lines_done p.topology lines h)
+  pub posted : (world_after p.topology (lines_done p.topology lines h)).posted
+      ≡ calls_after_lines (world_after p.topology h).posted lines
+
+-- whatever run the stations stand for before, where the lines can be posted
+abbrev pub Wherever : Plan → List Line → FleetState → (History → Type 0) → Type 0
+Wherever p lines old holds =
+    (h : History) → StandsFor p.topology old h → CanPost p.topology h lines → holds h
+
+pub record LeadsAll (p : Plan) (lines : List Line) (old new : FleetState) : Type 0 where
+  pub led : Wherever p lines old (AreLed p lines new)
+
+-- one of the lines comes to the limit of this node
+pub record StopsAt (p : Plan) (lines : List Line) (old : FleetState) (n : NodeId) : Type 0 where
+  pub stopped : Wherever p lines old (λ h. (lines_done p.topology lines h).stopped ≡ Some n)
+
+-- why not all lines are done
+abbrev pub StopsLeading : Plan → List Line → FleetState → Stop → Type 0
+StopsLeading p lines old (Stop.AtLimit n) = StopsAt p lines old n
+StopsLeading p lines old Stop.Failed = ⊥
+StopsLeading p lines old Stop.OutOfMemory = Unit {0}
+
 -- Lines, which are printed
 
 -- the stations, what the sink took, where it tells that, and how often it failed
@@ -91,15 +130,9 @@ abbrev pub HasWrittenPart : Option (List ℕ) → Option (List ℕ) → (List �
 HasWrittenPart old new is =
     (text : List ℕ) × is text × ((n : ℕ) × (n < length text) × Appends old new (take n text))
 
--- the lines can be posted in this run
-abbrev pub CanPost : Network → History → List Line → Type 0
-CanPost t h lines = ArePostable t (world_after t h).posted lines
-
 -- the lines are done, one after the other
 pub record AreDone (p : Plan) (lines : List Line) (old new : RunState) (h : History) : Type 0 where
-  pub stands : StandsFor p.topology new.fleet (lines_done p.topology lines h)
-  pub posted : (world_after p.topology (lines_done p.topology lines h)).posted
-      ≡ calls_after_lines (world_after p.topology h).posted lines
+  pub led : AreLed p lines new.fleet h
   pub printed : HasWritten old.written new.written (Prints p lines h)
 
 -- one of the lines comes to the limit of this node
@@ -107,10 +140,8 @@ pub record AreCut (p : Plan) (lines : List Line) (old new : RunState) (n : NodeI
   pub stopped : (lines_done p.topology lines h).stopped ≡ Some n
   pub printed : HasWritten old.written new.written (Prints p lines h)
 
--- whatever run the stations stand for before, where the lines can be posted
 abbrev pub Whenever : Plan → List Line → RunState → (History → Type 0) → Type 0
-Whenever p lines old holds =
-    (h : History) → StandsFor p.topology old.fleet h → CanPost p.topology h lines → holds h
+Whenever p lines old holds = Wherever p lines old.fleet holds
 
 pub record DoesAll (p : Plan) (lines : List Line) (old new : RunState) : Type 0 where
   pub done : Whenever p lines old (AreDone p lines old new)

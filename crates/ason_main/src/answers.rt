@@ -1,16 +1,18 @@
-//! The top call: reads an input, and writes what a plan's network came to, its routes, its best pair of them, or what
-//! messages say.
+//! The top call: reads an input, and writes what a plan's network came to, the survey of its last table, its routes,
+//! its best pair of them, or what messages say.
 
 ghost use Rattle.std.specs.Prelude.{◌≡◌, ℕ, List, [], Ok, Err, IfOk, map, string_bytes};
 ghost use Rattle.ason_base.specs.Network.{IsTopology};
-ghost use Rattle.ason_main.specs.Answers.{Ask, Decode, IsAnswered, IsComplete, IsReply, IsTold, Reply, Run, WasGiven};
-ghost use Rattle.ason_main.specs.Answers.{WasTold, WasToldOrNothing, exit_status, is_word, names_two, request_for};
-ghost use Rattle.ason_main.specs.Answers.{task_of};
+ghost use Rattle.ason_main.specs.Answers.{Ask, Decode, IsAnswered, IsComplete, IsReply, IsTold, Reply, Run, Survey};
+ghost use Rattle.ason_main.specs.Answers.{WasGiven, WasTold, WasToldOrNothing, exit_status, is_word, names_two};
+ghost use Rattle.ason_main.specs.Answers.{request_for, task_of};
 ghost use Rattle.plan_reader.specs.PlanTexts.{word_at};
 ghost use Rattle.plan_reader.specs.Plans.{ArePostable, PlanOf};
 ghost use Rattle.table_text.specs.TableText.{stopped_text};
 
 use crate::runner::run::{Ran, run_plan};
+use crate::runner::stops::Stop;
+use crate::survey::survey_of;
 use ason_base::{NodeId, OutOfMemory};
 use ason_io::{ReadAllFault, Sink, Source, read_all, write_all};
 use message_text::decode_text;
@@ -24,12 +26,12 @@ const LIMIT: usize = 4_194_304;
 /// What is told of words that have no meaning.
 const USAGE: &[u8] =
     b"usage: ason run [--workers N] [--stride T] [--trace] | check | decode | route FROM TO \
-    | load SEED NODES CALLS | best FROM TO\n";
+    | load SEED NODES CALLS | best FROM TO | survey\n";
 
 /// How a command ended, with the process's exit status as its number.
 #[derive(Clone, Copy, Debug, PartialEq, Eq, Drop)]
 pub enum Status {
-    /// The plan was run and its tables written, or its routes, its best pair or what the messages say: 0.
+    /// The plan was run and its tables written, or its survey, its routes, its best pair or what the messages say: 0.
     Done,
     /// The words have no meaning; nothing was read: 2.
     Usage,
@@ -72,6 +74,8 @@ enum Task {
     Run,
     // To tell what messages say.
     Decode,
+    // To tell the survey of a plan's last table.
+    Survey,
     // To tell something of two nodes of a plan.
     Ask(Question),
 }
@@ -112,6 +116,8 @@ fn task_of(words: &[String]) -> Option<Task>
         Some(Task::Run)
     } else if is_word(words, "decode") {
         Some(Task::Decode)
+    } else if is_word(words, "survey") {
+        Some(Task::Survey)
     } else if names_two(words, "route") {
         Some(Task::Ask(Question::Route))
     } else if names_two(words, "best") {
@@ -167,10 +173,27 @@ fn run<K: Sink>(alloc: Global, plan: &Plan, out: &mut K) -> Status
     }
 }
 
+// Tells the survey of the plan's last table.
+fn survey<K: Sink>(alloc: Global, plan: &Plan, out: &mut K) -> Status
+    requires { ArePostable plan.now.topology [] plan.now.lines }
+    ensures { (bs : List ℕ) → PlanOf bs (Ok plan.now)
+        → IsAnswered K.written K.faults Survey bs out.old out.new result }
+{
+    match survey_of(alloc, plan) {
+        Ok(text) => tell(out, &text, Status::Done),
+        Err(Stop::AtLimit(node)) => tell_stop(alloc, plan, node, out),
+        // Nothing is written before the survey is told.
+        Err(Stop::Failed) => unreachable!(),
+        Err(Stop::OutOfMemory) => Status::OutOfMemory,
+    }
+}
+
 // Tells the fault of what is no plan.
 fn refuse<K: Sink>(alloc: Global, fault: PlanFault, out: &mut K) -> Status
     ensures run { (bs : List ℕ) → PlanOf bs (Err fault)
         → IsAnswered K.written K.faults Run bs out.old out.new result }
+    ensures survey { (bs : List ℕ) → PlanOf bs (Err fault)
+        → IsAnswered K.written K.faults Survey bs out.old out.new result }
     ensures ask { (question : Question) (bs from to : List ℕ) → PlanOf bs (Err fault)
         → IsAnswered K.written K.faults (Ask question from to) bs out.old out.new result }
 {
@@ -186,6 +209,17 @@ fn run_input<K: Sink>(alloc: Global, bytes: &[u8], out: &mut K) -> Status
 {
     match read_plan(alloc, bytes) {
         Ok(plan) => run(alloc, &plan, out),
+        Err(PlanError::Fault(fault)) => refuse(alloc, fault, out),
+        Err(PlanError::OutOfMemory) => Status::OutOfMemory,
+    }
+}
+
+// What `survey` answers of the input.
+fn survey_input<K: Sink>(alloc: Global, bytes: &[u8], out: &mut K) -> Status
+    ensures { IsAnswered K.written K.faults Survey bytes.now out.old out.new result }
+{
+    match read_plan(alloc, bytes) {
+        Ok(plan) => survey(alloc, &plan, out),
         Err(PlanError::Fault(fault)) => refuse(alloc, fault, out),
         Err(PlanError::OutOfMemory) => Status::OutOfMemory,
     }
@@ -264,6 +298,7 @@ fn judge<K: Sink>(alloc: Global, words: &[String], task: Task, bytes: &[u8], out
     match task {
         Task::Run => run_input(alloc, bytes, out),
         Task::Decode => decode_input(alloc, bytes, out),
+        Task::Survey => survey_input(alloc, bytes, out),
         Task::Ask(question) => {
             let from = word_at(words, 1);
             ask_input(alloc, question, from, word_at(words, 2), bytes, out)
@@ -289,11 +324,12 @@ fn answer<S: Source, K: Sink>(alloc: Global, words: &[String], src: &mut S, out:
 }
 
 /// Answers the words, those after the program's name. `run` reads a plan, runs its script and writes what each line
-/// prints as it is done, or tells the plan's first fault. `route` and two names read a plan and write the least route
-/// between these nodes, its backup and the potentials, or the first fault. `best` and two names read one and write the
-/// pair of disjoint routes with the least total, or that there is none, and that its certificate was accepted, or the
-/// first fault. `decode` reads lines of RSVP messages in hexadecimal and writes what each says. If the sink fails the
-/// status is `WriteFault`; after that and after `OutOfMemory` a first part is written.
+/// prints as it is done, or tells the plan's first fault. `survey` reads a plan and runs it so, prints nothing of that,
+/// and writes the survey of its last table, or the first fault. `route` and two names read a plan and write the least
+/// route between these nodes, its backup and the potentials, or the first fault. `best` and two names read one and write
+/// the pair of disjoint routes with the least total, or that there is none, and that its certificate was accepted, or
+/// the first fault. `decode` reads lines of RSVP messages in hexadecimal and writes what each says. If the sink fails
+/// the status is `WriteFault`; after that and after `OutOfMemory` a first part is written.
 pub fn ason<S: Source, K: Sink>(alloc: Global, words: &[String], src: &mut S, out: &mut K) -> Status
     ensures answer { (r : Reply)
         × IsReply S.left S.handed S.ended S.faults (map string_bytes words.now) src.old src.new r

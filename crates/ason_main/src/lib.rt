@@ -1,8 +1,10 @@
-//! What `ason` does with its words and its input: it runs plans over a fleet of stations, and tells routes and messages.
+//! What `ason` does with its words and its input: it runs plans over a fleet of stations, and tells surveys,
+//! routes and messages.
 #![tactic(auto)]
 
 pub mod answers;
 mod runner;
+mod survey;
 mod table_rows;
 
 pub use answers::{Status, ason};

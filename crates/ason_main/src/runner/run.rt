@@ -16,7 +16,7 @@ use std::alloc::Global;
 use world_rules::every_world_run;
 
 /// The most rounds before the script and after it.
-const ROUNDS: u32 = 1000;
+pub const ROUNDS: u32 = 1000;
 
 /// How a run ended.
 #[derive(Clone, Copy, Debug, PartialEq, Eq, Drop)]
@@ -94,8 +94,8 @@ fn run_script<K: Sink>(
     run_lines(alloc, plan, fleet, out, &[Line::Settle(rounds), Line::Show])
 }
 
-// The laws of worlds, and of posts and rounds.
-fn every_law()
+/// The laws of worlds, and of posts and rounds.
+pub fn every_law()
     ensures { WorldLaws }
 {
     every_world_run();

@@ -1,4 +1,4 @@
-use Rattle.std.proofs.Common.{◌<◌, ℕ, List, length, refl, subst, sym, take}
+use Rattle.std.proofs.Common.{◌<◌, ℕ, length, refl, subst, sym, take}
 use Rattle.std.specs.Io.KnownBytes.{Appends}
 use Rattle.ason_main.specs.Running.{Stops}
 use Rattle.ason_base.proofs.Results.{passed_on}

@@ -1,4 +1,4 @@
-use Rattle.std.proofs.Common.{get_or, sym, subst, take, ◌∷◌, []}
+use Rattle.std.proofs.Common.{get_or, sym, subst, ◌∷◌, []}
 use Rattle.std.proofs.lemmas.List.{take_all}
 use Rattle.ason_main.specs.Running.{DoesAll, StopsAll, at}
 use Rattle.ason_base.proofs.Results.{passed_on}

@@ -1,8 +1,8 @@
 use Rattle.std.proofs.Common.{subst, sym}
 use Rattle.ason_main.specs.Running.{DoesAll, StopsAll, at}
-use Rattle.ason_main.specs.Outputs.{settling_script}
 use Rattle.ason_base.proofs.Results.{if_err, on_ok, passed_on}
-use Rattle.ason_main.proofs.Scripts.{does_script, first_lines, last_lines, stops_first, stops_last, stops_lines}
+use Rattle.ason_main.proofs.Leading.{first_lines}
+use Rattle.ason_main.proofs.Scripts.{does_script, stops_first, stops_last, stops_lines}
 use Rattle.ason_main.proofs.runner.run.run_script.Goals as goal
 
 pub returns-in_err-run_lines-clause-stops : goal.returns-in_err-run_lines-clause-stops
