@@ -7,7 +7,8 @@
         print(call.name, call.state, call.cause)
 
 `run` answers the process's status, the tables of each `show` and of the end, and the `unsettled` lines. `decode`
-answers what is told of lines of RSVP messages, `route` the least route between two nodes and its backup.
+answers what is told of lines of RSVP messages, `route` the least route between two nodes and its backup, `survey` what
+each risk group would hit in the run's last table and which calls would contend.
 `plan_of_graph` makes a plan of a graph of networkx; the `text` of a plan is what `run` and `route` take. The program is
 the one that the environment variable ASON names, or the one that the script `ason` of this repository has built. Put
 the folder of this file into PYTHONPATH.
@@ -25,8 +26,10 @@ from ason_tools.program import (
     decode,
     route,
     run,
+    survey,
 )
 from ason_tools.routes_told import Route, Routes
+from ason_tools.surveys import Contend, Hit, Survey
 from ason_tools.tables import (
     Call,
     Hold,
@@ -49,6 +52,8 @@ __all__ = [
     "PLAN_REFUSED",
     "TOO_LONG",
     "Call",
+    "Contend",
+    "Hit",
     "Hold",
     "Leg",
     "Link",
@@ -64,6 +69,7 @@ __all__ = [
     "Routes",
     "Run",
     "Stopped",
+    "Survey",
     "Table",
     "ToolError",
     "Unsettled",
@@ -72,4 +78,5 @@ __all__ = [
     "read",
     "route",
     "run",
+    "survey",
 ]

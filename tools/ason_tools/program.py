@@ -6,9 +6,10 @@ from dataclasses import dataclass
 from functools import cache
 from pathlib import Path
 
-from . import routes_told, tables
+from . import routes_told, surveys, tables
 from .errors import ToolError
 from .routes_told import Routes
+from .surveys import Survey
 from .tables import Output, Refused, Stopped, Table, Unsettled
 
 REPOSITORY = Path(__file__).resolve().parents[2]
@@ -89,6 +90,11 @@ def run(plan: str | bytes) -> Run:
 def route(plan: str | bytes, source: str, target: str) -> Routes:
     """Runs `ason route` on this plan, between the nodes of these names. A ToolError says that it tells no routes, and why."""
     return routes_told.read(_start(("route", source, target), plan)[1])
+
+
+def survey(plan: str | bytes) -> Survey:
+    """Runs `ason survey` on this plan. A ToolError says that it tells no survey, and why."""
+    return surveys.read(_start(("survey",), plan)[1])
 
 
 def decode(lines: str | bytes) -> Run:
