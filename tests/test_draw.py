@@ -203,6 +203,17 @@ class PictureTest(unittest.TestCase):
         self.assertEqual([text for text in texts if text and ": " in text[:3]], ["2: b to d", "4: b to c", "5: c to d"])
         self.assertIn(scene.SOFT, [rect.get("fill") for rect in root.findall("{*}rect")])
 
+    def test_labels_for_which_calls_would_contend_are_marked(self) -> None:
+        for name, count in (("shared", 1), ("apart", 0)):
+            with self.subTest(name=name):
+                svg = tool("draw", f"examples/{name}.toml", "--labels").out
+                edges = [it for it in ElementTree.fromstring(svg).findall("{*}rect") if it.get("fill") == "none"]
+                self.assertEqual(len(edges), count)
+                self.assertEqual("calls contend" in svg, count > 0)
+        printed = (EXAMPLES / "shared.out").read_text()
+        svg = tool("draw", "examples/shared.toml", "-", "--labels", given=printed).out
+        self.assertNotIn("calls contend", svg)
+
     def test_the_map_grows_with_the_network(self) -> None:
         sizes = []
         for count in (4, 14, 30, 64):

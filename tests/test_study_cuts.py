@@ -21,9 +21,10 @@ from .support import EXAMPLES, TOOLS, plan_text, tool
 
 HEAD = ["group", "hit", "turned", "stuck", "bare", "cut", "off"]
 
-# Nothing is known of this program but that it prints these calls, and after a cut that it waits for another one.
+# Nothing is known of this program but that it prints these calls, tells a survey, and after a cut waits for another one.
 MEETING = """\
 #!/bin/sh
+[ "$1" = run ] || {{ echo "survey calm yes"; exit 0; }}
 case $(cat) in
     *fail*) touch "{room}/$$"; tries=0
         until [ "$(ls "{room}" | wc -l)" -ge 2 ]; do
@@ -81,7 +82,10 @@ class OutcomeTest(unittest.TestCase):
         self.assertNotIn("srlg 7 + link 1", lost)
 
     def test_of_two_calls_that_share_a_label_one_is_stuck(self) -> None:
-        found = studied("shared", with_pairs=True)["link 1 + link 2"]
+        both = studied("shared", with_pairs=True)
+        self.assertEqual([name for name, it in both.items() if it.contends], ["link 1 + link 2"])
+        found = both["link 1 + link 2"]
+        self.assertEqual([it.text() for it in found.contends], ["5/1 at d: c1, c2"])
         self.assertEqual((len(found.turned), len(found.stuck), found.cut_off), (1, 1, found.stuck))
 
     def test_a_call_without_a_backup_is_cut_off(self) -> None:
@@ -125,7 +129,7 @@ class ToolTest(unittest.TestCase):
         rows = list(csv.DictReader(io.StringIO(tool("study-cuts", "examples/apart.toml", "--csv").out)))
         self.assertEqual([(row["group"], row["links"], row["hit"]) for row in rows[:2]], [("srlg 7", "1 2", "2"), ("link 1", "1", "1")])
         found = json.loads(tool("study-cuts", "examples/apart.toml", "--json").out)
-        self.assertEqual(found[0], {"groups": ["srlg 7"], "links": [1, 2], "hit": ["c1", "c2"], "turned": ["c1", "c2"], "stuck": [], "bare": [], "cut_off": []})
+        self.assertEqual(found[0], {"groups": ["srlg 7"], "links": [1, 2], "hit": ["c1", "c2"], "turned": ["c1", "c2"], "stuck": [], "bare": [], "cut_off": [], "contends": []})
         root = ElementTree.fromstring(tool("study-cuts", "examples/apart.toml", "--svg").out)
         texts = [text.text for text in root.findall("{*}text")]
         self.assertLess(texts.index("srlg 7"), texts.index("link 1"))

@@ -11,6 +11,7 @@ from .circuits import Circuit, usage
 from .errors import ToolError
 from .groups import Group, failed_links, groups_of
 from .plan import Plan
+from .surveys import Contend, Survey
 
 Groups = tuple[Group, ...]
 """The groups that fail together."""
@@ -21,7 +22,8 @@ class Outcome:
     """A cut: its groups and links, and the calls that it hits, by what becomes of them.
 
     A call is hit where a fibre of the LSP that carries it is cut. `turned`, `stuck` and `bare` are the states of those
-    calls when the network is quiet again; `cut_off` are those that nothing carries then.
+    calls when the network is quiet again; `cut_off` are those that nothing carries then. `contends` tells for which labels
+    calls would contend by the survey of the table before.
     """
 
     groups: Groups
@@ -31,6 +33,7 @@ class Outcome:
     stuck: tuple[str, ...]
     bare: tuple[str, ...]
     cut_off: tuple[str, ...]
+    contends: tuple[Contend, ...] = ()
 
     @property
     def name(self) -> str:
@@ -40,10 +43,12 @@ class Outcome:
 
 @dataclass(frozen=True)
 class Standing:
-    """A plan whose script comes to a table, and of each call of that table that something carries the links that do."""
+    """A plan whose script comes to a table, of each call of that table that something carries the links that do, and the
+    table's survey."""
 
     plan: Plan
     carried: dict[str, frozenset[int]]
+    survey: Survey
 
     def hit(self, links: frozenset[int]) -> tuple[str, ...]:
         """The calls whose carrying LSP has one of these links."""
@@ -54,7 +59,8 @@ def standing(plan: Plan) -> Standing:
     """What stands at the end of the plan's script, when the network is quiet."""
     script = [line for line in plan.script if line.split() != ["show"]]
     settled = replace(plan, script=[*script, "settle 1000"])
-    return Standing(settled, {name: it.carrying for name, it in circuits(settled).items() if it.carrier is not None})
+    carried = {name: it.carrying for name, it in circuits(settled).items() if it.carrier is not None}
+    return Standing(settled, carried, program.survey(settled.text()))
 
 
 def circuits(plan: Plan) -> dict[str, Circuit]:
@@ -111,7 +117,8 @@ def _outcome(start: Standing, cut: Groups, links: frozenset[int], after: dict[st
     by_state = {state: _in_state(after, hit, state) for state in ("turned", "stuck", "bare")}
     lost = tuple(name for name in hit if after[name].carrier is None)
     turned = tuple(name for name in by_state["turned"] if name not in lost)
-    return Outcome(cut, tuple(sorted(links)), hit, turned, by_state["stuck"], by_state["bare"], lost)
+    contends = start.survey.between(*cut)
+    return Outcome(cut, tuple(sorted(links)), hit, turned, by_state["stuck"], by_state["bare"], lost, contends)
 
 
 def _in_state(after: dict[str, Circuit], names: Iterable[str], state: str) -> tuple[str, ...]:

@@ -42,7 +42,8 @@ def draw(drawing: Drawing, scene: Scene, corner: tuple[float, float], room: floa
     drawing.text(left, top + 14, "Labels by fibre", 15, fill=INK, font_weight="bold")
     hidden = 2 * len(scene.plan.links) - len(shown)
     why = "hold no label and" if scene.chosen is None else "hold no label of these calls and"
-    drawing.text(left, top + 32, f"{hidden} fibres {why} aren't shown", 11, fill=SOFT)
+    note = "; for a label with a red edge calls contend where two groups fail" if scene.contended else ""
+    drawing.text(left, top + 32, f"{hidden} fibres {why} aren't shown{note}", 11, fill=SOFT)
     columns = _columns(scene, shown)
     for place, block in enumerate(_blocks(scene, room)[0]):
         _block(drawing, scene, block, columns, (left + place * (columns[-1] + RIGHT), top + TOP))
@@ -96,6 +97,8 @@ def _row(drawing: Drawing, scene: Scene, fibre: Fibre, columns: list[float], at:
     for label in range(1, link.labels + 1):
         x, end = left + columns[label - 1], left + columns[label]
         _cell(drawing, scene, held.get(label, []), (x, y, end - x))
+        if (fibre, label) in scene.contended:
+            drawing.rect(x, y, end - x, ROW, rx=2, fill="none", stroke=FAULT, stroke_width=1.8)
     free = link.labels - len(held)
     word = ("full" if free <= 0 else f"{free} free") + (", down" if is_down else "")
     style = {"fill": FAULT, "font_weight": "bold"} if free <= 0 or is_down else {"fill": SOFT}

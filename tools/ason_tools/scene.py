@@ -2,7 +2,7 @@
 
 from dataclasses import dataclass
 
-from .circuits import Circuit, Holder, Span, Usage
+from .circuits import Circuit, Fibre, Holder, Span, Usage
 from .plan import Plan
 
 COLOURS = (
@@ -29,6 +29,8 @@ class Scene:
     failed: frozenset[int]
     title: str
     chosen: frozenset[str] | None = None
+    contended: frozenset[tuple[Fibre, int]] = frozenset()
+    """The labels for which calls would contend if two groups failed, where that was asked for."""
 
     @property
     def circuits(self) -> list[Circuit]:
