@@ -12,7 +12,7 @@ ghost use Rattle.table_text.specs.TableText.{stopped_text};
 
 use crate::runner::run::{Ran, run_plan};
 use crate::runner::stops::Stop;
-use crate::survey::survey_of;
+use crate::surveying::survey_of;
 use ason_base::{NodeId, OutOfMemory};
 use ason_io::{ReadAllFault, Sink, Source, read_all, write_all};
 use message_text::decode_text;

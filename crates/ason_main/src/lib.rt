@@ -4,7 +4,7 @@
 
 pub mod answers;
 mod runner;
-mod survey;
+mod surveying;
 mod table_rows;
 
 pub use answers::{Status, ason};

@@ -1,6 +1,7 @@
 -- All turns of a node in one round are one turn.
-use Rattle.std.proofs.Common.{◌≡◌, Bool, List, [], ◌∷◌, ◌++◌, length, refl, sym, ap, ◌∙◌, subst, arith, append-nil}
-use Rattle.std.proofs.Common.{append_assoc}
+use Rattle.std.proofs.Common.{◌≡◌, Bool, false, List, [], ◌∷◌, ◌++◌, length, refl, sym, ap, ◌∙◌, subst, arith}
+use Rattle.std.proofs.Common.{append-nil}
+use Rattle.std.proofs.Common.{append_assoc, inl, inr}
 use Rattle.std.proofs.lemmas.List.Concat.{flat_map-append}
 use Rattle.std.proofs.lemmas.List.Sums.{fold-append}
 use Rattle.ason_base.specs.declared.ids.NodeId.{NodeId}
@@ -8,6 +9,7 @@ use Rattle.ason_base.specs.declared.commands.Disturb.{Disturb}
 use Rattle.ason_base.specs.Network.{Network}
 use Rattle.hop_reliable.proofs.Members.{each-append}
 use Rattle.round_rules.specs.Doings.{Doing}
+use Rattle.round_rules.specs.Halts.{MayTick, TurnsMakeACutTurn}
 use Rattle.round_rules.specs.Held.{HeldFrame, due_in, held_after, held_step}
 use Rattle.round_rules.specs.Laws.{TurnsMakeATurn}
 use Rattle.round_rules.specs.Takings.{IsTaking, all_doings, doings_of}
@@ -55,6 +57,32 @@ module _ (t : Network) (lines : List Disturb) (n : NodeId) (tick : Bool) (before
       ∙ sym (append_assoc before (f.ticks ++ f.dues) rest))
       ∙ empty-after t n (before ++ (f.ticks ++ f.dues)) f.items f.takings f.handled f.count
 
+  -- what a later turn without a tick does is taking
+  pub later-turn : (two : List Doing) (g : IsTurnOf t lines n false (before ++ one) two) → two ≡ all_doings g.takings
+  later-turn two g = second
+    where
+      after : List Doing
+      after = before ++ one
+
+      no_tick : g.ticks ≡ []
+      no_tick = g.is_tick
+
+      no_due : g.dues ≡ []
+      no_due =
+          none_delivered (due_in (after ++ g.ticks)) g.dues (ap (λ ds. due_in (after ++ ds)) no_tick
+          ∙ ap due_in (append-nil after) ∙ none_due) g.are_due
+
+      no_item : g.items ≡ []
+      no_item =
+          no_items g.items (g.count ∙ ap (λ ds. items_after t n (after ++ (ds ++ g.dues))) no_tick
+          ∙ ap (λ ds. items_after t n (after ++ ds)) no_due ∙ ap (items_after t n) (append-nil after)
+          ∙ empty)
+
+      second : two ≡ all_doings g.takings
+      second =
+          g.all ∙ ap (λ ds. ds ++ (g.dues ++ (g.items ++ all_doings g.takings))) no_tick
+          ∙ ap (λ ds. ds ++ (g.items ++ all_doings g.takings)) no_due ∙ ap (λ ds. ds ++ all_doings g.takings) no_item
+
 pub turns-make-a-turn : TurnsMakeATurn
 turns-make-a-turn t lines n tick before one two f g = record {
   ticks = f.ticks;
@@ -69,27 +97,8 @@ turns-make-a-turn t lines n tick before one two f g = record {
   are_takings = each-append (IsTaking lines n) f.takings g.takings f.are_takings g.are_takings;
 }
   where
-    after : List Doing
-    after = before ++ one
-
-    no_tick : g.ticks ≡ []
-    no_tick = g.is_tick
-
-    no_due : g.dues ≡ []
-    no_due =
-        none_delivered (due_in (after ++ g.ticks)) g.dues (ap (λ ds. due_in (after ++ ds)) no_tick
-        ∙ ap due_in (append-nil after) ∙ none_due t lines n tick before one f) g.are_due
-
-    no_item : g.items ≡ []
-    no_item =
-        no_items g.items (g.count ∙ ap (λ ds. items_after t n (after ++ (ds ++ g.dues))) no_tick
-        ∙ ap (λ ds. items_after t n (after ++ ds)) no_due ∙ ap (items_after t n) (append-nil after)
-        ∙ empty t lines n tick before one f)
-
     second : two ≡ all_doings g.takings
-    second =
-        g.all ∙ ap (λ ds. ds ++ (g.dues ++ (g.items ++ all_doings g.takings))) no_tick
-        ∙ ap (λ ds. ds ++ (g.items ++ all_doings g.takings)) no_due ∙ ap (λ ds. ds ++ all_doings g.takings) no_item
+    second = later-turn t lines n tick before one f two g
 
     inner : (f.items ++ all_doings f.takings) ++ all_doings g.takings ≡ f.items ++ all_doings (f.takings ++ g.takings)
     inner =
@@ -103,3 +112,71 @@ turns-make-a-turn t lines n tick before one two f g = record {
         ∙ append_assoc f.ticks (f.dues ++ (f.items ++ all_doings f.takings)) (all_doings g.takings)
         ∙ ap (λ ds. f.ticks ++ ds) (append_assoc f.dues (f.items ++ all_doings f.takings) (all_doings g.takings)
         ∙ ap (λ ds. f.dues ++ ds) inner)
+
+no_more : (xs ys : List HeldFrame) → xs ++ ys ≡ [] → xs ≡ []
+no_more [] ys e = refl
+no_more (x ∷ xs) ys e = absurd (cc (e))
+
+no_tick_cut : (ticks : List Doing) → MayTick false ticks → ticks ≡ []
+no_tick_cut ticks (inl none) = none
+no_tick_cut ticks (inr none) = none
+
+pub turns-make-a-cut-turn : TurnsMakeACutTurn
+turns-make-a-cut-turn t lines n tick before one two f g = record {
+  ticks = f.ticks;
+  dues = f.dues;
+  items = f.items;
+  takings = f.takings ++ g.takings;
+  last = g.last;
+  all = whole;
+  is_tick = inr f.is_tick;
+  freed = due_in (before ++ f.ticks);
+  kept = [];
+  due = sym (append-nil (due_in (before ++ f.ticks)));
+  are_due = f.are_due;
+  handled = f.handled;
+  few = let count = f.count in omega arith;
+  are_takings = each-append (IsTaking lines n) f.takings g.takings f.are_takings g.are_takings;
+  lacks = g.lacks;
+}
+  where
+    after : List Doing
+    after = before ++ one
+
+    no_tick : g.ticks ≡ []
+    no_tick = no_tick_cut g.ticks g.is_tick
+
+    no_due : g.dues ≡ []
+    no_due =
+        none_delivered g.freed g.dues (no_more g.freed g.kept (sym g.due ∙ ap (λ ds. due_in (after ++ ds)) no_tick
+        ∙ ap due_in (append-nil after) ∙ none_due t lines n tick before one f)) g.are_due
+
+    desk : items_after t n (after ++ (g.ticks ++ g.dues)) ≡ 0
+    desk =
+        ap (λ ds. items_after t n (after ++ (ds ++ g.dues))) no_tick
+        ∙ ap (λ ds. items_after t n (after ++ ds)) no_due ∙ ap (items_after t n) (append-nil after)
+        ∙ empty t lines n tick before one f
+
+    no_item : g.items ≡ []
+    no_item = no_items g.items (let few = g.few in omega (arith, few, desk))
+
+    second : two ≡ all_doings g.takings ++ g.last
+    second =
+        g.all ∙ ap (λ ds. ds ++ (g.dues ++ (g.items ++ (all_doings g.takings ++ g.last)))) no_tick
+        ∙ ap (λ ds. ds ++ (g.items ++ (all_doings g.takings ++ g.last))) no_due
+        ∙ ap (λ ds. ds ++ (all_doings g.takings ++ g.last)) no_item
+
+    inner : (f.items ++ all_doings f.takings) ++ (all_doings g.takings ++ g.last) ≡
+        f.items ++ (all_doings (f.takings ++ g.takings) ++ g.last)
+    inner =
+        append_assoc f.items (all_doings f.takings) (all_doings g.takings ++ g.last)
+        ∙ ap (λ ds. f.items ++ ds) (sym (append_assoc (all_doings f.takings) (all_doings g.takings) g.last)
+        ∙ ap (λ ds. ds ++ g.last) (sym (flat_map-append doings_of f.takings g.takings)))
+
+    whole : one ++ two ≡ f.ticks ++ (f.dues ++ (f.items ++ (all_doings (f.takings ++ g.takings) ++ g.last)))
+    whole =
+        ap (λ ds. ds ++ two) f.all
+        ∙ ap (λ ds. (f.ticks ++ (f.dues ++ (f.items ++ all_doings f.takings))) ++ ds) second
+        ∙ append_assoc f.ticks (f.dues ++ (f.items ++ all_doings f.takings)) (all_doings g.takings ++ g.last)
+        ∙ ap (λ ds. f.ticks ++ ds) (append_assoc f.dues (f.items ++ all_doings f.takings)
+        (all_doings g.takings ++ g.last) ∙ ap (λ ds. f.dues ++ ds) inner)

@@ -1,6 +1,10 @@
 pub mod Composing
+pub mod Cutting
 pub mod Desks
 pub mod Due
+pub mod Ending
+pub mod Halting
+pub mod Reaching
 pub mod Records
 pub mod Standing
 pub mod Turning

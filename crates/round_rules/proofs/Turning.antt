@@ -18,21 +18,21 @@ use Rattle.round_rules.specs.Turns.{AreDelivered, AreHandled, IsTick, items_afte
 
 -- The parts
 
-record Ticks (tick : Bool) (ds : List Doing) : Type 0 where
-  more : List Doing
-  all : tick_if tick ds ≡ ds ++ more
-  is : IsTick tick more
+pub record Ticks (tick : Bool) (ds : List Doing) : Type 0 where
+  pub more : List Doing
+  pub all : tick_if tick ds ≡ ds ++ more
+  pub is : IsTick tick more
 
-ticks : (tick : Bool) (ds : List Doing) → Ticks tick ds
+pub ticks : (tick : Bool) (ds : List Doing) → Ticks tick ds
 ticks true ds = record { more = Did (Ticked (clock_of ds + 1)) ∷ []; all = refl; is = (clock_of ds + 1, refl) }
 ticks false ds = record { more = []; all = sym (append-nil ds); is = refl }
 
-record Dues (hs : List HeldFrame) (ds : List Doing) (ps : List Popped) : Type 0 where
-  more : List Doing
-  all : all_freed ds ps ≡ ds ++ more
-  are : AreDelivered hs more
+pub record Dues (hs : List HeldFrame) (ds : List Doing) (ps : List Popped) : Type 0 where
+  pub more : List Doing
+  pub all : all_freed ds ps ≡ ds ++ more
+  pub are : AreDelivered hs more
 
-dues : (hs : List HeldFrame) (ds : List Doing) (ps : List Popped) → AreHeldAs hs ps → Dues hs ds ps
+pub dues : (hs : List HeldFrame) (ds : List Doing) (ps : List Popped) → AreHeldAs hs ps → Dues hs ds ps
 dues [] ds [] e = record { more = []; all = sym (append-nil ds); are = refl }
 dues [] ds (p ∷ ps) e = absurd e
 dues (h ∷ hs) ds [] e = absurd e
@@ -53,13 +53,13 @@ dues (h ∷ hs) ds (p ∷ ps) e =
       );
     }
 
-record Items (k : ℕ) (ds : List Doing) : Type 0 where
-  more : List Doing
-  all : all_handled k ds ≡ ds ++ more
-  are : AreHandled more
-  count : length more ≡ k
+pub record Items (k : ℕ) (ds : List Doing) : Type 0 where
+  pub more : List Doing
+  pub all : all_handled k ds ≡ ds ++ more
+  pub are : AreHandled more
+  pub count : length more ≡ k
 
-items : (k : ℕ) (ds : List Doing) → Items k ds
+pub items : (k : ℕ) (ds : List Doing) → Items k ds
 items zero ds = record { more = []; all = sym (append-nil ds); are = tt; count = refl }
 items (suc k) ds =
     let rest = items k (handled ds) in
@@ -73,9 +73,9 @@ items (suc k) ds =
 -- Taking
 
 record One (lines : List Disturb) (n : NodeId) (ds : List Doing) (p : Popped) (o : Option DisturbKind) : Type 0 where
-  taking : Taking
-  all : taken_as o ds p ≡ ds ++ doings_of taking
-  is : says lines p.from n p.number ≡ o → IsTaking lines n taking
+  pub taking : Taking
+  pub all : taken_as o ds p ≡ ds ++ doings_of taking
+  pub is : says lines p.from n p.number ≡ o → IsTaking lines n taking
 
 one : (lines : List Disturb) (n : NodeId) (ds : List Doing) (p : Popped) (o : Option DisturbKind) → One lines n ds p o
 one lines n ds p None =
@@ -114,12 +114,12 @@ one lines n ds p (Some Hold) = record {
   is = λ e. record { says = sym e; deliveries = refl };
 }
 
-record Takes (lines : List Disturb) (n : NodeId) (ds : List Doing) (ps : List Popped) : Type 0 where
-  takings : List Taking
-  all : all_taken lines n ds ps ≡ ds ++ all_doings takings
-  are : AreTakings lines n takings
+pub record Takes (lines : List Disturb) (n : NodeId) (ds : List Doing) (ps : List Popped) : Type 0 where
+  pub takings : List Taking
+  pub all : all_taken lines n ds ps ≡ ds ++ all_doings takings
+  pub are : AreTakings lines n takings
 
-takes : (lines : List Disturb) (n : NodeId) (ds : List Doing) (ps : List Popped) → Takes lines n ds ps
+pub takes : (lines : List Disturb) (n : NodeId) (ds : List Doing) (ps : List Popped) → Takes lines n ds ps
 takes lines n ds [] = record { takings = []; all = sym (append-nil ds); are = tt }
 takes lines n ds (p ∷ ps) =
     let first = one lines n ds p (says lines p.from n p.number) in

@@ -1,9 +1,14 @@
 pub mod Doings
 pub mod Functions
+pub mod Halts
 pub mod Held
 pub mod Laws
+pub mod Limits
 pub mod Lines
+pub mod OneWorker
 pub mod Records
 pub mod Rings
+pub mod Rounds
 pub mod Takings
 pub mod Turns
+pub mod Unfinished

@@ -1,5 +1,6 @@
 //! Laws of records and of turns.
 
+ghost use Rattle.round_rules.specs.Halts.{HaltsAreLast, TurnsEnd, TurnsHalt, TurnsMakeACutTurn};
 ghost use Rattle.round_rules.specs.Laws.{FunctionsAreTurns, RecordsAreRuns, TurnsMakeATurn};
 ghost use Rattle.round_rules.specs.Rings.{StandingIsLeft};
 
@@ -18,4 +19,14 @@ pub fn every_record()
 pub fn every_turn()
     ensures function { FunctionsAreTurns }
     ensures together { TurnsMakeATurn }
+{}
+
+/// A turn up to a node's limit is the whole turn where it doesn't halt. Where it does, what the node did is a first
+/// part of the whole turn, cut at an input that came when the log was full, or no stamp was left; that input is the
+/// last of its doings. What it might have popped after that says nothing. Turns and then a cut turn are one cut turn.
+pub fn every_limit()
+    ensures ends { TurnsEnd }
+    ensures halts { TurnsHalt }
+    ensures last { HaltsAreLast }
+    ensures together { TurnsMakeACutTurn }
 {}

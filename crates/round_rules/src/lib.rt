@@ -3,4 +3,4 @@
 
 pub mod laws;
 
-pub use laws::{every_record, every_turn};
+pub use laws::{every_limit, every_record, every_turn};

@@ -19,7 +19,8 @@ use Rattle.round_rules.specs.Doings.{Did, Doing, deeds_in}
 use Rattle.round_rules.specs.Functions.{clock_of}
 use Rattle.round_rules.specs.Held.{HeldFrame, held_by, ticked_once}
 use Rattle.round_rules.proofs.Desks.{deeds-more}
-use Rattle.station_doings.specs.Stands.{CameFrom, HeldParcel, IsHeldOf, frame_of, parcel_ticked}
+use Rattle.station_doings.specs.Stands.{CameFrom, IsHeldOf, frame_of, parcel_ticked}
+use Rattle.station_doings.specs.declared.held.HeldParcel.{HeldParcel}
 
 -- Clock and deeds
 

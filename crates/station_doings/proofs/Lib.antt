@@ -1,2 +1,12 @@
+pub mod Draining
+pub mod Ending
 pub mod Keeping
+pub mod Moving
+pub mod Parting
+pub mod Places
+pub mod Pops
+pub mod RingSteps
 pub mod Standing
+pub mod Steps
+pub mod Taking
+pub mod Turning

@@ -9,19 +9,21 @@ use Rattle.ason_base.specs.declared.commands.Event.TheVariants.{Deliver}
 use Rattle.ason_base.specs.Network.{Network}
 use Rattle.flood.specs.Frames.{IsFrame}
 use Rattle.control_channels.specs.declared.inputs.CoreInput.TheVariants as input
-use Rattle.world_merge.specs.Deeds.{Handled, Ticked, Took}
+use Rattle.world_merge.specs.Deeds.{Handled, Heard, Posted, Ticked, Took}
 use Rattle.station_sound.specs.Links.{LinkView}
 use Rattle.station_sound.specs.Stations.{IsSound, StationView}
 use Rattle.station_sound.specs.Steps.{HasReacted, IsDelivery}
-use Rattle.station_sound.proofs.Besides.{listening-is-no-deed}
-use Rattle.station_sound.proofs.Events.{frames-are-deeds, items-are-deeds, ticks-are-deeds}
+use Rattle.station_sound.proofs.Besides.{listening-is-no-deed, posts-are-deeds}
+use Rattle.station_sound.proofs.Events.{frames-are-deeds, items-are-deeds, noise-is-a-deed, ticks-are-deeds}
 use Rattle.round_rules.specs.Doings.{Did, Doing, Freed, Got, Left, Lost, deeds_in}
 use Rattle.round_rules.specs.Functions.{clock_of, delivered, handled, ticked}
 use Rattle.round_rules.specs.Held.{held_after, held_by, held_step, ticked_once}
 use Rattle.round_rules.proofs.Desks.{deeds-more}
 use Rattle.station_doings.specs.Parts.{DeliveriesStand, FreeingStands, HoldingStands, ItemsStand, LeavingStands}
-use Rattle.station_doings.specs.Parts.{ListeningStands, LosingStands, TakingStands, TicksStand}
-use Rattle.station_doings.specs.Stands.{HeldParcel, HoldingStation, IsHeldOf, StandsBy, frame_of}
+use Rattle.station_doings.specs.Parts.{ListeningStands, LosingStands, NoiseStands, PostsStand, TakingStands}
+use Rattle.station_doings.specs.Parts.{TicksStand}
+use Rattle.station_doings.specs.Stands.{HoldingStation, IsHeldOf, StandsBy, frame_of}
+use Rattle.station_doings.specs.declared.held.HeldParcel.{HeldParcel}
 use Rattle.station_doings.proofs.Keeping.{clock-did, clock-same, deeds-same, frames-dropped, frames-more, frames-ticked}
 use Rattle.station_doings.proofs.Keeping.{kept-dropped, kept-listening, kept-more, kept-sending, kept-ticked, none-held}
 
@@ -35,7 +37,7 @@ pub ticks-stand : TicksStand
 ticks-stand t n ds old new is r desk clock held = record {
   sound =
       subst (λ xs. IsSound t n xs new.station) (sym deeds)
-      (ticks-are-deeds t n (deeds_in ds) old.station new.station is.sound r desk);
+      (ticks-are-deeds t n (deeds_in ds) old.station new.station is.sound r desk clock);
   clock = now ∙ sym (clock-did ds (Ticked (clock_of ds + 1)));
   held =
       ap (map frame_of) held ∙ frames-ticked old.held ∙ ap (map ticked_once) is.held
@@ -56,7 +58,7 @@ pub items-stand : ItemsStand
 items-stand t n ds i old new is r desk clock held = record {
   sound =
       subst (λ xs. IsSound t n xs new.station) (sym deeds)
-      (items-are-deeds t n (deeds_in ds) i old.station new.station is.sound r desk);
+      (items-are-deeds t n (deeds_in ds) i old.station new.station is.sound r desk clock);
   clock = now ∙ sym (clock-did ds (Handled (clock_of ds + 1)));
   held = ap (map frame_of) held ∙ is.held ∙ sym (held_more ds (Did (Handled (clock_of ds + 1)) ∷ []));
   kept =
@@ -168,6 +170,7 @@ deliveries-stand t n ds old new q p is number stamp d = record {
         spells = subst (IsFrame q.frame) d.content d.came.spells;
         one = d.one;
       };
+      clock = d.clock;
       reacted =
           subst (λ (u : NodeId). HasReacted n old.station new.station (input.Frame u q.frame) (Deliver n u q.number))
           (sym d.came.peer) d.reacted;
@@ -189,3 +192,39 @@ losing-stands t n ds s u k is = unmoved t n ds (Lost u k ∷ []) s is refl refl
 
 pub leaving-stands : LeavingStands
 leaving-stands t n ds s w is = unmoved t n ds (Left w ∷ []) s is refl refl
+
+-- Beside a turn
+
+pub noise-stands : NoiseStands
+noise-stands t n ds l bytes old new is r clock held = record {
+  sound =
+      subst (λ xs. IsSound t n xs new.station) (sym deeds)
+      (noise-is-a-deed t n (deeds_in ds) old.station new.station l bytes is.sound r clock);
+  clock = now ∙ sym (clock-did ds (Heard (clock_of ds + 1) l.peer bytes));
+  held = ap (map frame_of) held ∙ is.held ∙ sym (held_more ds (Did (Heard (clock_of ds + 1) l.peer bytes) ∷ []));
+  kept =
+      subst (AllByRecursion (IsHeldOf new.station.links)) (sym held)
+      (kept-sending new.station.clock r.reacted.frames old.station.links new.station.links old.held
+      r.reacted.links is.kept);
+}
+  where
+    now : new.station.clock ≡ clock_of ds + 1
+    now = clock ∙ ap (λ k. k + 1) is.clock
+
+    deeds : deeds_in (ds ++ Did (Heard (clock_of ds + 1) l.peer bytes) ∷ []) ≡
+        deeds_in ds ++ Heard new.station.clock l.peer bytes ∷ []
+    deeds =
+        deeds-more ds (Did (Heard (clock_of ds + 1) l.peer bytes) ∷ [])
+        ∙ ap (λ k. deeds_in ds ++ Heard k l.peer bytes ∷ []) (sym now)
+
+pub posts-stand : PostsStand
+posts-stand t n ds c old new is p held = record {
+  sound =
+      subst (λ xs. IsSound t n xs new.station) (sym (deeds-more ds (Did (Posted new.station.clock c) ∷ [])))
+      (posts-are-deeds t n (deeds_in ds) c old.station new.station is.sound p);
+  clock = sym (clock-did ds (Posted new.station.clock c));
+  held = ap (map frame_of) held ∙ is.held ∙ sym (held_more ds (Did (Posted new.station.clock c) ∷ []));
+  kept =
+      subst (λ ls. AllByRecursion (IsHeldOf ls) new.held) (sym p.links)
+      (subst (AllByRecursion (IsHeldOf old.station.links)) (sym held) is.kept);
+}

@@ -1,6 +1,7 @@
 -- The parts of a turn, as the code of a station makes them, and the doings that they are.
 use Rattle.std.specs.Prelude.{◌≡◌, ◌≢◌, ◌+◌, ℕ, max, List, [], ◌∷◌, ◌++◌, drop, map, Option, Some}
 use Rattle.ason_base.specs.declared.ids.NodeId.{NodeId}
+use Rattle.ason_base.specs.declared.commands.Command.{Command}
 use Rattle.ason_base.specs.declared.commands.DeskItem.{DeskItem}
 use Rattle.ason_base.specs.declared.commands.DisturbKind.{DisturbKind}
 use Rattle.ason_base.specs.declared.commands.DisturbKind.TheVariants.{Hold}
@@ -11,9 +12,11 @@ use Rattle.flood.specs.declared.frames.Content.{Content}
 use Rattle.flood.specs.Frames.{IsFrame}
 use Rattle.control_channels.specs.declared.inputs.CoreInput.TheVariants as input
 use Rattle.station_sound.specs.declared.parcels.Parcel.{Parcel}
-use Rattle.station_sound.specs.Steps.{HasListened, HasReacted}
-use Rattle.round_rules.specs.Doings.{Doing, Freed, Left, Lost, Waiting}
-use Rattle.round_rules.specs.Functions.{Popped, delivered, got, handled, ticked}
+use Rattle.station_sound.specs.Links.{LinkView}
+use Rattle.station_sound.specs.Steps.{HasListened, HasReacted, IsNoise, IsPosted}
+use Rattle.world_merge.specs.Deeds.{Heard, Posted}
+use Rattle.round_rules.specs.Doings.{Did, Doing, Freed, Left, Lost, Waiting, deeds_in}
+use Rattle.round_rules.specs.Functions.{Popped, clock_of, delivered, got, handled, ticked}
 use Rattle.station_doings.specs.Stands.{CameFrom, HoldingStation, StandsBy, parcel_ticked}
 
 -- The tick and the desk
@@ -92,3 +95,18 @@ abbrev pub LeavingStands : Type 0
 LeavingStands =
     (t : Network) (n : NodeId) (ds : List Doing) (s : HoldingStation) (w : Waiting) → StandsBy t n ds s →
     StandsBy t n (ds ++ Left w ∷ []) s
+
+-- Beside a turn
+
+-- bytes that spell nothing came from a neighbour
+abbrev pub NoiseStands : Type 0
+NoiseStands =
+    (t : Network) (n : NodeId) (ds : List Doing) (l : LinkView) (bytes : List ℕ) (old new : HoldingStation) →
+    StandsBy t n ds old → IsNoise n old.station new.station l bytes → new.station.clock ≡ old.station.clock + 1 →
+    new.held ≡ old.held → StandsBy t n (ds ++ Did (Heard (clock_of ds + 1) l.peer bytes) ∷ []) new
+
+abbrev pub PostsStand : Type 0
+PostsStand =
+    (t : Network) (n : NodeId) (ds : List Doing) (c : Command) (old new : HoldingStation) → StandsBy t n ds old →
+    IsPosted t n (deeds_in ds) c old.station new.station → new.held ≡ old.held →
+    StandsBy t n (ds ++ Did (Posted new.station.clock c) ∷ []) new

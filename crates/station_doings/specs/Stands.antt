@@ -11,12 +11,7 @@ use Rattle.station_sound.specs.Stations.{IsSound, StationView}
 use Rattle.round_rules.specs.Doings.{Doing, deeds_in}
 use Rattle.round_rules.specs.Functions.{clock_of}
 use Rattle.round_rules.specs.Held.{HeldFrame, held_after}
-
--- a parcel that is held, and how often the node ticked since its taking
-pub record HeldParcel : Type 0 where
-  pub from : NodeId
-  pub parcel : Parcel
-  pub ticks : ℕ
+use Rattle.station_doings.specs.declared.held.HeldParcel.{HeldParcel}
 
 abbrev pub frame_of : HeldParcel → HeldFrame
 frame_of h = record { from = h.from; number = h.parcel.number; ticks = h.ticks }

@@ -1,11 +1,13 @@
 //! Laws of a station's turn.
 
 ghost use Rattle.station_doings.specs.Parts.{DeliveriesStand, FreeingStands, HoldingStands, ItemsStand, LeavingStands};
-ghost use Rattle.station_doings.specs.Parts.{ListeningStands, LosingStands, TakingStands, TicksStand};
+ghost use Rattle.station_doings.specs.Parts.{ListeningStands, LosingStands, NoiseStands, PostsStand};
+ghost use Rattle.station_doings.specs.Parts.{TakingStands, TicksStand};
 
 /// Where a station stands by what its node did (`StandsBy`), each part of a turn makes it stand by one doing more: a
 /// tick, an item, a frame that is taken, held, let go, delivered, lost for want of memory, or left at the limit; and
-/// frames that come out of a ring are no doing. The stamps of the deeds are those of the functions of a turn.
+/// frames that come out of a ring are no doing. So do bytes that spell nothing, and a post. The stamps of the deeds are
+/// those of the functions of a turn.
 pub fn every_part()
     ensures tick { TicksStand }
     ensures item { ItemsStand }
@@ -16,4 +18,6 @@ pub fn every_part()
     ensures delivering { DeliveriesStand }
     ensures losing { LosingStands }
     ensures leaving { LeavingStands }
+    ensures noise { NoiseStands }
+    ensures post { PostsStand }
 {}

@@ -1,6 +1,7 @@
 -- A link with the ends of its two rings, and what sending, taking and looking make of it.
-use Rattle.std.specs.Prelude.{◌≡◌, ◌≤◌, ◌+◌, ℕ, List, [], ◌∷◌, ◌++◌, Option, MatchOption, length}
+use Rattle.std.specs.Prelude.{◌≡◌, ◌≤◌, ◌+◌, ℕ, List, [], ◌∷◌, ◌++◌, length}
 use Rattle.std.specs.List.{AllByRecursion}
+use mathlib.Core.List.{IsPrefix}
 use Rattle.std.specs.declared.alloc.Global.{Global}
 use Rattle.rtrb.specs.Ring.{sent, received, known_items, producer_capacity, IsPair, SameConsumer, SameProducer}
 use Rattle.rtrb.specs.declared.producer.Producer.{Producer}
@@ -10,6 +11,7 @@ use Rattle.flood.specs.declared.frames.Content.{Content}
 use Rattle.flood.specs.Frames.{IsFrame}
 use Rattle.station_sound.specs.declared.parcels.Parcel.{Parcel}
 use Rattle.station_sound.specs.Links.{LinkView}
+use Rattle.station_rings.specs.declared.parcels.Head.{Head}
 use Rattle.station_rings.specs.declared.rules.Rising.{Rising}
 use Rattle.station_rings.specs.Protocols.{AreInOrder}
 
@@ -35,19 +37,24 @@ gone_of l = sent l.out ++ l.backlog
 abbrev pub view_of : LinkState → LinkView
 view_of l = record { peer = l.peer; sent = l.sent; standing = l.standing; gone = gone_of l; came = received l.into }
 
--- What holds of every link: at most 256 parcels stand in the ring, no parcel has a number yet to come, and what waits
--- may follow what was sent.
+-- bytes bear something
+abbrev pub BearsSome : List ℕ → Type 0
+BearsSome bytes = (c : Content) × IsFrame bytes c
+
+abbrev pub IsBearing : Parcel → Type 0
+IsBearing p = BearsSome p.frame
+
+-- What holds of every link: at most 256 parcels stand in the ring, and as many came early, no parcel has a number yet to
+-- come, what waits may follow what was sent, and what came bears something.
 pub record LinkFits (l : LinkState) : Type 0 where
   pub few : length l.backlog ≤ l.standing
   pub most : l.standing ≤ 256
   pub order : AreInOrder (sent l.out) l.backlog
   pub numbers : AllByRecursion (λ (p : Parcel). p.number ≤ l.sent) (gone_of l)
+  pub early_few : length l.early ≤ 256
+  pub bears : AllByRecursion IsBearing l.early
 
 -- Sending
-
--- bytes bear something
-abbrev pub BearsSome : List ℕ → Type 0
-BearsSome bytes = (c : Content) × IsFrame bytes c
 
 -- the same ends of the same rings
 pub record SameEnds (a b : LinkState) : Type 0 where
@@ -86,19 +93,37 @@ pub record IsLooked (a c b d : LinkState) : Type 0 where
 
 -- Taking
 
--- What was taken came first of what came out of the ring and wasn't taken, or out of the ring itself; and where nothing
--- was taken nothing is known to stand there.
-pub record IsTaken (parcel : Option Parcel) (before after : LinkState) : Type 0 where
+-- the number and the stamp of the first of these parcels
+pub record IsHead (h : Head) (parcels : List Parcel) : Type 0 where
+  pub parcel : Parcel
+  pub rest : List Parcel
+  pub first : parcels ≡ parcel ∷ rest
+  pub number : parcel.number ≡ h.number
+  pub stamp : parcel.stamp ≡ h.stamp
+
+-- frames came out of the ring, and wait early
+pub record IsFetched (before after : LinkState) : Type 0 where
   pub peer : after.peer ≡ before.peer
   pub sent : after.sent ≡ before.sent
   pub standing : after.standing ≡ before.standing
-  pub gone : gone_of after ≡ gone_of before
-  pub ends : SameEnds before after
+  pub out : after.out ≡ before.out
+  pub backlog : after.backlog ≡ before.backlog
+  pub ends : SameConsumer before.into after.into
   pub more : List Parcel
   pub came : received after.into ≡ received before.into ++ more
-  pub first : MatchOption parcel
-      ((before.early ≡ []) × (after.early ≡ []) × (known_items after.into ≡ []) × (more ≡ []))
-      (λ p. before.early ++ more ≡ p ∷ after.early)
+  pub early : after.early ≡ before.early ++ more
+  pub known : IsPrefix (received before.into ++ known_items before.into) (received after.into ++ known_items after.into)
+
+-- the first of those that waited early was taken, and it bears something
+pub record IsTaken (parcel : Parcel) (before after : LinkState) : Type 0 where
+  pub peer : after.peer ≡ before.peer
+  pub sent : after.sent ≡ before.sent
+  pub standing : after.standing ≡ before.standing
+  pub out : after.out ≡ before.out
+  pub backlog : after.backlog ≡ before.backlog
+  pub into : after.into ≡ before.into
+  pub first : before.early ≡ parcel ∷ after.early
+  pub bears : IsBearing parcel
 
 -- Beginning
 

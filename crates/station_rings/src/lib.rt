@@ -6,5 +6,5 @@ pub mod parcels;
 mod rules;
 
 pub use links::{Link, join, look, send_at};
-pub use parcels::{MOST_FRAMES, Parcels};
+pub use parcels::{Head, MOST_FRAMES, Parcels};
 pub use rules::Rising;

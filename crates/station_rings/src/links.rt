@@ -6,10 +6,11 @@ ghost use mathlib.Core.List.{IsPrefix};
 ghost use Rattle.rtrb.specs.Ring.{received, known_items, known_free, sent, SameProducer, SameConsumer, IsPair, producer_capacity};
 ghost use Rattle.station_sound.specs.declared.parcels.Parcel.{Parcel};
 ghost use Rattle.station_sound.specs.Links.{with_parcel};
-ghost use Rattle.station_rings.specs.LinkStates.{AreEnds, AreFew, BearsSome, IsLooked, IsTaken, LinkState, SameEnds, gone_of, IsNew, view_of};
+ghost use Rattle.station_rings.specs.LinkStates.{AreEnds, AreFew, BearsSome, IsBearing, IsFetched, IsHead, IsLooked};
+ghost use Rattle.station_rings.specs.LinkStates.{IsNew, IsTaken, LinkState, SameEnds, gone_of, view_of};
 ghost use Rattle.station_rings.specs.Protocols.{AreInOrder, Follows};
 
-use crate::parcels::{MOST_FRAMES, Parcels};
+use crate::parcels::{Head, MOST_FRAMES, Parcels};
 use crate::rules::Rising;
 use ason_base::{Bytes, NodeId, OutOfMemory};
 use rtrb::{Consumer, Producer, PushError, RingBuffer};
@@ -89,29 +90,32 @@ fn put(out: &mut Out, backlog: &mut Parcels, parcel: Parcel)
     }
 }
 
-// Takes what came first: of those that came out of the ring before, or else of the ring.
-fn first(early: &mut Parcels, into: &mut Into) -> Option<Parcel>
+// Takes a frame out of the ring where none came out before.
+fn fetch(early: &mut Parcels, into: &mut Into)
+    requires bears { AllByRecursion IsBearing early.old }
     ensures ends { SameConsumer into.old into.new }
     ensures known { IsPrefix (received into.old ++ known_items into.old)
         (received into.new ++ known_items into.new) }
-    ensures none { result ≡ None → (early.old ≡ []) × (early.new ≡ []) ×
-        (known_items into.old ≡ []) × (known_items into.new ≡ []) }
-    ensures some { MatchOption result (received into.new ≡ received into.old) (λ p.
-        (more : List Parcel) × (received into.new ≡ received into.old ++ more) ×
-        (early.old ++ more ≡ p ∷ early.new)) }
+    ensures more { (more : List Parcel) × (received into.new ≡ received into.old ++ more) ×
+        (early.new ≡ early.old ++ more) }
+    ensures bears { AllByRecursion IsBearing early.new }
+    ensures few { length early.old ≤ 256 → length early.new ≤ 256 }
+    ensures none { early.new ≡ [] → known_items into.new ≡ [] }
 {
-    match early.pop() {
-        Some(parcel) => Some(parcel),
-        None => match into.pop() {
-            Ok(parcel) => Some(parcel),
-            Err(_) => None,
-        },
+    if !early.is_empty() {
+        return;
+    }
+    match into.pop() {
+        Ok(parcel) => early.push(parcel),
+        Err(_) => {}
     }
 }
 
 // Takes out of the ring what is known to stand there.
 fn take_in(into: &mut Into, early: &mut Parcels)
-    requires { length early.old + length (known_items into.old) ≤ 256 }
+    requires few { length early.old + length (known_items into.old) ≤ 256 }
+    requires bears { AllByRecursion IsBearing early.old }
+    ensures bears { AllByRecursion IsBearing early.new }
     ensures ends { SameConsumer into.old into.new }
     ensures none { known_items into.new ≡ [] }
     ensures received { received into.new ≡ received into.old ++ known_items into.old }
@@ -143,11 +147,14 @@ fn hand_over(out: &mut Out, backlog: &mut Parcels, into: &mut Into, early: &mut 
     requires wide { producer_capacity out.old ≡ 256 }
     requires most { length backlog.old ≤ 256 }
     requires order { AreInOrder (sent out.old) backlog.old }
+    requires bears { AllByRecursion IsBearing early.old }
+    ensures bears { AllByRecursion IsBearing early.new }
     ensures ends { SameProducer out.old out.new × SameConsumer into.old into.new }
     ensures none { backlog.new ≡ [] }
     ensures gone { sent out.new ≡ sent out.old ++ backlog.old }
     ensures whole { received into.new ++ known_items into.new ≡ sent out.new }
     ensures came { received into.new ≡ sent out.old }
+    ensures early_few { length early.new ≤ 256 }
     ensures early { (more : List Parcel) × (early.new ≡ early.old ++ more) ×
         (received into.old ++ more ≡ received into.new) }
 {
@@ -181,6 +188,7 @@ impl Link {
         requires bears { BearsSome frame }
         ensures sent { view_of self.new ≡ with_parcel stamp frame (view_of self.old) }
         ensures ends { SameEnds self.old self.new }
+        ensures into { self.new.into ≡ self.old.into }
         ensures early { self.new.early ≡ self.old.early }
     {
         self.sent += 1;
@@ -196,13 +204,34 @@ impl Link {
         }
     }
 
-    /// Takes the frame that came first. None: nothing is known to stand in the ring.
-    pub fn take(&mut self) -> Option<Parcel>
-        ensures taken { IsTaken result self.old self.new }
-        ensures known { IsPrefix (received self.old.into ++ known_items self.old.into)
-            (received self.new.into ++ known_items self.new.into) }
+    /// What came first and wasn't taken, which stays. None: nothing is known to stand in the ring.
+    pub fn head(&mut self) -> Option<Head>
+        ensures fetched { IsFetched self.old self.new }
+        ensures bears { AllByRecursion IsBearing self.new.early }
+        ensures head { MatchOption result
+            ((self.new.early ≡ []) × (known_items self.new.into ≡ []))
+            (λ h. IsHead h self.new.early) }
     {
-        first(&mut self.early, &mut self.into)
+        fetch(&mut self.early, &mut self.into);
+        self.early.head()
+    }
+
+    /// Takes the frame of which `head` told.
+    pub fn take(&mut self) -> Parcel
+        requires { 0 < length self.old.early }
+        ensures { IsTaken result self.old self.new }
+    {
+        match self.early.pop() {
+            Some(parcel) => parcel,
+            None => unreachable!(),
+        }
+    }
+
+    /// How many frames are known to stand in the ring.
+    pub fn known(&self) -> usize
+        ensures { result ≡ length self.now.early + length (known_items self.now.into) }
+    {
+        self.early.len() + self.into.cached_slots()
     }
 }
 

@@ -2,6 +2,7 @@
 
 ghost use Rattle.std.specs.Prelude.{◌≡◌, ◌<◌, ◌++◌, ◌∷◌, [], ◌≤◌, ◌==◌, IfOk, MatchOption, length};
 ghost use Rattle.std.specs.VecDeque.{deque_capacity};
+ghost use Rattle.station_rings.specs.LinkStates.{IsHead};
 
 use ason_base::OutOfMemory;
 use station_sound::Parcel;
@@ -11,6 +12,13 @@ use std::marker::Model;
 
 /// The most frames that stand in a ring.
 pub const MOST_FRAMES: usize = 256;
+
+/// What is known of a parcel before it is taken.
+#[derive(Clone, Copy, Debug, Drop)]
+pub struct Head {
+    pub number: u64,
+    pub stamp: u64,
+}
 
 /// At most 256 parcels, the oldest first. The room for them is there from the start.
 #[derive(Drop)]
@@ -51,6 +59,19 @@ impl Parcels {
             (λ p. self.old ≡ p ∷ self.new) }
     {
         self.parcels.pop_front()
+    }
+
+    /// What is known of the first parcel, which stays.
+    pub fn head(&self) -> Option<Head>
+        ensures { MatchOption result (self.now ≡ []) (λ h. IsHead h self.now) }
+    {
+        match self.parcels.front() {
+            None => None,
+            Some(parcel) => Some(Head {
+                number: parcel.number,
+                stamp: parcel.stamp,
+            }),
+        }
     }
 
     /// How many parcels wait.

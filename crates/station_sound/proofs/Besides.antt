@@ -19,10 +19,11 @@ use Rattle.world_merge.specs.Logs.{log_of}
 use Rattle.world_merge.proofs.Splitting.{alone-more}
 use Rattle.station_sound.specs.declared.parcels.Parcel.{Parcel}
 use Rattle.station_sound.specs.Links.{HasGot, LinkView}
-use Rattle.station_sound.specs.Parcels.{CameIn, IsSentOf}
+use Rattle.station_sound.specs.Parcels.{AreStamped, CameIn, IsSentOf, IsStamped}
 use Rattle.station_sound.specs.Stations.{LinkIsSound}
 use Rattle.station_sound.specs.Steps.{ListeningIsNoDeed, PostsAreDeeds}
-use Rattle.station_sound.proofs.Deeds.{doable-more, log-more, made-still, rises-more}
+use Rattle.station_sound.proofs.Deeds.{clock-more, doable-more, log-more, made-still, rises-more, stamped-more}
+use Rattle.station_sound.proofs.Deeds.{stamped-over}
 use Rattle.station_sound.proofs.Linking.{all-below, kept-sent}
 
 -- Listening
@@ -60,6 +61,27 @@ still_came before after all (Took s u k x) is = record {
         (Contains-append_left is.link.came g.got.more is.brought.parcel is.brought.came);
     brought = is.brought.brought;
   };
+}
+  where
+    g : IsGot after is.link
+    g = got-of before after is.link all is.there
+
+still_stamped : (before after : List LinkView) → AllZip HasGot before after → (c : ℕ) (d : Deed) →
+    IsStamped before c d → IsStamped after c d
+still_stamped before after all c (Ticked s) is = is
+still_stamped before after all c (Handled s) is = is
+still_stamped before after all c (Heard s u bytes) is = is
+still_stamped before after all c (Posted s x) is = tt
+still_stamped before after all c (Took s u k x) is = record {
+  link = g.link;
+  there = g.there;
+  peer = g.got.peer ∙ is.peer;
+  parcel = is.parcel;
+  came =
+      subst (λ ps. Contains ps is.parcel) (sym g.got.came)
+      (Contains-append_left is.link.came g.got.more is.parcel is.came);
+  number = is.number;
+  stamp = is.stamp;
 }
   where
     g : IsGot after is.link
@@ -106,6 +128,8 @@ listening-is-no-deed t n ds old new is h = record {
       subst (λ c. AllByRecursion (LinkIsSound t n ds c) new.links) (sym h.clock)
       (got_links t n ds old.clock old.links new.links h.links is.links);
   took = each-more (CameIn old.links) (CameIn new.links) (still_came old.links new.links h.links) ds is.took;
+  clock = h.clock ∙ is.clock;
+  stamped = stamped-over old.links new.links (still_stamped old.links new.links h.links) 0 ds is.stamped;
 }
 
 -- A post
@@ -136,6 +160,9 @@ posts-are-deeds t n ds c old new is h = record {
   took =
       subst (λ ls. AllByRecursion (CameIn ls) (ds ++ e ∷ [])) (sym h.links)
       (each-append (CameIn old.links) ds (e ∷ []) is.took (tt, tt));
+  clock = sym (clock-more 0 ds e);
+  stamped =
+      subst (λ ls. AreStamped ls 0 (ds ++ e ∷ [])) (sym h.links) (stamped-more old.links 0 ds e is.stamped tt);
 }
   where
     e : Deed

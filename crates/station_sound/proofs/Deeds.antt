@@ -1,28 +1,45 @@
 -- One deed more, with a stamp above those before it.
-use Rattle.std.proofs.Common.{◌≡◌, ◌<◌, ◌≤◌, ◌+◌, ℕ, true, false, cond, nat_lt, List, [], ◌∷◌, ◌++◌, length, refl, ap}
+use Rattle.std.proofs.Common.{◌≡◌, ◌<◌, ◌≤◌, ◌+◌, ℕ, Bool, true, false, cond, nat_lt, List, [], ◌∷◌, ◌++◌, length}
+use Rattle.std.proofs.Common.{refl, ap}
 use Rattle.std.proofs.Common.{◌∙◌, arith}
-use Rattle.std.specs.Prelude.{Some}
+use Rattle.std.specs.Prelude.{◌&&◌, Some}
 use Rattle.std.proofs.lemmas.List.{length-append}
 use Rattle.std.specs.List.{AllByRecursion}
 use Rattle.ason_base.specs.declared.ids.NodeId.{NodeId}
 use Rattle.ason_base.specs.declared.commands.Command.{Command}
 use Rattle.ason_base.specs.declared.commands.Command.TheVariants.{Setup, Release, Protect, Retry, Revert, Fail, Repair}
 use Rattle.ason_base.specs.declared.commands.Event.TheVariants.{Post}
-use Rattle.ason_base.specs.Network.{Network}
-use Rattle.world_rules.specs.Runs.{step}
+use Rattle.ason_base.specs.Network.{Network, is_node_id}
+use Rattle.mesh_rules.specs.Events.{has_first}
+use Rattle.world_rules.specs.Runs.{is_channel, step}
 use Rattle.world_rules.specs.Worlds.{World, start, with_event}
 use Rattle.world_rules.proofs.Stepping.{self_test}
 use Rattle.world_merge.specs.Deeds.{AreDoable, Deed, Handled, Heard, IsDoable, Posted, Ticked, Took, alone_from, done}
 use Rattle.world_merge.specs.Deeds.{stamp_of, upto}
 use Rattle.world_merge.specs.Logs.{RisesAbove, line_of, log_of}
 use Rattle.world_merge.proofs.Elsewhere.{kept-delivered}
-use Rattle.station_sound.specs.Stations.{LogsAreCounted}
+use Rattle.station_sound.specs.Links.{LinkView}
+use Rattle.station_sound.specs.Parcels.{AreStamped, IsStamped, clock_after}
+use Rattle.station_sound.specs.Stations.{LogsAreCounted, LogsAreFew}
 
 pub upto-more : (s : ℕ) (ds : List Deed) (e : Deed) → s < stamp_of e → upto s (ds ++ e ∷ []) ≡ upto s ds
 upto-more s [] e lt =
     let past : nat_lt s (stamp_of e) ≡ true = grind (arith, lt) in
     ap (λ b. cond b [] (e ∷ [])) past
 upto-more s (d ∷ ds) e lt = ap (λ xs. cond (nat_lt s (stamp_of d)) [] (d ∷ xs)) (upto-more s ds e lt)
+
+-- what was done later
+pub record UptoRest (s : ℕ) (ds : List Deed) : Type 0 where
+  pub rest : List Deed
+  pub all : ds ≡ upto s ds ++ rest
+
+pub upto-rest : (s : ℕ) (ds : List Deed) → UptoRest s ds
+upto-rest s [] = record { rest = []; all = refl }
+upto-rest s (d ∷ ds) = let r = go (nat_lt s (stamp_of d)) (upto-rest s ds) in record { rest = r.0; all = r.1 }
+  where
+    go : (b : Bool) → UptoRest s ds → (rest : List Deed) × (d ∷ ds ≡ cond b [] (d ∷ upto s ds) ++ rest)
+    go true r = (d ∷ ds, refl)
+    go false r = (r.rest, ap (λ xs. d ∷ xs) r.all)
 
 -- up to a stamp below which all was done
 pub upto-all : (s : ℕ) (ds : List Deed) → AllByRecursion (λ (d : Deed). stamp_of d ≤ s) ds → upto s ds ≡ ds
@@ -40,6 +57,23 @@ pub doable-more : (t : Network) (n : NodeId) (w : World) (ds : List Deed) (e : D
     IsDoable t n (alone_from t n w ds) e → AreDoable t n w (ds ++ e ∷ [])
 doable-more t n w [] e all may = (may, tt)
 doable-more t n w (d ∷ ds) e all may = (all.0, doable-more t n (done t n w d) ds e all.1 may)
+
+-- Stamps
+
+pub clock-more : (c : ℕ) (ds : List Deed) (e : Deed) → clock_after c (ds ++ e ∷ []) ≡ stamp_of e
+clock-more c [] e = refl
+clock-more c (d ∷ ds) e = clock-more (stamp_of d) ds e
+
+pub stamped-more : (links : List LinkView) (c : ℕ) (ds : List Deed) (e : Deed) → AreStamped links c ds →
+    IsStamped links (clock_after c ds) e → AreStamped links c (ds ++ e ∷ [])
+stamped-more links c [] e all is = (is, tt)
+stamped-more links c (d ∷ ds) e all is = (all.0, stamped-more links (stamp_of d) ds e all.1 is)
+
+-- over other links, over which the same came at least
+pub stamped-over : (links after : List LinkView) → ((c : ℕ) (d : Deed) → IsStamped links c d → IsStamped after c d) →
+    (c : ℕ) (ds : List Deed) → AreStamped links c ds → AreStamped after c ds
+stamped-over links after f c [] all = tt
+stamped-over links after f c (d ∷ ds) all = (f c d all.0, stamped-over links after f (stamp_of d) ds all.1)
 
 -- Logs
 
@@ -89,3 +123,37 @@ counted t n w (d ∷ ds) =
 
 pub logs-are-counted : LogsAreCounted
 logs-are-counted t n ds = counted t n (start t) ds ∙ omega arith
+
+-- an event is made where fewer than 50,000 were
+
+below : (a b : Bool) (k : ℕ) → (a && nat_lt k 50000) ≡ true → k < 50000
+below a b k h = grind (arith, h)
+
+below_more : (a b : Bool) (k : ℕ) → ((a && nat_lt k 50000) && b) ≡ true → k < 50000
+below_more a b k h = grind (arith, h)
+
+few_done : (t : Network) (n : NodeId) (w : World) (d : Deed) → w.made n.0 ≤ 50000 → IsDoable t n w d →
+    (done t n w d).made n.0 ≤ 50000
+few_done t n w (Ticked s) few may =
+    let lt = below (is_node_id t.nodes n) true (w.made n.0) may in
+    let one = made_by t n w (Ticked s) in omega (arith, lt, one)
+few_done t n w (Handled s) few may =
+    let lt = below_more (is_node_id t.nodes n) (has_first (w.desks n.0)) (w.made n.0) may in
+    let one = made_by t n w (Handled s) in omega (arith, lt, one)
+few_done t n w (Took s u k x) few may =
+    let lt = below_more (is_node_id t.nodes n) (is_channel t u n) (w.made n.0) may in
+    let one = made_by t n w (Took s u k x) in omega (arith, lt, one)
+few_done t n w (Heard s u bytes) few may =
+    let lt = below_more (is_node_id t.nodes n) (is_channel t u n) (w.made n.0) may.0 in
+    let one = made_by t n w (Heard s u bytes) in omega (arith, lt, one)
+few_done t n w (Posted s c) few may = let one = made_by t n w (Posted s c) in omega (arith, few, one)
+
+few_from : (t : Network) (n : NodeId) (w : World) (ds : List Deed) → w.made n.0 ≤ 50000 → AreDoable t n w ds →
+    (alone_from t n w ds).made n.0 ≤ 50000
+few_from t n w [] few may = few
+few_from t n w (d ∷ ds) few may = few_from t n (done t n w d) ds (few_done t n w d few may.0) may.1
+
+pub logs-are-few : LogsAreFew
+logs-are-few t n ds may =
+    let few : (alone_from t n (start t) ds).made n.0 ≤ 50000 = few_from t n (start t) ds (omega arith) may in
+    let all = logs-are-counted t n ds in omega (arith, few, all)

@@ -19,10 +19,10 @@ use Rattle.world_merge.specs.Deeds.{Deed, IsDoable, alone, done, stamp_of}
 use Rattle.world_merge.specs.Logs.{log_of}
 use Rattle.world_merge.proofs.Splitting.{alone-more}
 use Rattle.station_sound.specs.Links.{LinkView, after_frames}
-use Rattle.station_sound.specs.Parcels.{CameIn}
+use Rattle.station_sound.specs.Parcels.{AreStamped, CameIn, IsStamped}
 use Rattle.station_sound.specs.Stations.{IsSound, LinkIsSound, StationView}
-use Rattle.station_sound.proofs.Deeds.{doable-more, log-more, rises-more}
-use Rattle.station_sound.proofs.Linking.{all-below, kept-in, link-done, peers-kept}
+use Rattle.station_sound.proofs.Deeds.{clock-more, doable-more, log-more, rises-more, stamped-more, stamped-over}
+use Rattle.station_sound.proofs.Linking.{all-below, kept-in, kept-stamp, link-done, peers-kept}
 
 -- what one deed makes of the controller, the desk, and the world in which the node is alone
 pub record IsDone (w new : World) (n : NodeId) (c d : ControllerState) (desk : List DeskItem) (s : Stepped)
@@ -53,8 +53,9 @@ pub does : (t : Network) (n : NodeId) (ds : List Deed) (e : Deed) (old new : Sta
     (f : FloodState) (frames : List Frame) → IsSound t n ds old → stamp_of e ≡ new.clock → old.clock < new.clock →
     new.log ≡ old.log ++ log_of n (e ∷ []) → new.links ≡ map (after_frames new.clock frames) old.links →
     IsDone (alone t n ds) (done t n (alone t n ds) e) n old.controller new.controller new.desk s f frames →
-    IsDoable t n (alone t n ds) e → CameIn new.links e → IsSound t n (ds ++ e ∷ []) new
-does t n ds e old new s f frames sound stamp clock log links is may came = record {
+    IsDoable t n (alone t n ds) e → CameIn new.links e → IsStamped new.links old.clock e →
+    IsSound t n (ds ++ e ∷ []) new
+does t n ds e old new s f frames sound stamp clock log links is may came next = record {
   known = sound.known;
   node =
       subst (λ w. NodeStands t w n new.controller new.desk) (sym (alone-more t n (start t) ds (e ∷ [])))
@@ -70,6 +71,13 @@ does t n ds e old new s f frames sound stamp clock log links is may came = recor
   links = subst (AllByRecursion (LinkIsSound t n (ds ++ e ∷ []) new.clock)) (sym links) (all old.links sound.links);
   took = each-append (CameIn new.links) ds (e ∷ []) (subst (λ ls. AllByRecursion (CameIn ls) ds) (sym links) taken)
       (came, tt);
+  clock = sym stamp ∙ sym (clock-more 0 ds e);
+  stamped =
+      stamped-more new.links 0 ds e
+      (subst (λ ls. AreStamped ls 0 ds) (sym links) (stamped-over old.links (map (after_frames new.clock frames)
+      old.links)
+      (kept-stamp new.clock frames old.links) 0 ds sound.stamped))
+      (subst (λ c. IsStamped new.links c e) sound.clock next);
 }
   where
     later : old.clock < stamp_of e

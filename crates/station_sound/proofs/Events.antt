@@ -22,14 +22,14 @@ use Rattle.world_rules.proofs.Stepping.{contents-are-taken, items-are-handled, n
 use Rattle.world_merge.specs.Deeds.{Handled, Heard, Ticked, Took, alone}
 use Rattle.world_merge.proofs.Elsewhere.{IsKept, kept-delivered}
 use Rattle.station_sound.specs.Links.{LinkView}
-use Rattle.station_sound.specs.Parcels.{IsBroughtIn}
+use Rattle.station_sound.specs.Parcels.{IsBroughtIn, IsStampedBy}
 use Rattle.station_sound.specs.Steps.{FramesAreDeeds, HasReacted, ItemsAreDeeds, NoiseIsADeed, TicksAreDeeds}
 use Rattle.station_sound.proofs.Deeds.{made-once}
 use Rattle.station_sound.proofs.Doing.{able, does}
-use Rattle.station_sound.proofs.Linking.{kept-in}
+use Rattle.station_sound.proofs.Linking.{kept-in, kept-stamp}
 
 pub ticks-are-deeds : TicksAreDeeds
-ticks-are-deeds t n ds old new sound r desk =
+ticks-are-deeds t n ds old new sound r desk clock =
     does t n ds (Ticked new.clock) old new (after_tick c.node.place c.node.state c.adjacencies c.flood)
     (flood.ticked c.flood) r.frames sound refl r.clock r.log r.links
     (record {
@@ -43,7 +43,7 @@ ticks-are-deeds t n ds old new sound r desk =
           (ticks-are-ticked t w n c.node.state c.adjacencies sound.node.stands sound.node.hops));
       items = desk ∙ sound.node.desk;
       count = made-once w n;
-    }) (able t n ds old sound r.few) tt
+    }) (able t n ds old sound r.few) tt clock
   where
     c : ControllerState
     c = old.controller
@@ -55,7 +55,7 @@ both : (a b : Bool) → a ≡ true → b ≡ true → (a && b) ≡ true
 both a b e f = grind arith
 
 pub items-are-deeds : ItemsAreDeeds
-items-are-deeds t n ds i old new sound r desk =
+items-are-deeds t n ds i old new sound r desk clock =
     does t n ds (Handled new.clock) old new
     (controllers.handled c.node.place (meaning c.node c.adjacencies) i) c.flood r.frames
     sound refl r.clock r.log r.links
@@ -72,7 +72,7 @@ items-are-deeds t n ds i old new sound r desk =
           sym (ap (drop 1) items)
           ∙ sym (ap (λ b. cond b (drop 1 (w.desks n.0)) (w.desks n.0)) (self_test n.0));
       count = made-once w n;
-    }) (both (may_act t w n) (has_first (w.desks n.0)) (able t n ds old sound r.few) (ap has_first items)) tt
+    }) (both (may_act t w n) (has_first (w.desks n.0)) (able t n ds old sound r.few) (ap has_first items)) tt clock
   where
     c : ControllerState
     c = old.controller
@@ -115,7 +115,7 @@ frames-are-deeds t n ds old new l p x sound d =
       items = d.desk ∙ sound.node.desk ∙ sym kept.desk;
       count = kept.made ∙ made-once w n;
     }) (both (may_act t w n) (is_channel t l.peer n) (able t n ds old sound r.few)
-    (channel_back t n old.links l sound.peers d.link)) came
+    (channel_back t n old.links l sound.peers d.link)) came stamped
   where
     c : ControllerState
     c = old.controller
@@ -144,8 +144,24 @@ frames-are-deeds t n ds old new l p x sound d =
         subst (IsBroughtIn new.clock l.peer p.number x) (sym r.links)
         (kept-in new.clock r.frames old.links (Took new.clock l.peer p.number x) here)
 
+    before : IsStampedBy new.clock old.clock l.peer p.number old.links
+    before = record {
+      link = l;
+      there = d.link;
+      peer = refl;
+      parcel = p;
+      came = d.came;
+      number = refl;
+      stamp = d.clock;
+    }
+
+    stamped : IsStampedBy new.clock old.clock l.peer p.number new.links
+    stamped =
+        subst (IsStampedBy new.clock old.clock l.peer p.number) (sym r.links)
+        (kept-stamp new.clock r.frames old.links old.clock (Took new.clock l.peer p.number x) before)
+
 pub noise-is-a-deed : NoiseIsADeed
-noise-is-a-deed t n ds old new l bytes sound h =
+noise-is-a-deed t n ds old new l bytes sound h clock =
     does t n ds (Heard new.clock l.peer bytes) old new (unmoved (meaning c.node c.adjacencies)) c.flood
     h.reacted.frames sound refl h.reacted.clock h.reacted.log h.reacted.links
     (record {
@@ -161,7 +177,7 @@ noise-is-a-deed t n ds old new l bytes sound h =
       both (may_act t w n) (is_channel t l.peer n) (able t n ds old sound h.reacted.few)
           (channel_back t n old.links l sound.peers h.link),
       h.nothing,
-    ) tt
+    ) tt clock
   where
     c : ControllerState
     c = old.controller

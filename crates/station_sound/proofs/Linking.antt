@@ -1,5 +1,6 @@
 -- The links of a station after one deed more.
-use Rattle.std.proofs.Common.{◌≡◌, ◌<◌, ◌≤◌, ◌+◌, ℕ, Bool, true, false, cond, List, [], ◌∷◌, ◌++◌, length, map, refl}
+use Rattle.std.proofs.Common.{◌≡◌, ◌<◌, ◌≤◌, ◌+◌, ℕ, zero, suc, Bool, true, false, cond, List, [], ◌∷◌, ◌++◌, length}
+use Rattle.std.proofs.Common.{map, refl}
 use Rattle.std.proofs.Common.{sym, ap, ◌∙◌, subst, arith}
 use Rattle.std.specs.Prelude.{Some}
 use Rattle.std.specs.List.{AllByRecursion, Contains}
@@ -10,22 +11,57 @@ use Rattle.flood.specs.declared.frames.Content.{Content}
 use Rattle.flood.specs.Frames.{IsFrame, frame_bytes}
 use Rattle.flood.specs.State.{FloodState}
 use Rattle.flood.proofs.Members.{there_map}
-use Rattle.hop_reliable.proofs.Members.{each-append, each-more}
+use Rattle.hop_reliable.proofs.Members.{each-append, each-more, get_within}
 use Rattle.control_channels.specs.declared.frames.Frame.{Frame}
 use Rattle.control_channels.specs.Controllers.{Stepped}
 use Rattle.control_channels.specs.Frames.{Sending, frames_to}
 use Rattle.world_rules.specs.Standing.{IsStepOf, contents_to}
 use Rattle.world_rules.specs.Worlds.{World, numbered_at, start}
-use Rattle.world_merge.specs.Deeds.{Deed, Handled, Heard, Posted, Ticked, Took, alone, done, sent_by, stamp_of, upto}
+use Rattle.world_merge.specs.Deeds.{Deed, Handled, Heard, Posted, Ticked, Took, alone, alone_from, done, sent_by}
+use Rattle.world_merge.specs.Deeds.{stamp_of, upto}
+use Rattle.world_merge.proofs.Growing.{deeds-grow}
 use Rattle.world_merge.proofs.Splitting.{alone-more}
+use Rattle.world_merge.proofs.Stamps.{longer, sent-now, sent-stays}
 use Rattle.station_sound.specs.declared.parcels.Parcel.{Parcel}
 use Rattle.station_sound.specs.Links.{LinkView, after_frames, is_to, with_parcel}
-use Rattle.station_sound.specs.Parcels.{CameIn, IsBroughtBy, IsSentOf}
+use Rattle.station_sound.specs.Parcels.{CameIn, IsBroughtBy, IsSentOf, IsStamped}
 use Rattle.station_sound.specs.Stations.{LinkIsSound}
-use Rattle.station_sound.proofs.Deeds.{upto-all, upto-more}
+use Rattle.station_sound.proofs.Deeds.{UptoRest, upto-all, upto-more, upto-rest}
 use Rattle.station_sound.proofs.Sending.{IsNew, IsSentAll, all-sent, sends-all, spelled-to, with_all}
 
 -- What was sent
+
+-- what is at a number is there
+numbered_within : (cs : List Content) (k : ℕ) (x : Content) → numbered_at cs k ≡ Some x → (0 < k) × (k ≤ length cs)
+numbered_within cs zero x is = absurd (cc (is))
+numbered_within cs (suc k) x is = let below = get_within cs k x is in (omega arith, omega (arith, below))
+
+-- it was there by a stamp, so it is when all is done
+numbered_all : (t : Network) (n : NodeId) (ds : List Deed) (s k : ℕ) (d : NodeId) (x : Content) →
+    numbered_at (sent_by t n (upto s ds) d.0) k ≡ Some x → (0 < k) × (k ≤ length (sent_by t n ds d.0))
+numbered_all t n ds s k d x is = (within.0, omega (arith, inner, more, all_is))
+  where
+    within : (0 < k) × (k ≤ length (sent_by t n (upto s ds) d.0))
+    within = numbered_within (sent_by t n (upto s ds) d.0) k x is
+
+    inner : k ≤ length (sent_by t n (upto s ds) d.0)
+    inner = within.1
+
+    rest : UptoRest s ds
+    rest = upto-rest s ds
+
+    grown : World
+    grown = alone_from t n (alone t n (upto s ds)) rest.rest
+
+    more : length (sent_by t n (upto s ds) d.0) ≤ length (grown.channels n.0 d.0)
+    more =
+        longer (sent_by t n (upto s ds) d.0) (grown.channels n.0 d.0)
+        (deeds-grow t n (alone t n (upto s ds)) rest.rest n.0 d.0)
+
+    all_is : length (sent_by t n ds d.0) ≡ length (grown.channels n.0 d.0)
+    all_is =
+        ap (λ xs. length (sent_by t n xs d.0)) rest.all
+        ∙ ap (λ (w : World). length (w.channels n.0 d.0)) (alone-more t n (start t) (upto s ds) rest.rest)
 
 -- a parcel was sent by what was done, and so it is when more is done
 pub kept-sent : (t : Network) (n : NodeId) (ds : List Deed) (e : Deed) (d : NodeId) (c : ℕ) (p : Parcel) →
@@ -35,6 +71,9 @@ kept-sent t n ds e d c p lt le is = record {
   there =
       subst (λ xs. numbered_at (sent_by t n xs d.0) p.number ≡ Some is.content)
       (sym (upto-more p.stamp ds e (omega (arith, lt, le)))) is.there;
+  exact =
+      let within = numbered_all t n ds p.stamp p.number d is.content is.there in
+      is.exact ∙ sym (sent-stays t n d.0 p.number ds e within.0 within.1);
   spells = is.spells;
 }
 
@@ -83,11 +122,14 @@ link-done t n ds e c s f frames l below lt world made spelled is =
     channel = ap (λ (w : World). w.channels n.0 l.peer.0) (alone-more t n (start t) ds (e ∷ []))
         ∙ world.channels l.peer.0
 
-    new : (p : Parcel) → IsNew (sent_by t n after l.peer.0) (stamp_of e) p → P p
+    new : (p : Parcel) → IsNew (length (sent_by t n ds l.peer.0)) (sent_by t n after l.peer.0) (stamp_of e) p → P p
     new p h = (
       record {
         content = h.content;
         there = subst (λ xs. numbered_at (sent_by t n xs l.peer.0) p.number ≡ Some h.content) (sym whole) h.there;
+        exact =
+            h.stamp_is ∙ sym (sent-now t n l.peer.0 p.number ds e h.later (numbered_within (sent_by t n after l.peer.0)
+            p.number h.content h.there).1);
         spells = h.spells;
       },
       omega (arith, h.stamp_is),
@@ -98,8 +140,9 @@ link-done t n ds e c s f frames l below lt world made spelled is =
 
     all : IsSentAll P (length (sent_by t n ds l.peer.0) + length more) l sent
     all =
-        sends-all P n (stamp_of e) more (length (sent_by t n ds l.peer.0)) (sent_by t n ds l.peer.0)
-        (sent_by t n after l.peer.0) l refl channel (spelled-to n l.peer.0 s.sendings spelled) new is.numbers
+        sends-all P n (stamp_of e) (length (sent_by t n ds l.peer.0)) more (length (sent_by t n ds l.peer.0))
+        (sent_by t n ds l.peer.0) (sent_by t n after l.peer.0) l (omega arith) refl channel
+        (spelled-to n l.peer.0 s.sendings spelled) new is.numbers
         (before l.gone is.sent is.old)
 
     counted : length (sent_by t n ds l.peer.0) + length more ≡ length (sent_by t n after l.peer.0)
@@ -148,3 +191,20 @@ kept-in stamp fs links (Ticked s) is = tt
 kept-in stamp fs links (Handled s) is = tt
 kept-in stamp fs links (Heard s u bytes) is = tt
 kept-in stamp fs links (Posted s c) is = tt
+
+-- the stamps of what was taken are those of what came, as before
+pub kept-stamp : (stamp : ℕ) (fs : List Frame) (links : List LinkView) (c : ℕ) (d : Deed) → IsStamped links c d →
+    IsStamped (map (after_frames stamp fs) links) c d
+kept-stamp stamp fs links c (Took s u k x) is = record {
+  link = after_frames stamp fs is.link;
+  there = there_map (after_frames stamp fs) links is.link is.there;
+  peer = (kept-link stamp fs is.link).peer ∙ is.peer;
+  parcel = is.parcel;
+  came = subst (λ ps. Contains ps is.parcel) (sym (kept-link stamp fs is.link).came) is.came;
+  number = is.number;
+  stamp = is.stamp;
+}
+kept-stamp stamp fs links c (Ticked s) is = is
+kept-stamp stamp fs links c (Handled s) is = is
+kept-stamp stamp fs links c (Heard s u bytes) is = is
+kept-stamp stamp fs links c (Posted s x) is = tt

@@ -1,5 +1,6 @@
 -- What a link is after frames were sent over it.
-use Rattle.std.proofs.Common.{◌≡◌, ◌+◌, ℕ, suc, Bool, true, false, cond, nat_eq, nat_lt, List, [], ◌∷◌, ◌++◌, length}
+use Rattle.std.proofs.Common.{◌≡◌, ◌<◌, ◌≤◌, ◌+◌, ℕ, suc, Bool, true, false, cond, nat_eq, nat_lt, List, [], ◌∷◌}
+use Rattle.std.proofs.Common.{◌++◌, length}
 use Rattle.std.proofs.Common.{map, filter, refl, sym, ap, ◌∙◌, subst, arith, append_assoc}
 use Rattle.std.specs.Prelude.{slice_get, Some}
 use Rattle.std.specs.List.{AllByRecursion}
@@ -57,9 +58,10 @@ spelled-to me d (s ∷ ss) all = go (nat_eq s.to.0 d) (spelled-to me d ss all.1)
     go true rest = (all.0, rest)
     go false rest = rest
 
--- a new parcel: with this stamp, and the frame of its number in these contents
-pub record IsNew (contents : List Content) (stamp : ℕ) (p : Parcel) : Type 0 where
+-- a new parcel: with this stamp, and the frame of its number in these contents, of which so many were sent before
+pub record IsNew (before : ℕ) (contents : List Content) (stamp : ℕ) (p : Parcel) : Type 0 where
   pub stamp_is : p.stamp ≡ stamp
+  pub later : before < p.number
   pub content : Content
   pub there : numbered_at contents p.number ≡ Some content
   pub spells : IsFrame p.frame content
@@ -82,17 +84,17 @@ numbered_end base rest c n same =
     subst (λ k. numbered_at (base ++ c ∷ rest) k ≡ Some c) next (at_end base rest c)
 
 -- What is so of each new parcel and was so of those before is so of all.
-pub sends-all : (P : Parcel → Type 0) (me : NodeId) (stamp : ℕ) (ps : List Content) (n : ℕ)
-    (base contents : List Content) (l : LinkView) → length base ≡ n → contents ≡ base ++ ps → AreSpelled me ps →
-    ((p : Parcel) → IsNew contents stamp p → P p) → l.sent ≡ n → AllByRecursion P l.gone →
+pub sends-all : (P : Parcel → Type 0) (me : NodeId) (stamp before : ℕ) (ps : List Content) (n : ℕ)
+    (base contents : List Content) (l : LinkView) → before ≤ n → length base ≡ n → contents ≡ base ++ ps →
+    AreSpelled me ps → ((p : Parcel) → IsNew before contents stamp p → P p) → l.sent ≡ n → AllByRecursion P l.gone →
     IsSentAll P (n + length ps) l (with_all me stamp ps l)
-sends-all P me stamp [] n base contents l same whole spelled new sent gone =
+sends-all P me stamp before [] n base contents l past same whole spelled new sent gone =
     record { sent = omega (arith, sent); gone = gone; peer = refl; came = refl }
-sends-all P me stamp (p ∷ ps) n base contents l same whole spelled new sent gone =
+sends-all P me stamp before (p ∷ ps) n base contents l past same whole spelled new sent gone =
     let rest =
-    sends-all P me stamp ps (n + 1) (base ++ p ∷ []) contents (with_parcel stamp (frame_bytes me p) l)
-    (rw length-append (ap (λ k. k + 1) same)) (whole ∙ sym (append_assoc base (p ∷ []) ps)) spelled.1 new
-    (ap (λ k. k + 1) sent) (put (nat_lt l.standing 256)) in
+    sends-all P me stamp before ps (n + 1) (base ++ p ∷ []) contents (with_parcel stamp (frame_bytes me p) l)
+    (omega (arith, past)) (rw length-append (ap (λ k. k + 1) same)) (whole ∙ sym (append_assoc base (p ∷ []) ps))
+    spelled.1 new (ap (λ k. k + 1) sent) (put (nat_lt l.standing 256)) in
     record { sent = rest.sent ∙ counted; gone = rest.gone; peer = rest.peer; came = rest.came }
   where
     counted : (n + 1) + length ps ≡ n + suc (length ps)
@@ -104,6 +106,7 @@ sends-all P me stamp (p ∷ ps) n base contents l same whole spelled new sent go
     is : P parcel
     is = new parcel (record {
       stamp_is = refl;
+      later = omega (arith, past, sent);
       content = p;
       there =
           ap (λ k. numbered_at contents (k + 1)) sent ∙ ap (λ cs. numbered_at cs (n + 1)) whole

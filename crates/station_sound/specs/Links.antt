@@ -42,11 +42,10 @@ after_frames stamp (f ∷ fs) l = after_frames stamp fs (after_frame stamp f l)
 
 -- Listening
 
--- frames came out of the ring, and nothing else differs
+-- frames came out of the ring, and nothing else differs but how many stand in the ring back
 pub record HasGot (before after : LinkView) : Type 0 where
   pub peer : after.peer ≡ before.peer
   pub sent : after.sent ≡ before.sent
-  pub standing : after.standing ≡ before.standing
   pub gone : after.gone ≡ before.gone
   pub more : List Parcel
   pub came : after.came ≡ before.came ++ more

@@ -1,5 +1,5 @@
 -- What is so of the parcels that a station sent, and of those that it delivered.
-use Rattle.std.specs.Prelude.{◌≡◌, ◌<◌, ℕ, List, Some}
+use Rattle.std.specs.Prelude.{◌≡◌, ◌<◌, ◌+◌, ℕ, max, List, [], ◌∷◌, fold, Some}
 use Rattle.std.specs.List.{Contains}
 use Rattle.ason_base.specs.declared.ids.NodeId.{NodeId}
 use Rattle.ason_base.specs.Network.{Network}
@@ -7,15 +7,17 @@ use Rattle.wire_buf.specs.Codecs.{HasOneMeaning}
 use Rattle.flood.specs.declared.frames.Content.{Content}
 use Rattle.flood.specs.Frames.{IsFrame}
 use Rattle.world_rules.specs.Worlds.{numbered_at}
-use Rattle.world_merge.specs.Deeds.{Deed, Handled, Heard, Posted, Ticked, Took, sent_by, upto}
+use Rattle.world_merge.specs.Deeds.{Deed, Handled, Heard, Posted, Ticked, Took, sent_by, stamp_of, upto}
+use Rattle.world_merge.specs.Stamps.{sent_stamp}
 use Rattle.station_sound.specs.declared.parcels.Parcel.{Parcel}
 use Rattle.station_sound.specs.Links.{LinkView}
 
--- The parcel is the frame of its number among all that the node n sent to d, and it was there once n had done what it
--- did up to the parcel's stamp.
+-- The parcel is the frame of its number among all that the node n sent to d, it was there once n had done what it did
+-- up to the parcel's stamp, and that is the stamp of the deed that sent it.
 pub record IsSentOf (t : Network) (n : NodeId) (deeds : List Deed) (d : NodeId) (p : Parcel) : Type 0 where
   pub content : Content
   pub there : numbered_at (sent_by t n (upto p.stamp deeds) d.0) p.number ≡ Some content
+  pub exact : p.stamp ≡ sent_stamp t n deeds d.0 p.number
   pub spells : IsFrame p.frame content
 
 -- The parcel is the frame of this number, bears this and nothing else, and was sent before this stamp.
@@ -44,3 +46,33 @@ CameIn links (Ticked s) = Unit {0}
 CameIn links (Handled s) = Unit {0}
 CameIn links (Heard s u bytes) = Unit {0}
 CameIn links (Posted s c) = Unit {0}
+
+-- Stamps
+
+-- a parcel with this number came from this neighbour, and the stamp is one more than the greater of clock and its own
+pub record IsStampedBy (s c : ℕ) (u : NodeId) (k : ℕ) (links : List LinkView) : Type 0 where
+  pub link : LinkView
+  pub there : Contains links link
+  pub peer : link.peer ≡ u
+  pub parcel : Parcel
+  pub came : Contains link.came parcel
+  pub number : parcel.number ≡ k
+  pub stamp : s ≡ max c parcel.stamp + 1
+
+-- Of a deed that comes where the clock is this: a tick, an item and noise have the next stamp, a frame one that is
+-- later than its own too, and a post whichever later one.
+abbrev pub IsStamped : List LinkView → ℕ → Deed → Type 0
+IsStamped links c (Ticked s) = s ≡ c + 1
+IsStamped links c (Handled s) = s ≡ c + 1
+IsStamped links c (Took s u k x) = IsStampedBy s c u k links
+IsStamped links c (Heard s u bytes) = s ≡ c + 1
+IsStamped links c (Posted s x) = Unit {0}
+
+-- each where it comes
+abbrev pub AreStamped : List LinkView → ℕ → List Deed → Type 0
+AreStamped links c [] = Unit {0}
+AreStamped links c (d ∷ ds) = IsStamped links c d × AreStamped links (stamp_of d) ds
+
+-- the stamp of the last of these, or the clock before them
+abbrev pub clock_after : ℕ → List Deed → ℕ
+clock_after c ds = fold (λ (s : ℕ) (d : Deed). stamp_of d) c ds

@@ -13,7 +13,7 @@ use Rattle.world_merge.specs.Deeds.{AreDoable, Deed, alone, sent_by, stamp_of}
 use Rattle.world_merge.specs.Logs.{RisesAbove, log_of}
 use Rattle.station_sound.specs.declared.parcels.Parcel.{Parcel}
 use Rattle.station_sound.specs.Links.{LinkView}
-use Rattle.station_sound.specs.Parcels.{CameIn, IsSentOf}
+use Rattle.station_sound.specs.Parcels.{AreStamped, CameIn, IsSentOf, clock_after}
 
 pub record StationView : Type 0 where
   pub controller : ControllerState
@@ -29,8 +29,8 @@ pub record LinkIsSound (t : Network) (n : NodeId) (deeds : List Deed) (clock : �
   pub sent : AllByRecursion (IsSentOf t n deeds l.peer) l.gone
   pub old : AllByRecursion (λ (p : Parcel). p.stamp ≤ clock) l.gone
 
--- Controller and desk are those of the node where it was alone and did this, the log is that of the deeds, no stamp is
--- above the clock, and the links lead to the neighbours.
+-- Controller and desk are those of the node where it was alone and did this, the log is that of the deeds, the clock is
+-- the stamp of the last of them, no stamp is above it, and the links lead to the neighbours.
 pub record IsSound (t : Network) (n : NodeId) (deeds : List Deed) (s : StationView) : Type 0 where
   pub known : is_node_id t.nodes n ≡ true
   pub node : NodeStands t (alone t n deeds) n s.controller s.desk
@@ -41,6 +41,13 @@ pub record IsSound (t : Network) (n : NodeId) (deeds : List Deed) (s : StationVi
   pub peers : map (λ (l : LinkView). l.peer) s.links ≡ neighbours t n
   pub links : AllByRecursion (LinkIsSound t n deeds s.clock) s.links
   pub took : AllByRecursion (CameIn s.links) deeds
+  pub clock : s.clock ≡ clock_after 0 deeds
+  pub stamped : AreStamped s.links 0 deeds
 
 abbrev pub LogsAreCounted : Type 0
 LogsAreCounted = (t : Network) (n : NodeId) (deeds : List Deed) → (alone t n deeds).made n.0 ≡ length (log_of n deeds)
+
+-- a log has 50,000 lines at most
+abbrev pub LogsAreFew : Type 0
+LogsAreFew =
+    (t : Network) (n : NodeId) (deeds : List Deed) → AreDoable t n (start t) deeds → length (log_of n deeds) ≤ 50000

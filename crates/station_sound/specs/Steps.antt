@@ -1,5 +1,5 @@
 -- What happens to a station, as its code makes it, and the deed that this is.
-use Rattle.std.specs.Prelude.{◌≡◌, ◌<◌, ℕ, List, [], ◌∷◌, ◌++◌, map, Some}
+use Rattle.std.specs.Prelude.{◌≡◌, ◌<◌, ◌+◌, ℕ, max, List, [], ◌∷◌, ◌++◌, map, Some}
 use Rattle.std.specs.List.{AllZip, Contains}
 use Rattle.ason_base.specs.declared.ids.NodeId.{NodeId}
 use Rattle.ason_base.specs.declared.commands.Command.{Command}
@@ -34,12 +34,13 @@ pub record HasReacted (n : NodeId) (old new : StationView) (i : CoreInput) (e : 
 abbrev pub TicksAreDeeds : Type 0
 TicksAreDeeds =
     (t : Network) (n : NodeId) (deeds : List Deed) (old new : StationView) → IsSound t n deeds old →
-    HasReacted n old new input.Tick (Tick n) → new.desk ≡ old.desk → IsSound t n (deeds ++ Ticked new.clock ∷ []) new
+    HasReacted n old new input.Tick (Tick n) → new.desk ≡ old.desk → new.clock ≡ old.clock + 1 →
+    IsSound t n (deeds ++ Ticked new.clock ∷ []) new
 
 abbrev pub ItemsAreDeeds : Type 0
 ItemsAreDeeds =
     (t : Network) (n : NodeId) (deeds : List Deed) (i : DeskItem) (old new : StationView) → IsSound t n deeds old →
-    HasReacted n old new (input.Desk i) (Desk n) → old.desk ≡ i ∷ new.desk →
+    HasReacted n old new (input.Desk i) (Desk n) → old.desk ≡ i ∷ new.desk → new.clock ≡ old.clock + 1 →
     IsSound t n (deeds ++ Handled new.clock ∷ []) new
 
 -- A parcel that came over the link is delivered, now or again. By the new clock it was sent before.
@@ -47,6 +48,7 @@ pub record IsDelivery (n : NodeId) (old new : StationView) (l : LinkView) (p : P
   pub link : Contains old.links l
   pub came : Contains l.came p
   pub brought : IsBrought new.clock p.number x p
+  pub clock : new.clock ≡ max old.clock p.stamp + 1
   pub reacted : HasReacted n old new (input.Frame l.peer p.frame) (Deliver n l.peer p.number)
   pub desk : new.desk ≡ old.desk
 
@@ -66,7 +68,8 @@ pub record IsNoise (n : NodeId) (old new : StationView) (l : LinkView) (bytes : 
 abbrev pub NoiseIsADeed : Type 0
 NoiseIsADeed =
     (t : Network) (n : NodeId) (deeds : List Deed) (old new : StationView) (l : LinkView) (bytes : List ℕ) →
-    IsSound t n deeds old → IsNoise n old new l bytes → IsSound t n (deeds ++ Heard new.clock l.peer bytes ∷ []) new
+    IsSound t n deeds old → IsNoise n old new l bytes → new.clock ≡ old.clock + 1 →
+    IsSound t n (deeds ++ Heard new.clock l.peer bytes ∷ []) new
 
 -- Beside the events of the node
 

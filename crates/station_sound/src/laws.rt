@@ -1,14 +1,14 @@
 //! Laws of stations.
 
 ghost use Rattle.station_sound.specs.Joins.{JoinedAreHistories};
-ghost use Rattle.station_sound.specs.Stations.{LogsAreCounted};
+ghost use Rattle.station_sound.specs.Stations.{LogsAreCounted, LogsAreFew};
 ghost use Rattle.station_sound.specs.Steps.{FramesAreDeeds, ItemsAreDeeds, ListeningIsNoDeed};
 ghost use Rattle.station_sound.specs.Steps.{NoiseIsADeed, PostsAreDeeds, TicksAreDeeds};
 
 /// A station is sound by a list of what its node did where it is what the node makes alone by doing this (`IsSound`).
 /// A tick, an item, a frame that came from a neighbour, noise and a post are one deed more each; frames that come out
 /// of a ring are none. Nothing is asked of other stations, nor of what they do meanwhile. A log has as many lines as
-/// its node made events.
+/// its node made events, and 50,000 at most.
 pub fn every_event()
     ensures tick { TicksAreDeeds }
     ensures item { ItemsAreDeeds }
@@ -17,6 +17,7 @@ pub fn every_event()
     ensures post { PostsAreDeeds }
     ensures listening { ListeningIsNoDeed }
     ensures count { LogsAreCounted }
+    ensures few { LogsAreFew }
 {}
 
 /// Where each station is sound, and what came out of each ring is a beginning of what the other end's station put

@@ -11,3 +11,4 @@ pub mod Picking
 pub mod Posting
 pub mod Sendings
 pub mod Splitting
+pub mod Stamps

@@ -10,7 +10,6 @@ use Rattle.world_merge.specs.Histories.{AreHistories, Histories, at}
 use Rattle.world_merge.specs.Logs.{line_of}
 use Rattle.world_merge.specs.Merges.{Agrees, Ascends, EveryMergeIsARun, assembled, concerns, events_of}
 use Rattle.world_merge.proofs.Agreeing.{agrees-self}
-use Rattle.world_merge.proofs.Elsewhere.{event}
 use Rattle.world_merge.proofs.Splitting.{Fits, left, moved, next}
 use Rattle.world_merge.proofs.NextLine.{one-step}
 

@@ -5,7 +5,6 @@ use Rattle.ason_base.specs.declared.ids.NodeId.{NodeId}
 use Rattle.ason_base.specs.declared.commands.Entry.{Entry}
 use Rattle.ason_base.specs.Network.{Network}
 use Rattle.world_rules.specs.Worlds.{World}
-use Rattle.world_rules.specs.Runs.{after}
 use Rattle.world_merge.specs.Deeds.{AreDoable, Deed, Handled, Heard, IsDoable, Posted, Ticked, Took, alone, alone_from}
 use Rattle.world_merge.specs.Deeds.{done, stamp_of, upto}
 use Rattle.world_merge.specs.Histories.{AreGenuine, Histories, IsGenuine, at}

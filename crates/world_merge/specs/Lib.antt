@@ -5,3 +5,4 @@ pub mod Merges
 pub mod Orders
 pub mod Picking
 pub mod Posts
+pub mod Stamps

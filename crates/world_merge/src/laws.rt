@@ -4,6 +4,7 @@ ghost use Rattle.world_merge.specs.Merges.{EveryMergeIsARun};
 ghost use Rattle.world_merge.specs.Orders.{SortingMerges};
 ghost use Rattle.world_merge.specs.Picking.{PickingSorts};
 ghost use Rattle.world_merge.specs.Posts.{PostsTellTheRest};
+ghost use Rattle.world_merge.specs.Stamps.{SentNow, SentStays};
 
 /// Each node has a list of what happened there, with stamps. Where each of these was possible with the node alone,
 /// and each frame that was taken had been sent with a lower stamp, every merge of the lists by their stamps is a run
@@ -16,4 +17,10 @@ pub fn every_merge()
     ensures sorted { SortingMerges }
     ensures picked { PickingSorts }
     ensures posts { PostsTellTheRest }
+{}
+
+/// The stamp with which a frame was sent is that of the deed that sent it, whatever its node does later.
+pub fn every_stamp()
+    ensures now { SentNow }
+    ensures later { SentStays }
 {}

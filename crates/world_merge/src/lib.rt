@@ -3,4 +3,4 @@
 
 pub mod laws;
 
-pub use laws::every_merge;
+pub use laws::{every_merge, every_stamp};

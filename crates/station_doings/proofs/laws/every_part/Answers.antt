@@ -1,5 +1,6 @@
 use Rattle.station_doings.proofs.Standing.{deliveries-stand, freeing-stands, holding-stands, items-stand}
-use Rattle.station_doings.proofs.Standing.{leaving-stands, listening-stands, losing-stands, taking-stands, ticks-stand}
+use Rattle.station_doings.proofs.Standing.{leaving-stands, listening-stands, losing-stands, noise-stands}
+use Rattle.station_doings.proofs.Standing.{posts-stand, taking-stands, ticks-stand}
 use Rattle.station_doings.proofs.laws.every_part.Goals as goal
 
 pub returns : goal.returns
@@ -13,4 +14,6 @@ returns c = record {
   delivering = deliveries-stand;
   losing = losing-stands;
   leaving = leaving-stands;
+  noise = noise-stands;
+  post = posts-stand;
 }

@@ -1,5 +1,5 @@
 use Rattle.station_sound.proofs.Besides.{listening-is-no-deed, posts-are-deeds}
-use Rattle.station_sound.proofs.Deeds.{logs-are-counted}
+use Rattle.station_sound.proofs.Deeds.{logs-are-counted, logs-are-few}
 use Rattle.station_sound.proofs.Events.{frames-are-deeds, items-are-deeds, noise-is-a-deed, ticks-are-deeds}
 use Rattle.station_sound.proofs.laws.every_event.Goals as goal
 
@@ -12,4 +12,5 @@ returns c = record {
   post = posts-are-deeds;
   listening = listening-is-no-deed;
   count = logs-are-counted;
+  few = logs-are-few;
 }

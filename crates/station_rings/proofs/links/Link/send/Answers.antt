@@ -16,6 +16,8 @@ invariant_of-self c = record {
       subst (AllByRecursion (λ (p : Parcel). p.number ≤ c.self.inside.sent + 1)) (sym c.put.ensures.gone)
       (all-then (λ (p : Parcel). p.number ≤ c.self.inside.sent + 1) _ _
       (numbers-below c.self.inside.sent _ c.self.invariant.numbers) (omega arith));
+  early_few = c.self.invariant.early_few;
+  bears = c.self.invariant.bears;
 }
 
 pub invariant_of-self-else-self-lt-MOST_FRAMES : goal.invariant_of-self-else-self-lt-MOST_FRAMES
@@ -24,6 +26,8 @@ invariant_of-self-else-self-lt-MOST_FRAMES c = record {
   most = c.self.invariant.most;
   order = c.self.invariant.order;
   numbers = numbers-below c.self.inside.sent _ c.self.invariant.numbers;
+  early_few = c.self.invariant.early_few;
+  bears = c.self.invariant.bears;
 }
 
 pub returns-else-self-lt-MOST_FRAMES-clause-sent : goal.returns-else-self-lt-MOST_FRAMES-clause-sent

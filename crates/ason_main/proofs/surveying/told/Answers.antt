@@ -1,0 +1,29 @@
+use Rattle.std.proofs.Common.{subst, ◌∙◌}
+use Rattle.std.specs.Prelude.{◌↔◌, IsTrue}
+use Rattle.ason_base.proofs.Results.{if_ok}
+use Rattle.station.specs.Histories.{world_after}
+use Rattle.table_text.specs.SurveyText.{survey_text}
+use Rattle.ason_main.specs.Surveys.{IsCalmWorld}
+use Rattle.ason_main.proofs.SurveyRuns.{tells_survey}
+use Rattle.ason_main.proofs.surveying.told.Goals as goal
+
+pub returns : goal.returns
+returns c =
+    let p = c.args.plan.now in
+    let calm = c.is_calm-calm.result in
+    let hits = c.items-2.ensures ∙ c.in_ok-survey.ensures.hits in
+    let contends = c.items-3.ensures ∙ c.in_ok-survey.ensures.contends in
+    if_ok c.survey_text.result _ _
+    (λ text told.
+    tells_survey p c.args.fleet.now c.in_ok-rows.field-0 c.in_ok-rows-2.rows calm text.items
+    (record { calls = c.in_ok-rows.ensures.calls; legs = c.in_ok-rows.ensures.legs })
+    (record {
+      same_calls = c.in_ok-rows-2.ensures.same_calls;
+      calls = c.in_ok-rows-2.ensures.calls;
+      same_legs = c.in_ok-rows-2.ensures.same_legs;
+      legs = c.in_ok-rows-2.ensures.legs;
+    })
+    (λ t h stands. subst (λ legs. IsTrue calm ↔ IsCalmWorld (world_after t h) legs) c.items.ensures
+    (c.is_calm-calm.ensures t h stands))
+    (told ∙ (λ i. survey_text p calm (hits i) (contends i))))
+    c.survey_text.ensures

@@ -1,0 +1,258 @@
+-- No clock of a fleet is above the number of all that happened.
+use Rattle.std.proofs.Common.{◌≡◌, ◌≤◌, ◌<◌, ◌+◌, ℕ, zero, suc, Bool, true, false, cond, nat_eq, nat_le, List, [], ◌∷◌}
+use Rattle.std.proofs.Common.{length, map, refl, sym, ap, ◌∙◌, subst, arith, inl, inr}
+use Rattle.std.specs.Prelude.{◌⊎◌, max, Some}
+use Rattle.std.specs.List.{AllByRecursion, AllZip, Contains, flat_map}
+use Rattle.std.proofs.lemmas.List.{length-map}
+use Rattle.std.proofs.lemmas.List.Elements.{Contains-append_left, Contains-append_right}
+use Rattle.ason_base.specs.declared.ids.NodeId.{NodeId}
+use Rattle.ason_base.specs.declared.commands.Disturb.{Disturb}
+use Rattle.ason_base.specs.Network.{Network, is_node_id}
+use Rattle.ason_base.proofs.Ordered.{any-there, contains-cases, contains-head, contains-none, contains-tail, there-any}
+use Rattle.flood.specs.declared.frames.Content.{Content}
+use Rattle.flood.proofs.Members.{there_from_flat_map, there_from_map, there_map}
+use Rattle.hop_reliable.proofs.Members.{get_within}
+use Rattle.world_rules.specs.Runs.{is_channel, neighbours}
+use Rattle.world_rules.specs.Worlds.{World, numbered_at, start}
+use Rattle.fleet_rounds.proofs.Numbers.{same_number}
+use Rattle.world_rules.proofs.Stepping.{self_test}
+use Rattle.world_merge.specs.Deeds.{Deed, Handled, Heard, Posted, Ticked, Took, alone_from, done, sent_by, stamp_of}
+use Rattle.world_merge.specs.Stamps.{sent_stamp, sent_stamp_from}
+use Rattle.station_sound.specs.declared.parcels.Parcel.{Parcel}
+use Rattle.station_sound.specs.Links.{LinkView}
+use Rattle.station_sound.specs.Parcels.{AreStamped, IsSentOf, clock_after}
+use Rattle.station_rings.specs.LinkStates.{LinkState, gone_of, view_of}
+use Rattle.round_rules.specs.OneWorker.{ids_of}
+use Rattle.round_rules.specs.Records.{Record, deeds_at}
+use Rattle.round_rules.specs.Rings.{is_in}
+use Rattle.station_doings.specs.States.{StationState}
+use Rattle.fleet_rounds.specs.Fleets.{AreStanding, IsStationAt, Wires}
+use Rattle.fleet_rounds.specs.Gaps.{HasPredecessor, IsStampIn, PostsFollow, StampsAreFew, all_deeds}
+use Rattle.fleet_rounds.specs.OneWorker.{AllBegun}
+use Rattle.fleet_rounds.proofs.Choosing.{Beside, zip-there}
+use Rattle.fleet_rounds.proofs.Exact.{gone-sent}
+use Rattle.fleet_rounds.proofs.Exacts.{sent-whole}
+use Rattle.fleet_rounds.proofs.Gaps.{few-numbers}
+use Rattle.fleet_rounds.proofs.Nodes.{among-ids, channel-near, joins-nodes, node-there, there-among}
+use Rattle.fleet_rounds.proofs.Wired.{at-node, one-of}
+
+-- A frame's stamp is that of a deed of its sender
+
+numbered_within : (cs : List Content) (k : ℕ) (x : Content) → numbered_at cs k ≡ Some x → k ≤ length cs
+numbered_within cs zero x is = omega arith
+numbered_within cs (suc k) x is = let below = get_within cs k x is in omega (arith, below)
+
+numbered_some : (cs : List Content) (k : ℕ) (x : Content) → numbered_at cs k ≡ Some x → 0 < k
+numbered_some cs zero x is = absurd (cc (is))
+numbered_some cs (suc k) x is = omega arith
+
+tested : (k n : ℕ) (b : Bool) → nat_le k n ≡ b → cond b (k ≤ n) (n < k)
+tested k n true e = grind (arith, e)
+tested k n false e = grind (arith, e)
+
+sent_by_deed : (t : Network) (u : NodeId) (d k : ℕ) (w : World) (ds : List Deed) → length (w.channels u.0 d) < k →
+    k ≤ length ((alone_from t u w ds).channels u.0 d) →
+    (e : Deed) × Contains ds e × (stamp_of e ≡ sent_stamp_from t u d k w ds)
+sent_by_deed t u d k w [] above within = absurd (omega (arith, above, within))
+sent_by_deed t u d k w (x ∷ ds) above within =
+    go (nat_le k (length ((done t u w x).channels u.0 d))) refl
+    (λ h. sent_by_deed t u d k (done t u w x) ds h within)
+  where
+    next : World
+    next = done t u w x
+
+    go : (b : Bool) → nat_le k (length (next.channels u.0 d)) ≡ b → (length (next.channels u.0 d) < k →
+        (e : Deed) × Contains ds e × (stamp_of e ≡ sent_stamp_from t u d k next ds)) →
+        (e : Deed) × Contains (x ∷ ds) e × (stamp_of e ≡ cond b (stamp_of x) (sent_stamp_from t u d k next ds))
+    go true h rest = (x, contains-head x ds, refl)
+    go false h rest =
+        let r = rest (tested k (length (next.channels u.0 d)) false h) in (r.0, contains-tail x r.0 ds r.1, r.2)
+
+-- All stamps
+
+there_flat : {X Y : Type 0} (f : X → List Y) (xs : List X) (x : X) (y : Y) → Contains xs x → Contains (f x) y →
+    Contains (flat_map f xs) y
+there_flat f [] x y there inside = absurd (contains-none x there)
+there_flat {X} {Y} f (z ∷ xs) x y there inside = elim (contains-cases z x xs there) [
+  | inl is ↦ Contains-append_left (f z) (flat_map f xs) y (subst (λ (v : X). Contains (f v) y) (sym is) inside)
+  | inr later ↦ Contains-append_right (f z) (flat_map f xs) y (there_flat f xs x y later inside)
+]
+
+abbrev stamps : Network → Record → List ℕ
+stamps t r = map stamp_of (all_deeds t r)
+
+stamp_among : (t : Network) (r : Record) (s : ℕ) → IsStampIn t r s → is_in (stamps t r) s ≡ true
+stamp_among t r s is =
+    there-any (λ j. nat_eq j s) (stamps t r) (stamp_of is.deed)
+    (there_map stamp_of (all_deeds t r) is.deed
+    (there_flat (λ (n : NodeId). deeds_at r n.0) (ids_of t) is.node is.deed (node-there t is.node is.known) is.there))
+    (ap (λ j. nat_eq j s) is.stamp ∙ self_test s)
+
+among_stamp : (t : Network) (r : Record) (s : ℕ) → is_in (stamps t r) s ≡ true → IsStampIn t r s
+among_stamp t r s h = record {
+  node = place.0;
+  known = sym (among-ids t place.0) ∙ there-among (ids_of t) place.0 place.1;
+  deed = deed.0;
+  there = place.2;
+  stamp = deed.2 ∙ same_number found.0 s found.2;
+}
+  where
+    found : (x : ℕ) × Contains (stamps t r) x × (nat_eq x s ≡ true)
+    found = any-there (λ j. nat_eq j s) (stamps t r) h
+
+    deed : (e : Deed) × Contains (all_deeds t r) e × (stamp_of e ≡ found.0)
+    deed = there_from_map stamp_of (all_deeds t r) found.0 found.1
+
+    place : (n : NodeId) × Contains (ids_of t) n × Contains (deeds_at r n.0) deed.0
+    place = there_from_flat_map (λ (n : NodeId). deeds_at r n.0) (ids_of t) deed.0 deed.1
+
+greater : (a b : ℕ) → (max a b ≡ a) ⊎ (max a b ≡ b)
+greater a b = go (nat_le a b) refl
+  where
+    second : nat_le a b ≡ true → max a b ≡ b
+    second e = grind (arith, e)
+
+    first : nat_le a b ≡ false → max a b ≡ a
+    first e = grind (arith, e)
+
+    go : (c : Bool) → nat_le a b ≡ c → (max a b ≡ a) ⊎ (max a b ≡ b)
+    go true e = inr (second e)
+    go false e = inl (first e)
+
+module _ (t : Network) (lines : List Disturb) (r : Record) (w : Wires) (xs : List StationState)
+    (all : AreStanding t lines r w xs) (begun : AllBegun t w) (posts : PostsFollow t r) where
+  abbrev Known : ℕ → Type 0
+  Known c = (c ≡ 0) ⊎ IsStampIn t r c
+
+  after_known : (c s : ℕ) → Known c → s ≡ c + 1 → HasPredecessor t r s
+  after_known c s (inl none) e = inl (e ∙ ap (λ k. k + 1) none)
+  after_known c s (inr is) e = inr (c, is, e)
+
+  -- what came over a link of the node was sent by a deed
+  pub came-known : (n : NodeId) (s : StationState) → IsStationAt t lines r w n s → (l : LinkView) →
+      Contains (map view_of s.links) l → (p : Parcel) → Contains l.came p → Known p.stamp
+  came-known n s is l there p came = inr (record {
+    node = u;
+    known = (joins-nodes t u n joined).from;
+    deed = sent.0;
+    there = sent.1;
+    stamp = sent.2 ∙ sym of.exact;
+  })
+    where
+      seen : (k : LinkState) × Contains (map (λ (v : NodeId). w n.0 v.0) (neighbours t n)) k × (view_of k ≡ l)
+      seen =
+          there_from_map view_of (map (λ (v : NodeId). w n.0 v.0) (neighbours t n)) l
+          (subst (λ ls. Contains (map view_of ls) l) is.links there)
+
+      wire : (v : NodeId) × Contains (neighbours t n) v × (w n.0 v.0 ≡ seen.0)
+      wire = there_from_map (λ (v : NodeId). w n.0 v.0) (neighbours t n) seen.0 seen.1
+
+      u : NodeId
+      u = wire.0
+
+      joined : is_channel t u n ≡ true
+      joined = channel-near t n u wire.1
+
+      of : IsSentOf t u (deeds_at r u.0) n p
+      of =
+          one-of (IsSentOf t u (deeds_at r u.0) n) (gone_of (w u.0 n.0)) p (gone-sent t lines r w xs all begun u n
+          joined)
+          (subst (λ ps. Contains ps p) (begun u n joined).1
+          (Contains-append_left _ (begun u n joined).0 p
+          (subst (λ (v : LinkView). Contains v.came p) (sym (ap view_of wire.2 ∙ seen.2)) came)))
+
+      whole : numbered_at (sent_by t u (deeds_at r u.0) n.0) p.number ≡ Some of.content
+      whole = sent-whole t u (deeds_at r u.0) p.stamp p.number n.0 of.content of.there
+
+      sent : (e : Deed) × Contains (deeds_at r u.0) e × (stamp_of e ≡ sent_stamp t u (deeds_at r u.0) n.0 p.number)
+      sent =
+          sent_by_deed t u n.0 p.number (start t) (deeds_at r u.0)
+          (numbered_some (sent_by t u (deeds_at r u.0) n.0) p.number of.content whole)
+          (numbered_within (sent_by t u (deeds_at r u.0) n.0) p.number of.content whole)
+
+  module _ (n : NodeId) (known : is_node_id t.nodes n ≡ true) (s : StationState)
+      (is : IsStationAt t lines r w n s) where
+    here : (d : Deed) → Contains (deeds_at r n.0) d → IsStampIn t r (stamp_of d)
+    here d there = record { node = n; known = known; deed = d; there = there; stamp = refl }
+
+    one : (c : ℕ) (d : Deed) → Known c → Contains (deeds_at r n.0) d → AreStamped (map view_of s.links) c (d ∷ []) →
+        HasPredecessor t r (stamp_of d)
+    one c (Ticked k) was there f = after_known c k was f.0
+    one c (Handled k) was there f = after_known c k was f.0
+    one c (Heard k u bytes) was there f = after_known c k was f.0
+    one c (Posted k x) was there f = posts n k x known there
+    one c (Took k u j x) was there f = elim (greater c f.0.parcel.stamp) [
+      | inl clock ↦ after_known c k was (f.0.stamp ∙ ap (λ i. i + 1) clock)
+      | inr frame ↦ after_known f.0.parcel.stamp k (came-known n s is f.0.link f.0.there f.0.parcel f.0.came)
+          (f.0.stamp ∙ ap (λ i. i + 1) frame)
+    ]
+
+    each : (c : ℕ) (ds : List Deed) → Known c → ((d : Deed) → Contains ds d → Contains (deeds_at r n.0) d) →
+        AreStamped (map view_of s.links) c ds → (d : Deed) → Contains ds d → HasPredecessor t r (stamp_of d)
+    each c [] was inside f d there = absurd (contains-none d there)
+    each c (e ∷ ds) was inside f d there = elim (contains-cases e d ds there) [
+      | inl same ↦ subst (λ (x : Deed). HasPredecessor t r (stamp_of x)) same
+          (one c e was (inside e (contains-head e ds)) (f.0, tt))
+      | inr later ↦ each (stamp_of e) ds (inr (here e (inside e (contains-head e ds))))
+          (λ x at. inside x (contains-tail e x ds at)) f.1 d later
+    ]
+
+    last : (c : ℕ) (ds : List Deed) → ((d : Deed) → Contains ds d → Contains (deeds_at r n.0) d) → Known c →
+        Known (clock_after c ds)
+    last c [] inside was = was
+    last c (d ∷ ds) inside was =
+        last (stamp_of d) ds (λ x at. inside x (contains-tail d x ds at)) (inr (here d (inside d (contains-head d ds))))
+
+  -- each stamp above 1 has the one below it
+  predecessor : (s : ℕ) → IsStampIn t r s → HasPredecessor t r s
+  predecessor s is =
+      subst (HasPredecessor t r) is.stamp
+      (each is.node is.known b.item b.is 0 (deeds_at r is.node.0) (inl refl) (λ d there. there)
+      b.is.station.stands.sound.stamped is.deed is.there)
+    where
+      b : Beside (IsStationAt t lines r w) xs is.node
+      b = at-node t lines r w xs all is.node is.known
+
+  below : (k : ℕ) → is_in (stamps t r) (suc (suc k)) ≡ true → is_in (stamps t r) (suc k) ≡ true
+  below k h = go (predecessor (suc (suc k)) (among_stamp t r (suc (suc k)) h))
+    where
+      go : HasPredecessor t r (suc (suc k)) → is_in (stamps t r) (suc k) ≡ true
+      go (inl none) = absurd (omega (arith, none))
+      go (inr p) =
+          let gap = p.2 in
+          let same : p.0 ≡ suc k = omega (arith, gap) in
+          stamp_among t r (suc k) (subst (IsStampIn t r) same p.1)
+
+  -- no stamp is above the number of all deeds
+  pub few-known : (s : ℕ) → Known s → s ≤ length (all_deeds t r)
+  few-known s (inl none) = omega (arith, none)
+  few-known s (inr is) =
+      subst (λ k. s ≤ k) (length-map (all_deeds t r) stamp_of)
+      (few-numbers s (stamps t r) (stamp_among t r s is) (λ k h le. below k h))
+
+  -- nor a clock
+  pub clock-few : (n : NodeId) (s : StationState) → Contains (ids_of t) n → IsStationAt t lines r w n s →
+      s.clock ≤ length (all_deeds t r)
+  clock-few n s there is =
+      few-known s.clock (subst Known (sym is.station.stands.sound.clock) (last n known s is 0 (deeds_at r n.0)
+      (λ d inside. inside) (inl refl)))
+    where
+      known : is_node_id t.nodes n ≡ true
+      known = sym (among-ids t n) ∙ there-among (ids_of t) n there
+
+-- what holds of the second of each pair holds of the second list
+pub zip-each : {X Y : Type 0} (P : X → Y → Type 0) (Q : Y → Type 0) → ((x : X) (y : Y) → P x y → Q y) → (xs : List X)
+    (ys : List Y) → AllZip P xs ys → AllByRecursion Q ys
+zip-each P Q f [] [] all = tt
+zip-each P Q f [] (y ∷ ys) all = absurd all
+zip-each P Q f (x ∷ xs) [] all = absurd all
+zip-each P Q f (x ∷ xs) (y ∷ ys) all = (f x y all.0, zip-each P Q f xs ys all.1)
+
+-- No clock of a fleet is above the number of all deeds.
+pub stamps-are-few : StampsAreFew
+stamps-are-few t lines r w xs all begun posts =
+    zip-each (λ (n : NodeId) (s : StationState). s.clock ≤ length (all_deeds t r))
+    (λ (s : StationState). s.clock ≤ length (all_deeds t r)) (λ n s le. le) (ids_of t) xs
+    (zip-there (IsStationAt t lines r w) (λ (n : NodeId) (s : StationState). s.clock ≤ length (all_deeds t r))
+    (ids_of t)
+    (clock-few t lines r w xs all begun posts) (ids_of t) xs (λ n there. there) all.each)

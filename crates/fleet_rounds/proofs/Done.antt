@@ -1,0 +1,190 @@
+-- What all turns of a station in a round make of what its node did.
+use Rattle.std.proofs.Common.{◌≡◌, ℕ, zero, suc, Bool, true, false, List, [], ◌∷◌, ◌++◌, refl, sym, ap, ◌∙◌}
+use Rattle.std.proofs.Common.{subst}
+use Rattle.std.proofs.Common.{append-nil, append_assoc, inl, inr}
+use Rattle.std.specs.Prelude.{◌||◌}
+use Rattle.std.specs.List.{AllZip, Contains}
+use Rattle.std.proofs.lemmas.List.Concat.{flat_map-append}
+use Rattle.ason_base.specs.declared.ids.NodeId.{NodeId}
+use Rattle.ason_base.specs.declared.commands.Disturb.{Disturb}
+use Rattle.ason_base.specs.Network.{Network}
+use Rattle.station_rings.specs.LinkStates.{LinkState}
+use Rattle.round_rules.specs.Doings.{Doing, Left}
+use Rattle.round_rules.specs.Functions.{Popped, turn_after}
+use Rattle.round_rules.specs.Lines.{says}
+use Rattle.round_rules.specs.Rings.{got_from, is_in}
+use Rattle.round_rules.specs.Takings.{Taking, all_doings, doings_of}
+use Rattle.round_rules.specs.Turns.{IsTurnOf}
+use Rattle.round_rules.proofs.Composing.{later-turn, turns-make-a-cut-turn, turns-make-a-turn}
+use Rattle.station_doings.specs.Moves.{HasMoved, IsDrained}
+use Rattle.station_doings.specs.States.{IsStationOf, StationState}
+use Rattle.station_doings.specs.Turned.{HaveComeTo, IsPoppedHeld, all_of, due_parcels}
+use Rattle.station_doings.specs.declared.turns.Turn.{Turn}
+use Rattle.station_doings.specs.declared.turns.Turn.TheVariants.{Worked, Idle, AtLimit, Starved}
+use Rattle.fleet_rounds.specs.Turns.{HasMadeTurn, HaveMadeTurns, comes_to_end}
+use Rattle.fleet_rounds.specs.Turns.{is_starved}
+use Rattle.fleet_rounds.proofs.Got.{got-more}
+use Rattle.fleet_rounds.proofs.Links.{all-drained-moved, all-moved-twice}
+use Rattle.fleet_rounds.proofs.NoPosts.{posts-append}
+use Rattle.fleet_rounds.proofs.Numbers.{in-append}
+use Rattle.fleet_rounds.proofs.Turned.{peers_of}
+use Rattle.fleet_rounds.proofs.OneTurn.{EndsCut, HasDone, OneTurn, all-moved-none, one-done}
+
+-- What the first of the turns popped, where all came to their end; the later ones did nothing but take frames.
+pub record FirstTurn (t : Network) (n : NodeId) (tick : Bool) (ds : List Doing) (old new : StationState)
+    (added : List Doing) : Type 0 where
+  pub mid : StationState
+  pub due : List Popped
+  pub are_due : AllZip IsPoppedHeld (due_parcels tick old.held) due
+  pub pops : List (List Popped)
+  pub are_pops : HaveComeTo false old.links mid.links pops
+  pub stands : IsStationOf t n (turn_after t old.lines n tick ds due (all_of pops)) mid
+  pub drained : AllZip IsDrained old.links mid.links
+  pub moved : AllZip HasMoved mid.links new.links
+  pub takings : List Taking
+  pub all : ds ++ added ≡ turn_after t old.lines n tick ds due (all_of pops) ++ all_doings takings
+
+-- Turns and then turns
+
+peers_kept : (xs ys : List LinkState) → AllZip HasMoved xs ys → peers_of ys ≡ peers_of xs
+peers_kept [] [] all = refl
+peers_kept [] (y ∷ ys) all = absurd all
+peers_kept (x ∷ xs) [] all = absurd all
+peers_kept (x ∷ xs) (y ∷ ys) all = λ i. (all.0.peer i) ∷ (peers_kept xs ys all.1 i)
+
+not_starved : (end : Turn) → comes_to_end end ≡ true → is_starved end ≡ false
+not_starved (Worked k) e = refl
+not_starved Idle e = refl
+not_starved AtLimit e = absurd (cc (e))
+not_starved Starved e = absurd (cc (e))
+
+pub record HaveDone (t : Network) (lines : List Disturb) (n : NodeId) (tick : Bool) (ds : List Doing)
+    (old new : StationState) (end : Turn) : Type 0 where
+  pub done : HasDone t lines n tick ds (peers_of old.links) new end
+  pub lines_kept : new.lines ≡ old.lines
+  pub links : AllZip HasMoved old.links new.links
+  pub drained : comes_to_end end ≡ true → AllZip IsDrained old.links new.links
+  pub first : comes_to_end end ≡ true → FirstTurn t n tick ds old new done.added
+
+-- with other words for the neighbours
+abbrev pub near-done : (t : Network) (lines : List Disturb) (n : NodeId) (tick : Bool) (ds : List Doing)
+    (near far : List NodeId) (new : StationState) (end : Turn) → near ≡ far →
+    HasDone t lines n tick ds near new end → HasDone t lines n tick ds far new end
+near-done t lines n tick ds near far new end same d = record {
+  added = d.added;
+  stands = d.stands;
+  no_post = d.no_post;
+  from_near = λ h u k there. subst (λ ns. Contains ns u) same (d.from_near h u k there);
+  whole = d.whole;
+  cut = d.cut;
+}
+
+abbrev then_done : (t : Network) (lines : List Disturb) (n : NodeId) (tick : Bool) (ds : List Doing)
+    (near : List NodeId)
+    (mid new : StationState) (answer end : Turn) → comes_to_end answer ≡ true →
+    (one : HasDone t lines n tick ds near mid answer) → HasDone t lines n false (ds ++ one.added) near new end →
+    HasDone t lines n tick ds near new end
+then_done t lines n tick ds near mid new answer end ended one two = record {
+  added = one.added ++ two.added;
+  stands = subst (λ ks. IsStationOf t n ks new) (append_assoc ds one.added two.added) two.stands;
+  no_post = posts-append one.added two.added one.no_post two.no_post;
+  from_near = λ h u k there. go h u k (is_in (got_from u one.added) k) refl
+      (sym (in-append (got_from u one.added) (got_from u two.added) k)
+      ∙ ap (λ ks. is_in ks k) (sym (got-more u one.added two.added)) ∙ there);
+  whole = λ h. turns-make-a-turn t lines n tick ds one.added two.added (one.whole ended) (two.whole h);
+  cut = λ h. cut_then (two.cut h);
+}
+  where
+    go : is_starved end ≡ false → (u : NodeId) (k : ℕ) (b : Bool) → is_in (got_from u one.added) k ≡ b →
+        (is_in (got_from u one.added) k || is_in (got_from u two.added) k) ≡ true → Contains near u
+    go h u k true e f = one.from_near (not_starved answer ended) u k e
+    go h u k false e f = two.from_near h u k (ap (λ b. b || is_in (got_from u two.added) k) (sym e) ∙ f)
+
+    cut_then : EndsCut t lines n false (ds ++ one.added) two.added →
+        EndsCut t lines n tick ds (one.added ++ two.added)
+    cut_then c = record {
+      made = one.added ++ c.made;
+      left = c.left;
+      all = ap (λ ks. one.added ++ ks) c.all ∙ sym (append_assoc one.added c.made (Left c.left ∷ []));
+      cut = turns-make-a-cut-turn t lines n tick ds one.added c.made (one.whole ended) c.cut;
+    }
+
+-- the first turn of one or more
+first_of : (t : Network) (lines : List Disturb) (n : NodeId) (tick : Bool) (ds : List Doing) (near : List NodeId)
+    (old new : StationState) (end : Turn) (done : HasDone t lines n tick ds near new end) →
+    OneTurn t n tick ds old new done.added → AllZip IsDrained old.links new.links →
+    FirstTurn t n tick ds old new done.added
+first_of t lines n tick ds near old new end done one drained = record {
+  mid = new;
+  due = one.due;
+  are_due = one.are_due;
+  pops = one.pops;
+  are_pops = one.are_pops;
+  stands = subst (λ ks. IsStationOf t n ks new) one.all done.stands;
+  drained = drained;
+  moved = all-moved-none new.links;
+  takings = [];
+  all = one.all ∙ sym (append-nil (turn_after t old.lines n tick ds one.due (all_of one.pops)));
+}
+
+then_first : (t : Network) (lines : List Disturb) (n : NodeId) (tick : Bool) (ds : List Doing)
+    (old mid new : StationState) (one two : List Doing) → IsTurnOf t lines n tick ds one →
+    IsTurnOf t lines n false (ds ++ one) two → FirstTurn t n tick ds old mid one → AllZip HasMoved mid.links new.links →
+    FirstTurn t n tick ds old new (one ++ two)
+then_first t lines n tick ds old mid new one two turn later f links = record {
+  mid = f.mid;
+  due = f.due;
+  are_due = f.are_due;
+  pops = f.pops;
+  are_pops = f.are_pops;
+  stands = f.stands;
+  drained = f.drained;
+  moved = all-moved-twice f.mid.links mid.links new.links f.moved links;
+  takings = f.takings ++ later.takings;
+  all =
+      sym (append_assoc ds one two) ∙ ap (λ ks. ks ++ two) f.all
+      ∙ ap (λ ks. (turn_after t old.lines n tick ds f.due (all_of f.pops) ++ all_doings f.takings) ++ ks)
+      (later-turn t lines n tick ds one turn two later)
+      ∙ append_assoc (turn_after t old.lines n tick ds f.due (all_of f.pops)) (all_doings f.takings)
+      (all_doings later.takings)
+      ∙ ap (λ ks. turn_after t old.lines n tick ds f.due (all_of f.pops) ++ ks)
+      (sym (flat_map-append doings_of f.takings later.takings));
+}
+
+then_all : (t : Network) (lines : List Disturb) (n : NodeId) (tick : Bool) (ds : List Doing)
+    (old mid new : StationState) (answer end : Turn) → HasMadeTurn tick old mid answer → comes_to_end answer ≡ true →
+    (first : HasDone t lines n tick ds (peers_of old.links) mid answer) → FirstTurn t n tick ds old mid first.added →
+    HaveDone t lines n false (ds ++ first.added) mid new end → HaveDone t lines n tick ds old new end
+then_all t lines n tick ds old mid new answer end turn ended first popped rest = record {
+  done =
+      then_done t lines n tick ds (peers_of old.links) mid new answer end ended first
+      (near-done t lines n false (ds ++ first.added) (peers_of mid.links) (peers_of old.links) new end
+      (peers_kept old.links mid.links turn.links) rest.done);
+  lines_kept = rest.lines_kept ∙ turn.lines;
+  links = all-moved-twice old.links mid.links new.links turn.links rest.links;
+  drained = λ e. all-drained-moved old.links mid.links new.links (turn.drained ended) rest.links;
+  first = λ e. then_first t lines n tick ds old mid new first.added rest.done.added (first.whole ended)
+      (rest.done.whole e) popped rest.links;
+}
+
+-- what a number of turns do
+pub have-done : (t : Network) (lines : List Disturb) (n : NodeId) (many : ℕ) (tick : Bool) (ds : List Doing)
+    (old new : StationState) (end : Turn) → ((u : NodeId) (k : ℕ) → says old.lines u n k ≡ says lines u n k) →
+    IsStationOf t n ds old → HaveMadeTurns many tick old new end → HaveDone t lines n tick ds old new end
+have-done t lines n zero tick ds old new end told is f = absurd f
+have-done t lines n (suc many) tick ds old new end told is (inl turn) =
+    let one = one-done t lines n tick ds old new told is end turn in
+    record {
+      done = one.done;
+      lines_kept = turn.lines;
+      links = turn.links;
+      drained = turn.drained;
+      first = λ e. first_of t lines n tick ds (peers_of old.links) old new end one.done (one.one e) (turn.drained e);
+    }
+have-done t lines n (suc many) tick ds old new end told is (inr f) =
+    let one = one-done t lines n tick ds old f.mid told is f.answer f.turn in
+    let popped = first_of t lines n tick ds (peers_of old.links) old f.mid f.answer one.done (one.one f.ended)
+    (f.turn.drained f.ended) in
+    then_all t lines n tick ds old f.mid new f.answer end f.turn f.ended one.done popped
+    (have-done t lines n many false (ds ++ one.done.added) f.mid new end
+    (λ u k. ap (λ ls. says ls u n k) f.turn.lines ∙ told u k) one.done.stands f.rest)

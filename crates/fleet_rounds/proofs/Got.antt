@@ -1,0 +1,118 @@
+-- What a turn takes, by neighbour.
+use Rattle.std.proofs.Common.{◌≡◌, ◌+◌, ℕ, zero, suc, Bool, true, false, cond, nat_eq, List, [], ◌∷◌, ◌++◌, refl, sym}
+use Rattle.std.proofs.Common.{ap, ◌∙◌, subst}
+use Rattle.std.proofs.Common.{append-nil, append_assoc}
+use Rattle.std.specs.Prelude.{Option, Some, None, max}
+use Rattle.std.specs.List.{AllByRecursion, Contains}
+use Rattle.ason_base.specs.declared.ids.NodeId.{NodeId}
+use Rattle.ason_base.specs.declared.commands.Disturb.{Disturb}
+use Rattle.ason_base.specs.declared.commands.DisturbKind.{DisturbKind}
+use Rattle.ason_base.specs.declared.commands.DisturbKind.TheVariants.{Lose, Repeat, Hold}
+use Rattle.ason_base.specs.Network.{Network}
+use Rattle.world_merge.specs.Deeds.{Deed, Handled, Ticked, Took}
+use Rattle.round_rules.specs.Doings.{Did, Doing, Freed, Got, Left, Lost}
+use Rattle.round_rules.specs.Functions.{Popped, all_freed, all_handled, all_taken, clock_of, delivered, freed, got}
+use Rattle.round_rules.specs.Functions.{handled}
+use Rattle.round_rules.specs.Functions.{taken, taken_as, tick_if, turn_after}
+use Rattle.round_rules.specs.Lines.{says}
+use Rattle.round_rules.specs.Rings.{got_from, is_in}
+use Rattle.round_rules.specs.Turns.{items_after}
+use Rattle.fleet_rounds.proofs.Nodes.{same-node}
+
+-- What is taken by two lists of doings is what each takes.
+pub got-more : (u : NodeId) (xs ys : List Doing) → got_from u (xs ++ ys) ≡ got_from u xs ++ got_from u ys
+got-more u [] ys = refl
+got-more u (Did d ∷ xs) ys = got-more u xs ys
+got-more u (Got v k says ∷ xs) ys = go (nat_eq v.0 u.0) (got-more u xs ys)
+  where
+    go : (b : Bool) → got_from u (xs ++ ys) ≡ got_from u xs ++ got_from u ys →
+        cond b (k ∷ got_from u (xs ++ ys)) (got_from u (xs ++ ys)) ≡
+        cond b (k ∷ got_from u xs) (got_from u xs) ++ got_from u ys
+    go true e = ap (λ ks. k ∷ ks) e
+    go false e = e
+got-more u (Freed ∷ xs) ys = got-more u xs ys
+got-more u (Lost v k ∷ xs) ys = got-more u xs ys
+got-more u (Left i ∷ xs) ys = got-more u xs ys
+
+-- the numbers of those that come from u
+abbrev pub numbers_from : NodeId → List Popped → List ℕ
+numbers_from u [] = []
+numbers_from u (p ∷ ps) = cond (nat_eq p.from.0 u.0) (p.number ∷ numbers_from u ps) (numbers_from u ps)
+
+got_deed : (u : NodeId) (ds : List Doing) (d : Deed) → got_from u (ds ++ Did d ∷ []) ≡ got_from u ds
+got_deed u ds d = got-more u ds (Did d ∷ []) ∙ append-nil (got_from u ds)
+
+got_freed : (u : NodeId) (ds : List Doing) (ps : List Popped) → got_from u (all_freed ds ps) ≡ got_from u ds
+got_freed u ds [] = refl
+got_freed u ds (p ∷ ps) =
+    got_freed u (freed ds p) ps
+    ∙ got_deed u (ds ++ Freed ∷ []) (Took (max (clock_of (ds ++ Freed ∷ [])) p.stamp + 1) p.from p.number p.content)
+    ∙ got-more u ds (Freed ∷ []) ∙ append-nil (got_from u ds)
+
+got_handled : (u : NodeId) (k : ℕ) (ds : List Doing) → got_from u (all_handled k ds) ≡ got_from u ds
+got_handled u zero ds = refl
+got_handled u (suc k) ds = got_handled u k (handled ds) ∙ got_deed u ds (Handled (clock_of ds + 1))
+
+got_one : (u : NodeId) (ds : List Doing) (p : Popped) (o : Option DisturbKind) →
+    got_from u (got ds p o) ≡ got_from u ds ++ numbers_from u (p ∷ [])
+got_one u ds p o = got-more u ds (Got p.from p.number o ∷ [])
+
+got_taken : (u : NodeId) (o : Option DisturbKind) (ds : List Doing) (p : Popped) →
+    got_from u (taken_as o ds p) ≡ got_from u ds ++ numbers_from u (p ∷ [])
+got_taken u None ds p =
+    got_deed u (got ds p None) (Took (max (clock_of (got ds p None)) p.stamp + 1) p.from p.number p.content)
+    ∙ got_one u ds p None
+got_taken u (Some Repeat) ds p =
+    let once : List Doing = delivered (got ds p (Some Repeat)) p in
+    got_deed u once (Took (max (clock_of once) p.stamp + 1) p.from p.number p.content)
+    ∙ got_deed u (got ds p (Some Repeat)) (Took (max (clock_of (got ds p (Some Repeat))) p.stamp + 1) p.from p.number
+    p.content)
+    ∙ got_one u ds p (Some Repeat)
+got_taken u (Some Lose) ds p = got_one u ds p (Some Lose)
+got_taken u (Some Hold) ds p = got_one u ds p (Some Hold)
+
+from_next : (u : NodeId) (p : Popped) (ps : List Popped) →
+    numbers_from u (p ∷ []) ++ numbers_from u ps ≡ numbers_from u (p ∷ ps)
+from_next u p ps = go (nat_eq p.from.0 u.0)
+  where
+    go : (b : Bool) → cond b (p.number ∷ []) [] ++ numbers_from u ps ≡
+        cond b (p.number ∷ numbers_from u ps) (numbers_from u ps)
+    go true = refl
+    go false = refl
+
+got_all : (u : NodeId) (lines : List Disturb) (n : NodeId) (ds : List Doing) (ps : List Popped) →
+    got_from u (all_taken lines n ds ps) ≡ got_from u ds ++ numbers_from u ps
+got_all u lines n ds [] = sym (append-nil (got_from u ds))
+got_all u lines n ds (p ∷ ps) =
+    got_all u lines n (taken lines n ds p) ps
+    ∙ ap (λ ks. ks ++ numbers_from u ps) (got_taken u (says lines p.from n p.number) ds p)
+    ∙ append_assoc (got_from u ds) (numbers_from u (p ∷ [])) (numbers_from u ps)
+    ∙ ap (λ ks. got_from u ds ++ ks) (from_next u p ps)
+
+got_tick : (u : NodeId) (tick : Bool) (ds : List Doing) → got_from u (tick_if tick ds) ≡ got_from u ds
+got_tick u true ds = got_deed u ds (Ticked (clock_of ds + 1))
+got_tick u false ds = refl
+
+-- what a turn takes is what it pops
+pub turn-got : (u : NodeId) (t : Network) (lines : List Disturb) (n : NodeId) (tick : Bool) (ds : List Doing)
+    (due pops : List Popped) →
+    got_from u (turn_after t lines n tick ds due pops) ≡ got_from u ds ++ numbers_from u pops
+turn-got u t lines n tick ds due pops =
+    got_all u lines n (all_handled (items_after t n here) here) pops
+    ∙ ap (λ ks. ks ++ numbers_from u pops) (got_handled u (items_after t n here) here
+    ∙ got_freed u (tick_if tick ds) due ∙ got_tick u tick ds)
+  where
+    here : List Doing
+    here = all_freed (tick_if tick ds) due
+
+-- what comes from u is from one of these, where all come from these
+pub from-one-of : (u : NodeId) (ns : List NodeId) (k : ℕ) (ps : List Popped) →
+    AllByRecursion (λ (p : Popped). Contains ns p.from) ps → is_in (numbers_from u ps) k ≡ true → Contains ns u
+from-one-of u ns k [] all h = absurd (cc (h))
+from-one-of u ns k (p ∷ ps) all h = go (nat_eq p.from.0 u.0) refl h (λ f. from-one-of u ns k ps all.1 f)
+  where
+    go : (b : Bool) → nat_eq p.from.0 u.0 ≡ b →
+        is_in (cond b (p.number ∷ numbers_from u ps) (numbers_from u ps)) k ≡ true →
+        (is_in (numbers_from u ps) k ≡ true → Contains ns u) → Contains ns u
+    go true e f rest = subst (λ (v : NodeId). Contains ns v) (same-node p.from u e) all.0
+    go false e f rest = rest f

@@ -1,0 +1,160 @@
+-- What one turn of a station makes of what its node did.
+use Rattle.std.proofs.Common.{◌≡◌, ℕ, Bool, true, false, List, [], ◌∷◌, ◌++◌, filter, refl, sym, ap, ◌∙◌}
+use Rattle.std.proofs.Common.{subst}
+use Rattle.std.proofs.Common.{append-nil, append_assoc}
+use Rattle.std.specs.Prelude.{◌||◌}
+use Rattle.std.specs.List.{AllZip, Contains}
+use Rattle.std.proofs.lemmas.List.{append_cancel_left}
+use Rattle.ason_base.specs.declared.ids.NodeId.{NodeId}
+use Rattle.ason_base.specs.declared.commands.Disturb.{Disturb}
+use Rattle.ason_base.specs.Network.{Network}
+use Rattle.station_rings.specs.LinkStates.{LinkState}
+use Rattle.world_merge.specs.Logs.{is_posted}
+use Rattle.round_rules.specs.Doings.{Doing, Left, Waiting, deeds_in}
+use Rattle.round_rules.specs.Functions.{Popped, turn_after}
+use Rattle.round_rules.specs.Halts.{HasHalted, IsCutTurnOf}
+use Rattle.round_rules.specs.Laws.{AddsATurn}
+use Rattle.round_rules.specs.Limits.{turn_to}
+use Rattle.round_rules.specs.Lines.{says}
+use Rattle.round_rules.specs.Rings.{got_from, is_in}
+use Rattle.round_rules.specs.Turns.{IsTurnOf}
+use Rattle.round_rules.proofs.Ending.{turns-end}
+use Rattle.round_rules.proofs.Reaching.{turns-halt}
+use Rattle.round_rules.proofs.Turning.{functions-are-turns}
+use Rattle.station_doings.specs.Moves.{HasMoved}
+use Rattle.station_doings.specs.States.{IsStationOf, StationState}
+use Rattle.station_doings.specs.Turned.{HaveComeTo, IsPoppedHeld, TurnsTo, all_of, due_parcels}
+use Rattle.station_doings.specs.declared.turns.Turn.{Turn}
+use Rattle.station_doings.specs.declared.turns.Turn.TheVariants.{Worked, Idle, AtLimit, Starved}
+use Rattle.fleet_rounds.specs.Turns.{HasMadeTurn, StarvesAlone, comes_to_end}
+use Rattle.fleet_rounds.specs.Turns.{is_at_limit, is_starved}
+use Rattle.fleet_rounds.proofs.Got.{from-one-of, got-more, numbers_from, turn-got}
+use Rattle.fleet_rounds.proofs.Links.{moved-none}
+use Rattle.fleet_rounds.proofs.NoPosts.{cut-posts, left-posts, turn-posts}
+use Rattle.fleet_rounds.proofs.Numbers.{in-append}
+use Rattle.fleet_rounds.proofs.Turned.{are-held, from-peers, peers_of, told-cut, told-turn}
+
+-- no link moved
+pub all-moved-none : (links : List LinkState) → AllZip HasMoved links links
+all-moved-none [] = tt
+all-moved-none (l ∷ links) = (moved-none l, all-moved-none links)
+
+-- a cut turn, and the input that was left
+pub record EndsCut (t : Network) (lines : List Disturb) (n : NodeId) (tick : Bool) (ds added : List Doing) : Type 0
+  where
+    pub made : List Doing
+    pub left : Waiting
+    pub all : added ≡ made ++ Left left ∷ []
+    pub cut : IsCutTurnOf t lines n tick ds made
+
+pub record HasDone (t : Network) (lines : List Disturb) (n : NodeId) (tick : Bool) (ds : List Doing)
+    (near : List NodeId) (new : StationState) (end : Turn) : Type 0 where
+  pub added : List Doing
+  pub stands : IsStationOf t n (ds ++ added) new
+  pub no_post : filter is_posted (deeds_in added) ≡ []
+  pub from_near : is_starved end ≡ false → (u : NodeId) (k : ℕ) → is_in (got_from u added) k ≡ true → Contains near u
+  pub whole : comes_to_end end ≡ true → IsTurnOf t lines n tick ds added
+  pub cut : is_at_limit end ≡ true → EndsCut t lines n tick ds added
+
+-- what one turn popped that came to its end
+pub record OneTurn (t : Network) (n : NodeId) (tick : Bool) (ds : List Doing) (old new : StationState)
+    (added : List Doing) : Type 0 where
+  pub due : List Popped
+  pub are_due : AllZip IsPoppedHeld (due_parcels tick old.held) due
+  pub pops : List (List Popped)
+  pub are_pops : HaveComeTo false old.links new.links pops
+  pub all : ds ++ added ≡ turn_after t old.lines n tick ds due (all_of pops)
+
+in_first : (xs ys : List ℕ) (k : ℕ) → is_in xs k ≡ true → is_in (xs ++ ys) k ≡ true
+in_first xs ys k h = in-append xs ys k ∙ ap (λ b. b || is_in ys k) h
+
+module _ (t : Network) (lines : List Disturb) (n : NodeId) (tick : Bool) (ds : List Doing)
+    (old new : StationState) (told : (u : NodeId) (k : ℕ) → says old.lines u n k ≡ says lines u n k)
+    (is : IsStationOf t n ds old) where
+  -- a turn that comes to its end
+  ends : (end : Turn) → is_at_limit end ≡ false → TurnsTo t n ds tick false old new →
+      (done : HasDone t lines n tick ds (peers_of old.links) new end) × OneTurn t n tick ds old new done.added
+  ends end not_cut f = (
+    record {
+      added = a.added;
+      stands = subst (λ ks. IsStationOf t n ks new) all f.stands;
+      no_post = turn-posts t old.lines n tick ds a.added a.turn;
+      from_near = λ h u k there. from-one-of u (peers_of old.links) k (all_of f.pops)
+          (from-peers false old.links new.links f.pops f.are_pops)
+          (subst (λ ks. is_in ks k ≡ true) (took u) there);
+      whole = λ h. told-turn t old.lines lines n tick ds a.added told a.turn;
+      cut = λ h. absurd (cc (not_cut, h));
+    },
+    record { due = f.due; are_due = f.are_due; pops = f.pops; are_pops = f.are_pops; all = sym a.all },
+  )
+    where
+      a : AddsATurn t old.lines n tick ds f.due (all_of f.pops)
+      a = functions-are-turns t old.lines n tick ds f.due (all_of f.pops) (are-held t n tick ds old f.due is f.are_due)
+
+      all : (turn_to t old.lines n tick ds f.due (all_of f.pops)).doings ≡ ds ++ a.added
+      all = turns-end t old.lines n tick ds f.due (all_of f.pops) f.halts ∙ a.all
+
+      took : (u : NodeId) → got_from u a.added ≡ numbers_from u (all_of f.pops)
+      took u =
+          append_cancel_left (got_from u ds) (got_from u a.added) (numbers_from u (all_of f.pops))
+          (sym (got-more u ds a.added) ∙ ap (got_from u) (sym a.all)
+          ∙ turn-got u t old.lines n tick ds f.due (all_of f.pops))
+
+  -- a turn that halts
+  halts : (end : Turn) → comes_to_end end ≡ false → TurnsTo t n ds tick true old new →
+      HasDone t lines n tick ds (peers_of old.links) new end
+  halts end not_whole f = record {
+    added = h.added ++ Left h.left ∷ [];
+    stands =
+        subst (λ ks. IsStationOf t n ks new) (h.all ∙ append_assoc ds h.added (Left h.left ∷ [])) f.stands;
+    no_post = left-posts h.added h.left (cut-posts t old.lines n tick ds h.added h.cut);
+    from_near = λ e u k there. from-one-of u (peers_of old.links) k (all_of f.pops)
+        (from-peers true old.links new.links f.pops f.are_pops)
+        (subst (λ ks. is_in ks k ≡ true) (took u)
+        (in_first (got_from u h.added) (got_from u h.rest) k (subst (λ ks. is_in ks k ≡ true) (no_more u) there)));
+    whole = λ e. absurd (cc (not_whole, e));
+    cut = λ e. record {
+      made = h.added;
+      left = h.left;
+      all = refl;
+      cut = told-cut t old.lines lines n tick ds h.added told h.cut;
+    };
+  }
+    where
+      h : HasHalted t old.lines n tick ds f.due (all_of f.pops)
+      h =
+          turns-halt t old.lines n tick ds f.due (all_of f.pops)
+          (are-held t n tick ds old f.due is f.are_due) f.halts
+
+      no_more : (u : NodeId) → got_from u (h.added ++ Left h.left ∷ []) ≡ got_from u h.added
+      no_more u = got-more u h.added (Left h.left ∷ []) ∙ append-nil (got_from u h.added)
+
+      took : (u : NodeId) → got_from u h.added ++ got_from u h.rest ≡ numbers_from u (all_of f.pops)
+      took u =
+          append_cancel_left (got_from u ds) (got_from u h.added ++ got_from u h.rest)
+          (numbers_from u (all_of f.pops))
+          (sym (append_assoc (got_from u ds) (got_from u h.added) (got_from u h.rest))
+          ∙ ap (λ ks. ks ++ got_from u h.rest) (sym (got-more u ds h.added))
+          ∙ sym (got-more u (ds ++ h.added) h.rest) ∙ ap (got_from u) (sym h.whole)
+          ∙ turn-got u t old.lines n tick ds f.due (all_of f.pops))
+
+  starves : StarvesAlone t n ds new → HasDone t lines n tick ds (peers_of old.links) new Starved
+  starves f = record {
+    added = f.added;
+    stands = f.stands;
+    no_post = f.no_post;
+    from_near = λ e. absurd (cc (e));
+    whole = λ e. absurd (cc (e));
+    cut = λ e. absurd (cc (e));
+  }
+
+  pub record OneDone (end : Turn) : Type 0 where
+    pub done : HasDone t lines n tick ds (peers_of old.links) new end
+    pub one : comes_to_end end ≡ true → OneTurn t n tick ds old new done.added
+
+  pub one-done : (end : Turn) → HasMadeTurn tick old new end → OneDone end
+  one-done (Worked k) f =
+      let e = ends (Worked k) refl (f.turned.2 t n ds is) in record { done = e.0; one = λ h. e.1 }
+  one-done Idle f = let e = ends Idle refl (f.turned.1 t n ds is) in record { done = e.0; one = λ h. e.1 }
+  one-done AtLimit f = record { done = halts AtLimit refl (f.turned t n ds is); one = λ h. absurd (cc (h)) }
+  one-done Starved f = record { done = starves (f.starved refl t n ds is); one = λ h. absurd (cc (h)) }

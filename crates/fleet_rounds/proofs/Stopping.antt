@@ -1,0 +1,204 @@
+-- With one worker a round is over where a node halts at its limit.
+use Rattle.std.proofs.Common.{◌≡◌, ◌≤◌, ℕ, Bool, true, false, nat_eq, List, [], ◌∷◌, ◌++◌, length, refl}
+use Rattle.std.proofs.Common.{inl, inr, sym, ap, ◌∙◌, subst, arith, append-nil}
+use Rattle.std.specs.Prelude.{◌||◌, Some, None}
+use Rattle.std.specs.List.{AllZip}
+use Rattle.ason_base.specs.declared.ids.NodeId.{NodeId}
+use Rattle.ason_base.specs.declared.commands.Disturb.{Disturb}
+use Rattle.ason_base.specs.Network.{Network, is_node_id}
+use Rattle.world_rules.specs.Runs.{is_channel}
+use Rattle.world_merge.specs.Logs.{log_of}
+use Rattle.round_rules.specs.Doings.{Doing, Left, Waiting, deeds_in}
+use Rattle.round_rules.specs.Halts.{IsCutTurnOf}
+use Rattle.round_rules.specs.OneWorker.{ids_of}
+use Rattle.round_rules.specs.Records.{Record, log_at}
+use Rattle.round_rules.specs.Rings.{count_of, got_from, is_in}
+use Rattle.round_rules.specs.Rounds.{TakesInOrder, TakesWhatWasSent}
+use Rattle.round_rules.specs.Unfinished.{IsCutAt, IsUnfinished}
+use Rattle.station_doings.specs.States.{StationState}
+use Rattle.fleet_rounds.specs.Fleets.{AreStanding, HasBegun, IsStationAt, Wires}
+use Rattle.fleet_rounds.specs.OneWorker.{AllBegun, IsKnownAround, IsPartAt, IsPlaced}
+use Rattle.fleet_rounds.specs.OneWorker.{IsUnderWay, NodesGoOn, is_among}
+use Rattle.fleet_rounds.specs.Rounding.{HasHaltedFull}
+use Rattle.fleet_rounds.specs.Turns.{AfterTurns, HasMadeRound, is_at_limit}
+use Rattle.fleet_rounds.proofs.Alone.{later, now, part}
+use Rattle.fleet_rounds.proofs.Alone.{grown-alone, standing-alone, wired}
+use Rattle.fleet_rounds.proofs.Choosing.{Between}
+use Rattle.fleet_rounds.proofs.Begun.{all-begun}
+use Rattle.fleet_rounds.proofs.Counting.{RingFacts, taken-handed, takes-rise}
+use Rattle.fleet_rounds.proofs.OneTurn.{EndsCut}
+use Rattle.fleet_rounds.proofs.Got.{got-more}
+use Rattle.fleet_rounds.proofs.NoPosts.{no-turn, whole-cut}
+use Rattle.fleet_rounds.proofs.Nodes.{channel-near, same-node}
+use Rattle.fleet_rounds.proofs.Handing.{handed-in}
+use Rattle.fleet_rounds.proofs.Numbers.{in-append}
+use Rattle.fleet_rounds.proofs.Rounding.{TurnedAt, ring-facts}
+-- One node more
+use Rattle.fleet_rounds.proofs.Stepping.{begun-here, drops-now, elsewhere, goes-on, here-did, other-than, was-still}
+
+module _ (t : Network) (lines : List Disturb) (before : Record) (ns : List NodeId) (q : Record) (w : Wires)
+    (xs : List StationState) (n : NodeId) (many : ℕ) (y : AfterTurns) (ys : List StationState)
+    (way : IsUnderWay t lines before ns q w xs) (node : is_node_id t.nodes n ≡ true)
+    (fresh : is_among ns n.0 ≡ false) (around : IsKnownAround t w n)
+    (b : Between (IsStationAt t lines q w) (HasMadeRound many) n y)
+    (placed : AllZip (IsPlaced t lines q w n y.station) (ids_of t) ys) where
+  abbrev after : Record
+  after = later t lines q w xs way.stands n node many y b around.out ys placed
+
+  abbrev turned : TurnedAt t lines q w n y (part t lines q w xs way.stands n node many y b around.out ys placed).0
+  turned = now t lines q w xs way.stands n node many y b around.out ys placed
+
+  abbrev did : List Doing
+  did = (part t lines q w xs way.stands n node many y b around.out ys placed).0.0
+
+  abbrev wires : Wires
+  wires = wired t lines q w xs way.stands n node many y b around.out ys placed
+
+  module _ (looked : (u : NodeId) → is_channel t u n ≡ true → HasBegun wires u n) (halted : HasHaltedFull y)
+      (limit : is_at_limit y.end ≡ true) where
+    stands_now : AreStanding t lines after wires ys
+    stands_now = standing-alone t lines q w xs way.stands n node many y b around.out ys placed
+
+    begun_now : AllBegun t wires
+    begun_now =
+        all-begun t lines q w xs way.stands way.begun n node many y b around.out ys placed around.into
+        (begun-here t lines before ns q w xs n many y ys way node fresh around b placed looked)
+
+    facts_now : (u d : NodeId) → is_channel t u d ≡ true → RingFacts t after u d (wires u.0 d.0) (wires d.0 u.0)
+    facts_now = ring-facts t lines after wires ys stands_now
+
+    order_now : (m : NodeId) → TakesInOrder t after m
+    order_now m u joined =
+        takes-rise t after u m (wires u.0 m.0) (wires m.0 u.0) (facts_now u m joined) (begun_now u m joined)
+
+    sent_now : (m : NodeId) (made_by rest : List Doing) → after.doings m.0 ≡ before.doings m.0 ++ (made_by ++ rest) →
+        ((u : NodeId) (k : ℕ) → is_in (got_from u made_by) k ≡ true → is_channel t u m ≡ true) →
+        TakesWhatWasSent t after m made_by
+    sent_now m made_by rest is near u k h = (near u k h, there.0, there.1)
+      where
+        joined : is_channel t u m ≡ true
+        joined = near u k h
+
+        got_now : is_in (got_from u (after.doings m.0)) k ≡ true
+        got_now =
+            ap (λ ds. is_in (got_from u ds) k) is
+            ∙ ap (λ ks. is_in ks k) (got-more u (before.doings m.0) (made_by ++ rest)
+            ∙ ap (λ ks. got_from u (before.doings m.0) ++ ks) (got-more u made_by rest))
+            ∙ in-append (got_from u (before.doings m.0)) (got_from u made_by ++ got_from u rest) k
+            ∙ ap (λ c. is_in (got_from u (before.doings m.0)) k || c)
+            (in-append (got_from u made_by) (got_from u rest) k)
+            ∙ grind (arith, h)
+
+        there : (k ≤ count_of t after u m) × (is_in (after.dropped u.0 m.0) k ≡ false)
+        there =
+            handed-in (after.dropped u.0 m.0) (count_of t after u m) k
+            (taken-handed t after u m (wires u.0 m.0) (wires m.0 u.0) (facts_now u m joined) (begun_now u m joined) k
+            got_now)
+
+    -- a node that made its part before
+    cut_earlier : (m : NodeId) → is_among ns m.0 ≡ true → IsCutAt t lines before after m
+    cut_earlier m e = record {
+      made = p.added;
+      left = None;
+      all = whole;
+      cut = whole-cut t lines m true (before.doings m.0) p.added p.turn;
+      limit = inl (refl, refl);
+      order = order_now m;
+      sent = sent_now m p.added [] whole p.near;
+    }
+      where
+        p : IsPartAt t lines before q m
+        p = way.part.nodes m e
+
+        whole : after.doings m.0 ≡ before.doings m.0 ++ (p.added ++ [])
+        whole =
+            elsewhere t lines before ns q w xs n many y ys way node fresh around b placed m.0
+            (other-than t lines before ns q w xs n many y ys way node fresh around b placed m.0 e (nat_eq m.0 n.0)
+            refl) ∙ p.all
+            ∙ ap (λ ks. before.doings m.0 ++ ks) (sym (append-nil p.added))
+
+    -- one that comes later
+    cut_later : (m : NodeId) → is_among ns m.0 ≡ false → nat_eq m.0 n.0 ≡ false → IsCutAt t lines before after m
+    cut_later m e other = record {
+      made = [];
+      left = None;
+      all = elsewhere t lines before ns q w xs n many y ys way node fresh around b placed m.0 other ∙ way.part.others
+          m.0 e ∙ sym (append-nil (before.doings m.0));
+      cut = no-turn t lines m (before.doings m.0);
+      limit = inl (refl, refl);
+      order = order_now m;
+      sent = λ u k h. absurd (cc (h));
+    }
+
+    cut_here : (cut : IsCutAt t lines before after n) × ((i : Waiting) × (cut.left ≡ Some i))
+    cut_here = (
+      record {
+        made = c.made;
+        left = Some c.left;
+        all = whole;
+        cut = subst (λ ks. IsCutTurnOf t lines n true ks c.made) (was-still t lines before ns q w xs n many y ys way
+            node fresh around b placed) c.cut;
+        limit = inr full;
+        order = order_now n;
+        sent = sent_now n c.made (Left c.left ∷ []) whole near;
+      },
+      (c.left, refl),
+    )
+      where
+        c : EndsCut t lines n true (q.doings n.0) turned.done.added
+        c = turned.done.cut limit
+
+        whole : after.doings n.0 ≡ before.doings n.0 ++ (c.made ++ Left c.left ∷ [])
+        whole = (here-did t lines before ns q w xs n many y ys way node fresh around b placed) ∙ turned.whole_is ∙
+            (λ i. (was-still t lines before ns q w xs n many y ys way node fresh around b placed) i ++ c.all i)
+
+        near : (u : NodeId) (k : ℕ) → is_in (got_from u c.made) k ≡ true → is_channel t u n ≡ true
+        near u k h =
+            channel-near t n u (turned.done.from_near halted.fed u k (ap (λ ks. is_in (got_from u ks) k) c.all
+            ∙ ap (λ ks. is_in ks k) (got-more u c.made (Left c.left ∷ []))
+            ∙ in-append (got_from u c.made) [] k ∙ ap (λ x. x || false) h))
+
+        full : length (log_at after n.0) ≡ 50000
+        full =
+            ap (λ ks. length (log_of n (deeds_in ks))) ((here-did t lines before ns q w xs n many y ys way node fresh
+            around b placed) ∙ turned.whole_is)
+            ∙ ap length (sym turned.done.stands.stands.sound.log) ∙ halted.full limit
+
+    cut_at : (m : NodeId) (c d : Bool) → is_among ns m.0 ≡ c → nat_eq m.0 n.0 ≡ d → IsCutAt t lines before after m
+    cut_at m true d e f = cut_earlier m e
+    cut_at m false true e f = subst (IsCutAt t lines before after) (sym (same-node m n f)) cut_here.0
+    cut_at m false false e f = cut_later m e f
+
+    not_among : (m : NodeId) → is_node_id t.nodes m ≡ false → (c : Bool) → is_among ns m.0 ≡ c →
+        is_among ns m.0 ≡ false
+    not_among m none true e = absurd (cc (none, way.part.known m e))
+    not_among m none false e = e
+
+    not_node : (m : NodeId) → is_node_id t.nodes m ≡ false → (c : Bool) → nat_eq m.0 n.0 ≡ c → nat_eq m.0 n.0 ≡ false
+    not_node m none true e = absurd (cc (none, node, ap (is_node_id t.nodes) (same-node m n e)))
+    not_node m none false e = e
+
+    is_over : IsUnfinished t lines before after
+    is_over = record {
+      nodes = λ m h. cut_at m (is_among ns m.0) (nat_eq m.0 n.0) refl refl;
+      others = λ m none. elsewhere t lines before ns q w xs n many y ys way node fresh around b placed m.0
+          (not_node m none (nat_eq m.0 n.0) refl)
+          ∙ way.part.others m.0 (not_among m none (is_among ns m.0) refl);
+      drops = λ u d. drops-now t lines before ns q w xs n many y ys way node fresh around b placed u d
+          (nat_eq u.0 n.0) refl;
+      some = (n, record { known = node; cut = cut_here.0; input = cut_here.1.0; left = cut_here.1.1 });
+    }
+
+-- A node makes its turns: the round goes on, or is over.
+pub nodes-go-on : NodesGoOn
+nodes-go-on t lines before ns q w xs n x many y ys way node fresh around is made placed = record {
+  after = later t lines q w xs way.stands n node many y b around.out ys placed;
+  wires_after = wired t lines q w xs way.stands n node many y b around.out ys placed;
+  stands = standing-alone t lines q w xs way.stands n node many y b around.out ys placed;
+  grown = grown-alone t lines q w xs way.stands n node many y b around.out ys placed;
+  goes_on = goes-on t lines before ns q w xs n many y ys way node fresh around b placed;
+  ends = is_over t lines before ns q w xs n many y ys way node fresh around b placed;
+}
+  where
+    b : Between (IsStationAt t lines q w) (HasMadeRound many) n y
+    b = record { mid = x; one = is; two = made }

@@ -1,0 +1,49 @@
+//! Laws of the stations of a fleet.
+
+ghost use Rattle.fleet_rounds.specs.Gaps.{DeedsAreFew, LimitsAreLogs, PostsStillFollow, StampsAreFew};
+ghost use Rattle.fleet_rounds.specs.Laws.{StandingIsARecord};
+ghost use Rattle.fleet_rounds.specs.Looks.{KnownHaveBegun, LooksStand, LooksTell};
+ghost use Rattle.fleet_rounds.specs.OneWorker.{LooksGoOn, LooksHadBegun, NodesGoOn, RoundsBegin, RoundsEnd};
+ghost use Rattle.fleet_rounds.specs.OneWorker.{StationsArePlaced};
+ghost use Rattle.fleet_rounds.specs.Rounding.{TurnsMakeARound};
+
+/// Where stations stand for what their nodes did, and what came out of each ring is a first part of what was handed to
+/// it, this is a record: its logs, sorted, are a run of a world.
+pub fn every_fleet()
+    ensures { StandingIsARecord }
+{}
+
+/// After looks at rings the stations stand for the same record, and all that was handed to a ring that was looked at is
+/// known at its end.
+pub fn every_look()
+    ensures stands { LooksStand }
+    ensures tells { LooksTell }
+    ensures begun { KnownHaveBegun }
+{}
+
+/// From a fleet in whose rings all is known each station makes its turns, on whatever thread: the stations stand for a
+/// record after them. It is a round of the record before where all turns came to their end, and one that a limit ends
+/// where some did not.
+pub fn every_round()
+    ensures { TurnsMakeARound }
+{}
+
+/// With one worker the stations make their turns one after the other, with a look at a station's rings before its turns
+/// and one after them. The record is then that of a function, node by node, and at last a round.
+pub fn every_worker()
+    ensures begins { RoundsBegin }
+    ensures placed { StationsArePlaced }
+    ensures node { NodesGoOn }
+    ensures looks { LooksGoOn }
+    ensures begun { LooksHadBegun }
+    ensures ends { RoundsEnd }
+{}
+
+/// Each stamp above 1 is one more than another, so no clock is above the number of all that happened at the nodes. So
+/// no station lacks a stamp: one that is at its limit has a full log.
+pub fn every_clock()
+    ensures few { StampsAreFew }
+    ensures posts { PostsStillFollow }
+    ensures deeds { DeedsAreFew }
+    ensures limits { LimitsAreLogs }
+{}

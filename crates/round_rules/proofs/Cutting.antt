@@ -1,0 +1,166 @@
+-- A turn that went so far and left an input is a cut turn.
+use Rattle.std.proofs.Common.{◌≡◌, ◌≤◌, ◌+◌, ◌⊎◌, inl, inr, ℕ, zero, suc, Bool, List, [], ◌∷◌, ◌++◌}
+use Rattle.std.proofs.Common.{refl, sym, ap, ◌∙◌, subst, arith, append-nil, append_assoc}
+use Rattle.std.specs.Prelude.{◌^◌, max}
+use Rattle.std.specs.List.{Contains}
+use Rattle.std.proofs.lemmas.List.Elements.{Contains-append_right}
+use Rattle.ason_base.specs.declared.ids.NodeId.{NodeId}
+use Rattle.ason_base.specs.declared.commands.Disturb.{Disturb}
+use Rattle.ason_base.specs.Network.{Network}
+use Rattle.ason_base.proofs.Ordered.{contains-head}
+use Rattle.world_merge.specs.Deeds.{Took}
+use Rattle.round_rules.specs.Doings.{Did, Doing, Freed, Left, Waiting}
+use Rattle.round_rules.specs.Functions.{AreHeldAs, Popped, all_freed, all_handled, all_taken, clock_of, freed, handled}
+use Rattle.round_rules.specs.Functions.{tick_if, turn_after}
+use Rattle.round_rules.specs.Halts.{HasHalted, IsAtLimit, MayLack}
+use Rattle.round_rules.specs.Held.{HeldFrame, due_in}
+use Rattle.round_rules.specs.Limits.{next_stamp}
+use Rattle.round_rules.specs.Limits.{stamp_for, turn_to}
+use Rattle.round_rules.specs.Takings.{all_doings}
+use Rattle.round_rules.specs.Turns.{items_after}
+use Rattle.round_rules.proofs.Halting.{IsFull}
+use Rattle.round_rules.proofs.Turning.{Dues, Items, Takes, Ticks, dues, items, takes, ticks}
+
+-- The limit
+
+no_stamp : (c s : ℕ) → 2 ^ 64 ≤ max c s + 1 → (2 ^ 64 ≤ c + 1) ⊎ (2 ^ 64 ≤ s + 1)
+no_stamp c s h = grind (arith, h)
+
+-- of a frame
+pub at_limit : (ds : List Doing) (ps : List Popped) (p : Popped) → Contains ps p → IsFull (stamp_for p ds) ds →
+    IsAtLimit ds ps
+at_limit ds ps p there (inl lines) = inl lines
+at_limit ds ps p there (inr stamp) = elim (no_stamp (clock_of ds) p.stamp stamp) [
+  | inl clock ↦ inr (inl clock)
+  | inr late ↦ inr (inr (p, there, late))
+]
+
+-- of a tick, and of an item
+pub at_clock : (ds : List Doing) (ps : List Popped) → IsFull (next_stamp ds) ds → IsAtLimit ds ps
+at_clock ds ps (inl lines) = inl lines
+at_clock ds ps (inr clock) = inr (inl clock)
+
+pub there_between : (first rest : List Popped) (p : Popped) → Contains (first ++ p ∷ rest) p
+there_between first rest p = Contains-append_right first (p ∷ rest) p (contains-head p rest)
+
+-- What goes on
+
+pub record GoesOn (ds es : List Doing) : Type 0 where
+  pub more : List Doing
+  pub all : es ≡ ds ++ more
+
+pub freed_on : (ds : List Doing) (ps : List Popped) → GoesOn ds (all_freed ds ps)
+freed_on ds [] = record { more = []; all = sym (append-nil ds) }
+freed_on ds (p ∷ ps) =
+    let r = freed_on (freed ds p) ps in
+    let one : Doing = Did (Took (max (clock_of (ds ++ Freed ∷ [])) p.stamp + 1) p.from p.number p.content) in
+    record {
+      more = (Freed ∷ one ∷ []) ++ r.more;
+      all =
+          r.all ∙ ap (λ ks. ks ++ r.more) (append_assoc ds (Freed ∷ []) (one ∷ []))
+          ∙ append_assoc ds (Freed ∷ one ∷ []) r.more;
+    }
+
+pub handled_twice : (a b : ℕ) (ds : List Doing) → all_handled (a + b) ds ≡ all_handled b (all_handled a ds)
+handled_twice zero b ds = let none : 0 + b ≡ b = omega arith in ap (λ k. all_handled k ds) none
+handled_twice (suc a) b ds =
+    let one : suc a + b ≡ suc (a + b) = omega arith in
+    ap (λ k. all_handled k ds) one ∙ handled_twice a b (handled ds)
+
+pub record Splits (hs : List HeldFrame) (first : List Popped) : Type 0 where
+  pub freed : List HeldFrame
+  pub kept : List HeldFrame
+  pub all : hs ≡ freed ++ kept
+  pub are : AreHeldAs freed first
+
+splits : (hs : List HeldFrame) (first rest : List Popped) → AreHeldAs hs (first ++ rest) → Splits hs first
+splits hs [] rest are = record { freed = []; kept = hs; all = refl; are = tt }
+splits [] (p ∷ first) rest are = absurd are
+splits (h ∷ hs) (p ∷ first) rest are =
+    let s = splits hs first rest are.1 in
+    record { freed = h ∷ s.freed; kept = s.kept; all = ap (λ ks. h ∷ ks) s.all; are = (are.0, s.are) }
+
+-- Where it halts
+
+-- how far the turn went
+pub record Reaches (t : Network) (lines : List Disturb) (n : NodeId) (tick : Bool) (before : List Doing)
+    (due pops : List Popped) : Type 0 where
+  pub first : List Popped
+  pub other : List Popped
+  pub due_is : due ≡ first ++ other
+  pub done : ℕ
+  pub few : done ≤ items_after t n (all_freed (tick_if tick before) first)
+  pub took : List Popped
+  pub last : List Doing
+  pub lacks : MayLack lines n last
+  pub left : Waiting
+  pub made : List Doing
+  pub made_is : made ≡ all_taken lines n (all_handled done (all_freed (tick_if tick before) first)) took ++ last
+  pub is : (turn_to t lines n tick before due pops).doings ≡ made ++ Left left ∷ []
+  pub rest : List Doing
+  pub whole : turn_after t lines n tick before due pops ≡ made ++ rest
+  pub limit : IsAtLimit made (due ++ pops)
+
+pub reaches_halted : (t : Network) (lines : List Disturb) (n : NodeId) (tick : Bool) (before : List Doing)
+    (due pops : List Popped) → AreHeldAs (due_in (tick_if tick before)) due →
+    Reaches t lines n tick before due pops → HasHalted t lines n tick before due pops
+reaches_halted t lines n tick before due pops are r = record {
+  added = added;
+  left = r.left;
+  all = r.is ∙ ap (λ ks. ks ++ Left r.left ∷ []) made;
+  cut = record {
+    ticks = a.more;
+    dues = b.more;
+    items = c.more;
+    takings = d.takings;
+    last = r.last;
+    all = refl;
+    is_tick = inr a.is;
+    freed = s.freed;
+    kept = s.kept;
+    due = sym (ap due_in a.all) ∙ s.all;
+    are_due = b.are;
+    handled = c.are;
+    few = subst (λ k. k ≤ items_after t n (before ++ (a.more ++ b.more))) (sym c.count)
+        (subst (λ ks. r.done ≤ items_after t n ks) here_is r.few);
+    are_takings = d.are;
+    lacks = r.lacks;
+  };
+  rest = r.rest;
+  whole = r.whole ∙ ap (λ ks. ks ++ r.rest) made;
+  limit = subst (λ ks. IsAtLimit ks (due ++ pops)) made r.limit;
+}
+  where
+    a : Ticks tick before
+    a = ticks tick before
+
+    s : Splits (due_in (tick_if tick before)) r.first
+    s = splits (due_in (tick_if tick before)) r.first r.other
+        (subst (AreHeldAs (due_in (tick_if tick before))) r.due_is are)
+
+    b : Dues s.freed (tick_if tick before) r.first
+    b = dues s.freed (tick_if tick before) r.first s.are
+
+    here : List Doing
+    here = all_freed (tick_if tick before) r.first
+
+    c : Items r.done here
+    c = items r.done here
+
+    d : Takes lines n (all_handled r.done here) r.took
+    d = takes lines n (all_handled r.done here) r.took
+
+    added : List Doing
+    added = a.more ++ (b.more ++ (c.more ++ (all_doings d.takings ++ r.last)))
+
+    here_is : here ≡ before ++ (a.more ++ b.more)
+    here_is = b.all ∙ ap (λ ks. ks ++ b.more) a.all ∙ append_assoc before a.more b.more
+
+    made : r.made ≡ before ++ added
+    made =
+        r.made_is ∙ ap (λ ks. ks ++ r.last) (d.all ∙ ap (λ ks. ks ++ all_doings d.takings) (c.all
+        ∙ ap (λ ks. ks ++ c.more) here_is))
+        ∙ append_assoc ((before ++ (a.more ++ b.more)) ++ c.more) (all_doings d.takings) r.last
+        ∙ append_assoc (before ++ (a.more ++ b.more)) c.more (all_doings d.takings ++ r.last)
+        ∙ append_assoc before (a.more ++ b.more) (c.more ++ (all_doings d.takings ++ r.last))
+        ∙ ap (λ ks. before ++ ks) (append_assoc a.more b.more (c.more ++ (all_doings d.takings ++ r.last)))

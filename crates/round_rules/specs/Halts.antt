@@ -1,0 +1,104 @@
+-- What a turn up to a node's limit is: the whole turn, or a first part of it and the input that it left.
+use Rattle.std.specs.Prelude.{◌≡◌, ◌≤◌, ◌⊎◌, ◌+◌, ◌^◌, ℕ, Bool, true, false, List, [], ◌∷◌, ◌++◌, length, Some}
+use Rattle.std.specs.List.{Contains}
+use Rattle.ason_base.specs.declared.ids.NodeId.{NodeId}
+use Rattle.ason_base.specs.declared.commands.Disturb.{Disturb}
+use Rattle.ason_base.specs.declared.commands.DisturbKind.TheVariants.{Repeat}
+use Rattle.ason_base.specs.Network.{Network}
+use Rattle.flood.specs.declared.frames.Content.{Content}
+use Rattle.world_merge.specs.Deeds.{Took}
+use Rattle.round_rules.specs.Doings.{Did, Doing, Got, Left, Waiting}
+use Rattle.round_rules.specs.Functions.{AreHeldAs, Popped, tick_if, turn_after}
+use Rattle.round_rules.specs.Held.{HeldFrame, due_in}
+use Rattle.round_rules.specs.Limits.{lines_in, next_stamp, turn_to}
+use Rattle.round_rules.specs.Lines.{says}
+use Rattle.round_rules.specs.Takings.{AreTakings, Taking, all_doings}
+use Rattle.round_rules.specs.Turns.{AreDelivered, AreHandled, IsTick, IsTurnOf, items_after}
+
+-- A cut turn
+
+-- a frame of which the last line says `repeat` was delivered once
+pub record IsDeliveredOnce (lines : List Disturb) (n : NodeId) (ds : List Doing) : Type 0 where
+  pub from : NodeId
+  pub number : ℕ
+  pub stamp : ℕ
+  pub content : Content
+  pub repeats : says lines from n number ≡ Some Repeat
+  pub all : ds ≡ Got from number (Some Repeat) ∷ Did (Took stamp from number content) ∷ []
+
+-- the second delivery of the last frame may be wanting
+abbrev pub MayLack : List Disturb → NodeId → List Doing → Type 0
+MayLack lines n ds = (ds ≡ []) ⊎ IsDeliveredOnce lines n ds
+
+abbrev pub MayTick : Bool → List Doing → Type 0
+MayTick tick ds = (ds ≡ []) ⊎ IsTick tick ds
+
+-- What a node adds in a turn that ends before its end: at most one tick, first; the first of the held frames that are
+-- due; items; and frames that are taken.
+pub record IsCutTurnOf (t : Network) (lines : List Disturb) (n : NodeId) (tick : Bool)
+    (before added : List Doing) : Type 0 where
+  pub ticks : List Doing
+  pub dues : List Doing
+  pub items : List Doing
+  pub takings : List Taking
+  pub last : List Doing
+  pub all : added ≡ ticks ++ (dues ++ (items ++ (all_doings takings ++ last)))
+  pub is_tick : MayTick tick ticks
+  pub freed : List HeldFrame
+  pub kept : List HeldFrame
+  pub due : due_in (before ++ ticks) ≡ freed ++ kept
+  pub are_due : AreDelivered freed dues
+  pub handled : AreHandled items
+  pub few : length items ≤ items_after t n (before ++ (ticks ++ dues))
+  pub are_takings : AreTakings lines n takings
+  pub lacks : MayLack lines n last
+
+-- The limit
+
+-- one more than the clock, or than the stamp of one of these frames, is no number of 64 bits
+abbrev pub HasNoStamp : List Doing → List Popped → Type 0
+HasNoStamp ds ps = (2 ^ 64 ≤ next_stamp ds) ⊎ ((p : Popped) × Contains ps p × (2 ^ 64 ≤ p.stamp + 1))
+
+-- the log is full, or no stamp is left
+abbrev pub IsAtLimit : List Doing → List Popped → Type 0
+IsAtLimit ds ps = (50000 ≤ lines_in ds) ⊎ HasNoStamp ds ps
+
+-- What the turn did is a first part of the whole turn, and an input is left, for which the log had no room.
+pub record HasHalted (t : Network) (lines : List Disturb) (n : NodeId) (tick : Bool) (before : List Doing)
+    (due pops : List Popped) : Type 0 where
+  pub added : List Doing
+  pub left : Waiting
+  pub all : (turn_to t lines n tick before due pops).doings ≡ (before ++ added) ++ Left left ∷ []
+  pub cut : IsCutTurnOf t lines n tick before added
+  pub rest : List Doing
+  pub whole : turn_after t lines n tick before due pops ≡ (before ++ added) ++ rest
+  pub limit : IsAtLimit (before ++ added) (due ++ pops)
+
+-- Laws
+
+-- a turn that doesn't halt is the whole turn
+abbrev pub TurnsEnd : Type 0
+TurnsEnd =
+    (t : Network) (lines : List Disturb) (n : NodeId) (tick : Bool) (before : List Doing) (due pops : List Popped) →
+    (turn_to t lines n tick before due pops).halted ≡ false →
+    (turn_to t lines n tick before due pops).doings ≡ turn_after t lines n tick before due pops
+
+abbrev pub TurnsHalt : Type 0
+TurnsHalt =
+    (t : Network) (lines : List Disturb) (n : NodeId) (tick : Bool) (before : List Doing) (due pops : List Popped) →
+    AreHeldAs (due_in (tick_if tick before)) due → (turn_to t lines n tick before due pops).halted ≡ true →
+    HasHalted t lines n tick before due pops
+
+-- what else might be popped changes nothing
+abbrev pub HaltsAreLast : Type 0
+HaltsAreLast =
+    (t : Network) (lines : List Disturb) (n : NodeId) (tick : Bool) (before : List Doing)
+    (due pops more : List Popped) → (turn_to t lines n tick before due pops).halted ≡ true →
+    turn_to t lines n tick before due (pops ++ more) ≡ turn_to t lines n tick before due pops
+
+-- a turn, and then one without a tick that is cut
+abbrev pub TurnsMakeACutTurn : Type 0
+TurnsMakeACutTurn =
+    (t : Network) (lines : List Disturb) (n : NodeId) (tick : Bool) (before one two : List Doing) →
+    IsTurnOf t lines n tick before one → IsCutTurnOf t lines n false (before ++ one) two →
+    IsCutTurnOf t lines n tick before (one ++ two)

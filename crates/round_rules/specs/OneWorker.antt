@@ -1,0 +1,84 @@
+-- Rounds with one worker: a function of the record.
+use Rattle.std.specs.Prelude.{◌+◌, ◌-◌, ◌==◌, ◌&&◌, ℕ, true, List, [], ◌∷◌, ◌++◌, drop, fold, length, map, Option, Some}
+use Rattle.std.specs.Prelude.{None, if◌then◌else◌}
+use Rattle.std.specs.List.{flat_map, range_with_len}
+use Rattle.ason_base.specs.declared.ids.NodeId.{NodeId}
+use Rattle.ason_base.specs.declared.commands.Disturb.{Disturb}
+use Rattle.ason_base.specs.Network.{Network}
+use Rattle.flood.specs.declared.frames.Content.{Content}
+use Rattle.world_rules.specs.Runs.{is_channel, neighbours}
+use Rattle.world_rules.specs.Worlds.{numbered_at}
+use Rattle.world_merge.specs.Deeds.{sent_by}
+use Rattle.world_merge.specs.Stamps.{sent_stamp}
+use Rattle.round_rules.specs.Doings.{Doing}
+use Rattle.round_rules.specs.Functions.{Popped, tick_if, turn_after}
+use Rattle.round_rules.specs.Held.{HeldFrame, due_in}
+use Rattle.round_rules.specs.Records.{Record, deeds_at}
+use Rattle.round_rules.specs.Rings.{count_of, standing}
+
+-- Frames that stand in a ring
+
+-- the frame of this number, as it is popped
+abbrev pub popped_as : NodeId → ℕ → ℕ → Option Content → List Popped
+popped_as u k s None = []
+popped_as u k s (Some x) = record { from = u; number = k; stamp = s; content = x } ∷ []
+
+abbrev pub popped_of : Network → Record → NodeId → NodeId → ℕ → List Popped
+popped_of t r n u k =
+    popped_as u k (sent_stamp t u (deeds_at r u.0) n.0 k) (numbered_at (sent_by t u (deeds_at r u.0) n.0) k)
+
+-- all frames that stand in the ring from a neighbour
+abbrev pub popped_from : Network → Record → NodeId → NodeId → List Popped
+popped_from t r n u = flat_map (popped_of t r n u) (standing t r u n)
+
+-- and in all rings of the node, neighbour by neighbour
+abbrev pub all_popped : Network → Record → NodeId → List Popped
+all_popped t r n = flat_map (popped_from t r n) (neighbours t n)
+
+abbrev pub due_popped : Network → Record → NodeId → List HeldFrame → List Popped
+due_popped t r n hs = flat_map (λ (h : HeldFrame). popped_of t r n h.from h.number) hs
+
+-- One node's turns
+
+-- what the node did after its turns: in the first all that stands there is taken, and then nothing is left
+abbrev pub doings_after : Network → List Disturb → Record → NodeId → List Doing
+doings_after t lines r n =
+    let before = r.doings n.0 in
+    turn_after t lines n true before (due_popped t r n (due_in (tick_if true before))) (all_popped t r n)
+
+abbrev pub with_doings : Record → ℕ → List Doing → Record
+with_doings r n ds = record r { doings = λ m. if m == n then ds else r.doings m }
+
+-- of the frames that n sent to d in its turns those are dropped for which 256 stood there
+abbrev pub dropped_in : Network → Record → Record → NodeId → NodeId → List ℕ
+dropped_in t before after n d =
+    drop (256 - length (standing t before n d))
+    (range_with_len (count_of t before n d + 1) (count_of t after n d - count_of t before n d))
+
+abbrev pub with_drops : Network → Record → Record → NodeId → Record
+with_drops t before after n = record after {
+  dropped = λ u d.
+      if u == n.0 && is_channel t n (record { 0 = d })
+      then after.dropped u d ++ dropped_in t before after n (record { 0 = d })
+      else after.dropped u d;
+}
+
+-- the node did this
+abbrev pub after_turns : Network → Record → NodeId → List Doing → Record
+after_turns t r n ds = with_drops t r (with_doings r n.0 ds) n
+
+abbrev pub node_round : Network → List Disturb → Record → NodeId → Record
+node_round t lines r n = after_turns t r n (doings_after t lines r n)
+
+-- The round
+
+abbrev pub ids_of : Network → List NodeId
+ids_of t = map (λ n. n.id) t.nodes
+
+-- these nodes, one after the other
+abbrev pub nodes_round : Network → List Disturb → List NodeId → Record → Record
+nodes_round t lines ns r = fold (node_round t lines) r ns
+
+-- the nodes go in order of number
+abbrev pub one_round : Network → List Disturb → Record → Record
+one_round t lines r = nodes_round t lines (ids_of t) r

@@ -1,0 +1,70 @@
+-- All that was known to stand in a ring was taken.
+use Rattle.std.proofs.Common.{◌≡◌, ◌≤◌, ℕ, zero, suc, List, [], ◌∷◌, ◌++◌, drop, length, refl, sym, ap, ◌∙◌, subst}
+use Rattle.std.proofs.Common.{arith, append-nil, append_assoc}
+use Rattle.std.specs.List.{AllZip}
+use mathlib.Core.List.{IsPrefix}
+use Rattle.rtrb.specs.Ring.{received, known_items}
+use Rattle.station_sound.specs.declared.parcels.Parcel.{Parcel}
+use Rattle.station_rings.specs.LinkStates.{LinkState}
+use Rattle.station_doings.specs.Moves.{HasMoved, IsDrained}
+use Rattle.station_doings.proofs.Moving.{moved-then, prefix-trans}
+
+cancel : {X : Type 0} (ws xs ys : List X) → ws ++ xs ≡ ws ++ ys → xs ≡ ys
+cancel [] xs ys e = e
+cancel (w ∷ ws) xs ys e = cancel ws xs ys (ap (drop 1) e)
+
+prefix_front : {X : Type 0} (ws xs ys : List X) → IsPrefix xs ys → IsPrefix (ws ++ xs) (ws ++ ys)
+prefix_front ws xs ys a = (a.0, append_assoc ws xs a.0 ∙ ap (λ zs. ws ++ zs) a.1)
+
+-- a beginning that is no longer than the first part is one of it
+prefix_short : {X : Type 0} (xs ys zs : List X) → IsPrefix xs (ys ++ zs) → length xs ≤ length ys → IsPrefix xs ys
+prefix_short [] ys zs a le = (ys, refl)
+prefix_short (x ∷ xs) [] zs a le = absurd (omega (arith, le))
+prefix_short (x ∷ xs) (y ∷ ys) zs a le =
+    let same : x ≡ y = cc (a.1) in
+    let rest = prefix_short xs ys zs (a.0, ap (drop 1) a.1) (omega (arith, le)) in
+    (rest.0, λ i. same i ∷ rest.1 i)
+
+abbrev stands : LinkState → List Parcel
+stands l = l.early ++ known_items l.into
+
+-- what was known is what was taken and what is known still, or its beginning
+within : (l m : LinkState) (is : HasMoved l m) → IsPrefix (stands l) (is.takes ++ stands m)
+within l m is = (
+  is.known.0,
+  append_assoc l.early (known_items l.into) is.known.0 ∙ ap (λ ps. l.early ++ ps) more
+      ∙ sym (append_assoc l.early is.came (known_items m.into)) ∙ ap (λ ps. ps ++ known_items m.into) is.taken
+      ∙ append_assoc is.takes m.early (known_items m.into),
+)
+  where
+    more : known_items l.into ++ is.known.0 ≡ is.came ++ known_items m.into
+    more =
+        cancel (received l.into) _ _ (sym (append_assoc (received l.into) (known_items l.into) is.known.0)
+        ∙ is.known.1 ∙ ap (λ ps. ps ++ known_items m.into) is.into
+        ∙ append_assoc (received l.into) is.came (known_items m.into))
+
+-- what is drained after more was taken is drained
+pub drained-then : (l m k : LinkState) → HasMoved l m → IsDrained m k → IsDrained l k
+drained-then l m k a b = (
+  moved-then l m k a b.0,
+  prefix-trans (stands l) (a.takes ++ stands m) (a.takes ++ b.0.takes) (within l m a)
+      (prefix_front a.takes (stands m) b.0.takes b.1),
+)
+
+-- what was drained stays so
+pub drained-on : (l m k : LinkState) → IsDrained l m → HasMoved m k → IsDrained l k
+drained-on l m k a b = (
+  moved-then l m k a.0 b,
+  prefix-trans (stands l) a.0.takes (a.0.takes ++ b.takes) a.1 (b.takes, refl),
+)
+
+-- nothing is known to stand there
+pub drained-empty : (l m : LinkState) → HasMoved l m → m.early ≡ [] → known_items m.into ≡ [] → IsDrained l m
+drained-empty l m is early known = (
+  is,
+  subst (IsPrefix (stands l)) ((λ i. is.takes ++ (early i ++ known i)) ∙ append-nil is.takes) (within l m is),
+)
+
+-- as many were taken as were known
+pub drained-all : (l m : LinkState) (is : HasMoved l m) → length (stands l) ≤ length is.takes → IsDrained l m
+drained-all l m is le = (is, prefix_short (stands l) is.takes (stands m) (within l m is) le)

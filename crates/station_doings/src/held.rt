@@ -1,0 +1,12 @@
+//! What a station holds back.
+
+use ason_base::NodeId;
+use station_sound::Parcel;
+
+/// A parcel that is held, and how often the node ticked since its taking.
+#[derive(Debug, Drop)]
+pub struct HeldParcel {
+    pub from: NodeId,
+    pub parcel: Parcel,
+    pub ticks: u64,
+}

@@ -1,0 +1,13 @@
+pub mod Ageing
+pub mod Answering
+pub mod Fetching
+pub mod Fitting
+pub mod Frames
+pub mod Joining
+pub mod Leading
+pub mod Stepping
+pub mod Ringing
+pub mod Sending
+pub mod Taking
+pub mod Twice
+pub mod Working

@@ -1,0 +1,201 @@
+-- A frame that is taken is the one that came first, and the station stays that of its node.
+use Rattle.std.proofs.Common.{◌≡◌, ◌<◌, ◌≤◌, inl, ℕ, zero, suc, List, [], ◌∷◌, ◌++◌, length, refl, sym, ap, ◌∙◌}
+use Rattle.std.proofs.Common.{subst, arith}
+use Rattle.std.specs.Prelude.{slice_get, Option, Some, Err}
+use Rattle.std.proofs.lemmas.List.{length-append}
+use Rattle.rtrb.specs.Ring.{sent}
+use Rattle.ason_base.specs.declared.commands.DisturbKind.{DisturbKind}
+use Rattle.ason_base.specs.declared.ids.NodeId.{NodeId}
+use Rattle.control_channels.specs.declared.inputs.CoreInput.{CoreInput}
+use Rattle.control_channels.specs.Kept.{IsFromNeighbour}
+use Rattle.hop_reliable.proofs.Members.{each-append}
+use Rattle.round_rules.specs.Lines.{says}
+use Rattle.station_sound.specs.declared.parcels.Parcel.{Parcel}
+use Rattle.station_rings.specs.LinkStates.{IsTaken, LinkState}
+use Rattle.station_doings.specs.Ends.{RingsEnd}
+use Rattle.station_doings.specs.Entered.{me_of}
+use Rattle.station_doings.specs.Moves.{AreApart, ArePeersApart, IsChangedAt, TakesAt}
+use Rattle.station_doings.specs.States.{StationState}
+use Rattle.station_doings.specs.declared.held.HeldParcel.{HeldParcel}
+use Rattle.station_doings.proofs.Places.{all-moved, all-moved-then, changed-peers, moved-peers, nones-moved}
+use Rattle.station_doings.proofs.Places.{taken-from, takes-at, takes-moved, takes-none}
+use Rattle.station_turns.specs.declared.halts.Halt.{Halt}
+use Rattle.station_turns.specs.declared.halts.Halt.TheVariants as halt
+use Rattle.station_turns.specs.declared.links.Ahead.{Ahead}
+use Rattle.station_turns.specs.declared.parts.Parts.{Parts}
+use Rattle.station_turns.specs.Fits.{HeldKeeps, PartsFit, StationFits, state_of}
+use Rattle.station_turns.specs.Leads.{GoesOn, IsMoving, IsRead, IsSending}
+use Rattle.station_turns.specs.Rings.{HasDelivered, HasTaken, HasTakenAt, IsAhead, TakesIn}
+use Rattle.station_turns.proofs.Fitting.{Stays, changed-keeps, near-at}
+use Rattle.station_turns.proofs.Frames.{IsDeliveredNow, bears_it, lost-goes, stay-goes, taken-bears, takes-it}
+
+-- Which it is
+
+first_is : (q : Parcel) (i : ℕ) (links after : List LinkState) (l : LinkState) → slice_get links i ≡ Some l →
+    IsChangedAt (IsTaken q) i links after → (rest : List Parcel) × (l.early ≡ q ∷ rest)
+first_is q i [] after l at is = absurd is
+first_is q i (k ∷ links) [] l at is = absurd is
+first_is q zero (k ∷ links) (m ∷ after) l at is =
+    let same : k ≡ l = cc (at) in (m.early, ap (λ (x : LinkState). x.early) (sym same) ∙ is.0.first)
+first_is q (suc i) (k ∷ links) (m ∷ after) l at is = first_is q i links after l at is.1
+
+-- the first of those that waited early there is the one that is known
+pub has-taken : (a : Ahead) (q : Parcel) (old : StationState) (links : List LinkState) → IsAhead a old.links →
+    IsChangedAt (IsTaken q) a.place old.links links → HasTaken a q old links
+has-taken a q old links ahead is =
+    let first = first_is q a.place old.links links ahead.head.link ahead.head.there is in
+    let whole : q ∷ first.0 ≡ ahead.head.head.parcel ∷ ahead.head.head.rest = sym first.1 ∙ ahead.head.head.first in
+    let same : q ≡ ahead.head.head.parcel = cc (whole) in
+    record {
+      taken = taken-from q a.from a.place old.links links ahead.from is;
+      number = ap (λ (p : Parcel). p.number) same ∙ ahead.head.head.number;
+      stamp = ap (λ (p : Parcel). p.stamp) same ∙ ahead.head.head.stamp;
+    }
+
+below_length : (links : List LinkState) (i : ℕ) (l : LinkState) → slice_get links i ≡ Some l → i < length links
+below_length [] i l at = absurd (cc (at))
+below_length (k ∷ links) zero l at = omega arith
+below_length (k ∷ links) (suc i) l at = omega (arith, below_length links i l at)
+
+-- there is a link at its place
+pub ahead-below : (a : Ahead) (links : List LinkState) → IsAhead a links → a.place < length links
+ahead-below a links is = below_length links a.place is.head.link is.head.there
+
+-- it was taken at its place
+pub taken-at : (a : Ahead) (q : Parcel) (old : StationState) (links : List LinkState) → HasTaken a q old links →
+    HasTakenAt a.place old.links links
+taken-at a q old links h =
+    record { from = a.from; parcel = q; takes = takes-at a.from q a.place old.links links h.taken }
+
+pub delivered-at : (a : Ahead) (old new : StationState) (apart : ArePeersApart old.links) (i : CoreInput) →
+    HasDelivered a i old new → HasTakenAt a.place old.links new.links
+delivered-at a old new apart i h =
+    record { from = a.from; parcel = h.parcel; takes = takes-it a old new apart i h }
+
+-- What moves
+
+-- a frame was taken
+pub taken-moves : (u : NodeId) (q : Parcel) (i : ℕ) (old new : StationState) → TakesAt u q i old.links new.links →
+    new.lines ≡ old.lines → length old.log ≤ length new.log → IsMoving old new
+taken-moves u q i old new takes lines grows =
+    record { links = takes-moved u q i old.links new.links takes; lines = lines; grows = grows }
+
+pub delivered-moves : (a : Ahead) (old new : StationState) (apart : ArePeersApart old.links) (i : CoreInput) →
+    HasDelivered a i old new → IsMoving old new
+delivered-moves a old new apart i h =
+    taken-moves a.from h.parcel a.place old new (takes-it a old new apart i h) h.entered.lines
+    (omega (arith, ap length h.entered.log ∙ length-append old.log _))
+
+-- nothing was
+pub moving-none : (s : StationState) → IsMoving s s
+moving-none s = record { links = all-moved s.links; lines = refl; grows = omega arith }
+
+-- it isn't delivered, at the limit or for want of memory
+pub fails-moves : (a : Ahead) (e : Halt) (old new : StationState) → TakesIn (Err e) a old new → IsMoving old new
+fails-moves a halt.AtLimit old new h = subst (IsMoving old) (sym h.0) (moving-none old)
+fails-moves a halt.OutOfMemory old new h =
+    subst (IsMoving old) (sym h.rest)
+    (taken-moves a.from h.parcel a.place old (record old { links = h.links })
+    (takes-at a.from h.parcel a.place old.links h.links h.taken.taken) refl (omega arith))
+
+pub fails-goes : (a : Ahead) (e : Halt) (o : Option DisturbKind) (old new : StationState) → IsAhead a old.links →
+    ArePeersApart old.links → IsDeliveredNow o → says old.lines a.from (me_of old) a.head.number ≡ o →
+    TakesIn (Err e) a old new → GoesOn (Err e) (RingsEnd a.place) old new
+fails-goes a halt.AtLimit o old new ahead apart now said h =
+    subst (λ s. GoesOn (Err halt.AtLimit) (RingsEnd a.place) old s) (sym h.0) (stay-goes a old o ahead now said h.1)
+fails-goes a halt.OutOfMemory o old new ahead apart now said h = lost-goes a old new apart h
+
+-- What holds of every station
+
+taken_stays : (q : Parcel) (l m : LinkState) → IsTaken q l m → Stays l m
+taken_stays q l m is =
+    record { peer = is.peer; sent = is.sent; gone = λ i. sent (is.out i) ++ is.backlog i }
+
+taken_fits : (q : Parcel) (i : ℕ) (s : StationState) (links : List LinkState) →
+    IsChangedAt (IsTaken q) i s.links links → StationFits s → StationFits (record s { links = links })
+taken_fits q i s links is fit = record {
+  most = fit.most;
+  count = fit.count;
+  apart = subst AreApart (sym (changed-peers (IsTaken q) (λ l m t. t.peer) i s.links links is)) fit.apart;
+  links =
+      changed-keeps (IsTaken q) (taken_stays q) s.controller.node.place s.controller.steps s.clock i s.links links is
+      fit.links;
+  held = fit.held;
+}
+
+-- it holds after a frame was taken
+pub taken-parts : (q : Parcel) (i : ℕ) (p new : Parts) (links : List LinkState) →
+    IsChangedAt (IsTaken q) i p.links.items links → state_of new ≡ record (state_of p) { links = links } →
+    new.me ≡ p.me → PartsFit p → PartsFit new
+taken-parts q i p new links is same me fit = record {
+  station = subst StationFits (sym same) (taken_fits q i (state_of p) links is fit.station);
+  me = me ∙ fit.me ∙ ap me_of (sym same);
+}
+
+held_more : (s : StationState) (h : HeldParcel) → HeldKeeps s.controller.node.place s.controller.steps h →
+    StationFits s → StationFits (record s { held = s.held ++ h ∷ [] })
+held_more s h keeps fit = record {
+  most = fit.most;
+  count = fit.count;
+  apart = fit.apart;
+  links = fit.links;
+  held =
+      each-append (HeldKeeps s.controller.node.place s.controller.steps) s.held (h ∷ []) fit.held (keeps, tt);
+}
+
+-- the station with a parcel that is held
+abbrev pub with_held : StationState → Ahead → Parcel → List LinkState → StationState
+with_held s a q links =
+    record s { links = links; held = s.held ++ record { from = a.from; parcel = q; ticks = 0 } ∷ [] }
+
+-- and was held back
+pub hold-parts : (a : Ahead) (q : Parcel) (p new : Parts) (links : List LinkState) → IsAhead a p.links.items →
+    IsChangedAt (IsTaken q) a.place p.links.items links → state_of new ≡ with_held (state_of p) a q links →
+    new.me ≡ p.me → PartsFit p → PartsFit new
+hold-parts a q p new links ahead is same me fit = record {
+  station =
+      subst StationFits (sym same)
+      (held_more (record (state_of p) { links = links }) (record { from = a.from; parcel = q; ticks = 0 })
+      (record {
+        near =
+            near-at p.controller.node.place p.controller.steps p.clock a.place a.from p.links.items fit.station.links
+            ahead.from;
+        ticks = omega arith;
+        bears =
+            taken-bears a.from q a.place p.links.items links
+            (taken-from q a.from a.place p.links.items links ahead.from is);
+      }) (taken_fits q a.place (state_of p) links is fit.station));
+  me = me ∙ fit.me ∙ ap me_of (sym same);
+}
+
+-- Twice
+
+-- it is read again after its first delivery
+pub delivered-near : (a : Ahead) (old mid : StationState) (apart : ArePeersApart old.links) (i : CoreInput) →
+    IsAhead a old.links → HasDelivered a i old mid → StationFits mid → IsFromNeighbour mid.controller.node.place i
+delivered-near a old mid apart i ahead h fit =
+    let moved = takes-moved a.from h.parcel a.place old.links mid.links (takes-it a old mid apart i h) in
+    subst (IsFromNeighbour mid.controller.node.place) (sym h.given)
+    (near-at mid.controller.node.place mid.controller.steps mid.clock a.place a.from mid.links fit.links
+    (ap (λ ns. slice_get ns a.place) (moved-peers old.links mid.links moved) ∙ ahead.from))
+
+pub delivered-read : (a : Ahead) (old mid : StationState) (apart : ArePeersApart old.links) (i : CoreInput) →
+    HasDelivered a i old mid → IsRead i
+delivered-read a old mid apart i h = subst IsRead (sym h.given) (inl (bears_it a old mid apart i h))
+
+-- frames were sent after it
+pub delivered-on : (a : Ahead) (old mid new : StationState) (apart : ArePeersApart old.links) (i : CoreInput) →
+    HasDelivered a i old mid → IsSending mid new → HasTakenAt a.place old.links new.links
+delivered-on a old mid new apart i h sends = record {
+  from = a.from;
+  parcel = h.parcel;
+  takes =
+      takes-none a.from h.parcel a.place old.links mid.links new.links (takes-it a old mid apart i h) sends.links;
+}
+
+pub moving-sends : (old mid new : StationState) → IsMoving old mid → IsSending mid new → IsMoving old new
+moving-sends old mid new a b = record {
+  links = all-moved-then old.links mid.links new.links a.links (nones-moved mid.links new.links b.links);
+  lines = b.lines ∙ a.lines;
+  grows = omega (arith, a.grows, b.grows);
+}

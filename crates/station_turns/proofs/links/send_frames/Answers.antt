@@ -1,0 +1,40 @@
+use Rattle.std.proofs.Common.{◌≡◌, ◌∷◌, [], rules, length, sym, ap, subst, arith}
+use Rattle.std.proofs.lemmas.List.{length-append}
+use Rattle.station_doings.specs.Moves.{AreApart}
+use Rattle.station_turns.proofs.Sending.{may-still, sent-more, sent-peers, sent-start}
+use Rattle.station_turns.proofs.links.send_frames.Goals as goal
+
+pub loop-frame-init : goal.loop-frame-init
+loop-frame-init c = record {
+  sent = sent-start c.args.stamp c.args.links.now.items;
+  many =
+      (let all : c.into_iter-frame-iterator.result.rest.items ≡ c.args.frames = search rules in
+      omega (arith, ap length all));
+}
+
+pub send_frame-requires-clause-apart : goal.send_frame-requires-clause-apart
+send_frame-requires-clause-apart c =
+    subst AreApart
+    (sym (sent-peers c.args.stamp c.loop-frame.yielded c.args.links.now.items c.loop-frame.links.items
+    c.loop-frame.invariant.sent)) c.requires.apart
+
+pub send_frame-requires-clause-may : goal.send_frame-requires-clause-may
+send_frame-requires-clause-may c =
+    may-still c.args.stamp (length c.args.frames) c.loop-frame.yielded c.args.links.now.items c.loop-frame.links.items
+    (omega (arith, c.loop-frame.invariant.many, ap length c.in-Some.ensures.steps.0)) c.loop-frame.invariant.sent
+    c.requires.may
+
+pub loop-frame-preserved : goal.loop-frame-preserved
+loop-frame-preserved c = record {
+  sent =
+      sent-more c.args.stamp c.loop-frame.yielded c.in-Some.frame c.args.links.now.items c.loop-frame.links.items
+      c.send_frame.new.links.items c.loop-frame.invariant.sent c.send_frame.ensures;
+  many =
+      omega (
+        arith,
+        c.loop-frame.invariant.many,
+        ap length c.in-Some.ensures.steps.0,
+        length-append c.loop-frame.yielded
+            (c.in-Some.frame ∷ []),
+      );
+}

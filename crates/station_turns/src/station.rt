@@ -1,0 +1,235 @@
+//! The station of one node.
+
+ghost use Rattle.std.specs.Prelude.{◌≡◌, ◌<◌, ◌≤◌, ◌+◌, ◌^◌, ◌∷◌, ◌++◌, [], ℕ, IfOk, IsSome, IsTrue, OnErr, OnOk};
+ghost use Rattle.std.specs.Prelude.{Some, false, length, position, slice_get, true};
+ghost use Rattle.std.specs.List.{AllByRecursion};
+ghost use Rattle.ason_base.specs.Network.{find_node};
+ghost use Rattle.control_channels.specs.Controllers.{ControllerState};
+ghost use Rattle.mesh_nodes.specs.LocalNodes.{is_neighbour};
+ghost use Rattle.station_rings.specs.LinkStates.{AreEnds, AreFew, LinkState};
+ghost use Rattle.station_doings.specs.Entered.{me_of};
+ghost use Rattle.station_turns.specs.Joined.{AreConnected, AreLooked, IsApartFrom, IsNewStation, IsOrdered};
+ghost use Rattle.station_doings.specs.Turned.{HasTurned, HaveTurned};
+ghost use Rattle.station_turns.specs.Leads.{IsMoving};
+ghost use Rattle.station_turns.specs.Sending.{is_to};
+ghost use Rattle.station_turns.specs.Turning.{Drains, HaltsAtLimit};
+
+use crate::desks::Desk;
+use crate::links::{attach, place_of};
+use crate::parts::Parts;
+use crate::turning;
+use ason_base::{DeskItem, Disturb, Entry, NodeId, OutOfMemory, Topology};
+use ason_io::Gate;
+use controller::Controller;
+use station_doings::Turn;
+use station_rings::{join, look};
+use std::alloc::Global;
+use std::marker::Model;
+
+/// A controller, the desk of its node, its log, and its ends of the rings to each neighbour.
+#[derive(Drop)]
+pub struct Station {
+    alloc: Global,
+    parts: Parts,
+}
+
+impl Model for Station {
+    ghost use Rattle.station_doings.specs.States.{StationState};
+    ghost use Rattle.station_turns.specs.Fits.{PartsFit, state_of};
+
+    ghost Value = { StationState };
+
+    ghost view = { λ s. state_of s.parts };
+
+    ghost invariant = { λ s. PartsFit s.parts };
+}
+
+impl Station {
+    /// The station of node `id`, which has no link yet and did nothing.
+    pub fn new(alloc: Global, t: &Topology, id: NodeId) -> Result<Station, OutOfMemory>
+        requires { IsSome (find_node t.now id) }
+        ensures { IfOk result (IsNewStation t.now id) }
+    {
+        let controller = Controller::new(alloc, t, id)?;
+        let parts = Parts {
+            me: id,
+            controller,
+            desk: Desk::new(alloc),
+            links: Vec::new(alloc),
+            clock: 0,
+            log: Vec::new(alloc),
+            held: Vec::new(alloc),
+            lines: Vec::new(alloc),
+            answer: Turn::Idle,
+        };
+        Ok(Station { alloc, parts })
+    }
+
+    /// Joins two neighbours by two rings. Their ends are the last links of both. After a refusal nothing has changed.
+    pub fn connect(alloc: Global, a: &mut Station, b: &mut Station) -> Result<(), OutOfMemory>
+        requires there { IsTrue (is_neighbour a.old.controller.node.place (me_of b.old)) }
+        requires back { IsTrue (is_neighbour b.old.controller.node.place (me_of a.old)) }
+        requires apart { IsApartFrom (me_of b.old) a.old }
+        requires apart_back { IsApartFrom (me_of a.old) b.old }
+        ensures ok { OnOk result (AreConnected a.old a.new b.old b.new) }
+        ensures err { OnErr result ((a.new ≡ a.old) × (b.new ≡ b.old)) }
+    {
+        let (here, there) = join(alloc, a.parts.me, b.parts.me)?;
+        a.parts.links.reserve(1)?;
+        b.parts.links.reserve(1)?;
+        attach(&mut a.parts.links, here);
+        attach(&mut b.parts.links, there);
+        Ok(())
+    }
+
+    /// Looks at both rings between two stations, and takes no memory: at these places are their links to each other.
+    pub fn look(a: &mut Station, place: usize, b: &mut Station, back: usize)
+        requires place { place < length a.old.links }
+        requires back { back < length b.old.links }
+        requires ends { (l m : LinkState) → slice_get a.old.links place ≡ Some l →
+            slice_get b.old.links back ≡ Some m → AreEnds l m × AreFew l m }
+        ensures { AreLooked place a.old a.new back b.old b.new }
+    {
+        look(&mut a.parts.links[place], &mut b.parts.links[back]);
+    }
+
+    /// One turn: a tick where it is asked for, the held frames that are due, all items of the desk, then what its
+    /// rings have, by neighbour. It reaches nothing but the station's own parts.
+    pub fn turn<G: Gate>(&mut self, gate: &G, tick: bool) -> Turn
+        ensures made { HasTurned self.old self.new tick result }
+        ensures limit { HaltsAtLimit result self.old self.new }
+        ensures drained { Drains result self.old self.new }
+        ensures moves { IsMoving self.old self.new }
+        ensures answer { self.new.answer ≡ result }
+    {
+        turning::turn(&mut self.parts, gate, tick)
+    }
+
+    /// So many turns, the first with a tick. The first that doesn't come to its end is the last; what the last one
+    /// answers is kept.
+    pub fn turns<G: Gate>(&mut self, gate: &G, stride: u32)
+        requires { 0 < stride }
+        ensures turned { HaveTurned stride true self.old self.new self.new.answer }
+        ensures moves { IsMoving self.old self.new }
+    {
+        self.turns_from(gate, stride, true);
+    }
+
+    // So many turns.
+    fn turns_from<G: Gate>(&mut self, gate: &G, count: u32, tick: bool)
+        requires { 0 < count }
+        ensures turned { HaveTurned count tick self.old self.new self.new.answer }
+        ensures moves { IsMoving self.old self.new }
+    {
+        let ended = match self.turn(gate, tick) {
+            Turn::Worked(_) | Turn::Idle => true,
+            Turn::AtLimit | Turn::Starved => false,
+        };
+        if ended && count > 1 {
+            self.turns_from(gate, count - 1, false);
+        }
+    }
+
+    /// What the last turn answered.
+    pub fn answer(&self) -> Turn
+        ensures { result ≡ self.now.answer }
+    {
+        self.parts.answer
+    }
+
+    /// Puts an item on the desk. Where there is room for it this isn't refused.
+    pub fn order(&mut self, item: DeskItem) -> Result<(), OutOfMemory>
+        ensures ok { OnOk result (IsOrdered self.old item self.new) }
+        ensures err { OnErr result (self.new ≡ self.old) }
+        ensures full { OnErr result (self.old.spare ≡ 0) }
+    {
+        self.parts.desk.push(item)
+    }
+
+    /// Makes room for so many items more on the desk. After want of memory nothing has changed.
+    pub fn make_room(&mut self, items: usize) -> Result<(), OutOfMemory>
+        ensures ok { OnOk result (items ≤ self.new.spare) }
+        ensures same { self.new ≡ record self.old { spare = self.new.spare } }
+        ensures err { OnErr result (self.new ≡ self.old) }
+    {
+        self.parts.desk.make_room(items)
+    }
+
+    /// A line of the script names a frame for this node.
+    pub fn disturb(&mut self, line: Disturb) -> Result<(), OutOfMemory>
+        ensures ok { OnOk result
+            (self.new ≡ record self.old { lines = self.old.lines ++ line ∷ [] }) }
+        ensures err { OnErr result (self.new ≡ self.old) }
+    {
+        self.parts.lines.push(line)?;
+        Ok(())
+    }
+
+    /// The number of the last frame that was sent over the link at this place.
+    pub fn sent_to(&self, place: usize) -> u64
+        requires { place < length self.now.links }
+        ensures { (l : LinkState) → slice_get self.now.links place ≡ Some l → result ≡ l.sent }
+    {
+        self.parts.links[place].sent()
+    }
+
+    /// How many links there are.
+    pub fn link_count(&self) -> usize
+        ensures { result ≡ length self.now.links }
+    {
+        self.parts.links.len()
+    }
+
+    /// The place of the link to this neighbour.
+    pub fn link_to(&self, n: NodeId) -> Option<usize>
+        ensures { result ≡ position (is_to n) self.now.links }
+    {
+        place_of(&self.parts.links, n)
+    }
+
+    /// The stamp of the last line, or of a later post.
+    pub fn clock(&self) -> u64
+        ensures { result ≡ self.now.clock }
+    {
+        self.parts.clock
+    }
+
+    /// Moves the clock on to the stamp of a post.
+    pub fn set_clock(&mut self, stamp: u64)
+        requires { self.old.clock ≤ stamp }
+        ensures { self.new ≡ record self.old { clock = stamp } }
+    {
+        self.parts.clock = stamp;
+    }
+
+    /// The lines that were written, in order.
+    pub fn log(&self) -> &[Entry]
+        ensures log { result.now ≡ self.now.log }
+        ensures few { length result.now ≤ 50000 }
+    {
+        &self.parts.log
+    }
+
+    /// How many items wait on the desk.
+    pub fn desk_len(&self) -> usize
+        ensures { result ≡ length self.now.desk }
+    {
+        self.parts.desk.len()
+    }
+
+    /// The controller.
+    pub fn controller(&self) -> &Controller
+        ensures { result.now ≡ self.now.controller }
+    {
+        &self.parts.controller
+    }
+
+    /// How many lines were written.
+    pub fn made(&self) -> u64
+        ensures steps { result ≡ self.now.controller.steps }
+        ensures lines { result ≡ length self.now.log }
+        ensures few { result ≤ 50000 }
+    {
+        self.parts.controller.steps()
+    }
+}
