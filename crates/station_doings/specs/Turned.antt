@@ -68,7 +68,7 @@ pub record TurnsTo (t : Network) (n : NodeId) (ds : List Doing) (tick halted : B
   pub stands : IsStationOf t n (turn_to t old.lines n tick ds due (all_of pops)).doings new
   pub halts : (turn_to t old.lines n tick ds due (all_of pops)).halted ≡ halted
 
--- Memory was wanting: what it did before stays, and it did a first part of a turn.
+-- Memory was wanting: what the node did before stays, and it did this besides, of which nothing more is said.
 pub record StarvesTo (t : Network) (n : NodeId) (ds : List Doing) (new : StationState) : Type 0 where
   pub added : List Doing
   pub stands : IsStationOf t n (ds ++ added) new
