@@ -3,6 +3,9 @@
 import os
 import subprocess
 import sys
+import tempfile
+import time
+from dataclasses import dataclass
 
 TOP = os.path.dirname(os.path.dirname(os.path.realpath(__file__)))
 
@@ -37,3 +40,28 @@ def flood_rows():
 
 def route_times():
     return of_crate("route_times")
+
+
+@dataclass(frozen=True)
+class Run:
+    """The seconds on the clock and of the processor, the peak memory in MB, the status, and the lines of the output."""
+
+    clock: float
+    processor: float
+    memory: float
+    status: int
+    lines: list[str]
+
+
+def run(program, words, text):
+    """One run of the program over this input."""
+    with tempfile.TemporaryFile() as given, tempfile.TemporaryFile() as out:
+        given.write(text)
+        given.seek(0)
+        begun = time.monotonic()
+        child = subprocess.Popen([program, *words], stdin=given, stdout=out)
+        _, status, usage = os.wait4(child.pid, 0)
+        clock = time.monotonic() - begun
+        out.seek(0)
+        lines = out.read().decode().splitlines()
+        return Run(clock, usage.ru_utime + usage.ru_stime, usage.ru_maxrss / 1024, status, lines)
